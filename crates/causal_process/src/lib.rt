@@ -44,7 +44,7 @@
 //! And its code:
 //!
 //! ```text
-//! #[derive(Debug, Drop)]
+//! #[derive(Drop)]
 //! pub struct Numbering {
 //!     pub count: u8,
 //! }
@@ -69,7 +69,8 @@
 //! }
 //! ```
 //!
-//! Both stand, with their imports, in `specs/Inside/Example.antt` and `src/example.rt`, compiled and proved.
+//! Both stand, with their imports, in `specs/Inside/Example.antt` and in `src/example.rt` of `causal_runtime_testing`, compiled and
+//! proved.
 #![tactic(auto)]
 
 /// The bytes of a message.
@@ -99,10 +100,3 @@ pub use process::Process;
 pub use ring::Ring;
 pub use sequence::Sequence;
 pub use tally::Tally;
-
-/// The process of the crate's documentation, compiled and proved.
-#[cfg(test)]
-mod example;
-/// The tests of the kinds of process.
-#[cfg(test)]
-mod tests;

@@ -5,16 +5,10 @@ use crate::runtime::*;
 use causal_core::{Core, CoreFault, Delivered, FlushFault, Reply, Restarted, StartFault};
 use causal_log::MemStable;
 use causal_name::{NoMemory, Pid};
-use causal_process::Ring;
-use causal_testing::{Fields, det};
 use std::alloc::Global;
 
-/// Processes for tests: one that sends all that it may, and one whose memory is refused once.
-pub(crate) mod doubles;
 /// How a core begins or does not, and what is left where memory or the store failed.
 mod faults;
-/// A trace that runs full.
-mod limits;
 /// What is told between a crash and the end of its replay.
 mod recovery;
 
@@ -71,7 +65,7 @@ impl Scene {
             }
             Scene::DeliveryMadeAgain => faults::refusing_ring(alloc, 1),
             Scene::FlushMadeAgain | Scene::FlushOfAWearyStore => processes(alloc, Kind::Tally, 3),
-            Scene::Flood => limits::flooded(alloc),
+            Scene::Flood => processes(alloc, Kind::Flood, 1),
         }
     }
 
@@ -92,7 +86,7 @@ impl Scene {
             Scene::DeliveryMadeAgain => faults::delivers_again(alloc, core),
             Scene::FlushMadeAgain => faults::flushes_again(alloc, core),
             Scene::FlushOfAWearyStore => faults::is_not_written_to(alloc, core),
-            Scene::Flood => limits::fills(core),
+            Scene::Flood => fills(core),
         }
     }
 
@@ -109,6 +103,24 @@ impl Scene {
             Ok(mut core) => self.is_right_on(alloc, &mut core),
             Err(_) => false,
         }
+    }
+}
+
+const SCENES: [Scene; 8] = [
+    Scene::ReplayOfFive,
+    Scene::ReplayThatStops,
+    Scene::ReplayThatWaits,
+    Scene::SpareThatComesBack,
+    Scene::DeliveryMadeAgain,
+    Scene::FlushMadeAgain,
+    Scene::FlushOfAWearyStore,
+    Scene::Flood,
+];
+
+#[test]
+fn scenes_are_right(rt: HostRuntime) {
+    for (number, scene) in SCENES.iter().enumerate() {
+        assert!(rt; scene.is_right(rt.alloc()), "scene {number}");
     }
 }
 
@@ -207,6 +219,15 @@ fn gives_back(
             refused.fault == fault && restarted(core, then, refused.spare) == answer.reply()
         }
     }
+}
+
+/// Whether a trace runs full, of a process that answers each message by eight. Its beginning records eight entries, and each delivery
+/// nine: no ninth entry is left after 7,280. That a run ends there, and after so many restarts, are rows for the built program
+/// (`examples/commands/`).
+fn fills(core: &mut Runtime) -> bool {
+    are_delivered(core, 7_280)
+        && core.deliver(Pid(0), Pid(0), 7_280).err() == Some(CoreFault::Full)
+        && core.trace().len() == 65_528
 }
 
 /// Whether so many deliveries to process 0 of its own messages are made, in their order.

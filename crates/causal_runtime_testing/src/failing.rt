@@ -7,7 +7,7 @@ use causal_name::{Det, NoMemory, Slot};
 use std::alloc::Global;
 
 /// Stable storage in memory whose device fails once.
-#[derive(Debug, Drop)]
+#[derive(Drop)]
 pub struct FailingStore {
     /// What it has stored.
     pub store: MemStable,

@@ -1,11 +1,9 @@
 //! Seats on threads of their own, calls that were worked out by hand, random calls, and a history that is full.
-use crate::runtime::{Boxed, Kind, process, processes};
-use causal_audit::Verdict;
-use causal_commands::audited;
+use crate::runtime::{Kind, process, processes};
+use causal_audit::{Verdict, verdict_of};
 use causal_core::{Core, CoreFault, Reply};
 use causal_log::MemStable;
 use causal_name::{NoMemory, Pid};
-use causal_process::Ring;
 use causal_shared::fault::{FinishFault, SharedFault};
 use causal_shared::seat::Seat;
 use causal_shared::shared::{Finished, Shared, finish};
@@ -14,24 +12,19 @@ use std::sync::Wait;
 
 /// What single calls answer, and what the seats then know.
 mod calls;
-/// A process that is refused memory once.
-mod doubles;
 /// A history that takes no further item.
 mod full;
 /// Eight seats on eight threads that ask for what comes up.
 mod random;
+/// A step that is refused memory once.
+mod refusals;
 /// Two seats on two threads, neither of which gets on without the other.
 mod threads;
-
-/// A core of these processes, for f failures.
-fn started(alloc: Global, boxes: Vec<Boxed>, f: u16) -> Option<Core<MemStable>> {
-    Core::start(alloc, f, boxes, MemStable::new(alloc)).ok()
-}
 
 /// A core of n processes of a kind, for f failures.
 fn begun(alloc: Global, kind: Kind, n: u8, f: u16) -> Option<Core<MemStable>> {
     match processes(alloc, kind, n) {
-        Ok(boxes) => started(alloc, boxes, f),
+        Ok(boxes) => Core::start(alloc, f, boxes, MemStable::new(alloc)).ok(),
         Err(NoMemory) => None,
     }
 }
@@ -46,16 +39,10 @@ fn opened(
     Shared::open(alloc, core, seats.clamp(1, 64), tag).ok()
 }
 
-/// A core behind a lock with one seat, which bears that tag.
-fn alone(alloc: Global, core: Core<MemStable>, tag: u64) -> Option<(Shared<MemStable>, Seat)> {
-    let (shared, mut seats) = opened(alloc, core, 1, tag)?;
-    Some((shared, seats.pop()?))
-}
-
-/// Two processes that echo a count of three, with a seat for each.
-fn two_echoes(alloc: Global) -> Option<(Shared<MemStable>, Vec<Seat>)> {
-    match begun(alloc, Kind::Echo(3), 2, 1) {
-        Some(core) => opened(alloc, core, 2, 7),
+/// So many processes that echo a count, for f failures, with a seat for each.
+fn echoing(alloc: Global, count: u8, n: u8, f: u16) -> Option<(Shared<MemStable>, Vec<Seat>)> {
+    match begun(alloc, Kind::Echo(count), n, f) {
+        Some(core) => opened(alloc, core, u32::from(n), 7),
         None => None,
     }
 }
@@ -83,7 +70,7 @@ fn crash<R: Wait>(
 
 /// How many items a runtime's history and how many entries its trace has, which is accepted.
 fn extent(end: &Finished<MemStable>, alloc: Global) -> Option<(usize, u32)> {
-    match audited(alloc, &end.core) {
+    match verdict_of(alloc, end.core.trace(), end.core.faults()) {
         Ok(Verdict::Accept) => Some((end.history.as_slice().len(), end.core.trace().len())),
         _ => None,
     }
@@ -122,13 +109,28 @@ enum Scene {
     StepMadeAgain,
 }
 
+// A history that fills up has a test of its own, since it takes seconds.
+const SCENES: [Scene; 4] = [
+    Scene::Refusal,
+    Scene::Strangers,
+    Scene::AllPending,
+    Scene::StepMadeAgain,
+];
+
+#[test]
+fn scenes_are_right(rt: HostRuntime) {
+    for (number, scene) in SCENES.iter().enumerate() {
+        assert!(rt; scene.is_right(&rt, rt.alloc()), "scene {number}");
+    }
+}
+
 impl Scene {
     fn begun(self, alloc: Global) -> Option<Core<MemStable>> {
         match self {
             Scene::Refusal | Scene::FullHistory => begun(alloc, Kind::Ring(0), 1, 0),
             Scene::Strangers => begun(alloc, Kind::Echo(3), 2, 1),
             Scene::AllPending => begun(alloc, Kind::Tally, 3, 1),
-            Scene::StepMadeAgain => doubles::begun_scarce(alloc),
+            Scene::StepMadeAgain => begun(alloc, Kind::Refusing(1, 1), 1, 0),
         }
     }
 
@@ -144,7 +146,7 @@ impl Scene {
             Scene::Strangers => calls::is_wrong(rt, alloc, shared) && seat.count() == 0,
             Scene::AllPending => calls::are_all_pending(rt, shared, seat),
             Scene::FullHistory => full::fills_up(rt, shared, seat),
-            Scene::StepMadeAgain => doubles::is_made_again(rt, shared, seat),
+            Scene::StepMadeAgain => refusals::is_made_again(rt, shared, seat),
         }
     }
 
@@ -158,16 +160,15 @@ impl Scene {
         }
     }
 
-    fn opened(self, alloc: Global) -> Option<(Shared<MemStable>, Seat)> {
-        match self.begun(alloc) {
-            Some(core) => alone(alloc, core, 7),
-            None => None,
-        }
+    /// Behind a lock with one seat, which bears that tag.
+    fn opened(self, alloc: Global, tag: u64) -> Option<(Shared<MemStable>, Seat)> {
+        let (shared, mut seats) = opened(alloc, self.begun(alloc)?, 1, tag)?;
+        Some((shared, seats.pop()?))
     }
 
     /// Whether all is answered as it has to be, and the runtime then ends with what was made.
     fn is_right<R: Wait>(self, rt: &R, alloc: Global) -> bool {
-        match self.opened(alloc) {
+        match self.opened(alloc, 7) {
             Some((shared, mut seat)) => {
                 self.is_right_on(rt, alloc, &shared, &mut seat)
                     && left(alloc, shared, seat) == Some(Ok(Some(self.extent())))

@@ -1,6 +1,6 @@
 //! The tables of a trace that was judged by hand, once. The verdicts on many more are rows for the built program
 //! (`examples/commands/`).
-use crate::{RING, traced};
+use crate::entries::{RING, traced};
 use causal_audit::{Breach, Tables, Verdict, first_breach, first_excess, judge};
 use causal_holders::Holders;
 use causal_trace::trace::Trace;

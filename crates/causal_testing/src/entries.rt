@@ -1,6 +1,4 @@
 //! Entries of a trace, written short, and the traces of them.
-ghost use Rattle.std.specs.Prelude.{◌≡◌};
-
 use causal_name::{Det, Pid};
 use causal_trace::entry::{Dets, Entry};
 use causal_trace::fault::TraceFault;
@@ -15,9 +13,7 @@ pub type Fields = (u8, u32, u8, u32);
 pub enum Line<'a> {
     Send(u8, u8, u32),
     Deliver(u8, u32, u32, &'a [Fields]),
-    Stable(Fields),
     Crash(u8),
-    Restart(u8, &'a [Fields]),
     Forget(u8, &'a [Fields]),
 }
 
@@ -31,36 +27,20 @@ pub const RING: [Line<'static>; 6] = [
     Line::Deliver(0, 4, 0, &[(1, 0, 2, 0), (2, 0, 0, 0)]),
 ];
 
-/// The determinant of these fields.
-pub fn det(fields: Fields) -> Det
-    ensures message { (result.source.0 ≡ fields.0) × (result.ssn ≡ fields.1) }
-    ensures delivery { (result.dest.0 ≡ fields.2) × (result.rsn ≡ fields.3) }
-{
-    Det {
-        source: Pid(fields.0),
-        ssn: fields.1,
-        dest: Pid(fields.2),
-        rsn: fields.3,
-    }
-}
-
 fn dets(alloc: Global, list: &[Fields]) -> Result<Dets, TraceFault> {
     let mut listed = Vec::new(alloc);
-    for fields in list {
-        if listed.push(det(*fields)).is_err() {
+    for (source, ssn, dest, rsn) in list {
+        let det = Det {
+            source: Pid(*source),
+            ssn: *ssn,
+            dest: Pid(*dest),
+            rsn: *rsn,
+        };
+        if listed.push(det).is_err() {
             return Err(TraceFault::NoMemory);
         }
     }
     Ok(Dets::new(listed))
-}
-
-fn delivery(to: u8, send: u32, rsn: u32, listed: Dets) -> Entry {
-    Entry::Deliver {
-        to: Pid(to),
-        send,
-        rsn,
-        listed,
-    }
 }
 
 fn entry(alloc: Global, line: Line<'_>) -> Result<Entry, TraceFault> {
@@ -70,13 +50,13 @@ fn entry(alloc: Global, line: Line<'_>) -> Result<Entry, TraceFault> {
             to: Pid(to),
             ssn,
         },
-        Line::Deliver(to, send, rsn, list) => delivery(to, send, rsn, dets(alloc, list)?),
-        Line::Stable(fields) => Entry::Stable { det: det(fields) },
-        Line::Crash(who) => Entry::Crash { who: Pid(who) },
-        Line::Restart(who, list) => Entry::Restart {
-            who: Pid(who),
+        Line::Deliver(to, send, rsn, list) => Entry::Deliver {
+            to: Pid(to),
+            send,
+            rsn,
             listed: dets(alloc, list)?,
         },
+        Line::Crash(who) => Entry::Crash { who: Pid(who) },
         Line::Forget(who, list) => Entry::Forget {
             who: Pid(who),
             listed: dets(alloc, list)?,
@@ -84,15 +64,10 @@ fn entry(alloc: Global, line: Line<'_>) -> Result<Entry, TraceFault> {
     })
 }
 
-/// Pushes one entry.
-pub fn push(alloc: Global, trace: &mut Trace, line: Line<'_>) -> Result<(), TraceFault> {
-    trace.push(entry(alloc, line)?)
-}
-
 /// Pushes these entries, up to the first that is refused.
 pub fn push_all(alloc: Global, trace: &mut Trace, lines: &[Line<'_>]) -> Result<(), TraceFault> {
     for line in lines {
-        push(alloc, trace, *line)?;
+        trace.push(entry(alloc, *line)?)?;
     }
     Ok(())
 }

@@ -1,19 +1,6 @@
 //! The tests of recorded runs and of the auditor, as a crate that stands on these sees them: a proof of its tests proves none of
-//! theirs again. What they begin with, they share with the tests of the runtime: entries of a trace written short and the traces of
-//! them, texts of traces, and numbers that look random.
-//!
-//! Begin with [`traced`], the trace of some lines.
+//! theirs again. They begin with entries of a trace written short and the traces of them, and with texts of traces.
 #![tactic(auto)]
-
-/// Entries of a trace, written short, and the traces of them.
-mod entries;
-/// Numbers that look random, and are the same each time.
-mod numbers;
-/// Texts of traces that several tests read, each worked out by hand.
-pub mod texts;
-
-pub use crate::entries::{Fields, Line, RING, det, push, push_all, traced};
-pub use crate::numbers::Numbers;
 
 /// The tables of a trace that was judged by hand, once.
 #[cfg(test)]
@@ -21,9 +8,15 @@ mod audits;
 /// The calls of a clock that take memory, on a small run and at the limit on lanes.
 #[cfg(test)]
 mod clocks;
-/// Texts that are read and written.
+/// Entries of a trace, written short, and the traces of them.
+#[cfg(test)]
+mod entries;
+/// Texts that come from a reader, and go to a writer.
 #[cfg(test)]
 mod text;
+/// Texts of traces, each worked out by hand.
+#[cfg(test)]
+mod texts;
 /// A trace that is copied and grows.
 #[cfg(test)]
 mod traces;

@@ -1,10 +1,28 @@
-//! Texts of traces that several tests read, each worked out by hand.
+//! Texts of traces, each worked out by hand.
 
 /// A message that is sent and delivered, and then the text is cut off.
 pub const DELIVERED: &str = r#"["trace",1,2]
 ["send",0,1,0]
 ["deliver",1,0,0,[[0,0,1,0]]]
 "#;
+
+/// The same, with an end line that counts another number of entries.
+pub const MISCOUNTED: &str = r#"["trace",1,2]
+["send",0,1,0]
+["deliver",1,0,0,[[0,0,1,0]]]
+["end",1]"#;
+
+/// The same, with a space after its end line.
+pub const FOLLOWED: &str = r#"["trace",1,2]
+["send",0,1,0]
+["deliver",1,0,0,[[0,0,1,0]]]
+["end",2]
+ "#;
+
+/// The same, cut off in its last line.
+pub const TORN: &str = r#"["trace",1,2]
+["send",0,1,0]
+["deliver",1,0"#;
 
 /// A message goes once round three processes; each logs its own delivery and the one before it.
 pub const RING: &str = r#"["trace",1,3]

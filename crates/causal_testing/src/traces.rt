@@ -1,6 +1,6 @@
 //! A trace that is copied and grows. What a trace tells and refuses is what its clauses say of the list of its entries; the texts that
 //! come to its limits are rows for the built program (`examples/commands/faults.py`).
-use crate::{Line, RING, push_all, traced};
+use crate::entries::{Line, RING, push_all, traced};
 use causal_trace::trace::Trace;
 use std::alloc::Global;
 

@@ -2,7 +2,7 @@
 //! (`examples/commands/`).
 ghost use Rattle.std.specs.Prelude.{⊤};
 
-use crate::{Line, RING, push_all, traced};
+use crate::entries::{Line, RING, push_all, traced};
 use causal_audit::Verdict;
 use causal_holders::Holders;
 use causal_trace::fault::TraceFault;
@@ -90,113 +90,37 @@ impl Run {
     }
 }
 
-/// How often a worker looks whether the other has come.
+/// How often a worker looks whether the others have come.
 const TURNS: u32 = 10_000_000;
 
-// Holds each of the workers 0 and 1 until the other has entered, or the turns are over.
+/// Counts who enters: each number below 64, and how often one enters again or is no worker's. Holds each until those of the awaited
+/// bits have entered, or the turns are over.
 #[derive(Drop)]
-struct Meeting {
-    first: AtomicU64,
-    second: AtomicU64,
+struct Counting {
+    awaited: u64,
+    entered: AtomicU64,
+    again: AtomicU64,
     strangers: AtomicU64,
     missed: AtomicU64,
 }
 
-impl Meeting {
-    fn new() -> Meeting {
-        Meeting {
-            first: AtomicU64::new(0),
-            second: AtomicU64::new(0),
+impl Counting {
+    fn new(awaited: u64) -> Counting {
+        Counting {
+            awaited,
+            entered: AtomicU64::new(0),
+            again: AtomicU64::new(0),
             strangers: AtomicU64::new(0),
             missed: AtomicU64::new(0),
         }
     }
 
-    /// Whether the two have met, and nobody else has come.
-    fn is_over(&self) -> bool {
-        self.missed.load(Ordering::SeqCst) == 0
-            && self.first.load(Ordering::SeqCst) == 1
-            && self.second.load(Ordering::SeqCst) == 1
-            && self.strangers.load(Ordering::SeqCst) == 0
-    }
-}
-
-impl Gate for Meeting {
-    ghost passed = { λ _ _. ⊤ };
-
-    fn enter(&self, worker: u32) {
-        let (own, other) = match worker {
-            0 => (&self.first, &self.second),
-            1 => (&self.second, &self.first),
-            _ => (&self.strangers, &self.strangers),
-        };
-        own.fetch_add(1, Ordering::SeqCst);
-        for _ in 0..TURNS {
-            if other.load(Ordering::SeqCst) > 0 {
-                return;
-            }
-            thread::yield_now();
-        }
-        self.missed.fetch_add(1, Ordering::SeqCst);
-    }
-}
-
-/// Whether an audit of so many workers for one failure gives this verdict.
-fn gives<R: Threads + Wait, G: Gate + Sync>(
-    rt: &R,
-    alloc: Global,
-    trace: &Trace,
-    workers: u32,
-    gate: &G,
-    verdict: Verdict,
-) -> bool {
-    match audit(rt, alloc, trace, 1, workers.clamp(1, 64), gate) {
-        Ok(found) => found == verdict,
-        Err(_) => false,
-    }
-}
-
-/// Whether two workers meet that audit a run, each enters once, and their verdict is right.
-fn have_met<R: Threads + Wait>(rt: &R, alloc: Global, run: Run) -> bool {
-    let gate = Meeting::new();
-    match run.recorded(alloc) {
-        Ok(trace) => gives(rt, alloc, &trace, 2, &gate, run.verdict()) && gate.is_over(),
-        Err(_) => false,
-    }
-}
-
-#[test]
-fn audit_workers_overlap(rt: HostRuntime) {
-    assert!(rt; have_met(&rt, rt.alloc(), Run::Ring));
-}
-
-#[test]
-fn workers_overlap_that_have_deliveries_to_follow(rt: HostRuntime) {
-    assert!(rt; have_met(&rt, rt.alloc(), Run::PassedOnBare));
-}
-
-/// Counts who enters: each number below 64, and how often one enters again or is no worker's.
-#[derive(Drop)]
-struct Counting {
-    entered: AtomicU64,
-    again: AtomicU64,
-    strangers: AtomicU64,
-}
-
-impl Counting {
-    fn new() -> Counting {
-        Counting {
-            entered: AtomicU64::new(0),
-            again: AtomicU64::new(0),
-            strangers: AtomicU64::new(0),
-        }
-    }
-
-    /// Whether just the workers of these bits have entered, each once.
+    /// Whether just the workers of these bits have entered, each once, and all have met who were awaited.
     fn is_of(&self, all: u64) -> bool {
         self.entered.load(Ordering::SeqCst) == all
             && self.again.load(Ordering::SeqCst) == 0
             && self.strangers.load(Ordering::SeqCst) == 0
+            && self.missed.load(Ordering::SeqCst) == 0
     }
 }
 
@@ -212,35 +136,62 @@ impl Gate for Counting {
         if self.entered.fetch_or(own, Ordering::SeqCst) & own != 0 {
             self.again.fetch_add(1, Ordering::SeqCst);
         }
+        for _ in 0..TURNS {
+            if self.entered.load(Ordering::SeqCst) & self.awaited == self.awaited {
+                return;
+            }
+            thread::yield_now();
+        }
+        self.missed.fetch_add(1, Ordering::SeqCst);
     }
 }
 
-/// Whether each of so many workers, whose bits these are, enters once, and nobody else, and their verdict is right.
-fn enter_once<R: Threads + Wait>(rt: &R, alloc: Global, run: Run, workers: u32, all: u64) -> bool {
-    let gate = Counting::new();
+/// Whether an audit of so many workers for one failure gives this verdict.
+fn gives<R: Threads + Wait>(
+    rt: &R,
+    alloc: Global,
+    trace: &Trace,
+    workers: u32,
+    gate: &Counting,
+    verdict: Verdict,
+) -> bool {
+    match audit(rt, alloc, trace, 1, workers.clamp(1, 64), gate) {
+        Ok(found) => found == verdict,
+        Err(_) => false,
+    }
+}
+
+/// A run, the number of workers, the bits of all of them, and the bits of those that wait for each other.
+type Case = (Run, u32, u64, u64);
+
+const CASES: [Case; 8] = [
+    (Run::Ring, 1, 1, 0),
+    (Run::Ring, 5, 31, 0),
+    (Run::Ring, 64, u64::MAX, 0),
+    (Run::PassedOnBare, 1, 1, 0),
+    (Run::PassedOnBare, 5, 31, 0),
+    (Run::PassedOnBare, 64, u64::MAX, 0),
+    (Run::Ring, 2, 3, 3),
+    (Run::PassedOnBare, 2, 3, 3),
+];
+
+/// Whether each of so many workers enters once, and nobody else, those meet who wait, and their verdict is right.
+fn enter_once<R: Threads + Wait>(
+    rt: &R,
+    alloc: Global,
+    (run, workers, all, awaited): Case,
+) -> bool {
+    let gate = Counting::new(awaited);
     match run.recorded(alloc) {
         Ok(trace) => gives(rt, alloc, &trace, workers, &gate, run.verdict()) && gate.is_of(all),
         Err(_) => false,
     }
 }
 
-/// Runs, the numbers of workers, and the bits of all of each.
-const ENTERED: [(Run, u32, u64); 6] = [
-    (Run::Ring, 1, 1),
-    (Run::Ring, 5, 31),
-    (Run::Ring, 64, u64::MAX),
-    (Run::PassedOnBare, 1, 1),
-    (Run::PassedOnBare, 5, 31),
-    (Run::PassedOnBare, 64, u64::MAX),
-];
-
 // also where there are more workers than deliveries
 #[test]
-fn each_worker_enters_once(rt: HostRuntime) {
-    for (run, workers, all) in &ENTERED {
-        assert!(rt;
-            enter_once(&rt, rt.alloc(), *run, *workers, *all),
-            "{workers} workers"
-        );
+fn each_worker_enters_once_and_two_overlap(rt: HostRuntime) {
+    for (number, case) in CASES.iter().enumerate() {
+        assert!(rt; enter_once(&rt, rt.alloc(), *case), "case {number}");
     }
 }

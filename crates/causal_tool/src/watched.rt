@@ -10,7 +10,7 @@ const STEP: u64 = 1_048_576;
 const FIRST: u64 = 1;
 
 /// What has passed of a text, and when that is told next: after a second, two, four and so on.
-#[derive(Clone, Copy, Debug)]
+#[derive(Clone, Copy)]
 struct Progress {
     command: &'static str,
     begun: Instant,

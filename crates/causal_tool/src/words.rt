@@ -21,7 +21,7 @@ const ARGUMENTS_ARE_NO_TEXT: &str =
     "error: the arguments are no UTF-8 text\n\nFor more information, try '--help'.";
 
 /// How an answer is written.
-#[derive(Clone, Copy, Debug, PartialEq, Eq)]
+#[derive(Clone, Copy)]
 pub(crate) enum Form {
     /// As lines of text.
     Lines,
@@ -30,7 +30,7 @@ pub(crate) enum Form {
 }
 
 /// What the command line asks for.
-#[derive(Clone, Copy, Debug, PartialEq, Eq)]
+#[derive(Clone, Copy)]
 pub(crate) enum Asked {
     /// The answer to a question of a trace within limits.
     Trace {
@@ -52,7 +52,7 @@ pub(crate) enum Asked {
 }
 
 /// Why nothing is audited or run.
-#[derive(Clone, Copy, Debug, PartialEq, Eq)]
+#[derive(Clone, Copy)]
 pub(crate) enum Refused {
     /// What there is to say has been printed; the program ends with this status.
     Status(u8),

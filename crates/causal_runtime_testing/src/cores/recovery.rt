@@ -2,7 +2,7 @@
 use super::Call::Deliver;
 use super::*;
 use causal_name::{Det, MsgName};
-use causal_process::Counted;
+use causal_process::{Counted, Ring};
 use std::sync::Arc;
 use std::sync::atomic::{AtomicU64, Ordering};
 
@@ -90,10 +90,6 @@ fn is_restarted(alloc: Global, core: &mut Runtime) -> bool {
     gives_back(core, (2, CoreFault::NotDown), (1, answer), spare)
 }
 
-fn is_to_be_replayed(core: &Runtime) -> bool {
-    are_pending(core, 1, &[name(0, 0)]) && core.named(Pid(1)) == Ok(Some(name(0, 0)))
-}
-
 fn is_replayed(core: &mut Runtime) -> bool {
     core.replay(Pid(1), 0) == Ok(0)
         && core.replay(Pid(1), 10) == Ok(1)
@@ -101,21 +97,19 @@ fn is_replayed(core: &mut Runtime) -> bool {
         && core.named(Pid(1)) == Ok(None)
 }
 
-/// Whether nothing is pending at 2: the message that 1 sent anew was received before.
-fn is_received(core: &Runtime) -> bool {
-    are_pending(core, 2, &[]) && core.trace().len() == 10
-}
-
-/// Whether all is told and answered as it has to be, from the crash to the end of the replay.
+/// Whether all is told and answered as it has to be, from the crash to the end of the replay. Then nothing is pending at 2: the message
+/// that 1 sent anew was received before.
 fn comes_back(alloc: Global, core: &mut Runtime) -> bool {
     is_shown_down(core)
         && is_not_replayed_down(core)
         && are_answered(alloc, core, &WHILE_DOWN)
         && is_restarted(alloc, core)
-        && is_to_be_replayed(core)
+        && are_pending(core, 1, &[name(0, 0)])
+        && core.named(Pid(1)) == Ok(Some(name(0, 0)))
         && are_answered(alloc, core, &ANOTHER)
         && is_replayed(core)
-        && is_received(core)
+        && are_pending(core, 2, &[])
+        && core.trace().len() == 10
 }
 
 /// Whether all that holds, and the process that crashed is dropped at its crash and not again.
@@ -171,11 +165,6 @@ pub(super) fn stops(alloc: Global, core: &mut Runtime) -> bool {
         && core.trace().len() == 9
 }
 
-#[test]
-fn replay_stops_where_it_is_refused(rt: HostRuntime) {
-    assert!(rt; Scene::ReplayThatStops.is_right(rt.alloc()));
-}
-
 /// What is stable of five deliveries, and a crash and a restart.
 const STABLE: [(Call, Answer); 3] = [
     (Call::Flush(0), Answer::Flushed(5)),
@@ -186,11 +175,6 @@ const STABLE: [(Call, Answer); 3] = [
 /// Whether a replay of five deliveries makes five.
 pub(super) fn makes_five(alloc: Global, core: &mut Runtime) -> bool {
     are_delivered(core, 5) && are_answered(alloc, core, &STABLE) && core.replay(Pid(0), 10) == Ok(5)
-}
-
-#[test]
-fn a_replay_of_five_deliveries_makes_five(rt: HostRuntime) {
-    assert!(rt; Scene::ReplayOfFive.is_right(rt.alloc()));
 }
 
 /// A ring of three goes on into its second round; then 0 and 1 crash and restart, with all that 2 holds.
@@ -219,9 +203,4 @@ pub(super) fn waits_for_the_sender(alloc: Global, core: &mut Runtime) -> bool {
     are_answered(alloc, core, &ROUND[..2])
         && are_answered(alloc, core, &TWO_RESTARTS)
         && waits(core)
-}
-
-#[test]
-fn a_refusal_stands_where_a_replay_ends(rt: HostRuntime) {
-    assert!(rt; Scene::ReplayThatWaits.is_right(rt.alloc()));
 }

@@ -1,7 +1,7 @@
 //! Eight seats on eight threads that ask for what comes up.
 use super::*;
+use crate::numbers::Numbers;
 use causal_shared::item::Snapshot;
-use causal_testing::Numbers;
 use causal_trace::entry::Entry;
 use causal_trace::trace::Trace;
 use std::thread;
@@ -182,14 +182,6 @@ fn ends_whole<R: Wait>(
         }
 }
 
-/// Eight processes that echo counts of 200, with a seat for each.
-fn echoing(alloc: Global) -> Option<(Shared<MemStable>, Vec<Seat>)> {
-    match begun(alloc, Kind::Echo(200), SEATS, 2) {
-        Some(core) => opened(alloc, core, u32::from(SEATS), 7),
-        None => None,
-    }
-}
-
 /// The seats after the calls of eight threads, each with a seat of its own, that were all made.
 fn used<R: Threads + Wait + Sync>(
     rt: &R,
@@ -220,7 +212,7 @@ fn are_served<R: Threads + Wait + Sync>(
 // they are done.
 #[test]
 fn seats_call_at_random(rt: HostRuntime) {
-    let served = match echoing(rt.alloc()) {
+    let served = match echoing(rt.alloc(), 200, SEATS, 2) {
         Some((shared, seats)) => are_served(&rt, rt.alloc(), shared, seats),
         None => false,
     };

@@ -1,6 +1,5 @@
 //! Two seats on two threads, neither of which gets on without the other.
 use super::*;
-use causal_audit::{Tables, judge};
 use causal_shared::item::{Item, Snapshot};
 use causal_trace::trace::Trace;
 use std::thread;
@@ -28,14 +27,6 @@ struct Done {
     seen: Option<Seen>,
 }
 
-/// What the auditor says of a snapshot, for as many failures as its runtime runs for.
-fn verdict_on(alloc: Global, shown: &Snapshot) -> Option<Verdict> {
-    match Tables::of(alloc, &shown.trace) {
-        Ok(tables) => Some(judge(&tables, shown.faults)),
-        Err(NoMemory) => None,
-    }
-}
-
 impl Done {
     /// Takes a snapshot after a delivery, and audits it while the other seats go on.
     fn look<R: Wait>(&mut self, rt: &R, alloc: Global, shared: &Shared<MemStable>) -> Option<Seen> {
@@ -43,7 +34,7 @@ impl Done {
         match shared.snapshot(rt, &mut self.seat) {
             Ok(snapshot) => Some(Seen {
                 first,
-                verdict: verdict_on(alloc, &snapshot),
+                verdict: verdict_of(alloc, &snapshot.trace, snapshot.faults).ok(),
                 snapshot,
             }),
             Err(_) => None,
@@ -113,18 +104,10 @@ fn has_seen(done: &Done, trace: &Trace) -> bool {
     }
 }
 
-fn have_met(done: &[Done]) -> bool {
+/// Whether that holds of each seat.
+fn have_met(done: &[Done], trace: &Trace) -> bool {
     for one in done {
-        if !has_met(one) {
-            return false;
-        }
-    }
-    true
-}
-
-fn have_seen(done: &[Done], trace: &Trace) -> bool {
-    for one in done {
-        if !has_seen(one, trace) {
+        if !has_met(one) || !has_seen(one, trace) {
             return false;
         }
     }
@@ -154,44 +137,28 @@ fn recorded<R: Wait>(rt: &R, shared: &Shared<MemStable>, done: &mut [Done]) -> O
     shared.snapshot(rt, &mut one.seat).ok()
 }
 
-/// What is asked of seats that overlap.
-#[derive(Clone, Copy)]
-enum Asked {
-    Met,
-    Seen,
+/// Whether the seats have met, by what is then recorded.
+fn are_right<R: Wait>(rt: &R, shared: &Shared<MemStable>, done: &mut [Done]) -> bool {
+    match recorded(rt, shared, done) {
+        Some(whole) => have_met(done, &whole.trace),
+        None => false,
+    }
 }
 
-impl Asked {
-    fn is_right<R: Wait>(self, rt: &R, shared: &Shared<MemStable>, done: &mut [Done]) -> bool {
-        match self {
-            Asked::Met => have_met(done),
-            Asked::Seen => match recorded(rt, shared, done) {
-                Some(whole) => have_seen(done, &whole.trace),
-                None => false,
-            },
+/// Whether that is right, of two processes that echo a count of three, with a thread for each.
+fn are_right_of_two<R: Threads + Wait + Sync>(rt: &R, alloc: Global) -> bool {
+    let Some((shared, seats)) = echoing(alloc, 3, 2, 1) else {
+        return false;
+    };
+    match thread::map_vec(rt, seats, &|seat| delivers_all(rt, alloc, &shared, seat)) {
+        Ok(mut done) => {
+            are_right(rt, &shared, done.as_mut_slice()) && ends_whole(alloc, shared, done)
         }
-    }
-
-    /// Whether that is right, of two processes that echo a count of three, with a thread for each.
-    fn is_right_of_two<R: Threads + Wait + Sync>(self, rt: &R, alloc: Global) -> bool {
-        let Some((shared, seats)) = two_echoes(alloc) else {
-            return false;
-        };
-        match thread::map_vec(rt, seats, &|seat| delivers_all(rt, alloc, &shared, seat)) {
-            Ok(mut done) => {
-                self.is_right(rt, &shared, done.as_mut_slice()) && ends_whole(alloc, shared, done)
-            }
-            Err(_) => false,
-        }
+        Err(_) => false,
     }
 }
 
 #[test]
 fn seats_overlap(rt: HostRuntime) {
-    assert!(rt; Asked::Met.is_right_of_two(&rt, rt.alloc()));
-}
-
-#[test]
-fn snapshot_beside(rt: HostRuntime) {
-    assert!(rt; Asked::Seen.is_right_of_two(&rt, rt.alloc()));
+    assert!(rt; are_right_of_two(&rt, rt.alloc()));
 }

@@ -7,7 +7,7 @@ use causal_process::{Body, Input, Outgoing, Process};
 use std::alloc::Global;
 
 /// Answers every input by eight empty messages to itself.
-#[derive(Debug, Drop)]
+#[derive(Drop)]
 pub struct Flood {
     pub me: Pid,
 }
@@ -45,7 +45,7 @@ impl Process for Flood {
 }
 
 /// Reacts as the process inside, but answers once that memory was refused, after so many steps.
-#[derive(Debug, Drop)]
+#[derive(Drop)]
 pub struct Refusing<P> {
     pub inner: P,
     pub before_refusal: Option<u64>,

@@ -1,23 +1,5 @@
-//! A process that is refused memory once.
+//! A step that is refused memory once, of a process that goes round with itself.
 use super::*;
-use crate::cores::doubles::Refusing;
-
-/// A process that goes round with itself, whose first delivery is refused memory.
-fn scarce(alloc: Global) -> Result<Boxed, NoMemory> {
-    let process = Refusing {
-        inner: Ring::new(1, 0, 1),
-        before_refusal: Some(1),
-    };
-    let boxed: Boxed = Box::new(alloc, process)?;
-    Ok(boxed)
-}
-
-/// A ring of that process alone.
-pub(super) fn begun_scarce(alloc: Global) -> Option<Core<MemStable>> {
-    let mut boxes = Vec::new(alloc);
-    boxes.push(scarce(alloc).ok()?).ok()?;
-    started(alloc, boxes, 0)
-}
 
 /// Asks for the delivery of the message that the process sends itself at its beginning, the only one that there is: the fault
 /// of the answer.
@@ -43,9 +25,4 @@ pub(super) fn is_made_again<R: Wait>(rt: &R, shared: &Shared<MemStable>, seat: &
         && (seat.count(), seat.seen()) == (1, 1)
         && is_as_begun(rt, shared, seat)
         && deliver_own(rt, shared, seat).is_none()
-}
-
-#[test]
-fn a_step_is_refused_and_then_made(rt: HostRuntime) {
-    assert!(rt; Scene::StepMadeAgain.is_right(&rt, rt.alloc()));
 }

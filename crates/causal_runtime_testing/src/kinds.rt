@@ -1,0 +1,135 @@
+//! What the kinds of process answer, and the process of the documentation, on values worked out by hand. That a counted process is
+//! dropped once is seen on a core (`cores`).
+use crate::runtime::{Kind, process};
+use causal_name::{NoMemory, Pid};
+use causal_process::{Body, Input, Outgoing, Process};
+use std::alloc::Global;
+
+/// A process and the bytes of a message that comes from it or goes to it; None for a beginning, or for no message.
+type Told = Option<(u8, &'static [u8])>;
+
+/// Process `me` of n of a kind, and what it answers to each of these in turn.
+type Case = (Kind, u16, u8, &'static [(Told, Told)]);
+
+// 255 + 255 + 3 is twice 256 and 1 more.
+const CASES: [Case; 11] = [
+    (
+        Kind::Ring(2),
+        3,
+        0,
+        &[
+            (None, Some((1, &[2]))),
+            (Some((2, &[5])), Some((1, &[4]))),
+            (Some((2, &[0])), None),
+            (Some((2, &[])), None),
+        ],
+    ),
+    (Kind::Ring(2), 1, 0, &[(None, Some((0, &[2])))]),
+    (
+        Kind::Ring(2),
+        256,
+        255,
+        &[(None, None), (Some((254, &[7, 1])), Some((0, &[6])))],
+    ),
+    (
+        Kind::Echo(4),
+        3,
+        2,
+        &[
+            (None, None),
+            (Some((1, &[3])), Some((1, &[2]))),
+            (Some((1, &[0])), None),
+        ],
+    ),
+    (Kind::Echo(4), 3, 1, &[(None, Some((0, &[4])))]),
+    (Kind::Echo(4), 256, 254, &[(None, Some((255, &[4])))]),
+    (
+        Kind::Tally,
+        3,
+        0,
+        &[
+            (None, None),
+            (Some((1, &[1])), Some((1, &[0, 0, 0, 0, 0, 0, 0, 1]))),
+            (Some((2, &[2])), Some((2, &[0, 0, 0, 0, 0, 0, 0, 3]))),
+        ],
+    ),
+    (
+        Kind::Tally,
+        3,
+        0,
+        &[
+            (Some((2, &[2])), Some((2, &[0, 0, 0, 0, 0, 0, 0, 2]))),
+            (Some((1, &[1])), Some((1, &[0, 0, 0, 0, 0, 0, 0, 3]))),
+        ],
+    ),
+    (
+        Kind::Tally,
+        3,
+        0,
+        &[
+            (Some((1, &[255])), Some((1, &[0, 0, 0, 0, 0, 0, 0, 255]))),
+            (Some((1, &[255])), Some((1, &[0, 0, 0, 0, 0, 0, 1, 254]))),
+            (Some((1, &[3])), Some((1, &[0, 0, 0, 0, 0, 0, 2, 1]))),
+        ],
+    ),
+    (
+        Kind::Tally,
+        3,
+        2,
+        &[(None, Some((0, &[2]))), (Some((0, &[9])), None)],
+    ),
+    (
+        Kind::Numbering(254),
+        1,
+        0,
+        &[
+            (None, None),
+            (Some((3, &[])), Some((3, &[255]))),
+            (Some((5, &[])), Some((5, &[0]))),
+            (Some((3, &[])), Some((3, &[1]))),
+        ],
+    ),
+];
+
+fn input(alloc: Global, given: Told) -> Result<Input, NoMemory> {
+    Ok(match given {
+        None => Input::Begin,
+        Some((from, bytes)) => Input::Message {
+            from: Pid(from),
+            body: Body::of(alloc, bytes)?,
+        },
+    })
+}
+
+/// Whether these are just the sends that are expected.
+fn are_expected(sends: &[Outgoing], expected: Told) -> bool {
+    match (sends, expected) {
+        ([], None) => true,
+        ([send], Some((to, bytes))) => send.to == Pid(to) && send.body.as_slice() == bytes,
+        _ => false,
+    }
+}
+
+/// Whether a process answers each of these in turn as is said beside it. Where memory is refused it is asked a second time, and
+/// has to answer as if it had been asked once.
+fn answers(alloc: Global, (kind, n, me, rows): Case) -> Result<bool, NoMemory> {
+    let mut process = process(alloc, kind, n, me)?;
+    for (given, expected) in rows {
+        let input = input(alloc, *given)?;
+        let sends = match process.step(alloc, &input) {
+            Ok(sends) => sends,
+            Err(NoMemory) => process.step(alloc, &input)?,
+        };
+        if !are_expected(sends.as_slice(), *expected) {
+            return Ok(false);
+        }
+    }
+    Ok(true)
+}
+
+#[test]
+fn kinds_answer(rt: HostRuntime) {
+    for case in &CASES {
+        assert!(rt; matches!(answers(rt.alloc(), *case), Ok(true)));
+    }
+}
