@@ -3,7 +3,7 @@ use Rattle.std.proofs.Common.{◌≡◌, ◌≢◌, List, ℕ, Option, Result, O
 use Rattle.std.specs.Prelude.{IfSome}
 use Rattle.causal_text.specs.declared.before.Rejected.{Rejected}
 use Rattle.causal_text.specs.declared.kept.Unread.TheVariants as unread
-use Rattle.causal_text.specs.declared.kind.TextKind.TheVariants as kind
+use Rattle.causal_line.specs.declared.kind.TextKind.TheVariants as kind
 use Rattle.causal_workers.specs.Early.{TellsUnjudged}
 use Rattle.causal_workers.specs.declared.early.Unjudged.TheVariants.{Unread}
 use Rattle.causal_commands.specs.declared.ended.Ended.{Ended}

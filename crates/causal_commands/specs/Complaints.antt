@@ -1,8 +1,8 @@
 -- What is said on standard error of a text that is no trace.
 use Rattle.std.specs.Prelude.{ℕ, List, [], ◌++◌, Option, Some, None, codes, decimal}
-use Rattle.causal_text.specs.declared.kind.TextFault.{TextFault}
-use Rattle.causal_text.specs.declared.wrong.Wrong.{Wrong}
-use Rattle.causal_text.specs.Wordings.{sentence}
+use Rattle.causal_line.specs.declared.kind.TextFault.{TextFault}
+use Rattle.causal_line.specs.declared.wrong.Wrong.{Wrong}
+use Rattle.causal_line.specs.Wordings.{sentence}
 use Rattle.causal_workers.specs.declared.judged.Judged.{Judged}
 use Rattle.causal_workers.specs.Lines.{verdict_line}
 use Rattle.causal_commands.specs.declared.remark.Refusal.{Refusal}

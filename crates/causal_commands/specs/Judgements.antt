@@ -5,7 +5,7 @@ use Rattle.causal_trace.specs.Rows.{Recording}
 use Rattle.causal_audit.specs.Verdicts.{IsVerdict}
 use Rattle.causal_workers.specs.declared.judged.Judged.{Judged}
 use Rattle.causal_text.specs.Spelling.{IsFirstFault}
-use Rattle.causal_text.specs.declared.kind.TextKind.TheVariants as kind
+use Rattle.causal_line.specs.declared.kind.TextKind.TheVariants as kind
 use Rattle.causal_commands.specs.declared.judged.StreamFault.{StreamFault}
 use Rattle.causal_commands.specs.declared.judged.StreamFault.TheVariants.{Text}
 

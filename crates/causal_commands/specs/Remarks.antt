@@ -1,11 +1,11 @@
 -- What is said of a text that is no trace. `most` is how many entries the trace may have.
 use Rattle.std.specs.Prelude.{◌≡◌, ℕ, List, Option, IfSome}
 use Rattle.causal_trace.specs.Rows.{Recording}
-use Rattle.causal_text.specs.declared.kind.TextFault.{TextFault}
-use Rattle.causal_text.specs.declared.shape.Shape.{Shape}
+use Rattle.causal_line.specs.declared.kind.TextFault.{TextFault}
+use Rattle.causal_line.specs.declared.shape.Shape.{Shape}
 use Rattle.causal_text.specs.Before.{StandsBeforeWithin}
 use Rattle.causal_text.specs.Spelling.{IsFirstFaultWithin}
-use Rattle.causal_text.specs.Wrongs.{IsWrong, kind_told}
+use Rattle.causal_line.specs.Wrongs.{IsWrong, kind_told}
 use Rattle.causal_commands.specs.declared.remark.Refusal.{Refusal}
 use Rattle.causal_commands.specs.declared.remark.Remark.{Remark}
 use Rattle.causal_commands.specs.Judgements.{IsJudgedSo}

@@ -1,9 +1,9 @@
 -- What a run of the program writes. `most` is how many entries the trace may have.
 use Rattle.std.specs.Prelude.{◌≡◌, ◌≢◌, ℕ, List, Option, IfSome}
 use Rattle.causal_trace.specs.Limits.{default_entries}
-use Rattle.causal_text.specs.declared.kind.TextFault.{TextFault}
+use Rattle.causal_line.specs.declared.kind.TextFault.{TextFault}
 use Rattle.causal_text.specs.Spelling.{IsFirstFaultWithin}
-use Rattle.causal_text.specs.FaultLine.{fault_line}
+use Rattle.causal_line.specs.FaultLine.{fault_line}
 use Rattle.causal_audit.specs.declared.verdict.Verdict.TheVariants.{Accept}
 use Rattle.causal_commands.specs.declared.ended.Ended.{Ended}
 use Rattle.causal_commands.specs.declared.ended.Ended.TheVariants.{Accepted, Breached, Faulted}

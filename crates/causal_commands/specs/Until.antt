@@ -1,7 +1,7 @@
 -- What a run of the program writes that ends at a breach. `most` is how many entries the trace may have.
 use Rattle.std.specs.Prelude.{◌≡◌, ℕ, ◌⊎◌, List, ◌++◌, codes, Option, IfSome}
 use Rattle.std.specs.Fmt.{decimal}
-use Rattle.causal_text.specs.Stages.{content}
+use Rattle.causal_line.specs.Values.{content}
 use Rattle.causal_workers.specs.declared.judged.Judged.{Judged}
 use Rattle.causal_workers.specs.Early.{FindsNoBreach, IsEarly}
 use Rattle.causal_workers.specs.Lines.{verdict_line}

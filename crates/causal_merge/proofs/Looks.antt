@@ -1,10 +1,10 @@
 -- What a look at a long line tells of its JSON value.
 use Rattle.std.proofs.Common.{◌≡◌, false, Result, Ok, Err, refl}
 use Rattle.serde_json.specs.Data.{Data}
-use Rattle.causal_text.specs.declared.kind.TextKind.{TextKind}
-use Rattle.causal_text.specs.declared.kind.TextKind.TheVariants.{Form}
-use Rattle.causal_text.specs.Reading.{◌>>=◌}
-use Rattle.causal_text.specs.Outline.{levels, fits}
+use Rattle.causal_line.specs.declared.kind.TextKind.{TextKind}
+use Rattle.causal_line.specs.declared.kind.TextKind.TheVariants.{Form}
+use Rattle.causal_line.specs.Reading.{◌>>=◌}
+use Rattle.causal_line.specs.Outline.{levels, fits}
 use Rattle.causal_merge.specs.Shapes.{line_of}
 use Rattle.causal_merge.proofs.Outlines.{no_line}
 

@@ -4,11 +4,11 @@ use Rattle.std.specs.Prelude.{◌&&◌, List, [], Bool, bytes_eq, codes, Some}
 use Rattle.serde_json.specs.Data.{Data, array, no_items, item}
 use Rattle.serde_json.specs.Find.{at}
 use Rattle.causal_name.specs.declared.Det.{Det}
-use Rattle.causal_text.specs.declared.kind.TextKind.TheVariants.{Form}
-use Rattle.causal_text.specs.Reading.{◌>>=◌}
-use Rattle.causal_text.specs.Shapes.{pid_at, u32_at, u64_at, det_of, dets_at, begins}
-use Rattle.causal_text.specs.Outline.{levels, fits}
-use Rattle.causal_text.proofs.Lemmas.Unfit.{process_or, number_or, or_else, last_false, split, stops, after, chain, IsPlainly-or_form, IsPlainly-pid, IsPlainly-det, IsPlainly-dets, number_bad, u64_bad, pid_bad, det_bad, dets_bad, of_line, fields, either}
+use Rattle.causal_line.specs.declared.kind.TextKind.TheVariants.{Form}
+use Rattle.causal_line.specs.Reading.{◌>>=◌}
+use Rattle.causal_line.specs.Shapes.{pid_at, u32_at, u64_at, det_of, dets_at, begins}
+use Rattle.causal_line.specs.Outline.{levels, fits}
+use Rattle.causal_line.proofs.Lemmas.Unfit.{process_or, number_or, or_else, last_false, split, stops, after, chain, IsPlainly-or_form, IsPlainly-pid, IsPlainly-det, IsPlainly-dets, number_bad, u64_bad, pid_bad, det_bad, dets_bad, of_line, fields, either}
 use Rattle.causal_merge.specs.declared.event.Act.{Act}
 use Rattle.causal_merge.specs.declared.event.Act.TheVariants.{Crash, Restart, Forget}
 use Rattle.causal_merge.specs.Shapes.{header_of, event_with, send_of, deliver_of, stable_of, restart_of, forget_of, heard_of, line_of}

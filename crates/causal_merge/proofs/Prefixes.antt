@@ -4,14 +4,14 @@ use Rattle.std.specs.Prelude.{sum_by}
 use Rattle.std.proofs.lemmas.List.{append-nil, reverse-append, reverse-reverse, length-append}
 use Rattle.std.proofs.lemmas.List.Sums.{sum_by-cons}
 use Rattle.causal_trace.specs.declared.entry.Entry.{Entry}
-use Rattle.causal_text.specs.declared.kind.TextKind.{TextKind}
-use Rattle.causal_text.specs.Reading.{◌>>=◌}
+use Rattle.causal_line.specs.declared.kind.TextKind.{TextKind}
+use Rattle.causal_line.specs.Reading.{◌>>=◌}
 use Rattle.causal_merge.specs.declared.event.Line.{Line}
 use Rattle.causal_merge.specs.declared.event.Placed.{Placed}
 use Rattle.causal_merge.specs.declared.fault.MergeFault.{MergeFault}
 use Rattle.causal_merge.specs.Said.{run_in}
 use Rattle.causal_merge.specs.Reading.{most_bytes, next_line, with_line, reading}
-use Rattle.causal_text.specs.Lines.{lines}
+use Rattle.causal_line.specs.Lines.{lines}
 use Rattle.causal_merge.specs.declared.gathered.Gathered.{Gathered}
 use Rattle.causal_merge.specs.Inside.Gathering.{HasRead, HasCome}
 use Rattle.causal_merge.specs.Inside.Gathering as gathering

@@ -3,7 +3,7 @@ use Rattle.std.proofs.Common.{◌≡◌, ℕ, ◌+◌, ◌<◌, List, length, re
 use Rattle.std.proofs.lemmas.List.{length-reverse}
 use Rattle.causal_trace.specs.Limits.{IsProcessCount}
 use Rattle.causal_trace.specs.Rows.{Recording}
-use Rattle.causal_text.specs.Lines.{lines}
+use Rattle.causal_line.specs.Lines.{lines}
 use Rattle.causal_merge.specs.declared.event.Run.{Run}
 use Rattle.causal_merge.specs.declared.event.Line.{Line}
 use Rattle.causal_merge.specs.declared.event.Placed.{Placed}

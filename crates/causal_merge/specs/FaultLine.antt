@@ -1,6 +1,6 @@
 -- How a fault prints.
 use Rattle.std.specs.Prelude.{ℕ, List, ◌++◌, codes, decimal}
-use Rattle.causal_text.specs.FaultLine as text
+use Rattle.causal_line.specs.FaultLine as text
 use Rattle.causal_merge.specs.declared.fault.MergeKind.{MergeKind}
 use Rattle.causal_merge.specs.declared.fault.MergeKind.TheVariants as kind
 use Rattle.causal_merge.specs.declared.fault.MergeFault.{MergeFault}

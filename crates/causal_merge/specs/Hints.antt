@@ -1,7 +1,7 @@
 -- What a fault of recordings may come from.
 use Rattle.std.specs.Prelude.{ℕ, List, Option, Some, None, codes}
-use Rattle.causal_text.specs.declared.kind.TextKind.{TextKind}
-use Rattle.causal_text.specs.declared.kind.TextKind.TheVariants.{Syntax, Header, NotUp, NotDown, WrongSsn, WrongRsn, NoSend, NoDelivery}
+use Rattle.causal_line.specs.declared.kind.TextKind.{TextKind}
+use Rattle.causal_line.specs.declared.kind.TextKind.TheVariants.{Syntax, Header, NotUp, NotDown, WrongSsn, WrongRsn, NoSend, NoDelivery}
 use Rattle.causal_merge.specs.declared.fault.MergeKind.{MergeKind}
 use Rattle.causal_merge.specs.declared.fault.MergeKind.TheVariants as kind
 

@@ -7,9 +7,9 @@ use Rattle.causal_trace.specs.declared.entry.Entry.{Entry}
 use Rattle.causal_trace.specs.declared.entry.Entry.TheVariants as entry
 use Rattle.causal_trace.specs.Past.{lane}
 use Rattle.causal_trace.specs.Rows.{passes, fault_within}
-use Rattle.causal_text.specs.declared.kind.TextKind.TheVariants.{TooLong, NoProcess}
-use Rattle.causal_text.specs.Reading.{◌>>=◌}
-use Rattle.causal_text.specs.Stages.{kind_of}
+use Rattle.causal_line.specs.declared.kind.TextKind.TheVariants.{TooLong, NoProcess}
+use Rattle.causal_line.specs.Reading.{◌>>=◌}
+use Rattle.causal_line.specs.Kinds.{kind_of}
 use Rattle.causal_merge.specs.declared.event.Act.{Act}
 use Rattle.causal_merge.specs.declared.event.Act.TheVariants.{Send, Deliver, Stable, Crash, Restart, Forget}
 use Rattle.causal_merge.specs.declared.event.Event.{Event}

@@ -3,7 +3,7 @@
 use Rattle.std.specs.Prelude.{◌≡◌, ℕ, ◌+◌, ◌⊎◌, List, length, reverse, Ok, Err}
 use Rattle.causal_trace.specs.Limits.{default_entries}
 use Rattle.causal_trace.specs.Rows.{Recording}
-use Rattle.causal_text.specs.Lines.{lines}
+use Rattle.causal_line.specs.Lines.{lines}
 use Rattle.causal_merge.specs.declared.event.Run.{Run}
 use Rattle.causal_merge.specs.declared.event.Line.{Line}
 use Rattle.causal_merge.specs.declared.event.Placed.{Placed}

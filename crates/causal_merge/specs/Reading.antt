@@ -1,10 +1,10 @@
 -- What the lines of a text say, or the first fault of a line. `most` is how many entries the trace may have.
 use Rattle.std.specs.Prelude.{ℕ, ◌+◌, ◌*◌, ◌==◌, ◌&&◌, nat_lt, min, if◌then◌else◌, List, [], ◌∷◌, length, sum_by, Option, unwrap_or, Result, Ok, Err, Bool}
 use Rattle.serde_json.specs.Data.{Data}
-use Rattle.causal_text.specs.declared.kind.TextKind.{TextKind}
-use Rattle.causal_text.specs.declared.kind.TextKind.TheVariants.{Big, Header, NoProcess}
-use Rattle.causal_text.specs.Reading.{◌>>=◌}
-use Rattle.causal_text.specs.Stages.{content, json_of}
+use Rattle.causal_line.specs.declared.kind.TextKind.{TextKind}
+use Rattle.causal_line.specs.declared.kind.TextKind.TheVariants.{Big, Header, NoProcess}
+use Rattle.causal_line.specs.Reading.{◌>>=◌}
+use Rattle.causal_line.specs.Values.{content, json_of}
 use Rattle.causal_merge.specs.declared.event.Run.{Run}
 use Rattle.causal_merge.specs.declared.event.Line.{Line}
 use Rattle.causal_merge.specs.declared.event.Line.TheVariants as says

@@ -3,10 +3,10 @@ use Rattle.std.specs.Prelude.{ℕ, ◌==◌, codes, if◌then◌else◌, Result,
 use Rattle.serde_json.specs.Data.{Data}
 use Rattle.causal_name.specs.declared.Pid.{Pid}
 use Rattle.causal_trace.specs.Limits.{is_process_count}
-use Rattle.causal_text.specs.declared.kind.TextKind.{TextKind}
-use Rattle.causal_text.specs.declared.kind.TextKind.TheVariants.{Form, Version, Processes}
-use Rattle.causal_text.specs.Reading.{◌>>=◌}
-use Rattle.causal_text.specs.Shapes.{field, u32_at, u64_at, pid_at, det_of, dets_at, begins}
+use Rattle.causal_line.specs.declared.kind.TextKind.{TextKind}
+use Rattle.causal_line.specs.declared.kind.TextKind.TheVariants.{Form, Version, Processes}
+use Rattle.causal_line.specs.Reading.{◌>>=◌}
+use Rattle.causal_line.specs.Shapes.{field, u32_at, u64_at, pid_at, det_of, dets_at, begins}
 use Rattle.causal_merge.specs.declared.event.Act.{Act}
 use Rattle.causal_merge.specs.declared.event.Act.TheVariants.{Send, Deliver, Stable, Crash, Restart, Forget}
 use Rattle.causal_merge.specs.declared.event.Line.{Line}

@@ -1,5 +1,5 @@
 //! Why recordings make no trace.
-use causal_text::kind::TextKind;
+use causal_line::kind::TextKind;
 use thiserror::Error;
 
 /// What is wrong with recordings. A line has a kind of a trace's text where it means the same.

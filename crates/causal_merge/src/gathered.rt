@@ -1,7 +1,7 @@
 //! What the lines so far have said, as far as the merge needs it.
 ghost use Rattle.std.specs.Prelude.{◌≡◌, ◌+◌, ◌<◌, ◌≤◌, ◌∷◌, ℕ, List, [], length, sum_by, slice_index_or, true, false, Ok, OnOk, IfOk, IfErr, IfSome, IfNone};
 ghost use Rattle.causal_trace.specs.Limits.{IsProcessCount};
-ghost use Rattle.causal_text.specs.Given.{IsFaultGiven};
+ghost use Rattle.causal_line.specs.Given.{IsFaultGiven};
 ghost use Rattle.causal_merge.specs.declared.event.Line.{Line};
 ghost use Rattle.causal_merge.specs.Said.{IsWhole, LacksHeader};
 ghost use Rattle.causal_merge.specs.Reading.{most_bytes, next_line};
@@ -10,7 +10,7 @@ ghost use Rattle.causal_merge.specs.Inside.Gathering.{Gathers, HasRead, IsFaultO
 use crate::event::{Line, Placed, Run};
 use crate::fault::{MergeFault, MergeKind};
 use crate::line::next_line;
-use causal_text::kind::TextKind;
+use causal_line::kind::TextKind;
 use causal_trace::limits::Limits;
 use std::alloc::Global;
 

@@ -3,7 +3,7 @@ ghost use Rattle.std.specs.Prelude.{◌≡◌, option_map};
 ghost use Rattle.causal_merge.specs.Hints.{hint_of, line_hint};
 
 use crate::fault::MergeKind;
-use causal_text::kind::TextKind;
+use causal_line::kind::TextKind;
 
 impl MergeKind {
     /// What a fault of this kind may come from, for people; None where its sentence says all.

@@ -1,7 +1,7 @@
 //! From the bytes of a line to what it says.
 ghost use Rattle.std.specs.Prelude.{◌≡◌, ◌≤◌, IfOk, OnOk};
 ghost use Rattle.serde_json.specs.View.{view};
-ghost use Rattle.causal_text.specs.Given.{Gives};
+ghost use Rattle.causal_line.specs.Given.{Gives};
 ghost use Rattle.causal_merge.specs.Shapes.{header_with, header_of, event_with, send_of, deliver_of, stable_of, heard_of, line_of};
 ghost use Rattle.causal_merge.specs.Reading.{bytes_say, agreed, next_line, same_run, most_bytes};
 ghost use Rattle.causal_merge.specs.Inside.Gathering.{IsSound};
@@ -10,10 +10,10 @@ use crate::event::{Act, Event, Line, Run};
 use crate::limits::bytes_within;
 use crate::torn::{is_blank, is_torn};
 use crate::value::value_of;
+use causal_line::fields::{begins, det_of, dets_at, pid_at, u32_at, u64_at};
+use causal_line::kind::TextKind;
+use causal_line::line_value::content;
 use causal_name::Pid;
-use causal_text::fields::{begins, det_of, dets_at, pid_at, u32_at, u64_at};
-use causal_text::kind::TextKind;
-use causal_text::line_value::content;
 use causal_trace::limits::Limits;
 use serde_json::Value;
 use std::alloc::Global;

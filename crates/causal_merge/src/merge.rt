@@ -7,7 +7,7 @@ use crate::gathered::Gathered;
 use crate::merger::merge_events;
 use crate::order::put_in_order;
 use crate::reading::read_lines;
-use causal_text::kind::TextKind;
+use causal_line::kind::TextKind;
 use causal_trace::limits::{DEFAULT_LIMITS, Limits};
 use causal_trace::trace::Trace;
 use std::alloc::Global;

@@ -4,7 +4,7 @@ ghost use Rattle.causal_trace.specs.declared.fault.TraceFault.{TraceFault};
 ghost use Rattle.causal_trace.specs.Limits.{IsProcessCount};
 ghost use Rattle.causal_trace.specs.Rows.{fault_within};
 ghost use Rattle.causal_trace.specs.State.{with_entry};
-ghost use Rattle.causal_text.specs.Stages.{kind_of};
+ghost use Rattle.causal_line.specs.Kinds.{kind_of};
 ghost use Rattle.causal_merge.specs.declared.event.Placed.{Placed};
 ghost use Rattle.causal_merge.specs.Merged.{has_processes, send_position, entry_of, early_fault, event_fault, merged};
 ghost use Rattle.causal_merge.specs.Inside.Sends.{IsOf};
@@ -13,8 +13,8 @@ ghost use Rattle.causal_merge.specs.Inside.Merger.{HasMerged, IsFaultOf, newest,
 use crate::event::{Act, Event, Placed};
 use crate::fault::{MergeFault, MergeKind};
 use crate::sends::{SendName, Sends};
+use causal_line::kind::TextKind;
 use causal_name::Pid;
-use causal_text::kind::TextKind;
 use causal_trace::entry::Entry;
 use causal_trace::limits::Limits;
 use causal_trace::trace::Trace;

@@ -1,12 +1,12 @@
 //! The lines of a text, one after another.
 ghost use Rattle.std.specs.Prelude.{◌≡◌, ◌≤◌, reverse, length, IfOk, IfErr};
-ghost use Rattle.causal_text.specs.Lines.{lines};
+ghost use Rattle.causal_line.specs.Lines.{lines};
 ghost use Rattle.causal_merge.specs.Reading.{most_bytes};
 ghost use Rattle.causal_merge.specs.Inside.Gathering.{HasRead, IsFaultOf};
 
 use crate::fault::MergeFault;
 use crate::gathered::Gathered;
-use causal_text::lines::split_line;
+use causal_line::lines::split_line;
 use causal_trace::limits::Limits;
 use std::alloc::Global;
 

@@ -3,9 +3,9 @@ ghost use Rattle.std.specs.Prelude.{◌≡◌, IfOk};
 ghost use Rattle.causal_merge.specs.FaultLine.{named_line, fault_line};
 
 use crate::fault::{MergeFault, MergeKind};
+use causal_line::kind::TextFault;
+use causal_line::report;
 use causal_name::NoMemory;
-use causal_text::kind::TextFault;
-use causal_text::report;
 use std::alloc::Global;
 
 fn named_line(alloc: Global, line: u32, name: &str) -> Result<Vec<u8>, NoMemory>

@@ -5,8 +5,8 @@ ghost use Rattle.causal_trace.specs.Limits.{max_entries};
 ghost use Rattle.causal_merge.specs.Merged.{send_position};
 ghost use Rattle.causal_merge.specs.Inside.Sends.{IsOf};
 
+use causal_line::kind::TextKind;
 use causal_name::Pid;
-use causal_text::kind::TextKind;
 use causal_trace::entry::Entry;
 use std::alloc::Global;
 use std::collections::BTreeMap;

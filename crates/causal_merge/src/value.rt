@@ -1,13 +1,13 @@
 //! The JSON value of a line. A long line is looked at before a tree is built of it, so that memory is a small multiple of
 //! what a line may be, and not of what an enemy writes.
 ghost use Rattle.std.specs.Prelude.{IfOk, IfErr};
-ghost use Rattle.causal_text.specs.Stages.{json_of};
-ghost use Rattle.causal_text.specs.Given.{IsFaultGiven};
+ghost use Rattle.causal_line.specs.Values.{json_of};
+ghost use Rattle.causal_line.specs.Given.{IsFaultGiven};
 ghost use Rattle.causal_merge.specs.Inside.Values.{IsValueOf};
 
-use causal_text::kind::TextKind;
-use causal_text::line_value::json_of;
-use causal_text::outline::has_outline;
+use causal_line::kind::TextKind;
+use causal_line::line_value::json_of;
+use causal_line::outline::has_outline;
 use serde_json::Value;
 use std::alloc::Global;
 

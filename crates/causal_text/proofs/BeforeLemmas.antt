@@ -6,13 +6,14 @@ use Rattle.causal_text.specs.declared.before.Before.{Before}
 use Rattle.causal_text.specs.declared.before.Rejected.{Rejected}
 use Rattle.causal_text.specs.declared.stage.Stage.{Stage}
 use Rattle.causal_text.specs.Before.{StandsBeforeWithin, IsKeptWithin}
-use Rattle.causal_text.specs.Lines.{lines}
-use Rattle.causal_text.specs.Pieces.{IsComplete, joined, Held, StandsFor}
+use Rattle.causal_line.specs.Lines.{lines, IsComplete}
+use Rattle.causal_text.specs.Pieces.{joined, Held, StandsFor}
 use Rattle.causal_text.specs.Spelling.{LeadsTo}
-use Rattle.causal_text.specs.Stages.{line_shape}
+use Rattle.causal_line.specs.Values.{line_shape}
 use Rattle.causal_text.specs.Streams.{PieceEndsAt}
 use Rattle.causal_text.specs.Inside.Kept.{IsGoingOn, IsKeptAt, IsKeptOfAll, IsKeptAfter}
-use Rattle.causal_text.proofs.Feeds.{Comes, IsComplete-append, lines_complete, lines_joined, lines_rest}
+use Rattle.causal_text.proofs.Feeds.{Comes, lines_joined}
+use Rattle.causal_line.proofs.Lemmas.CompleteLines.{IsComplete-append, lines_complete, lines_rest}
 use Rattle.causal_text.proofs.StreamLemmas.{Consumes-then, all_read}
 
 -- the lines that are complete come first

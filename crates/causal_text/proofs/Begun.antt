@@ -2,21 +2,22 @@
 use Rattle.std.proofs.Common.{◌≡◌, ◌<◌, ◌++◌, ◌∙◌, ◌⊎◌, inl, inr, refl, sym, ap, subst, arith, ℕ, List, [], ◌∷◌, Bool, true, false, length, length-append, map, Ok, Err, append_assoc, append-nil}
 use Rattle.std.specs.Prelude.{◌==◌, ◌&&◌, not, Option, Some, None, IfSome, IfNone}
 use Rattle.causal_trace.specs.Rows.{Recording}
-use Rattle.causal_text.specs.declared.kind.TextFault.{TextFault}
+use Rattle.causal_line.specs.declared.kind.TextFault.{TextFault}
 use Rattle.causal_text.specs.declared.stage.Stage.{Stage}
 use Rattle.causal_text.specs.declared.stage.Stage.TheVariants.{Within}
 use Rattle.causal_text.specs.declared.stream.State.TheVariants as state
 use Rattle.causal_text.specs.Begun.{SaysSoFar, BeginsWith}
 use Rattle.causal_text.specs.Fed.{WasFed}
-use Rattle.causal_text.specs.Lines.{lines}
+use Rattle.causal_line.specs.Lines.{lines, no_feed, IsComplete}
 use Rattle.causal_text.specs.Place.{Place}
-use Rattle.causal_text.specs.Pieces.{no_feed, IsComplete, AreComplete, joined, Held, StandsFor}
+use Rattle.causal_text.specs.Pieces.{AreComplete, joined, Held, StandsFor}
 use Rattle.causal_text.specs.Spelling.{LeadsTo, said}
 use Rattle.causal_text.specs.Inside.Kept.{IsGoingOn}
 use Rattle.causal_text.specs.Inside.LineByLine.{start, next, after_lines}
 use Rattle.causal_text.specs.Inside.Unfinished.{IsPast}
 use Rattle.causal_text.proofs.Complete.{after_lines-append, after_lines-place, Leads-reached}
-use Rattle.causal_text.proofs.Feeds.{lines_joined, lines_complete, lines_rest, lines_grown, IsComplete-append, StandsFor-hold}
+use Rattle.causal_text.proofs.Feeds.{lines_joined, StandsFor-hold}
+use Rattle.causal_line.proofs.Lemmas.CompleteLines.{lines_complete, lines_rest, lines_grown, IsComplete-append}
 
 -- ---- two ways to split the same lines
 

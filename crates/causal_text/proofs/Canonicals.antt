@@ -8,24 +8,24 @@ use Rattle.std.proofs.Math.Seq.{get_or-append_seam, take-append_seam}
 use Rattle.std.proofs.lemmas.List.Concat.{flat_map-cons}
 use Rattle.serde_json.specs.Read.{read}
 use Rattle.causal_trace.specs.declared.entry.Entry.{Entry}
-use Rattle.causal_text.specs.declared.shape.Shape.{Shape}
-use Rattle.causal_text.specs.declared.shape.Shape.TheVariants as shape
+use Rattle.causal_line.specs.declared.shape.Shape.{Shape}
+use Rattle.causal_line.specs.declared.shape.Shape.TheVariants as shape
 use Rattle.causal_text.specs.declared.stage.Stage.TheVariants.{Ended}
-use Rattle.causal_text.specs.Lines.{lines}
-use Rattle.causal_text.specs.Stages.{content, line_shape}
+use Rattle.causal_line.specs.Lines.{lines}
+use Rattle.causal_line.specs.Values.{content, line_shape}
 use Rattle.causal_text.specs.Spelling.{said}
 use Rattle.causal_text.specs.Canonical.{shape_text, line_text, canonical_version}
 use Rattle.causal_trace.specs.Rows.{Recording}
 use Rattle.causal_trace.specs.Sizes.{EntriesAreSmall, NumbersAreSmall, LimitsAreKept}
-use Rattle.causal_text.specs.declared.version.Version.{Version}
-use Rattle.causal_text.specs.declared.version.Version.TheVariants.{One, Two}
-use Rattle.causal_text.specs.Versions.{number_of, has_line, HasLines, FitsVersion}
+use Rattle.causal_line.specs.declared.version.Version.{Version}
+use Rattle.causal_line.specs.declared.version.Version.TheVariants.{One, Two}
+use Rattle.causal_line.specs.Versions.{number_of, has_line, HasLines, FitsVersion}
 use Rattle.causal_text.specs.Laws.{CanonicalSpells}
 use Rattle.causal_text.proofs.Sizes.{length-canonical}
 use Rattle.causal_text.proofs.ReadsBack.{read-compact_text}
 use Rattle.causal_text.proofs.ShapeData.{data_of, shape_compact, shape_back, shape_simple, shape_shallow, ShapeFits}
 use Rattle.causal_text.proofs.Plain.{plain, plain_shape, plain_utf8, plain_first}
-use Rattle.causal_text.proofs.Values.{json_of-utf8}
+use Rattle.causal_line.proofs.Lemmas.Values.{json_of-utf8}
 
 lines_plain : (xs rest : List ℕ) → plain xs ≡ true → lines (xs ++ (10 ∷ rest)) ≡ (xs ++ 10 ∷ []) ∷ lines rest
 lines_plain [] rest h = refl

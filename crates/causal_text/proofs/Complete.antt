@@ -7,22 +7,23 @@ use Rattle.causal_trace.specs.Rows.{Recording, AreAccepted, IsWithin}
 use Rattle.causal_trace.proofs.Lemmas.WellFormed.{within_before, next_within}
 use Rattle.causal_trace.specs.State.{with_entry}
 use Rattle.causal_trace.specs.declared.entry.Entry.{Entry}
-use Rattle.causal_text.specs.declared.kind.TextKind.{TextKind}
-use Rattle.causal_text.specs.declared.kind.TextFault.{TextFault}
-use Rattle.causal_text.specs.declared.shape.Shape.{Shape}
-use Rattle.causal_text.specs.declared.shape.Shape.TheVariants as shape
+use Rattle.causal_line.specs.declared.kind.TextKind.{TextKind}
+use Rattle.causal_line.specs.declared.kind.TextFault.{TextFault}
+use Rattle.causal_line.specs.declared.shape.Shape.{Shape}
+use Rattle.causal_line.specs.declared.shape.Shape.TheVariants as shape
 use Rattle.causal_text.specs.declared.stage.Stage.{Stage}
 use Rattle.causal_text.specs.declared.stage.Stage.TheVariants.{Opening, Within, Ended}
-use Rattle.causal_text.specs.declared.version.Version.{Version}
-use Rattle.causal_text.specs.declared.version.Version.TheVariants.{One, Two}
-use Rattle.causal_text.specs.Lines.{lines}
+use Rattle.causal_line.specs.declared.version.Version.{Version}
+use Rattle.causal_line.specs.declared.version.Version.TheVariants.{One, Two}
+use Rattle.causal_line.specs.Lines.{lines}
 use Rattle.causal_text.specs.Place.{Place, IsPlaceAfter}
-use Rattle.causal_text.specs.Reading.{◌>>=◌}
+use Rattle.causal_line.specs.Reading.{◌>>=◌}
 use Rattle.causal_text.specs.Inside.LineByLine.{start, next, after_lines, ended, reading}
-use Rattle.causal_text.specs.Stages.{opened, text_within, line_shape, within_limit, after_line}
-use Rattle.causal_text.specs.Versions.{number_of, most_processes, HasLines}
+use Rattle.causal_text.specs.Stages.{opened, text_within, within_limit, after_line}
+use Rattle.causal_line.specs.Values.{line_shape}
+use Rattle.causal_line.specs.Versions.{number_of, most_processes, HasLines}
 use Rattle.causal_text.specs.Spelling.{said, LeadsTo, SpellsWithin}
-use Rattle.causal_text.proofs.LineBytes.{sum_by-lines}
+use Rattle.causal_line.proofs.Lemmas.LineBytes.{sum_by-lines}
 use Rattle.causal_text.proofs.Steps.{said_entries}
 use Rattle.causal_text.proofs.Spellings.{IsPlaceAfter-lines, IsPlaceAfter-start}
 

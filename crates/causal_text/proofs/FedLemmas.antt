@@ -1,7 +1,7 @@
 -- What a reader that is fed has read, whose limits are those that it was opened with.
 use Rattle.std.proofs.Common.{◌≡◌, ◌∙◌, ℕ, List, ◌++◌, Ok, Err, subst}
 use Rattle.causal_trace.specs.Rows.{Recording}
-use Rattle.causal_text.specs.declared.kind.TextFault.{TextFault}
+use Rattle.causal_line.specs.declared.kind.TextFault.{TextFault}
 use Rattle.causal_text.specs.declared.stream.State.TheVariants as state
 use Rattle.causal_text.specs.Inside.Unfinished.{HasRoom, IsFaultOfAll, ending}
 use Rattle.causal_text.specs.Pieces.{Held, StandsFor}

@@ -1,5 +1,3 @@
 -- What crates above may cite of this crate's proofs.
 pub mod Exact
 pub mod GoesOn
-pub mod Told
-pub mod Unfit

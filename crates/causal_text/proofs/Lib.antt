@@ -5,15 +5,9 @@ mod Canonicals
 mod Complete
 mod FedLemmas
 mod Feeds
-mod Firsts
-mod ItemCounts
-mod LineBytes
 mod KeptLemmas
-mod Outlines
-mod GrammarLoops
 mod Plain
 mod ReadsBack
-mod EntryCounts
 mod ShapeData
 mod Sizes
 mod Spellings
@@ -21,4 +15,3 @@ mod Steps
 mod Stops
 mod StreamLemmas
 mod Texts
-mod Values

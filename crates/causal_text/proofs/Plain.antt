@@ -9,8 +9,8 @@ use Rattle.json.proofs.Printed.Utf8.{are_ascii, IsUtf8-are_ascii}
 use Rattle.causal_name.specs.declared.Det.{Det}
 use Rattle.causal_trace.specs.declared.entry.Entry.{Entry}
 use Rattle.causal_trace.specs.declared.entry.Entry.TheVariants.{Send, Deliver, Stable, Crash, Restart, Forget}
-use Rattle.causal_text.specs.declared.shape.Shape.{Shape}
-use Rattle.causal_text.specs.declared.shape.Shape.TheVariants as shape
+use Rattle.causal_line.specs.declared.shape.Shape.{Shape}
+use Rattle.causal_line.specs.declared.shape.Shape.TheVariants as shape
 use Rattle.causal_text.specs.Canonical.{det_text, more_dets_text, dets_text, entry_text, shape_text}
 use Rattle.causal_trace.specs.Sizes.{DetIsSmall, DetsAreSmall, EntryIsSmall}
 use Rattle.causal_text.proofs.ShapeData.{ShapeFits}

@@ -7,9 +7,9 @@ use Rattle.serde_json.specs.Written.{compact_text, items_text}
 use Rattle.causal_name.specs.declared.Det.{Det}
 use Rattle.causal_trace.specs.declared.entry.Entry.{Entry}
 use Rattle.causal_trace.specs.declared.entry.Entry.TheVariants.{Send, Deliver, Stable, Crash, Restart, Forget}
-use Rattle.causal_text.specs.declared.shape.Shape.{Shape}
-use Rattle.causal_text.specs.declared.shape.Shape.TheVariants as shape
-use Rattle.causal_text.specs.Shapes.{pid_at, det_of, dets_of, dets_at, header_of, send_of, deliver_of, stable_of, crash_of, restart_of, forget_of, end_of, shape_of}
+use Rattle.causal_line.specs.declared.shape.Shape.{Shape}
+use Rattle.causal_line.specs.declared.shape.Shape.TheVariants as shape
+use Rattle.causal_line.specs.Shapes.{pid_at, det_of, dets_of, dets_at, header_of, send_of, deliver_of, stable_of, crash_of, restart_of, forget_of, end_of, shape_of}
 use Rattle.causal_text.specs.Canonical.{det_text, more_dets_text, dets_text, entry_text, shape_text}
 use Rattle.causal_trace.specs.Sizes.{DetIsSmall, DetsAreSmall, EntryIsSmall}
 use Rattle.causal_text.proofs.ReadsBack.{IsSimple, AreSimple}

@@ -14,12 +14,12 @@ use Rattle.causal_trace.specs.declared.fault.TraceFault.TheVariants.{NoSend, Not
 use Rattle.causal_trace.specs.Rows.{Recording, rows, first_fault, AreAccepted, IsWellFormed, IsWithin}
 use Rattle.causal_trace.proofs.Lemmas.EntryFacts.{row_fails}
 use Rattle.causal_trace.specs.Sizes.{DetIsSmall, DetsAreSmall, EntryIsSmall, EntriesAreSmall}
-use Rattle.causal_text.specs.declared.shape.Shape.TheVariants as shape
-use Rattle.causal_text.specs.declared.version.Version.{Version}
-use Rattle.causal_text.specs.declared.version.Version.TheVariants.{One, Two}
+use Rattle.causal_line.specs.declared.shape.Shape.TheVariants as shape
+use Rattle.causal_line.specs.declared.version.Version.{Version}
+use Rattle.causal_line.specs.declared.version.Version.TheVariants.{One, Two}
 use Rattle.causal_text.specs.Canonical.{det_text, more_dets_text, dets_text, entry_text, entries_text, line_text, canonical, canonical_version}
 use Rattle.causal_text.specs.Stages.{text_within}
-use Rattle.causal_text.specs.Versions.{number_of}
+use Rattle.causal_line.specs.Versions.{number_of}
 use Rattle.causal_text.proofs.Texts.{canonical_parts}
 
 digits_at_most : (k n : ℕ) (rest : List ℕ) (m : ℕ) → length (decimal n) ≤ k → length rest ≤ m → length (decimal n ++ rest) ≤ k + m

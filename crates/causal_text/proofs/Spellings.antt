@@ -4,19 +4,20 @@ use Rattle.std.specs.Prelude.{Result, sum_by}
 use Rattle.std.proofs.lemmas.List.{map-append}
 use Rattle.std.proofs.lemmas.List.Sums.{sum_by_push}
 use Rattle.causal_trace.specs.Rows.{Recording}
-use Rattle.causal_text.specs.declared.kind.TextKind.{TextKind}
-use Rattle.causal_text.specs.declared.kind.TextKind.TheVariants as kind
-use Rattle.causal_text.specs.declared.kind.TextFault.{TextFault}
+use Rattle.causal_line.specs.declared.kind.TextKind.{TextKind}
+use Rattle.causal_line.specs.declared.kind.TextKind.TheVariants as kind
+use Rattle.causal_line.specs.declared.kind.TextFault.{TextFault}
 use Rattle.causal_text.specs.declared.stage.Stage.{Stage}
 use Rattle.causal_text.specs.declared.stage.Stage.TheVariants.{Opening, Within, Ended}
-use Rattle.causal_text.specs.Lines.{lines}
-use Rattle.causal_text.specs.declared.version.Version.{Version}
+use Rattle.causal_line.specs.Lines.{lines}
+use Rattle.causal_line.specs.declared.version.Version.{Version}
 use Rattle.causal_text.specs.Place.{Place, IsPlaceAfter}
 use Rattle.causal_text.specs.Inside.LineByLine.{start, ◌at◌, next, after_lines, ended, reading}
-use Rattle.causal_text.specs.Reading.{◌>>=◌}
-use Rattle.causal_text.specs.Stages.{line_shape, after_line}
+use Rattle.causal_line.specs.Reading.{◌>>=◌}
+use Rattle.causal_line.specs.Values.{line_shape}
+use Rattle.causal_text.specs.Stages.{after_line}
 use Rattle.causal_text.specs.Spelling.{said, SpellsWithin, LeadsTo, IsOpen, IsFirstFaultWithin}
-use Rattle.causal_text.proofs.LineBytes.{sum_by-lines}
+use Rattle.causal_line.proofs.Lemmas.LineBytes.{sum_by-lines}
 use Rattle.causal_text.proofs.Steps.{bind_ok, Accepted-line}
 
 -- a fault stands in the first part, or in what follows it

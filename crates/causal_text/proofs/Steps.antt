@@ -7,17 +7,19 @@ use Rattle.causal_trace.specs.Rows.{Recording, fault_within}
 use Rattle.causal_trace.specs.State.{with_entry}
 use Rattle.causal_trace.specs.declared.entry.Entry.{Entry}
 use Rattle.causal_trace.specs.declared.fault.TraceFault.{TraceFault}
-use Rattle.causal_text.specs.declared.kind.TextKind.{TextKind}
-use Rattle.causal_text.specs.declared.kind.TextKind.TheVariants as kind
-use Rattle.causal_text.specs.declared.shape.Shape.{Shape}
-use Rattle.causal_text.specs.declared.shape.Shape.TheVariants as shape
+use Rattle.causal_line.specs.declared.kind.TextKind.{TextKind}
+use Rattle.causal_line.specs.declared.kind.TextKind.TheVariants as kind
+use Rattle.causal_line.specs.declared.shape.Shape.{Shape}
+use Rattle.causal_line.specs.declared.shape.Shape.TheVariants as shape
 use Rattle.causal_text.specs.declared.stage.Stage.{Stage}
 use Rattle.causal_text.specs.declared.stage.Stage.TheVariants.{Opening, Within, Ended}
-use Rattle.causal_text.specs.declared.version.Version.{Version}
-use Rattle.causal_text.specs.declared.version.Version.TheVariants.{One, Two}
-use Rattle.causal_text.specs.Reading.{◌>>=◌}
-use Rattle.causal_text.specs.Stages.{opened, kind_of, text_within, line_shape, begun, admitted, follow, within_limit, after_line}
-use Rattle.causal_text.specs.Versions.{number_of, version_of, most_processes, has_line}
+use Rattle.causal_line.specs.declared.version.Version.{Version}
+use Rattle.causal_line.specs.declared.version.Version.TheVariants.{One, Two}
+use Rattle.causal_line.specs.Reading.{◌>>=◌}
+use Rattle.causal_text.specs.Stages.{opened, text_within, begun, admitted, follow, within_limit, after_line}
+use Rattle.causal_line.specs.Kinds.{kind_of}
+use Rattle.causal_line.specs.Values.{line_shape}
+use Rattle.causal_line.specs.Versions.{number_of, version_of, most_processes, has_line}
 use Rattle.causal_text.specs.Spelling.{said, IsSound}
 use Rattle.causal_trace.proofs.Lemmas.WellFormed.{rows_next, within_next, short_next}
 use Rattle.causal_trace.specs.Limits.{max_entries}

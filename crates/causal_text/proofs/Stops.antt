@@ -3,12 +3,13 @@ use Rattle.std.proofs.Common.{◌≡◌, ◌≢◌, ◌+◌, ◌<◌, ◌++◌, 
 use Rattle.std.specs.Prelude.{IfSome}
 use Rattle.causal_text.specs.declared.before.Before.{Before}
 use Rattle.causal_text.specs.declared.before.Rejected.{Rejected}
-use Rattle.causal_text.specs.declared.kind.TextKind.TheVariants.{NoMemory}
+use Rattle.causal_line.specs.declared.kind.TextKind.TheVariants.{NoMemory}
 use Rattle.causal_text.specs.declared.stream.State.TheVariants as state
 use Rattle.causal_text.specs.Before.{StandsBeforeWithin, IsKeptWithin, IsRejectionWithin}
 use Rattle.causal_text.specs.Begun.{StopsAt}
-use Rattle.causal_text.specs.Given.{IsFaultGiven}
-use Rattle.causal_text.specs.Pieces.{no_feed, IsComplete, Held, StandsFor}
+use Rattle.causal_line.specs.Given.{IsFaultGiven}
+use Rattle.causal_line.specs.Lines.{no_feed, IsComplete}
+use Rattle.causal_text.specs.Pieces.{Held, StandsFor}
 use Rattle.causal_text.specs.Spelling.{IsReadUpTo}
 use Rattle.causal_text.specs.Streams.{HasReadWithin}
 use Rattle.causal_text.specs.Inside.Kept.{IsKeptAt, IsKeptOfAll}
@@ -16,7 +17,7 @@ use Rattle.causal_text.specs.Inside.Unfinished.{HasRoom, IsFaultOfAll, IsPast, w
 use Rattle.causal_text.proofs.BeforeLemmas.{kept_of, kept_of_none}
 use Rattle.causal_text.proofs.Begun.{no_more_line, no_more_part}
 use Rattle.causal_text.proofs.Feeds.{IsReadAt-more, IsReadAt-stands, StandsFor-complete, StandsFor-hold, fault_of_complete, fault_of_grown, reading-ending, with_line_ok, with_line_err}
-use Rattle.causal_text.proofs.Lemmas.Told.{told}
+use Rattle.causal_line.proofs.Lemmas.Told.{told}
 use Rattle.causal_text.proofs.Spellings.{IsFirstFault-reading}
 use Rattle.causal_text.proofs.StreamLemmas.{read_more}
 

@@ -4,9 +4,9 @@ use Rattle.std.specs.Prelude.{codes, flat_map, map}
 use Rattle.std.proofs.lemmas.List.Concat.{flat_map-append, flat_map-cons}
 use Rattle.causal_trace.specs.Rows.{Recording}
 use Rattle.causal_trace.specs.State.{entries_of}
-use Rattle.causal_text.specs.Versions.{number_of}
+use Rattle.causal_line.specs.Versions.{number_of}
 use Rattle.causal_trace.specs.declared.entry.Entry.{Entry}
-use Rattle.causal_text.specs.declared.shape.Shape.TheVariants as shape
+use Rattle.causal_line.specs.declared.shape.Shape.TheVariants as shape
 use Rattle.causal_text.specs.Canonical.{entry_text, line_text, entries_text, canonical, canonical_version}
 
 entries_text_lines : (es : List Entry) → flat_map line_text (map shape.Entry es) ≡ entries_text es

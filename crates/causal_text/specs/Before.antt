@@ -5,13 +5,13 @@ use Rattle.causal_trace.specs.Rows.{Recording}
 use Rattle.causal_text.specs.declared.before.Rejected.{Rejected}
 use Rattle.causal_text.specs.declared.kept.Unread.{Unread}
 use Rattle.causal_text.specs.declared.kept.Unread.TheVariants.{Source, Text}
-use Rattle.causal_text.specs.declared.kind.TextKind.TheVariants.{NoMemory}
-use Rattle.causal_text.specs.declared.shape.Shape.{Shape}
+use Rattle.causal_line.specs.declared.kind.TextKind.TheVariants.{NoMemory}
+use Rattle.causal_line.specs.declared.shape.Shape.{Shape}
 use Rattle.causal_text.specs.declared.stage.Stage.TheVariants.{Within}
-use Rattle.causal_text.specs.declared.version.Version.{Version}
-use Rattle.causal_text.specs.Lines.{lines}
+use Rattle.causal_line.specs.declared.version.Version.{Version}
+use Rattle.causal_line.specs.Lines.{lines}
 use Rattle.causal_text.specs.Spelling.{LeadsTo, IsFirstFaultWithin, IsReadUpTo}
-use Rattle.causal_text.specs.Stages.{line_shape}
+use Rattle.causal_line.specs.Values.{line_shape}
 
 -- the lines before the one of this number have no fault and say this recording, the end line not among them, and that line
 -- says this

@@ -2,11 +2,12 @@
 use Rattle.std.specs.Prelude.{◌≡◌, ◌≢◌, ℕ, List, ◌++◌, true}
 use Rattle.causal_trace.specs.Rows.{Recording}
 use Rattle.causal_text.specs.declared.before.Rejected.{Rejected}
-use Rattle.causal_text.specs.declared.kind.TextKind.TheVariants.{NoMemory}
+use Rattle.causal_line.specs.declared.kind.TextKind.TheVariants.{NoMemory}
 use Rattle.causal_text.specs.declared.stage.Stage.TheVariants.{Within}
-use Rattle.causal_text.specs.declared.version.Version.{Version}
+use Rattle.causal_line.specs.declared.version.Version.{Version}
 use Rattle.causal_text.specs.Before.{IsRejectionWithin}
-use Rattle.causal_text.specs.Pieces.{no_feed, joined, AreComplete}
+use Rattle.causal_line.specs.Lines.{no_feed}
+use Rattle.causal_text.specs.Pieces.{joined, AreComplete}
 use Rattle.causal_text.specs.Spelling.{LeadsTo}
 
 -- the complete lines of these bytes have no fault and say this recording, the end line not among them

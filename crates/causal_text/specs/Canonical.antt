@@ -6,13 +6,13 @@ use Rattle.causal_trace.specs.declared.entry.Entry.{Entry}
 use Rattle.causal_trace.specs.declared.entry.Entry.TheVariants.{Send, Deliver, Stable, Crash, Restart, Forget}
 use Rattle.causal_trace.specs.Rows.{Recording}
 use Rattle.causal_trace.specs.State.{entries_of}
-use Rattle.causal_text.specs.declared.shape.Shape.{Shape}
-use Rattle.causal_text.specs.declared.shape.Shape.TheVariants as shape
+use Rattle.causal_line.specs.declared.shape.Shape.{Shape}
+use Rattle.causal_line.specs.declared.shape.Shape.TheVariants as shape
 use Rattle.causal_text.specs.declared.stage.Stage.TheVariants.{Ended}
-use Rattle.causal_text.specs.declared.version.Version.{Version}
-use Rattle.causal_text.specs.declared.version.Version.TheVariants.{One, Two}
+use Rattle.causal_line.specs.declared.version.Version.{Version}
+use Rattle.causal_line.specs.declared.version.Version.TheVariants.{One, Two}
 use Rattle.causal_text.specs.Spelling.{said}
-use Rattle.causal_text.specs.Versions.{most_processes, has_line}
+use Rattle.causal_line.specs.Versions.{most_processes, has_line}
 
 -- the first version in which it can be written
 abbrev pub canonical_version : Recording → Version

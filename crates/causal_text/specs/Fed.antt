@@ -1,6 +1,6 @@
 -- A text that is handed over in pieces.
 use Rattle.std.specs.Prelude.{◌≡◌, ◌≢◌, ℕ, List, ◌++◌, Option, Some, None}
-use Rattle.causal_text.specs.declared.kind.TextKind.TheVariants.{NoMemory}
+use Rattle.causal_line.specs.declared.kind.TextKind.TheVariants.{NoMemory}
 use Rattle.causal_text.specs.declared.stream.ReaderFault.{ReaderFault}
 use Rattle.causal_text.specs.declared.stream.ReaderFault.TheVariants as fault
 use Rattle.causal_text.specs.declared.stream.State.{State}

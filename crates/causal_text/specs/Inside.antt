@@ -1,6 +1,5 @@
 -- What models and private functions keep. No public clause cites these.
 pub mod Kept
 pub mod LineByLine
-pub mod Messages
 pub mod Texts
 pub mod Unfinished

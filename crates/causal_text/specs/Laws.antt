@@ -6,7 +6,7 @@ use Rattle.causal_text.specs.Begun.{BeginsWith}
 use Rattle.causal_text.specs.Canonical.{canonical}
 use Rattle.causal_text.specs.Stages.{text_within}
 use Rattle.causal_text.specs.Spelling.{SpellsWithin, IsFirstFaultWithin}
-use Rattle.causal_text.specs.declared.kind.TextFault.{TextFault}
+use Rattle.causal_line.specs.declared.kind.TextFault.{TextFault}
 
 -- whatever limits are set, a text spells one recording, or it has one first fault, and never both
 pub record OneReading (most : ℕ) : Type 0 where

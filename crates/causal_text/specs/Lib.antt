@@ -1,16 +1,8 @@
 pub mod Inside
-pub mod Given
-pub mod Lines
-pub mod Reading
-pub mod Shapes
-pub mod Versions
 pub mod Stages
-pub mod Outline
 pub mod Place
 pub mod Spelling
 pub mod Laws
-pub mod FaultLine
-pub mod Sentences
 pub mod Canonical
 pub mod Pieces
 pub mod Before
@@ -18,6 +10,3 @@ pub mod Begun
 pub mod Streams
 pub mod Fed
 pub mod Written
-pub mod Deliveries
-pub mod Wrongs
-pub mod Wordings

@@ -1,17 +1,9 @@
 -- A text that comes in pieces.
-use Rattle.std.specs.Prelude.{◌≡◌, ℕ, ◌==◌, ◌&&◌, not, List, [], ◌∷◌, ◌++◌, Bool, true}
-use Rattle.causal_text.specs.Lines.{line_feed}
+use Rattle.std.specs.Prelude.{◌≡◌, ℕ, List, [], ◌∷◌, ◌++◌, true}
+use Rattle.causal_line.specs.Lines.{no_feed, IsComplete}
 use Rattle.causal_text.specs.Place.{Place, IsPlaceAfter}
 
--- whether no byte is a line feed
-abbrev pub no_feed : List ℕ → Bool
-no_feed [] = true
-no_feed (x ∷ xs) = not (x == line_feed) && no_feed xs
-
--- a line that is complete: its line feed is its last byte
-abbrev pub IsComplete : List ℕ → Type 0
-IsComplete line = (xs : List ℕ) × (no_feed xs ≡ true) × (line ≡ xs ++ line_feed ∷ [])
-
+-- each of these lines is complete
 abbrev pub AreComplete : List (List ℕ) → Type 0
 AreComplete [] = Unit {0}
 AreComplete (l ∷ ls) = IsComplete l × AreComplete ls

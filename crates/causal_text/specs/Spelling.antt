@@ -4,16 +4,17 @@ use Rattle.std.specs.Prelude.{◌≡◌, ℕ, ◌⊎◌, ◌+◌, ◌≤◌, sum
 use Rattle.causal_trace.specs.Limits.{default_entries}
 use Rattle.causal_trace.specs.Rows.{Recording, IsWellFormed, IsWithin}
 use Rattle.causal_trace.specs.State.{entries_of}
-use Rattle.causal_text.specs.declared.kind.TextKind.TheVariants.{Cut}
-use Rattle.causal_text.specs.declared.kind.TextFault.{TextFault}
-use Rattle.causal_text.specs.declared.shape.Shape.{Shape}
-use Rattle.causal_text.specs.declared.shape.Shape.TheVariants as shape
+use Rattle.causal_line.specs.declared.kind.TextKind.TheVariants.{Cut}
+use Rattle.causal_line.specs.declared.kind.TextFault.{TextFault}
+use Rattle.causal_line.specs.declared.shape.Shape.{Shape}
+use Rattle.causal_line.specs.declared.shape.Shape.TheVariants as shape
 use Rattle.causal_text.specs.declared.stage.Stage.{Stage}
 use Rattle.causal_text.specs.declared.stage.Stage.TheVariants.{Opening, Within, Ended}
-use Rattle.causal_text.specs.declared.version.Version.{Version}
-use Rattle.causal_text.specs.Lines.{lines}
-use Rattle.causal_text.specs.Stages.{text_within, line_shape, after_line}
-use Rattle.causal_text.specs.Versions.{number_of, FitsVersion}
+use Rattle.causal_line.specs.declared.version.Version.{Version}
+use Rattle.causal_line.specs.Lines.{lines}
+use Rattle.causal_text.specs.Stages.{text_within, after_line}
+use Rattle.causal_line.specs.Values.{line_shape}
+use Rattle.causal_line.specs.Versions.{number_of, FitsVersion}
 
 -- what the lines up to a stage say: the header, a line for each entry in order, and the end line
 abbrev pub said : Stage → List Shape

@@ -1,24 +1,20 @@
 -- What the lines so far have said, and what one more line adds or is refused for.
-use Rattle.std.specs.Prelude.{ℕ, ◌*◌, ◌&&◌, ◌==◌, List, [], length, take, slice_index, ◌-◌, nat_lt, nat_le, if◌then◌else◌, Option, Some, None, Result, Ok, Err}
-use Rattle.std.specs.Str.{is_utf8}
-use Rattle.serde_json.specs.Data.{Data}
-use Rattle.serde_json.specs.Read.{read}
+use Rattle.std.specs.Prelude.{ℕ, ◌*◌, ◌&&◌, ◌==◌, List, [], length, nat_lt, nat_le, if◌then◌else◌, Option, Some, None, Result, Ok, Err}
 use Rattle.causal_trace.specs.Rows.{Recording, fault_within}
 use Rattle.causal_trace.specs.State.{with_entry}
 use Rattle.causal_trace.specs.declared.entry.Entry.{Entry}
 use Rattle.causal_trace.specs.declared.fault.TraceFault.{TraceFault}
-use Rattle.causal_trace.specs.declared.fault.TraceFault.TheVariants as trace
-use Rattle.causal_text.specs.declared.kind.TextKind.{TextKind}
-use Rattle.causal_text.specs.declared.kind.TextKind.TheVariants as kind
-use Rattle.causal_text.specs.declared.shape.Shape.{Shape}
-use Rattle.causal_text.specs.declared.shape.Shape.TheVariants as shape
+use Rattle.causal_line.specs.declared.kind.TextKind.{TextKind}
+use Rattle.causal_line.specs.declared.kind.TextKind.TheVariants as kind
+use Rattle.causal_line.specs.declared.shape.Shape.{Shape}
+use Rattle.causal_line.specs.declared.shape.Shape.TheVariants as shape
+use Rattle.causal_line.specs.declared.version.Version.{Version}
+use Rattle.causal_line.specs.Kinds.{kind_of}
+use Rattle.causal_line.specs.Reading.{◌>>=◌}
+use Rattle.causal_line.specs.Values.{line_shape}
+use Rattle.causal_line.specs.Versions.{version_of, most_processes, has_line}
 use Rattle.causal_text.specs.declared.stage.Stage.{Stage}
 use Rattle.causal_text.specs.declared.stage.Stage.TheVariants.{Opening, Within, Ended}
-use Rattle.causal_text.specs.declared.version.Version.{Version}
-use Rattle.causal_text.specs.Lines.{line_feed}
-use Rattle.causal_text.specs.Reading.{◌>>=◌}
-use Rattle.causal_text.specs.Shapes.{shape_of}
-use Rattle.causal_text.specs.Versions.{version_of, most_processes, has_line}
 
 -- how many bytes a text has at most whose trace is to have so many entries at most
 abbrev pub text_within : ℕ → ℕ
@@ -27,42 +23,6 @@ text_within most = 512 * most
 -- and whatever that number is, which has 32 bits
 abbrev pub longest_text : ℕ
 longest_text = text_within 4294967295
-
--- the line without its line feed
-unfoldable pub content : List ℕ → List ℕ
-content line = if slice_index line (length line - 1) == line_feed then take (length line - 1) line else line
-
-abbrev pub or_syntax : Option Data → Result Data TextKind
-or_syntax (Some d) = Ok d
-or_syntax None = Err kind.Syntax
-
--- the JSON value that these bytes are; bytes that are no UTF-8 are none
-abbrev pub json_of : List ℕ → Result Data TextKind
-json_of bytes = if is_utf8 bytes then or_syntax (read bytes) else Err kind.Syntax
-
--- the JSON value that a line is
-abbrev pub value_of : List ℕ → Result Data TextKind
-value_of line = json_of (content line)
-
--- what a line says
-unfoldable pub line_shape : List ℕ → Result Shape TextKind
-line_shape line = value_of line >>= shape_of
-
--- what stands against an entry has the same name where it stands against a line
-abbrev pub kind_of : TraceFault → TextKind
-kind_of trace.Processes = kind.Processes
-kind_of trace.TooLong = kind.TooLong
-kind_of trace.NoProcess = kind.NoProcess
-kind_of trace.NotUp = kind.NotUp
-kind_of trace.NotDown = kind.NotDown
-kind_of trace.Lanes = kind.Lanes
-kind_of trace.WrongSsn = kind.WrongSsn
-kind_of trace.NoSend = kind.NoSend
-kind_of trace.WrongRsn = kind.WrongRsn
-kind_of trace.Doubled = kind.Doubled
-kind_of trace.Unsorted = kind.Unsorted
-kind_of trace.NoDelivery = kind.NoDelivery
-kind_of trace.NoMemory = kind.NoMemory
 
 -- a recording of no entries
 abbrev pub opened : ℕ → Recording

@@ -4,8 +4,8 @@ use Rattle.std.specs.Io.KnownBytes.{Consumes, IsAtEnd}
 use Rattle.causal_trace.specs.Limits.{default_entries}
 use Rattle.causal_trace.specs.Rows.{Recording}
 use Rattle.causal_trace.specs.State.{TraceState}
-use Rattle.causal_text.specs.declared.kind.TextKind.TheVariants.{NoMemory}
-use Rattle.causal_text.specs.declared.kind.TextFault.{TextFault}
+use Rattle.causal_line.specs.declared.kind.TextKind.TheVariants.{NoMemory}
+use Rattle.causal_line.specs.declared.kind.TextFault.{TextFault}
 use Rattle.causal_text.specs.declared.stream.ReaderFault.{ReaderFault}
 use Rattle.causal_text.specs.declared.stream.ReaderFault.TheVariants as fault
 use Rattle.causal_text.specs.declared.stream.State.{State}

@@ -1,8 +1,8 @@
 //! The first fault of a text that is no trace, and what stands before its line.
 ghost use Rattle.std.specs.Prelude.{◌≡◌, None};
 
-use crate::kind::TextFault;
-use crate::shape::Shape;
+use causal_line::kind::TextFault;
+use causal_line::shape::Shape;
 use causal_trace::trace::Trace;
 
 /// The trace of the lines before a line, and what the line says.

@@ -4,7 +4,7 @@ ghost use Rattle.causal_trace.specs.Rows.{Recording};
 ghost use Rattle.causal_text.specs.Before.{IsRejectionWithin};
 ghost use Rattle.causal_text.specs.Begun.{BeginsWith, SaysSoFar, StopsAt};
 ghost use Rattle.causal_text.specs.Fed.{WasFed};
-ghost use Rattle.causal_text.specs.Pieces.{IsComplete, no_feed};
+ghost use Rattle.causal_line.specs.Lines.{IsComplete, no_feed};
 ghost use Rattle.causal_text.specs.Spelling.{SpellsWithin};
 
 use crate::before::Rejected;

@@ -14,62 +14,37 @@
 pub mod before;
 /// The beginning of a text, at which one can look.
 pub mod beginning;
-/// What a lane has sent and delivered.
-mod counts;
-/// Which determinants have been delivered.
-mod delivered;
 /// A text that is handed over in pieces.
 pub mod fed;
-/// The fields of a line.
-pub mod fields;
 /// A reading that keeps what stands before a fault.
 pub mod kept;
-/// The faults of a text.
-pub mod kind;
 /// A text has one reading; the canonical text is read back.
 pub mod laws;
 /// Where a reading stands: the lines so far, and one more taken in.
 mod line_reader;
-/// The JSON value that a line is.
-pub mod line_value;
-/// Where a line ends.
-pub mod lines;
-/// A look at a long line before a tree is built of it.
-pub mod outline;
 /// A text, whole, to its trace or its first fault.
 pub mod reader;
 /// A trace of which clauses see the recording alone.
 mod recorded;
-/// How a fault prints.
-pub mod report;
-/// What is wrong with a line, in words.
-pub mod sentences;
-/// What the JSON value of a line says.
-pub mod shape;
 /// What the lines so far have said, and what one more adds.
 mod stage;
 /// A text from a reader of bytes, in pieces, to its trace or its first fault.
 pub mod stream;
-/// The two versions.
-mod version;
 /// The canonical text.
 pub mod writer;
 /// Bytes to a writer, call by call.
 pub mod written;
-/// What is wrong with a line, in numbers.
-pub mod wrong;
 
 pub use before::{Before, Rejected};
 pub use beginning::Beginning;
+pub use causal_line::{
+    Shape, TextFault, TextKind, Wrong, fault_line, fields, kind, line_value, lines, outline,
+    report, sentence, sentences, shape, wrong, wrong_with,
+};
 pub use fed::FedReader;
 pub use kept::{Unread, read_keeping, read_within};
-pub use kind::{TextFault, TextKind};
 pub use reader::read_trace;
-pub use report::fault_line;
-pub use sentences::sentence;
-pub use shape::Shape;
 pub use stage::text_within;
 pub use stream::{Progress, ReaderFault, TraceReader, read_from};
 pub use writer::{text_of, write_trace};
 pub use written::{WriteCause, WriteFault, write_whole};
-pub use wrong::{Wrong, wrong_with};

@@ -5,9 +5,9 @@ ghost use Rattle.causal_text.specs.Inside.LineByLine.{start, next, ended, IsFaul
 ghost use Rattle.causal_text.specs.Inside.Kept.{GivesRejected, IsGoingOn, IsKeptAt};
 
 use crate::before::Rejected;
-use crate::kind::{TextFault, TextKind};
 use crate::recorded::Recorded;
 use crate::stage::{Refused, Stage, after_line, text_within};
+use causal_line::kind::{TextFault, TextKind};
 use causal_trace::limits::Limits;
 use causal_trace::trace::Trace;
 use std::alloc::Global;

@@ -10,10 +10,10 @@ ghost use Rattle.causal_text.specs.Inside.Unfinished.{IsFaultOfAll, with_line, I
 ghost use Rattle.causal_text.specs.Spelling.{Spells, SpellsWithin, IsFirstFault, IsFirstFaultWithin, IsReadUpTo, IsReadAt};
 
 use crate::before::Rejected;
-use crate::kind::{TextFault, TextKind};
 use crate::line_reader::LineReader;
-use crate::lines::split_complete;
 use crate::recorded::Recorded;
+use causal_line::kind::{TextFault, TextKind};
+use causal_line::lines::split_complete;
 use causal_trace::limits::{DEFAULT_LIMITS, Limits};
 use causal_trace::trace::Trace;
 use std::alloc::Global;

@@ -1,17 +1,15 @@
 //! What the lines so far have said, and what one more line adds.
 ghost use Rattle.std.specs.Prelude.{◌≡◌, ◌≤◌, None, IfErr, IfSome, OnOk};
-ghost use Rattle.causal_text.specs.Given.{Gives};
+ghost use Rattle.causal_line.specs.Given.{Gives};
 ghost use Rattle.causal_text.specs.Inside.Kept.{GivesRefused, IsKeptAt, IsKeptBefore};
-ghost use Rattle.causal_text.specs.Stages.{text_within, longest_text, line_shape, begun, follow, after_line};
-ghost use Rattle.causal_text.specs.Versions.{version_of};
+ghost use Rattle.causal_text.specs.Stages.{text_within, longest_text, begun, follow, after_line};
+ghost use Rattle.causal_line.specs.Versions.{version_of};
 
 use crate::before::Before;
-use crate::kind::TextKind;
-use crate::line_value::{content, json_of};
-use crate::outline::may_have_shape;
 use crate::recorded::Recorded;
-use crate::shape::{Shape, shape_of};
-use crate::version::Version;
+use causal_line::kind::TextKind;
+use causal_line::shape::{Shape, line_shape};
+use causal_line::version::Version;
 use causal_trace::entry::Entry;
 use causal_trace::fault::{RefusedEntry, TraceFault};
 use causal_trace::limits::Limits;
@@ -25,52 +23,12 @@ pub fn text_within(limits: Limits) -> usize
     limits.entries as usize * 512
 }
 
-// a line that has more bytes is looked at before a tree is built of it
-const LONG: usize = 262_144;
-
 /// No line, a trace that goes on, or a trace with its end line.
 #[derive(Drop)]
 pub(crate) enum Stage {
     Opening,
     Within { version: Version, trace: Recorded },
     Ended { version: Version, trace: Recorded },
-}
-
-impl From<TraceFault> for TextKind {
-    ghost use Rattle.causal_text.specs.Stages.{kind_of};
-    ghost use Rattle.std.specs.Prelude.{◌≡◌};
-
-    ghost from_gives = { λ f e. e ≡ kind_of f };
-
-    fn from(fault: TraceFault) -> TextKind {
-        match fault {
-            TraceFault::Processes => TextKind::Processes,
-            TraceFault::TooLong => TextKind::TooLong,
-            TraceFault::NoProcess => TextKind::NoProcess,
-            TraceFault::NotUp => TextKind::NotUp,
-            TraceFault::NotDown => TextKind::NotDown,
-            TraceFault::Lanes => TextKind::Lanes,
-            TraceFault::WrongSsn => TextKind::WrongSsn,
-            TraceFault::NoSend => TextKind::NoSend,
-            TraceFault::WrongRsn => TextKind::WrongRsn,
-            TraceFault::Doubled => TextKind::Doubled,
-            TraceFault::Unsorted => TextKind::Unsorted,
-            TraceFault::NoDelivery => TextKind::NoDelivery,
-            TraceFault::NoMemory => TextKind::NoMemory,
-        }
-    }
-}
-
-#[tactic(auto, unfolding(crate::specs::Stages::line_shape))]
-pub(crate) fn line_shape(alloc: Global, line: &[u8]) -> Result<Shape, TextKind>
-    ensures { Gives result (line_shape line.now) }
-{
-    let bytes = content(line);
-    if bytes.len() > LONG && !may_have_shape(alloc, bytes)? {
-        return Err(TextKind::Form);
-    }
-    let value = json_of(alloc, bytes)?;
-    shape_of(alloc, &value)
 }
 
 fn begun(alloc: Global, number: u32, processes: u32) -> Result<Stage, TextKind>

@@ -7,9 +7,9 @@ ghost use Rattle.causal_text.specs.Spelling.{Spells, IsReadAt};
 ghost use Rattle.causal_text.specs.Streams.{HasRead, HasReadWithin, IsReading, HasPiece, Follows, Ends, IsFaultAfter, FailsBy, FailsAt, TellsOf, TellsLineOf, held_trace, IsHeldTrace};
 
 use crate::before::Rejected;
-use crate::kind::{TextFault, TextKind};
 use crate::reader::PieceReader;
 use crate::recorded::Recorded;
+use causal_line::kind::{TextFault, TextKind};
 use causal_trace::limits::{DEFAULT_LIMITS, Limits};
 use causal_trace::trace::Trace;
 use std::alloc::Global;

@@ -5,8 +5,8 @@ ghost use Rattle.causal_text.specs.Canonical.{det_text, more_dets_text, dets_tex
 ghost use Rattle.causal_text.specs.Written.{StopsInTrace};
 ghost use Rattle.causal_text.specs.Inside.Texts.{numbers_text, named_text, listed_text};
 
-use crate::version::Version;
 use crate::written::{WriteCause, WriteFault, write_whole};
+use causal_line::version::Version;
 use causal_name::{Det, NoMemory, Pid};
 use causal_trace::entry::Entry;
 use causal_trace::trace::Trace;

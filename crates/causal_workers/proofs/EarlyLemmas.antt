@@ -7,7 +7,7 @@ use Rattle.causal_trace.specs.Rows.{Recording}
 use Rattle.causal_text.specs.declared.before.Rejected.{Rejected}
 use Rattle.causal_text.specs.declared.kept.Unread.TheVariants as unread
 use Rattle.causal_text.specs.Begun.{BeginsWith, SaysSoFar, StopsAt}
-use Rattle.causal_text.specs.Pieces.{IsComplete}
+use Rattle.causal_line.specs.Lines.{IsComplete}
 use Rattle.causal_text.proofs.Lemmas.GoesOn.{texts_go_on}
 use Rattle.causal_audit.proofs.Lemmas.Beginnings.{beginnings_decide}
 use Rattle.causal_workers.specs.Early.{EarlyIsFinal, FindsNoBreach, IsBreachSoFar, IsEarly, TellsUnjudged, is_look}

@@ -6,10 +6,10 @@ use Rattle.causal_trace.specs.Rows.{Recording}
 use Rattle.causal_trace.specs.Judgement.{IsSafeTrace}
 use Rattle.causal_text.specs.Before.{TellsUnreadWithin}
 use Rattle.causal_text.specs.Begun.{BeginsWith, SaysSoFar}
-use Rattle.causal_text.specs.Pieces.{IsComplete}
+use Rattle.causal_line.specs.Lines.{IsComplete}
 use Rattle.causal_text.specs.Spelling.{SpellsWithin}
 use Rattle.causal_text.specs.declared.kept.Unread.TheVariants as unread
-use Rattle.causal_text.specs.declared.kind.TextKind.TheVariants as kind
+use Rattle.causal_line.specs.declared.kind.TextKind.TheVariants as kind
 use Rattle.causal_audit.specs.declared.verdict.Verdict.TheVariants.{Accept}
 use Rattle.causal_audit.specs.Verdicts.{IsVerdict}
 use Rattle.causal_workers.specs.Judgements.{IsJudgementWithin}

@@ -4,7 +4,7 @@ use Rattle.causal_trace.specs.Limits.{default_entries}
 use Rattle.causal_trace.specs.Past.{deliveries_in}
 use Rattle.causal_trace.specs.Rows.{Recording}
 use Rattle.causal_text.specs.Spelling.{Spells, SpellsWithin, IsFirstFault}
-use Rattle.causal_text.specs.declared.kind.TextKind.TheVariants as kind
+use Rattle.causal_line.specs.declared.kind.TextKind.TheVariants as kind
 use Rattle.causal_audit.specs.declared.verdict.Verdict.{Verdict}
 use Rattle.causal_audit.specs.Verdicts.{IsVerdict}
 use Rattle.causal_workers.specs.declared.judged.Judged.{Judged}

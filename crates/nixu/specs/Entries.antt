@@ -6,7 +6,7 @@ use Rattle.causal_trace.specs.declared.entry.Entry.TheVariants.{Send, Deliver, S
 use Rattle.causal_trace.specs.declared.fault.TraceFault.{TraceFault}
 use Rattle.causal_trace.specs.Rows.{Recording, fault_within}
 use Rattle.causal_trace.specs.State.{with_entry}
-use Rattle.causal_text.specs.Stages.{kind_of}
+use Rattle.causal_line.specs.Kinds.{kind_of}
 use Rattle.nixu.specs.declared.kept.Kept.{Kept}
 use Rattle.nixu.specs.declared.kept.Kept.TheVariants.{Reader, Trace}
 use Rattle.nixu.specs.declared.step.Determinant.{Determinant}

@@ -1,8 +1,8 @@
 -- The numbers of faults, as nixu.h has them.
 use Rattle.std.specs.Prelude.{◌≡◌, ◌<◌, ◌⊎◌, ℕ, List}
-use Rattle.causal_text.specs.declared.kind.TextKind.{TextKind}
-use Rattle.causal_text.specs.declared.kind.TextKind.TheVariants as kind
-use Rattle.causal_text.specs.Sentences.{kind_sentence}
+use Rattle.causal_line.specs.declared.kind.TextKind.{TextKind}
+use Rattle.causal_line.specs.declared.kind.TextKind.TheVariants as kind
+use Rattle.causal_line.specs.Sentences.{kind_sentence}
 use Rattle.nixu.specs.Room.{IsGiven}
 
 -- from 1 in the order in which faults are asked; want of memory, which is no fault of a text, has 0

@@ -1,8 +1,8 @@
 -- What the program prints of a text.
 use Rattle.std.specs.Prelude.{◌≡◌, ◌≤◌, ℕ, List, [], ◌++◌}
 use Rattle.causal_trace.specs.Rows.{Recording}
-use Rattle.causal_text.specs.declared.kind.TextFault.{TextFault}
-use Rattle.causal_text.specs.FaultLine.{fault_line}
+use Rattle.causal_line.specs.declared.kind.TextFault.{TextFault}
+use Rattle.causal_line.specs.FaultLine.{fault_line}
 use Rattle.causal_text.specs.Spelling.{Spells, IsFirstFault}
 use Rattle.causal_report.specs.Drawings.{IsDrawing}
 use Rattle.causal_report.specs.Reasons.{IsReason}

@@ -1,6 +1,6 @@
 -- The answer to recordings, before it is written.
 use Rattle.std.specs.Prelude.{◌≢◌, ℕ, List, Option, IfSome, ⊤}
-use Rattle.causal_text.specs.declared.kind.TextKind.TheVariants as text_kind
+use Rattle.causal_line.specs.declared.kind.TextKind.TheVariants as text_kind
 use Rattle.causal_merge.specs.Merging.{MergesWithin, IsFirstFaultWithin}
 use Rattle.causal_merge.specs.declared.fault.MergeFault.{MergeFault}
 use Rattle.causal_merge.specs.declared.fault.MergeKind.TheVariants as kind

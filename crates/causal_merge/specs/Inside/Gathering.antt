@@ -1,8 +1,8 @@
 -- What is kept of the lines so far.
 use Rattle.std.specs.Prelude.{◌≡◌, ℕ, ◌<◌, ◌≤◌, ◌+◌, ◌++◌, ◌≢◌, reverse, List, length, slice_index_or, false, sum_by, Ok, Err, IfSome}
 use Rattle.causal_trace.specs.Limits.{IsProcessCount}
-use Rattle.causal_text.specs.Lines.{lines}
-use Rattle.causal_text.specs.declared.kind.TextKind.TheVariants.{NoMemory}
+use Rattle.causal_line.specs.Lines.{lines}
+use Rattle.causal_line.specs.declared.kind.TextKind.TheVariants.{NoMemory}
 use Rattle.causal_merge.specs.declared.event.Line.{Line}
 use Rattle.causal_merge.specs.declared.event.Line.TheVariants as says
 use Rattle.causal_merge.specs.declared.fault.MergeKind.TheVariants as kind

@@ -1,7 +1,7 @@
 -- What a merger keeps of the events so far.
 use Rattle.std.specs.Prelude.{◌≡◌, ℕ, ◌≢◌, ◌==◌, ◌&&◌, Bool, false, List, [], ◌∷◌, Option, Some, None, Ok, Err}
 use Rattle.causal_name.specs.declared.Pid.{Pid}
-use Rattle.causal_text.specs.declared.kind.TextKind.TheVariants.{NoMemory}
+use Rattle.causal_line.specs.declared.kind.TextKind.TheVariants.{NoMemory}
 use Rattle.causal_merge.specs.declared.event.Event.{Event}
 use Rattle.causal_merge.specs.declared.event.Placed.{Placed}
 use Rattle.causal_merge.specs.declared.fault.MergeKind.TheVariants as kind

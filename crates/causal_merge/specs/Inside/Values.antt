@@ -3,8 +3,8 @@ use Rattle.std.specs.Prelude.{◌≡◌, ℕ, List, Option, Some, None, Ok, Err}
 use Rattle.serde_json.specs.Data.{Data}
 use Rattle.serde_json.specs.View.{view}
 use Rattle.serde_json.specs.declared.value.Value.{Value}
-use Rattle.causal_text.specs.declared.kind.TextKind.TheVariants.{Form}
-use Rattle.causal_text.specs.Stages.{json_of}
+use Rattle.causal_line.specs.declared.kind.TextKind.TheVariants.{Form}
+use Rattle.causal_line.specs.Values.{json_of}
 use Rattle.causal_merge.specs.Shapes.{line_of}
 
 -- these bytes are this value; or none is built, and they are one that has none of the shapes

@@ -1,13 +1,13 @@
 -- A text has one reading: a fault that is the first is the one that reading gives.
 use Rattle.std.proofs.Common.{◌≡◌, ℕ, ◌+◌, List, [], ◌∷◌, length, Result, Err, inl, inr, refl, ap, ap₂, sym, ◌∙◌, subst}
 use Rattle.causal_trace.specs.Rows.{Recording}
-use Rattle.causal_text.specs.declared.kind.TextKind.TheVariants as kind
-use Rattle.causal_text.specs.declared.kind.TextFault.{TextFault}
+use Rattle.causal_line.specs.declared.kind.TextKind.TheVariants as kind
+use Rattle.causal_line.specs.declared.kind.TextFault.{TextFault}
 use Rattle.causal_text.specs.declared.stage.Stage.{Stage}
 use Rattle.causal_text.specs.declared.stage.Stage.TheVariants.{Opening, Within, Ended}
-use Rattle.causal_text.specs.Lines.{lines}
+use Rattle.causal_line.specs.Lines.{lines}
 use Rattle.causal_text.specs.Place.{Place}
-use Rattle.causal_text.specs.Reading.{◌>>=◌}
+use Rattle.causal_line.specs.Reading.{◌>>=◌}
 use Rattle.causal_text.specs.Inside.LineByLine.{start, next, after_lines, ended, reading}
 use Rattle.causal_text.specs.Stages.{after_line}
 use Rattle.causal_text.specs.Spelling.{SpellsWithin, IsOpen, IsFaultOfLine, IsCut, IsFirstFaultWithin}

@@ -3,16 +3,16 @@ use Rattle.std.specs.Prelude.{◌≡◌, ℕ, List, [], ◌∷◌, ◌++◌, Opt
 use Rattle.causal_trace.specs.Rows.{Recording}
 use Rattle.causal_text.specs.declared.before.Before.{Before}
 use Rattle.causal_text.specs.declared.before.Rejected.{Rejected}
-use Rattle.causal_text.specs.declared.kind.TextKind.{TextKind}
-use Rattle.causal_text.specs.declared.kind.TextFault.{TextFault}
-use Rattle.causal_text.specs.declared.shape.Shape.{Shape}
+use Rattle.causal_line.specs.declared.kind.TextKind.{TextKind}
+use Rattle.causal_line.specs.declared.kind.TextFault.{TextFault}
+use Rattle.causal_line.specs.declared.shape.Shape.{Shape}
 use Rattle.causal_text.specs.declared.stage.Refused.{Refused}
 use Rattle.causal_text.specs.declared.stage.Stage.{Stage}
 use Rattle.causal_text.specs.declared.stage.Stage.TheVariants.{Within}
-use Rattle.causal_text.specs.declared.version.Version.{Version}
+use Rattle.causal_line.specs.declared.version.Version.{Version}
 use Rattle.causal_text.specs.Before.{StandsBeforeWithin, IsKeptWithin}
-use Rattle.causal_text.specs.Given.{IsFaultGiven}
-use Rattle.causal_text.specs.Stages.{line_shape}
+use Rattle.causal_line.specs.Given.{IsFaultGiven}
+use Rattle.causal_line.specs.Values.{line_shape}
 
 -- what reading gives, or want of memory, where more comes with a fault
 abbrev pub GivesRefused : Result Stage Refused → Result Stage TextKind → Type 0

@@ -1,14 +1,14 @@
 -- Where each line takes a reader, and what reading a text line by line gives, where the trace is to have so many entries at most.
 use Rattle.std.specs.Prelude.{◌≡◌, ℕ, ◌+◌, ◌≤◌, List, [], ◌∷◌, length, Result, Ok, Err}
 use Rattle.causal_trace.specs.Rows.{Recording}
-use Rattle.causal_text.specs.declared.kind.TextKind.{TextKind}
-use Rattle.causal_text.specs.declared.kind.TextKind.TheVariants as kind
-use Rattle.causal_text.specs.declared.kind.TextFault.{TextFault}
+use Rattle.causal_line.specs.declared.kind.TextKind.{TextKind}
+use Rattle.causal_line.specs.declared.kind.TextKind.TheVariants as kind
+use Rattle.causal_line.specs.declared.kind.TextFault.{TextFault}
 use Rattle.causal_text.specs.declared.stage.Stage.{Stage}
 use Rattle.causal_text.specs.declared.stage.Stage.TheVariants.{Opening, Within, Ended}
-use Rattle.causal_text.specs.Lines.{lines}
+use Rattle.causal_line.specs.Lines.{lines}
 use Rattle.causal_text.specs.Place.{Place}
-use Rattle.causal_text.specs.Reading.{◌>>=◌}
+use Rattle.causal_line.specs.Reading.{◌>>=◌}
 use Rattle.causal_text.specs.Stages.{text_within, after_line}
 
 -- before the first line

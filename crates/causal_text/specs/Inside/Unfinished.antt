@@ -1,10 +1,10 @@
 -- A line that is complete now, and an unfinished line that grows.
 use Rattle.std.specs.Prelude.{◌≡◌, ℕ, List, [], ◌∷◌, ◌++◌, length, Result, Ok, Err}
 use Rattle.causal_trace.specs.Rows.{Recording}
-use Rattle.causal_text.specs.declared.kind.TextFault.{TextFault}
+use Rattle.causal_line.specs.declared.kind.TextFault.{TextFault}
 use Rattle.causal_text.specs.Place.{Place}
 use Rattle.causal_text.specs.Pieces.{Held}
-use Rattle.causal_text.specs.Reading.{◌>>=◌}
+use Rattle.causal_line.specs.Reading.{◌>>=◌}
 use Rattle.causal_text.specs.Inside.LineByLine.{next, ended, reading, HasRoomFor}
 
 -- where the complete lines are within the limit of a text, so is all that is held

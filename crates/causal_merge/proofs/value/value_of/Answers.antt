@@ -1,5 +1,5 @@
 use Rattle.std.proofs.Common.{◌∙◌, Ok, ap}
-use Rattle.causal_text.specs.Stages.{json_of}
+use Rattle.causal_line.specs.Values.{json_of}
 use Rattle.causal_merge.proofs.Looks.{shapeless}
 use Rattle.causal_merge.proofs.value.value_of.Goals as goal
 

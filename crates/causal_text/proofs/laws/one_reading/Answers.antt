@@ -1,6 +1,6 @@
 use Rattle.std.proofs.Common.{◌≡◌, ◌⊎◌, ℕ, List, Result, Ok, Err, inl, inr, refl}
 use Rattle.causal_trace.specs.Rows.{Recording}
-use Rattle.causal_text.specs.declared.kind.TextFault.{TextFault}
+use Rattle.causal_line.specs.declared.kind.TextFault.{TextFault}
 use Rattle.causal_text.specs.Inside.LineByLine.{reading}
 use Rattle.causal_text.specs.Spelling.{SpellsWithin, IsFirstFaultWithin}
 use Rattle.causal_text.proofs.Spellings.{Spells-reading, IsFirstFault-reading}

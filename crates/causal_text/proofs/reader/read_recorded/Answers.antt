@@ -1,4 +1,4 @@
-use Rattle.causal_text.proofs.Lemmas.Told.{told}
+use Rattle.causal_line.proofs.Lemmas.Told.{told}
 use Rattle.causal_text.proofs.Spellings.{Spells-reading, IsFirstFault-reading}
 use Rattle.causal_text.proofs.reader.read_recorded.Goals as goal
 

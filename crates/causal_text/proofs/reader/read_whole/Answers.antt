@@ -2,14 +2,14 @@ use Rattle.std.proofs.Common.{◌≡◌, ◌∙◌, sym, ap, ℕ, ◌+◌, List,
 use Rattle.std.proofs.lemmas.Result.{err_from_is_err_and}
 use Rattle.causal_trace.specs.Rows.{Recording}
 use Rattle.causal_text.specs.declared.before.Rejected.{Rejected}
-use Rattle.causal_text.specs.declared.kind.TextKind.TheVariants as kind
-use Rattle.causal_text.specs.declared.kind.TextFault.{TextFault}
+use Rattle.causal_line.specs.declared.kind.TextKind.TheVariants as kind
+use Rattle.causal_line.specs.declared.kind.TextFault.{TextFault}
 use Rattle.causal_text.specs.Inside.Kept.{GivesRejected}
 use Rattle.causal_text.specs.Inside.LineByLine.{reading}
 use Rattle.causal_text.specs.Spelling.{IsReadUpTo, IsReadAt}
 use Rattle.causal_text.specs.Pieces.{Held, StandsFor}
 use Rattle.causal_text.proofs.Feeds.{reading-ending, IsReadAt-stands}
-use Rattle.causal_text.proofs.Lemmas.Told.{fault_told}
+use Rattle.causal_line.proofs.Lemmas.Told.{fault_told}
 use Rattle.causal_text.proofs.reader.read_whole.Goals as goal
 
 pub returns-in_err-reader-clause-value : goal.returns-in_err-reader-clause-value

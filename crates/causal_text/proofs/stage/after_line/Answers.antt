@@ -2,14 +2,15 @@ use Rattle.std.proofs.Common.{◌≡◌, ◌≢◌, ℕ, ◌≤◌, List, Option
 use Rattle.std.specs.Prelude.{IfErr, OnOk}
 use Rattle.causal_trace.specs.Rows.{Recording}
 use Rattle.causal_text.specs.declared.before.Before.{Before}
-use Rattle.causal_text.specs.declared.kind.TextKind.{TextKind}
-use Rattle.causal_text.specs.declared.shape.Shape.{Shape}
+use Rattle.causal_line.specs.declared.kind.TextKind.{TextKind}
+use Rattle.causal_line.specs.declared.shape.Shape.{Shape}
 use Rattle.causal_text.specs.declared.stage.Refused.{Refused}
 use Rattle.causal_text.specs.declared.stage.Stage.{Stage}
 use Rattle.causal_text.specs.declared.stage.Stage.TheVariants.{Opening, Within, Ended}
-use Rattle.causal_text.specs.declared.version.Version.{Version}
+use Rattle.causal_line.specs.declared.version.Version.{Version}
 use Rattle.causal_text.specs.Inside.Kept.{GivesRefused, IsKeptAt, IsKeptBefore}
-use Rattle.causal_text.specs.Stages.{text_within, line_shape, follow, after_line}
+use Rattle.causal_text.specs.Stages.{text_within, follow, after_line}
+use Rattle.causal_line.specs.Values.{line_shape}
 use Rattle.causal_text.proofs.Complete.{in_limit}
 use Rattle.causal_text.proofs.stage.after_line.Goals as goal
 

@@ -4,14 +4,14 @@ use Rattle.std.proofs.lemmas.Bool.{eqb-true}
 use Rattle.std.proofs.lemmas.List.{nil_from_length}
 use Rattle.std.proofs.lemmas.Result.{err_from_is_err_and}
 use Rattle.causal_text.specs.declared.before.Rejected.{Rejected}
-use Rattle.causal_text.specs.declared.kind.TextFault.{TextFault}
+use Rattle.causal_line.specs.declared.kind.TextFault.{TextFault}
 use Rattle.causal_text.specs.Before.{IsKeptWithin}
 use Rattle.causal_text.specs.Inside.Kept.{IsKeptOfAll, IsKeptAfter}
 use Rattle.causal_text.specs.Inside.Unfinished.{IsFaultOfAll}
 use Rattle.causal_text.specs.Streams.{IsFaultAfter}
 use Rattle.causal_text.specs.Inside.LineByLine.{reading}
 use Rattle.causal_text.proofs.Feeds.{reading-ending, IsReadAt-stands, IsReadAt-more}
-use Rattle.causal_text.proofs.Lemmas.Told.{told}
+use Rattle.causal_line.proofs.Lemmas.Told.{told}
 use Rattle.causal_text.proofs.Spellings.{Spells-reading, IsFirstFault-reading}
 use Rattle.causal_text.proofs.StreamLemmas.{read_more}
 use Rattle.causal_text.proofs.stream.advance.Goals as goal

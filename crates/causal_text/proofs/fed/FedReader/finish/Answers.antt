@@ -1,5 +1,5 @@
 use Rattle.causal_text.proofs.FedLemmas.{fed_spells, fed_ends}
-use Rattle.causal_text.proofs.Lemmas.Told.{told}
+use Rattle.causal_line.proofs.Lemmas.Told.{told}
 use Rattle.causal_text.proofs.fed.FedReader.finish.Goals as goal
 
 pub returns-in-Ok-clause-ok : goal.returns-in-Ok-clause-ok

@@ -1,6 +1,6 @@
 use Rattle.std.proofs.lemmas.Result.{err_from_is_err_and}
 use Rattle.causal_text.proofs.Feeds.{faulty_line}
-use Rattle.causal_text.proofs.Lemmas.Told.{fault_told}
+use Rattle.causal_line.proofs.Lemmas.Told.{fault_told}
 use Rattle.causal_text.proofs.reader.PieceReader.complete.Goals as goal
 
 pub returns-in_err-lines-2-clause-value : goal.returns-in_err-lines-2-clause-value

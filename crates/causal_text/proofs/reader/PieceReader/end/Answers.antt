@@ -2,16 +2,16 @@ use Rattle.std.proofs.Common.{◌≡◌, ◌+◌, ◌<◌, ◌∙◌, ap, sym, s
 use Rattle.std.specs.Prelude.{◌==◌, IfSome}
 use Rattle.std.proofs.lemmas.Result.{err_from_is_err_and}
 use Rattle.causal_text.specs.declared.before.Before.{Before}
-use Rattle.causal_text.specs.declared.kind.TextFault.{TextFault}
+use Rattle.causal_line.specs.declared.kind.TextFault.{TextFault}
 use Rattle.causal_text.specs.Before.{StandsBeforeWithin}
 use Rattle.causal_text.specs.Pieces.{Held, StandsFor}
 use Rattle.causal_text.specs.Place.{Place}
-use Rattle.causal_text.specs.Reading.{◌>>=◌}
+use Rattle.causal_line.specs.Reading.{◌>>=◌}
 use Rattle.causal_text.specs.Inside.Kept.{IsKeptAt}
 use Rattle.causal_text.specs.Inside.LineByLine.{next, ended}
 use Rattle.causal_text.specs.Inside.Unfinished.{last_place, ending}
 use Rattle.causal_text.proofs.BeforeLemmas.{kept_at_end}
-use Rattle.causal_text.proofs.Lemmas.Told.{told, fault_told}
+use Rattle.causal_line.proofs.Lemmas.Told.{told, fault_told}
 use Rattle.causal_text.proofs.reader.PieceReader.end.Goals as goal
 
 some_of : (n : ℕ) (b : Bool) → b ≡ (n == 0) → b ≡ false → 0 < n

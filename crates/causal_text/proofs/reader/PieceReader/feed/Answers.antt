@@ -1,13 +1,14 @@
 use Rattle.std.proofs.Common.{◌≡◌, ◌≢◌, ◌+◌, ◌<◌, ◌++◌, ◌∙◌, sym, ap, List, ℕ, true, length, Result, Ok, Err, IfOk, IfErr, append_assoc}
 use Rattle.causal_text.specs.declared.before.Rejected.{Rejected}
-use Rattle.causal_text.specs.declared.kind.TextKind.TheVariants as kind
+use Rattle.causal_line.specs.declared.kind.TextKind.TheVariants as kind
 use Rattle.causal_text.specs.Spelling.{IsReadAt}
-use Rattle.causal_text.specs.Pieces.{no_feed, Held, StandsFor}
+use Rattle.causal_line.specs.Lines.{no_feed}
+use Rattle.causal_text.specs.Pieces.{Held, StandsFor}
 use Rattle.causal_text.specs.Inside.Unfinished.{IsFaultOfAll, IsPast}
 use Rattle.std.proofs.lemmas.Result.{err_from_is_err_and}
 use Rattle.causal_text.proofs.BeforeLemmas.{kept_of_piece}
 use Rattle.causal_text.proofs.Feeds.{Comes, Comes-line, Comes-hold, fault_of_piece, fault_of_hold, line_of_part}
-use Rattle.causal_text.proofs.Lemmas.Told.{told}
+use Rattle.causal_line.proofs.Lemmas.Told.{told}
 use Rattle.causal_text.proofs.reader.PieceReader.feed.Goals as goal
 
 pub loop-line-preserved : goal.loop-line-preserved

@@ -1,0 +1,6 @@
+-- What crates above may cite of this crate's proofs.
+pub mod CompleteLines
+pub mod LineBytes
+pub mod Told
+pub mod Unfit
+pub mod Values

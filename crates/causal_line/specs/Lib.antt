@@ -1,0 +1,14 @@
+pub mod Inside
+pub mod Reading
+pub mod Given
+pub mod Lines
+pub mod Shapes
+pub mod Values
+pub mod Kinds
+pub mod Versions
+pub mod Outline
+pub mod FaultLine
+pub mod Sentences
+pub mod Deliveries
+pub mod Wrongs
+pub mod Wordings

@@ -1,0 +1,101 @@
+//! What a process's present lane has sent and delivered, read from all entries.
+ghost use Rattle.std.specs.Prelude.{◌≡◌, ◌≤◌, ◌∷◌, List, length};
+ghost use Rattle.causal_trace.specs.declared.entry.Entry.{Entry};
+ghost use Rattle.causal_trace.specs.Limits.{max_entries};
+ghost use Rattle.causal_trace.specs.Past as past;
+ghost use Rattle.causal_trace.specs.State.{past_at};
+ghost use Rattle.causal_line.specs.Deliveries.{delivered_at};
+ghost use Rattle.causal_line.specs.Inside.Messages.{is_of};
+
+use causal_name::{Det, MsgName, Pid};
+use causal_trace::entry::Entry;
+use causal_trace::trace::Trace;
+
+/// How many messages the process's present lane has sent.
+pub(crate) fn sends(trace: &Trace, p: Pid) -> u32
+    ensures { result ≡ past.sends trace.now.recording.past p.0 }
+{
+    counts_in(trace.entries(), p).sends
+}
+
+/// How many messages it has delivered.
+pub(crate) fn deliveries(trace: &Trace, p: Pid) -> u32
+    ensures { result ≡ past.deliveries trace.now.recording.past p.0 }
+{
+    counts_in(trace.entries(), p).deliveries
+}
+
+/// What a process's present lane has sent and delivered, in numbers.
+#[derive(Clone, Copy)]
+struct Counts {
+    sends: u32,
+    deliveries: u32,
+}
+
+fn counts_in(entries: &[Entry], p: Pid) -> Counts
+    requires { length entries.now ≤ max_entries }
+    ensures sends { result.sends ≡ past.sends (past_at entries.now (length entries.now)) p.0 }
+    ensures deliveries { result.deliveries
+        ≡ past.deliveries (past_at entries.now (length entries.now)) p.0 }
+{
+    let (mut sends, mut deliveries) = (0, 0);
+    for e in entries {
+        match e {
+            Entry::Send { from, .. } if from.0 == p.0 => sends += 1,
+            Entry::Deliver { to, .. } if to.0 == p.0 => deliveries += 1,
+            Entry::Restart { who, .. } if who.0 == p.0 => {
+                sends = 0;
+                deliveries = 0;
+            }
+            _ => {}
+        }
+    }
+    Counts { sends, deliveries }
+}
+
+/// The position of the delivery of the message by the process's present lane; None where it has not delivered it.
+pub(crate) fn delivery_of(trace: &Trace, p: Pid, message: MsgName) -> Option<u32>
+    ensures { result ≡ delivered_at trace.now.recording.past p.0 message }
+{
+    let mut found = None;
+    for (i, e) in trace.entries().iter().enumerate() {
+        let position = i as u32;
+        found = found_after(found, position, e, trace.det_at(position), p, message);
+    }
+    found
+}
+
+/// The same after one more entry, with its own determinant where it is a delivery.
+fn found_after(
+    found: Option<u32>,
+    position: u32,
+    e: &Entry,
+    own: Option<Det>,
+    p: Pid,
+    message: MsgName,
+) -> Option<u32>
+    ensures { (before : List Entry) → position ≡ length before → own ≡ past.det_of before e.now
+        → found ≡ delivered_at before p.0 message → result ≡ delivered_at (e.now ∷ before) p.0 message }
+{
+    match e {
+        Entry::Restart { who, .. } => { if who.0 == p.0 { None } else { found } }
+        Entry::Deliver { to, .. } => {
+            if to.0 == p.0 && is_of(own, message) {
+                Some(position)
+            } else {
+                found
+            }
+        }
+        _ => found,
+    }
+}
+
+/// Whether an optional determinant is that of a delivery of the message.
+fn is_of(own: Option<Det>, message: MsgName) -> bool
+    ensures { result ≡ is_of own message }
+{
+    match own {
+        Some(det) => det.message() == message,
+        None => false,
+    }
+}
