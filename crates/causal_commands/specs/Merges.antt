@@ -2,7 +2,7 @@
 use Rattle.std.specs.Prelude.{◌≡◌, ℕ, ◌+◌, ◌<◌, List, [], length, take, Option, None, Some, IfSome}
 use Rattle.std.specs.Io.KnownBytes.{Appends, Keeps}
 use Rattle.causal_trace.specs.Rows.{Recording}
-use Rattle.causal_text.specs.Canonical.{canonical}
+use Rattle.causal_lines.specs.Canonical.{canonical}
 use Rattle.causal_merge.specs.Merging.{MergesWithin, IsFirstFaultWithin}
 use Rattle.causal_merge.specs.Reading.{bytes_within}
 use Rattle.causal_merge.specs.FaultLine.{fault_line}

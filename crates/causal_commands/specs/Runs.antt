@@ -3,7 +3,7 @@ use Rattle.std.specs.Prelude.{◌≡◌, ℕ, ◌+◌, ◌<◌, List, length, ta
 use Rattle.std.specs.Io.KnownBytes.{Appends, Keeps}
 use Rattle.causal_trace.specs.Rows.{Recording}
 use Rattle.causal_trace.specs.Judgement.{IsSafeTrace}
-use Rattle.causal_text.specs.Canonical.{canonical}
+use Rattle.causal_lines.specs.Canonical.{canonical}
 use Rattle.causal_protocol.specs.declared.request.CoreFault.{CoreFault}
 use Rattle.causal_script.specs.declared.script.Script.{Script}
 use Rattle.causal_script.specs.declared.script.ScriptFault.{ScriptFault}

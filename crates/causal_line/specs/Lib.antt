@@ -12,3 +12,5 @@ pub mod Sentences
 pub mod Deliveries
 pub mod Wrongs
 pub mod Wordings
+pub mod Stages
+pub mod Refusals

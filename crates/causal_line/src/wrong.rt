@@ -12,7 +12,7 @@ use causal_trace::trace::Trace;
 use std::alloc::Global;
 
 /// What is wrong with a line. Positions count entries from 0; the entry at position k stands on line k + 2.
-#[derive(Clone, Copy, Debug, PartialEq, Eq)]
+#[derive(Clone, Copy)]
 pub enum Wrong {
     /// The process sends with the number `given`, and the next of its present lane is another.
     Ssn {

@@ -2,16 +2,17 @@
 use Rattle.std.proofs.Common.{◌≡◌, ℕ, ◌+◌, ◌<◌, List, [], ◌∷◌, ◌++◌, length, Option, Some, None, Ok, ap, sym, ◌∙◌, append_assoc, append-nil, subst}
 use Rattle.std.specs.Prelude.{IfSome}
 use Rattle.std.specs.Io.KnownBytes.{Consumes}
-use Rattle.causal_text.specs.declared.before.Before.{Before}
-use Rattle.causal_text.specs.declared.before.Rejected.{Rejected}
-use Rattle.causal_text.specs.declared.stage.Stage.{Stage}
+use Rattle.causal_line.specs.declared.before.Before.{Before}
+use Rattle.causal_line.specs.declared.before.Rejected.{Rejected}
+use Rattle.causal_line.specs.declared.stage.Stage.{Stage}
 use Rattle.causal_text.specs.Before.{StandsBeforeWithin, IsKeptWithin}
 use Rattle.causal_line.specs.Lines.{lines, IsComplete}
 use Rattle.causal_text.specs.Pieces.{joined, Held, StandsFor}
 use Rattle.causal_text.specs.Spelling.{LeadsTo}
 use Rattle.causal_line.specs.Values.{line_shape}
 use Rattle.causal_text.specs.Streams.{PieceEndsAt}
-use Rattle.causal_text.specs.Inside.Kept.{IsGoingOn, IsKeptAt, IsKeptOfAll, IsKeptAfter}
+use Rattle.causal_line.specs.Refusals.{IsGoingOn, IsKeptAt}
+use Rattle.causal_text.specs.Inside.Kept.{IsKeptOfAll, IsKeptAfter}
 use Rattle.causal_text.proofs.Feeds.{Comes, lines_joined}
 use Rattle.causal_line.proofs.Lemmas.CompleteLines.{IsComplete-append, lines_complete, lines_rest}
 use Rattle.causal_text.proofs.StreamLemmas.{Consumes-then, all_read}

@@ -3,17 +3,18 @@ use Rattle.std.proofs.Common.{◌≡◌, ◌<◌, ◌++◌, ◌∙◌, ◌⊎◌
 use Rattle.std.specs.Prelude.{◌==◌, ◌&&◌, not, Option, Some, None, IfSome, IfNone}
 use Rattle.causal_trace.specs.Rows.{Recording}
 use Rattle.causal_line.specs.declared.kind.TextFault.{TextFault}
-use Rattle.causal_text.specs.declared.stage.Stage.{Stage}
-use Rattle.causal_text.specs.declared.stage.Stage.TheVariants.{Within}
+use Rattle.causal_line.specs.declared.stage.Stage.{Stage}
+use Rattle.causal_line.specs.declared.stage.Stage.TheVariants.{Within}
 use Rattle.causal_text.specs.declared.stream.State.TheVariants as state
 use Rattle.causal_text.specs.Begun.{SaysSoFar, BeginsWith}
 use Rattle.causal_text.specs.Fed.{WasFed}
 use Rattle.causal_line.specs.Lines.{lines, no_feed, IsComplete}
-use Rattle.causal_text.specs.Place.{Place}
+use Rattle.causal_lines.specs.Places.{Place, start, next}
 use Rattle.causal_text.specs.Pieces.{AreComplete, joined, Held, StandsFor}
-use Rattle.causal_text.specs.Spelling.{LeadsTo, said}
-use Rattle.causal_text.specs.Inside.Kept.{IsGoingOn}
-use Rattle.causal_text.specs.Inside.LineByLine.{start, next, after_lines}
+use Rattle.causal_text.specs.Spelling.{LeadsTo}
+use Rattle.causal_line.specs.Stages.{said}
+use Rattle.causal_line.specs.Refusals.{IsGoingOn}
+use Rattle.causal_text.specs.Inside.LineByLine.{after_lines}
 use Rattle.causal_text.specs.Inside.Unfinished.{IsPast}
 use Rattle.causal_text.proofs.Complete.{after_lines-append, after_lines-place, Leads-reached}
 use Rattle.causal_text.proofs.Feeds.{lines_joined, StandsFor-hold}

@@ -10,11 +10,11 @@ use Rattle.serde_json.specs.Read.{read}
 use Rattle.causal_trace.specs.declared.entry.Entry.{Entry}
 use Rattle.causal_line.specs.declared.shape.Shape.{Shape}
 use Rattle.causal_line.specs.declared.shape.Shape.TheVariants as shape
-use Rattle.causal_text.specs.declared.stage.Stage.TheVariants.{Ended}
+use Rattle.causal_line.specs.declared.stage.Stage.TheVariants.{Ended}
 use Rattle.causal_line.specs.Lines.{lines}
 use Rattle.causal_line.specs.Values.{content, line_shape}
-use Rattle.causal_text.specs.Spelling.{said}
-use Rattle.causal_text.specs.Canonical.{shape_text, line_text, canonical_version}
+use Rattle.causal_line.specs.Stages.{said}
+use Rattle.causal_lines.specs.Canonical.{shape_text, line_text, canonical_version}
 use Rattle.causal_trace.specs.Rows.{Recording}
 use Rattle.causal_trace.specs.Sizes.{EntriesAreSmall, NumbersAreSmall, LimitsAreKept}
 use Rattle.causal_line.specs.declared.version.Version.{Version}

@@ -1,35 +1,32 @@
 -- What a text spells is read.
-use Rattle.std.proofs.Common.{◌≡◌, ℕ, suc, ◌+◌, ◌≤◌, List, [], ◌∷◌, ◌++◌, length, Ok, Err, refl, ap, sym, ◌∙◌, arith, subst}
+use Rattle.std.proofs.Common.{◌≡◌, ℕ, ◌+◌, ◌≤◌, List, [], ◌∷◌, ◌++◌, length, Ok, Err, refl, ap, sym, ◌∙◌, arith, subst}
 use Rattle.std.specs.Prelude.{Result, map, sum_by}
-use Rattle.std.proofs.lemmas.Bool.{eq-eqb, le-leb, lt-leb}
+use Rattle.std.proofs.lemmas.Bool.{eq-eqb, le-leb}
 use Rattle.std.proofs.lemmas.List.Sums.{sum_by_push}
 use Rattle.causal_trace.specs.Rows.{Recording, AreAccepted, IsWithin}
 use Rattle.causal_trace.proofs.Lemmas.WellFormed.{within_before, next_within}
 use Rattle.causal_trace.specs.State.{with_entry}
 use Rattle.causal_trace.specs.declared.entry.Entry.{Entry}
-use Rattle.causal_line.specs.declared.kind.TextKind.{TextKind}
+use Rattle.causal_line.proofs.Lemmas.Passed.{in_limit}
 use Rattle.causal_line.specs.declared.kind.TextFault.{TextFault}
 use Rattle.causal_line.specs.declared.shape.Shape.{Shape}
 use Rattle.causal_line.specs.declared.shape.Shape.TheVariants as shape
-use Rattle.causal_text.specs.declared.stage.Stage.{Stage}
-use Rattle.causal_text.specs.declared.stage.Stage.TheVariants.{Opening, Within, Ended}
+use Rattle.causal_line.specs.declared.stage.Stage.{Stage}
+use Rattle.causal_line.specs.declared.stage.Stage.TheVariants.{Opening, Within, Ended}
 use Rattle.causal_line.specs.declared.version.Version.{Version}
 use Rattle.causal_line.specs.declared.version.Version.TheVariants.{One, Two}
 use Rattle.causal_line.specs.Lines.{lines}
-use Rattle.causal_text.specs.Place.{Place, IsPlaceAfter}
+use Rattle.causal_lines.specs.Places.{Place, start, next, ended}
+use Rattle.causal_text.specs.Place.{IsPlaceAfter}
 use Rattle.causal_line.specs.Reading.{◌>>=◌}
-use Rattle.causal_text.specs.Inside.LineByLine.{start, next, after_lines, ended, reading}
-use Rattle.causal_text.specs.Stages.{opened, text_within, within_limit, after_line}
+use Rattle.causal_text.specs.Inside.LineByLine.{after_lines, reading}
+use Rattle.causal_line.specs.Stages.{opened, text_within, after_line, said}
 use Rattle.causal_line.specs.Values.{line_shape}
 use Rattle.causal_line.specs.Versions.{number_of, most_processes, HasLines}
-use Rattle.causal_text.specs.Spelling.{said, LeadsTo, SpellsWithin}
+use Rattle.causal_text.specs.Spelling.{LeadsTo, SpellsWithin}
 use Rattle.causal_line.proofs.Lemmas.LineBytes.{sum_by-lines}
 use Rattle.causal_text.proofs.Steps.{said_entries}
 use Rattle.causal_text.proofs.Spellings.{IsPlaceAfter-lines, IsPlaceAfter-start}
-
--- what ends within the limit of a text is not refused for its length
-pub in_limit : (most : ℕ) (end : ℕ) (r : Result Stage TextKind) → end ≤ text_within most → within_limit most end r ≡ r
-in_limit most end r h = rw (lt-leb (suc (text_within most)) end (omega arith)) refl
 
 -- ---- lines one after another
 

@@ -4,9 +4,9 @@ use Rattle.causal_line.specs.declared.kind.TextFault.{TextFault}
 use Rattle.causal_line.specs.Lines.{lines, no_feed, IsComplete}
 use Rattle.causal_line.proofs.Lemmas.CompleteLines.{no_feed-append, IsComplete-append, lines_complete, lines_grown, lines_rest}
 use Rattle.causal_text.specs.Spelling.{IsReadUpTo, IsReadAt}
-use Rattle.causal_text.specs.Place.{Place}
+use Rattle.causal_lines.specs.Places.{Place, start, next, ended}
 use Rattle.causal_line.specs.Reading.{◌>>=◌}
-use Rattle.causal_text.specs.Inside.LineByLine.{start, next, after_lines, ended, reading}
+use Rattle.causal_text.specs.Inside.LineByLine.{after_lines, reading}
 use Rattle.causal_text.specs.Pieces.{AreComplete, joined, Held, StandsFor}
 use Rattle.causal_text.specs.Inside.Unfinished.{IsFaultOfAll, with_line, IsPast, last_place, ending}
 use Rattle.causal_text.proofs.Spellings.{IsPlaceAfter-next}

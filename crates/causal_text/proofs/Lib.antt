@@ -14,4 +14,3 @@ mod Spellings
 mod Steps
 mod Stops
 mod StreamLemmas
-mod Texts

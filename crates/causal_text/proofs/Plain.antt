@@ -11,7 +11,7 @@ use Rattle.causal_trace.specs.declared.entry.Entry.{Entry}
 use Rattle.causal_trace.specs.declared.entry.Entry.TheVariants.{Send, Deliver, Stable, Crash, Restart, Forget}
 use Rattle.causal_line.specs.declared.shape.Shape.{Shape}
 use Rattle.causal_line.specs.declared.shape.Shape.TheVariants as shape
-use Rattle.causal_text.specs.Canonical.{det_text, more_dets_text, dets_text, entry_text, shape_text}
+use Rattle.causal_lines.specs.Canonical.{det_text, more_dets_text, dets_text, entry_text, shape_text}
 use Rattle.causal_trace.specs.Sizes.{DetIsSmall, DetsAreSmall, EntryIsSmall}
 use Rattle.causal_text.proofs.ShapeData.{ShapeFits}
 

@@ -10,7 +10,7 @@ use Rattle.causal_trace.specs.declared.entry.Entry.TheVariants.{Send, Deliver, S
 use Rattle.causal_line.specs.declared.shape.Shape.{Shape}
 use Rattle.causal_line.specs.declared.shape.Shape.TheVariants as shape
 use Rattle.causal_line.specs.Shapes.{pid_at, det_of, dets_of, dets_at, header_of, send_of, deliver_of, stable_of, crash_of, restart_of, forget_of, end_of, shape_of}
-use Rattle.causal_text.specs.Canonical.{det_text, more_dets_text, dets_text, entry_text, shape_text}
+use Rattle.causal_lines.specs.Canonical.{det_text, more_dets_text, dets_text, entry_text, shape_text}
 use Rattle.causal_trace.specs.Sizes.{DetIsSmall, DetsAreSmall, EntryIsSmall}
 use Rattle.causal_text.proofs.ReadsBack.{IsSimple, AreSimple}
 

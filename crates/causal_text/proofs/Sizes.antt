@@ -17,10 +17,10 @@ use Rattle.causal_trace.specs.Sizes.{DetIsSmall, DetsAreSmall, EntryIsSmall, Ent
 use Rattle.causal_line.specs.declared.shape.Shape.TheVariants as shape
 use Rattle.causal_line.specs.declared.version.Version.{Version}
 use Rattle.causal_line.specs.declared.version.Version.TheVariants.{One, Two}
-use Rattle.causal_text.specs.Canonical.{det_text, more_dets_text, dets_text, entry_text, entries_text, line_text, canonical, canonical_version}
-use Rattle.causal_text.specs.Stages.{text_within}
+use Rattle.causal_lines.specs.Canonical.{det_text, more_dets_text, dets_text, entry_text, entries_text, line_text, canonical, canonical_version}
+use Rattle.causal_line.specs.Stages.{text_within}
 use Rattle.causal_line.specs.Versions.{number_of}
-use Rattle.causal_text.proofs.Texts.{canonical_parts}
+use Rattle.causal_lines.proofs.Lemmas.CanonicalParts.{canonical_parts}
 
 digits_at_most : (k n : ℕ) (rest : List ℕ) (m : ℕ) → length (decimal n) ≤ k → length rest ≤ m → length (decimal n ++ rest) ≤ k + m
 digits_at_most k n rest m p q = omega (arith, length-append (decimal n) rest)

@@ -7,18 +7,20 @@ use Rattle.causal_trace.specs.Rows.{Recording}
 use Rattle.causal_line.specs.declared.kind.TextKind.{TextKind}
 use Rattle.causal_line.specs.declared.kind.TextKind.TheVariants as kind
 use Rattle.causal_line.specs.declared.kind.TextFault.{TextFault}
-use Rattle.causal_text.specs.declared.stage.Stage.{Stage}
-use Rattle.causal_text.specs.declared.stage.Stage.TheVariants.{Opening, Within, Ended}
+use Rattle.causal_line.specs.declared.stage.Stage.{Stage}
+use Rattle.causal_line.specs.declared.stage.Stage.TheVariants.{Opening, Within, Ended}
 use Rattle.causal_line.specs.Lines.{lines}
 use Rattle.causal_line.specs.declared.version.Version.{Version}
-use Rattle.causal_text.specs.Place.{Place, IsPlaceAfter}
-use Rattle.causal_text.specs.Inside.LineByLine.{start, ◌at◌, next, after_lines, ended, reading}
+use Rattle.causal_lines.specs.Places.{Place, start, ◌at◌, next, ended}
+use Rattle.causal_text.specs.Place.{IsPlaceAfter}
+use Rattle.causal_text.specs.Inside.LineByLine.{after_lines, reading}
 use Rattle.causal_line.specs.Reading.{◌>>=◌}
 use Rattle.causal_line.specs.Values.{line_shape}
-use Rattle.causal_text.specs.Stages.{after_line}
-use Rattle.causal_text.specs.Spelling.{said, SpellsWithin, LeadsTo, IsOpen, IsFirstFaultWithin}
+use Rattle.causal_line.specs.Stages.{after_line, said}
+use Rattle.causal_text.specs.Spelling.{SpellsWithin, LeadsTo, IsOpen, IsFirstFaultWithin}
 use Rattle.causal_line.proofs.Lemmas.LineBytes.{sum_by-lines}
-use Rattle.causal_text.proofs.Steps.{bind_ok, Accepted-line}
+use Rattle.causal_line.proofs.Lemmas.Passed.{bind_ok}
+use Rattle.causal_text.proofs.Steps.{Accepted-line}
 
 -- a fault stands in the first part, or in what follows it
 bind_err : {A B E : Type 0} (r : Result A E) (f : A → Result B E) (e : E) → (r >>= f) ≡ Err e → (r ≡ Err e) ⊎ ((x : A) × (r ≡ Ok x) × (f x ≡ Err e))

@@ -1,43 +1,27 @@
 -- What one accepted line adds.
 use Rattle.std.proofs.Common.{◌≡◌, ℕ, suc, ◌+◌, ◌≤◌, List, [], ◌∷◌, ◌++◌, length, Bool, true, false, cond, Option, Some, None, Ok, Err, refl, ap, ◌∙◌, arith, subst}
-use Rattle.std.specs.Prelude.{Result, ◌==◌, nat_lt, nat_le, ◌&&◌, map, reverse}
+use Rattle.std.specs.Prelude.{◌==◌, nat_lt, nat_le, ◌&&◌, map, reverse}
 use Rattle.std.proofs.lemmas.Bool.{eqb-true, leb-true, leb-false}
 use Rattle.std.proofs.lemmas.List.{map-append, reverse-append}
 use Rattle.causal_trace.specs.Rows.{Recording, fault_within}
 use Rattle.causal_trace.specs.State.{with_entry}
 use Rattle.causal_trace.specs.declared.entry.Entry.{Entry}
 use Rattle.causal_trace.specs.declared.fault.TraceFault.{TraceFault}
-use Rattle.causal_line.specs.declared.kind.TextKind.{TextKind}
+use Rattle.causal_line.proofs.Lemmas.Passed.{bind_ok, passed, passed_not}
 use Rattle.causal_line.specs.declared.kind.TextKind.TheVariants as kind
 use Rattle.causal_line.specs.declared.shape.Shape.{Shape}
 use Rattle.causal_line.specs.declared.shape.Shape.TheVariants as shape
-use Rattle.causal_text.specs.declared.stage.Stage.{Stage}
-use Rattle.causal_text.specs.declared.stage.Stage.TheVariants.{Opening, Within, Ended}
+use Rattle.causal_line.specs.declared.stage.Stage.{Stage}
+use Rattle.causal_line.specs.declared.stage.Stage.TheVariants.{Opening, Within, Ended}
 use Rattle.causal_line.specs.declared.version.Version.{Version}
 use Rattle.causal_line.specs.declared.version.Version.TheVariants.{One, Two}
 use Rattle.causal_line.specs.Reading.{◌>>=◌}
-use Rattle.causal_text.specs.Stages.{opened, text_within, begun, admitted, follow, within_limit, after_line}
+use Rattle.causal_line.specs.Stages.{opened, text_within, begun, admitted, follow, within_limit, after_line, said}
 use Rattle.causal_line.specs.Kinds.{kind_of}
 use Rattle.causal_line.specs.Values.{line_shape}
-use Rattle.causal_line.specs.Versions.{number_of, version_of, most_processes, has_line}
-use Rattle.causal_text.specs.Spelling.{said, IsSound}
-use Rattle.causal_trace.proofs.Lemmas.WellFormed.{rows_next, within_next, short_next}
-use Rattle.causal_trace.specs.Limits.{max_entries}
-use Rattle.causal_text.specs.Inside.LineByLine.{entries_in, lines_in}
-
--- what was read to its end was read in both its parts
-pub bind_ok : {A B E : Type 0} (r : Result A E) (f : A → Result B E) (y : B) → (r >>= f) ≡ Ok y → (x : A) × (r ≡ Ok x) × (f x ≡ Ok y)
-bind_ok (Ok x) f y h = (x, refl, h)
-bind_ok (Err e) f y h = absurd (let no : Err e ≡ Ok y = h in cc)
-
--- what is not refused passed the test
-passed : {A : Type 0} (b : Bool) (r : Result A TextKind) (e : TextKind) (y : A) → cond b r (Err e) ≡ Ok y → (b ≡ true) × (r ≡ Ok y)
-passed true r e y h = (refl, h)
-passed false r e y h = absurd (let no : Err e ≡ Ok y = h in cc)
-
-passed_not : {A : Type 0} (b : Bool) (r : Result A TextKind) (e : TextKind) (y : A) → cond b (Err e) r ≡ Ok y → (b ≡ false) × (r ≡ Ok y)
-passed_not false r e y h = (refl, h)
-passed_not true r e y h = absurd (let no : Err e ≡ Ok y = h in cc)
+use Rattle.causal_line.specs.Versions.{number_of, most_processes, has_line}
+use Rattle.causal_text.specs.Spelling.{IsSound}
+use Rattle.causal_trace.proofs.Lemmas.WellFormed.{rows_next, within_next}
 
 and_left : (a b : Bool) → (a && b) ≡ true → a ≡ true
 and_left true b h = refl
@@ -129,54 +113,3 @@ pub Accepted-line : (most : ℕ) (s : Stage) (end : ℕ) (line : List ℕ) (t : 
 Accepted-line most Opening end line t w h = Accepted-limit most Opening end line t w h
 Accepted-line most (Within version r) end line t w h = Accepted-limit most (Within version r) end line t w h
 Accepted-line most (Ended version r) end line t w h = absurd (let no : Err kind.After ≡ Ok t = h in cc)
-
--- ---- it is one line more, and the entries are as few as those of any trace
-
-abbrev pub Counts : Stage → Stage → Type 0
-Counts s t = (lines_in t ≡ lines_in s + 1) × (entries_in t ≤ max_entries)
-
-Counts-begun : (o : Option Version) (n : ℕ) (t : Stage) → begun o n ≡ Ok t → Counts Opening t
-Counts-begun None n t h = absurd (let no : Err kind.Version ≡ Ok t = h in cc)
-Counts-begun (Some version) n t h =
-    let p = passed (nat_le 1 n && nat_le n (most_processes version)) _ kind.Processes t h in
-    let same : Within version (opened n) ≡ t = cc (p.1) in
-    subst (λ (u : Stage). Counts Opening u) same (refl, omega arith)
-
-Counts-admitted : (most : ℕ) (version : Version) (r : Recording) (e : Entry) (o : Option TraceFault) (t : Stage) → fault_within most r e ≡ o → admitted version r e o ≡ Ok t → Counts (Within version r) t
-Counts-admitted most version r e None t is h =
-    let same : Within version (with_entry r e) ≡ t = cc in
-    let short = short_next r.processes r.past e (rows_next most r e is) in
-    subst (λ (u : Stage). Counts (Within version r) u) same (omega arith, omega (arith, short.entries))
-Counts-admitted most version r e (Some f) t is h = absurd (let no : Err (kind_of f) ≡ Ok t = h in cc)
-
-Counts-follow : (most : ℕ) (s : Stage) (x : Shape) (t : Stage) → entries_in s ≤ max_entries → follow most s x ≡ Ok t → Counts s t
-Counts-follow most Opening (shape.Header number n) t few h = Counts-begun (version_of number) n t h
-Counts-follow most Opening (shape.Entry e) t few h = absurd (let no : Err kind.Header ≡ Ok t = h in cc)
-Counts-follow most Opening (shape.End count) t few h = absurd (let no : Err kind.Header ≡ Ok t = h in cc)
-Counts-follow most (Within version r) (shape.Header number n) t few h = absurd (let no : Err kind.Header ≡ Ok t = h in cc)
-Counts-follow most (Within version r) (shape.Entry e) t few h =
-    let p = passed (has_line version e) _ kind.Form t h in
-    Counts-admitted most version r e (fault_within most r e) t refl p.1
-Counts-follow most (Within version r) (shape.End count) t few h =
-    let p = passed (count == length r.past) _ kind.Count t h in
-    let same : Ended version r ≡ t = cc (p.1) in
-    subst (λ (u : Stage). Counts (Within version r) u) same (omega arith, few)
-Counts-follow most (Ended version r) x t few h = absurd (let no : Err kind.After ≡ Ok t = h in cc)
-
-Counts-limit : (most : ℕ) (s : Stage) (end : ℕ) (line : List ℕ) (t : Stage) → entries_in s ≤ max_entries → within_limit most end (line_shape line >>= follow most s) ≡ Ok t → Counts s t
-Counts-limit most s end line t few h =
-    let limit = passed_not (nat_lt (text_within most) end) _ kind.Big t h in
-    let read = bind_ok (line_shape line) (follow most s) t limit.1 in
-    Counts-follow most s read.0 t few read.2
-
--- a line that leads on is one line more, and keeps within the limit of entries
-pub Counts-line : (most : ℕ) (s : Stage) (end : ℕ) (line : List ℕ) (t : Stage) → entries_in s ≤ max_entries → after_line most s end line ≡ Ok t → Counts s t
-Counts-line most Opening end line t few h = Counts-limit most Opening end line t few h
-Counts-line most (Within version r) end line t few h = Counts-limit most (Within version r) end line t few h
-Counts-line most (Ended version r) end line t few h = absurd (let no : Err kind.After ≡ Ok t = h in cc)
-
--- the header and the end line stand beside the entries
-pub lines_few : (s : Stage) → lines_in s ≤ entries_in s + 2
-lines_few Opening = omega arith
-lines_few (Within version r) = omega arith
-lines_few (Ended version r) = omega arith

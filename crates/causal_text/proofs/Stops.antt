@@ -1,8 +1,8 @@
 -- A part of a line that is read, or has the first fault.
 use Rattle.std.proofs.Common.{◌≡◌, ◌≢◌, ◌+◌, ◌<◌, ◌++◌, ◌∙◌, sym, subst, arith, ℕ, List, [], true, length, Option, Some, None, Ok, append-nil}
 use Rattle.std.specs.Prelude.{IfSome}
-use Rattle.causal_text.specs.declared.before.Before.{Before}
-use Rattle.causal_text.specs.declared.before.Rejected.{Rejected}
+use Rattle.causal_line.specs.declared.before.Before.{Before}
+use Rattle.causal_line.specs.declared.before.Rejected.{Rejected}
 use Rattle.causal_line.specs.declared.kind.TextKind.TheVariants.{NoMemory}
 use Rattle.causal_text.specs.declared.stream.State.TheVariants as state
 use Rattle.causal_text.specs.Before.{StandsBeforeWithin, IsKeptWithin, IsRejectionWithin}
@@ -12,7 +12,8 @@ use Rattle.causal_line.specs.Lines.{no_feed, IsComplete}
 use Rattle.causal_text.specs.Pieces.{Held, StandsFor}
 use Rattle.causal_text.specs.Spelling.{IsReadUpTo}
 use Rattle.causal_text.specs.Streams.{HasReadWithin}
-use Rattle.causal_text.specs.Inside.Kept.{IsKeptAt, IsKeptOfAll}
+use Rattle.causal_line.specs.Refusals.{IsKeptAt}
+use Rattle.causal_text.specs.Inside.Kept.{IsKeptOfAll}
 use Rattle.causal_text.specs.Inside.Unfinished.{HasRoom, IsFaultOfAll, IsPast, with_line, ending}
 use Rattle.causal_text.proofs.BeforeLemmas.{kept_of, kept_of_none}
 use Rattle.causal_text.proofs.Begun.{no_more_line, no_more_part}

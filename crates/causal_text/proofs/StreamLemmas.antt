@@ -11,7 +11,7 @@ use Rattle.causal_text.specs.declared.stream.State.TheVariants as state
 use Rattle.causal_text.specs.declared.stream.Progress.TheVariants as progress
 use Rattle.causal_text.specs.declared.stream.ReaderFault.{ReaderFault}
 use Rattle.causal_text.specs.declared.stream.ReaderFault.TheVariants as fault
-use Rattle.causal_text.specs.Stages.{text_within}
+use Rattle.causal_line.specs.Stages.{text_within}
 use Rattle.causal_text.specs.Spelling.{SpellsWithin, IsFirstFaultWithin, IsReadUpTo, IsReadAt}
 use Rattle.causal_text.specs.Pieces.{joined, Held, StandsFor}
 use Rattle.causal_text.specs.Inside.Unfinished.{HasRoom}

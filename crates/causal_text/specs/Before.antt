@@ -2,12 +2,12 @@
 use Rattle.std.specs.Prelude.{◌≡◌, ◌≢◌, ℕ, ◌+◌, List, ◌∷◌, ◌++◌, length, Ok, IfSome}
 use Rattle.causal_trace.specs.Limits.{default_entries}
 use Rattle.causal_trace.specs.Rows.{Recording}
-use Rattle.causal_text.specs.declared.before.Rejected.{Rejected}
+use Rattle.causal_line.specs.declared.before.Rejected.{Rejected}
 use Rattle.causal_text.specs.declared.kept.Unread.{Unread}
 use Rattle.causal_text.specs.declared.kept.Unread.TheVariants.{Source, Text}
 use Rattle.causal_line.specs.declared.kind.TextKind.TheVariants.{NoMemory}
 use Rattle.causal_line.specs.declared.shape.Shape.{Shape}
-use Rattle.causal_text.specs.declared.stage.Stage.TheVariants.{Within}
+use Rattle.causal_line.specs.declared.stage.Stage.TheVariants.{Within}
 use Rattle.causal_line.specs.declared.version.Version.{Version}
 use Rattle.causal_line.specs.Lines.{lines}
 use Rattle.causal_text.specs.Spelling.{LeadsTo, IsFirstFaultWithin, IsReadUpTo}

@@ -1,9 +1,9 @@
 -- What the complete lines of a text say so far.
 use Rattle.std.specs.Prelude.{◌≡◌, ◌≢◌, ℕ, List, ◌++◌, true}
 use Rattle.causal_trace.specs.Rows.{Recording}
-use Rattle.causal_text.specs.declared.before.Rejected.{Rejected}
+use Rattle.causal_line.specs.declared.before.Rejected.{Rejected}
 use Rattle.causal_line.specs.declared.kind.TextKind.TheVariants.{NoMemory}
-use Rattle.causal_text.specs.declared.stage.Stage.TheVariants.{Within}
+use Rattle.causal_line.specs.declared.stage.Stage.TheVariants.{Within}
 use Rattle.causal_line.specs.declared.version.Version.{Version}
 use Rattle.causal_text.specs.Before.{IsRejectionWithin}
 use Rattle.causal_line.specs.Lines.{no_feed}

@@ -1,5 +1,4 @@
 -- What models and private functions keep. No public clause cites these.
 pub mod Kept
 pub mod LineByLine
-pub mod Texts
 pub mod Unfinished

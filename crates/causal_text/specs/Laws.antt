@@ -3,8 +3,8 @@ use Rattle.std.specs.Prelude.{◌≡◌, ◌⊎◌, ◌≤◌, ◌++◌, ℕ, Li
 use Rattle.causal_trace.specs.declared.entry.Entry.{Entry}
 use Rattle.causal_trace.specs.Rows.{Recording, IsWellFormed, IsWithin}
 use Rattle.causal_text.specs.Begun.{BeginsWith}
-use Rattle.causal_text.specs.Canonical.{canonical}
-use Rattle.causal_text.specs.Stages.{text_within}
+use Rattle.causal_lines.specs.Canonical.{canonical}
+use Rattle.causal_line.specs.Stages.{text_within}
 use Rattle.causal_text.specs.Spelling.{SpellsWithin, IsFirstFaultWithin}
 use Rattle.causal_line.specs.declared.kind.TextFault.{TextFault}
 

@@ -1,12 +1,9 @@
 pub mod Inside
-pub mod Stages
 pub mod Place
 pub mod Spelling
 pub mod Laws
-pub mod Canonical
 pub mod Pieces
 pub mod Before
 pub mod Begun
 pub mod Streams
 pub mod Fed
-pub mod Written

@@ -1,7 +1,8 @@
 -- A text that comes in pieces.
 use Rattle.std.specs.Prelude.{◌≡◌, ℕ, List, [], ◌∷◌, ◌++◌, true}
 use Rattle.causal_line.specs.Lines.{no_feed, IsComplete}
-use Rattle.causal_text.specs.Place.{Place, IsPlaceAfter}
+use Rattle.causal_lines.specs.Places.{Place}
+use Rattle.causal_text.specs.Place.{IsPlaceAfter}
 
 -- each of these lines is complete
 abbrev pub AreComplete : List (List ℕ) → Type 0

@@ -1,26 +1,17 @@
 -- Which recording a text spells, and the first fault of a text that spells none. `most` is how many entries the recording may
 -- have; it determines how many determinants they may list in all and how many bytes the text may have.
-use Rattle.std.specs.Prelude.{◌≡◌, ℕ, ◌⊎◌, ◌+◌, ◌≤◌, sum_by, List, [], ◌∷◌, ◌++◌, length, map, Ok, Err}
+use Rattle.std.specs.Prelude.{◌≡◌, ℕ, ◌⊎◌, ◌+◌, ◌≤◌, sum_by, List, ◌∷◌, ◌++◌, length, map, Ok, Err}
 use Rattle.causal_trace.specs.Limits.{default_entries}
 use Rattle.causal_trace.specs.Rows.{Recording, IsWellFormed, IsWithin}
-use Rattle.causal_trace.specs.State.{entries_of}
 use Rattle.causal_line.specs.declared.kind.TextKind.TheVariants.{Cut}
 use Rattle.causal_line.specs.declared.kind.TextFault.{TextFault}
-use Rattle.causal_line.specs.declared.shape.Shape.{Shape}
-use Rattle.causal_line.specs.declared.shape.Shape.TheVariants as shape
-use Rattle.causal_text.specs.declared.stage.Stage.{Stage}
-use Rattle.causal_text.specs.declared.stage.Stage.TheVariants.{Opening, Within, Ended}
+use Rattle.causal_line.specs.declared.stage.Stage.{Stage}
+use Rattle.causal_line.specs.declared.stage.Stage.TheVariants.{Opening, Within, Ended}
 use Rattle.causal_line.specs.declared.version.Version.{Version}
 use Rattle.causal_line.specs.Lines.{lines}
-use Rattle.causal_text.specs.Stages.{text_within, after_line}
+use Rattle.causal_line.specs.Stages.{text_within, said, after_line}
 use Rattle.causal_line.specs.Values.{line_shape}
-use Rattle.causal_line.specs.Versions.{number_of, FitsVersion}
-
--- what the lines up to a stage say: the header, a line for each entry in order, and the end line
-abbrev pub said : Stage → List Shape
-said Opening = []
-said (Within version r) = shape.Header (number_of version) r.processes ∷ map shape.Entry (entries_of r)
-said (Ended version r) = shape.Header (number_of version) r.processes ∷ map shape.Entry (entries_of r) ++ shape.End (length r.past) ∷ []
+use Rattle.causal_line.specs.Versions.{FitsVersion}
 
 -- the lines say just this, the recording is one that may be, and neither it nor the text is too long
 pub record SpellsWithin (most : ℕ) (text : List ℕ) (r : Recording) : Type 0 where

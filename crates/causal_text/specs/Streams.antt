@@ -14,7 +14,7 @@ use Rattle.causal_text.specs.declared.stream.Progress.{Progress}
 use Rattle.causal_text.specs.declared.stream.Progress.TheVariants as progress
 use Rattle.causal_text.specs.Pieces.{StandsFor}
 use Rattle.causal_text.specs.Spelling.{SpellsWithin, IsFirstFaultWithin, IsFirstFault, IsReadUpTo, IsReadAt}
-use Rattle.causal_text.specs.Stages.{text_within}
+use Rattle.causal_line.specs.Stages.{text_within}
 
 -- what a contract sees of a reader of a trace: its source of bytes, and how far it is
 pub record ReaderState (R : Type 0) : Type 0 where

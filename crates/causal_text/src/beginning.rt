@@ -7,8 +7,8 @@ ghost use Rattle.causal_text.specs.Fed.{WasFed};
 ghost use Rattle.causal_line.specs.Lines.{IsComplete, no_feed};
 ghost use Rattle.causal_text.specs.Spelling.{SpellsWithin};
 
-use crate::before::Rejected;
 use crate::reader::PieceReader;
+use causal_line::before::Rejected;
 use causal_trace::limits::Limits;
 use causal_trace::trace::Trace;
 use std::alloc::Global;

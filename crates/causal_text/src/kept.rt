@@ -3,10 +3,10 @@ ghost use Rattle.std.specs.Prelude.{IfOk, IfErr, IfSome};
 ghost use Rattle.causal_text.specs.Spelling.{Spells, SpellsWithin};
 ghost use Rattle.causal_text.specs.Before.{TellsUnread, TellsUnreadWithin};
 
-use crate::before::Rejected;
 use crate::reader::PieceReader;
-use crate::stage::text_within;
 use crate::stream::{PIECE, State, advance};
+use causal_line::before::Rejected;
+use causal_line::stage::text_within;
 use causal_trace::limits::{DEFAULT_LIMITS, Limits};
 use causal_trace::trace::Trace;
 use std::alloc::Global;

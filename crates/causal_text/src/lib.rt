@@ -8,10 +8,10 @@
 //! its line, and [`read_within`] does so by limits that the caller sets, as [`FedReader::within`] does of pieces. A [`Beginning`] lends the trace so far. [`wrong_with`]
 //! tells then what is wrong with the line, and [`sentence`] says so. [`text_of`] and [`write_trace`] give the canonical text,
 //! [`write_whole`] writes any bytes. [`laws`] says that a text has one reading.
+//!
+//! What one line says and adds is that of `causal_line`, and line after line is taken by `causal_lines`. Their calls stand here too.
 #![tactic(auto)]
 
-/// The first fault of a text, and what stands before its line.
-pub mod before;
 /// The beginning of a text, at which one can look.
 pub mod beginning;
 /// A text that is handed over in pieces.
@@ -20,31 +20,20 @@ pub mod fed;
 pub mod kept;
 /// A text has one reading; the canonical text is read back.
 pub mod laws;
-/// Where a reading stands: the lines so far, and one more taken in.
-mod line_reader;
 /// A text, whole, to its trace or its first fault.
 pub mod reader;
-/// A trace of which clauses see the recording alone.
-mod recorded;
-/// What the lines so far have said, and what one more adds.
-mod stage;
 /// A text from a reader of bytes, in pieces, to its trace or its first fault.
 pub mod stream;
-/// The canonical text.
-pub mod writer;
-/// Bytes to a writer, call by call.
-pub mod written;
 
-pub use before::{Before, Rejected};
 pub use beginning::Beginning;
 pub use causal_line::{
-    Shape, TextFault, TextKind, Wrong, fault_line, fields, kind, line_value, lines, outline,
-    report, sentence, sentences, shape, wrong, wrong_with,
+    Before, Rejected, Shape, TextFault, TextKind, Wrong, before, fault_line, fields, kind,
+    line_value, lines, outline, report, sentence, sentences, shape, text_within, wrong, wrong_with,
+};
+pub use causal_lines::{
+    WriteCause, WriteFault, text_of, write_trace, write_whole, writer, written,
 };
 pub use fed::FedReader;
 pub use kept::{Unread, read_keeping, read_within};
 pub use reader::read_trace;
-pub use stage::text_within;
 pub use stream::{Progress, ReaderFault, TraceReader, read_from};
-pub use writer::{text_of, write_trace};
-pub use written::{WriteCause, WriteFault, write_whole};

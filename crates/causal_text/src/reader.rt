@@ -3,17 +3,18 @@ ghost use Rattle.std.specs.Prelude.{◌≡◌, ◌≢◌, ◌++◌, ◌+◌, ◌
 ghost use Rattle.causal_trace.specs.Limits.{default_entries};
 ghost use Rattle.causal_trace.specs.Rows.{Recording};
 ghost use Rattle.causal_text.specs.Before.{IsKeptWithin};
-ghost use Rattle.causal_text.specs.Inside.Kept.{GivesRejected, IsGoingOn, IsKeptAt, IsKeptOfAll};
+ghost use Rattle.causal_line.specs.Refusals.{GivesRejected, IsGoingOn, IsKeptAt};
+ghost use Rattle.causal_text.specs.Inside.Kept.{IsKeptOfAll};
 ghost use Rattle.causal_text.specs.Inside.LineByLine.{reading};
 ghost use Rattle.causal_text.specs.Pieces.{StandsFor};
 ghost use Rattle.causal_text.specs.Inside.Unfinished.{IsFaultOfAll, with_line, IsPast, ending, HasRoom};
 ghost use Rattle.causal_text.specs.Spelling.{Spells, SpellsWithin, IsFirstFault, IsFirstFaultWithin, IsReadUpTo, IsReadAt};
 
-use crate::before::Rejected;
-use crate::line_reader::LineReader;
-use crate::recorded::Recorded;
+use causal_line::before::Rejected;
 use causal_line::kind::{TextFault, TextKind};
 use causal_line::lines::split_complete;
+use causal_line::recorded::Recorded;
+use causal_lines::line_reader::LineReader;
 use causal_trace::limits::{DEFAULT_LIMITS, Limits};
 use causal_trace::trace::Trace;
 use std::alloc::Global;

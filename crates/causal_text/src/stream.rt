@@ -6,10 +6,10 @@ ghost use Rattle.causal_text.specs.Inside.Kept.{IsKeptAfter};
 ghost use Rattle.causal_text.specs.Spelling.{Spells, IsReadAt};
 ghost use Rattle.causal_text.specs.Streams.{HasRead, HasReadWithin, IsReading, HasPiece, Follows, Ends, IsFaultAfter, FailsBy, FailsAt, TellsOf, TellsLineOf, held_trace, IsHeldTrace};
 
-use crate::before::Rejected;
 use crate::reader::PieceReader;
-use crate::recorded::Recorded;
+use causal_line::before::Rejected;
 use causal_line::kind::{TextFault, TextKind};
+use causal_line::recorded::Recorded;
 use causal_trace::limits::{DEFAULT_LIMITS, Limits};
 use causal_trace::trace::Trace;
 use std::alloc::Global;

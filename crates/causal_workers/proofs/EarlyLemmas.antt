@@ -4,7 +4,7 @@ use Rattle.std.specs.Prelude.{IfSome}
 use Rattle.std.specs.Io.KnownBytes.{Consumes, IsAtEnd}
 use Rattle.causal_trace.specs.Judgement.{IsSafeTrace}
 use Rattle.causal_trace.specs.Rows.{Recording}
-use Rattle.causal_text.specs.declared.before.Rejected.{Rejected}
+use Rattle.causal_line.specs.declared.before.Rejected.{Rejected}
 use Rattle.causal_text.specs.declared.kept.Unread.TheVariants as unread
 use Rattle.causal_text.specs.Begun.{BeginsWith, SaysSoFar, StopsAt}
 use Rattle.causal_line.specs.Lines.{IsComplete}

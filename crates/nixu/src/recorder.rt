@@ -1,6 +1,6 @@
 //! A trace that a caller holds, and makes entry by entry: for a recorder in the same process.
 ghost use Rattle.std.specs.Prelude.{◌≡◌, ◌≢◌, ◌≤◌, ◌⊎◌, ◌↔◌, [], None, Some, IsSome};
-ghost use Rattle.causal_text.specs.Canonical.{canonical};
+ghost use Rattle.causal_lines.specs.Canonical.{canonical};
 ghost use Rattle.causal_trace.specs.Limits.{IsProcessCount, default_entries};
 ghost use Rattle.nixu.specs.Each.{TellsJudged};
 ghost use Rattle.nixu.specs.Entries.{entry_of, most_in, recording_in, OfTrace, Takes, TakesIn, TellsAgainst, TellsAgainstIn};

@@ -1,6 +1,6 @@
 -- What is told of a text that was refused, before it is put into numbers.
 use Rattle.std.specs.Prelude.{◌≢◌, ℕ, List, Option, IfSome}
-use Rattle.causal_text.specs.declared.before.Rejected.{Rejected}
+use Rattle.causal_line.specs.declared.before.Rejected.{Rejected}
 use Rattle.causal_line.specs.declared.kind.TextKind.TheVariants as kind
 use Rattle.causal_text.specs.Before.{IsKeptWithin}
 use Rattle.causal_text.specs.Spelling.{IsFirstFaultWithin}

@@ -3,13 +3,13 @@ use Rattle.std.proofs.Common.{◌≡◌, ℕ, ◌+◌, List, [], ◌∷◌, leng
 use Rattle.causal_trace.specs.Rows.{Recording}
 use Rattle.causal_line.specs.declared.kind.TextKind.TheVariants as kind
 use Rattle.causal_line.specs.declared.kind.TextFault.{TextFault}
-use Rattle.causal_text.specs.declared.stage.Stage.{Stage}
-use Rattle.causal_text.specs.declared.stage.Stage.TheVariants.{Opening, Within, Ended}
+use Rattle.causal_line.specs.declared.stage.Stage.{Stage}
+use Rattle.causal_line.specs.declared.stage.Stage.TheVariants.{Opening, Within, Ended}
 use Rattle.causal_line.specs.Lines.{lines}
-use Rattle.causal_text.specs.Place.{Place}
+use Rattle.causal_lines.specs.Places.{Place, start, next, ended}
 use Rattle.causal_line.specs.Reading.{◌>>=◌}
-use Rattle.causal_text.specs.Inside.LineByLine.{start, next, after_lines, ended, reading}
-use Rattle.causal_text.specs.Stages.{after_line}
+use Rattle.causal_text.specs.Inside.LineByLine.{after_lines, reading}
+use Rattle.causal_line.specs.Stages.{after_line}
 use Rattle.causal_text.specs.Spelling.{SpellsWithin, IsOpen, IsFaultOfLine, IsCut, IsFirstFaultWithin}
 use Rattle.causal_text.proofs.Spellings.{IsPlaceAfter-lines, IsPlaceAfter-start}
 use Rattle.causal_text.proofs.Complete.{after_lines-append, Leads-reached, reading-spelled}

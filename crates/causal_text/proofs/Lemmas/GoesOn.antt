@@ -5,11 +5,11 @@ use Rattle.causal_trace.specs.declared.entry.Entry.{Entry}
 use Rattle.causal_line.specs.declared.kind.TextKind.{TextKind}
 use Rattle.causal_line.specs.declared.shape.Shape.{Shape}
 use Rattle.causal_line.specs.declared.shape.Shape.TheVariants as shape
-use Rattle.causal_text.specs.declared.stage.Stage.TheVariants.{Within, Ended}
+use Rattle.causal_line.specs.declared.stage.Stage.TheVariants.{Within, Ended}
 use Rattle.causal_text.specs.Laws.{TextsGoOn}
 use Rattle.causal_line.specs.Lines.{lines}
 use Rattle.causal_text.specs.Pieces.{joined}
-use Rattle.causal_text.specs.Spelling.{said}
+use Rattle.causal_line.specs.Stages.{said}
 use Rattle.causal_line.specs.Values.{line_shape}
 use Rattle.causal_line.specs.Versions.{number_of}
 use Rattle.causal_text.proofs.Feeds.{lines_joined}

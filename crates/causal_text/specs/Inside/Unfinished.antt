@@ -2,10 +2,10 @@
 use Rattle.std.specs.Prelude.{◌≡◌, ℕ, List, [], ◌∷◌, ◌++◌, length, Result, Ok, Err}
 use Rattle.causal_trace.specs.Rows.{Recording}
 use Rattle.causal_line.specs.declared.kind.TextFault.{TextFault}
-use Rattle.causal_text.specs.Place.{Place}
+use Rattle.causal_lines.specs.Places.{Place, next, ended, HasRoomFor}
 use Rattle.causal_text.specs.Pieces.{Held}
 use Rattle.causal_line.specs.Reading.{◌>>=◌}
-use Rattle.causal_text.specs.Inside.LineByLine.{next, ended, reading, HasRoomFor}
+use Rattle.causal_text.specs.Inside.LineByLine.{reading}
 
 -- where the complete lines are within the limit of a text, so is all that is held
 abbrev pub HasRoom : ℕ → Held → Type 0

@@ -1,6 +1,6 @@
 use Rattle.std.proofs.Common.{◌≡◌, subst, sym, IfOk}
 use Rattle.std.proofs.lemmas.Result.{IfOk-weaker}
-use Rattle.causal_text.specs.Canonical.{canonical}
+use Rattle.causal_lines.specs.Canonical.{canonical}
 use Rattle.causal_commands.specs.Runs.{IsPrinted}
 use Rattle.causal_commands.proofs.script.answer_to.Goals as goal
 

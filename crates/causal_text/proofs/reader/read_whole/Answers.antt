@@ -1,10 +1,10 @@
 use Rattle.std.proofs.Common.{◌≡◌, ◌∙◌, sym, ap, ℕ, ◌+◌, List, [], Result, Ok, Err, IfErr, append-nil, subst}
 use Rattle.std.proofs.lemmas.Result.{err_from_is_err_and}
 use Rattle.causal_trace.specs.Rows.{Recording}
-use Rattle.causal_text.specs.declared.before.Rejected.{Rejected}
+use Rattle.causal_line.specs.declared.before.Rejected.{Rejected}
 use Rattle.causal_line.specs.declared.kind.TextKind.TheVariants as kind
 use Rattle.causal_line.specs.declared.kind.TextFault.{TextFault}
-use Rattle.causal_text.specs.Inside.Kept.{GivesRejected}
+use Rattle.causal_line.specs.Refusals.{GivesRejected}
 use Rattle.causal_text.specs.Inside.LineByLine.{reading}
 use Rattle.causal_text.specs.Spelling.{IsReadUpTo, IsReadAt}
 use Rattle.causal_text.specs.Pieces.{Held, StandsFor}

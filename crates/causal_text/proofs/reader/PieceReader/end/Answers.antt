@@ -1,14 +1,13 @@
 use Rattle.std.proofs.Common.{◌≡◌, ◌+◌, ◌<◌, ◌∙◌, ap, sym, subst, refl, List, [], ◌∷◌, ℕ, zero, suc, Bool, true, false, length, Option, Result, Err, arith}
 use Rattle.std.specs.Prelude.{◌==◌, IfSome}
 use Rattle.std.proofs.lemmas.Result.{err_from_is_err_and}
-use Rattle.causal_text.specs.declared.before.Before.{Before}
+use Rattle.causal_line.specs.declared.before.Before.{Before}
 use Rattle.causal_line.specs.declared.kind.TextFault.{TextFault}
 use Rattle.causal_text.specs.Before.{StandsBeforeWithin}
 use Rattle.causal_text.specs.Pieces.{Held, StandsFor}
-use Rattle.causal_text.specs.Place.{Place}
+use Rattle.causal_lines.specs.Places.{Place, next, ended}
 use Rattle.causal_line.specs.Reading.{◌>>=◌}
-use Rattle.causal_text.specs.Inside.Kept.{IsKeptAt}
-use Rattle.causal_text.specs.Inside.LineByLine.{next, ended}
+use Rattle.causal_line.specs.Refusals.{IsKeptAt}
 use Rattle.causal_text.specs.Inside.Unfinished.{last_place, ending}
 use Rattle.causal_text.proofs.BeforeLemmas.{kept_at_end}
 use Rattle.causal_line.proofs.Lemmas.Told.{told, fault_told}

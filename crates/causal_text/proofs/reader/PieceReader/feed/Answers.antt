@@ -1,5 +1,5 @@
 use Rattle.std.proofs.Common.{◌≡◌, ◌≢◌, ◌+◌, ◌<◌, ◌++◌, ◌∙◌, sym, ap, List, ℕ, true, length, Result, Ok, Err, IfOk, IfErr, append_assoc}
-use Rattle.causal_text.specs.declared.before.Rejected.{Rejected}
+use Rattle.causal_line.specs.declared.before.Rejected.{Rejected}
 use Rattle.causal_line.specs.declared.kind.TextKind.TheVariants as kind
 use Rattle.causal_text.specs.Spelling.{IsReadAt}
 use Rattle.causal_line.specs.Lines.{no_feed}

@@ -1,0 +1,3 @@
+-- What crates above may cite of this crate's proofs.
+pub mod CanonicalParts
+pub mod LineCounts

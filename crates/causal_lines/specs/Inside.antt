@@ -1,0 +1,2 @@
+-- What private functions keep. No public clause cites these.
+pub mod Texts

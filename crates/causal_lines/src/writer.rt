@@ -1,0 +1,187 @@
+//! The canonical text of a trace: its tokens with no byte between them, and a line feed after each line.
+ghost use Rattle.std.specs.Prelude.{◌≡◌, ◌++◌, OnOk, IfOk, IfErr, string_bytes};
+ghost use Rattle.std.specs.Io.KnownBytes.{Appends};
+ghost use Rattle.causal_lines.specs.Canonical.{det_text, more_dets_text, dets_text, entry_text, entries_text, canonical, canonical_version};
+ghost use Rattle.causal_lines.specs.Written.{StopsInTrace};
+ghost use Rattle.causal_lines.specs.Inside.Texts.{numbers_text, named_text, listed_text};
+
+use crate::written::{WriteCause, WriteFault, write_whole};
+use causal_line::version::Version;
+use causal_name::{Det, NoMemory, Pid};
+use causal_trace::entry::Entry;
+use causal_trace::trace::Trace;
+use std::alloc::{AllocError, Global};
+use std::io::Write;
+
+// the first version in which the trace can be written
+fn canonical_version(trace: &Trace) -> Version
+    ensures { result ≡ canonical_version trace.now.recording }
+{
+    let few = trace.processes() as u32 <= Version::One.most_processes();
+    if few && Version::One.has_lines(trace.entries()) {
+        Version::One
+    } else {
+        Version::Two
+    }
+}
+
+// numbers with a comma before each, and what ends them
+fn push_numbers(out: &mut String, numbers: &[u32], end: &str) -> Result<(), AllocError>
+    ensures { OnOk result
+        (string_bytes out.new ≡ string_bytes out.old ++ numbers_text numbers.now end.now) }
+{
+    for number in numbers {
+        write!(out, ",{number}")?;
+    }
+    out.push_str(end)
+}
+
+// an array that begins with a name
+fn push_named(out: &mut String, name: &str, numbers: &[u32], end: &str) -> Result<(), AllocError>
+    ensures { OnOk result
+        (string_bytes out.new ≡ string_bytes out.old ++ named_text name.now numbers.now end.now) }
+{
+    write!(out, "[\"{name}\"")?;
+    push_numbers(out, numbers, end)
+}
+
+fn push_det(out: &mut String, det: &Det) -> Result<(), AllocError>
+    ensures { OnOk result (string_bytes out.new ≡ string_bytes out.old ++ det_text det.now) }
+{
+    let Pid(source) = det.source;
+    write!(out, "[{source}")?;
+    push_numbers(out, &[det.ssn, u32::from(det.dest.0), det.rsn], "]")
+}
+
+fn push_more_dets(out: &mut String, dets: &[Det]) -> Result<(), AllocError>
+    ensures { OnOk result (string_bytes out.new ≡ string_bytes out.old ++ more_dets_text dets.now) }
+{
+    for det in dets {
+        out.push_str(",")?;
+        push_det(out, det)?;
+    }
+    Ok(())
+}
+
+fn push_dets(out: &mut String, dets: &[Det]) -> Result<(), AllocError>
+    ensures { OnOk result (string_bytes out.new ≡ string_bytes out.old ++ dets_text dets.now) }
+{
+    match dets.split_first() {
+        None => out.push_str("[]"),
+        Some((first, more)) => {
+            out.push_str("[")?;
+            push_det(out, first)?;
+            push_more_dets(out, more)?;
+            out.push_str("]")
+        }
+    }
+}
+
+// an entry whose last item is a list
+fn push_listed(
+    out: &mut String,
+    name: &str,
+    numbers: &[u32],
+    dets: &[Det],
+) -> Result<(), AllocError>
+    ensures { OnOk result
+        (string_bytes out.new ≡ string_bytes out.old ++ listed_text name.now numbers.now dets.now) }
+{
+    push_named(out, name, numbers, ",")?;
+    push_dets(out, dets)?;
+    out.push_str("]")
+}
+
+// an entry of one determinant
+fn push_stable(out: &mut String, det: &Det) -> Result<(), AllocError>
+    ensures { OnOk result
+        (string_bytes out.new ≡ string_bytes out.old ++ entry_text (Entry.Stable det.now)) }
+{
+    push_named(out, "stable", &[], ",")?;
+    push_det(out, det)?;
+    out.push_str("]")
+}
+
+fn push_entry(out: &mut String, entry: &Entry) -> Result<(), AllocError>
+    ensures { OnOk result (string_bytes out.new ≡ string_bytes out.old ++ entry_text entry.now) }
+{
+    match entry {
+        Entry::Send { from, to, ssn } => {
+            let numbers = [u32::from(from.0), u32::from(to.0), *ssn];
+            push_named(out, "send", &numbers, "]")
+        }
+        Entry::Deliver {
+            to,
+            send,
+            rsn,
+            listed,
+        } => {
+            let numbers = [u32::from(to.0), *send, *rsn];
+            push_listed(out, "deliver", &numbers, listed.as_slice())
+        }
+        Entry::Stable { det } => push_stable(out, det),
+        Entry::Crash { who } => push_named(out, "crash", &[u32::from(who.0)], "]"),
+        Entry::Restart { who, listed } => {
+            push_listed(out, "restart", &[u32::from(who.0)], listed.as_slice())
+        }
+        Entry::Forget { who, listed } => {
+            push_listed(out, "forget", &[u32::from(who.0)], listed.as_slice())
+        }
+    }
+}
+
+fn push_entries(out: &mut String, entries: &[Entry]) -> Result<(), AllocError>
+    ensures { OnOk result
+        (string_bytes out.new ≡ string_bytes out.old ++ entries_text entries.now) }
+{
+    for entry in entries {
+        push_entry(out, entry)?;
+        out.push_str("\n")?;
+    }
+    Ok(())
+}
+
+fn push_trace(out: &mut String, trace: &Trace) -> Result<(), AllocError>
+    ensures { OnOk result
+        (string_bytes out.new ≡ string_bytes out.old ++ canonical trace.now.recording) }
+{
+    let version = canonical_version(trace).number();
+    push_named(
+        out,
+        "trace",
+        &[version, u32::from(trace.processes())],
+        "]\n",
+    )?;
+    push_entries(out, trace.entries())?;
+    push_named(out, "end", &[trace.len()], "]\n")?;
+    Ok(())
+}
+
+/// The canonical text of a trace: in version 1 where the trace has at most 64 processes and no forget entry, else in
+/// version 2. `NoMemory` is answered only where a growth was refused.
+pub fn text_of(alloc: Global, trace: &Trace) -> Result<Vec<u8>, NoMemory>
+    ensures { IfOk result (λ text. text.items ≡ canonical trace.now.recording) }
+{
+    let mut out = String::new(alloc);
+    push_trace(&mut out, trace)?;
+    Ok(out.into_bytes())
+}
+
+/// Writes the canonical text of a trace. After a fault just the first `written` bytes of it went out. `Device` is
+/// answered only where a write answered an error, of any kind, or took no byte; `Memory` only where a growth was
+/// refused, before the first write.
+pub fn write_trace<W: Write>(alloc: Global, trace: &Trace, writer: &mut W) -> Result<(), WriteFault>
+    ensures ok { OnOk result
+        (Appends (W.contents writer.old) (W.contents writer.new) (canonical trace.now.recording)) }
+    ensures err { IfErr result
+        (StopsInTrace trace.now.recording (W.contents writer.old) (W.contents writer.new)) }
+    ensures cause { IfErr result (λ fault. fault.cause ≡ WriteCause.Memory → fault.written ≡ 0) }
+{
+    match text_of(alloc, trace) {
+        Ok(text) => write_whole(text.as_slice(), writer),
+        Err(_) => Err(WriteFault {
+            written: 0,
+            cause: WriteCause::Memory,
+        }),
+    }
+}
