@@ -10,7 +10,7 @@ use causal_trace::{Entry, Trace};
 use std::alloc::Global;
 
 /// What happens by an entry, as a picture tells it.
-#[derive(Clone, Copy, Debug)]
+#[derive(Clone, Copy)]
 pub enum Event {
     /// `from` sends its message number `ssn` to `to`.
     Send { from: Pid, to: Pid, ssn: u32 },
@@ -25,7 +25,7 @@ pub enum Event {
 }
 
 /// The event of the entry at a position.
-#[derive(Clone, Copy, Debug)]
+#[derive(Clone, Copy)]
 pub struct Mark {
     pub position: u32,
     pub event: Event,

@@ -13,6 +13,7 @@ use crate::layout::{Panel, early_panel, late_panel, y_of};
 use crate::marked::{push_marks, push_up, up_until};
 use crate::marks::{Mark, marks_of};
 use crate::stretch::{Grid, Stretch};
+use crate::words::push_words;
 use causal_holders::Holders;
 use causal_name::NoMemory;
 use causal_trace::Trace;
@@ -25,29 +26,10 @@ fn push_line(out: &mut String, process: u16, from: u64, to: u64, y: u32) -> Resu
 {
     push_process_title(out, process)?;
     push_up(out, from, to, y)?;
-    out.push_str("</g>\n")
+    push_words(out, "</g>\n")
 }
 
 /// The same, from the panel's left end to the process's crash or the right end, where the process is up as it begins.
-fn push_first_up(
-    out: &mut String,
-    grid: Grid,
-    panel: Panel,
-    marks: &[Mark],
-    process: u16,
-    is_up: bool,
-) -> Result<(), AllocError>
-    ensures { Appends result out.old out.new
-        (panels.first_up_text grid panel marks.now process is_up) }
-{
-    if is_up {
-        let to = up_until(grid, panel, marks, process, 0);
-        push_line(out, process, panel.left, to, y_of(grid, process))
-    } else {
-        Ok(())
-    }
-}
-
 fn push_unless_down(
     out: &mut String,
     grid: Grid,
@@ -60,8 +42,11 @@ fn push_unless_down(
     ensures { Appends result out.old out.new
         (panels.unless_down grid panel marks.now (contains down) process) }
 {
-    let is_up = !down.contains(process as u8);
-    push_first_up(out, grid, panel, marks, process, is_up)
+    if down.contains(process as u8) {
+        return Ok(());
+    }
+    let to = up_until(grid, panel, marks, process, 0);
+    push_line(out, process, panel.left, to, y_of(grid, process))
 }
 
 /// Who is down as the stretch begins.

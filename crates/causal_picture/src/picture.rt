@@ -13,6 +13,7 @@ use crate::legend::push_legend;
 use crate::overlay::{points_of, push_instant, push_shown_chain};
 use crate::panel::{push_early, push_late};
 use crate::stretch::{Grid, grid_around};
+use crate::words::push_words;
 use causal_holders::Holders;
 use causal_name::NoMemory;
 use causal_trace::Trace;
@@ -107,7 +108,7 @@ fn push_close(
     push_cuts(out, grid, entries)?;
     push_caption(out, faults, focus)?;
     push_legend(out, bottom + 38, bottom + 62)?;
-    out.push_str("</svg>\n")
+    push_words(out, "</svg>\n")
 }
 
 /// What is drawn of the run: its processes' rows, then its events over these.
