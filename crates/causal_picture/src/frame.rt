@@ -1,5 +1,6 @@
 //! What stands around the events: the head of the picture, the processes' rows, the marks where the run is cut.
-ghost use Rattle.std.specs.Prelude.{◌≤◌, ◌+◌};
+ghost use Rattle.std.specs.Prelude.{◌≤◌, ◌<◌, ◌+◌};
+ghost use Rattle.std.specs.FinSet.{contains};
 ghost use Rattle.causal_picture.specs.Appended.{Appends};
 ghost use Rattle.causal_picture.specs.Frames as frames;
 ghost use Rattle.causal_picture.specs.Stretches as stretches;
@@ -11,52 +12,26 @@ use crate::shapes::{Label, push_label, push_level, push_upright};
 use crate::stretch::Grid;
 use crate::titles::line_of;
 use crate::words::push_words;
+use causal_holders::Holders;
 use std::alloc::AllocError;
 
-/// The root's tag, and what the picture is, in words. Only numbers are put among the words of this file, so nothing needs
-/// escaping.
-#[tactic(auto, unfolding(crate::specs::Frames::root_text))]
-fn push_root(out: &mut String, width: u64, height: u32) -> Result<(), AllocError>
-    ensures { Appends result out.old out.new (frames.root_text width height) }
-{
-    write!(
-        out,
-        "<svg xmlns='http://www.w3.org/2000/svg' version='1.1' role='img' width='{width}' height='{height}' viewBox='0 0 {width} {height}' font-family='sans-serif' font-size='12'>\n\
-         <title>Space-time diagram of a recorded run</title>\n"
-    )
-}
-
-/// What the picture shows, in words.
-#[tactic(auto, unfolding(crate::specs::Frames::description_text))]
-fn push_description(
-    out: &mut String,
-    processes: u16,
-    count: u64,
-    entries: u32,
-    line: u64,
-) -> Result<(), AllocError>
-    ensures { Appends result out.old out.new
-        (frames.description_text processes count entries line) }
-{
-    write!(
-        out,
-        "<desc>All {processes} processes; {count} of {entries} entries, from line {line} of the trace's text on.</desc>\n"
-    )
-}
-
 /// What the picture begins with: what it is and shows, in words; a white ground; and the head of an arrow, whose tip stands
-/// before the end of the arrow's line, outside of the delivery's dot.
+/// before the end of the arrow's line, outside of the delivery's dot. Only numbers are put among the words of this file, so
+/// nothing needs escaping.
 #[tactic(auto, unfolding(crate::specs::Frames::head_text))]
 pub fn push_head(out: &mut String, grid: Grid, entries: u32) -> Result<(), AllocError>
     ensures { Appends result out.old out.new (frames.head_text grid entries) }
 {
-    push_root(out, width_of(grid), height_of(grid.processes))?;
-    push_description(
+    let (width, height) = (width_of(grid), height_of(grid.processes));
+    let (processes, count, line) = (grid.processes, columns_of(grid), line_of(grid.early.first));
+    write!(
         out,
-        grid.processes,
-        columns_of(grid),
-        entries,
-        line_of(grid.early.first),
+        "<svg xmlns='http://www.w3.org/2000/svg' version='1.1' role='img' width='{width}' height='{height}' viewBox='0 0 {width} {height}' font-family='sans-serif' font-size='12'>\n\
+         <title>Space-time diagram of a recorded run</title>\n"
+    )?;
+    write!(
+        out,
+        "<desc>All {processes} processes; {count} of {entries} entries, from line {line} of the trace's text on.</desc>\n"
     )?;
     push_words(
         out,
@@ -113,19 +88,21 @@ fn push_names(out: &mut String, grid: Grid, process: u16) -> Result<(), AllocErr
     push_name_again(out, grid, process, 1880)
 }
 
-/// The row of a process: its shade, its dotted line, and its names. Where the process is up, its line is drawn solid
+/// The row of a process: its shade, if it is in the crash set, its dotted line, and its names. Where the process is up, its line is drawn solid
 /// over this.
 #[tactic(auto, unfolding(crate::specs::Frames::row_text))]
 pub fn push_row(
     out: &mut String,
     grid: Grid,
+    crash: Holders,
     process: u16,
-    is_shaded: bool,
 ) -> Result<(), AllocError>
-    ensures { Appends result out.old out.new (frames.row_text grid process is_shaded) }
+    requires { process < 256 }
+    ensures { Appends result out.old out.new
+        (frames.row_text grid process (contains crash process)) }
 {
     push_process_title(out, process)?;
-    push_shade(out, grid, process, is_shaded)?;
+    push_shade(out, grid, process, crash.contains(process as u8))?;
     push_level(
         out,
         80,

@@ -99,13 +99,6 @@ fn push_chain(out: &mut String, points: &[Point]) -> Result<(), AllocError>
     push_words(out, "</g>\n")
 }
 
-#[tactic(auto, unfolding(crate::specs::Overlays::instant_title))]
-fn push_instant_title(out: &mut String, instant: u32) -> Result<(), AllocError>
-    ensures { Appends result out.old out.new (overlays.instant_title instant) }
-{
-    write!(out, "<g><title>instant {instant}</title>\n")
-}
-
 /// The instant: a vertical line between the entries before and after it, and beside it the processes.
 #[tactic(auto, unfolding(crate::specs::Overlays::instant_text))]
 pub fn push_instant(
@@ -119,7 +112,7 @@ pub fn push_instant(
 {
     let x = x_of_instant(grid, instant);
     let bottom = bottom_of(grid.processes);
-    push_instant_title(out, instant)?;
+    write!(out, "<g><title>instant {instant}</title>\n")?;
     push_upright(
         out,
         x,

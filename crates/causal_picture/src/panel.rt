@@ -9,7 +9,7 @@ ghost use Rattle.causal_picture.specs.Stretches as stretches;
 
 use crate::down::down_after;
 use crate::frame::push_process_title;
-use crate::layout::{Panel, early_panel, late_panel, y_of};
+use crate::layout::{Panel, late_panel, y_of};
 use crate::marked::{push_marks, push_up, up_until};
 use crate::marks::{Mark, marks_of};
 use crate::stretch::{Grid, Stretch};
@@ -79,7 +79,7 @@ fn push_ups(
 
 /// The lines of the processes that are up, and the events over these.
 #[tactic(auto, unfolding(crate::specs::Panels::panel_text))]
-fn push_panel(
+pub fn push_panel(
     alloc: Global,
     out: &mut String,
     trace: &Trace,
@@ -93,19 +93,6 @@ fn push_panel(
     push_ups(out, trace, grid, panel, &marks)?;
     push_marks(out, trace, grid, panel, &marks)?;
     Ok(())
-}
-
-/// The part up to the cut, or all where there is none.
-pub fn push_early(
-    alloc: Global,
-    out: &mut String,
-    trace: &Trace,
-    grid: Grid,
-) -> Result<(), NoMemory>
-    requires { stretches.IsWithin (length trace.now.recording.past) grid }
-    ensures { Appends result out.old out.new (panels.early_text trace.now.recording grid) }
-{
-    push_panel(alloc, out, trace, grid, early_panel(grid))
 }
 
 /// The part from the cut on, where the run is cut.

@@ -24,8 +24,29 @@ fn push_event(out: &mut String, event: Event) -> Result<(), AllocError>
             to: Pid(to),
             ssn,
         } => write!(out, "process {from} sends message {ssn} to process {to}"),
-        Event::Delivery { det, .. } => push_delivery(out, det),
-        Event::Stable { det } => push_stable(out, det),
+        Event::Delivery {
+            det: Det {
+                source: Pid(source),
+                ssn,
+                dest: Pid(dest),
+                ..
+            },
+            ..
+        } => write!(
+            out,
+            "process {dest} delivers message {ssn} of process {source}"
+        ),
+        Event::Stable {
+            det: Det {
+                source: Pid(source),
+                ssn,
+                dest: Pid(dest),
+                rsn,
+            },
+        } => write!(
+            out,
+            "delivery {rsn} of process {dest}, of message {ssn} of process {source}, is in stable storage"
+        ),
         Event::Crash { who: Pid(who) } => write!(out, "process {who} crashes"),
         Event::Restart { who: Pid(who) } => write!(out, "process {who} restarts"),
         Event::Forget {
@@ -33,33 +54,6 @@ fn push_event(out: &mut String, event: Event) -> Result<(), AllocError>
             count,
         } => write!(out, "process {who} forgets {count} determinants"),
     }
-}
-
-/// The second of these.
-fn push_delivery(out: &mut String, det: Det) -> Result<(), AllocError>
-    ensures { Appends result out.old out.new (titles.delivery_title det) }
-{
-    let Pid(dest) = det.dest;
-    let Pid(source) = det.source;
-    let ssn = det.ssn;
-    write!(
-        out,
-        "process {dest} delivers message {ssn} of process {source}"
-    )
-}
-
-/// The third of these.
-fn push_stable(out: &mut String, det: Det) -> Result<(), AllocError>
-    ensures { Appends result out.old out.new (titles.stable_title det) }
-{
-    let Pid(dest) = det.dest;
-    let Pid(source) = det.source;
-    let ssn = det.ssn;
-    let rsn = det.rsn;
-    write!(
-        out,
-        "delivery {rsn} of process {dest}, of message {ssn} of process {source}, is in stable storage"
-    )
 }
 
 /// ` [0,0,1,0]`: source, send number, receiver and place there, as the trace's text has a determinant.
