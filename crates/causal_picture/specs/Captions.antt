@@ -23,9 +23,7 @@ unfoldable pub verdict_text : ℕ → Option Focus → List ℕ
 verdict_text faults (Some f) = breach_text faults f
 verdict_text faults None = codes "accept f=" ++ (decimal faults ++ codes ": no delivery has an orphan")
 
-unfoldable pub opening_text : List ℕ
-opening_text = codes "<text x='10' y='20' font-size='14' font-weight='bold' fill='#222'>"
-
 -- the verdict, in the picture's upper left corner
 unfoldable pub caption_text : ℕ → Option Focus → List ℕ
-caption_text faults focus = opening_text ++ (verdict_text faults focus ++ codes "</text>\n")
+caption_text faults focus =
+    codes "<text x='10' y='20' font-size='14' font-weight='bold' fill='#222'>" ++ (verdict_text faults focus ++ codes "</text>\n")

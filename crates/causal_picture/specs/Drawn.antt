@@ -18,14 +18,13 @@ use Rattle.causal_picture.specs.Resent.{is_resent}
 use Rattle.causal_picture.specs.Shapes.{shape_of, shape_text, level_text, straight_text, bent_text}
 use Rattle.causal_picture.specs.Titles.{line_of, title_text}
 
--- whether an event is a crash of p
-abbrev pub is_crash_of : ℕ → Event → Bool
-is_crash_of p (Crash who) = who.0 == p
-is_crash_of p _ = false
+-- whether p's line, which is solid at a position, ends by what happens at this one: by p's crash
+abbrev pub ends_by : ℕ → ℕ → ℕ → Event → Bool
+ends_by p from position (Crash who) = nat_le from position && (who.0 == p)
+ends_by p from position _ = false
 
--- whether p's line, which is solid at a position, ends by this event
 abbrev pub ends_line : ℕ → ℕ → Mark → Bool
-ends_line p from m = nat_le from m.position && is_crash_of p m.event
+ends_line p from m = ends_by p from m.position m.event
 
 -- the x up to which p's line is solid that is so from a position on: that of its next crash, or the right end of the panel
 abbrev pub up_until : Grid → Panel → List Mark → ℕ → ℕ → ℕ

@@ -19,33 +19,23 @@ description_text processes count entries line =
     codes "<desc>All " ++ (decimal processes ++ (codes " processes; " ++ (decimal count ++ (codes " of " ++ (decimal entries ++ (codes " entries, from line "
     ++ (decimal line ++ codes " of the trace's text on.</desc>\n")))))))
 
--- a white ground, and the head of an arrow
-unfoldable pub ground_text : List ℕ
-ground_text =
-    codes "<defs><marker id='arrowhead' viewBox='0 0 10 10' refX='16' refY='5' markerWidth='8' markerHeight='8' markerUnits='userSpaceOnUse' orient='auto'><path d='M0 0L10 5L0 10z' fill='#555'/></marker></defs>\n<rect width='100%' height='100%' fill='white'/>\n"
-
--- what the picture begins with
+-- what the picture begins with: what it is, what it shows, a white ground, and the head of an arrow
 unfoldable pub head_text : Grid → ℕ → List ℕ
 head_text g entries =
     root_text (width_of g) (height_of g.processes)
-    ++ (description_text g.processes (columns_of g) entries (line_of g.early.first) ++ ground_text)
-
--- a shade that fills so much of a row
-unfoldable pub shade_line : ℕ → ℕ → ℕ → List ℕ
-shade_line width y height =
-    codes "<path d='M0 " ++ (decimal y ++ (codes "H" ++ (decimal width ++ (codes "' fill='none' stroke='#ffe3b3' stroke-width='" ++ (decimal height
-    ++ codes "'/>\n")))))
+    ++ (description_text g.processes (columns_of g) entries (line_of g.early.first)
+    ++ codes "<defs><marker id='arrowhead' viewBox='0 0 10 10' refX='16' refY='5' markerWidth='8' markerHeight='8' markerUnits='userSpaceOnUse' orient='auto'><path d='M0 0L10 5L0 10z' fill='#555'/></marker></defs>\n<rect width='100%' height='100%' fill='white'/>\n")
 
 -- the shade behind the line of a process of the crash set
 abbrev pub shade_text : Grid → ℕ → Bool → List ℕ
-shade_text g p is_shaded = if is_shaded then shade_line (width_of g) (y_of g p) (row_of g.processes - 6) else []
+shade_text g p is_shaded =
+    if is_shaded
+    then codes "<path d='M0 " ++ (decimal (y_of g p) ++ (codes "H" ++ (decimal (width_of g) ++ (codes "' fill='none' stroke='#ffe3b3' stroke-width='"
+    ++ (decimal (row_of g.processes - 6) ++ codes "'/>\n")))))
+    else []
 
 unfoldable pub process_title : ℕ → List ℕ
 process_title p = codes "<g><title>process " ++ (decimal p ++ codes "</title>\n")
-
--- the dotted line of a process, from end to end
-unfoldable pub dotted_text : ℕ → ℕ → List ℕ
-dotted_text right y = level_text 80 right y (codes "stroke='#999' stroke-dasharray='1 5'")
 
 -- the name of a process above its line, where the line reaches so far
 abbrev pub name_again : Grid → ℕ → ℕ → List ℕ
@@ -61,23 +51,18 @@ names_text g p = label_text 72 (y_of g p) Name p ++ (name_again g p 680 ++ (name
 -- the row of a process: its shade, its dotted line, and its names
 unfoldable pub row_text : Grid → ℕ → Bool → List ℕ
 row_text g p is_shaded =
-    process_title p ++ (shade_text g p is_shaded ++ (dotted_text (right_of g) (y_of g p) ++ (names_text g p ++ codes "</g>\n")))
+    process_title p ++ (shade_text g p is_shaded ++ (level_text 80 (right_of g) (y_of g p) (codes "stroke='#999' stroke-dasharray='1 5'")
+    ++ (names_text g p ++ codes "</g>\n")))
 
 unfoldable pub cut_title : ℕ → List ℕ → List ℕ
 cut_title hidden side = codes "<g><title>" ++ (decimal hidden ++ (codes " entries " ++ (side ++ codes " are not shown</title>\n")))
 
-unfoldable pub cut_line : ℕ → ℕ → List ℕ
-cut_line x bottom = upright_text x bottom (codes "stroke='#555' stroke-dasharray='2 4'")
-
-unfoldable pub cut_label : ℕ → List ℕ → ℕ → List ℕ → List ℕ
-cut_label hidden side x anchor =
-    codes "<text x='" ++ (decimal x ++ (codes "' y='38' text-anchor='" ++ (anchor ++ (codes "' fill='#555'>" ++ (decimal hidden ++ (codes " entries " ++ (side
-    ++ codes "</text>\n</g>\n")))))))
-
 -- a mark where so many entries are hidden: a dotted line and the words
 unfoldable pub cut_mark : ℕ → List ℕ → ℕ → List ℕ → ℕ → List ℕ
 cut_mark hidden side x anchor bottom =
-    cut_title hidden side ++ (cut_line x bottom ++ cut_label hidden side x anchor)
+    cut_title hidden side ++ (upright_text x bottom (codes "stroke='#555' stroke-dasharray='2 4'")
+    ++ (codes "<text x='" ++ (decimal x ++ (codes "' y='38' text-anchor='" ++ (anchor ++ (codes "' fill='#555'>" ++ (decimal hidden ++ (codes " entries "
+    ++ (side ++ codes "</text>\n</g>\n")))))))))
 
 -- the same, if there are any
 abbrev pub cut_text : ℕ → List ℕ → ℕ → List ℕ → ℕ → List ℕ

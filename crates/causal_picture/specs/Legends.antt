@@ -4,13 +4,11 @@ use Rattle.causal_picture.specs.declared.shapes.Shape.{Shape}
 use Rattle.causal_picture.specs.declared.shapes.Shape.TheVariants.{OpenDot, Dot, Square, Cross, Ring, Triangle, Halo, Shade, FaintDot, Diamond, OpenDiamond}
 use Rattle.causal_picture.specs.Shapes.{shape_text}
 
-unfoldable pub meaning_text : ℕ → ℕ → List ℕ → List ℕ
-meaning_text x y meaning =
-    codes "<text x='" ++ (decimal x ++ (codes "' y='" ++ (decimal y ++ (codes "' dx='16' dy='4' fill='#222'>" ++ (meaning ++ codes "</text>\n")))))
-
 -- a shape, and what it means
 unfoldable pub key_text : ℕ → ℕ → Shape → List ℕ → List ℕ
-key_text x y shape meaning = shape_text x y shape ++ meaning_text x y meaning
+key_text x y shape meaning =
+    shape_text x y shape ++ (codes "<text x='" ++ (decimal x ++ (codes "' y='" ++ (decimal y ++ (codes "' dx='16' dy='4' fill='#222'>"
+    ++ (meaning ++ codes "</text>\n"))))))
 
 unfoldable pub upper_text : ℕ → List ℕ
 upper_text y =

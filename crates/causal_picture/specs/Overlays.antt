@@ -35,10 +35,6 @@ corner_text p = decimal p.x ++ (codes "," ++ (decimal p.y ++ codes " "))
 abbrev pub corners_text : List Point → List ℕ
 corners_text points = flat_map corner_text points
 
--- a line from point to point
-unfoldable pub polyline_text : List Point → List ℕ → List ℕ
-polyline_text points stroke = codes "<polyline points='" ++ (corners_text points ++ (codes "' fill='none' " ++ (stroke ++ codes "/>\n")))
-
 -- a ring about a place
 abbrev pub ring_text : Point → List ℕ
 ring_text p = shape_text p.x p.y Halo
@@ -46,21 +42,14 @@ ring_text p = shape_text p.x p.y Halo
 abbrev pub rings_text : List Point → List ℕ
 rings_text points = flat_map ring_text points
 
-unfoldable pub chain_title : List ℕ
-chain_title = codes "<g pointer-events='none'><title>chain</title>\n"
-
-unfoldable pub chain_line : List Point → List ℕ
-chain_line points = polyline_text points (codes "stroke='#d55e00' stroke-width='4' stroke-opacity='0.75'")
-
 -- the chain: a thick line from entry to entry, and a ring about each
 unfoldable pub chain_text : List Point → List ℕ
-chain_text points = chain_title ++ (chain_line points ++ (rings_text points ++ codes "</g>\n"))
+chain_text points =
+    codes "<g pointer-events='none'><title>chain</title>\n<polyline points='" ++ (corners_text points
+    ++ (codes "' fill='none' stroke='#d55e00' stroke-width='4' stroke-opacity='0.75'/>\n" ++ (rings_text points ++ codes "</g>\n")))
 
 unfoldable pub instant_title : ℕ → List ℕ
 instant_title instant = codes "<g><title>instant " ++ (decimal instant ++ codes "</title>\n")
-
-unfoldable pub instant_line : ℕ → ℕ → List ℕ
-instant_line x bottom = upright_text x bottom (codes "stroke='#0072b2' stroke-width='2' stroke-dasharray='7 4'")
 
 -- the same, where some of it is shown
 abbrev pub shown_chain : List Point → List ℕ
@@ -71,5 +60,5 @@ shown_chain (p ∷ ps) = chain_text (p ∷ ps)
 unfoldable pub instant_text : Grid → ℕ → Option Orphan → List ℕ
 instant_text g t orphan =
     instant_title t
-    ++ (instant_line (x_of_instant g t) (bottom_of g.processes)
+    ++ (upright_text (x_of_instant g t) (bottom_of g.processes) (codes "stroke='#0072b2' stroke-width='2' stroke-dasharray='7 4'")
     ++ (label_text (x_of_instant g t) (bottom_of g.processes) Instant t ++ (processes_text g (x_of_instant g t) orphan ++ codes "</g>\n")))

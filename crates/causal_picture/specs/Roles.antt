@@ -31,15 +31,11 @@ sign_text x y role.Orphan = shape_text x y OpenDiamond
 sign_text x y role.Holder = shape_text x y Diamond
 sign_text x y role.Other = []
 
--- the name of a process beside a place on its line, with its role
-unfoldable pub name_text : ℕ → ℕ → ℕ → List ℕ → List ℕ
-name_text x y p words =
-    codes "<text x='" ++ (decimal x ++ (codes "' y='" ++ (decimal y ++ (codes "' dx='9' dy='-5' font-size='10' fill='#0072b2'>process " ++ (decimal p
-    ++ (words ++ codes "</text>\n"))))))
-
--- a process at the instant: its sign, and its name
+-- a process at the instant: its sign, and its name beside this, with its role
 unfoldable pub process_text : Grid → ℕ → Option Orphan → ℕ → List ℕ
-process_text g x o p = sign_text x (y_of g p) (role_of o p) ++ name_text x (y_of g p) p (words_of (role_of o p))
+process_text g x o p =
+    sign_text x (y_of g p) (role_of o p) ++ (codes "<text x='" ++ (decimal x ++ (codes "' y='" ++ (decimal (y_of g p)
+    ++ (codes "' dx='9' dy='-5' font-size='10' fill='#0072b2'>process " ++ (decimal p ++ (words_of (role_of o p) ++ codes "</text>\n")))))))
 
 -- all processes at the instant
 unfoldable pub processes_text : Grid → ℕ → Option Orphan → List ℕ

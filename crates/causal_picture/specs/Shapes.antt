@@ -28,14 +28,10 @@ shape_of (Crash who) = Cross
 shape_of (Restart who) = Ring
 shape_of (Forget who count) = Triangle
 
--- a path with these attributes, about a place
-unfoldable pub path_text : ℕ → ℕ → List ℕ → List ℕ
-path_text x y attributes =
-    codes "<path transform='translate(" ++ (decimal x ++ (codes "," ++ (decimal y ++ (codes ")' " ++ (attributes ++ codes "/>\n")))))
-
 -- a shape at a place
 unfoldable pub shape_text : ℕ → ℕ → Shape → List ℕ
-shape_text x y shape = path_text x y (attributes_of shape)
+shape_text x y shape =
+    codes "<path transform='translate(" ++ (decimal x ++ (codes "," ++ (decimal y ++ (codes ")' " ++ (attributes_of shape ++ codes "/>\n")))))
 
 -- a level line
 unfoldable pub level_text : ℕ → ℕ → ℕ → List ℕ → List ℕ

@@ -27,10 +27,6 @@ stable_title d =
     codes "delivery " ++ (decimal d.rsn ++ (codes " of process " ++ (decimal d.dest.0 ++ (codes ", of message " ++ (decimal d.ssn
     ++ (codes " of process " ++ (decimal d.source.0 ++ codes ", is in stable storage")))))))
 
--- `process 1 crashes`, or what else it does
-abbrev pub turn_title : Pid → List ℕ → List ℕ
-turn_title who does = codes "process " ++ (decimal who.0 ++ (codes " " ++ does))
-
 -- `process 1 forgets 3 determinants`
 abbrev pub forget_title : Pid → ℕ → List ℕ
 forget_title who count = codes "process " ++ (decimal who.0 ++ (codes " forgets " ++ (decimal count ++ codes " determinants")))
@@ -40,8 +36,8 @@ abbrev pub event_title : Event → List ℕ
 event_title (Send from to ssn) = send_title from to ssn
 event_title (Delivery det send) = delivery_title det
 event_title (Stable det) = stable_title det
-event_title (Crash who) = turn_title who (codes "crashes")
-event_title (Restart who) = turn_title who (codes "restarts")
+event_title (Crash who) = codes "process " ++ (decimal who.0 ++ codes " crashes")
+event_title (Restart who) = codes "process " ++ (decimal who.0 ++ codes " restarts")
 event_title (Forget who count) = forget_title who count
 
 -- the line of the trace's text on which the entry at a position stands: line 1 is the header, and lines count from 1

@@ -1,6 +1,5 @@
 //! Who is down as a stretch begins.
-ghost use Rattle.std.specs.Prelude.{◌≡◌, ◌∷◌, length, List};
-ghost use Rattle.std.specs.FinSet as set;
+ghost use Rattle.std.specs.Prelude.{◌∷◌, length, List};
 ghost use Rattle.causal_trace.specs.declared.entry.Entry.{Entry};
 ghost use Rattle.causal_trace.specs.State.{past_at};
 ghost use Rattle.causal_picture.specs.Inside.Downs.{ShowsDown};
@@ -8,27 +7,19 @@ ghost use Rattle.causal_picture.specs.Inside.Downs.{ShowsDown};
 use causal_holders::Holders;
 use causal_trace::Entry;
 
-fn with(mut members: Holders, process: u8) -> Holders
-    ensures { result ≡ set.insert members process }
-{
-    members.insert(process);
-    members
-}
-
-fn without(mut members: Holders, process: u8) -> Holders
-    ensures { result ≡ set.remove members process }
-{
-    members.remove(process);
-    members
-}
-
 /// Who is down after one more entry.
-fn noted(down: Holders, entry: &Entry) -> Holders
+fn noted(mut down: Holders, entry: &Entry) -> Holders
     ensures { (past : List Entry) → ShowsDown past down → ShowsDown (entry.now ∷ past) result }
 {
     match entry {
-        Entry::Crash { who } => with(down, who.0),
-        Entry::Restart { who, .. } => without(down, who.0),
+        Entry::Crash { who } => {
+            down.insert(who.0);
+            down
+        }
+        Entry::Restart { who, .. } => {
+            down.remove(who.0);
+            down
+        }
         Entry::Send { .. } => down,
         Entry::Deliver { .. } => down,
         Entry::Stable { .. } => down,

@@ -1,5 +1,6 @@
 //! What stands around the events: the head of the picture, the processes' rows, the marks where the run is cut.
-ghost use Rattle.std.specs.Prelude.{◌≤◌, ◌+◌};
+ghost use Rattle.std.specs.Prelude.{◌≤◌, ◌<◌, ◌+◌};
+ghost use Rattle.std.specs.FinSet.{contains};
 ghost use Rattle.causal_picture.specs.Appended.{Appends};
 ghost use Rattle.causal_picture.specs.Frames as frames;
 ghost use Rattle.causal_picture.specs.Stretches as stretches;
@@ -10,74 +11,31 @@ use crate::layout::{
 use crate::shapes::{Label, push_label, push_level, push_upright};
 use crate::stretch::Grid;
 use crate::titles::line_of;
+use crate::words::push_words;
+use causal_holders::Holders;
 use std::alloc::AllocError;
 
-/// The root's tag, and what the picture is, in words. Only numbers are put among the words of this file, so nothing needs
-/// escaping.
-#[tactic(auto, unfolding(crate::specs::Frames::root_text))]
-fn push_root(out: &mut String, width: u64, height: u32) -> Result<(), AllocError>
-    ensures { Appends result out.old out.new (frames.root_text width height) }
-{
-    write!(
-        out,
-        "<svg xmlns='http://www.w3.org/2000/svg' version='1.1' role='img' width='{width}' height='{height}' viewBox='0 0 {width} {height}' font-family='sans-serif' font-size='12'>\n\
-         <title>Space-time diagram of a recorded run</title>\n"
-    )
-}
-
-/// What the picture shows, in words.
-#[tactic(auto, unfolding(crate::specs::Frames::description_text))]
-fn push_description(
-    out: &mut String,
-    processes: u16,
-    count: u64,
-    entries: u32,
-    line: u64,
-) -> Result<(), AllocError>
-    ensures { Appends result out.old out.new
-        (frames.description_text processes count entries line) }
-{
-    write!(
-        out,
-        "<desc>All {processes} processes; {count} of {entries} entries, from line {line} of the trace's text on.</desc>\n"
-    )
-}
-
-/// A white ground, and the head of an arrow: its tip stands before the end of the arrow's line, outside of the
-/// delivery's dot.
-#[tactic(auto, unfolding(crate::specs::Frames::ground_text))]
-fn push_ground(out: &mut String) -> Result<(), AllocError>
-    ensures { Appends result out.old out.new frames.ground_text }
-{
-    out.push_str(
-        "<defs><marker id='arrowhead' viewBox='0 0 10 10' refX='16' refY='5' markerWidth='8' markerHeight='8' markerUnits='userSpaceOnUse' orient='auto'><path d='M0 0L10 5L0 10z' fill='#555'/></marker></defs>\n<rect width='100%' height='100%' fill='white'/>\n",
-    )
-}
-
-/// What the picture begins with.
+/// What the picture begins with: what it is and shows, in words; a white ground; and the head of an arrow, whose tip stands
+/// before the end of the arrow's line, outside of the delivery's dot. Only numbers are put among the words of this file, so
+/// nothing needs escaping.
 #[tactic(auto, unfolding(crate::specs::Frames::head_text))]
 pub fn push_head(out: &mut String, grid: Grid, entries: u32) -> Result<(), AllocError>
     ensures { Appends result out.old out.new (frames.head_text grid entries) }
 {
-    push_root(out, width_of(grid), height_of(grid.processes))?;
-    push_description(
-        out,
-        grid.processes,
-        columns_of(grid),
-        entries,
-        line_of(grid.early.first),
-    )?;
-    push_ground(out)
-}
-
-/// How a shade is drawn that fills so much of a row.
-#[tactic(auto, unfolding(crate::specs::Frames::shade_line))]
-fn push_shade_line(out: &mut String, width: u64, y: u32, height: u32) -> Result<(), AllocError>
-    ensures { Appends result out.old out.new (frames.shade_line width y height) }
-{
+    let (width, height) = (width_of(grid), height_of(grid.processes));
+    let (processes, count, line) = (grid.processes, columns_of(grid), line_of(grid.early.first));
     write!(
         out,
-        "<path d='M0 {y}H{width}' fill='none' stroke='#ffe3b3' stroke-width='{height}'/>\n"
+        "<svg xmlns='http://www.w3.org/2000/svg' version='1.1' role='img' width='{width}' height='{height}' viewBox='0 0 {width} {height}' font-family='sans-serif' font-size='12'>\n\
+         <title>Space-time diagram of a recorded run</title>\n"
+    )?;
+    write!(
+        out,
+        "<desc>All {processes} processes; {count} of {entries} entries, from line {line} of the trace's text on.</desc>\n"
+    )?;
+    push_words(
+        out,
+        "<defs><marker id='arrowhead' viewBox='0 0 10 10' refX='16' refY='5' markerWidth='8' markerHeight='8' markerUnits='userSpaceOnUse' orient='auto'><path d='M0 0L10 5L0 10z' fill='#555'/></marker></defs>\n<rect width='100%' height='100%' fill='white'/>\n",
     )
 }
 
@@ -85,12 +43,18 @@ fn push_shade_line(out: &mut String, width: u64, y: u32, height: u32) -> Result<
 fn push_shade(out: &mut String, grid: Grid, process: u16, is_shaded: bool) -> Result<(), AllocError>
     ensures { Appends result out.old out.new (frames.shade_text grid process is_shaded) }
 {
-    if is_shaded {
-        let height = row_of(grid.processes) - 6;
-        push_shade_line(out, width_of(grid), y_of(grid, process), height)
-    } else {
-        Ok(())
+    if !is_shaded {
+        return Ok(());
     }
+    let (width, y, height) = (
+        width_of(grid),
+        y_of(grid, process),
+        row_of(grid.processes) - 6,
+    );
+    write!(
+        out,
+        "<path d='M0 {y}H{width}' fill='none' stroke='#ffe3b3' stroke-width='{height}'/>\n"
+    )
 }
 
 /// The beginning of what is drawn of a process.
@@ -124,30 +88,30 @@ fn push_names(out: &mut String, grid: Grid, process: u16) -> Result<(), AllocErr
     push_name_again(out, grid, process, 1880)
 }
 
-/// The dotted line of a process, from end to end.
-#[tactic(auto, unfolding(crate::specs::Frames::dotted_text))]
-fn push_dotted(out: &mut String, right: u64, y: u32) -> Result<(), AllocError>
-    ensures { Appends result out.old out.new (frames.dotted_text right y) }
-{
-    push_level(out, 80, right, y, "stroke='#999' stroke-dasharray='1 5'")
-}
-
-/// The row of a process: its shade, its dotted line, and its names. Where the process is up, its line is drawn solid
+/// The row of a process: its shade, if it is in the crash set, its dotted line, and its names. Where the process is up, its line is drawn solid
 /// over this.
 #[tactic(auto, unfolding(crate::specs::Frames::row_text))]
 pub fn push_row(
     out: &mut String,
     grid: Grid,
+    crash: Holders,
     process: u16,
-    is_shaded: bool,
 ) -> Result<(), AllocError>
-    ensures { Appends result out.old out.new (frames.row_text grid process is_shaded) }
+    requires { process < 256 }
+    ensures { Appends result out.old out.new
+        (frames.row_text grid process (contains crash process)) }
 {
     push_process_title(out, process)?;
-    push_shade(out, grid, process, is_shaded)?;
-    push_dotted(out, right_of(grid), y_of(grid, process))?;
+    push_shade(out, grid, process, crash.contains(process as u8))?;
+    push_level(
+        out,
+        80,
+        right_of(grid),
+        y_of(grid, process),
+        "stroke='#999' stroke-dasharray='1 5'",
+    )?;
     push_names(out, grid, process)?;
-    out.push_str("</g>\n")
+    push_words(out, "</g>\n")
 }
 
 #[tactic(auto, unfolding(crate::specs::Frames::cut_title))]
@@ -157,29 +121,6 @@ fn push_cut_title(out: &mut String, hidden: u32, side: &str) -> Result<(), Alloc
     write!(
         out,
         "<g><title>{hidden} entries {side} are not shown</title>\n"
-    )
-}
-
-#[tactic(auto, unfolding(crate::specs::Frames::cut_line))]
-fn push_cut_line(out: &mut String, x: u64, bottom: u32) -> Result<(), AllocError>
-    ensures { Appends result out.old out.new (frames.cut_line x bottom) }
-{
-    push_upright(out, x, bottom, "stroke='#555' stroke-dasharray='2 4'")
-}
-
-#[tactic(auto, unfolding(crate::specs::Frames::cut_label))]
-fn push_cut_label(
-    out: &mut String,
-    hidden: u32,
-    side: &str,
-    x: u64,
-    anchor: &str,
-) -> Result<(), AllocError>
-    ensures { Appends result out.old out.new (frames.cut_label hidden side.now x anchor.now) }
-{
-    write!(
-        out,
-        "<text x='{x}' y='38' text-anchor='{anchor}' fill='#555'>{hidden} entries {side}</text>\n</g>\n"
     )
 }
 
@@ -199,8 +140,11 @@ fn push_cut(
         return Ok(());
     }
     push_cut_title(out, hidden, side)?;
-    push_cut_line(out, x, bottom)?;
-    push_cut_label(out, hidden, side, x, anchor)
+    push_upright(out, x, bottom, "stroke='#555' stroke-dasharray='2 4'")?;
+    write!(
+        out,
+        "<text x='{x}' y='38' text-anchor='{anchor}' fill='#555'>{hidden} entries {side}</text>\n</g>\n"
+    )
 }
 
 /// The marks where the run is cut: before the entries that are shown, between them and after them.

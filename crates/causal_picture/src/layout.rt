@@ -26,7 +26,7 @@ const LOWEST_ROW: u32 = 16;
 const ALL_ROWS: u32 = 560;
 
 /// A part of the picture whose entries follow one another: these entries, and where its lines begin and end.
-#[derive(Clone, Copy, Debug)]
+#[derive(Clone, Copy)]
 pub struct Panel {
     pub stretch: Stretch,
     pub left: u64,

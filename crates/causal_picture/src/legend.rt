@@ -5,23 +5,16 @@ ghost use Rattle.causal_picture.specs.Legends as legends;
 use crate::shapes::{Shape, push_shape};
 use std::alloc::AllocError;
 
-#[tactic(auto, unfolding(crate::specs::Legends::meaning_text))]
-fn push_meaning(out: &mut String, x: u64, y: u32, meaning: &str) -> Result<(), AllocError>
-    ensures { Appends result out.old out.new (legends.meaning_text x y meaning.now) }
-{
-    write!(
-        out,
-        "<text x='{x}' y='{y}' dx='16' dy='4' fill='#222'>{meaning}</text>\n"
-    )
-}
-
 /// A shape, and what it means.
 #[tactic(auto, unfolding(crate::specs::Legends::key_text))]
 fn push_key(out: &mut String, x: u64, y: u32, shape: Shape, meaning: &str) -> Result<(), AllocError>
     ensures { Appends result out.old out.new (legends.key_text x y shape meaning.now) }
 {
     push_shape(out, x, y, shape)?;
-    push_meaning(out, x, y, meaning)
+    write!(
+        out,
+        "<text x='{x}' y='{y}' dx='16' dy='4' fill='#222'>{meaning}</text>\n"
+    )
 }
 
 #[tactic(auto, unfolding(crate::specs::Legends::upper_text))]

@@ -36,6 +36,8 @@ mod shapes;
 pub mod stretch;
 /// The title of each mark.
 mod titles;
+/// Words that stand in the picture as they are.
+mod words;
 
 pub use focus::{Focus, Orphan};
 pub use picture::picture_of;

@@ -13,25 +13,19 @@ use crate::shapes::{
 };
 use crate::stretch::Grid;
 use crate::titles::{line_of, push_title};
+use crate::words::push_words;
 use causal_name::{Det, Pid};
 use causal_trace::Trace;
 use std::alloc::AllocError;
 
-/// Whether an event is a crash of the process.
-fn is_crash_of(process: u16, event: &Event) -> bool
-    ensures { result ≡ drawn.is_crash_of process event.now }
-{
-    match event {
-        Event::Crash { who } => u16::from(who.0) == process,
-        _ => false,
-    }
-}
-
-/// Whether the line of a process that is up at a position ends by this event.
+/// Whether the line of a process that is up at a position ends by this event: its crash.
 fn ends_line(process: u16, from: u32, mark: &Mark) -> bool
     ensures { result ≡ drawn.ends_line process from mark.now }
 {
-    from <= mark.position && is_crash_of(process, &mark.event)
+    match mark.event {
+        Event::Crash { who } => from <= mark.position && u16::from(who.0) == process,
+        _ => false,
+    }
 }
 
 /// The event by which the line of a process ends that is up at a position.
@@ -140,9 +134,9 @@ fn push_group(out: &mut String, is_faint: bool) -> Result<(), AllocError>
     ensures { Appends result out.old out.new (drawn.group_text is_faint) }
 {
     if is_faint {
-        out.push_str("<g opacity='0.4'>")
+        push_words(out, "<g opacity='0.4'>")
     } else {
-        out.push_str("<g>")
+        push_words(out, "<g>")
     }
 }
 
@@ -175,7 +169,7 @@ fn push_mark(
     push_number(out, grid, mark.position)?;
     push_link(out, grid, panel, marks, mark)?;
     push_sign(out, grid, mark)?;
-    out.push_str("</g>\n")
+    push_words(out, "</g>\n")
 }
 
 /// The events of a panel, in their order.

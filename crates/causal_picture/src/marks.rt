@@ -1,16 +1,15 @@
 //! What a picture shows of each entry.
 ghost use Rattle.std.specs.Prelude.{◌≡◌, ◌≤◌, ◌+◌, IfOk, length};
-ghost use Rattle.causal_trace.specs.Past.{message_at};
 ghost use Rattle.causal_trace.specs.Rows.{IsWellFormed};
 ghost use Rattle.causal_picture.specs.Marks as marks;
 
 use crate::stretch::Stretch;
-use causal_name::{Det, MsgName, NoMemory, Pid};
+use causal_name::{Det, NoMemory, Pid};
 use causal_trace::{Entry, Trace};
 use std::alloc::Global;
 
 /// What happens by an entry, as a picture tells it.
-#[derive(Clone, Copy, Debug)]
+#[derive(Clone, Copy)]
 pub enum Event {
     /// `from` sends its message number `ssn` to `to`.
     Send { from: Pid, to: Pid, ssn: u32 },
@@ -25,7 +24,7 @@ pub enum Event {
 }
 
 /// The event of the entry at a position.
-#[derive(Clone, Copy, Debug)]
+#[derive(Clone, Copy)]
 pub struct Mark {
     pub position: u32,
     pub event: Event,
@@ -107,25 +106,16 @@ fn event_of(trace: &Trace, entry: &Entry) -> Option<Event>
 fn delivery_of(trace: &Trace, to: Pid, send: u32, rsn: u32) -> Option<Event>
     ensures { result ≡ marks.delivery_of trace.now.recording.past to send rsn }
 {
-    let message = message_at(trace, send)?;
-    let det = Det {
-        source: message.source,
-        ssn: message.ssn,
-        dest: to,
-        rsn,
-    };
-    Some(Event::Delivery { det, send })
-}
-
-/// The message that the entry at a position sends.
-fn message_at(trace: &Trace, send: u32) -> Option<MsgName>
-    ensures { result ≡ message_at trace.now.recording.past send }
-{
     match trace.entry(send)? {
-        Entry::Send { from, ssn, .. } => Some(MsgName {
-            source: *from,
-            ssn: *ssn,
-        }),
+        Entry::Send { from, ssn, .. } => {
+            let det = Det {
+                source: *from,
+                ssn: *ssn,
+                dest: to,
+                rsn,
+            };
+            Some(Event::Delivery { det, send })
+        }
         _ => None,
     }
 }

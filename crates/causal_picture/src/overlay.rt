@@ -9,12 +9,13 @@ use crate::marks::mark_at;
 use crate::roles::push_processes;
 use crate::shapes::{Label, Shape, push_label, push_shape, push_upright};
 use crate::stretch::Grid;
+use crate::words::push_words;
 use causal_name::NoMemory;
 use causal_trace::Trace;
 use std::alloc::{AllocError, Global};
 
 /// A place in the picture.
-#[derive(Clone, Copy, Debug)]
+#[derive(Clone, Copy)]
 pub struct Point {
     pub x: u64,
     pub y: u32,
@@ -79,63 +80,23 @@ fn push_rings(out: &mut String, points: &[Point]) -> Result<(), AllocError>
     Ok(())
 }
 
-/// A line from point to point.
-#[tactic(auto, unfolding(crate::specs::Overlays::polyline_text))]
-fn push_polyline(out: &mut String, points: &[Point], stroke: &str) -> Result<(), AllocError>
-    ensures { Appends result out.old out.new (overlays.polyline_text points.now stroke.now) }
-{
-    out.push_str("<polyline points='")?;
-    push_corners(out, points)?;
-    write!(out, "' fill='none' {stroke}/>\n")
-}
-
-#[tactic(auto, unfolding(crate::specs::Overlays::chain_title))]
-fn push_chain_title(out: &mut String) -> Result<(), AllocError>
-    ensures { Appends result out.old out.new overlays.chain_title }
-{
-    out.push_str("<g pointer-events='none'><title>chain</title>\n")
-}
-
-#[tactic(auto, unfolding(crate::specs::Overlays::chain_line))]
-fn push_chain_line(out: &mut String, points: &[Point]) -> Result<(), AllocError>
-    ensures { Appends result out.old out.new (overlays.chain_line points.now) }
-{
-    push_polyline(
-        out,
-        points,
-        "stroke='#d55e00' stroke-width='4' stroke-opacity='0.75'",
-    )
-}
-
 /// The chain: a thick line from entry to entry, and a ring about each. It takes no pointer, so that the titles of the
 /// events below can still be read.
 #[tactic(auto, unfolding(crate::specs::Overlays::chain_text))]
 fn push_chain(out: &mut String, points: &[Point]) -> Result<(), AllocError>
     ensures { Appends result out.old out.new (overlays.chain_text points.now) }
 {
-    push_chain_title(out)?;
-    push_chain_line(out, points)?;
-    push_rings(out, points)?;
-    out.push_str("</g>\n")
-}
-
-#[tactic(auto, unfolding(crate::specs::Overlays::instant_title))]
-fn push_instant_title(out: &mut String, instant: u32) -> Result<(), AllocError>
-    ensures { Appends result out.old out.new (overlays.instant_title instant) }
-{
-    write!(out, "<g><title>instant {instant}</title>\n")
-}
-
-#[tactic(auto, unfolding(crate::specs::Overlays::instant_line))]
-fn push_instant_line(out: &mut String, x: u64, bottom: u32) -> Result<(), AllocError>
-    ensures { Appends result out.old out.new (overlays.instant_line x bottom) }
-{
-    push_upright(
+    push_words(
         out,
-        x,
-        bottom,
-        "stroke='#0072b2' stroke-width='2' stroke-dasharray='7 4'",
-    )
+        "<g pointer-events='none'><title>chain</title>\n<polyline points='",
+    )?;
+    push_corners(out, points)?;
+    push_words(
+        out,
+        "' fill='none' stroke='#d55e00' stroke-width='4' stroke-opacity='0.75'/>\n",
+    )?;
+    push_rings(out, points)?;
+    push_words(out, "</g>\n")
 }
 
 /// The instant: a vertical line between the entries before and after it, and beside it the processes.
@@ -151,11 +112,16 @@ pub fn push_instant(
 {
     let x = x_of_instant(grid, instant);
     let bottom = bottom_of(grid.processes);
-    push_instant_title(out, instant)?;
-    push_instant_line(out, x, bottom)?;
+    write!(out, "<g><title>instant {instant}</title>\n")?;
+    push_upright(
+        out,
+        x,
+        bottom,
+        "stroke='#0072b2' stroke-width='2' stroke-dasharray='7 4'",
+    )?;
     push_label(out, x, bottom, Label::Instant, u64::from(instant))?;
     push_processes(out, grid, x, focus)?;
-    out.push_str("</g>\n")
+    push_words(out, "</g>\n")
 }
 
 /// The chain, where some of it is shown.

@@ -9,10 +9,11 @@ ghost use Rattle.causal_picture.specs.Stretches as stretches;
 
 use crate::down::down_after;
 use crate::frame::push_process_title;
-use crate::layout::{Panel, early_panel, late_panel, y_of};
+use crate::layout::{Panel, late_panel, y_of};
 use crate::marked::{push_marks, push_up, up_until};
 use crate::marks::{Mark, marks_of};
 use crate::stretch::{Grid, Stretch};
+use crate::words::push_words;
 use causal_holders::Holders;
 use causal_name::NoMemory;
 use causal_trace::Trace;
@@ -25,29 +26,10 @@ fn push_line(out: &mut String, process: u16, from: u64, to: u64, y: u32) -> Resu
 {
     push_process_title(out, process)?;
     push_up(out, from, to, y)?;
-    out.push_str("</g>\n")
+    push_words(out, "</g>\n")
 }
 
 /// The same, from the panel's left end to the process's crash or the right end, where the process is up as it begins.
-fn push_first_up(
-    out: &mut String,
-    grid: Grid,
-    panel: Panel,
-    marks: &[Mark],
-    process: u16,
-    is_up: bool,
-) -> Result<(), AllocError>
-    ensures { Appends result out.old out.new
-        (panels.first_up_text grid panel marks.now process is_up) }
-{
-    if is_up {
-        let to = up_until(grid, panel, marks, process, 0);
-        push_line(out, process, panel.left, to, y_of(grid, process))
-    } else {
-        Ok(())
-    }
-}
-
 fn push_unless_down(
     out: &mut String,
     grid: Grid,
@@ -60,8 +42,11 @@ fn push_unless_down(
     ensures { Appends result out.old out.new
         (panels.unless_down grid panel marks.now (contains down) process) }
 {
-    let is_up = !down.contains(process as u8);
-    push_first_up(out, grid, panel, marks, process, is_up)
+    if down.contains(process as u8) {
+        return Ok(());
+    }
+    let to = up_until(grid, panel, marks, process, 0);
+    push_line(out, process, panel.left, to, y_of(grid, process))
 }
 
 /// Who is down as the stretch begins.
@@ -94,7 +79,7 @@ fn push_ups(
 
 /// The lines of the processes that are up, and the events over these.
 #[tactic(auto, unfolding(crate::specs::Panels::panel_text))]
-fn push_panel(
+pub fn push_panel(
     alloc: Global,
     out: &mut String,
     trace: &Trace,
@@ -108,19 +93,6 @@ fn push_panel(
     push_ups(out, trace, grid, panel, &marks)?;
     push_marks(out, trace, grid, panel, &marks)?;
     Ok(())
-}
-
-/// The part up to the cut, or all where there is none.
-pub fn push_early(
-    alloc: Global,
-    out: &mut String,
-    trace: &Trace,
-    grid: Grid,
-) -> Result<(), NoMemory>
-    requires { stretches.IsWithin (length trace.now.recording.past) grid }
-    ensures { Appends result out.old out.new (panels.early_text trace.now.recording grid) }
-{
-    push_panel(alloc, out, trace, grid, early_panel(grid))
 }
 
 /// The part from the cut on, where the run is cut.

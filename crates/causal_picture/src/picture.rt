@@ -8,28 +8,16 @@ ghost use Rattle.causal_picture.specs.Stretches as stretches;
 use crate::caption::push_caption;
 use crate::focus::Focus;
 use crate::frame::{push_cuts, push_head, push_row};
-use crate::layout::bottom_of;
+use crate::layout::{bottom_of, early_panel};
 use crate::legend::push_legend;
 use crate::overlay::{points_of, push_instant, push_shown_chain};
-use crate::panel::{push_early, push_late};
+use crate::panel::{push_late, push_panel};
 use crate::stretch::{Grid, grid_around};
+use crate::words::push_words;
 use causal_holders::Holders;
 use causal_name::NoMemory;
 use causal_trace::Trace;
 use std::alloc::{AllocError, Global};
-
-/// The row of one process, shaded where it is in the crash set.
-fn push_shaded_row(
-    out: &mut String,
-    grid: Grid,
-    crash: Holders,
-    process: u16,
-) -> Result<(), AllocError>
-    requires { process < 256 }
-    ensures { Appends result out.old out.new (pictures.shaded_row grid crash process) }
-{
-    push_row(out, grid, process, crash.contains(process as u8))
-}
 
 /// The rows of all processes.
 #[tactic(auto, unfolding(crate::specs::Pictures::rows_text))]
@@ -37,7 +25,7 @@ fn push_rows(out: &mut String, trace: &Trace, grid: Grid, crash: Holders) -> Res
     ensures { Appends result out.old out.new (pictures.rows_text trace.now.recording grid crash) }
 {
     for process in 0..trace.processes() {
-        push_shaded_row(out, grid, crash, process)?;
+        push_row(out, grid, crash, process)?;
     }
     Ok(())
 }
@@ -52,28 +40,9 @@ fn crash_of(focus: Option<&Focus<'_>>) -> Holders
     }
 }
 
-/// The chain and the instant of a focus.
+/// The chain and the instant of a focus, if there is one.
 #[tactic(auto, unfolding(crate::specs::Pictures::focus_text))]
 fn push_focus(
-    alloc: Global,
-    out: &mut String,
-    trace: &Trace,
-    grid: Grid,
-    focus: &Focus<'_>,
-) -> Result<(), NoMemory>
-    requires { grid.processes < 257 }
-    ensures { Appends result out.old out.new
-        (pictures.focus_text trace.now.recording grid focus.now) }
-{
-    let points = points_of(alloc, trace, grid, focus.chain)?;
-    let instant = focus.instant.min(trace.len());
-    push_shown_chain(out, &points)?;
-    push_instant(out, grid, instant, focus)?;
-    Ok(())
-}
-
-/// The same, if there is a focus.
-fn push_any_focus(
     alloc: Global,
     out: &mut String,
     trace: &Trace,
@@ -84,10 +53,14 @@ fn push_any_focus(
     ensures { Appends result out.old out.new
         (pictures.any_focus_text trace.now.recording grid (option_copied focus.entry)) }
 {
-    match focus {
-        Some(focus) => push_focus(alloc, out, trace, grid, focus),
-        None => Ok(()),
-    }
+    let Some(focus) = focus else {
+        return Ok(());
+    };
+    let points = points_of(alloc, trace, grid, focus.chain)?;
+    let instant = focus.instant.min(trace.len());
+    push_shown_chain(out, &points)?;
+    push_instant(out, grid, instant, focus)?;
+    Ok(())
 }
 
 /// What lies over the lines and the events: the marks where the run is cut, the verdict, and the legend.
@@ -107,7 +80,7 @@ fn push_close(
     push_cuts(out, grid, entries)?;
     push_caption(out, faults, focus)?;
     push_legend(out, bottom + 38, bottom + 62)?;
-    out.push_str("</svg>\n")
+    push_words(out, "</svg>\n")
 }
 
 /// What is drawn of the run: its processes' rows, then its events over these.
@@ -123,7 +96,7 @@ fn push_run(
     ensures { Appends result out.old out.new (pictures.run_text trace.now.recording grid crash) }
 {
     push_rows(out, trace, grid, crash)?;
-    push_early(alloc, out, trace, grid)?;
+    push_panel(alloc, out, trace, grid, early_panel(grid))?;
     push_late(alloc, out, trace, grid)
 }
 
@@ -142,7 +115,7 @@ fn push_picture(
     let grid = grid_around(trace, focus);
     push_head(out, grid, entries)?;
     push_run(alloc, out, trace, grid, crash_of(focus))?;
-    push_any_focus(alloc, out, trace, grid, focus)?;
+    push_focus(alloc, out, trace, grid, focus)?;
     push_close(out, grid, entries, faults, focus)?;
     Ok(())
 }

@@ -10,7 +10,7 @@ use crate::stretch::Grid;
 use std::alloc::AllocError;
 
 /// What a process is at the instant, where a delivery has an orphan.
-#[derive(Clone, Copy, Debug)]
+#[derive(Clone, Copy)]
 pub enum Role {
     /// It depends on the delivery, and would be left without the determinant.
     Orphan,
@@ -36,21 +36,9 @@ fn role_of(focus: &Focus<'_>, process: u16) -> Role
     ensures { result ≡ roles.role_of focus.now.orphan process }
 {
     match &focus.orphan {
-        Some(orphan) => role_beside(orphan, process),
-        None => Role::Other,
-    }
-}
-
-fn role_beside(orphan: &Orphan, process: u16) -> Role
-    requires { process < 256 }
-    ensures { result ≡ roles.role_beside orphan.now process }
-{
-    if u16::from(orphan.process) == process {
-        Role::Orphan
-    } else if orphan.holders.contains(process as u8) {
-        Role::Holder
-    } else {
-        Role::Other
+        Some(orphan) if u16::from(orphan.process) == process => Role::Orphan,
+        Some(orphan) if orphan.holders.contains(process as u8) => Role::Holder,
+        _ => Role::Other,
     }
 }
 
@@ -65,18 +53,7 @@ fn push_sign(out: &mut String, x: u64, y: u32, role: Role) -> Result<(), AllocEr
     }
 }
 
-/// The name of a process beside a place on its line, with its role.
-#[tactic(auto, unfolding(crate::specs::Roles::name_text))]
-fn push_name(out: &mut String, x: u64, y: u32, process: u16, words: &str) -> Result<(), AllocError>
-    ensures { Appends result out.old out.new (roles.name_text x y process words.now) }
-{
-    write!(
-        out,
-        "<text x='{x}' y='{y}' dx='9' dy='-5' font-size='10' fill='#0072b2'>process {process}{words}</text>\n"
-    )
-}
-
-/// A process at the instant: its sign, and its name.
+/// A process at the instant: its sign, and its name beside this, with its role.
 #[tactic(auto, unfolding(crate::specs::Roles::process_text))]
 fn push_process(
     out: &mut String,
@@ -90,8 +67,12 @@ fn push_process(
 {
     let y = y_of(grid, process);
     let role = role_of(focus, process);
+    let words = words_of(role);
     push_sign(out, x, y, role)?;
-    push_name(out, x, y, process, words_of(role))
+    write!(
+        out,
+        "<text x='{x}' y='{y}' dx='9' dy='-5' font-size='10' fill='#0072b2'>process {process}{words}</text>\n"
+    )
 }
 
 /// All processes at the instant.

@@ -9,7 +9,7 @@ use crate::marks::Event;
 use std::alloc::AllocError;
 
 /// What stands at a place: one form for each kind of event, that of a message sent again, and those of the focus.
-#[derive(Clone, Copy, Debug)]
+#[derive(Clone, Copy)]
 pub enum Shape {
     OpenDot,
     Dot,
@@ -68,20 +68,13 @@ pub fn shape_of(event: &Event) -> Shape
     }
 }
 
-/// A path with these attributes, about a place.
-#[tactic(auto, unfolding(crate::specs::Shapes::path_text))]
-fn push_path(out: &mut String, x: u64, y: u32, attributes: &str) -> Result<(), AllocError>
-    ensures { Appends result out.old out.new (shapes.path_text x y attributes.now) }
-{
-    write!(out, "<path transform='translate({x},{y})' {attributes}/>\n")
-}
-
 /// A shape at a place.
 #[tactic(auto, unfolding(crate::specs::Shapes::shape_text))]
 pub fn push_shape(out: &mut String, x: u64, y: u32, shape: Shape) -> Result<(), AllocError>
     ensures { Appends result out.old out.new (shapes.shape_text x y shape) }
 {
-    push_path(out, x, y, shape.attributes())
+    let attributes = shape.attributes();
+    write!(out, "<path transform='translate({x},{y})' {attributes}/>\n")
 }
 
 /// A level line.
@@ -138,7 +131,7 @@ pub fn push_bent(out: &mut String, from_x: u64, to_x: u64, y: u32) -> Result<(),
 }
 
 /// What a number is written for.
-#[derive(Clone, Copy, Debug)]
+#[derive(Clone, Copy)]
 pub enum Label {
     /// The name of a process at the left end of its line.
     Name,

@@ -20,7 +20,7 @@ pub const EARLY_SHOWN: u32 = 40;
 pub const BEFORE_CHAIN: u32 = 9;
 
 /// Consecutive entries of a run: the position of the first, and how many they are.
-#[derive(Clone, Copy, Debug)]
+#[derive(Clone, Copy)]
 pub struct Stretch {
     pub first: u32,
     pub count: u32,
@@ -28,7 +28,7 @@ pub struct Stretch {
 
 /// What a picture has a place for: the entries of two stretches, of which the later one may be empty, each in its
 /// column, and so many processes, each in its row. What lies between the stretches is cut out.
-#[derive(Clone, Copy, Debug)]
+#[derive(Clone, Copy)]
 pub struct Grid {
     pub early: Stretch,
     pub late: Stretch,

@@ -4,6 +4,7 @@ ghost use Rattle.causal_picture.specs.Appended.{Appends};
 ghost use Rattle.causal_picture.specs.Titles as titles;
 
 use crate::marks::{Event, Mark};
+use crate::words::push_words;
 use causal_name::{Det, Pid};
 use causal_trace::{Entry, Trace};
 use std::alloc::AllocError;
@@ -11,68 +12,47 @@ use std::alloc::AllocError;
 /// At most so many determinants are named in a title.
 pub const MOST_NAMED: usize = 8;
 
-/// `process 1 sends message 0 to process 2`.
-fn push_send(out: &mut String, from: Pid, to: Pid, ssn: u32) -> Result<(), AllocError>
-    ensures { Appends result out.old out.new (titles.send_title from to ssn) }
-{
-    let Pid(from) = from;
-    let Pid(to) = to;
-    write!(out, "process {from} sends message {ssn} to process {to}")
-}
-
-/// `process 1 delivers message 0 of process 0`.
-fn push_delivery(out: &mut String, det: Det) -> Result<(), AllocError>
-    ensures { Appends result out.old out.new (titles.delivery_title det) }
-{
-    let Pid(dest) = det.dest;
-    let Pid(source) = det.source;
-    let ssn = det.ssn;
-    write!(
-        out,
-        "process {dest} delivers message {ssn} of process {source}"
-    )
-}
-
-/// `delivery 0 of process 1, of message 0 of process 0, is in stable storage`.
-fn push_stable(out: &mut String, det: Det) -> Result<(), AllocError>
-    ensures { Appends result out.old out.new (titles.stable_title det) }
-{
-    let Pid(dest) = det.dest;
-    let Pid(source) = det.source;
-    let ssn = det.ssn;
-    let rsn = det.rsn;
-    write!(
-        out,
-        "delivery {rsn} of process {dest}, of message {ssn} of process {source}, is in stable storage"
-    )
-}
-
-/// `process 1 crashes`, or what else it does.
-fn push_turn(out: &mut String, who: Pid, does: &str) -> Result<(), AllocError>
-    ensures { Appends result out.old out.new (titles.turn_title who does.now) }
-{
-    let Pid(who) = who;
-    write!(out, "process {who} {does}")
-}
-
+/// What happens by an event: `process 1 sends message 0 to process 2`, `process 1 delivers message 0 of process 0`,
+/// `delivery 0 of process 1, of message 0 of process 0, is in stable storage`, `process 1 crashes`, `process 1 restarts`,
 /// `process 1 forgets 3 determinants`.
-fn push_forget(out: &mut String, who: Pid, count: usize) -> Result<(), AllocError>
-    ensures { Appends result out.old out.new (titles.forget_title who count) }
-{
-    let Pid(who) = who;
-    write!(out, "process {who} forgets {count} determinants")
-}
-
-fn push_event(out: &mut String, event: &Event) -> Result<(), AllocError>
-    ensures { Appends result out.old out.new (titles.event_title event.now) }
+fn push_event(out: &mut String, event: Event) -> Result<(), AllocError>
+    ensures { Appends result out.old out.new (titles.event_title event) }
 {
     match event {
-        Event::Send { from, to, ssn } => push_send(out, *from, *to, *ssn),
-        Event::Delivery { det, .. } => push_delivery(out, *det),
-        Event::Stable { det } => push_stable(out, *det),
-        Event::Crash { who } => push_turn(out, *who, "crashes"),
-        Event::Restart { who } => push_turn(out, *who, "restarts"),
-        Event::Forget { who, count } => push_forget(out, *who, *count),
+        Event::Send {
+            from: Pid(from),
+            to: Pid(to),
+            ssn,
+        } => write!(out, "process {from} sends message {ssn} to process {to}"),
+        Event::Delivery {
+            det: Det {
+                source: Pid(source),
+                ssn,
+                dest: Pid(dest),
+                ..
+            },
+            ..
+        } => write!(
+            out,
+            "process {dest} delivers message {ssn} of process {source}"
+        ),
+        Event::Stable {
+            det: Det {
+                source: Pid(source),
+                ssn,
+                dest: Pid(dest),
+                rsn,
+            },
+        } => write!(
+            out,
+            "delivery {rsn} of process {dest}, of message {ssn} of process {source}, is in stable storage"
+        ),
+        Event::Crash { who: Pid(who) } => write!(out, "process {who} crashes"),
+        Event::Restart { who: Pid(who) } => write!(out, "process {who} restarts"),
+        Event::Forget {
+            who: Pid(who),
+            count,
+        } => write!(out, "process {who} forgets {count} determinants"),
     }
 }
 
@@ -113,7 +93,7 @@ fn push_named(out: &mut String, listed: &[Det]) -> Result<(), AllocError>
     ensures { Appends result out.old out.new (titles.named_title listed.now) }
 {
     let named = listed.len().min(MOST_NAMED);
-    out.push_str(", and logs")?;
+    push_words(out, ", and logs")?;
     push_dets(out, &listed[..named])?;
     push_more(out, listed.len() - named)
 }
@@ -123,31 +103,22 @@ fn push_logged(out: &mut String, listed: &[Det]) -> Result<(), AllocError>
     ensures { Appends result out.old out.new (titles.logged_title listed.now) }
 {
     if listed.is_empty() {
-        out.push_str(", and logs nothing")
+        push_words(out, ", and logs nothing")
     } else {
         push_named(out, listed)
     }
 }
 
-/// What an entry puts into a volatile log: a delivery what came with its message, and a restart what it gathers.
-fn push_list(out: &mut String, entry: &Entry) -> Result<(), AllocError>
-    ensures { Appends result out.old out.new (titles.list_title entry.now) }
-{
-    match entry {
-        Entry::Deliver { listed, .. } => push_logged(out, listed.as_slice()),
-        Entry::Restart { listed, .. } => push_logged(out, listed.as_slice()),
-        _ => Ok(()),
-    }
-}
-
-/// The same of the entry at a position.
-fn push_list_at(out: &mut String, trace: &Trace, position: u32) -> Result<(), AllocError>
+/// What the entry at a position puts into a volatile log: a delivery what came with its message, and a restart what it
+/// gathers.
+fn push_list(out: &mut String, trace: &Trace, position: u32) -> Result<(), AllocError>
     ensures { Appends result out.old out.new
         (titles.list_title_at trace.now.recording.past position) }
 {
     match trace.entry(position) {
-        Some(entry) => push_list(out, entry),
-        None => Ok(()),
+        Some(Entry::Deliver { listed, .. }) => push_logged(out, listed.as_slice()),
+        Some(Entry::Restart { listed, .. }) => push_logged(out, listed.as_slice()),
+        _ => Ok(()),
     }
 }
 
@@ -159,9 +130,9 @@ pub fn push_title(out: &mut String, trace: &Trace, mark: &Mark) -> Result<(), Al
 {
     let line = line_of(mark.position);
     write!(out, "<title>line {line}: ")?;
-    push_event(out, &mark.event)?;
-    push_list_at(out, trace, mark.position)?;
-    out.push_str("</title>\n")
+    push_event(out, mark.event)?;
+    push_list(out, trace, mark.position)?;
+    push_words(out, "</title>\n")
 }
 
 /// The line of the trace's text on which the entry at a position stands: line 1 is the header, and lines count from 1.

@@ -50,7 +50,7 @@ lacking_line delivery position (Delivery to send) = delivery_line (line_at posit
 lacking_line delivery position _ = no_delivery_line (line_at position)
 
 -- that no delivery lacks it
-unfoldable pub listed_line : List ℕ
+abbrev pub listed_line : List ℕ
 listed_line = codes "listed: after each delivery of the chain its receiver has the determinant in its log\n"
 
 -- the first delivery of a chain after which its receiver's log lacks the determinant of that at `delivery`; None where after

@@ -24,7 +24,7 @@ abbrev pub failure_line : ℕ → Breach → List ℕ
 failure_line faults b = failure_words faults b ++ failure_sentence faults b
 
 -- that none ever fails
-unfoldable pub never_line : List ℕ
+abbrev pub never_line : List ℕ
 never_line = codes "closest faults=-: no delivery has an orphan, whatever f is\n"
 
 -- which delivery comes closest to failing, in a line

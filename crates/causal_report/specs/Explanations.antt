@@ -48,7 +48,7 @@ holder_line h =
     ++ (decimal (line_at h.since) ++ codes "\n")))))))
 
 -- that none does
-unfoldable pub no_holder_line : List ℕ
+abbrev pub no_holder_line : List ℕ
 no_holder_line = codes "holder process=-: no process has the determinant in its log\n"
 
 -- a line for each of them, or that there is none

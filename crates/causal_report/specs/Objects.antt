@@ -92,10 +92,16 @@ abbrev pub verdict : List (List ℕ) → List ℕ
 verdict [] = []
 verdict (line ∷ facts) = line_members (codes "verdict") line ++ reason facts
 
+abbrev pub whole : List (List ℕ) → List ℕ
+whole ls = codes "{" ++ (verdict ls ++ codes "}\n")
+
+abbrev pub ranges : List (List ℕ) → List ℕ
+ranges ls = codes "{\"ranges\":" ++ (array (codes "verdict") ls ++ codes "}\n")
+
 -- `{"verdict":"orphan","f":1,"instant":4,..,"reason":[{"fact":"delivery","line":3,..},..]}`
 abbrev pub verdict_object : List ℕ → List ℕ
-verdict_object text = codes "{" ++ (verdict (lines text) ++ codes "}\n")
+verdict_object text = whole (lines text)
 
 -- `{"ranges":[{"verdict":"exceeded","to":0},{"verdict":"accept","from":1}]}`
 abbrev pub ranges_object : List ℕ → List ℕ
-ranges_object text = codes "{\"ranges\":" ++ (array (codes "verdict") (lines text) ++ codes "}\n")
+ranges_object text = ranges (lines text)

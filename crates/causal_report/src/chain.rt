@@ -49,7 +49,10 @@ pub(crate) fn push_unlisted(
         (Adds out.old out.new (chains.unlisted_text trace.now.recording delivery unlisted)) }
 {
     let Some(position) = unlisted else {
-        return push_listed(out);
+        return write!(
+            out,
+            "listed: after each delivery of the chain its receiver has the determinant in its log\n"
+        );
     };
     match event_at(trace, position) {
         Event::Delivery { to, send } => {
@@ -63,15 +66,6 @@ pub(crate) fn push_unlisted(
         }
         _ => push_no_delivery(out, line_at(position)),
     }
-}
-
-#[tactic(auto, unfolding(crate::specs::Chains::listed_line))]
-fn push_listed(out: &mut String) -> Result<(), AllocError>
-    ensures { OnOk result (Adds out.old out.new chains.listed_line) }
-{
-    out.push_str(
-        "listed: after each delivery of the chain its receiver has the determinant in its log\n",
-    )
 }
 
 /// Adds the line of a delivery after which its receiver's log lacks its own determinant, or that of another one.

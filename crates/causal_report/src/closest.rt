@@ -26,16 +26,12 @@ fn push_closest(out: &mut String, closest: Closest) -> Result<(), AllocError>
     ensures { OnOk result (Adds out.old out.new (told.closest_text closest)) }
 {
     match closest {
-        Closest::Never => push_never(out),
+        Closest::Never => write!(
+            out,
+            "closest faults=-: no delivery has an orphan, whatever f is\n"
+        ),
         Closest::At { faults, breach } => push_failure(out, faults, &breach),
     }
-}
-
-#[tactic(auto, unfolding(crate::specs::Closest::never_line))]
-fn push_never(out: &mut String) -> Result<(), AllocError>
-    ensures { OnOk result (Adds out.old out.new told.never_line) }
-{
-    out.push_str("closest faults=-: no delivery has an orphan, whatever f is\n")
 }
 
 fn push_failure(out: &mut String, faults: u16, breach: &Breach) -> Result<(), AllocError>

@@ -7,7 +7,7 @@ use causal_trace::entry::Entry;
 use causal_trace::trace::Trace;
 
 /// What an entry does as an event: events are sends and deliveries.
-#[derive(Clone, Copy, Debug, PartialEq, Eq)]
+#[derive(Clone, Copy)]
 pub(crate) enum Event {
     /// `from` sends its message number `ssn` to `to`.
     Send { from: u8, to: u8, ssn: u32 },

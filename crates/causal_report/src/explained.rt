@@ -97,19 +97,15 @@ fn push_holders(out: &mut String, holders: &[Holding]) -> Result<(), AllocError>
     ensures { OnOk result (Adds out.old out.new (told.holders_text holders.now)) }
 {
     if holders.is_empty() {
-        return push_no_holder(out);
+        return write!(
+            out,
+            "holder process=-: no process has the determinant in its log\n"
+        );
     }
     for holding in holders {
         push_holder(out, holding)?;
     }
     Ok(())
-}
-
-#[tactic(auto, unfolding(crate::specs::Explanations::no_holder_line))]
-fn push_no_holder(out: &mut String) -> Result<(), AllocError>
-    ensures { OnOk result (Adds out.old out.new told.no_holder_line) }
-{
-    out.push_str("holder process=-: no process has the determinant in its log\n")
 }
 
 fn push_holder(out: &mut String, holding: &Holding) -> Result<(), AllocError>

@@ -12,7 +12,7 @@ use std::marker::Model;
 const AT_ONCE: usize = 128;
 
 /// A delivery of a message: by whom, in which of its lanes, and as which of the lane's deliveries.
-#[derive(Clone, Copy, Debug)]
+#[derive(Clone, Copy)]
 pub(crate) struct Receipt {
     pub dest: Pid,
     pub lane: u32,
@@ -20,7 +20,7 @@ pub(crate) struct Receipt {
 }
 
 /// A receipt, and the place of the next older one of the same message.
-#[derive(Clone, Copy, Debug)]
+#[derive(Clone, Copy)]
 pub(crate) struct Node {
     pub receipt: Receipt,
     pub next: Option<u32>,

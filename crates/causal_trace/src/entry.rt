@@ -7,7 +7,7 @@ use causal_name::{Det, Pid};
 use std::marker::Model;
 
 /// A list of determinants, in the order in which an entry has them.
-#[derive(Clone, Debug, Drop)]
+#[derive(Clone, Drop)]
 pub struct Dets {
     dets: Vec<Det>,
 }
@@ -68,7 +68,7 @@ impl Dets {
 }
 
 /// What happened in one step of a run. Positions of entries, and sequence numbers within a lane, count from 0.
-#[derive(Clone, Debug, Drop, PartialEq, Eq)]
+#[derive(Clone, Drop, PartialEq, Eq)]
 pub enum Entry {
     /// `from` sends its lane's message number `ssn` to `to`, which may be down, or be the sender.
     Send {

@@ -2,51 +2,67 @@
 use crate::entry::Entry;
 use causal_name::NoMemory;
 use std::alloc::AllocFailed;
+use std::fmt;
 use thiserror::Error;
 
 /// What stands against an entry, or against a trace; where several do, the first in this order is told.
 #[derive(Clone, Copy, Debug, PartialEq, Eq, Error)]
 pub enum TraceFault {
     /// A trace has from 1 to 256 processes.
-    #[error("the number of processes is not from 1 to 256")]
     Processes,
     /// A trace has at most 65,536 entries, which list at most 1,048,576 determinants in all, unless its maker sets other
     /// limits.
-    #[error("the trace would be too long")]
     TooLong,
     /// The entry names a process that the trace does not have.
-    #[error("there is no such process")]
     NoProcess,
     /// Only a process that is up sends, delivers, forgets and crashes.
-    #[error("the process is not up")]
     NotUp,
     /// Only a process that is down restarts.
-    #[error("the process is not down")]
     NotDown,
     /// A trace has at most 192 restarts.
-    #[error("too many lanes have been opened")]
     Lanes,
     /// A lane numbers its sends from 0, one by one.
-    #[error("the send sequence number is not the next one")]
     WrongSsn,
     /// A delivery names the position of an earlier send to its receiver.
-    #[error("there is no such send")]
     NoSend,
     /// A lane numbers its deliveries from 0, one by one.
-    #[error("the receive sequence number is not the next one")]
     WrongRsn,
     /// A lane delivers no message twice.
-    #[error("the message has been delivered")]
     Doubled,
     /// Each listed determinant comes before the next.
-    #[error("the determinants are not in order")]
     Unsorted,
     /// Each determinant named is that of a delivery so far, or of the entry itself.
-    #[error("there is no delivery of this determinant")]
     NoDelivery,
     /// Memory was asked for and refused.
-    #[error("no memory")]
     NoMemory,
+}
+
+// A derived `Display` of so many messages takes ten times as long to prove.
+impl fmt::Display for TraceFault {
+    fn fmt<W: fmt::Write>(&self, f: &mut fmt::Formatter<W>) -> fmt::Result {
+        f.write_str(self.sentence())
+    }
+}
+
+impl TraceFault {
+    /// What stands against it, for people.
+    fn sentence(self) -> &'static str {
+        match self {
+            TraceFault::Processes => "the number of processes is not from 1 to 256",
+            TraceFault::TooLong => "the trace would be too long",
+            TraceFault::NoProcess => "there is no such process",
+            TraceFault::NotUp => "the process is not up",
+            TraceFault::NotDown => "the process is not down",
+            TraceFault::Lanes => "too many lanes have been opened",
+            TraceFault::WrongSsn => "the send sequence number is not the next one",
+            TraceFault::NoSend => "there is no such send",
+            TraceFault::WrongRsn => "the receive sequence number is not the next one",
+            TraceFault::Doubled => "the message has been delivered",
+            TraceFault::Unsorted => "the determinants are not in order",
+            TraceFault::NoDelivery => "there is no delivery of this determinant",
+            TraceFault::NoMemory => "no memory",
+        }
+    }
 }
 
 /// An entry that a trace did not take.

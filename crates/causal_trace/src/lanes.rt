@@ -8,7 +8,7 @@ use std::alloc::Global;
 
 /// The present lane of a process: whether it is down, how many restarts opened its lanes, and how many messages the
 /// lane has sent and delivered.
-#[derive(Clone, Copy, Debug)]
+#[derive(Clone, Copy)]
 pub(crate) struct Lane {
     pub down: bool,
     pub restarts: u32,

@@ -19,7 +19,7 @@ pub const DEFAULT_ENTRIES: u32 = 65_536;
 
 /// How long its maker lets a trace become: up to so many entries, which list up to 16 determinants for each of them in
 /// all. No trace has more than [`MAX_ENTRIES`] and [`MAX_LISTED`], whatever its maker lets it.
-#[derive(Clone, Copy, Debug, PartialEq, Eq)]
+#[derive(Clone, Copy)]
 pub struct Limits {
     /// The greatest number of entries.
     pub entries: u32,

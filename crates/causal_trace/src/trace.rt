@@ -70,7 +70,7 @@ impl Trace {
     ghost use Rattle.causal_name.specs.declared.Det.{Det};
     ghost use Rattle.causal_trace.specs.Past.{lane, entry_at, listed_in, restarts, deliveries_in, det_at, is_delivered, has_delivered};
     ghost use Rattle.causal_trace.specs.Numbers.{delivered_dets, number_of};
-    ghost use Rattle.causal_trace.specs.Rows.{fault_by_rows, fault_within, fault_next, refusal_within, refusal_next, IsRefusedBeginning, passes, passes_limit, are_delivered, are_delivered_with, first_holding, IsWellFormed};
+    ghost use Rattle.causal_trace.specs.Rows.{fault_by_rows, fault_within, fault_next, refusal_within, refusal_next, IsRefusedBeginning, passes, passes_limit, are_delivered_with, first_holding, IsWellFormed};
     ghost use Rattle.causal_trace.specs.Inside.Index.{lane_of};
     ghost use Rattle.causal_trace.specs.State.{entries_of, with_entry, is_up_at, lane_at};
 
@@ -416,14 +416,7 @@ impl Trace {
         self.delivery_of(det, self.deliveries() as usize).is_some()
     }
 
-    /// Whether each determinant is that of a delivery so far.
-    fn are_delivered(&self, dets: &[Det]) -> bool
-        ensures { result ≡ are_delivered self.now.recording.past dets.now }
-    {
-        dets.iter().all(|d| self.is_delivered(*d))
-    }
-
-    /// The same, where one more delivery counts too.
+    /// Whether each determinant is that of a delivery so far, or of one more, if there is one.
     fn are_delivered_with(&self, own: Option<Det>, dets: &[Det]) -> bool
         ensures { result ≡ are_delivered_with self.now.recording.past own dets.now }
     {
@@ -490,14 +483,7 @@ impl Trace {
         if self.has_received(to, message) {
             return Some(TraceFault::Doubled);
         }
-        if !listed.is_ascending() {
-            return Some(TraceFault::Unsorted);
-        }
-        let own = scans::det_from(to, rsn, message);
-        if !self.are_delivered_with(own, listed.as_slice()) {
-            return Some(TraceFault::NoDelivery);
-        }
-        None
+        self.listed_fault(scans::det_from(to, rsn, message), listed)
     }
 
     #[tactic(auto, unfolding(crate::specs::Rows::rows))]
@@ -545,7 +531,7 @@ impl Trace {
         if self.restarts as usize >= MAX_RESTARTS {
             return Some(TraceFault::Lanes);
         }
-        self.listed_fault(listed)
+        self.listed_fault(None, listed)
     }
 
     #[tactic(auto, unfolding(crate::specs::Rows::rows))]
@@ -561,19 +547,19 @@ impl Trace {
         if self.present_lane(who).down {
             return Some(TraceFault::NotUp);
         }
-        self.listed_fault(listed)
+        self.listed_fault(None, listed)
     }
 
-    /// What is told against the determinants that a restart or a forgetting lists, where nothing else is.
-    fn listed_fault(&self, listed: &Dets) -> Option<TraceFault>
+    /// What is told against the determinants that an entry lists, where nothing else is and this one is its own, if it has one.
+    fn listed_fault(&self, own: Option<Det>, listed: &Dets) -> Option<TraceFault>
         ensures { result ≡ first_holding ((not (is_ascending listed.now), TraceFault.Unsorted)
-            ∷ (not (are_delivered self.now.recording.past listed.now), TraceFault.NoDelivery)
+            ∷ (not (are_delivered_with self.now.recording.past own listed.now), TraceFault.NoDelivery)
             ∷ []) }
     {
         if !listed.is_ascending() {
             return Some(TraceFault::Unsorted);
         }
-        if !self.are_delivered(listed.as_slice()) {
+        if !self.are_delivered_with(own, listed.as_slice()) {
             return Some(TraceFault::NoDelivery);
         }
         None

@@ -13,7 +13,7 @@ use causal_workers::Judged;
 use std::alloc::Global;
 
 /// Why a text got no answer.
-#[derive(Clone, Copy, Debug, PartialEq, Eq)]
+#[derive(Clone, Copy)]
 pub(crate) enum Failure {
     /// The text spells no trace: this is its first fault.
     Fault(TextFault),

@@ -16,7 +16,7 @@ use causal_workers::{Judged, verdict_line};
 use std::alloc::Global;
 
 /// What is shown of a trace and its verdict.
-#[derive(Clone, Copy, Debug, PartialEq, Eq)]
+#[derive(Clone, Copy)]
 pub enum View {
     /// The line of the verdict, as the program's `audit` prints it.
     Line,

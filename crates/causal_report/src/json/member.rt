@@ -6,6 +6,14 @@ ghost use Rattle.causal_report.specs.Objects as told;
 use crate::json::parts::parts;
 use std::alloc::{AllocError, Global};
 
+// Its callers are proved by this one clause, which is cheaper than those of `Vec::push` and `Vec::extend_from_slice`.
+/// Adds the words.
+pub(crate) fn push_words(out: &mut Vec<u8>, words: &str) -> Result<(), AllocError>
+    ensures { OnOk result (AddsBytes out.old out.new words.now) }
+{
+    out.extend_from_slice(words.as_bytes())
+}
+
 /// Adds the member of a field.
 pub(crate) fn push_field(alloc: Global, out: &mut Vec<u8>, field: &[u8]) -> Result<(), AllocError>
     ensures { OnOk result (AddsBytes out.old out.new (told.field_member field.now)) }
@@ -28,16 +36,16 @@ fn push_member(out: &mut Vec<u8>, field: &[&[u8]]) -> Result<(), AllocError>
 fn push_pair(out: &mut Vec<u8>, key: &[u8], value: &[u8]) -> Result<(), AllocError>
     ensures { OnOk result (AddsBytes out.old out.new (told.pair key.now value.now)) }
 {
-    out.push(b',')?;
+    push_words(out, ",")?;
     push_quoted(out, key)?;
-    out.push(b':')?;
+    push_words(out, ":")?;
     push_value(out, key, value)
 }
 
 fn push_kind(out: &mut Vec<u8>, word: &[u8]) -> Result<(), AllocError>
     ensures { OnOk result (AddsBytes out.old out.new (told.kind word.now)) }
 {
-    out.extend_from_slice(b",\"kind\":".as_slice())?;
+    push_words(out, ",\"kind\":")?;
     push_quoted(out, word)
 }
 
@@ -57,16 +65,16 @@ fn push_value(out: &mut Vec<u8>, key: &[u8], value: &[u8]) -> Result<(), AllocEr
 pub(crate) fn push_quoted(out: &mut Vec<u8>, text: &[u8]) -> Result<(), AllocError>
     ensures { OnOk result (AddsBytes out.old out.new (told.quoted text.now)) }
 {
-    out.push(b'"')?;
+    push_words(out, "\"")?;
     out.extend_from_slice(text)?;
-    out.extend_from_slice(b"\"".as_slice())
+    push_words(out, "\"")
 }
 
 fn push_number(out: &mut Vec<u8>, value: &[u8]) -> Result<(), AllocError>
     ensures { OnOk result (AddsBytes out.old out.new (told.number value.now)) }
 {
     if value == b"-".as_slice() {
-        out.extend_from_slice(b"null".as_slice())
+        push_words(out, "null")
     } else {
         out.extend_from_slice(value)
     }
@@ -76,9 +84,9 @@ fn push_list(out: &mut Vec<u8>, value: &[u8]) -> Result<(), AllocError>
     ensures { OnOk result (AddsBytes out.old out.new (told.list value.now)) }
 {
     if value == b"-".as_slice() {
-        return out.extend_from_slice(b"[]".as_slice());
+        return push_words(out, "[]");
     }
-    out.push(b'[')?;
+    push_words(out, "[")?;
     out.extend_from_slice(value)?;
-    out.extend_from_slice(b"]".as_slice())
+    push_words(out, "]")
 }

@@ -3,7 +3,7 @@ ghost use Rattle.std.specs.Prelude.{◌≡◌, OnOk, IfOk, map, flat_map};
 ghost use Rattle.causal_report.specs.Inside.Added.{AddsBytes};
 ghost use Rattle.causal_report.specs.Objects as told;
 
-use crate::json::member::{push_field, push_quoted};
+use crate::json::member::{push_field, push_quoted, push_words};
 use crate::json::parts::{lines, parts};
 use std::alloc::{AllocError, Global};
 
@@ -19,9 +19,7 @@ pub fn verdict_object(alloc: Global, text: &[u8]) -> Result<Vec<u8>, AllocError>
 {
     let found = lines(alloc, text)?;
     let mut out = Vec::new(alloc);
-    out.push(b'{')?;
-    push_verdict(alloc, &mut out, found.as_slice())?;
-    out.extend_from_slice(b"}\n".as_slice())?;
+    push_whole(alloc, &mut out, found.as_slice())?;
     Ok(out)
 }
 
@@ -36,10 +34,26 @@ pub fn ranges_object(alloc: Global, text: &[u8]) -> Result<Vec<u8>, AllocError>
 {
     let found = lines(alloc, text)?;
     let mut out = Vec::new(alloc);
-    out.extend_from_slice(b"{\"ranges\":".as_slice())?;
-    push_rows(alloc, &mut out, b"verdict".as_slice(), found.as_slice())?;
-    out.extend_from_slice(b"}\n".as_slice())?;
+    push_ranges(alloc, &mut out, found.as_slice())?;
     Ok(out)
+}
+
+fn push_whole(alloc: Global, out: &mut Vec<u8>, lines: &[&[u8]]) -> Result<(), AllocError>
+    ensures { OnOk result
+        (AddsBytes out.old out.new (told.whole (map (λ line. line.now) lines.now))) }
+{
+    push_words(out, "{")?;
+    push_verdict(alloc, out, lines)?;
+    push_words(out, "}\n")
+}
+
+fn push_ranges(alloc: Global, out: &mut Vec<u8>, lines: &[&[u8]]) -> Result<(), AllocError>
+    ensures { OnOk result
+        (AddsBytes out.old out.new (told.ranges (map (λ line. line.now) lines.now))) }
+{
+    push_words(out, "{\"ranges\":")?;
+    push_rows(alloc, out, b"verdict".as_slice(), lines)?;
+    push_words(out, "}\n")
 }
 
 fn push_verdict(alloc: Global, out: &mut Vec<u8>, lines: &[&[u8]]) -> Result<(), AllocError>
@@ -60,7 +74,7 @@ fn push_reason(alloc: Global, out: &mut Vec<u8>, facts: &[&[u8]]) -> Result<(), 
     if facts.is_empty() {
         return Ok(());
     }
-    out.extend_from_slice(b",\"reason\":".as_slice())?;
+    push_words(out, ",\"reason\":")?;
     push_rows(alloc, out, b"fact".as_slice(), facts)
 }
 
@@ -68,9 +82,9 @@ fn push_rows(alloc: Global, out: &mut Vec<u8>, key: &[u8], rows: &[&[u8]]) -> Re
     ensures { OnOk result
         (AddsBytes out.old out.new (told.array key.now (map (λ line. line.now) rows.now))) }
 {
-    out.push(b'[')?;
+    push_words(out, "[")?;
     push_each(alloc, out, key, rows)?;
-    out.extend_from_slice(b"]".as_slice())
+    push_words(out, "]")
 }
 
 /// Adds an object for each line, with commas between them.
@@ -90,7 +104,7 @@ fn push_more(alloc: Global, out: &mut Vec<u8>, key: &[u8], rows: &[&[u8]]) -> Re
         (flat_map (told.next_object key.now) (map (λ line. line.now) rows.now))) }
 {
     for line in rows {
-        out.push(b',')?;
+        push_words(out, ",")?;
         push_object(alloc, out, key, line)?;
     }
     Ok(())
@@ -99,9 +113,9 @@ fn push_more(alloc: Global, out: &mut Vec<u8>, key: &[u8], rows: &[&[u8]]) -> Re
 fn push_object(alloc: Global, out: &mut Vec<u8>, key: &[u8], line: &[u8]) -> Result<(), AllocError>
     ensures { OnOk result (AddsBytes out.old out.new (told.object key.now line.now)) }
 {
-    out.push(b'{')?;
+    push_words(out, "{")?;
     push_line(alloc, out, key, line)?;
-    out.extend_from_slice(b"}".as_slice())
+    push_words(out, "}")
 }
 
 /// Adds what a line says, but for its sentence.
@@ -112,6 +126,19 @@ fn push_line(alloc: Global, out: &mut Vec<u8>, key: &[u8], line: &[u8]) -> Resul
     let [fields, ..] = found.as_slice() else {
         return Ok(());
     };
+    push_members(alloc, out, key, fields)
+}
+
+/// Adds what stands before the sentence: the first word under the name, and a member for each field.
+fn push_members(
+    alloc: Global,
+    out: &mut Vec<u8>,
+    key: &[u8],
+    fields: &[u8],
+) -> Result<(), AllocError>
+    ensures { OnOk result
+        (AddsBytes out.old out.new (told.members key.now (told.parts 32 fields.now))) }
+{
     let words = parts(alloc, b' ', fields)?;
     let [word, members @ ..] = words.as_slice() else {
         return Ok(());
@@ -124,7 +151,7 @@ fn push_named(out: &mut Vec<u8>, key: &[u8], word: &[u8]) -> Result<(), AllocErr
     ensures { OnOk result (AddsBytes out.old out.new (told.named key.now word.now)) }
 {
     push_quoted(out, key)?;
-    out.push(b':')?;
+    push_words(out, ":")?;
     push_quoted(out, word)
 }
 

@@ -1,0 +1,6 @@
+use Rattle.std.proofs.Common.{sym}
+use Rattle.causal_picture.proofs.frame.push_shade.Goals as goal
+
+pub returns : goal.returns
+returns c =
+    rw (c.if-not-is_shaded.false, sym c.width_of-width.ensures.value, sym c.y_of-y.ensures.value, sym c.row_of.ensures.value) c.write.ensures.bytes
