@@ -33,8 +33,7 @@ pub fn least_by(alloc: Global, trace: &Trace, f: u16, end: u32) -> Result<Option
         (LeastBreachBy trace.now.recording f end 0 (deliveries_in trace.now.recording.past)) }
 {
     let prepared = Prepared::of(alloc, trace, f, end)?;
-    let whole = prepared.part(trace, 0, prepared.followed());
-    whole.least(alloc)
+    prepared.least(alloc, trace)
 }
 
 /// How many of the first entries are looked at before the others, up to the instant `end`.

@@ -11,7 +11,7 @@ use causal_trace::entry::Entry;
 
 /// What is known of one delivery at an instant: who is down, who holds its determinant, whether that is stable, and who
 /// depends on the delivery.
-#[derive(Clone, Copy, Debug)]
+#[derive(Clone, Copy)]
 pub struct DeliveryState {
     pub down: Holders,
     pub holders: Holders,
@@ -20,7 +20,7 @@ pub struct DeliveryState {
 }
 
 /// A crash set, and an orphan under it.
-#[derive(Clone, Copy, Debug)]
+#[derive(Clone, Copy)]
 pub struct Exposed {
     pub crash: Holders,
     pub orphan: u8,

@@ -16,6 +16,8 @@ pub mod outline;
 pub mod positions;
 /// Which processes the events of each reach.
 pub mod reached;
+/// What is kept of a run beside its trace.
+pub mod run_index;
 /// From which position on no process is released.
 pub mod releases;
 /// How long each entry stays with its process.

@@ -60,7 +60,6 @@ pub fn instants_agree()
 /// One more entry gives an orphan only to few deliveries that had none: those on which the receiver of a delivery newly
 /// depends, and it is then their only orphan; those whose determinant a restart does not list; those whose determinant a
 /// forgetting lists.
-#[tactic(auto, using(crate::proofs::Swept::sweep_law, crate::proofs::Swept::one_new_orphan))]
 pub fn sweep_law()
     ensures newly { SweepLaw }
     ensures receiver { OneNewOrphan }

@@ -1,14 +1,17 @@
 //! A recorded run that is prepared for its audit, and the parts of its deliveries.
 ghost use Rattle.std.specs.Prelude.{◌≡◌, ◌≤◌, IfOk, length};
+ghost use Rattle.causal_trace.specs.Past.{instant};
 ghost use Rattle.causal_audit.specs.Parts.{AreEnough, LeastOf, part_of};
+ghost use Rattle.causal_audit.specs.Inside.Index.Kept.{AreMentionsKept};
+ghost use Rattle.causal_audit.specs.Inside.Group.OpenDeliveries.{AreGathered, asked_of};
 
 use crate::breach::Breach;
 use crate::group::ordered::put_in_order;
 use crate::group::run_to_follow::{OpenDelivery, RunToFollow};
 use crate::group::walk::GROUP;
-use crate::index::crashes_and_restarts::CrashesAndRestarts;
-use crate::index::mentions::{Mentions, mentions_in};
+use crate::index::mentions::Mentions;
 use crate::index::outline::Outline;
+use crate::index::run_index::RunIndex;
 use crate::look::survey::open_deliveries_of;
 use causal_name::NoMemory;
 use causal_trace::trace::Trace;
@@ -21,8 +24,7 @@ use std::snapshot::Snapshot;
 #[derive(Drop)]
 pub struct Prepared {
     run: Snapshot<Trace>,
-    turns: CrashesAndRestarts,
-    mentions: Mentions,
+    index: RunIndex,
     f: u16,
     end: u32,
     opened: Vec<OpenDelivery>,
@@ -36,7 +38,7 @@ impl Model for Prepared {
 
     ghost view = { λ a. record { run = a.run.value.recording; f = a.f; end = a.end; positions = positions_of a.opened.items } };
 
-    ghost invariant = { λ a. IsPrepared a.run.value.recording a.f a.end a.turns a.mentions a.opened.items };
+    ghost invariant = { λ a. IsPrepared a.run.value.recording a.f a.end a.index a.opened.items };
 }
 
 impl Prepared {
@@ -54,20 +56,15 @@ impl Prepared {
         ensures run { IfOk result (λ prepared. prepared.run ≡ trace.now.recording) }
         ensures enough { IfOk result (AreEnough trace.now.recording f end) }
     {
-        let run = Snapshot::of(trace);
-        let entries = trace.entries();
-        let turns = CrashesAndRestarts::of(alloc, entries)?;
-        let mentions = mentions_in(alloc, trace, end)?;
+        let index = RunIndex::of(alloc, trace, end)?;
         let outline = Outline {
             trace,
-            turns: &turns,
+            turns: &index.turns,
         };
-        let mut opened = open_deliveries_of(alloc, outline, &mentions, f, end)?;
-        put_in_order(&mut opened)?;
+        let opened = deliveries_to_follow(alloc, outline, &index.mentions, f, end)?;
         Ok(Prepared {
-            run,
-            turns,
-            mentions,
+            run: Snapshot::of(trace),
+            index,
             f,
             end,
             opened,
@@ -91,8 +88,9 @@ impl Prepared {
         if workers == 1 {
             return self.opened.len();
         }
-        let share = entries_walked(&self.opened[from..]) / u64::from(workers);
-        from + groups_walking(&self.opened[from..], share)
+        let rest = &self.opened[from..];
+        let share = entries_walked(rest) / u64::from(workers);
+        from + groups_walking(rest, share)
     }
 
     /// Those of them from place `from` on and below place `to`. The trace is the one that was prepared.
@@ -103,11 +101,11 @@ impl Prepared {
     {
         let outline = Outline {
             trace,
-            turns: &self.turns,
+            turns: &self.index.turns,
         };
         let following = RunToFollow {
             outline,
-            mentions: &self.mentions,
+            mentions: &self.index.mentions,
             end: self.end,
         };
         Part {
@@ -117,6 +115,37 @@ impl Prepared {
             opened: &self.opened[from..to],
         }
     }
+
+    /// The least breach of all of them, as [`Part::least`] tells it. The trace is the one that was prepared.
+    ///
+    /// # Errors
+    /// `NoMemory` where memory was refused.
+    pub(crate) fn least(&self, alloc: Global, trace: &Trace) -> Result<Option<Breach>, NoMemory>
+        requires { trace.now.recording ≡ self.now.run }
+        ensures { IfOk result (LeastOf self.now) }
+    {
+        let whole = self.part(trace, 0, self.followed());
+        whole.least(alloc)
+    }
+}
+
+/// The deliveries of a run before the instant `end` that have to be followed, in the order in which they are.
+fn deliveries_to_follow(
+    alloc: Global,
+    outline: Outline<'_>,
+    mentions: &Mentions,
+    f: u16,
+    end: u32,
+) -> Result<Vec<OpenDelivery>, NoMemory>
+    requires within { end ≤ length outline.trace.now.recording.past }
+    requires mentioned { AreMentionsKept outline.trace.now.recording.past
+        (instant outline.trace.now.recording.past end) mentions.now }
+    ensures { IfOk result
+        (λ opened. AreGathered (asked_of outline.entry.trace.now.recording f end) opened.items) }
+{
+    let mut opened = open_deliveries_of(alloc, outline, mentions, f, end)?;
+    put_in_order(&mut opened)?;
+    Ok(opened)
 }
 
 /// About how many entries the walk goes over that begins with these deliveries.

@@ -34,7 +34,7 @@ use std::marker::Model;
 use thiserror::Error;
 
 /// An event of a lane. A receive also has the number of its send's event.
-#[derive(Clone, Copy, Debug, PartialEq, Eq)]
+#[derive(Clone, Copy)]
 pub struct Event {
     pub lane: u32,
     pub send: Option<u32>,
@@ -42,7 +42,7 @@ pub struct Event {
 
 /// Where in a lane the count of another lane's events rose: so many of them are reached from that place of the lane on.
 /// An event's place is how many events of its lane stand before it ([`Clocks::place`]).
-#[derive(Clone, Copy, Debug, PartialEq, Eq)]
+#[derive(Clone, Copy)]
 pub struct Rise {
     pub place: u32,
     pub count: u32,

@@ -10,7 +10,7 @@ use causal_trace::entry::Entry;
 use causal_trace::trace::Trace;
 
 /// What the entry does that makes an instant fail: the last entry before the instant.
-#[derive(Clone, Copy, Debug, PartialEq, Eq)]
+#[derive(Clone, Copy)]
 pub enum Cause {
     /// The orphan delivers what the entry at the position `send` sends; so it comes to depend on the delivery, and its log
     /// lacks the determinant.

@@ -16,7 +16,7 @@ const BEGINNING: u32 = 4_096;
 
 /// Which delivery of a run comes closest to failing. A delivery fails for so many faults where it has an orphan at
 /// some instant, under a crash set of at most so many processes.
-#[derive(Clone, Copy, Debug, PartialEq, Eq)]
+#[derive(Clone, Copy)]
 pub enum Closest {
     /// No delivery fails, for any number of faults.
     Never,

@@ -4,7 +4,7 @@ use causal_holders::Holders;
 use causal_name::Det;
 
 /// A process whose volatile log has the determinant.
-#[derive(Clone, Copy, Debug, PartialEq, Eq)]
+#[derive(Clone, Copy)]
 pub struct Holding {
     pub process: u8,
     /// The position of the delivery or restart since which it has it.
@@ -12,14 +12,14 @@ pub struct Holding {
 }
 
 /// By what a process's volatile log came to lack a determinant.
-#[derive(Clone, Copy, Debug, PartialEq, Eq)]
+#[derive(Clone, Copy)]
 pub enum LostBy {
     Crash,
     Forgetting,
 }
 
 /// A process whose volatile log had the determinant, and has it no longer.
-#[derive(Clone, Copy, Debug, PartialEq, Eq)]
+#[derive(Clone, Copy)]
 pub struct Loss {
     pub process: u8,
     /// The position of the entry by which it last lost it.
@@ -29,7 +29,7 @@ pub struct Loss {
 }
 
 /// A process that is down.
-#[derive(Clone, Copy, Debug, PartialEq, Eq)]
+#[derive(Clone, Copy)]
 pub struct Down {
     pub process: u8,
     /// The position of the crash since which it is.

@@ -10,7 +10,7 @@ use causal_trace::trace::Trace;
 use std::alloc::Global;
 
 /// Numbers of faults: those that are at least `from` and, where there is an end, below `below`.
-#[derive(Clone, Copy, Debug, PartialEq, Eq)]
+#[derive(Clone, Copy)]
 pub struct SafeRange {
     pub from: u16,
     pub below: Option<u16>,

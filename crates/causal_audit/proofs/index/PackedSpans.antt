@@ -1,5 +1,5 @@
 -- One more position in one of the lists that stand one behind the other.
-use Rattle.causal_audit.proofs.Common.{ℕ, ◌≡◌, ◌≢◌, ◌+◌, ◌-◌, ◌<◌, ◌≤◌, inl, inr, List, [], ◌∷◌, ◌++◌, length, take, drop, map, get_or, get_or_default, set, suc, sym, ap, subst, ◌∙◌, arith, cases_lt, All, All-map, All-set, All-weaker, length-map, length-set, get_or-map, get_or-set_same, get_or-set_other, get_or_past, map-set}
+use Rattle.causal_audit.proofs.Common.{ℕ, ◌≡◌, ◌≢◌, ◌+◌, ◌-◌, ◌<◌, ◌≤◌, inl, inr, List, [], ◌∷◌, ◌++◌, length, take, drop, map, get_or, get_or_append_left, get_or-append_seam, get_or_default, set, suc, refl, sym, ap, subst, ◌∙◌, arith, cases_lt, All, All-map, All-push, All-set, All-weaker, length-append, length-map, length-set, get_or-map, get_or-set_same, get_or-set_other, get_or_past, map-set}
 use Rattle.std.proofs.lemmas.List.{drop-set-add, drop-set-lt, ext_get_or, length-drop, take-set-le}
 use Rattle.std.proofs.lemmas.Bool.Decides.{eqb_tells}
 use Rattle.std.proofs.Math.Seq.{take-suc-set}
@@ -13,6 +13,31 @@ pub none_in : (ps : List ℕ) (spans : List Span) → All (λ (s : Span). s.begi
 none_in ps spans all = All-map (λ list. list ≡ []) (list_in ps) spans (All-weaker (λ (s : Span). s.begin ≡ s.end) (λ s. list_in ps s ≡ []) (λ s h.
     let none : s.end - s.begin ≡ 0 = omega (arith, h) in
     ap (λ n. take n (drop s.begin ps)) none) spans all)
+
+-- one more behind the others, which ends where it begins
+pub packed_push : (b limit : ℕ) (spans new : List Span) → new ≡ spans ++ record { begin = b; end = b } ∷ [] → b ≤ limit → ArePacked b spans → ArePacked limit new
+packed_push b limit spans new is more packed =
+    let x : Span = record { begin = b; end = b } in
+    let pushed : ArePacked limit (spans ++ x ∷ []) = record {
+      each = All-push (IsSpan limit) spans x (All-weaker (IsSpan b) (IsSpan limit) (λ s h. record { order = h.order; within = omega (arith, h.within, more) }) spans packed.each) (record { order = omega arith; within = more });
+      apart = λ i j s before inside.
+          let size = length-append spans (x ∷ []) in
+          let first : get_or (spans ++ x ∷ []) i s ≡ get_or spans i s = get_or_append_left spans (x ∷ []) s i (omega (arith, before, inside, size)) in
+          elim (cases_lt j (length spans)) [
+            | inl early ↦
+                let later : get_or (spans ++ x ∷ []) j s ≡ get_or spans j s = get_or_append_left spans (x ∷ []) s j early in
+                omega (arith, ap (λ (y : Span). y.end) first, ap (λ (y : Span). y.begin) later, packed.apart i j s before early)
+            | inr last ↦
+                let at : j ≡ length spans = omega (arith, last, inside, size) in
+                let new_one : get_or (spans ++ x ∷ []) j s ≡ x = ap (λ k. get_or (spans ++ x ∷ []) k s) at ∙ get_or-append_seam spans x [] s in
+                let old : IsSpan b (get_or spans i s) = packed.each i s (omega (arith, before, at)) in
+                omega (arith, ap (λ (y : Span). y.end) first, ap (λ (y : Span). y.begin) new_one, old.within)
+          ];
+    } in
+    subst (ArePacked limit) (sym is) pushed
+
+pub none_push : (b : ℕ) (spans new : List Span) → new ≡ spans ++ record { begin = b; end = b } ∷ [] → All (λ (s : Span). s.begin ≡ s.end) spans → All (λ (s : Span). s.begin ≡ s.end) new
+none_push b spans new is none = subst (All (λ (s : Span). s.begin ≡ s.end)) (sym is) (All-push (λ (s : Span). s.begin ≡ s.end) spans (record { begin = b; end = b }) none refl)
 
 -- a write outside of a list
 outside : (ps : List ℕ) (e v : ℕ) (s : Span) → (s.end ≤ e) × (s.begin ≤ s.end) → list_in (set ps e v) s ≡ list_in ps s

@@ -11,39 +11,28 @@ use causal_trace::entry::Entry;
 use causal_trace::trace::Trace;
 use std::alloc::Global;
 
-/// Adds the event of one more entry. `present` has the clock's lane of each process's present lane.
-fn note(entry: &Entry, clocks: &mut Clocks, present: &mut [u32]) -> Result<(), ClockFault>
+/// Adds the event of one more entry, and answers its number. `present` has the clock's lane of each process's present lane.
+fn note(entry: &Entry, clocks: &mut Clocks, present: &mut [u32]) -> Result<u32, ClockFault>
     requires { CanMirror entry.now clocks.old present.old }
     ensures mirrors { (n : ℕ) (past : List Entry) → AreAccepted n (entry.now ∷ past) →
         Mirrors n past clocks.old present.old → OnOk result (Mirrors n (entry.now ∷ past) clocks.new present.new) }
     ensures refused { IfErr result (λ fault. fault ≡ ClockFault.NoMemory) }
 {
     match entry {
-        Entry::Send { from, .. } => {
-            clocks.local(present[from.0 as usize])?;
-        }
-        Entry::Deliver { to, send, .. } => {
-            clocks.receive(present[to.0 as usize], *send)?;
-        }
+        Entry::Send { from, .. } => clocks.local(present[from.0 as usize]),
+        Entry::Deliver { to, send, .. } => clocks.receive(present[to.0 as usize], *send),
         Entry::Restart { who, .. } => {
             let lane = match clocks.open_lane() {
                 Ok(lane) => lane,
                 Err(fault) => return Err(fault),
             };
             present[who.0 as usize] = lane;
-            clocks.local(lane)?;
+            clocks.local(lane)
         }
-        Entry::Stable { .. } => {
-            clocks.local(0)?;
-        }
-        Entry::Crash { .. } => {
-            clocks.local(0)?;
-        }
-        Entry::Forget { .. } => {
-            clocks.local(0)?;
-        }
+        Entry::Stable { .. } => clocks.local(0),
+        Entry::Crash { .. } => clocks.local(0),
+        Entry::Forget { .. } => clocks.local(0),
     }
-    Ok(())
 }
 
 /// The lanes of n processes before the first entry: each process has the lane of its own number.

@@ -12,7 +12,7 @@ use causal_holders::Holders;
 use causal_trace::entry::Entry;
 
 /// Where the copies of a determinant are.
-#[derive(Clone, Copy, Debug)]
+#[derive(Clone, Copy)]
 pub struct Copies {
     pub holders: Holders,
     pub stable: bool,

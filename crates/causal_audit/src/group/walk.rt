@@ -131,9 +131,30 @@ impl RunToFollow<'_> {
         ensures { IfOk result (LeastAmongBy self.now.run f end (positions_of opened.now)) }
     {
         let mut room = WalkBuffers::new(alloc)?;
+        self.least_by_groups(f, end, opened, &mut room)
+    }
+
+    /// The same, with what a walk keeps, which all groups use.
+    ///
+    /// # Errors
+    /// `NoMemory` where memory was refused.
+    fn least_by_groups(
+        &self,
+        f: u16,
+        end: u32,
+        opened: &[OpenDelivery],
+        room: &mut WalkBuffers,
+    ) -> Result<Option<Breach>, NoMemory>
+        requires within { end ≤ self.now.end }
+        requires deliveries { All
+            (λ delivery. IsDeliveryAt self.now.run.past delivery.position) opened.now }
+        requires opened { All (IsOpenDelivery self.now.run f end) opened.now }
+        requires room { HasBuffers room.old }
+        ensures { IfOk result (LeastAmongBy self.now.run f end (positions_of opened.now)) }
+    {
         let mut least = None;
         for group in opened.chunks(GROUP) {
-            let found = self.least_in(f, horizon(end, &least), group, &mut room)?;
+            let found = self.least_in(f, horizon(end, &least), group, room)?;
             least = earlier(least, found);
         }
         Ok(least)

@@ -65,6 +65,17 @@ pub fn is_turn(entry: &Entry) -> bool
     }
 }
 
+/// What the entries so far tell of crashes and restarts: as [`CrashesAndRestarts`] has it, and who is down after them.
+#[derive(Drop)]
+struct Filing {
+    positions: Vec<u32>,
+    downs: Vec<Holders>,
+    crashes: Vec<Vec<u32>>,
+    restarts: Vec<Vec<u32>>,
+    lasting_from: u32,
+    down: Holders,
+}
+
 /// Notes the position of an entry after which these processes are down, if it is a crash or a restart.
 fn note_turn(
     positions: &mut Vec<u32>,
@@ -86,6 +97,59 @@ fn note_turn(
     Ok(())
 }
 
+impl Filing {
+    ghost use Rattle.std.specs.Prelude.{◌<◌, [], OnOk, vec_len};
+    ghost use Rattle.causal_audit.specs.Inside.Index.Kept.{AreTurnsFiled, AreTurnsKept};
+
+    /// Of no entries.
+    fn new(alloc: Global) -> Result<Filing, NoMemory>
+        ensures { IfOk result (AreTurnsFiled []) }
+    {
+        let crashes = empty_lists(alloc, PROCESSES as u32)?;
+        let restarts = empty_lists(alloc, PROCESSES as u32)?;
+        Ok(Filing {
+            positions: Vec::new(alloc),
+            downs: Vec::new(alloc),
+            crashes,
+            restarts,
+            lasting_from: 0,
+            down: Holders::none(),
+        })
+    }
+
+    /// Takes in one more entry, at position i.
+    fn note(&mut self, entry: &Entry, i: u32) -> Result<(), NoMemory>
+        requires position { i < max_entries }
+        requires counts { (vec_len self.old.crashes ≡ 256) × (vec_len self.old.restarts ≡ 256) }
+        ensures { OnOk result ((past : List Entry) → length past ≡ i →
+            AreTurnsFiled past self.old → AreTurnsFiled (entry.now ∷ past) self.new) }
+    {
+        self.down = down_after(self.down, entry);
+        self.lasting_from = lasting_after(self.lasting_from, entry, i);
+        note_turn(&mut self.positions, &mut self.downs, entry, self.down, i)?;
+        note(&mut self.crashes, false, entry, i)?;
+        note(&mut self.restarts, true, entry, i)
+    }
+
+    /// What is kept of them, once all entries were taken in.
+    fn whole(self) -> CrashesAndRestarts
+        requires { (past : List Entry) × AreTurnsFiled past self }
+        ensures { (past : List Entry) → AreTurnsFiled past self → AreTurnsKept past result }
+    {
+        CrashesAndRestarts {
+            positions: self.positions,
+            downs: self.downs,
+            crashes: ByProcess {
+                lists: self.crashes,
+            },
+            restarts: ByProcess {
+                lists: self.restarts,
+            },
+            lasting_from: self.lasting_from,
+        }
+    }
+}
+
 impl CrashesAndRestarts {
     ghost use Rattle.causal_audit.specs.Inside.Index.Kept.{AreTurnsKept};
     ghost use Rattle.causal_audit.specs.Inside.Index.Passing.{AreAhead, AreBehind, HasPassed, IsPlace};
@@ -95,26 +159,11 @@ impl CrashesAndRestarts {
         requires { length entries.now ≤ max_entries }
         ensures { IfOk result (AreTurnsKept (past_of entries.now)) }
     {
-        let mut positions = Vec::new(alloc);
-        let mut downs = Vec::new(alloc);
-        let mut crashes = empty_lists(alloc, PROCESSES as u32)?;
-        let mut restarts = empty_lists(alloc, PROCESSES as u32)?;
-        let mut lasting_from = 0;
-        let mut down = Holders::none();
+        let mut filing = Filing::new(alloc)?;
         for (i, entry) in entries.iter().enumerate() {
-            down = down_after(down, entry);
-            lasting_from = lasting_after(lasting_from, entry, i as u32);
-            note_turn(&mut positions, &mut downs, entry, down, i as u32)?;
-            note(&mut crashes, false, entry, i as u32)?;
-            note(&mut restarts, true, entry, i as u32)?;
+            filing.note(entry, i as u32)?;
         }
-        Ok(CrashesAndRestarts {
-            positions,
-            downs,
-            crashes: ByProcess { lists: crashes },
-            restarts: ByProcess { lists: restarts },
-            lasting_from,
-        })
+        Ok(filing.whole())
     }
 
     /// How many of them stand before position t.

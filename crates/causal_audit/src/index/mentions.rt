@@ -3,10 +3,11 @@ ghost use Rattle.std.specs.Prelude.{◌≡◌, ◌≤◌, ◌+◌, ◌∷◌, �
 ghost use Rattle.std.specs.List.{All, flat_map};
 ghost use Rattle.causal_name.specs.declared.Det.{Det};
 ghost use Rattle.causal_trace.specs.declared.entry.Entry.{Entry};
+ghost use Rattle.causal_trace.specs.Limits.{max_entries};
 ghost use Rattle.causal_trace.specs.Numbers.{delivered_dets, number_of};
 ghost use Rattle.causal_trace.specs.Past.{instant};
 ghost use Rattle.causal_audit.specs.Quiet.{mentioned_by};
-ghost use Rattle.causal_audit.specs.Inside.Index.Filed.{AreNumbersOf, mentions_of};
+ghost use Rattle.causal_audit.specs.Inside.Index.Filed.{AreMentions, AreNumbersOf, mentions_of, past_of};
 ghost use Rattle.causal_audit.specs.Inside.Index.Kept.{AreMentionsKept};
 
 use crate::index::packed::PackedLists;
@@ -99,7 +100,7 @@ fn lists_for(alloc: Global, numbers: &[u32], count: usize) -> Result<PackedLists
 }
 
 impl Mentions {
-    ghost use Rattle.causal_audit.specs.Inside.Index.Filed.{AreMentions, AreMentionsWith};
+    ghost use Rattle.causal_audit.specs.Inside.Index.Filed.{AreMentionsWith};
 
     /// The list of a determinant, by the trace that they are of.
     pub fn list(&self, trace: &Trace, det: Det) -> &[u32]
@@ -174,6 +175,32 @@ pub fn mentioned(entry: &Entry) -> &[Det]
     }
 }
 
+/// The positions of these entries, by the numbers of the determinants that they mention: these stand one after the other, among
+/// so many.
+fn filed(
+    alloc: Global,
+    entries: &[Entry],
+    numbers: &[u32],
+    among: usize,
+) -> Result<Mentions, NoMemory>
+    requires few { length entries.now ≤ max_entries }
+    requires numbered { (delivered : List Det) ×
+        AreNumbersOf among delivered (flat_map mentioned_by entries.now) numbers.now }
+    ensures { IfOk result (λ mentions. (delivered : List Det) →
+        AreNumbersOf among delivered (flat_map mentioned_by entries.now) numbers.now →
+        AreMentions (past_of entries.now) delivered mentions.lists) }
+{
+    let lists = lists_for(alloc, numbers, among)?;
+    let mut mentions = Mentions { lists };
+    let mut rest = numbers;
+    for (i, entry) in entries.iter().enumerate() {
+        let (own, later) = rest.split_at(mentioned(entry).len());
+        mentions.note(own, i as u32)?;
+        rest = later;
+    }
+    Ok(mentions)
+}
+
 /// The positions of the entries before the instant `end` that mention each determinant, in order. Each mention is searched once: its
 /// number is kept until all lists are made, which takes 4 bytes.
 pub fn mentions_in(alloc: Global, trace: &Trace, end: u32) -> Result<Mentions, NoMemory>
@@ -184,13 +211,5 @@ pub fn mentions_in(alloc: Global, trace: &Trace, end: u32) -> Result<Mentions, N
     let entries = &trace.entries()[..end as usize];
     let among = with_lists(trace, entries);
     let numbers = numbers_of(alloc, trace, entries, among)?;
-    let lists = lists_for(alloc, numbers.as_slice(), among)?;
-    let mut mentions = Mentions { lists };
-    let mut rest = numbers.as_slice();
-    for (i, entry) in entries.iter().enumerate() {
-        let (own, later) = rest.split_at(mentioned(entry).len());
-        mentions.note(own, i as u32)?;
-        rest = later;
-    }
-    Ok(mentions)
+    filed(alloc, entries, numbers.as_slice(), among)
 }

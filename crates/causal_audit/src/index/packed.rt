@@ -9,7 +9,7 @@ use std::alloc::Global;
 use std::marker::Model;
 
 /// Where a list begins and ends. It has room up to where the next one begins.
-#[derive(Clone, Copy, Debug)]
+#[derive(Clone, Copy)]
 pub struct Span {
     pub begin: u32,
     pub end: u32,
@@ -46,7 +46,6 @@ fn limit_of(spans: &[Span], number: usize, size: usize) -> usize
 
 impl PackedLists {
     /// Empty lists with room for so many positions each.
-    #[tactic(auto, using(crate::proofs::index::PackedSpans::none_in))]
     pub fn with_rooms(alloc: Global, rooms: &[u32]) -> Result<PackedLists, NoMemory>
         ensures count { IfOk result (λ lists. length lists ≡ length rooms.now) }
         ensures empty { IfOk result (λ lists. All (λ list. list ≡ []) lists) }

@@ -1,6 +1,6 @@
 //! The survey of a run: which deliveries are not seen to be covered throughout, and until when each may be uncovered. It
 //! needs no clock.
-ghost use Rattle.std.specs.Prelude.{◌≡◌, ◌+◌, ◌≤◌, ◌<◌, ℕ, true, IfOk, OnOk, Some, length, slice_index_or};
+ghost use Rattle.std.specs.Prelude.{◌≡◌, ◌+◌, ◌≤◌, ◌<◌, [], ℕ, true, IfOk, OnOk, Some, length, slice_index_or};
 ghost use Rattle.causal_trace.specs.Numbers.{delivered_dets, number_of};
 ghost use Rattle.causal_trace.specs.Past.{det_at, instant};
 ghost use Rattle.causal_audit.specs.Inside.Among.{HasNoOrphanFrom};
@@ -132,6 +132,35 @@ impl Survey<'_, '_> {
         Ok(())
     }
 
+    /// Gathers the delivery of a number and each older one with its determinant, where this was found of that, and marks them.
+    fn ask_all(
+        &self,
+        thins: &ThinStretches,
+        det: Det,
+        newest: u32,
+        asked: &mut Vec<bool>,
+        gathered: &mut Vec<OpenDelivery>,
+    ) -> Result<(), NoMemory>
+        requires few { newest < how_many self.now }
+        requires count { length asked.old.items ≡ how_many self.now }
+        requires own { number_of (newest + 1) (delivered_dets self.now.run.past) det ≡ Some newest }
+        requires thins { AreThinStretches self.now.run.processes self.now.f
+            self.now.run.past det (self.now.end + 1) thins.now }
+        ensures asked { OnOk result (AreAsked self.now asked.old.items gathered.old.items →
+            AreAsked self.now asked.new.items gathered.new.items) }
+        ensures marked { OnOk result (is_marked asked.new.items newest ≡ true) }
+        ensures stay { OnOk result (StayMarked asked.old.items asked.new.items) }
+        ensures count { length asked.new.items ≡ length asked.old.items }
+    {
+        self.ask_one(thins, det, newest, asked, gathered)?;
+        let mut number = newest;
+        while let Some(older) = self.outline.trace.older_delivery(det, number) {
+            self.ask_one(thins, det, older, asked, gathered)?;
+            number = older;
+        }
+        Ok(())
+    }
+
     /// Takes a look at the determinant of the delivery of a number, and asks it for that and for each older delivery with it.
     fn ask(
         &self,
@@ -148,18 +177,11 @@ impl Survey<'_, '_> {
         ensures stay { OnOk result (StayMarked asked.old.items asked.new.items) }
         ensures count { length asked.new.items ≡ length asked.old.items }
     {
-        let trace = self.outline.trace;
-        let Some(det) = trace.det_at(self.positions[newest as usize]) else {
+        let Some(det) = self.outline.trace.det_at(self.positions[newest as usize]) else {
             return Err(NoMemory);
         };
         let thins = self.look_at(alloc, det, newest)?;
-        self.ask_one(&thins, det, newest, asked, gathered)?;
-        let mut number = newest;
-        while let Some(older) = trace.older_delivery(det, number) {
-            self.ask_one(&thins, det, older, asked, gathered)?;
-            number = older;
-        }
-        Ok(())
+        self.ask_all(&thins, det, newest, asked, gathered)
     }
 
     /// The deliveries before the end that are not seen to be covered throughout. From the newest on each is asked with all older
@@ -168,6 +190,15 @@ impl Survey<'_, '_> {
         ensures { IfOk result (λ opened. AreGathered self.now opened.items) }
     {
         let mut asked = vec![in alloc; false; self.positions.len()]?;
+        self.gathered(alloc, &mut asked)
+    }
+
+    /// Those deliveries, where none was asked yet.
+    fn gathered(&self, alloc: Global, asked: &mut Vec<bool>) -> Result<Vec<OpenDelivery>, NoMemory>
+        requires none { AreAsked self.now asked.old.items [] }
+        requires count { length asked.old.items ≡ how_many self.now }
+        ensures { IfOk result (λ opened. AreGathered self.now opened.items) }
+    {
         let mut gathered = Vec::new(alloc);
         let mut number = self.positions.len() as u32;
         while number > 0 {
@@ -175,7 +206,7 @@ impl Survey<'_, '_> {
             if asked[number as usize] {
                 continue;
             }
-            self.ask(alloc, number, &mut asked, &mut gathered)?;
+            self.ask(alloc, number, asked, &mut gathered)?;
         }
         Ok(gathered)
     }

@@ -2,7 +2,7 @@
 ghost use Rattle.std.specs.Prelude.{◌≡◌, true};
 
 /// Who keeps a determinant that is not stable.
-#[derive(Clone, Copy, Debug)]
+#[derive(Clone, Copy)]
 pub enum Standing {
     /// More processes are down or hold it than may crash, or all whom its receiver reaches.
     Kept,
@@ -24,7 +24,7 @@ impl Standing {
 }
 
 /// The instants from `first` to `last`, and how a determinant stands at these at least.
-#[derive(Clone, Copy, Debug)]
+#[derive(Clone, Copy)]
 pub struct Stretch {
     pub first: u32,
     pub last: u32,

@@ -1,12 +1,6 @@
-use Rattle.std.proofs.Common.{◌≡◌, ap, subst, ◌∙◌}
-use Rattle.std.specs.Prelude.{IfOk}
 use Rattle.std.proofs.lemmas.Result.{IfOk-weaker}
-use Rattle.causal_audit.specs.Parts.{LeastOf, part_of}
-use Rattle.causal_audit.proofs.Lemmas.Parts.{whole}
+use Rattle.causal_audit.specs.Parts.{LeastOf}
 use Rattle.causal_audit.proofs.audit.least_by.Goals as goal
 
 pub returns : goal.returns
-returns c =
-    let prepared = c.in_ok-prepared.prepared in
-    let all : c.part-whole.result ≡ prepared = c.part-whole.ensures ∙ ap (part_of prepared 0) c.followed.ensures ∙ whole prepared in
-    IfOk-weaker c.least.result (LeastOf prepared) _ c.in_ok-prepared.ensures.enough (subst (λ followed. IfOk c.least.result (LeastOf followed)) all c.least.ensures)
+returns c = IfOk-weaker c.least.result (LeastOf c.in_ok-prepared.prepared) _ c.in_ok-prepared.ensures.enough c.least.ensures

@@ -7,8 +7,8 @@ use Rattle.causal_audit.specs.Inside.Index.Reached.{AreReached}
 use Rattle.causal_audit.specs.Inside.Among.{HasNoOrphanFrom, HasNoOrphanBy}
 use Rattle.causal_audit.specs.declared.index.mentions.Mentions.{Mentions}
 use Rattle.causal_audit.specs.declared.group.run_to_follow.OpenDelivery.{OpenDelivery}
-use Rattle.causal_audit.specs.declared.index.crashes_and_restarts.CrashesAndRestarts.{CrashesAndRestarts}
-use Rattle.causal_audit.specs.Inside.Index.Kept.{AreMentionsKept, AreTurnsKept}
+use Rattle.causal_audit.specs.declared.index.run_index.RunIndex.{RunIndex}
+use Rattle.causal_audit.specs.Inside.Index.Kept.{AreMentionsKept, IsIndexOf}
 use Rattle.causal_audit.specs.Inside.Index.Spreads.{AreSpreads, process_at}
 
 -- the positions of the deliveries
@@ -45,9 +45,8 @@ pub record IsRunUpTo (s : RunUpTo) (mentions : Mentions) : Type 0 where
 
 -- a run is prepared for its audit: who is down, what mentions each determinant before the instant `end`, and the deliveries that
 -- are followed
-pub record IsPrepared (r : Recording) (f end : ℕ) (turns : CrashesAndRestarts) (mentions : Mentions) (opened : List OpenDelivery) : Type 0 where
-  pub turned : AreTurnsKept r.past turns
-  pub mentioned : AreMentionsKept r.past (instant r.past end) mentions
+pub record IsPrepared (r : Recording) (f end : ℕ) (index : RunIndex) (opened : List OpenDelivery) : Type 0 where
+  pub indexed : IsIndexOf r.past end index
   pub followed : AreOpenDeliveries r f end opened
 
 -- which run a survey is of, for which f, and up to which instant it asks

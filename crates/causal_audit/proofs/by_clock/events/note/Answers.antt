@@ -1,5 +1,6 @@
 use Rattle.std.proofs.Common.{Err, ◌≤◌, length, arith, ap}
 use Rattle.causal_audit.proofs.by_clock.ClockEvents.{room, some_lane, sender_in, receiver_in, sent_in, restarted_in, lanes_left, after_send, after_deliver, after_stable, after_crash, after_forget, after_restart, only_memory}
+use Rattle.causal_audit.proofs.index.Filings.{on_ok}
 use Rattle.causal_audit.proofs.by_clock.events.note.Goals as goal
 
 pub bounds-present-from : goal.bounds-present-from
@@ -38,23 +39,23 @@ local-requires-in-Crash-clause-room c = room _ _ _ c.requires
 pub local-requires-in-Forget-clause-room : goal.local-requires-in-Forget-clause-room
 local-requires-in-Forget-clause-room c = room _ _ _ c.requires
 
-pub returns-in_ok-local-in-Send-clause-mirrors : goal.returns-in_ok-local-in-Send-clause-mirrors
-returns-in_ok-local-in-Send-clause-mirrors c = λ n past accepted m. rw c.in_ok-local-in-Send.ensures.appended (after_send n past _ _ _ accepted m _ _ _ c.in-Send.is)
+pub returns-in-Send-clause-mirrors : goal.returns-in-Send-clause-mirrors
+returns-in-Send-clause-mirrors c n past accepted m = on_ok c.local.result (λ appended. rw appended (after_send n past _ _ _ accepted m _ _ _ c.in-Send.is)) c.local.ensures.appended
 
-pub returns-in_ok-receive-in-Deliver-clause-mirrors : goal.returns-in_ok-receive-in-Deliver-clause-mirrors
-returns-in_ok-receive-in-Deliver-clause-mirrors c = λ n past accepted m. rw c.in_ok-receive-in-Deliver.ensures.appended (after_deliver n past _ _ _ accepted m _ _ _ _ c.in-Deliver.is)
+pub returns-in-Deliver-clause-mirrors : goal.returns-in-Deliver-clause-mirrors
+returns-in-Deliver-clause-mirrors c n past accepted m = on_ok c.receive.result (λ appended. rw appended (after_deliver n past _ _ _ accepted m _ _ _ _ c.in-Deliver.is)) c.receive.ensures.appended
 
-pub returns-in_ok-local-in-Stable-clause-mirrors : goal.returns-in_ok-local-in-Stable-clause-mirrors
-returns-in_ok-local-in-Stable-clause-mirrors c = λ n past accepted m. rw c.in_ok-local-in-Stable.ensures.appended (after_stable n past _ _ _ accepted m _ c.in-Stable.is (some_lane _ _ _ c.requires))
+pub returns-in-Stable-clause-mirrors : goal.returns-in-Stable-clause-mirrors
+returns-in-Stable-clause-mirrors c n past accepted m = on_ok c.local-in-Stable.result (λ appended. rw appended (after_stable n past _ _ _ accepted m _ c.in-Stable.is (some_lane _ _ _ c.requires))) c.local-in-Stable.ensures.appended
 
-pub returns-in_ok-local-in-Crash-clause-mirrors : goal.returns-in_ok-local-in-Crash-clause-mirrors
-returns-in_ok-local-in-Crash-clause-mirrors c = λ n past accepted m. rw c.in_ok-local-in-Crash.ensures.appended (after_crash n past _ _ _ accepted m _ c.in-Crash.is (some_lane _ _ _ c.requires))
+pub returns-in-Crash-clause-mirrors : goal.returns-in-Crash-clause-mirrors
+returns-in-Crash-clause-mirrors c n past accepted m = on_ok c.local-in-Crash.result (λ appended. rw appended (after_crash n past _ _ _ accepted m _ c.in-Crash.is (some_lane _ _ _ c.requires))) c.local-in-Crash.ensures.appended
 
-pub returns-in_ok-local-in-Forget-clause-mirrors : goal.returns-in_ok-local-in-Forget-clause-mirrors
-returns-in_ok-local-in-Forget-clause-mirrors c = λ n past accepted m. rw c.in_ok-local-in-Forget.ensures.appended (after_forget n past _ _ _ accepted m _ _ c.in-Forget.is (some_lane _ _ _ c.requires))
+pub returns-in-Forget-clause-mirrors : goal.returns-in-Forget-clause-mirrors
+returns-in-Forget-clause-mirrors c n past accepted m = on_ok c.local-in-Forget.result (λ appended. rw appended (after_forget n past _ _ _ accepted m _ _ c.in-Forget.is (some_lane _ _ _ c.requires))) c.local-in-Forget.ensures.appended
 
-pub returns-in_ok-local-in-Restart-clause-mirrors : goal.returns-in_ok-local-in-Restart-clause-mirrors
-returns-in_ok-local-in-Restart-clause-mirrors c = λ n past accepted m. rw (c.in_ok-local-in-Restart.ensures.appended, c.in-Ok.ensures.opened, c.in-Ok.ensures.number) (after_restart n past _ _ _ accepted m _ _ c.in-Restart.is)
+pub returns-in-Ok-clause-mirrors : goal.returns-in-Ok-clause-mirrors
+returns-in-Ok-clause-mirrors c n past accepted m = on_ok c.local-in-Restart.result (λ appended. rw appended (rw (c.in-Ok.ensures.opened, c.in-Ok.ensures.number) (after_restart n past _ _ _ accepted m _ _ c.in-Restart.is))) c.local-in-Restart.ensures.appended
 
 pub returns-in-Err-clause-refused : goal.returns-in-Err-clause-refused
 returns-in-Err-clause-refused c =

@@ -4,6 +4,15 @@ use Rattle.causal_audit.specs.Inside.Look.Looks.{StandsBy}
 use Rattle.causal_audit.proofs.look.LookSteps.{is_change, passed_to, written, onward_stop, over}
 use Rattle.causal_audit.proofs.look.Look.next.Goals as goal
 
+pub returns-then-last-self-clause-stop : goal.returns-then-last-self-clause-stop
+returns-then-last-self-clause-stop c later = absurd (omega (arith, later))
+
+pub returns-then-is_written-clause-stop : goal.returns-then-is_written-clause-stop
+returns-then-is_written-clause-stop c later = absurd (omega (arith, later))
+
+pub returns-then-is_kept-clause-stop : goal.returns-then-is_kept-clause-stop
+returns-then-is_kept-clause-stop c later = absurd (omega (arith, later))
+
 pub returns-then-last-self-clause-passed : goal.returns-then-last-self-clause-passed
 returns-then-last-self-clause-passed c =
     let look = c.args.self.now in

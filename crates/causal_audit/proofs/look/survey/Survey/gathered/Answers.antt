@@ -2,7 +2,7 @@ use Rattle.causal_audit.proofs.Common.{◌≤◌, length, subst, arith, instant,
 use Rattle.causal_audit.specs.Inside.Group.OpenDeliveries.{Asked}
 use Rattle.causal_audit.proofs.DeliveryNumbers.{deliveries_few}
 use Rattle.causal_audit.proofs.look.SurveyAsks.{all_told}
-use Rattle.causal_audit.proofs.look.survey.Survey.opened.Goals as goal
+use Rattle.causal_audit.proofs.look.survey.Survey.gathered.Goals as goal
 
 pub overflow_cast-number : goal.overflow_cast-number
 overflow_cast-number c =

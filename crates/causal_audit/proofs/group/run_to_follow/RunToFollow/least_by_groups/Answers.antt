@@ -6,7 +6,7 @@ use Rattle.causal_audit.specs.Earlier.{earlier}
 use Rattle.causal_audit.specs.Inside.Group.OpenDeliveries.{IsDeliveryAt, IsOpenDelivery, positions_of}
 use Rattle.causal_audit.specs.declared.group.run_to_follow.OpenDelivery.{OpenDelivery}
 use Rattle.causal_audit.proofs.group.OpenPositions.{all_left, all_right, position}
-use Rattle.causal_audit.proofs.group.run_to_follow.RunToFollow.least_within.Goals as goal
+use Rattle.causal_audit.proofs.group.run_to_follow.RunToFollow.least_by_groups.Goals as goal
 
 pub loop-group-init : goal.loop-group-init
 loop-group-init c =
@@ -20,7 +20,7 @@ loop-group-init c =
       size = size;
       deliveries = subst (All (λ (delivery : OpenDelivery). IsDeliveryAt r.past delivery.position)) (sym rest) c.requires.deliveries;
       none_later = subst (All (IsOpenDelivery r c.args.f c.args.end)) (sym rest) c.requires.opened;
-      room = c.in_ok-room.ensures;
+      room = c.requires.room;
       least = ([], rest, among_none r c.args.f c.args.end);
     }
 

@@ -1,7 +1,7 @@
 use Rattle.causal_audit.proofs.Common.{◌≡◌, ◌+◌, ◌<◌, Some, true, length}
 use Rattle.causal_trace.specs.Numbers.{delivered_dets, number_of}
 use Rattle.causal_audit.specs.Inside.Group.OpenDeliveries.{AreAsked, StayMarked, how_many, is_marked}
-use Rattle.causal_audit.proofs.look.survey.Survey.ask.Given as goal
+use Rattle.causal_audit.proofs.look.survey.Survey.ask_all.Given as goal
 
 -- the newest with the determinant is marked, and so are those down to this number
 abbrev pub invariant-loop-older : goal.invariant-loop-older

@@ -1,6 +1,6 @@
 use Rattle.causal_audit.proofs.Common.{ℕ, ◌≡◌, ◌<◌, ◌≤◌, true, length}
 use Rattle.causal_audit.specs.Inside.Group.OpenDeliveries.{AreAsked, how_many, is_marked}
-use Rattle.causal_audit.proofs.look.survey.Survey.opened.Given as goal
+use Rattle.causal_audit.proofs.look.survey.Survey.gathered.Given as goal
 
 -- all from this number on are asked
 abbrev pub invariant-loop-number : goal.invariant-loop-number

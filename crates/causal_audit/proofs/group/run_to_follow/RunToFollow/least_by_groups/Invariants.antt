@@ -4,7 +4,7 @@ use Rattle.causal_audit.specs.Inside.Among.{LeastAmongBy}
 use Rattle.causal_audit.specs.Inside.Group.Walk.{HasBuffers}
 use Rattle.causal_audit.specs.declared.group.run_to_follow.OpenDelivery.{OpenDelivery}
 use Rattle.causal_audit.specs.Inside.Group.OpenDeliveries.{IsDeliveryAt, IsOpenDelivery, positions_of}
-use Rattle.causal_audit.proofs.group.run_to_follow.RunToFollow.least_within.Given as goal
+use Rattle.causal_audit.proofs.group.run_to_follow.RunToFollow.least_by_groups.Given as goal
 
 -- the least of the groups so far
 abbrev pub invariant-loop-group : goal.invariant-loop-group
