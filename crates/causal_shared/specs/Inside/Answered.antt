@@ -1,4 +1,4 @@
--- What is told of an answer with another fault.
+-- Answers whose refusals are told as another fault.
 use Rattle.std.specs.Prelude.{Result, Ok, Err}
 use Rattle.causal_core.specs.declared.restart.Refused.{Refused}
 use Rattle.causal_shared.specs.declared.refused.LockedRefused.{LockedRefused}
@@ -6,7 +6,7 @@ use Rattle.causal_shared.specs.declared.refused.SharedRefused.{SharedRefused}
 use Rattle.causal_shared.specs.declared.fault.LockedFault.TheVariants.{Core}
 use Rattle.causal_shared.specs.Seat.{fault_of}
 
--- the answer, with what is told of its refusal
+-- the answer, where a refusal is told by another
 abbrev pub answered : {A E F : Type 0} → (E → F) → Result A E → Result A F
 answered refusal (Ok a) = Ok a
 answered refusal (Err e) = Err (refusal e)

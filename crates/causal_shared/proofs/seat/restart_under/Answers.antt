@@ -19,7 +19,7 @@ returns-clause-section g c =
     rw heard (rw c.begin.ensures.sitting at (c.hear.ensures (held_of c.args.locked.now) c.in-Ok.ensures.ok item))
 
 pub returns-clause-spare : goal.returns-clause-spare
-returns-clause-spare g c = rw c.shared_restart.ensures (if_err_answered shared_refusal _ _ (λ e p. p) c.restart-answer.result c.restart-answer.ensures.spare)
+returns-clause-spare g c = if_err_answered shared_refusal _ _ c.restart-answer.result _ c.shared_restart.ensures (λ e p. p) c.restart-answer.ensures.spare
 
 pub returns-clause-wrong : goal.returns-clause-wrong
 returns-clause-wrong g c = (

@@ -12,8 +12,8 @@ note-requires-clause-call g c = count_below (run_of c.args.self.now.core) c.args
 
 pub returns-clause-item : goal.returns-clause-item
 returns-clause-item g c =
-    is_recorded (held_of c.args.self.now) _ c.args.seat c.args.call c.in_ok-first.first c.begun.new.history.items _ (Ask.Flush c.args.p) c.of_flush.result _
-    (rw (c.flush_answer.ensures, c.of_flush.ensures) (tells_flush c.flush-answer.result)) (rw c.of_flush.ensures c.flush-answer.ensures.step) c.in_ok-first.ensures.first c.begun.ensures.items c.note.ensures.history c.note.ensures.seats (search rules)
+    is_recorded (held_of c.args.self.now) _ c.args.seat c.args.call c.in_ok-first.first c.begun.new.history.items _ (Ask.Flush c.args.p) c.of_flush.result _ _
+    (tells_flush c.flush-answer.result _ c.flush_answer.ensures) c.of_flush.ensures c.flush-answer.ensures.step c.in_ok-first.ensures.first c.begun.ensures.items c.note.ensures.history c.note.ensures.seats (search rules)
 
 pub returns-clause-fault : goal.returns-clause-fault
-returns-clause-fault g c = rw c.flush_answer.ensures (if_err_answered Fault.Flush _ _ (λ e p. p) c.flush-answer.result c.flush-answer.ensures.fault)
+returns-clause-fault g c = if_err_answered Fault.Flush _ _ c.flush-answer.result _ c.flush_answer.ensures (λ e p. p) c.flush-answer.ensures.fault

@@ -12,5 +12,5 @@ note-requires-clause-call g c = count_below (run_of c.args.self.now.core) c.args
 
 pub returns-clause-item : goal.returns-clause-item
 returns-clause-item g c =
-    is_recorded (held_of c.args.self.now) _ c.args.seat c.args.call c.in_ok-first.first c.begun.new.history.items _ (Ask.Forget c.args.p) c.of_forget.result _
-    (rw (c.core_answer.ensures, c.of_forget.ensures) (tells_forget c.forget-answer.result)) (rw c.of_forget.ensures c.forget-answer.ensures.step) c.in_ok-first.ensures.first c.begun.ensures.items c.note.ensures.history c.note.ensures.seats (search rules)
+    is_recorded (held_of c.args.self.now) _ c.args.seat c.args.call c.in_ok-first.first c.begun.new.history.items _ (Ask.Forget c.args.p) c.of_forget.result _ _
+    (tells_forget c.forget-answer.result _ c.core_answer.ensures) c.of_forget.ensures c.forget-answer.ensures.step c.in_ok-first.ensures.first c.begun.ensures.items c.note.ensures.history c.note.ensures.seats (search rules)

@@ -12,14 +12,14 @@ note-requires-clause-call g c = count_below (run_of c.args.self.now.core) c.args
 
 pub returns-clause-item : goal.returns-clause-item
 returns-clause-item g c =
-    is_recorded (held_of c.args.self.now) _ c.args.seat c.args.call c.in-Ok.first c.begun.new.history.items _ (Ask.Restart c.args.p) c.restart_reply.result _
-    (rw (c.restart_answer.ensures, c.restart_reply.ensures) (tells_restart c.restart-answer.result)) (rw c.restart_reply.ensures c.restart-answer.ensures.step) c.in-Ok.ensures.first c.begun.ensures.items c.note.ensures.history c.note.ensures.seats (search rules)
+    is_recorded (held_of c.args.self.now) _ c.args.seat c.args.call c.in-Ok.first c.begun.new.history.items _ (Ask.Restart c.args.p) c.restart_reply.result _ _
+    (tells_restart c.restart-answer.result _ c.restart_answer.ensures) c.restart_reply.ensures c.restart-answer.ensures.step c.in-Ok.ensures.first c.begun.ensures.items c.note.ensures.history c.note.ensures.seats (search rules)
 
 pub returns-clause-ok : goal.returns-clause-ok
-returns-clause-ok g c = rw c.restart_answer.ensures (ok_answered core_refusal _ c.restart-answer.result c.restart-answer.ensures.ok)
+returns-clause-ok g c = ok_answered core_refusal _ c.restart-answer.result _ c.restart_answer.ensures c.restart-answer.ensures.ok
 
 pub returns-clause-refused : goal.returns-clause-refused
-returns-clause-refused g c = rw c.restart_answer.ensures (err_answered core_refusal _ c.restart-answer.result c.restart-answer.ensures.refused)
+returns-clause-refused g c = err_answered core_refusal _ c.restart-answer.result _ c.restart_answer.ensures c.restart-answer.ensures.refused
 
 pub returns-clause-spare : goal.returns-clause-spare
-returns-clause-spare g c = rw c.restart_answer.ensures (if_err_answered core_refusal _ _ (λ e p. p) c.restart-answer.result c.restart-answer.ensures.spare)
+returns-clause-spare g c = if_err_answered core_refusal _ _ c.restart-answer.result _ c.restart_answer.ensures (λ e p. p) c.restart-answer.ensures.spare
