@@ -3,6 +3,7 @@ mod Lists
 mod Cuts
 mod Shown
 mod Histories
+mod Answered
 mod Seats
 mod Parts
 mod Totals

@@ -12,15 +12,18 @@ use Rattle.causal_trace.specs.declared.entry.Entry.{Entry}
 use Rattle.causal_shared.specs.History.{instant, Shows, Held, Holds, count_at}
 use Rattle.causal_shared.specs.Inside.Keeping.{item_at, Keeps}
 use Rattle.causal_protocol.specs.Telling.{told_entries}
-use Rattle.causal_shared.specs.Locked.{told, ItemCall, IsSnapshot}
+use Rattle.causal_protocol.specs.declared.request.Restarted.{Restarted}
+use Rattle.causal_shared.specs.declared.refused.LockedRefused.{LockedRefused}
+use Rattle.causal_shared.specs.Inside.Answered.{answered, shared_refusal}
+use Rattle.causal_shared.specs.Locked.{told, told_fault, told_restart, ItemCall, IsSnapshot}
 use Rattle.causal_shared.specs.declared.fault.LockedFault.{LockedFault}
 use Rattle.causal_shared.specs.declared.fault.LockedFault.TheVariants as Refusal
 use Rattle.causal_shared.specs.declared.fault.SharedFault.{SharedFault}
 use Rattle.causal_shared.specs.declared.fault.SharedFault.TheVariants as Fault
 use Rattle.causal_trace.specs.Rows.{Recording}
 use Rattle.causal_shared.specs.declared.item.Snapshot.{Snapshot}
-use Rattle.causal_shared.specs.Seat.{heard, Sitting, SeatState, with_item, SeesEntries}
-use Rattle.causal_shared.specs.Inside.Seated.{shared_of, MayCall, IsSeated, ItemSection}
+use Rattle.causal_shared.specs.Seat.{fault_of, heard, heard_fault, heard_restart, Sitting, SeatCall, SeatState, with_item, SeesEntries}
+use Rattle.causal_shared.specs.Inside.Seated.{refusal_of, shared_of, MayCall, IsSeated, ItemSection}
 use Rattle.causal_protocol.proofs.Lemmas.StepAppends.{replies_tell_entries}
 
 -- what a call of the locked value asks of a seat that may make it
@@ -135,3 +138,43 @@ never_full (Err Refusal.NoRecord) e = cc e
 -- where the seat may call, it is not wrong
 pub not_wrong : {A : Type 0} (a : Result A LockedFault) (told : Result A SharedFault) (r : Result ℕ SharedFault) (first : ℕ) (P : Type 0) → told ≡ shared_of a → r ≡ Ok first → (r ≡ Err Fault.WrongSeat ↔ ¬ P) → (told ≡ Err Fault.WrongSeat ↔ ¬ P)
 not_wrong a told r first P is ok wrong = (λ e. absurd (never_wrong a (sym is ∙ e)), λ no. absurd (let e : ◌≡◌ {A = Result ℕ SharedFault} (Ok first) (Err Fault.WrongSeat) = sym ok ∙ wrong.1 no in cc))
+
+-- what the seat hears of a refusal is what the item tells of it
+heard_refusal : (fault : LockedFault) → heard_fault (fault_of fault) ≡ told_fault fault
+heard_refusal (Refusal.Core fault) = refl
+heard_refusal (Refusal.Flush fault) = refl
+heard_refusal Refusal.NoRecord = refl
+
+-- the same of a restart
+pub heard_again : {B : Type 0} (a : Result Restarted (LockedRefused B)) → heard_restart (answered shared_refusal a) ≡ told_restart a
+heard_again (Ok restarted) = refl
+heard_again (Err refused) = heard_refusal refused.fault
+
+-- no fault of the locked value says that the seat is wrong, or that the history is full
+is_no_refusal : (fault : LockedFault) → ((fault_of fault ≡ Fault.WrongSeat) → ⊥) × ((fault_of fault ≡ Fault.HistoryFull) → ⊥)
+is_no_refusal (Refusal.Core fault) = (λ e. cc e, λ e. cc e)
+is_no_refusal (Refusal.Flush fault) = (λ e. cc e, λ e. cc e)
+is_no_refusal Refusal.NoRecord = (λ e. cc e, λ e. cc e)
+
+some_is : {A : Type 0} (a b : A) → Some a ≡ Some b → a ≡ b
+some_is a b e = cc
+
+pub restarts_never_wrong : {B : Type 0} (a : Result Restarted (LockedRefused B)) → refusal_of (answered shared_refusal a) ≡ Some Fault.WrongSeat → ⊥
+restarts_never_wrong (Ok restarted) e = cc e
+restarts_never_wrong (Err refused) e = (is_no_refusal refused.fault).0 (some_is _ _ e)
+
+pub restarts_never_full : {B : Type 0} (a : Result Restarted (LockedRefused B)) → refusal_of (answered shared_refusal a) ≡ Some Fault.HistoryFull → ⊥
+restarts_never_full (Ok restarted) e = cc e
+restarts_never_full (Err refused) e = (is_no_refusal refused.fault).1 (some_is _ _ e)
+
+-- of one section of the lock, what the seat sees
+pub seat_called : (old new : Held) (seat seat' : Sitting) (request : Request) (reply : Option Reply) → ItemSection old new seat seat' request reply → SeatCall seat seat' request reply
+seat_called old new seat seat' request None section = section.1
+seat_called old new seat seat' request (Some reply) section = section.1
+
+-- that a seat is wrong is not told where it is not, and is where it is
+pub seated_ok : {A : Type 0} (x : A) (P : Type 0) → P → (◌≡◌ {A = Result A SharedFault} (Ok x) (Err Fault.WrongSeat) ↔ ¬ P)
+seated_ok x P seated = (λ e. absurd cc, λ no. absurd (no seated))
+
+pub not_seated : {A : Type 0} (P : Type 0) → ¬ P → (◌≡◌ {A = Result A SharedFault} (Err Fault.WrongSeat) (Err Fault.WrongSeat) ↔ ¬ P)
+not_seated P unseated = (λ e. unseated, λ other. refl)

@@ -1,4 +1,5 @@
 -- What models and private functions keep; no public clause cites it.
+pub mod Answered
 pub mod Keeping
 pub mod Props
 pub mod Noting

@@ -4,7 +4,7 @@ use causal_trace::trace::Trace;
 use std::marker::Model;
 
 /// One call of a seat.
-#[derive(Clone, Copy, PartialEq, Eq, Debug)]
+#[derive(Clone, Copy)]
 pub struct Item {
     /// The seat that called.
     pub seat: u32,
@@ -17,7 +17,7 @@ pub struct Item {
 }
 
 /// Items in order. Contracts see their list.
-#[derive(Debug, Drop)]
+#[derive(Drop)]
 pub struct Items {
     items: Vec<Item>,
 }
@@ -50,7 +50,7 @@ impl Items {
 }
 
 /// What is kept of a seat under the lock.
-#[derive(Clone, Copy, PartialEq, Eq, Debug)]
+#[derive(Clone, Copy)]
 pub struct KeptSeat {
     /// The number of its items.
     pub count: u32,

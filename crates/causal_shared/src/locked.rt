@@ -1,9 +1,9 @@
 //! The value behind the lock.
-ghost use Rattle.std.specs.Prelude.{◌≡◌, ◌+◌, ◌<◌, ◌≤◌, ◌↔◌, [], ◌∷◌, ◌++◌, length, slice_get};
+ghost use Rattle.std.specs.Prelude.{◌≡◌, ◌+◌, ◌<◌, ◌≤◌, ◌↔◌, [], ◌∷◌, ◌++◌, length, replicate, slice_get};
 ghost use Rattle.std.specs.Prelude.{vec_len, vec_capacity, IfOk, IfErr, OnOk, OnErr, IsTrue, None};
 ghost use Rattle.std.specs.Option.{option_copied};
 ghost use Rattle.causal_core.specs.CoreView.{run_of};
-ghost use Rattle.causal_shared.specs.History.{IsHistory, Holds, Sees, instant, item_of, with_kept};
+ghost use Rattle.causal_shared.specs.History.{IsHistory, Holds, Sees, fresh_seat, instant, item_of, with_kept};
 ghost use Rattle.causal_shared.specs.Inside.Keeping.{Keeps, item_at};
 ghost use Rattle.causal_shared.specs.Inside.Noting.{GoesOn};
 ghost use Rattle.causal_shared.specs.Limits.{max_items, max_seats};
@@ -15,6 +15,7 @@ use crate::fault::LockedFault;
 use crate::item::{Item, Items, KeptSeat, Snapshot};
 use crate::limits::MAX_ITEMS;
 use crate::refused::LockedRefused;
+use crate::replies::{core_answer, flush_answer, restart_answer};
 use crate::same::same_item;
 use causal_core::restart::Refused;
 use causal_core::runtime::Core;
@@ -40,6 +41,19 @@ fn instant_of<S: Stable>(core: &Core<S>) -> u32
     ensures { result ≡ instant (run_of core.now) }
 {
     core.trace().len()
+}
+
+/// So many seats that have seen so many entries, with no item.
+fn seats_seen(alloc: Global, k: u32, seen: u32) -> Result<Vec<KeptSeat>, NoMemory>
+    ensures items { IfOk result (λ seats. seats.items ≡ replicate k (fresh_seat seen)) }
+    ensures len { IfOk result (λ seats. vec_len seats ≡ k) }
+{
+    let seat = KeptSeat {
+        count: 0,
+        seen,
+        last: None,
+    };
+    Ok(vec![in alloc; seat; k as usize]?)
 }
 
 /// Makes room for one item more, and tells how many entries there are before it.
@@ -162,11 +176,7 @@ impl<S: Stable> Locked<S> {
         ensures core { IfOk result (λ l. state_under l ≡ state_of core) }
     {
         let seen = instant_of(&core);
-        let seats = vec![in alloc; KeptSeat {
-            count: 0,
-            seen,
-            last: None
-        }; k as usize]?;
+        let seats = seats_seen(alloc, k, seen)?;
         Ok(Locked {
             core,
             history: Vec::new(alloc),
@@ -273,7 +283,7 @@ impl<S: Stable> Locked<S> {
         let told = (request, Reply::of_delivery(answer));
         let turn = Turn { seat, call, first };
         note(&self.core, &mut self.history, &mut self.seats, turn, told);
-        Ok(answer?)
+        core_answer(answer)
     }
 
     /// Takes process p down, as this call of the seat.
@@ -291,7 +301,7 @@ impl<S: Stable> Locked<S> {
         let told = (Request::Crash { p }, Reply::of_crash(answer));
         let turn = Turn { seat, call, first };
         note(&self.core, &mut self.history, &mut self.seats, turn, told);
-        Ok(answer?)
+        core_answer(answer)
     }
 
     /// Brings process p up again as the spare, which begins, as this call of the seat.
@@ -321,7 +331,7 @@ impl<S: Stable> Locked<S> {
         let told = (Request::Restart { p }, restart_reply(&answer));
         let turn = Turn { seat, call, first };
         note(&self.core, &mut self.history, &mut self.seats, turn, told);
-        Ok(answer?)
+        restart_answer(answer)
     }
 
     /// Puts what process p logs and does not know to be stable into stable storage, as this call of the seat. Where it
@@ -343,7 +353,7 @@ impl<S: Stable> Locked<S> {
         let told = (Request::Flush { p }, Reply::of_flush(answer));
         let turn = Turn { seat, call, first };
         note(&self.core, &mut self.history, &mut self.seats, turn, told);
-        Ok(answer?)
+        flush_answer(answer)
     }
 
     /// Takes what process p knows to be stable out of its log, as this call of the seat.
@@ -362,7 +372,7 @@ impl<S: Stable> Locked<S> {
         let told = (Request::Forget { p }, Reply::of_forget(answer));
         let turn = Turn { seat, call, first };
         note(&self.core, &mut self.history, &mut self.seats, turn, told);
-        Ok(answer?)
+        core_answer(answer)
     }
 
     /// The messages that up processes keep for q and that q's present lane has not received, by sender and number.

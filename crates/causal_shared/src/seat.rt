@@ -23,7 +23,7 @@ use crate::fault::SharedFault;
 use crate::item::{Item, Snapshot};
 use crate::locked::Locked;
 use crate::refused::SharedRefused;
-use crate::replies::{delivery_told, restart_told, shared_answer, task_told};
+use crate::replies::{delivery_told, restart_told, shared_answer, shared_restart, task_told};
 use crate::task::Task;
 use causal_log::Stable;
 use causal_name::{MsgName, NoMemory, Pid};
@@ -263,7 +263,7 @@ pub(crate) fn restart_under<S: Stable>(
     let answer = locked.restart(seat.number(), seat.count(), p, spare);
     let request = Request::Restart { p };
     hear(locked, seat, request, restart_told(&answer), first);
-    Ok(answer?)
+    shared_restart(answer)
 }
 
 /// The lock's part of a snapshot.

@@ -10,7 +10,7 @@ use causal_name::Pid;
 use causal_protocol::request::{Reply, Request};
 
 /// What is asked of one process and answered by a number.
-#[derive(Clone, Copy, Debug)]
+#[derive(Clone, Copy)]
 pub(crate) enum Task {
     Crash,
     Flush,

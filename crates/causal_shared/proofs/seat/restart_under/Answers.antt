@@ -1,7 +1,13 @@
-use Rattle.std.proofs.Common.{◌∙◌, ap, sym, length}
+use Rattle.std.proofs.Common.{◌≡◌, ◌∙◌, sym, length, refl}
+use Rattle.std.specs.Prelude.{Result, Ok, Err, ℕ}
 use Rattle.causal_protocol.specs.declared.request.Request.TheVariants as Ask
+use Rattle.causal_shared.specs.declared.fault.SharedFault.{SharedFault}
+use Rattle.causal_shared.specs.declared.fault.SharedFault.TheVariants as Fault
+use Rattle.causal_shared.specs.Inside.Answered.{shared_refusal}
 use Rattle.causal_shared.specs.Locked.{held_of, ItemCall}
-use Rattle.causal_shared.proofs.Seats.{called}
+use Rattle.causal_shared.specs.Seat.{heard_restart}
+use Rattle.causal_shared.proofs.Answered.{if_err_answered}
+use Rattle.causal_shared.proofs.Seats.{called, heard_again, restarts_never_full, restarts_never_wrong}
 use Rattle.causal_shared.proofs.seat.restart_under.Goals as goal
 
 pub returns-clause-section : goal.returns-clause-section
@@ -9,7 +15,20 @@ returns-clause-section g c =
     let seat = c.begin.new.seat.sitting in
     let item : ItemCall (held_of c.args.locked.now) (held_of c.restart-answer.new.self) seat.number (length seat.items) (Ask.Restart c.args.p) c.restart_told.result =
     rw c.restart_told.ensures (rw (c.number.ensures, c.count.ensures) at c.restart-answer.ensures.item) in
-    rw (c.restart_told.ensures, c.in_ok-answer.was, c.begin.ensures.sitting) at (c.hear.ensures (held_of c.args.locked.now) c.in-Ok.ensures.ok item)
+    let heard : heard_restart c.shared_restart.result ≡ c.restart_told.result = rw (c.shared_restart.ensures, c.restart_told.ensures) (heard_again c.restart-answer.result) in
+    rw heard (rw c.begin.ensures.sitting at (c.hear.ensures (held_of c.args.locked.now) c.in-Ok.ensures.ok item))
+
+pub returns-clause-spare : goal.returns-clause-spare
+returns-clause-spare g c = if_err_answered shared_refusal _ _ c.restart-answer.result _ c.shared_restart.ensures (λ e p. p) c.restart-answer.ensures.spare
+
+pub returns-clause-wrong : goal.returns-clause-wrong
+returns-clause-wrong g c = (
+  λ e. absurd (restarts_never_wrong c.restart-answer.result (rw c.shared_restart.ensures at e)),
+  λ no. absurd (let e : ◌≡◌ {A = Result ℕ SharedFault} (Ok c.in-Ok.first) (Err Fault.WrongSeat) = sym c.in-Ok.is ∙ c.begin.ensures.wrong.1 no in cc),
+)
+
+pub returns-clause-full : goal.returns-clause-full
+returns-clause-full g c = λ e. absurd (restarts_never_full c.restart-answer.result (rw c.shared_restart.ensures at e))
 
 pub restart-answer-requires : goal.restart-answer-requires
 restart-answer-requires g c =
