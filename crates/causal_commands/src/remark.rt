@@ -14,7 +14,7 @@ use causal_workers::Judged;
 use std::alloc::Global;
 
 /// The first fault of a text that is no trace, and what more there is to say of it.
-#[derive(Clone, Copy, Debug, PartialEq, Eq)]
+#[derive(Clone, Copy)]
 pub struct Refusal {
     pub fault: TextFault,
     /// None where there is nothing to say, or memory was refused.
@@ -22,7 +22,7 @@ pub struct Refusal {
 }
 
 /// What is said of the line of a fault.
-#[derive(Clone, Copy, Debug, PartialEq, Eq)]
+#[derive(Clone, Copy)]
 pub struct Remark {
     /// What is wrong with it, in numbers.
     pub wrong: Option<Wrong>,
