@@ -24,40 +24,29 @@ enum Call {
     Forget(u8),
 }
 
-impl Call {
-    fn name(self) -> &'static str {
-        match self {
-            Call::Deliver(..) => "core.deliver",
-            Call::Crash(_) => "core.crash",
-            Call::Gathered(_) => "core.gathered",
-            Call::Replay(_) => "core.replay",
-            Call::Pending(_) => "core.pending",
-            Call::Flush(_) => "core.flush",
-            Call::Forget(_) => "core.forget",
-        }
-    }
-}
+/// A call, and how it is told.
+type Named = (&'static str, Call);
 
 /// Twice round the ring, and then process 1 goes down.
-const BEFORE: [Call; 10] = [
-    Call::Deliver(1, 0, 0),
-    Call::Deliver(2, 1, 0),
-    Call::Deliver(0, 2, 0),
-    Call::Deliver(1, 0, 1),
-    Call::Deliver(2, 1, 1),
-    Call::Deliver(0, 2, 1),
-    Call::Flush(2),
-    Call::Forget(2),
-    Call::Crash(1),
-    Call::Gathered(1),
+const BEFORE: [Named; 10] = [
+    ("core.deliver", Call::Deliver(1, 0, 0)),
+    ("core.deliver", Call::Deliver(2, 1, 0)),
+    ("core.deliver", Call::Deliver(0, 2, 0)),
+    ("core.deliver", Call::Deliver(1, 0, 1)),
+    ("core.deliver", Call::Deliver(2, 1, 1)),
+    ("core.deliver", Call::Deliver(0, 2, 1)),
+    ("core.flush", Call::Flush(2)),
+    ("core.forget", Call::Forget(2)),
+    ("core.crash", Call::Crash(1)),
+    ("core.gathered", Call::Gathered(1)),
 ];
 
 /// What it had delivered, and once more round.
-const AFTER: [Call; 4] = [
-    Call::Replay(1),
-    Call::Pending(1),
-    Call::Deliver(1, 0, 2),
-    Call::Deliver(2, 1, 2),
+const AFTER: [Named; 4] = [
+    ("core.replay", Call::Replay(1)),
+    ("core.pending", Call::Pending(1)),
+    ("core.deliver", Call::Deliver(1, 0, 2)),
+    ("core.deliver", Call::Deliver(2, 1, 2)),
 ];
 
 /// More deliveries than a replay makes here.
@@ -124,55 +113,41 @@ fn is_left(before: (u32, u32), done: u32, after: (u32, u32)) -> bool {
 }
 
 /// Makes a call that changes the core, once; whether it came through.
-fn changed<P: Print + Eprint, S: Stable>(rt: &P, core: &mut Core<S>, call: Call) -> bool {
+fn changed<P: Print + Eprint, S: Stable>(rt: &P, core: &mut Core<S>, (name, call): Named) -> bool {
     let before = extent(core);
     match asked(core, call) {
-        Ok(()) => came(rt, call.name(), &extent(core)),
+        Ok(()) => came(rt, name, &extent(core)),
         Err(stopped) => {
             let is_left = is_left(before, stopped.done, extent(core));
-            refused(rt, call.name(), &stopped.fault, is_left)
+            refused(rt, name, &stopped.fault, is_left)
         }
     }
 }
 
-fn gathered<P: Print + Eprint, S: Stable>(rt: &P, core: &Core<S>, call: Call, p: u8) -> bool {
-    match core.gathered(Pid(p)) {
-        Ok(dets) => came(rt, call.name(), &dets.len()),
-        Err(fault) => refused(rt, call.name(), &fault, true),
-    }
-}
-
-fn pending<P: Print + Eprint, S: Stable>(rt: &P, core: &Core<S>, call: Call, q: u8) -> bool {
-    match core.pending(Pid(q)) {
-        Ok(names) => came(rt, call.name(), &names.len()),
-        Err(fault) => refused(rt, call.name(), &fault, true),
-    }
-}
-
 /// Makes a call once; whether it came through.
-fn made<P: Print + Eprint, S: Stable>(rt: &P, core: &mut Core<S>, call: Call) -> bool {
+fn made<P: Print + Eprint, S: Stable>(rt: &P, core: &mut Core<S>, (name, call): Named) -> bool {
     match call {
-        Call::Gathered(p) => gathered(rt, core, call, p),
-        Call::Pending(q) => pending(rt, core, call, q),
-        _ => changed(rt, core, call),
+        Call::Gathered(p) => match core.gathered(Pid(p)) {
+            Ok(dets) => came(rt, name, &dets.len()),
+            Err(fault) => refused(rt, name, &fault, true),
+        },
+        Call::Pending(q) => match core.pending(Pid(q)) {
+            Ok(names) => came(rt, name, &names.len()),
+            Err(fault) => refused(rt, name, &fault, true),
+        },
+        _ => changed(rt, core, (name, call)),
     }
 }
 
-/// Makes a call until it comes through.
-fn made_again<P: Print + Eprint, S: Stable>(rt: &P, core: &mut Core<S>, call: Call) -> bool {
-    let mut is_made = false;
+/// Makes calls one after the other, each until it comes through.
+fn all_made<P: Print + Eprint, S: Stable>(rt: &P, core: &mut Core<S>, calls: &[Named]) -> bool {
+    let mut done = 0;
     for _ in 0..TRIES {
-        is_made = is_made || made(rt, core, call);
+        if done < calls.len() && made(rt, core, calls[done]) {
+            done += 1;
+        }
     }
-    is_made
-}
-
-fn all_made<P: Print + Eprint, S: Stable>(rt: &P, core: &mut Core<S>, calls: &[Call]) -> bool {
-    let mut are_made = true;
-    for call in calls {
-        are_made = are_made && made_again(rt, core, *call);
-    }
-    are_made
+    done == calls.len()
 }
 
 /// A restart gives the spare back where it is refused.

@@ -64,17 +64,15 @@ fn all_pieces(reader: &mut TraceReader<Drip<'static>>) -> Result<u32, ReaderFaul
     Err(ReaderFault::Unfinished)
 }
 
-/// After a refusal a reader reads no more.
-fn has_failed(reader: &mut TraceReader<Drip<'static>>) -> bool {
-    reader.next_piece() == Err(ReaderFault::Failed)
-}
-
-/// Reads the text by a reader of its own; whether it was read to its end.
+/// Reads the text by a reader of its own; whether it was read to its end. After a refusal a reader reads no more.
 fn is_read_in_pieces<P: Print + Eprint>(rt: &P, alloc: Global) -> bool {
     let mut reader = TraceReader::new(alloc, source());
     match all_pieces(&mut reader) {
         Ok(count) => came(rt, "next_piece", &count),
-        Err(fault) => refused(rt, "next_piece", &fault, has_failed(&mut reader)),
+        Err(fault) => {
+            let has_failed = reader.next_piece() == Err(ReaderFault::Failed);
+            refused(rt, "next_piece", &fault, has_failed)
+        }
     }
 }
 

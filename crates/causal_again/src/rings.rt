@@ -1,10 +1,9 @@
 //! The processes of the runs: a ring of three.
-use crate::cores::{Boxed, run, started};
-use crate::seats::served;
+use crate::cores::Boxed;
 use crate::told::{TRIES, refused};
+use crate::{cores, seats};
 use causal_name::NoMemory;
 use causal_process::Ring;
-use causal_shared::shared::Shared;
 use std::alloc::Global;
 use std::sync::Wait;
 use std::thread::Threads;
@@ -15,32 +14,24 @@ const PROCESSES: u8 = 3;
 /// How many hops the message makes.
 const HOPS: u8 = 9;
 
-// A function that makes a box and hands it out would hide what it makes, so each run makes its own.
+// A function that makes a box and hands it out would hide what it makes, so the one that makes them runs them.
 
-/// Makes the processes of a core, and a spare, and runs them; whether they were run.
-fn made_core<R: Print + Eprint + Threads + Wait>(rt: &R, alloc: Global) -> Result<bool, NoMemory> {
+/// Makes the processes and a spare, and runs them: in a shared runtime, or in a core alone; whether they were run.
+fn made<R: Print + Eprint + Threads + Wait>(
+    rt: &R,
+    alloc: Global,
+    is_shared: bool,
+) -> Result<bool, NoMemory> {
     let mut boxes: Vec<Boxed> = Vec::new(alloc);
     for me in 0..PROCESSES {
         boxes.push(Box::new(alloc, Ring::new(u16::from(PROCESSES), me, HOPS))?)?;
     }
     let spare: Boxed = Box::new(alloc, Ring::new(u16::from(PROCESSES), 1, HOPS))?;
-    Ok(run(rt, alloc, boxes, spare))
-}
-
-/// The same of a shared runtime of one seat. Where its opening is refused, the core is dropped.
-fn made_seat<R: Print + Eprint + Threads + Wait>(rt: &R, alloc: Global) -> Result<bool, NoMemory> {
-    let mut boxes: Vec<Boxed> = Vec::new(alloc);
-    for me in 0..PROCESSES {
-        boxes.push(Box::new(alloc, Ring::new(u16::from(PROCESSES), me, HOPS))?)?;
-    }
-    let spare: Boxed = Box::new(alloc, Ring::new(u16::from(PROCESSES), 1, HOPS))?;
-    let Some(core) = started(rt, alloc, boxes) else {
-        return Ok(false);
-    };
-    match Shared::open(alloc, core, 1, 7) {
-        Ok((shared, seats)) => Ok(served(rt, alloc, shared, seats, spare)),
-        Err(fault) => Ok(refused(rt, "shared.open", &fault, true)),
-    }
+    Ok(if is_shared {
+        seats::run(rt, alloc, boxes, spare)
+    } else {
+        cores::run(rt, alloc, boxes, spare)
+    })
 }
 
 /// Whether there was memory for the processes, and they were run.
@@ -56,8 +47,8 @@ pub fn are_run<R: Print + Eprint + Threads + Wait>(rt: &R, alloc: Global) -> boo
     let mut by_core = false;
     let mut by_seat = false;
     for _ in 0..TRIES {
-        by_core = by_core || is_made(rt, made_core(rt, alloc));
-        by_seat = by_seat || (by_core && is_made(rt, made_seat(rt, alloc)));
+        by_core = by_core || is_made(rt, made(rt, alloc, false));
+        by_seat = by_seat || (by_core && is_made(rt, made(rt, alloc, true)));
     }
     by_seat
 }

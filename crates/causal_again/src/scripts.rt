@@ -20,24 +20,15 @@ fn parsed<P: Print + Eprint>(rt: &P, alloc: Global) -> Option<Script> {
     None
 }
 
-fn run_once<R: Print + Eprint + Wait>(rt: &R, alloc: Global, script: &Script) -> Option<Trace> {
+fn run<R: Print + Eprint + Wait>(rt: &R, alloc: Global, script: &Script) -> Option<Trace> {
     if script.n == 0 || script.n > 256 {
         return None;
     }
-    match run_script(rt, alloc, script) {
-        Ok(trace) => Some(trace),
-        Err(fault) => {
-            refused(rt, "run_script", &fault, true);
-            None
-        }
-    }
-}
-
-fn run<R: Print + Eprint + Wait>(rt: &R, alloc: Global, script: &Script) -> Option<Trace> {
     for _ in 0..TRIES {
-        if let Some(trace) = run_once(rt, alloc, script) {
-            return Some(trace);
-        }
+        match run_script(rt, alloc, script) {
+            Ok(trace) => return Some(trace),
+            Err(fault) => refused(rt, "run_script", &fault, true),
+        };
     }
     None
 }

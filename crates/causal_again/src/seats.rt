@@ -1,7 +1,7 @@
 //! The calls of a shared runtime, by one seat.
 ghost use Rattle.std.specs.Prelude.{◌≤◌};
 
-use crate::cores::Boxed;
+use crate::cores::{Boxed, started};
 use crate::readings::is_judged;
 use crate::told::{TRIES, came, refused};
 use causal_log::MemStable;
@@ -26,31 +26,25 @@ enum Call {
     Snapshot,
 }
 
-impl Call {
-    fn name(self) -> &'static str {
-        match self {
-            Call::Deliver(..) => "shared.deliver",
-            Call::Crash(_) => "shared.crash",
-            Call::Flush(_) => "shared.flush",
-            Call::Forget(_) => "shared.forget",
-            Call::Pending(_) => "shared.pending",
-            Call::Snapshot => "shared.snapshot",
-        }
-    }
-}
+/// A call, and how it is told.
+type Named = (&'static str, Call);
 
 /// Once round the ring, and then process 1 goes down.
-const BEFORE: [Call; 6] = [
-    Call::Deliver(1, 0, 0),
-    Call::Deliver(2, 1, 0),
-    Call::Deliver(0, 2, 0),
-    Call::Flush(2),
-    Call::Forget(2),
-    Call::Crash(1),
+const BEFORE: [Named; 6] = [
+    ("shared.deliver", Call::Deliver(1, 0, 0)),
+    ("shared.deliver", Call::Deliver(2, 1, 0)),
+    ("shared.deliver", Call::Deliver(0, 2, 0)),
+    ("shared.flush", Call::Flush(2)),
+    ("shared.forget", Call::Forget(2)),
+    ("shared.crash", Call::Crash(1)),
 ];
 
 /// What it had delivered, and what is seen then.
-const AFTER: [Call; 3] = [Call::Deliver(1, 0, 0), Call::Pending(1), Call::Snapshot];
+const AFTER: [Named; 3] = [
+    ("shared.deliver", Call::Deliver(1, 0, 0)),
+    ("shared.pending", Call::Pending(1)),
+    ("shared.snapshot", Call::Snapshot),
+];
 
 /// How many items the seat has, and how many entries it has seen.
 fn sitting(seat: &Seat) -> (u32, u32) {
@@ -105,68 +99,50 @@ impl<'a, R: Print + Eprint + Wait> Calling<'a, R> {
     }
 
     /// Makes such a call once; whether it came through.
-    fn recorded(&self, seat: &mut Seat, call: Call) -> bool
+    fn recorded(&self, seat: &mut Seat, named: Named) -> bool
         requires { 1 ≤ TRIES }
     {
+        let (name, call) = named;
         let before = sitting(seat);
         match self.asked(seat, call) {
-            Ok(()) => came(self.rt, call.name(), &seat.seen()),
+            Ok(()) => came(self.rt, name, &seat.seen()),
             Err(fault) => {
                 let is_left = sitting(seat) == left_by(fault, before);
-                refused(self.rt, call.name(), &fault, is_left)
+                refused(self.rt, name, &fault, is_left)
             }
         }
     }
 
-    fn pending(&self, seat: &Seat, call: Call, q: u8) -> bool
-        requires { 1 ≤ TRIES }
-    {
-        match self.shared.pending(self.rt, seat, Pid(q)) {
-            Ok(names) => came(self.rt, call.name(), &names.len()),
-            Err(fault) => refused(self.rt, call.name(), &fault, true),
-        }
-    }
-
-    fn snapshot(&self, seat: &mut Seat, call: Call) -> bool
-        requires { 1 ≤ TRIES }
-    {
-        let before = sitting(seat);
-        match self.shared.snapshot(self.rt, seat) {
-            Ok(shown) => came(self.rt, call.name(), &shown.trace.len()),
-            Err(fault) => refused(self.rt, call.name(), &fault, sitting(seat) == before),
-        }
-    }
-
     /// Makes a call once; whether it came through.
-    fn made(&self, seat: &mut Seat, call: Call) -> bool
+    fn made(&self, seat: &mut Seat, named: Named) -> bool
         requires { 1 ≤ TRIES }
     {
+        let (name, call) = named;
+        let before = sitting(seat);
         match call {
-            Call::Pending(q) => self.pending(seat, call, q),
-            Call::Snapshot => self.snapshot(seat, call),
-            _ => self.recorded(seat, call),
+            Call::Pending(q) => match self.shared.pending(self.rt, seat, Pid(q)) {
+                Ok(names) => came(self.rt, name, &names.len()),
+                Err(fault) => refused(self.rt, name, &fault, true),
+            },
+            Call::Snapshot => match self.shared.snapshot(self.rt, seat) {
+                Ok(shown) => came(self.rt, name, &shown.trace.len()),
+                Err(fault) => refused(self.rt, name, &fault, sitting(seat) == before),
+            },
+            _ => self.recorded(seat, named),
         }
     }
 
-    /// Makes a call until it comes through.
-    fn made_again(&self, seat: &mut Seat, call: Call) -> bool
+    /// Makes calls one after the other, each until it comes through.
+    fn all_made(&self, seat: &mut Seat, calls: &[Named]) -> bool
         requires { 1 ≤ TRIES }
     {
-        let mut is_made = false;
+        let mut done = 0;
         for _ in 0..TRIES {
-            is_made = is_made || self.made(seat, call);
+            if done < calls.len() && self.made(seat, calls[done]) {
+                done += 1;
+            }
         }
-        is_made
-    }
-
-    fn all_made(&self, seat: &mut Seat, calls: &[Call]) -> bool
-        requires { 1 ≤ TRIES }
-    {
-        let mut are_made = true;
-        for call in calls {
-            are_made = are_made && self.made_again(seat, *call);
-        }
-        are_made
+        done == calls.len()
     }
 
     /// A restart gives the spare back where it is refused.
@@ -237,7 +213,7 @@ fn ended<R: Print + Eprint + Threads + Wait>(
 }
 
 /// All calls of a shared runtime, and what it has then recorded.
-pub fn served<R: Print + Eprint + Threads + Wait>(
+fn served<R: Print + Eprint + Threads + Wait>(
     rt: &R,
     alloc: Global,
     shared: Shared<MemStable>,
@@ -252,4 +228,23 @@ pub fn served<R: Print + Eprint + Threads + Wait>(
         shared: &shared,
     };
     calling.all_calls_of(&mut seats, spare) && ended(rt, alloc, shared, seats)
+}
+
+/// A shared runtime of these processes with one seat, all its calls, and what it has then recorded; whether it was opened. Where
+/// the opening is refused, the core is dropped.
+pub fn run<R: Print + Eprint + Threads + Wait>(
+    rt: &R,
+    alloc: Global,
+    boxes: Vec<Boxed>,
+    spare: Boxed,
+) -> bool
+    requires { 1 ≤ TRIES }
+{
+    let Some(core) = started(rt, alloc, boxes) else {
+        return false;
+    };
+    match Shared::open(alloc, core, 1, 7) {
+        Ok((shared, seats)) => served(rt, alloc, shared, seats, spare),
+        Err(fault) => refused(rt, "shared.open", &fault, true),
+    }
 }

@@ -1,7 +1,7 @@
 //! What is told of each call: what came of it on standard output, and that it was refused on standard error.
 use std::fmt::{Debug, Display};
 
-/// How often a call is made at most.
+/// How many tries a call has at most, or some that follow each other.
 pub const TRIES: u32 = 32;
 
 /// Tells what came of a call.

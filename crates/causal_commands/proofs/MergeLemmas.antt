@@ -1,13 +1,12 @@
 -- What is written to recordings, where what was read and written is known.
-use Rattle.std.proofs.Common.{◌≡◌, ◌<◌, List, [], ℕ, Option, None, Some, length, take, subst, sym}
-use Rattle.std.specs.Prelude.{IfSome}
-use Rattle.std.specs.Io.KnownBytes.{Appends, Keeps}
+use Rattle.std.proofs.Common.{◌≡◌, ◌<◌, List, ℕ, Option, length, take, subst}
+use Rattle.std.specs.Io.KnownBytes.{Appends}
 use Rattle.causal_merge.specs.declared.fault.MergeFault.{MergeFault}
 use Rattle.causal_commands.specs.declared.ended.Ended.{Ended}
 use Rattle.causal_commands.specs.declared.ended.Ended.TheVariants.{Accepted, Breached, Ranged, Merged, Faulted, Ran, Refused, ReadFault, WriteFault, NoMemory, NoWorker, FinishFault}
 use Rattle.causal_commands.specs.declared.merging.Merging.{Merging}
 use Rattle.causal_commands.specs.Merges.{IsAnswerSo, WritesSo, WritesMergeFor, read_of}
-use Rattle.causal_commands.specs.Inside.Merged.{IsMergeFor, IsSilentMerge}
+use Rattle.causal_commands.specs.Inside.Merged.{IsMergeFor}
 use Rattle.causal_commands.proofs.Known.{IfSome-weaker}
 
 answered : (most : ℕ) (text torn : List ℕ) (told : Option MergeFault) (old new : Option (List ℕ)) (e : Ended) (out : List ℕ) → IsAnswerSo most e text torn told out → Appends old new out → WritesSo most e text torn told old new
@@ -34,25 +33,3 @@ pub merged_first : (most : ℕ) (known old new : Option (List ℕ)) (m : Merging
     → WritesMergeFor most known (record { ended = WriteFault; torn = m.torn; fault = m.fault }) old new
 merged_first most known old new m out bytes n same p some a =
     IfSome-weaker known _ _ (λ text is. (m.ended, out, n, is, subst (λ b. n < length b) same some, subst (λ b. Appends old new (take n b)) same a)) p
-
-silent : (most : ℕ) (e : Ended) (text torn : List ℕ) (told : Option MergeFault) (old new : Option (List ℕ)) → IsSilentMerge e → Keeps old new → torn ≡ [] → told ≡ None → WritesSo most e text torn told old new
-silent most Accepted text torn told old new s k t f = absurd s
-silent most Breached text torn told old new s k t f = absurd s
-silent most Ranged text torn told old new s k t f = absurd s
-silent most Merged text torn told old new s k t f = absurd s
-silent most Faulted text torn told old new s k t f = absurd s
-silent most Ran text torn told old new s k t f = absurd s
-silent most Refused text torn told old new s k t f = absurd s
-silent most ReadFault text torn told old new s k t f = (k, t, f)
-silent most WriteFault text torn told old new s k t f = absurd s
-silent most NoMemory text torn told old new s k t f = (k, t, f)
-silent most NoWorker text torn told old new s k t f = absurd s
-silent most FinishFault text torn told old new s k t f = absurd s
-
-known_all : (known : Option (List ℕ)) (P : List ℕ → Type 0) → ((bytes : List ℕ) → P bytes) → IfSome known P
-known_all None P all = tt
-known_all (Some bytes) P all = all bytes
-
--- nothing was
-pub merged_nothing : (most : ℕ) (known old new : Option (List ℕ)) (m : Merging) (e : Ended) → IsSilentMerge e → Keeps old new → m.ended ≡ e → m.torn.items ≡ [] → m.fault ≡ None → WritesMergeFor most known m old new
-merged_nothing most known old new m e s k is t f = known_all known _ (λ text. silent most m.ended (read_of most text) m.torn.items m.fault old new (subst IsSilentMerge (sym is) s) k t f)

@@ -21,7 +21,7 @@ use std::sync::Wait;
 use std::thread::Threads;
 
 /// What is asked of a trace, and has lines of fields as its answer.
-#[derive(Clone, Copy, Debug, PartialEq, Eq)]
+#[derive(Clone, Copy)]
 pub enum Question {
     /// Its verdict for at most so many processes that are down at once, by so many workers.
     Verdict { faults: u16, workers: u32 },

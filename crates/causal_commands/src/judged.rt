@@ -18,7 +18,7 @@ use std::thread::Threads;
 use thiserror::Error;
 
 /// Why there is no verdict.
-#[derive(Clone, Copy, Debug, PartialEq, Eq, Error)]
+#[derive(Clone, Copy, Debug, Error)]
 pub enum StreamFault {
     /// The reader answered an error, of any kind.
     #[error("read fault")]

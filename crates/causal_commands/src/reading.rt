@@ -14,7 +14,7 @@ pub const MOST_READ: usize = 1_048_577;
 const PIECE: usize = 4096;
 
 /// Why there is no text.
-#[derive(Clone, Copy, Debug, PartialEq, Eq, Error)]
+#[derive(Clone, Copy, Debug, Error)]
 pub enum ReadFault {
     /// The reader answered an error, of any kind.
     #[error("read fault")]

@@ -18,7 +18,7 @@ use std::sync::Wait;
 use thiserror::Error;
 
 /// Why no trace is printed.
-#[derive(Clone, Copy, Debug, PartialEq, Eq, Error)]
+#[derive(Clone, Copy, Debug, Error)]
 pub enum Reason {
     /// The text is no script: this is its first fault.
     #[error(transparent)]

@@ -15,7 +15,7 @@ use std::sync::Wait;
 use std::thread::Threads;
 
 /// How a run ended, and the fault of what was read, where its line was written or would have been.
-#[derive(Clone, Copy, Debug)]
+#[derive(Clone, Copy)]
 pub struct Told<F> {
     pub ended: Ended,
     pub fault: Option<F>,

@@ -16,11 +16,6 @@ use std::thread::Threads;
 
 #[test]
 fn a_judgement_has_its_counts(rt: HostRuntime) {
-    let accepted = Judged {
-        verdict: Verdict::Accept,
-        entries: 6,
-        deliveries: 3,
-    };
     let found = audit_text(
         &rt,
         rt.alloc(),
@@ -29,7 +24,16 @@ fn a_judgement_has_its_counts(rt: HostRuntime) {
         2,
         &OpenGate,
     );
-    assert!(rt; found == Ok(accepted));
+    assert!(rt;
+        matches!(
+            found,
+            Ok(Judged {
+                verdict: Verdict::Accept,
+                entries: 6,
+                deliveries: 3
+            })
+        )
+    );
 }
 
 /// Two recorded runs, which are audited for one failure.

@@ -33,6 +33,7 @@ use causal_commands::{
 };
 use causal_trace::limits::Limits;
 use causal_workers::OpenGate;
+use std::fmt::Display;
 use std::io::{self, ErrorKind, IsTerminal, Read, Write};
 use std::process::ExitCode;
 use std::rt::Env;
@@ -51,6 +52,11 @@ fn name_of(asked: Asked) -> &'static str {
         Asked::Merge { .. } => "causal_tool merge",
         Asked::Run => "causal_tool run",
     }
+}
+
+/// Says something on a line of its own, as far as standard error takes it.
+pub(crate) fn say_line<R: Eprint, D: Display>(rt: &R, command: &str, said: &D) {
+    let _ = eprintln!(rt; "{command}: {said}");
 }
 
 /// Says what is read where a person may have to type it.
@@ -93,9 +99,9 @@ fn complain_of_script<R: Eprint>(rt: &R, command: &str, told: Told<Reason>) -> E
     ensures { result ≡ told.ended }
 {
     if let Some(reason) = told.fault {
-        let _ = eprintln!(rt; "{command}: {reason}");
+        say_line(rt, command, &reason);
         if let Some(hint) = hint_of(reason) {
-            let _ = eprintln!(rt; "{command}: {hint}");
+            say_line(rt, command, &hint);
         }
     }
     told.ended
@@ -168,7 +174,7 @@ fn say_ended(rt: &HostRuntime, command: &str, ended: Ended, reason: Option<io::E
         Some(error) if error.kind() == ErrorKind::BrokenPipe => {}
         Some(error) => {
             let _ = rt.eprintln(text);
-            let _ = eprintln!(rt; "{command}: {error}");
+            say_line(rt, command, &error);
         }
         None => {
             let _ = rt.eprintln(text);

@@ -1,6 +1,7 @@
 //! What is said of recordings.
 ghost use Rattle.std.specs.Prelude.{◌≡◌};
 
+use crate::say_line;
 use causal_commands::{Ended, Merging};
 use causal_merge::MergeFault;
 
@@ -31,8 +32,8 @@ fn say_fault<R: Eprint>(rt: &R, command: &str, fault: Option<MergeFault>) {
     let Some(fault) = fault else {
         return;
     };
-    let _ = eprintln!(rt; "{command}: {fault}");
+    say_line(rt, command, &fault);
     if let Some(hint) = fault.kind.hint() {
-        let _ = eprintln!(rt; "{command}: {hint}");
+        say_line(rt, command, &hint);
     }
 }

@@ -190,25 +190,89 @@ fn limits_asked(given: &ArgMatches) -> Limits {
     }
 }
 
-/// The option of how many processes may be down at once.
-fn faults<'a>(alloc: Global) -> Arg<'a> {
+/// What may follow the name of a command.
+#[derive(Clone, Copy)]
+enum Given {
+    /// How many processes may be down at once.
+    Faults { is_required: bool },
+    /// How many threads judge.
+    Workers,
+    /// How many entries the trace may have.
+    Entries,
+    /// That the audit ends at a breach.
+    UntilBreach,
+    /// That the answer is JSON.
+    Json,
+}
+
+/// A command, as its help tells it.
+#[derive(Clone, Copy)]
+struct Described {
+    name: &'static str,
+    about: &'static str,
+    help: &'static str,
+    given: &'static [Given],
+}
+
+const COMMANDS: [Described; 5] = [
+    Described {
+        name: "audit",
+        about: "Audits the trace on standard input",
+        help: ANSWERS,
+        given: &[
+            Given::Faults { is_required: true },
+            Given::Workers,
+            Given::Entries,
+            Given::UntilBreach,
+            Given::Json,
+        ],
+    },
+    Described {
+        name: "explain",
+        about: "Audits the trace on standard input, and tells why the verdict is so; or for which F it is safe",
+        help: REASONS,
+        given: &[
+            Given::Faults { is_required: false },
+            Given::Entries,
+            Given::Json,
+        ],
+    },
+    Described {
+        name: "draw",
+        about: "Audits the trace on standard input, and draws it with the verdict",
+        help: PICTURES,
+        given: &[Given::Faults { is_required: true }, Given::Entries],
+    },
+    Described {
+        name: "merge",
+        about: "Merges the recordings on standard input into one trace",
+        help: RECORDINGS,
+        given: &[Given::Entries],
+    },
+    Described {
+        name: "run",
+        about: "Runs the script on standard input and prints its trace",
+        help: SCRIPTS,
+        given: &[],
+    },
+];
+
+fn faults<'a>(alloc: Global, is_required: bool) -> Arg<'a> {
     Arg::new(alloc, "faults")
         .long("faults")
         .value_name("F")
         .help("How many processes may be down at once [0 to 65535]")
-        .required(true)
+        .required(is_required)
         .allow_negative_numbers(true)
         .value_parser(value_parser!(u16))
 }
 
-/// The option of how many threads judge.
 fn workers<'a>(alloc: Global) -> Arg<'a> {
     number(alloc, "workers", "W", 64)
         .help("How many threads judge [1 to 64]")
         .default_value("1")
 }
 
-/// The option of how many entries the trace may have.
 fn entries<'a>(alloc: Global) -> Arg<'a> {
     number(alloc, "entries", "N", 16_777_216)
         .help("How many entries the trace may have [1 to 16777216]")
@@ -224,75 +288,57 @@ fn number<'a>(alloc: Global, name: &'static str, letter: &'static str, most: i64
         .value_parser(value_parser!(u32).range(1..=most))
 }
 
-/// The option that the audit ends at a breach.
-fn until_breach<'a>(alloc: Global) -> Arg<'a> {
-    Arg::new(alloc, "until-breach")
-        .long("until-breach")
-        .help("Ends at the first breach found, without reading on")
+/// An option with no value.
+fn flag<'a>(alloc: Global, name: &'static str, help: &'static str) -> Arg<'a> {
+    Arg::new(alloc, name)
+        .long(name)
+        .help(help)
         .action(ArgAction::SetTrue)
 }
 
-/// The option that the answer is JSON.
-fn json<'a>(alloc: Global) -> Arg<'a> {
-    Arg::new(alloc, "json")
-        .long("json")
-        .help("Answers with one JSON object")
-        .action(ArgAction::SetTrue)
+fn option<'a>(alloc: Global, given: Given) -> Arg<'a> {
+    match given {
+        Given::Faults { is_required } => faults(alloc, is_required),
+        Given::Workers => workers(alloc),
+        Given::Entries => entries(alloc),
+        Given::UntilBreach => flag(
+            alloc,
+            "until-breach",
+            "Ends at the first breach found, without reading on",
+        ),
+        Given::Json => flag(alloc, "json", "Answers with one JSON object"),
+    }
 }
 
-fn audit_words<'a>(alloc: Global) -> Result<Command<'a>, AllocError> {
-    Command::new(alloc, "audit")
-        .about("Audits the trace on standard input")
-        .after_help(ANSWERS)
-        .arg(faults(alloc))?
-        .arg(workers(alloc))?
-        .arg(entries(alloc))?
-        .arg(until_breach(alloc))?
-        .arg(json(alloc))
+/// These words and those of one command more.
+fn with_words<'a>(
+    words: Command<'a>,
+    alloc: Global,
+    described: &Described,
+) -> Result<Command<'a>, AllocError> {
+    words.subcommand(words_of(alloc, described)?)
 }
 
-fn explain_words<'a>(alloc: Global) -> Result<Command<'a>, AllocError> {
-    Command::new(alloc, "explain")
-        .about(
-            "Audits the trace on standard input, and tells why the verdict is so; or for which F it is safe",
-        )
-        .after_help(REASONS)
-        .arg(faults(alloc).required(false))?
-        .arg(entries(alloc))?
-        .arg(json(alloc))
-}
-
-fn draw_words<'a>(alloc: Global) -> Result<Command<'a>, AllocError> {
-    Command::new(alloc, "draw")
-        .about("Audits the trace on standard input, and draws it with the verdict")
-        .after_help(PICTURES)
-        .arg(faults(alloc))?
-        .arg(entries(alloc))
-}
-
-fn merge_words<'a>(alloc: Global) -> Result<Command<'a>, AllocError> {
-    Command::new(alloc, "merge")
-        .about("Merges the recordings on standard input into one trace")
-        .after_help(RECORDINGS)
-        .arg(entries(alloc))
-}
-
-fn run_words<'a>(alloc: Global) -> Command<'a> {
-    Command::new(alloc, "run")
-        .about("Runs the script on standard input and prints its trace")
-        .after_help(SCRIPTS)
+/// The words of one command.
+fn words_of<'a>(alloc: Global, described: &Described) -> Result<Command<'a>, AllocError> {
+    let mut words = Command::new(alloc, described.name)
+        .about(described.about)
+        .after_help(described.help);
+    for given in described.given {
+        words = words.arg(option(alloc, *given))?;
+    }
+    Ok(words)
 }
 
 fn command<'a>(alloc: Global) -> Result<Command<'a>, AllocError> {
-    Command::new(alloc, "causal_tool")
+    let mut words = Command::new(alloc, "causal_tool")
         .about(
             "Audits recorded runs of processes that log their messages causally, and records such runs",
         )
         .version("1.0.0")
-        .subcommand_required(true)
-        .subcommand(audit_words(alloc)?)?
-        .subcommand(explain_words(alloc)?)?
-        .subcommand(draw_words(alloc)?)?
-        .subcommand(merge_words(alloc)?)?
-        .subcommand(run_words(alloc))
+        .subcommand_required(true);
+    for described in &COMMANDS {
+        words = with_words(words, alloc, described)?;
+    }
+    Ok(words)
 }

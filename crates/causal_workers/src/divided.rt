@@ -18,7 +18,7 @@ use std::thread::{Scope, Threads};
 use thiserror::Error;
 
 /// Why an audit gave no verdict.
-#[derive(Clone, Copy, Debug, PartialEq, Eq, Error)]
+#[derive(Clone, Copy, Debug, Error)]
 pub enum AuditFault {
     /// Memory was refused.
     #[error("no memory")]
@@ -47,7 +47,6 @@ impl From<NoMemory> for AuditFault {
 /// # Errors
 /// `NoMemory` where memory was refused; where that was in one of the workers, all of them ended first.
 /// `NoWorker` where a worker could not be started, after those that were started ended; never with one worker.
-#[tactic(auto, using(causal_audit::proofs::Lemmas::OneVerdict::one_verdict))]
 pub fn audit<G: Gate + Sync, R: Threads + Wait>(
     rt: &R,
     alloc: Global,

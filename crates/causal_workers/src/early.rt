@@ -23,7 +23,7 @@ use std::thread::Threads;
 const PIECE: usize = 4_096;
 
 /// What is known of a text.
-#[derive(Clone, Copy, Debug, PartialEq, Eq)]
+#[derive(Clone, Copy)]
 pub enum Known {
     /// A look at what it begins with found this breach, and no more was read.
     Early(Judged),

@@ -15,7 +15,7 @@ pub trait Gate {
 }
 
 /// A gate that lets each worker begin at once.
-#[derive(Clone, Copy, Debug)]
+#[derive(Clone, Copy)]
 pub struct OpenGate;
 
 impl Gate for OpenGate {

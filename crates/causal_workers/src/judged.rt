@@ -15,7 +15,7 @@ use std::thread::Threads;
 use thiserror::Error;
 
 /// The verdict on a trace, and how many entries and how many deliveries the trace has.
-#[derive(Clone, Copy, Debug, PartialEq, Eq)]
+#[derive(Clone, Copy)]
 pub struct Judged {
     pub verdict: Verdict,
     pub entries: u32,
@@ -23,7 +23,7 @@ pub struct Judged {
 }
 
 /// Why a text got no verdict.
-#[derive(Clone, Copy, Debug, PartialEq, Eq, Error)]
+#[derive(Clone, Copy, Debug, Error)]
 pub enum AuditTextFault {
     /// The text spells no trace: this is its first fault. Or memory was refused while it was read.
     #[error(transparent)]
