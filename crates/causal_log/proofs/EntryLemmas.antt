@@ -1,22 +1,24 @@
 -- What a log's entries say of the map that they make.
-use Rattle.std.proofs.Common.{◌≡◌, ◌∙◌, ◌+◌, ◌&&◌, true, false, cond, List, [], ◌∷◌, Some, slice_index_or, true≢false, refl, sym, ap, subst, arith}
-use Rattle.std.specs.declared.cmp.Ordering.{Ordering}
-use Rattle.std.specs.declared.cmp.Ordering.TheVariants.{Less, Equal, Greater}
-use Rattle.std.specs.Ordering.{ordering_reverse, is_eq, is_lt, eq_by_cmp}
+use Rattle.std.proofs.Common.{◌≡◌, ◌∙◌, ◌+◌, ◌&&◌, true, false, cond, List, [], ◌∷◌, Some, slice_index_or, true≢false, refl, sym, ap, subst, arith, get_or, Option, None, is_some}
+use Rattle.std.specs.declared.cmp.Ordering.TheVariants.{Less}
+use Rattle.std.specs.Ordering.{is_lt}
 use Rattle.std.specs.Cmp.{eq_by_cmp_equiv, IsEquivalence}
 use Rattle.std.proofs.lemmas.Bool.{false_from_ne_true}
-use Rattle.std.proofs.lemmas.List.{nil_from_length}
-use Rattle.std.proofs.lemmas.Map.Keys.{sorted_from_all_adjacent, apart_from_distinct, sorted_head, sorted_tail}
+use Rattle.std.proofs.lemmas.List.{nil_from_length, get_or-map, length-map}
+use Rattle.std.proofs.lemmas.Map.Keys.{sorted_from_all_adjacent, apart_from_distinct, sorted_head, sorted_tail, IsDistinct-IsPermutation}
 use Rattle.std.specs.Map.{lookup, keys_of}
 use Rattle.std.specs.FinMap.{from_entries, insert, get, get-from_entries, get-insert, same_map, find, entries, empty, entries-insert, len-entries, len-empty}
 use Rattle.std.specs.FinMap.Entries.{put, by_order}
 use Rattle.std.specs.List.{AllByRecursion, IsDistinct}
-use Rattle.std.specs.List.Sorted.{IsSorted, IsStrictlySortedBy}
+use Rattle.std.specs.List.Sorted.{IsSorted, IsStrictlySortedBy, IsPermutation, IsSortedByKey}
 use Rattle.causal_name.specs.declared.Det.{Det}
 use Rattle.causal_name.specs.Names.{det_cmp, same_det, is_before, is_ascending}
-use Rattle.causal_log.proofs.Lemmas.Searches.{both, before_apart}
+use Rattle.causal_log.proofs.Lemmas.Searches.{both, before_apart, same_turned}
 use Rattle.causal_log.proofs.Lemmas.Ascents.{before_trans, ascending_skip, ascending_tail, is_less}
-use Rattle.causal_name.proofs.Lemmas.DetOrder.{dets_total, exact_dets, det_ties, same_itself}
+use Rattle.causal_name.proofs.Lemmas.DetOrder.{dets_total, exact_dets, det_ties, same_itself, same_is}
+use Rattle.std.proofs.lemmas.List.Sorted.{Contains-permutation, IsPermutation-map, IsPermutation-sym}
+use Rattle.std.proofs.lemmas.Map.Views.{Contains-from_lookup, lookup-from_Contains}
+use Rattle.std.specs.FinMap as fin
 
 -- to be the same determinant is an equivalence
 pub det_equiv : IsEquivalence same_det
@@ -26,7 +28,7 @@ module _ {X : Type 0} where
   -- a determinant is found by order where it is found by equality, with the same value
   pub find_lookup : (es : List (Det × X)) (q : Det) → find det_cmp q es ≡ lookup (same_det q) es
   find_lookup [] q = refl
-  find_lookup (e ∷ es) q = ap (λ b. cond b (Some e.1) (find det_cmp q es)) (sym (det_ties q e.0)) ∙ ap (cond (same_det q e.0) (Some e.1)) (find_lookup es q)
+  find_lookup (e ∷ es) q = grind (arith, find_lookup es q, det_ties)
 
   -- what the map that the entries make has at a determinant
   pub get_log : (es : List (Det × X)) (q : Det) → get (from_entries {R = det_cmp} es) q ≡ lookup (same_det q) es
@@ -38,18 +40,11 @@ module _ {X : Type 0} where
 
   -- entries that differ at one determinant make maps that differ there
   pub inserted : (es fs : List (Det × X)) (d : Det) (x : X) → ((q : Det) → lookup (same_det q) fs ≡ cond (same_det d q) (Some x) (lookup (same_det q) es)) → from_entries {R = det_cmp} fs ≡ insert (from_entries es) d x
-  inserted es fs d x h = same_map dets_total exact_dets _ _ (λ q.
-      get_log fs q ∙ h q
-      ∙ ap (λ b. cond b (Some x) (lookup (same_det q) es)) (det_ties d q ∙ (eq_by_cmp_equiv dets_total).symm d q)
-      ∙ sym (get-insert dets_total (from_entries es) d x q ∙ ap (cond (eq_by_cmp det_cmp q d) (Some x)) (get_log es q)))
+  inserted es fs d x h = same_map dets_total exact_dets _ _ (λ q. grind (arith, get_log, h q, det_ties, get-insert, dets_total, eq_by_cmp_equiv dets_total))
 
 -- two determinants, of which the second isn't below the first and isn't equal to it
 pub below : (x y : Det) → is_lt (det_cmp y x) ≡ false → same_det x y ≡ false → det_cmp x y ≡ Less
-below x y low apart = by (det_cmp x y) refl where
-  by : (r : Ordering) → det_cmp x y ≡ r → r ≡ Less
-  by Less e = refl
-  by Equal e = absurd (true≢false (sym (ap is_eq e) ∙ (sym (det_ties x y) ∙ apart)))
-  by Greater e = absurd (true≢false (sym (ap is_lt (dets_total.antisymm y x ∙ ap ordering_reverse e)) ∙ low))
+below x y low apart = grind (arith, det_ties x y, dets_total.antisymm y x)
 
 -- sorted determinants, each there once, ascend
 pub sorted_ascend : (ds : List Det) → IsSorted det_cmp ds → IsDistinct same_det ds → is_ascending ds ≡ true
@@ -97,7 +92,37 @@ module _ {X : Type 0} where
   -- entries whose determinants ascend are those of the map that they make
   pub own_entries : (es : List (Det × X)) → is_ascending (keys_of es) ≡ true → entries (from_entries {R = det_cmp} es) ≡ es
   own_entries [] h = nothing
-  own_entries (e ∷ es) h =
-      entries-insert dets_total (from_entries es) e.0 e.1
-      ∙ ap (put det_cmp e.0 e.1) (own_entries es (ascending_tail e.0 (keys_of es) h))
-      ∙ put_first e es (below_each e.0 (keys_of es) h)
+  own_entries (e ∷ es) h = grind (arith, entries-insert dets_total (from_entries es) e.0 e.1, own_entries es (ascending_tail e.0 (keys_of es) h), put_first e es (below_each e.0 (keys_of es) h))
+
+module _ {V : Type 0} (es fs : List (Det × V)) (moved : IsPermutation es fs) (distinct : IsDistinct same_det (keys_of es)) where
+  -- entries that changed places still have each determinant once
+  pub still_distinct : IsDistinct same_det (keys_of fs)
+  still_distinct = IsDistinct-IsPermutation same_det same_turned (keys_of es) (keys_of fs) (IsPermutation-map (λ e. e.0) es fs moved) distinct
+
+  still_found : (q : Det) → lookup (same_det q) fs ≡ lookup (same_det q) es
+  still_found q = by (lookup (same_det q) es) refl (lookup (same_det q) fs) refl
+    where
+      by : (a : Option V) → lookup (same_det q) es ≡ a → (b : Option V) → lookup (same_det q) fs ≡ b → b ≡ a
+      by (Some v) found b is =
+          sym is ∙ lookup-from_Contains det_equiv q v fs still_distinct (Contains-permutation es fs (q, v) moved (Contains-from_lookup same_is q v es found))
+      by None none None is = refl
+      by None none (Some w) is =
+          absurd (true≢false (ap is_some
+          (sym (lookup-from_Contains det_equiv q w es distinct (Contains-permutation fs es (q, w) (IsPermutation-sym es fs moved) (Contains-from_lookup same_is q w fs is)))
+          ∙ none)))
+
+  -- entries that changed places make the same map
+  pub moved_log : fin.from_entries {R = det_cmp} fs ≡ fin.from_entries es
+  moved_log = same_log fs es still_found
+
+  -- entries that are sorted have ascending determinants
+  pub moved_ascend : IsSortedByKey (λ e. e.0) det_cmp fs → is_ascending (keys_of fs) ≡ true
+  moved_ascend sorted = sorted_ascend (keys_of fs) (by fs sorted) still_distinct
+    where
+      by : (gs : List (Det × V)) → IsSortedByKey (λ e. e.0) det_cmp gs → IsSorted det_cmp (keys_of gs)
+      by [] sorted k d low high = absurd (omega (arith, high))
+      by (g ∷ gs) sorted k d low high =
+          let len = length-map (g ∷ gs) (λ e. e.0) in
+          subst (λ x. is_lt (det_cmp x (get_or (keys_of (g ∷ gs)) k d)) ≡ false) (sym (get_or-map (λ e. e.0) (g ∷ gs) (k + 1) g d (omega (arith, high, len))))
+          (subst (λ x. is_lt (det_cmp (get_or (g ∷ gs) (k + 1) g).0 x) ≡ false) (sym (get_or-map (λ e. e.0) (g ∷ gs) k g d (omega (arith, high, len))))
+          (sorted k g low (omega (arith, high, len))))

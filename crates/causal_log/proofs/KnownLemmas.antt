@@ -1,5 +1,5 @@
 -- What is known together with nothing, once it is marked, and of what a message tells.
-use Rattle.std.proofs.Common.{ℕ, ◌≡◌, ◌∙◌, ◌+◌, ◌<◌, ◌≤◌, ◌||◌, Bool, true, false, cond, not, nat_cmp, nat_le, Some, refl, sym, ap, arith, true≢false}
+use Rattle.std.proofs.Common.{ℕ, ◌≡◌, ◌∙◌, ◌+◌, ◌<◌, ◌≤◌, ◌||◌, Bool, true, false, not, nat_cmp, nat_le, Some, refl, sym, ap, arith, true≢false}
 use Rattle.std.proofs.lemmas.Bool.Decides.{nat_tests}
 use Rattle.std.specs.Int.{from_bool}
 use Rattle.std.specs.Ordering.{eq_by_cmp}
@@ -40,28 +40,16 @@ marked_then log det known heard is there = ap (fin.insert log det) (ap (joined k
 -- the holders of what a message tells, and those of one that has none
 inserted : (s : set.FinSet nat_cmp) (from me : Pid) (q : ℕ) →
     set.contains (set.insert (set.insert s from.0) me.0) q ≡ (eq_by_cmp nat_cmp q me.0 || (eq_by_cmp nat_cmp q from.0 || set.contains s q))
-inserted s from me q =
-    set.contains-insert nat_cmp_total (set.insert s from.0) me.0 q ∙ ap (λ b. eq_by_cmp nat_cmp q me.0 || b) (set.contains-insert nat_cmp_total s from.0 q)
+inserted s from me q = grind (arith, set.contains-insert, nat_cmp_total)
 
 -- what an item tells is that its own holders and the two hold its determinant
 pub told_both : (from me : Pid) (item : Item) → joined (known_of_item item) (both_hold from me) ≡ (told from me item).1
-told_both from me item = λ i. record { holders = all i; stable = false }
-  where
-    alone : (p : Pid) (q : ℕ) → set.contains (held_by p).holders q ≡ eq_by_cmp nat_cmp q p.0
-    alone p q = set.contains-insert nat_cmp_total set.empty p.0 q ∙ ap (λ b. eq_by_cmp nat_cmp q p.0 || b) (set.contains-empty nat_cmp q) ∙ sym (or_nothing (eq_by_cmp nat_cmp q p.0))
-
-    either : (a b h : Bool) → (h || (a || b)) ≡ (b || (a || h))
-    either true true h = sym (or_right h)
-    either true false h = sym (or_right h)
-    either false true h = sym (or_right h)
-    either false false h = sym (or_nothing h)
-
-    all : set.union item.holders (both_hold from me).holders ≡ (told from me item).1.holders
-    all = set.same_set nat_cmp_total set.nat_cmp-IsAntisymmetric _ _ (λ q.
-        set.contains-union nat_cmp_total item.holders (both_hold from me).holders q
-        ∙ ap (λ b. set.contains item.holders q || b) (set.contains-union nat_cmp_total (held_by from).holders (held_by me).holders q ∙ (λ i. alone from q i || alone me q i))
-        ∙ either (eq_by_cmp nat_cmp q from.0) (eq_by_cmp nat_cmp q me.0) (set.contains item.holders q)
-        ∙ sym (inserted item.holders from me q))
+told_both from me item =
+    let all =
+    set.same_set nat_cmp_total set.nat_cmp-IsAntisymmetric (set.union item.holders (both_hold from me).holders) (told from me item).1.holders (λ q.
+    grind (arith, inserted, set.contains-union, set.contains-insert, set.contains-empty, nat_cmp_total))
+    in
+    λ i. record { holders = all i; stable = false }
 
 wider : (a b c d : Bool) → c ≡ false → (a || (b || c)) ≡ true → (a || (b || d)) ≡ true
 wider true b c d none h = refl
@@ -69,31 +57,13 @@ wider false true c d none h = refl
 wider false false c d none h = absurd (true≢false (sym h ∙ none))
 
 two_told : (from me : Pid) (item : Item) → set.len (set.insert (held_by from).holders me.0) ≤ set.len (told from me item).1.holders
-two_told from me item =
-    let two = set.insert (held_by from).holders me.0 in
-    let all = (told from me item).1.holders in
-    len-is_subset two all (set.contains-is_subset nat_cmp_total two all (λ q there.
-    inserted item.holders from me q
-    ∙ wider (eq_by_cmp nat_cmp q me.0) (eq_by_cmp nat_cmp q from.0) (set.contains (set.empty {R = nat_cmp}) q) (set.contains item.holders q) (set.contains-empty nat_cmp q)
-    (sym (inserted set.empty from me q) ∙ there)))
+two_told from me item = grind (arith, len-is_subset, set.contains-is_subset, nat_cmp_total, inserted, wider, set.contains-empty)
 
 one : (p : Pid) → set.len (held_by p).holders ≡ 1
-one p =
-    set.len-insert nat_cmp_total set.empty p.0
-    ∙ ap (λ b. cond b (set.len (set.empty {R = nat_cmp})) (set.len (set.empty {R = nat_cmp}) + 1)) (set.contains-empty nat_cmp p.0)
-    ∙ ap (λ n. n + 1) (set.len-empty nat_cmp)
+one p = grind (arith, set.len-insert, nat_cmp_total, set.contains-empty, set.len-empty)
 
 two_len : (from me : Pid) → set.len (set.insert (held_by from).holders me.0) ≡ from_bool (not (same_pid me from)) + 1
-two_len from me =
-    let inside : set.contains (held_by from).holders me.0 ≡ same_pid me from =
-    set.contains-insert nat_cmp_total set.empty from.0 me.0 ∙ ap (λ b. eq_by_cmp nat_cmp me.0 from.0 || b) (set.contains-empty nat_cmp me.0)
-    ∙ sym (or_nothing (eq_by_cmp nat_cmp me.0 from.0)) ∙ unsigned_tied me.0 from.0
-    in
-    set.len-insert nat_cmp_total (held_by from).holders me.0 ∙ (λ i. cond (inside i) (one from i) (one from i + 1)) ∙ by (same_pid me from)
-  where
-    by : (b : Bool) → cond b 1 2 ≡ from_bool (not b) + 1
-    by true = refl
-    by false = refl
+two_len from me = grind (arith, set.contains-insert, nat_cmp_total, set.contains-empty, or_nothing, unsigned_tied, set.len-insert, one)
 
 too_many : (n f : ℕ) → f < n → nat_le n f ≡ false
 too_many n f h = grind (arith, nat_tests)

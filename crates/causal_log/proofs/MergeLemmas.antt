@@ -1,42 +1,38 @@
 -- Ascending items are what messages carry of a log where each is found so, and go on being it as determinants are heard of.
-use Rattle.std.proofs.Common.{ℕ, zero, suc, ◌+◌, ◌-◌, ◌<◌, length, take, drop, get_or, slice_get, IfSome, ◌≡◌, ◌∙◌, ◌≤◌, ◌||◌, Bool, true, false, cond, not, nat_le, nat_cmp, List, [], ◌∷◌, ◌++◌, map, filter, Option, Some, None, is_some, unwrap_or, true≢false, refl, sym, ap, subst, arith}
-use Rattle.std.proofs.lemmas.Bool.{and_from, or_from, or_left, or_right, false_from_ne_true}
+use Rattle.std.proofs.Common.{ℕ, zero, suc, ◌+◌, ◌-◌, ◌<◌, length, take, drop, get_or, slice_get, IfSome, ◌≡◌, ◌∙◌, ◌≤◌, ◌||◌, Bool, true, false, cond, not, nat_cmp, List, [], ◌∷◌, ◌++◌, map, filter, Option, Some, None, is_some, unwrap_or, true≢false, refl, sym, ap, subst, arith, ◌&&◌}
+use Rattle.std.proofs.lemmas.Bool.{and_from, or_from, or_right, false_from_ne_true}
 use Rattle.std.proofs.lemmas.Bool.Decides.{nat_tests}
 use Rattle.std.proofs.lemmas.List.{append-nil, append_assoc, drop-drop, drop_more, get_or-drop, length-drop, length-take-le, map-append, take-append-drop, take_all}
 use Rattle.std.proofs.lemmas.Option.{slice_get-get_or}
 use Rattle.std.proofs.Math.Seq.{drop-append_seam, take-append_seam, take-suc}
 use Rattle.std.proofs.lemmas.List.Folds.{list_any-append}
-use Rattle.std.specs.List.{list_any}
-use Rattle.std.specs.Option.{option_or}
+use Rattle.std.specs.List.{list_any, list_all}
+use Rattle.std.specs.Option.{option_or, option_map, option_map_or}
 use Rattle.std.specs.Map.{lookup, keys_of}
 use Rattle.std.specs.Cmp.{nat_cmp_total}
 use Rattle.std.specs.FinMap as fin
 use Rattle.std.specs.FinSet as set
-use Rattle.std.specs.Ordering.{is_lt}
 use Rattle.causal_name.specs.declared.Det.{Det}
 use Rattle.causal_name.specs.declared.Pid.{Pid}
 use Rattle.causal_name.specs.Names.{same_det, is_before, is_ascending}
-use Rattle.causal_name.proofs.Lemmas.DetOrder.{dets_total, same_is, same_itself}
+use Rattle.causal_name.proofs.Lemmas.DetOrder.{dets_total, same_is, same_itself, exact_dets}
 use Rattle.causal_holders.proofs.Lemmas.Sets.{len-is_subset}
 use Rattle.causal_log.specs.declared.known.Known.{Known}
 use Rattle.causal_log.specs.declared.batch.Item.{Item}
-use Rattle.causal_log.specs.Knowledge.{nothing_known, joined, is_carried, told}
-use Rattle.causal_log.specs.Logs.{LogMap, known_of, learned, absorbed, item_of, chosen, dets_of, names_det}
-use Rattle.causal_log.specs.Inside.Carried.{known_of_item, with_carried, HearsNext}
-use Rattle.causal_log.specs.Inside.Merges.{HasMerged}
+use Rattle.causal_log.specs.Knowledge.{nothing_known, joined, is_carried, told, as_stable}
+use Rattle.causal_log.specs.Logs.{LogMap, known_of, learned, absorbed, item_of, chosen, dets_of, names_det, marked}
+use Rattle.causal_log.specs.Inside.Carried.{known_of_item, with_carried, HearsNext, is_open, open_in, as_marked, Carries}
+use Rattle.causal_log.specs.Inside.Merges.{HasMerged, are_known_to_hold}
 use Rattle.causal_log.proofs.EntryLemmas.{below, get_log, same_log, own_entries, not_itself}
 use Rattle.causal_log.proofs.TableLemmas.{lookup_missing}
 use Rattle.causal_log.proofs.Lemmas.Ascents.{ascending_tail, ascending_skip, first_before, filter_ascends}
-use Rattle.causal_log.proofs.Lemmas.ChosenLemmas.{chosen_ascend}
+use Rattle.causal_log.proofs.Lemmas.ChosenLemmas.{chosen_ascend, dets_of_items}
 use Rattle.causal_log.proofs.Lemmas.KnowledgeGrows.{get_learned}
 use Rattle.causal_log.proofs.Lemmas.Searches.{any_map, before_apart, both, find_kept, kept_if, shown, same_turned}
-
-fewer : (a b f : ℕ) → a ≤ b → nat_le b f ≡ true → nat_le a f ≡ true
-fewer a b f less h = grind (arith, nat_tests)
-
-neither : (a b : Bool) → not (a || b) ≡ true → (not a ≡ true) × (not b ≡ true)
-neither true b h = absurd (true≢false (sym h))
-neither false b h = (refl, h)
+use Rattle.std.proofs.lemmas.Map.Entries.{lookup-filter-keys}
+use Rattle.std.specs.Arc.{arc_value}
+use Rattle.causal_log.specs.declared.log.Carried.{Carried}
+use Rattle.causal_log.proofs.Lemmas.LogLists.{get_marked}
 
 more_holders : (one : set.FinSet nat_cmp) (other : set.FinSet nat_cmp) → ((q : ℕ) → set.contains one q ≡ true → set.contains other q ≡ true) → set.len one ≤ set.len other
 more_holders one other h = len-is_subset one other (set.contains-is_subset nat_cmp_total one other h)
@@ -44,13 +40,9 @@ more_holders one other h = len-is_subset one other (set.contains-is_subset nat_c
 -- what is carried once more is known of it was carried before, and what is heard of it would be alone
 both_carried : (f : ℕ) (known heard : Known) → is_carried f (joined known heard) ≡ true → (is_carried f known ≡ true) × (is_carried f heard ≡ true)
 both_carried f known heard h =
-    let all = (joined known heard).holders in
-    let two = both (not (joined known heard).stable) (nat_le (set.len all) f) h in
-    let marks = neither known.stable heard.stable two.0 in
-    let union = set.contains-union nat_cmp_total known.holders heard.holders in
-    let one = more_holders known.holders all (λ q there. union q ∙ or_left (set.contains known.holders q) (set.contains heard.holders q) there) in
-    let other = more_holders heard.holders all (λ q there. union q ∙ or_right (set.contains known.holders q) (set.contains heard.holders q) there) in
-    (and_from (not known.stable) (nat_le (set.len known.holders) f) marks.0 (fewer _ _ f one two.1), and_from (not heard.stable) (nat_le (set.len heard.holders) f) marks.1 (fewer _ _ f other two.1))
+    let one = more_holders known.holders (joined known heard).holders (λ q there. grind (arith, set.contains-union, nat_cmp_total)) in
+    let other = more_holders heard.holders (joined known heard).holders (λ q there. grind (arith, set.contains-union, nat_cmp_total)) in
+    grind (arith, nat_tests)
 
 joined_out : (f : ℕ) (known heard : Known) → is_carried f known ≡ false → is_carried f (joined known heard) ≡ false
 joined_out f known heard is = false_from_ne_true (is_carried f (joined known heard)) (λ h. true≢false (sym (both_carried f known heard h).0 ∙ is))
@@ -82,21 +74,12 @@ dets_append xs ys = map-append (λ item. item.det) xs ys
 
 -- what is carried is not marked
 pub carried_unmarked : (f : ℕ) (known : Known) → is_carried f known ≡ true → record { holders = known.holders; stable = false } ≡ known
-carried_unmarked f known h = by known.stable refl
-  where
-    by : (b : Bool) → known.stable ≡ b → record { holders = known.holders; stable = false } ≡ known
-    by true is = absurd (true≢false (sym (both (not known.stable) (nat_le (set.len known.holders) f) h).0 ∙ ap not is))
-    by false is = λ i. record { holders = known.holders; stable = sym is i }
+carried_unmarked f known h = grind (arith, both)
 
 module _ (f : ℕ) where
   kept_entries : (es : List (Det × Known)) → entries_of (map item_of (filter (λ e. is_carried f e.1) es)) ≡ filter (λ e. is_carried f e.1) es
   kept_entries [] = refl
-  kept_entries (e ∷ es) = by (is_carried f e.1) refl (kept_entries es)
-    where
-      by : (b : Bool) → is_carried f e.1 ≡ b → entries_of (map item_of (filter (λ e. is_carried f e.1) es)) ≡ filter (λ e. is_carried f e.1) es
-          → entries_of (map item_of (cond b (e ∷ filter (λ e. is_carried f e.1) es) (filter (λ e. is_carried f e.1) es))) ≡ cond b (e ∷ filter (λ e. is_carried f e.1) es) (filter (λ e. is_carried f e.1) es)
-      by true is later = λ i. (e.0, carried_unmarked f e.1 is i) ∷ later i
-      by false is later = later
+  kept_entries (e ∷ es) = grind (arith, kept_entries es, carried_unmarked)
 
   found_kept : (log : LogMap) (q : Det) → lookup (same_det q) (filter (λ e. is_carried f e.1) (fin.entries log)) ≡ carried_of f (fin.get log q)
   found_kept log q =
@@ -122,16 +105,12 @@ module _ (f : ℕ) where
 pub glue : (xs : List Det) (d : Det) (ys : List Det) → is_ascending (xs ++ d ∷ []) ≡ true → is_ascending (d ∷ ys) ≡ true → is_ascending (xs ++ d ∷ ys) ≡ true
 glue [] d ys h k = k
 glue (x ∷ []) d ys h k = and_from (is_before x d) (is_ascending (d ∷ ys)) (both (is_before x d) true h).0 k
-glue (x ∷ y ∷ xs) d ys h k =
-    let two = both (is_before x y) (is_ascending (y ∷ (xs ++ d ∷ []))) h in
-    and_from (is_before x y) (is_ascending (y ∷ (xs ++ d ∷ ys))) two.0 (glue (y ∷ xs) d ys two.1 k)
+glue (x ∷ y ∷ xs) d ys h k = grind (arith, glue (y ∷ xs) d ys, both, and_from)
 
 pub front : (xs : List Det) (d : Det) (ys : List Det) → is_ascending (xs ++ d ∷ ys) ≡ true → is_ascending (xs ++ d ∷ []) ≡ true
 front [] d ys h = refl
 front (x ∷ []) d ys h = and_from (is_before x d) true (both (is_before x d) (is_ascending (d ∷ ys)) h).0 refl
-front (x ∷ y ∷ xs) d ys h =
-    let two = both (is_before x y) (is_ascending (y ∷ (xs ++ d ∷ ys))) h in
-    and_from (is_before x y) (is_ascending (y ∷ (xs ++ d ∷ []))) two.0 (front (y ∷ xs) d ys two.1)
+front (x ∷ y ∷ xs) d ys h = grind (arith, front (y ∷ xs) d ys, both, and_from)
 
 pub back : (xs ys : List Det) → is_ascending (xs ++ ys) ≡ true → is_ascending ys ≡ true
 back [] ys h = h
@@ -140,9 +119,7 @@ back (x ∷ xs) ys h = back xs ys (ascending_tail x (xs ++ ys) h)
 pub without : (xs : List Det) (d : Det) (ys : List Det) → is_ascending (xs ++ d ∷ ys) ≡ true → is_ascending (xs ++ ys) ≡ true
 without [] d ys h = ascending_tail d ys h
 without (x ∷ []) d ys h = ascending_skip x d ys h
-without (x ∷ y ∷ xs) d ys h =
-    let two = both (is_before x y) (is_ascending (y ∷ (xs ++ d ∷ ys))) h in
-    and_from (is_before x y) (is_ascending (y ∷ (xs ++ ys))) two.0 (without (y ∷ xs) d ys two.1)
+without (x ∷ y ∷ xs) d ys h = grind (arith, without (y ∷ xs) d ys, both, and_from)
 
 -- an ascending list may end in a later determinant instead
 pub raise : (xs : List Det) (d e : Det) → is_ascending (xs ++ d ∷ []) ≡ true → is_before d e ≡ true → is_ascending (xs ++ e ∷ []) ≡ true
@@ -164,11 +141,7 @@ none_back d ys h = false_from_ne_true (list_any (same_det d) ys) (λ there. true
 
 lookup_append : {X : Type 0} (q : Det) (es fs : List (Det × X)) → lookup (same_det q) (es ++ fs) ≡ option_or (lookup (same_det q) es) (lookup (same_det q) fs)
 lookup_append q [] fs = refl
-lookup_append q (e ∷ es) fs =
-    elim (same_det q e.0) as (λ b. cond b (Some e.1) (lookup (same_det q) (es ++ fs)) ≡ option_or (cond b (Some e.1) (lookup (same_det q) es)) (lookup (same_det q) fs)) [
-      | true ↦ refl
-      | false ↦ lookup_append q es fs
-    ]
+lookup_append q (e ∷ es) fs = grind (arith, lookup_append q es fs)
 
 found_append : (q : Det) (xs ys : List Item) → lookup (same_det q) (entries_of (xs ++ ys)) ≡ option_or (lookup (same_det q) (entries_of xs)) (lookup (same_det q) (entries_of ys))
 found_append q xs ys = ap (lookup (same_det q)) (map-append entry_of xs ys) ∙ lookup_append q (entries_of xs) (entries_of ys)
@@ -197,59 +170,23 @@ module _ (f : ℕ) (log : LogMap) (det : Det) (heard : Known) (out rest : List I
       → lookup (same_det det) (entries_of later) ≡ carried_of f (Some now_known)
       → ((q : Det) → same_det q det ≡ false → lookup (same_det q) (entries_of later) ≡ lookup (same_det q) (entries_of rest))
       → out ++ later ≡ chosen f (learned log det heard)
-  heard_now later ascend here elsewhere = recognized f (learned log det heard) (out ++ later) ascend (λ q. found_append q out later ∙ by q (same_det q det) refl ∙ sym (ap (carried_of f) (get_learned log det heard q)))
-    where
-      by : (q : Det) (b : Bool) → same_det q det ≡ b → option_or (lookup (same_det q) (entries_of out)) (lookup (same_det q) (entries_of later)) ≡ carried_of f (cond (same_det q det) (Some now_known) (fin.get log q))
-      by q true same =
-          ap (λ d. option_or (lookup (same_det d) (entries_of out)) (lookup (same_det d) (entries_of later))) (same_is q det same)
-          ∙ ap (λ o. option_or o (lookup (same_det det) (entries_of later))) not_out
-          ∙ here
-          ∙ sym (ap (λ b. carried_of f (cond b (Some now_known) (fin.get log q))) same)
-      by q false apart =
-          ap (option_or (lookup (same_det q) (entries_of out))) (elsewhere q apart)
-          ∙ found q
-          ∙ sym (ap (λ b. carried_of f (cond b (Some now_known) (fin.get log q))) apart)
+  heard_now later ascend here elsewhere =
+      recognized f (learned log det heard) (out ++ later) ascend (λ q.
+      grind (arith, found_append q out later, get_learned log det heard q, found q, not_out, here, elsewhere q, same_is q det))
 
   -- with this known of it, and other items after it
   pub become : (known : Known) (later : List Item) → now_known ≡ known → is_ascending (dets_of out ++ det ∷ dets_of later) ≡ true → lookup (same_det det) (entries_of later) ≡ None
       → ((q : Det) → same_det q det ≡ false → lookup (same_det q) (entries_of later) ≡ lookup (same_det q) (entries_of rest))
       → with_carried f det known out ++ later ≡ chosen f (learned log det heard)
-  become known later now ascend none elsewhere = by (is_carried f known) refl
-    where
-      here : Item
-      here = record { det = det; holders = known.holders }
-
-      found_now : Option Known → Bool → Option Known
-      found_now o b = cond b (Some (known_of_item here)) o
-
-      by : (b : Bool) → is_carried f known ≡ b → cond b (out ++ here ∷ []) out ++ later ≡ chosen f (learned log det heard)
-      by true carried =
-          append_assoc out (here ∷ []) later
-          ∙ heard_now (here ∷ later) (ap is_ascending (dets_append out (here ∷ later)) ∙ ascend)
-          (ap (found_now (lookup (same_det det) (entries_of later))) (same_itself det)
-          ∙ ap (λ k. Some k) (carried_unmarked f known carried)
-          ∙ sym (ap (λ b. cond b (Some known) None) carried)
-          ∙ ap (λ k. carried_of f (Some k)) (sym now))
-          (λ q h. ap (found_now (lookup (same_det q) (entries_of later))) h ∙ elsewhere q h)
-      by false never =
-          heard_now later (ap is_ascending (dets_append out later) ∙ without (dets_of out) det (dets_of later) ascend)
-          (none ∙ sym (ap (λ b. cond b (Some known) None) never) ∙ ap (λ k. carried_of f (Some k)) (sym now))
-          elsewhere
+  become known later now ascend none elsewhere = grind (arith, append_assoc, heard_now, dets_append, same_itself, carried_unmarked, without)
 
 -- one more that comes before a determinant is passed on
 pub passed_on : (out : List Item) (x : Item) (rest : List Item) (det : Det) → is_ascending (dets_of (out ++ x ∷ rest)) ≡ true → is_before x.det det ≡ true → is_ascending (dets_of (out ++ x ∷ []) ++ det ∷ []) ≡ true
-passed_on out x rest det ascend low =
-    ap (λ ds. is_ascending (ds ++ det ∷ [])) (dets_append out (x ∷ []))
-    ∙ ap is_ascending (append_assoc (dets_of out) (x.det ∷ []) (det ∷ []))
-    ∙ glue (dets_of out) x.det (det ∷ []) (front (dets_of out) x.det (dets_of rest) (sym (ap is_ascending (dets_append out (x ∷ rest))) ∙ ascend)) (and_from (is_before x.det det) true low refl)
+passed_on out x rest det ascend low = grind (arith, dets_append, append_assoc, glue, front, and_from)
 
 -- the items from one place up to another, and the rest
 pub part_and_rest : (kept : List Item) (from next : ℕ) → from ≤ next → take (next - from) (drop from kept) ++ drop next kept ≡ drop from kept
-part_and_rest kept from next up =
-    let e : next ≡ from + (next - from) = omega (arith, up) in
-    ap (λ n. take (next - from) (drop from kept) ++ drop n kept) e
-    ∙ ap (λ xs. take (next - from) (drop from kept) ++ xs) (sym (drop-drop (next - from) from kept))
-    ∙ take-append-drop (next - from) (drop from kept)
+part_and_rest kept from next up = grind (arith, drop-drop (next - from) from kept, take-append-drop (next - from) (drop from kept))
 
 -- more of them that come before a determinant are passed on, where the last of them does
 pub part_passed : (out kept : List Item) (from next : ℕ) (det : Det) → from ≤ next → next ≤ length kept → is_ascending (dets_of (out ++ drop from kept)) ≡ true
@@ -277,11 +214,7 @@ part_passed out kept from next det up within ascend before last = by (next - fro
 
 some_carried : (f : ℕ) (o : Option Known) (known : Known) → Some known ≡ carried_of f o → unwrap_or o nothing_known ≡ known
 some_carried f None known h = absurd (true≢false (ap is_some h))
-some_carried f (Some other) known h = by (is_carried f other) refl
-  where
-    by : (b : Bool) → is_carried f other ≡ b → other ≡ known
-    by true is = ap (λ o. unwrap_or o other) (sym (ap (λ b. cond b (Some other) None) is) ∙ sym h)
-    by false is = absurd (true≢false (ap is_some (h ∙ ap (λ b. cond b (Some other) None) is)))
+some_carried f (Some other) known h = grind arith
 
 -- the next item is of the determinant of which this is heard
 module _ (f : ℕ) (log : LogMap) (det : Det) (heard : Known) (out : List Item) (item : Item) (rest : List Item) (is : out ++ item ∷ rest ≡ chosen f log) (before : is_ascending (dets_of out ++ det ∷ []) ≡ true) (here : item.det ≡ det) where
@@ -295,14 +228,11 @@ module _ (f : ℕ) (log : LogMap) (det : Det) (heard : Known) (out : List Item) 
   known_now = some_carried f (fin.get log det) (known_of_item item) (sym (ap (λ b. cond b (Some (known_of_item item)) (lookup (same_det det) (entries_of rest))) same) ∙ in_rest f log det heard out (item ∷ rest) is before)
 
   not_later : lookup (same_det det) (entries_of rest) ≡ None
-  not_later = none_found det rest (none_back det (dets_of rest) (back (dets_of out) (det ∷ dets_of rest) (ap (λ d. is_ascending (dets_of out ++ d ∷ dets_of rest)) (sym here) ∙ ascend)))
+  not_later = grind (arith, none_found, none_back, back, ascend)
 
   -- what is now known of an item's determinant stands in its place, if it is still carried
   pub met : with_carried f det (joined (known_of_item item) heard) out ++ rest ≡ chosen f (learned log det heard)
-  met =
-      become f log det heard out (item ∷ rest) is before (joined (known_of_item item) heard) rest (ap (λ k. joined k heard) known_now)
-      (ap (λ d. is_ascending (dets_of out ++ d ∷ dets_of rest)) (sym here) ∙ ascend) not_later
-      (λ q h. sym (ap (λ b. cond b (Some (known_of_item item)) (lookup (same_det q) (entries_of rest))) (ap (same_det q) here ∙ h)))
+  met = grind (arith, become f log det heard out (item ∷ rest) is before (joined (known_of_item item) heard) rest, known_now, ascend, not_later, here)
 
 -- the determinant is none of what is kept
 module _ (f : ℕ) (log : LogMap) (det : Det) (heard : Known) (out rest : List Item) (is : out ++ rest ≡ chosen f log) (before : is_ascending (dets_of out ++ det ∷ []) ≡ true) (after : is_ascending (det ∷ dets_of rest) ≡ true) where
@@ -310,7 +240,7 @@ module _ (f : ℕ) (log : LogMap) (det : Det) (heard : Known) (out rest : List I
   none_there = none_found det rest (none_back det (dets_of rest) after)
 
   becomes : (known : Known) → joined (known_of log det) heard ≡ known → with_carried f det known out ++ rest ≡ chosen f (learned log det heard)
-  becomes known now = become f log det heard out rest is before known rest now (glue (dets_of out) det (dets_of rest) before after) none_there (λ q h. refl)
+  becomes known now = grind (arith, become, glue, none_there)
 
   out_known : (o : Option Known) → None ≡ carried_of f o → is_some o ≡ true → is_carried f (unwrap_or o nothing_known) ≡ false
   out_known None h there = absurd (true≢false (sym there))
@@ -325,16 +255,11 @@ module _ (f : ℕ) (log : LogMap) (det : Det) (heard : Known) (out rest : List I
 
   -- a logged determinant that messages do not carry stays out, whatever is heard of it
   pub logged_out : is_some (fin.get log det) ≡ true → out ++ rest ≡ chosen f (learned log det heard)
-  logged_out there =
-      stays (joined_out f (known_of log det) heard (out_known (fin.get log det) (sym none_there ∙ in_rest f log det heard out rest is before) there))
+  logged_out there = grind (arith, stays, joined_out, out_known, none_there, in_rest)
 
   -- and comes in where it is not logged
   pub comes_in : is_some (fin.get log det) ≡ false → with_carried f det (joined nothing_known heard) out ++ rest ≡ chosen f (learned log det heard)
-  comes_in new = becomes (joined nothing_known heard) (ap (λ k. joined k heard) (none (fin.get log det) new))
-    where
-      none : (o : Option Known) → is_some o ≡ false → unwrap_or o nothing_known ≡ nothing_known
-      none None h = refl
-      none (Some k) h = absurd (true≢false h)
+  comes_in new = becomes (joined nothing_known heard) (grind arith)
 
 -- where messages carry nothing, they carry nothing once items are taken in that tell of nothing that they carry on
 pub none_carried : (f : ℕ) (from me : Pid) (items : List Item) (log : LogMap) → ((item : Item) → is_carried f (told from me item).1 ≡ false) → [] ≡ chosen f log → [] ≡ chosen f (absorbed items from me log)
@@ -346,9 +271,7 @@ none_carried f from me (x ∷ xs) log never is =
 pub drop_got : (xs : List Item) (i : ℕ) (x : Item) → slice_get xs i ≡ Some x → drop i xs ≡ x ∷ drop (i + 1) xs
 drop_got [] i x h = absurd (true≢false (sym (ap is_some h)))
 drop_got (y ∷ xs) zero x h = ap (λ o. unwrap_or o y ∷ xs) h
-drop_got (y ∷ xs) (suc i) x h =
-    let e : suc (i + 1) ≡ suc i + 1 = omega arith in
-    drop_got xs i x h ∙ ap (λ n. x ∷ drop n (y ∷ xs)) e
+drop_got (y ∷ xs) (suc i) x h = grind (arith, drop_got xs i x h)
 
 -- an item that is found stands within the list
 pub got_within : (xs : List Item) (i : ℕ) (x : Item) → slice_get xs i ≡ Some x → i < length xs
@@ -364,19 +287,12 @@ next_after [] place det up low apart = ap (λ xs. is_ascending (det ∷ dets_of 
     drop_nothing : (n : ℕ) → drop {A = Item} n [] ≡ []
     drop_nothing zero = refl
     drop_nothing (suc n) = refl
-next_after (x ∷ xs) zero det up low apart = and_from (is_before det x.det) (is_ascending (x.det ∷ dets_of xs)) (ap is_lt (below det x.det low (same_turned det x.det ∙ apart))) up
+next_after (x ∷ xs) zero det up low apart = grind (arith, and_from, below, same_turned)
 next_after (x ∷ xs) (suc n) det up low apart = next_after xs n det up low apart
 
 -- what was passed on comes before all that come after the determinant
 pub before_later : (f : ℕ) (det : Det) (known : Known) (out : List Item) → is_ascending (dets_of out ++ det ∷ []) ≡ true → (d : Det) → is_before det d ≡ true → is_ascending (dets_of (with_carried f det known out) ++ d ∷ []) ≡ true
-before_later f det known out before d low = by (is_carried f known) refl
-  where
-    by : (b : Bool) → is_carried f known ≡ b → is_ascending (dets_of (cond b (out ++ record { det = det; holders = known.holders } ∷ []) out) ++ d ∷ []) ≡ true
-    by true is =
-        ap (λ ds. is_ascending (ds ++ d ∷ [])) (dets_append out (record { det = det; holders = known.holders } ∷ []))
-        ∙ ap is_ascending (append_assoc (dets_of out) (det ∷ []) (d ∷ []))
-        ∙ glue (dets_of out) det (d ∷ []) before (and_from (is_before det d) true low refl)
-    by false is = raise (dets_of out) det d before low
+before_later f det known out before d low = grind (arith, dets_append, append_assoc, glue, and_from, raise)
 
 module _ (f : ℕ) (items : List Item) (from me : Pid) (source : LogMap) where
   -- before the first item, what is kept is what messages carry of the log
@@ -400,17 +316,9 @@ module _ (f : ℕ) (items : List Item) (from me : Pid) (source : LogMap) where
     carries = hears h.log (ap is_some (h.same x.det (first_named x rest))) (moved ∙ h.carries);
     all = h.all;
     same = λ q there.
-        get_learned h.log x.det (told from me x).1 q
-        ∙ ap (λ b. cond b (Some (joined (known_of h.log x.det) (told from me x).1)) (fin.get h.log q))
-        (same_turned q x.det ∙ before_apart x.det q (first_before x.det (dets_of rest) q ascend (any_map (λ other. other.det) (same_det q) (λ other. same_det q other.det) (λ other. refl) rest ∙ there)))
-        ∙ h.same q (or_right (same_det q x.det) _ there);
+        grind (arith, get_learned h.log x.det (told from me x).1 q, same_turned q x.det, before_apart x.det q, first_before x.det (dets_of rest) q ascend, any_map (λ other. other.det) (same_det q) (λ other. same_det q other.det) (λ other. refl) rest, h.same q);
     before = λ y ys e. before y.det (both (is_before x.det y.det) (is_ascending (y.det ∷ dets_of ys)) (ap (λ xs. is_ascending (dets_of (x ∷ xs))) (sym e) ∙ ascend)).0;
   }
-
--- the first of some items
-abbrev pub first_or : List Item → Item → Item
-first_or [] d = d
-first_or (x ∷ xs) d = x
 
 -- the last of what messages carry ascend
 pub rest_ascends : (f : ℕ) (log : LogMap) (out rest : List Item) → out ++ rest ≡ chosen f log → is_ascending (dets_of rest) ≡ true
@@ -422,27 +330,16 @@ cut_rest xs n = let len = length-drop n xs in take_all (length xs - n) (drop n x
 
 -- the items from a place on ascend
 pub drop_ascends : (xs : List Item) (n : ℕ) → is_ascending (dets_of xs) ≡ true → is_ascending (dets_of (drop n xs)) ≡ true
-drop_ascends xs n h =
-    back (dets_of (take n xs)) (dets_of (drop n xs)) (sym (ap is_ascending (dets_append (take n xs) (drop n xs))) ∙ ap (λ ys. is_ascending (dets_of ys)) (take-append-drop n xs) ∙ h)
+drop_ascends xs n h = grind (arith, back, dets_append (take n xs) (drop n xs), take-append-drop n xs)
 
 -- a determinant that an item names is named
 pub named_at : (xs : List Item) (n : ℕ) (x : Item) (det : Det) → slice_get xs n ≡ Some x → x.det ≡ det → names_det det xs ≡ true
-named_at xs n x det there same =
-    ap (names_det det) (sym (take-append-drop n xs) ∙ ap (λ ys. take n xs ++ ys) (drop_got xs n x there))
-    ∙ list_any-append (λ y. same_det det y.det) (take n xs) (x ∷ drop (n + 1) xs)
-    ∙ or_right (names_det det (take n xs)) (names_det det (x ∷ drop (n + 1) xs)) (ap (λ b. b || names_det det (drop (n + 1) xs)) (ap (same_det det) same ∙ same_itself det))
+named_at xs n x det there same = grind (arith, take-append-drop n xs, drop_got xs n x there, list_any-append, or_right, same_itself det)
 
 -- what is put in where one was taken out stands between what came before it and after it
 pub in_its_place : (f : ℕ) (det : Det) (known : Known) (xs : List Item) (n : ℕ) → n ≤ length xs
     → with_carried f det known (take n (take n xs ++ drop (suc n) xs)) ++ drop n (take n xs ++ drop (suc n) xs) ≡ with_carried f det known (take n xs) ++ drop (n + 1) xs
-in_its_place f det known xs n within =
-    let pre = take n xs in
-    let rest = drop (suc n) xs in
-    let long : length pre ≡ n = length-take-le n xs within in
-    let next : suc n ≡ n + 1 = omega arith in
-    let first : take n (pre ++ rest) ≡ pre = ap (λ m. take m (pre ++ rest)) (sym long) ∙ take-append_seam pre rest in
-    let last : drop n (pre ++ rest) ≡ drop (n + 1) xs = ap (λ m. drop m (pre ++ rest)) (sym long) ∙ drop-append_seam pre rest ∙ ap (λ m. drop m xs) next in
-    λ i. with_carried f det known (first i) ++ last i
+in_its_place f det known xs n within = grind (arith, length-take-le n xs within, take-append_seam, drop-append_seam)
 
 -- the own determinant comes to what messages carry of a log, at the first item that does not come before it
 module _ (f : ℕ) (log : LogMap) (own : Det) (heard : Known) (xs : List Item) (place : ℕ) (is : xs ≡ chosen f log) (before : is_ascending (dets_of (take place xs) ++ own ∷ []) ≡ true) (next : IfSome (slice_get xs place) (λ item. is_before item.det own ≡ false)) where
@@ -454,12 +351,81 @@ module _ (f : ℕ) (log : LogMap) (own : Det) (heard : Known) (xs : List Item) (
 
   -- it is there with what more is known of it, if messages carry that
   pub own_met : (item : Item) → slice_get xs place ≡ Some item → item.det ≡ own → with_carried f own (joined (known_of_item item) heard) (take place xs) ++ drop (place + 1) xs ≡ chosen f (learned log own heard)
-  own_met item there same = met f log own heard (take place xs) item (drop (place + 1) xs) (ap (λ ys. take place xs ++ ys) (sym (drop_got xs place item there)) ∙ split) before same
+  own_met item there same = grind (arith, met, drop_got, split)
 
   -- it stays out where it is logged
   pub own_out : IfSome (slice_get xs place) (λ item. same_det item.det own ≡ false) → is_some (fin.get log own) ≡ true → xs ≡ chosen f (learned log own heard)
-  own_out apart there = sym (take-append-drop place xs) ∙ logged_out f log own heard (take place xs) (drop place xs) split before (after_own apart) there
+  own_out apart there = grind (arith, take-append-drop, logged_out, split, after_own)
 
   -- and is new elsewhere
   pub own_in : IfSome (slice_get xs place) (λ item. same_det item.det own ≡ false) → is_some (fin.get log own) ≡ false → with_carried f own (joined nothing_known heard) (take place xs) ++ drop place xs ≡ chosen f (learned log own heard)
   own_in apart new = comes_in f log own heard (take place xs) (drop place xs) split before (after_own apart) new
+
+-- a filter of determinants leaves ascending items of what messages carry
+kept_items : (p : Det → Bool) (q : Det × Known → Bool) (es : List (Det × Known)) → filter (λ item. p item.det) (map item_of (filter q es)) ≡ map item_of (filter (λ e. q e && p e.0) es)
+kept_items p q [] = refl
+kept_items p q (e ∷ es) = grind (arith, kept_items p q es)
+
+open_ascend : (f : ℕ) (log other : LogMap) → is_ascending (dets_of (open_in other (chosen f log))) ≡ true
+open_ascend f log other = grind (arith, kept_items (is_open other) (λ e. is_carried f e.1) (fin.entries log), dets_of_items, filter_ascends (λ e. is_carried f e.1 && is_open other e.0) log)
+
+open_entries : (p : Det → Bool) (items : List Item) → entries_of (filter (λ item. p item.det) items) ≡ filter (λ e. p e.0) (entries_of items)
+open_entries p [] = refl
+open_entries p (i ∷ items) = grind (arith, open_entries p items)
+
+found_open : (f : ℕ) (log other : LogMap) (q : Det) → lookup (same_det q) (entries_of (open_in other (chosen f log))) ≡ cond (is_open other q) (carried_of f (fin.get log q)) None
+found_open f log other q = grind (arith, open_entries (is_open other) (chosen f log), lookup-filter-keys, same_is, found_chosen f log q)
+
+abbrev open_of : Option Known → Bool
+open_of o = option_map_or (λ known. not known.stable) o false
+
+-- what messages carry is open
+carried_open : (f : ℕ) (o : Option Known) → cond (open_of o) (carried_of f o) None ≡ carried_of f o
+carried_open f None = refl
+carried_open f (Some known) = grind arith
+
+-- marked or not, messages carry of a log once a determinant is marked what is open of what they carried
+marked_open : (f : ℕ) (b : Bool) (o : Option Known) → cond (open_of (cond b (option_map as_stable o) o)) (carried_of f o) None ≡ carried_of f (cond b (option_map as_stable o) o)
+marked_open f true None = refl
+marked_open f true (Some known) = refl
+marked_open f false o = carried_open f o
+
+pub chosen_marked : (f : ℕ) (log : LogMap) (det : Det) → open_in (marked log det) (chosen f log) ≡ chosen f (marked log det)
+chosen_marked f log det = grind (arith, recognized, open_ascend f log (marked log det), found_open, get_marked, marked_open)
+
+-- open is what is open in both
+open_twice : (log other : LogMap) (items : List Item) → ((q : Det) → is_open other q ≡ true → is_open log q ≡ true) → open_in other (open_in log items) ≡ open_in other items
+open_twice log other [] h = refl
+open_twice log other (i ∷ items) h = grind (arith, open_twice log other items h)
+
+marked_was_open : (b : Bool) (o : Option Known) → open_of (cond b (option_map as_stable o) o) ≡ true → open_of o ≡ true
+marked_was_open true None h = h
+marked_was_open true (Some known) h = absurd (true≢false (sym h))
+marked_was_open false o h = h
+
+-- a batch goes on being what messages still carry, once a determinant is marked
+pub carried_marked : (f : ℕ) (items : List Item) (is_marked : Bool) (log : LogMap) (det : Det) → cond is_marked (open_in log items) items ≡ chosen f log → open_in (marked log det) items ≡ chosen f (marked log det)
+carried_marked f items true log det is = grind (arith, open_twice, marked_was_open, get_marked, chosen_marked)
+carried_marked f items false log det is = ap (open_in (marked log det)) is ∙ chosen_marked f log det
+
+-- so does what a log keeps
+pub carries_marked : (kept : Option Carried) (log : LogMap) (det : Det) → Carries kept log → Carries (option_map as_marked kept) (marked log det)
+carries_marked None log det is = is
+carries_marked (Some k) log det is = carried_marked k.f (arc_value k.batch) k.is_marked log det is
+
+-- holders that are known add nothing
+holders_in : (s t : set.FinSet nat_cmp) → set.is_subset s t ≡ true → set.union t s ≡ t
+holders_in s t h = set.same_set nat_cmp_total set.nat_cmp-IsAntisymmetric _ _ (λ q. grind (arith, set.contains-union, nat_cmp_total, set.is_subset-contains nat_cmp_total s t h q))
+
+-- a log learns nothing from holders that it knows
+pub learned_known : (log : LogMap) (det : Det) (heard : Known) → heard.stable ≡ false → are_known_to_hold log det heard.holders ≡ true → learned log det heard ≡ log
+learned_known log det heard plain = by (fin.get log det) refl
+  where
+    by : (o : Option Known) → fin.get log det ≡ o → option_map_or (λ known. set.is_subset heard.holders known.holders) o false ≡ true → learned log det heard ≡ log
+    by None is h = absurd (true≢false (sym h))
+    by (Some known) is h = fin.same_map dets_total exact_dets (learned log det heard) log (λ q. grind (arith, get_learned log det heard q, holders_in heard.holders known.holders h, same_is q det))
+
+-- nor from a message of whose items it knows all that they tell
+pub absorbed_known : (from me : Pid) (items : List Item) (log : LogMap) → list_all (λ item. are_known_to_hold log item.det (told from me item).1.holders) items ≡ true → absorbed items from me log ≡ log
+absorbed_known from me [] log h = refl
+absorbed_known from me (x ∷ xs) log h = grind (arith, learned_known log x.det (told from me x).1 refl, absorbed_known from me xs log)

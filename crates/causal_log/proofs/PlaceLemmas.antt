@@ -3,7 +3,7 @@ use Rattle.std.proofs.Common.{ℕ, zero, suc, ◌≡◌, ◌∙◌, ◌==◌, Bo
 use Rattle.std.proofs.lemmas.Bool.Decides.{nat_tests}
 use Rattle.std.proofs.lemmas.List.Sorted.{IsPermutation-refl, IsPermutation-cons, IsPermutation-swap, IsPermutation-trans, IsPermutation-map, length_permutation, sum_by-IsPermutation}
 use Rattle.std.proofs.lemmas.List.Sums.{length-filter}
-use Rattle.std.proofs.lemmas.Map.Entries.{option_filter, lookup-filter-values}
+use Rattle.std.proofs.lemmas.Map.Entries.{lookup-filter-values}
 use Rattle.std.proofs.lemmas.Map.Keys.{IsDistinct-from_sorted, any_passes_from_place}
 use Rattle.std.proofs.lemmas.Map.Made.{is_some-lookup}
 use Rattle.std.proofs.lemmas.Option.{slice_get-map}
@@ -20,13 +20,13 @@ use Rattle.causal_name.specs.Names.{det_cmp, same_det, is_before, is_ascending}
 use Rattle.causal_name.proofs.Lemmas.DetOrder.{dets_total, exact_dets, det_ties, same_is, same_itself}
 use Rattle.causal_log.specs.declared.known.Known.{Known}
 use Rattle.causal_log.specs.Knowledge.{nothing_known, joined}
-use Rattle.causal_log.specs.Logs.{LogMap, known_of, learned, learned_all}
+use Rattle.causal_log.specs.Logs.{LogMap, learned_all}
 use Rattle.causal_log.specs.Inside.Ranks.{has_rank}
 use Rattle.causal_log.proofs.EntryLemmas.{det_equiv, find_lookup, get_log, same_log, strict, nothing, not_itself, not_after}
 use Rattle.causal_log.proofs.IndexLemmas.{stands}
 use Rattle.causal_log.proofs.Lemmas.Ascents.{ascending_tail, ascending_skip, first_before, map_ascends}
 use Rattle.causal_log.proofs.Lemmas.KnowledgeGrows.{get_learned}
-use Rattle.causal_log.proofs.Lemmas.Places.{place_shown}
+use Rattle.causal_log.proofs.Lemmas.LogLists.{place_shown}
 use Rattle.causal_log.proofs.Lemmas.Searches.{both}
 use Rattle.causal_log.proofs.Lemmas.Slots.{first_fits, none_fits}
 
@@ -50,8 +50,7 @@ module _ {X : Type 0} where
 
   -- and there are none but these
   pub same_members : (es : List (Det × X)) (q : Det) → list_any (same_det q) (keys_of es) ≡ list_any (same_det q) (keys_of (in_order es))
-  same_members es q =
-      sym (is_some-lookup (same_det q) es) ∙ ap is_some (sym (found_order es q)) ∙ is_some-lookup (same_det q) (in_order es)
+  same_members es q = grind (arith, is_some-lookup (same_det q) es, found_order es q, is_some-lookup)
 
   put_moved : (e : Det × X) (es : List (Det × X)) → fin.find det_cmp e.0 es ≡ None → IsPermutation (e ∷ es) (put det_cmp e.0 e.1 es)
   put_moved e [] none = IsPermutation-refl (e ∷ [])
@@ -82,22 +81,16 @@ module _ {X : Type 0} where
 
     -- as many pass a test of what stands at the determinants, and they make the same map
     pub same_count : (P : X → Bool) → length (filter (λ e. P e.1) es) ≡ length (filter (λ e. P e.1) (in_order es))
-    same_count P =
-        length-filter (λ e. P e.1) es
-        ∙ sym (sum_by-IsPermutation (λ e. cond (P e.1) 1 0) es (in_order es) (moved_order es distinct))
-        ∙ sym (length-filter (λ e. P e.1) (in_order es))
+    same_count P = grind (arith, length-filter, sum_by-IsPermutation, moved_order)
 
     -- those entries that pass a test make the same map in either order
     pub same_kept : (P : X → Bool) → fin.from_entries {R = det_cmp} (filter (λ e. P e.1) es) ≡ fin.from_entries (filter (λ e. P e.1) (in_order es))
     same_kept P = same_log (filter (λ e. P e.1) es) (filter (λ e. P e.1) (in_order es)) (λ q.
-        lookup-filter-values det_equiv P q es distinct
-        ∙ ap (λ o. option_filter P o) (sym (found_order es q))
-        ∙ sym (lookup-filter-values det_equiv P q (in_order es) (order_distinct es)))
+        grind (arith, lookup-filter-values det_equiv P q es distinct, lookup-filter-values det_equiv P q (in_order es) (order_distinct es), found_order es q))
 
     -- and as many a test of the determinants
     pub same_counted : (P : Det → Bool) → count_by P (keys_of es) ≡ count_by P (keys_of (in_order es))
-    same_counted P =
-        sym (sum_by-IsPermutation (λ d. cond (P d) 1 0) (keys_of es) (keys_of (in_order es)) (IsPermutation-map (λ e. e.0) es (in_order es) (moved_order es distinct)))
+    same_counted P = grind (arith, sum_by-IsPermutation, IsPermutation-map, moved_order)
 
 -- what is known of a determinant once this is heard of it
 abbrev heard_at : Option Known → Option Known → Option Known
@@ -107,40 +100,21 @@ heard_at (Some known) o = Some (joined (unwrap_or o nothing_known) known)
 get_all : (es : List (Det × Known)) (log : LogMap) (q : Det) → IsDistinct same_det (keys_of es) → fin.get (learned_all es log) q ≡ heard_at (lookup (same_det q) es) (fin.get log q)
 unfolding IsDistinct
 get_all [] log q distinct = refl
-get_all (e ∷ es) log q distinct = get_all es (learned log e.0 e.1) q distinct.1 ∙ ap (heard_at (lookup (same_det q) es)) (get_learned log e.0 e.1 q) ∙ by (same_det q e.0) refl
-  where
-    by : (b : Bool) → same_det q e.0 ≡ b
-        → heard_at (lookup (same_det q) es) (cond b (Some (joined (known_of log e.0) e.1)) (fin.get log q)) ≡ heard_at (cond b (Some e.1) (lookup (same_det q) es)) (fin.get log q)
-    by true is =
-        let one = same_is q e.0 is in
-        ap (λ o. heard_at o (Some (joined (known_of log e.0) e.1))) (ap (λ d. lookup (same_det d) es) one ∙ none_later e.0 es distinct.0)
-        ∙ ap (λ d. Some (joined (known_of log d) e.1)) (sym one)
-    by false is = refl
+get_all (e ∷ es) log q distinct = grind (arith, get_all es, get_learned, same_is, none_later)
 
 -- entries are learned in any order alike
 pub same_learned : (es : List (Det × Known)) (log : LogMap) → IsDistinct same_det (keys_of es) → learned_all es log ≡ learned_all (in_order es) log
-same_learned es log distinct =
-    fin.same_map dets_total exact_dets _ _ (λ q.
-    get_all es log q distinct ∙ ap (λ o. heard_at o (fin.get log q)) (sym (found_order es q)) ∙ sym (get_all (in_order es) log q (order_distinct es)))
+same_learned es log distinct = fin.same_map dets_total exact_dets _ _ (λ q. grind (arith, get_all, found_order, order_distinct es))
 
 none_before : (d : Det) (ds : List Det) → is_ascending (d ∷ ds) ≡ true → length (filter (λ x. is_before x d) ds) ≡ 0
 none_before d [] h = refl
-none_before d (e ∷ ds) h =
-    let two = both (is_before d e) (is_ascending (e ∷ ds)) h in
-    ap (λ b. length (cond b (e ∷ filter (λ x. is_before x d) ds) (filter (λ x. is_before x d) ds))) (not_after d e two.0)
-    ∙ none_before d ds (ascending_skip d e ds h)
+none_before d (e ∷ ds) h = grind (arith, none_before d ds, both, not_after, ascending_skip)
 
 -- of an ascending list, as many come before one as its place says
 rank_at : (ds : List Det) (i : ℕ) (d : Det) → is_ascending ds ≡ true → slice_get ds i ≡ Some d → length (filter (λ x. is_before x d) ds) ≡ i
 rank_at [] i d h at = absurd (true≢false (sym (ap is_some at)))
-rank_at (e ∷ ds) zero d h at =
-    let one : e ≡ d = ap (λ o. unwrap_or o e) at in
-    ap (λ x. length (filter (λ y. is_before y x) (e ∷ ds))) (sym one)
-    ∙ ap (λ b. length (cond b (e ∷ filter (λ x. is_before x e) ds) (filter (λ x. is_before x e) ds))) (not_itself e)
-    ∙ none_before e ds h
-rank_at (e ∷ ds) (suc i) d h at =
-    ap (λ b. length (cond b (e ∷ filter (λ x. is_before x d) ds) (filter (λ x. is_before x d) ds))) (first_before e ds d h (any_passes_from_place (same_det d) ds i d at (same_itself d)))
-    ∙ ap suc (rank_at ds i d (ascending_tail e ds h) at)
+rank_at (e ∷ ds) zero d h at = grind (arith, not_itself, none_before)
+rank_at (e ∷ ds) (suc i) d h at = grind (arith, first_before e ds d h (any_passes_from_place (same_det d) ds i d at (same_itself d)), rank_at ds i d (ascending_tail e ds h) at)
 
 number_is : (a b : ℕ) → (a == b) ≡ true → a ≡ b
 number_is a b h = grind (arith, nat_tests)
@@ -159,10 +133,13 @@ module _ (es : List (Det × Known)) (distinct : IsDistinct same_det (keys_of es)
 
   rank_order : (i : ℕ) (d : Det) → slice_get keys i ≡ Some d → length (filter (λ x. is_before x d) (keys_of es)) ≡ i
   rank_order i d at =
-      length-filter (λ x. is_before x d) (keys_of es)
-      ∙ same_counted es distinct (λ x. is_before x d)
-      ∙ sym (length-filter (λ x. is_before x d) keys)
-      ∙ rank_at keys i d (map_ascends (fin.from_entries {R = det_cmp} es)) at
+      grind (
+        arith,
+        length-filter (λ x. is_before x d) (keys_of es),
+        same_counted es distinct (λ x. is_before x d),
+        length-filter (λ x. is_before x d) keys,
+        rank_at keys i d (map_ascends (fin.from_entries {R = det_cmp} es)) at,
+      )
 
   -- the determinant that so many come before is the one at that place of the map
   ranked_key : (n : ℕ) → find (λ d. has_rank (keys_of es) n d) (keys_of es) ≡ slice_get keys n

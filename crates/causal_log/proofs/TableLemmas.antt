@@ -1,6 +1,6 @@
 -- What a look-up finds after an entry was added, or the value of one was changed.
-use Rattle.std.proofs.Common.{ℕ, zero, suc, ◌≡◌, ◌∙◌, ◌+◌, ◌<◌, Bool, true, false, cond, get_or, List, [], ◌∷◌, ◌++◌, take, Option, Some, None, is_some, unwrap_or, slice_get, set, length, true≢false, refl, sym, ap, subst, arith}
-use Rattle.std.proofs.lemmas.List.{get_or-map, map-append, take_all, take_more, take-append-le}
+use Rattle.std.proofs.Common.{ℕ, zero, suc, ◌≡◌, ◌∙◌, ◌+◌, ◌<◌, Bool, true, false, cond, get_or, List, [], ◌∷◌, ◌++◌, take, Some, None, is_some, unwrap_or, slice_get, set, length, true≢false, refl, sym, ap, subst, arith}
+use Rattle.std.proofs.lemmas.List.{get_or-map, map-append, take_more}
 use Rattle.std.proofs.lemmas.List.Edits.{insert_end}
 use Rattle.std.proofs.lemmas.Map.{lookup-insert, none_passes_from_lookup}
 use Rattle.std.proofs.lemmas.Map.Entries.{length-keys_of}
@@ -12,7 +12,8 @@ use Rattle.causal_name.specs.declared.Det.{Det}
 use Rattle.causal_name.specs.declared.Slot.{Slot}
 use Rattle.causal_name.specs.Names.{same_det, slot_of}
 use Rattle.causal_name.proofs.Lemmas.DetOrder.{same_is}
-use Rattle.causal_log.specs.Inside.Indexes.{IsIndex}
+use Rattle.causal_log.specs.declared.index.Index.{Index}
+use Rattle.causal_log.specs.Inside.Indexes.{IsIndexOf}
 use Rattle.causal_log.proofs.EntryLemmas.{det_equiv}
 use Rattle.causal_log.proofs.Lemmas.Searches.{same_turned}
 
@@ -20,8 +21,7 @@ module _ {V : Type 0} where
   -- with an entry of a new determinant, that is found, and all others as before
   pub lookup_push : (es : List (Det × V)) (d : Det) (v : V) → lookup (same_det d) es ≡ None
       → (q : Det) → lookup (same_det q) (es ++ (d, v) ∷ []) ≡ cond (same_det d q) (Some v) (lookup (same_det q) es)
-  lookup_push es d v none q =
-      ap (lookup (same_det q)) (sym (insert_end es (d, v))) ∙ lookup-insert det_equiv d v q es (length es) (none_passes_from_lookup (same_det d) es none)
+  lookup_push es d v none q = grind (arith, insert_end es (d, v), lookup-insert det_equiv d v q es (length es) (none_passes_from_lookup (same_det d) es none))
 
   all_at : (P : Det → Type 0) (es : List (Det × V)) (i : ℕ) (d : Det) (v : V) → AllByRecursion P (keys_of es) → slice_get es i ≡ Some (d, v) → P d
   all_at P [] i d v all at = absurd (true≢false (sym (ap is_some at)))
@@ -33,12 +33,7 @@ module _ {V : Type 0} where
       → (q : Det) → lookup (same_det q) (set es i (d, v)) ≡ cond (same_det d q) (Some v) (lookup (same_det q) es)
   unfolding IsDistinct
   lookup_set [] i d was v distinct at q = absurd (true≢false (sym (ap is_some at)))
-  lookup_set (e ∷ es) zero d was v distinct at q =
-      by (same_det q d) refl ∙ sym (ap (λ x. cond (same_det d q) (Some v) (cond (same_det q x) (Some e.1) (lookup (same_det q) es))) (ap (λ o. (unwrap_or o e).0) at))
-    where
-      by : (b : Bool) → same_det q d ≡ b → cond b (Some v) (lookup (same_det q) es) ≡ cond (same_det d q) (Some v) (cond b (Some e.1) (lookup (same_det q) es))
-      by true is = sym (ap (λ b. cond b (Some v) (Some e.1)) (same_turned d q ∙ is))
-      by false is = sym (ap (λ b. cond b (Some v) (lookup (same_det q) es)) (same_turned d q ∙ is))
+  lookup_set (e ∷ es) zero d was v distinct at q = grind (arith, same_turned)
   lookup_set (e ∷ es) (suc i) d was v distinct at q =
       by (all_at (λ y. same_det e.0 y ≡ false) es i d was distinct.0 at) (lookup_set es i d was v distinct.1 at q) (same_det q e.0) refl
     where
@@ -53,19 +48,12 @@ module _ {V : Type 0} where
 
   -- nothing is found for a determinant that no entry has
   pub lookup_missing : (es : List (Det × V)) (d : Det) → list_any (same_det d) (keys_of es) ≡ false → lookup (same_det d) es ≡ None
-  lookup_missing es d h = none (lookup (same_det d) es) (is_some-lookup (same_det d) es ∙ h)
-    where
-      none : (o : Option V) → is_some o ≡ false → o ≡ None
-      none None h = refl
-      none (Some x) h = absurd (true≢false h)
+  lookup_missing es d h = grind (arith, is_some-lookup (same_det d) es)
 
   -- what is read at the place of a determinant is its entry
   pub read_entry : (es : List (Det × V)) (i : ℕ) (d : Det) (x : Det × V) → slice_get (keys_of es) i ≡ Some d → x ≡ get_or es i x → slice_get es i ≡ Some (d, x.1)
   read_entry [] i d x at read = absurd (true≢false (sym (ap is_some at)))
-  read_entry (e ∷ es) zero d x at read =
-      let one : e.0 ≡ d = ap (λ o. unwrap_or o d) at in
-      let two : e.1 ≡ x.1 = sym (ap (λ y. y.1) read) in
-      λ i. Some (one i, two i)
+  read_entry (e ∷ es) zero d x at read = grind arith
   read_entry (e ∷ es) (suc i) d x at read = read_entry es i d x at read
 
   -- and its determinant, written back beside another value, leaves the keys
@@ -95,12 +83,8 @@ module _ {V : Type 0} (es : List (Det × V)) (i : ℕ) (x : Det × V) (low : i <
   take_key = take_more (keys_of es) i x.0 within ∙ ap (λ d. take i (keys_of es) ++ d ∷ []) key
 
 -- an index of the first i determinants, and one more of the slot of the next one, is an index of one further
-pub one_further : (turn : ℕ) (ds : List Det) (i : ℕ) (z : Det) (slot : Slot) (heads older new_heads new_older : List ℕ) → i < length ds → slot ≡ slot_of (get_or ds i z)
-    → ((d : Det) → slot_of d ≡ slot → (es : List Det) → IsIndex turn es heads older → IsIndex turn (es ++ d ∷ []) new_heads new_older)
-    → IsIndex turn (take i ds) heads older → IsIndex turn (take (i + 1) ds) new_heads new_older
-one_further turn ds i z slot heads older new_heads new_older low is more index =
-    subst (λ es. IsIndex turn es new_heads new_older) (sym (take_more ds i z low)) (more (get_or ds i z) (sym is) (take i ds) index)
-
--- a list and more, cut to its length
-pub take_whole : {X : Type 0} (xs ys : List X) (n : ℕ) → length xs ≡ n → take n (xs ++ ys) ≡ xs
-take_whole xs ys n h = take-append-le n xs ys (omega (arith, h)) ∙ take_all n xs (omega (arith, h))
+pub one_further : (ds : List Det) (i : ℕ) (z : Det) (slot : Slot) (index more : Index) → i < length ds → slot ≡ slot_of (get_or ds i z)
+    → ((d : Det) → slot_of d ≡ slot → (es : List Det) → IsIndexOf es index → IsIndexOf (es ++ d ∷ []) more)
+    → IsIndexOf (take i ds) index → IsIndexOf (take (i + 1) ds) more
+one_further ds i z slot index more low is adds known =
+    subst (λ es. IsIndexOf es more) (sym (take_more ds i z low)) (adds (get_or ds i z) (sym is) (take i ds) known)

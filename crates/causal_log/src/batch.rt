@@ -1,4 +1,6 @@
 //! What a message carries.
+#![tactic(auto, using(crate::proofs::Rules::of_batch))]
+
 ghost use Rattle.std.specs.Prelude.{◌≡◌, ◌≤◌, true, false, Some, take, drop, slice_get, length, IfOk, IfSome, IsNone};
 ghost use Rattle.causal_name.specs.Names.{is_ascending, same_det};
 ghost use Rattle.causal_log.specs.Knowledge.{joined};
@@ -65,7 +67,6 @@ impl Model for Batch {
 }
 
 impl Batch {
-    /// A batch of items that ascend.
     pub(crate) fn new(items: Vec<Item>) -> Batch
         requires { is_ascending (dets_of items.items) ≡ true }
         ensures { result ≡ items.items }

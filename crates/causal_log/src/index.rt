@@ -1,14 +1,21 @@
 //! Where the entries of a log stand, numbered from 1: a head leads to the newest entry of its slots, and each entry to the next
 //! older one of its head. The number 0 is none.
-ghost use Rattle.std.specs.Prelude.{◌≡◌, ◌<◌, ◌≤◌, ◌+◌, ◌^◌, ◌++◌, ◌∷◌, [], false, Some, IfSome, IsNone, length, slice_get, vec_len, vec_capacity, List};
+ghost use Rattle.std.specs.Prelude.{◌≡◌, ◌&&◌, true, ◌<◌, ◌≤◌, ◌+◌, ◌^◌, ◌++◌, ◌∷◌, [], false, Some, IfSome, IsNone, OnOk, length, slice_get, vec_len, vec_capacity, List};
 ghost use Rattle.std.specs.List.{list_any};
 ghost use Rattle.causal_name.specs.declared.Det.{Det};
-ghost use Rattle.causal_name.specs.Names.{same_det, slot_of};
-ghost use Rattle.causal_log.specs.Inside.Indexes.{head_of, newest_of, IsIndex};
+ghost use Rattle.std.specs.Option.{option_map_or};
+ghost use Rattle.causal_name.specs.Names.{same_det, slot_of, is_before};
+ghost use Rattle.causal_log.specs.Slots.{is_of_slot};
+ghost use Rattle.causal_log.specs.Inside.Indexes.{head_of, newest_of, IsIndexOf};
 ghost use Rattle.causal_log.specs.Inside.Ranks.{IsLeastOfSlot};
 
-use crate::ranks::is_lesser;
-use causal_name::{Det, Slot};
+use causal_name::{Det, NoMemory, Pid, Slot};
+
+/// The fewest heads of an index whose heads were crowded.
+const FEWEST_IF_CROWDED: usize = 4096;
+
+/// How far a turn is from the one before: far enough that what shared a head is spread over many.
+const TURN: u8 = 37;
 
 /// How many heads lie between the first ones of two receivers: an odd number, so that these fall on all of them.
 const APART: usize = 40_503;
@@ -28,76 +35,129 @@ fn head_of(heads: usize, turn: u8, slot: Slot) -> usize
     (rsn / 8 * step + rsn % 8 + dest * APART) & (heads - 1)
 }
 
-/// The number of the newest entry that a slot's head leads to.
-pub(crate) fn newest(heads: &[u32], turn: u8, slot: Slot) -> u32
-    ensures { result ≡ newest_of heads.now turn slot }
-{
-    if heads.is_empty() {
-        return 0;
-    }
-    heads[head_of(heads.len(), turn, slot)]
+/// Heads, a power of two of them, and of each entry the number of the next older one.
+#[derive(Debug, Drop)]
+pub(crate) struct Index {
+    pub heads: Vec<u32>,
+    pub older: Vec<u32>,
+    /// In which turn heads are chosen.
+    pub turn: u8,
 }
 
-/// The place of a determinant.
-pub(crate) fn search(
-    dets: &[Det],
-    heads: &[u32],
-    older: &[u32],
-    turn: u8,
-    det: Det,
-) -> Option<usize>
-    requires { IsIndex turn dets.now heads.now older.now }
-    ensures found { IfSome result (λ place. slice_get dets.now place ≡ Some det) }
-    ensures within { IfSome result (λ place. place < length dets.now) }
-    ensures absent { IsNone result → list_any (same_det det) dets.now ≡ false }
-{
-    let mut number = newest(heads, turn, det.slot());
-    while number > 0 {
-        let place = number as usize - 1;
-        if dets[place] == det {
-            return Some(place);
+impl Index {
+    fn newest(&self, slot: Slot) -> u32
+        ensures { result ≡ newest_of self.now.heads.items self.now.turn slot }
+    {
+        if self.heads.is_empty() {
+            return 0;
         }
-        number = older[place];
+        self.heads[head_of(self.heads.len(), self.turn, slot)]
     }
-    None
-}
 
-/// The least determinant of a slot.
-pub(crate) fn least_of_slot(
-    dets: &[Det],
-    heads: &[u32],
-    older: &[u32],
-    turn: u8,
-    slot: Slot,
-) -> Option<Det>
-    requires { IsIndex turn dets.now heads.now older.now }
-    ensures { IsLeastOfSlot slot.dest slot.rsn dets.now result }
-{
-    let mut least = None;
-    let mut number = newest(heads, turn, slot);
-    while number > 0 {
-        let place = number as usize - 1;
-        let det = dets[place];
-        if is_lesser(&det, slot.dest, slot.rsn, least) {
-            least = Some(det);
+    pub(crate) fn search(&self, dets: &[Det], det: Det) -> Option<usize>
+        requires { IsIndexOf dets.now self.now }
+        ensures found { IfSome result (λ place. slice_get dets.now place ≡ Some det) }
+        ensures within { IfSome result (λ place. place < length dets.now) }
+        ensures absent { IsNone result → list_any (same_det det) dets.now ≡ false }
+    {
+        let older = self.older.as_slice();
+        let mut number = self.newest(det.slot());
+        while number > 0 {
+            let place = number as usize - 1;
+            if dets[place] == det {
+                return Some(place);
+            }
+            number = older[place];
         }
-        number = older[place];
+        None
     }
-    least
+
+    pub(crate) fn least_of_slot(&self, dets: &[Det], slot: Slot) -> Option<Det>
+        requires { IsIndexOf dets.now self.now }
+        ensures { IsLeastOfSlot slot.dest slot.rsn dets.now result }
+    {
+        let older = self.older.as_slice();
+        let mut least = None;
+        let mut number = self.newest(slot);
+        while number > 0 {
+            let place = number as usize - 1;
+            let det = dets[place];
+            if is_lesser(&det, slot.dest, slot.rsn, least) {
+                least = Some(det);
+            }
+            number = older[place];
+        }
+        least
+    }
+
+    /// Adds one more entry, the newest of its head, in room that there is.
+    pub(crate) fn link(&mut self, slot: Slot)
+        requires some { 0 < vec_len self.old.heads }
+        requires few { vec_len self.old.older + 1 < 2 ^ 32 }
+        requires room { vec_len self.old.older < vec_capacity self.old.older }
+        ensures older { vec_len self.new.older ≡ vec_len self.old.older + 1 }
+        ensures capacity { vec_capacity self.old.older ≤ vec_capacity self.new.older }
+        ensures index { (det : Det) → slot_of det ≡ slot → (dets : List Det) →
+            IsIndexOf dets self.old → IsIndexOf (dets ++ det ∷ []) self.new }
+        ensures len { vec_len self.new.heads ≡ vec_len self.old.heads }
+    {
+        let head = head_of(self.heads.len(), self.turn, slot);
+        self.older.push_reserved(self.heads[head]);
+        self.heads[head] = self.older.len() as u32;
+    }
+
+    /// Leads heads to some determinants anew, in room that there is.
+    pub(crate) fn lead(&mut self, dets: &[Det])
+        requires some { 0 < length dets.now → 0 < vec_len self.old.heads }
+        requires few { length dets.now < 2 ^ 32 }
+        requires room { length dets.now ≤ vec_capacity self.old.older }
+        ensures index { IsIndexOf dets.now self.new }
+        ensures len { vec_len self.new.heads ≡ vec_len self.old.heads }
+        ensures capacity { vec_capacity self.old.older ≤ vec_capacity self.new.older }
+    {
+        self.older.clear();
+        self.heads.fill(0);
+        for det in dets {
+            self.link(det.slot());
+        }
+    }
+
+    /// Makes a power of two of heads, so many at least, where there are fewer or they are crowded: then in the next turn.
+    pub(crate) fn widen(&mut self, dets: &[Det], least: usize) -> Result<(), NoMemory>
+        requires index { IsIndexOf dets.now self.old }
+        requires few { length dets.now < 2 ^ 32 }
+        requires fewer { length dets.now ≤ least }
+        requires room { length dets.now ≤ vec_capacity self.old.older }
+        ensures index { IsIndexOf dets.now self.new }
+        ensures ok { OnOk result (least ≤ vec_len self.new.heads) }
+        ensures len { vec_len self.old.heads ≤ vec_len self.new.heads }
+        ensures capacity { vec_capacity self.old.older ≤ vec_capacity self.new.older }
+    {
+        // more than half of the entries came to a head that led to another one already
+        let is_crowded = self.older.iter().filter(|number| **number > 0).count()
+            > self.older.len() / 2;
+        if least <= self.heads.len() && !is_crowded {
+            return Ok(());
+        }
+        let fewest = if is_crowded { FEWEST_IF_CROWDED } else { 0 };
+        let count = least.max(self.heads.len()).max(fewest);
+        self.heads
+            .resize(count.checked_next_power_of_two().ok_or(NoMemory)?, 0)?;
+        if is_crowded {
+            self.turn = self.turn.wrapping_add(TURN);
+        }
+        self.lead(dets);
+        Ok(())
+    }
 }
 
-/// Adds one more entry, the newest of its head, in room that there is.
-pub(crate) fn link(heads: &mut [u32], older: &mut Vec<u32>, turn: u8, slot: Slot)
-    requires some { 0 < length heads.old }
-    requires few { vec_len older.old + 1 < 2 ^ 32 }
-    requires room { vec_len older.old < vec_capacity older.old }
-    ensures older { older.new.items ≡ older.old.items ++ newest_of heads.old turn slot ∷ [] }
-    ensures capacity { vec_capacity older.old ≤ vec_capacity older.new }
-    ensures index { (det : Det) → slot_of det ≡ slot → (dets : List Det) →
-        IsIndex turn dets heads.old older.old.items → IsIndex turn (dets ++ det ∷ []) heads.new older.new.items }
-    ensures len { length heads.new ≡ length heads.old }
+/// Whether a determinant fills a slot, and comes before the one that was found.
+fn is_lesser(det: &Det, dest: Pid, rsn: u32, found: Option<Det>) -> bool
+    ensures { result ≡ (is_of_slot dest rsn det.now
+        && option_map_or (λ f. is_before det.now f) found true) }
 {
-    let head = head_of(heads.len(), turn, slot);
-    older.push_reserved(heads[head]);
-    heads[head] = older.len() as u32;
+    match found {
+        Some(found) => det.dest == dest && det.rsn == rsn && det.comes_before(&found),
+        None => det.dest == dest && det.rsn == rsn,
+    }
 }

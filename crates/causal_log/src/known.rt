@@ -15,7 +15,6 @@ pub struct Known {
 }
 
 impl Known {
-    /// What is known before anything is heard.
     pub(crate) fn nothing() -> Known
         ensures { result ≡ nothing_known }
     {
@@ -25,7 +24,6 @@ impl Known {
         }
     }
 
-    /// That a process holds the determinant.
     pub(crate) fn held(process: Pid) -> Known
         ensures { result ≡ held_by process }
     {
@@ -41,7 +39,6 @@ impl Known {
         Known::held(from).joined(Known::held(me))
     }
 
-    /// Both together.
     pub(crate) fn joined(self, other: Known) -> Known
         ensures { result ≡ joined self other }
     {
@@ -61,7 +58,6 @@ impl Known {
         }
     }
 
-    /// Whether a message carries a determinant of which this is known.
     pub(crate) fn is_carried(&self, f: u16) -> bool
         ensures { result ≡ is_carried f self.now }
     {

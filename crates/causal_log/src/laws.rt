@@ -1,5 +1,7 @@
 //! Laws of logs, piggybacks and stable storage, in plain words and determinant by determinant: for callers, and for proofs
 //! that rest on this crate.
+#![tactic(auto, using(crate::proofs::Rules::of_laws, crate::proofs::Rules::of_lists))]
+
 ghost use Rattle.std.specs.Prelude.{◌≡◌, ℕ, ◌+◌, ◌<◌, ◌==◌, true, false, not, length, ◌&&◌, ◌||◌, ◌⊎◌, if◌then◌else◌, List, Some, None, is_some};
 ghost use Rattle.std.specs.List.{list_any};
 ghost use Rattle.std.specs.Option.{option_map};

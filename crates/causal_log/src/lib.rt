@@ -17,26 +17,18 @@
 
 /// What a message carries.
 mod batch;
-/// What messages carry, kept beside a log.
-mod carried;
-/// What is asked of all entries of a volatile log.
-mod entries;
 /// Where the entries of a log stand.
 mod index;
 /// What a process knows of a determinant.
 mod known;
 /// Laws of logs, piggybacks and stable storage, in plain words.
 pub mod laws;
-/// What a log learns of determinants.
-mod learning;
 /// The volatile log of a process.
 mod log;
 /// Stable storage in memory, for programs that need no device.
 mod memory;
 /// What messages will carry once a delivery is taken in, worked out beside the log.
 mod merging;
-/// What is asked of determinants in no order: the least of a slot, and which one so many come before.
-mod ranks;
 /// Stable storage.
 mod stable;
 /// Entries of determinants in the order in which they came, each found by its slot.

@@ -1,19 +1,22 @@
 //! The volatile log of a process.
+#![tactic(auto, using(crate::proofs::Rules::of_log))]
+
 ghost use Rattle.std.specs.Prelude.{◌≡◌, ◌↔◌, ◌<◌, ◌≤◌, ◌+◌, ◌^◌, IsTrue, IsSome, IsOk, true, IfOk, OnOk, OnErr, length, slice_get};
 ghost use Rattle.std.specs.FinMap as fin;
 ghost use Rattle.std.specs.Arc.{arc_value};
+ghost use Rattle.std.specs.Option.{option_map};
 ghost use Rattle.causal_name.specs.Names.{is_ascending};
 ghost use Rattle.causal_log.specs.Knowledge.{held_by, stable_and_held_by};
 ghost use Rattle.causal_log.specs.Logs.{log_of, learned, dets_of, absorbed, grown, united, marked, stable_in, unstable_in, unmarked, chosen, named, HaveSame};
+ghost use Rattle.causal_log.specs.Inside.Carried.{as_marked, open_in, still_carried};
 
 use crate::batch::{Batch, Item};
-use crate::carried::{Carried, mark};
-use crate::entries;
 use crate::known::Known;
-use crate::learning::{learn, learn_entries, learn_items};
 use crate::merging::{Delivery, next_batch};
-use crate::ranks::ranked;
-use crate::table::Table;
+use crate::table::{
+    Table, carried, chosen, dets, in_order, learn, learn_entries, learn_items, ranked, stable_dets,
+    unstable_dets, unstable_len,
+};
 use causal_name::{Det, MsgName, NoMemory, Pid, Slot};
 use std::alloc::Global;
 use std::marker::Model;
@@ -37,7 +40,7 @@ pub struct Log {
 impl Model for Log {
     ghost use Rattle.std.specs.Map.{keys_of};
     ghost use Rattle.causal_log.specs.Logs.{LogState, coded_log, log_of};
-    ghost use Rattle.causal_log.specs.Inside.Kept.{IsKept};
+    ghost use Rattle.causal_log.specs.Inside.Carried.{IsKept};
 
     ghost Value = { LogState };
 
@@ -92,10 +95,10 @@ impl Log {
         ensures { IfOk result (λ dets. dets.items ≡ fin.keys self.now.map) }
     {
         if self.sorted {
-            return entries::dets(alloc, self.entries.entries());
+            return dets(alloc, self.entries.entries());
         }
-        let sorted = entries::in_order(alloc, self.entries.entries())?;
-        entries::dets(alloc, sorted.as_slice())
+        let sorted = in_order(alloc, self.entries.entries())?;
+        dets(alloc, sorted.as_slice())
     }
 
     /// The determinants, each once, in no order that is promised. It takes neither memory nor time.
@@ -124,8 +127,7 @@ impl Log {
     pub fn choose(&self, alloc: Global, f: u16) -> Result<Batch, NoMemory>
         ensures { IfOk result (λ batch. batch ≡ chosen f self.now.map) }
     {
-        let items = self.carried(alloc, f)?;
-        Ok(Batch::new(items))
+        Ok(Batch::new(self.carried(alloc, f)?))
     }
 
     /// The items of what messages carry.
@@ -134,8 +136,8 @@ impl Log {
     {
         match &self.carried {
             Some(carried) if carried.f == f => carried.still(alloc, &self.entries),
-            _ if self.sorted => entries::carried(alloc, self.entries.entries(), f),
-            _ => entries::chosen(alloc, self.entries.entries(), f),
+            _ if self.sorted => carried(alloc, self.entries.entries(), f),
+            _ => chosen(alloc, self.entries.entries(), f),
         }
     }
 
@@ -192,16 +194,16 @@ impl Log {
     pub fn stable_dets(&self, alloc: Global) -> Result<Vec<Det>, NoMemory>
         ensures { IfOk result (λ dets. dets.items ≡ stable_in self.now.map) }
     {
-        let sorted = entries::in_order(alloc, self.entries.entries())?;
-        entries::stable_dets(alloc, sorted.as_slice())
+        let sorted = in_order(alloc, self.entries.entries())?;
+        stable_dets(alloc, sorted.as_slice())
     }
 
     /// The determinants that are not known to be stable, ascending. Its only error is want of memory.
     pub fn unstable_dets(&self, alloc: Global) -> Result<Vec<Det>, NoMemory>
         ensures { IfOk result (λ dets. dets.items ≡ unstable_in self.now.map) }
     {
-        let sorted = entries::in_order(alloc, self.entries.entries())?;
-        entries::unstable_dets(alloc, sorted.as_slice())
+        let sorted = in_order(alloc, self.entries.entries())?;
+        unstable_dets(alloc, sorted.as_slice())
     }
 
     /// How many determinants are known to be stable. Takes no memory.
@@ -215,7 +217,7 @@ impl Log {
     pub fn unstable_len(&self) -> u32
         ensures { result ≡ length (unstable_in self.now.map) }
     {
-        entries::unstable_len(self.entries.entries())
+        unstable_len(self.entries.entries())
     }
 
     /// The message that the log names for a slot, number `rsn` of `dest`: that of the least determinant logged for it.
@@ -362,5 +364,43 @@ impl Log {
     {
         self.carried = None;
         self.entries.drop_stable()
+    }
+}
+
+/// The batch that messages carry for a number of failures, which the messages of the last step share.
+#[derive(Debug, Drop)]
+pub(crate) struct Carried {
+    pub f: u16,
+    pub batch: Arc<Batch>,
+    /// Whether a determinant was marked as stable since. Messages carry it no more.
+    pub is_marked: bool,
+}
+
+impl Carried {
+    /// The items that messages still carry.
+    fn still(&self, alloc: Global, entries: &Table) -> Result<Vec<Item>, NoMemory>
+        ensures { IfOk result (λ items. items.items ≡
+            still_carried self.now (log_of entries.now.entries)) }
+    {
+        let items = self.batch.as_slice();
+        if !self.is_marked {
+            return Ok(Vec::from_slice(alloc, items)?);
+        }
+        open_of(alloc, items, entries)
+    }
+}
+
+fn open_of(alloc: Global, items: &[Item], entries: &Table) -> Result<Vec<Item>, NoMemory>
+    ensures { IfOk result (λ kept. kept.items ≡ open_in (log_of entries.now.entries) items.now) }
+{
+    let kept = items.iter().filter(|item| entries.is_open(item.det));
+    Ok(kept.copied().collect(alloc)?)
+}
+
+fn mark(kept: &mut Option<Carried>)
+    ensures { kept.new ≡ option_map as_marked kept.old }
+{
+    if let Some(carried) = kept {
+        carried.is_marked = true;
     }
 }

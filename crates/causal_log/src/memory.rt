@@ -1,4 +1,6 @@
 //! Stable storage in memory, for programs that need no device.
+#![tactic(auto, using(crate::proofs::Rules::of_store))]
+
 ghost use Rattle.std.specs.Prelude.{◌≡◌};
 ghost use Rattle.std.specs.FinMap as fin;
 

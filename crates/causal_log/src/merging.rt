@@ -1,6 +1,8 @@
 //! What messages will carry once a delivery is taken in, worked out beside the log. What they carry now and what the delivery
 //! tells both ascend, and are passed over together: what is passed on, and what is kept from a place on, is at each step what
 //! messages carry of what was taken in so far.
+#![tactic(auto, using(crate::proofs::Rules::of_merging))]
+
 ghost use Rattle.std.specs.Prelude.{◌≡◌, ◌≤◌, ◌<◌, ◌-◌, ◌++◌, true, false, Some, is_some, take, drop, slice_get, length, vec_len, IfOk, OnOk, IfSome, IsNone};
 ghost use Rattle.std.specs.List.{list_all};
 ghost use Rattle.std.specs.Arc.{arc_value};
@@ -43,7 +45,6 @@ impl Delivery<'_> {
     }
 }
 
-/// Whether all of these are known to hold a determinant.
 fn are_known_to_hold(entries: &Table, det: Det, holders: Holders) -> bool
     ensures { result ≡ are_known_to_hold (log_of entries.now.entries) det holders }
 {
@@ -52,7 +53,6 @@ fn are_known_to_hold(entries: &Table, det: Det, holders: Holders) -> bool
         .is_some_and(|(_, known)| holders.is_subset(known.holders))
 }
 
-/// Whether all that the items tell is known.
 fn are_items_known(delivery: &Delivery<'_>) -> bool
     ensures { result ≡ list_all (λ item. are_known_to_hold (source_of delivery.now) item.det
         (told delivery.now.from delivery.now.me item).1.holders) delivery.now.items.now }
@@ -125,14 +125,12 @@ fn carry(out: &mut Vec<Item>, det: Det, known: Known, f: u16) -> Result<(), NoMe
     Ok(())
 }
 
-/// Whether items name a determinant.
 fn name(items: &[Item], det: Det) -> bool
     ensures { result ≡ names_det det items.now }
 {
     items.iter().any(|item| det == item.det)
 }
 
-/// Whether a determinant is logged.
 fn is_logged(entries: &Table, det: Det) -> bool
     ensures { result ≡ is_some (fin.get (log_of entries.now.entries) det) }
 {

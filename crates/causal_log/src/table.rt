@@ -1,42 +1,34 @@
-//! Entries of determinants in the order in which they came, each found by its slot.
-ghost use Rattle.std.specs.Prelude.{◌≡◌, ◌<◌, ◌≤◌, ◌+◌, ◌^◌, ◌++◌, ◌∷◌, [], not, filter, true, Some, None, IfSome, IfOk, OnOk, OnErr, length, slice_get, vec_len, vec_capacity};
+//! Entries of determinants in the order in which they came, each found by its slot, and what is asked of all of them.
+#![tactic(auto, using(crate::proofs::Rules::of_table))]
+
+ghost use Rattle.std.specs.Prelude.{◌≡◌, ◌<◌, ◌≤◌, ◌+◌, ◌^◌, ◌++◌, ◌∷◌, [], not, filter, find, map, true, Some, None, IfSome, IfOk, OnOk, OnErr, length, slice_get, vec_len, vec_capacity};
 ghost use Rattle.std.specs.List.{IsDistinct};
 ghost use Rattle.std.specs.Map.{keys_of};
 ghost use Rattle.std.specs.FinMap as fin;
 ghost use Rattle.std.specs.Option.{option_map};
 ghost use Rattle.causal_name.specs.declared.Det.{Det};
-ghost use Rattle.causal_name.specs.Names.{same_det, is_ascending};
+ghost use Rattle.causal_name.specs.Names.{same_det, is_ascending, is_before};
 ghost use Rattle.causal_log.specs.declared.known.Known.{Known};
-ghost use Rattle.causal_log.specs.Knowledge.{joined};
-ghost use Rattle.causal_log.specs.Logs.{log_of};
+ghost use Rattle.causal_log.specs.Knowledge.{joined, is_carried};
+ghost use Rattle.causal_log.specs.Logs.{log_of, item_of, chosen, learned, absorbed, learned_all};
 ghost use Rattle.causal_log.specs.Inside.Carried.{is_open};
-ghost use Rattle.causal_log.specs.Inside.Indexes.{IsIndex};
-ghost use Rattle.causal_log.specs.Inside.Ranks.{IsLeastOfSlot};
+ghost use Rattle.causal_log.specs.Inside.Indexes.{IsIndexOf};
+ghost use Rattle.causal_log.specs.Inside.Ranks.{IsLeastOfSlot, has_rank};
 
-use crate::entries::sort;
-use crate::index::{least_of_slot, link, search};
+use crate::batch::Item;
+use crate::index::Index;
 use crate::known::Known;
-use causal_name::{Det, NoMemory, Slot};
+use causal_name::{Det, NoMemory, Pid, Slot};
 use std::alloc::Global;
 use std::marker::Model;
 
-/// The fewest heads of a table whose heads were crowded.
-const FEWEST_IF_CROWDED: usize = 4096;
-
-/// How far a turn is from the one before: far enough that what shared a head is spread over many.
-const TURN: u8 = 37;
-
-/// Entries, with the heads that lead to them: a power of two of them, and no fewer than there is room for entries.
+/// Entries, with the heads that lead to them, of which there are no fewer than there is room for entries.
 #[derive(Debug, Drop)]
 pub(crate) struct Table {
     entries: Vec<(Det, Known)>,
     /// The determinants of the entries.
     dets: Vec<Det>,
-    heads: Vec<u32>,
-    /// Of each entry the number of the next older one.
-    older: Vec<u32>,
-    /// In which turn heads are chosen.
-    turn: u8,
+    index: Index,
     /// For how many more there is room.
     room: usize,
 }
@@ -52,26 +44,25 @@ impl Model for Table {
 
     ghost view = { λ t. record { entries = t.entries.items; spare = t.room } };
 
-    ghost invariant = { λ t. IsTable t.dets.items (keys_of t.entries.items) t.heads.items t.older.items t.turn t.room
-        (vec_capacity t.dets) (vec_capacity t.entries) (vec_capacity t.older) };
+    ghost invariant = { λ t. IsTable t.dets.items (keys_of t.entries.items) t.index t.room (vec_capacity t.dets) (vec_capacity t.entries) };
 }
 
 impl Table {
-    /// With no entries.
     pub(crate) fn new(alloc: Global) -> Table
         ensures entries { result.entries ≡ [] }
     {
         Table {
             entries: Vec::new(alloc),
             dets: Vec::new(alloc),
-            heads: Vec::new(alloc),
-            older: Vec::new(alloc),
-            turn: 0,
+            index: Index {
+                heads: Vec::new(alloc),
+                older: Vec::new(alloc),
+                turn: 0,
+            },
             room: 0,
         }
     }
 
-    /// The entries.
     pub(crate) fn entries(&self) -> &[(Det, Known)]
         ensures entries { result.now ≡ self.now.entries }
         ensures distinct { IsDistinct same_det (keys_of self.now.entries) }
@@ -80,7 +71,6 @@ impl Table {
         self.entries.as_slice()
     }
 
-    /// Their determinants.
     pub(crate) fn dets(&self) -> &[Det]
         ensures dets { result.now ≡ keys_of self.now.entries }
         ensures distinct { IsDistinct same_det (keys_of self.now.entries) }
@@ -97,29 +87,22 @@ impl Table {
             Some (det, found.1)) }
         ensures within { IfSome result (λ found. found.0 < length self.now.entries) }
     {
-        let heads = self.heads.as_slice();
-        let older = self.older.as_slice();
-        let place = search(self.dets.as_slice(), heads, older, self.turn, det)?;
+        let place = self.index.search(self.dets.as_slice(), det)?;
         Some((place, self.entries[place].1))
     }
 
-    /// Whether a determinant is there that is not known to be stable.
     pub(crate) fn is_open(&self, det: Det) -> bool
         ensures { result ≡ is_open (log_of self.now.entries) det }
     {
         self.find(det).is_some_and(|(_, known)| !known.stable)
     }
 
-    /// The least determinant that fills a slot.
     pub(crate) fn least_of(&self, slot: Slot) -> Option<Det>
         ensures { IsLeastOfSlot slot.dest slot.rsn (keys_of self.now.entries) result }
     {
-        let heads = self.heads.as_slice();
-        let older = self.older.as_slice();
-        least_of_slot(self.dets.as_slice(), heads, older, self.turn, slot)
+        self.index.least_of_slot(self.dets.as_slice(), slot)
     }
 
-    /// Learns more of the determinant at a place.
     pub(crate) fn join(&mut self, place: usize, heard: Known)
         requires { place < length self.old.entries }
         ensures put { (det : Det) (was : Known) →
@@ -132,7 +115,6 @@ impl Table {
     }
 
     /// Adds an entry behind the others, in room made before.
-    #[inline(never)]
     pub(crate) fn add(&mut self, det: Det, known: Known)
         requires room { 1 ≤ self.old.spare }
         requires new { fin.get (log_of self.old.entries) det ≡ None }
@@ -140,14 +122,12 @@ impl Table {
         ensures keys { keys_of self.new.entries ≡ keys_of self.old.entries ++ det ∷ [] }
         ensures spare { self.old.spare ≡ self.new.spare + 1 }
     {
-        let heads = self.heads.as_mut_slice();
-        link(heads, &mut self.older, self.turn, det.slot());
+        self.index.link(det.slot());
         self.dets.push_reserved(det);
         self.entries.push_reserved((det, known));
         self.room -= 1;
     }
 
-    /// Makes room for so many more entries.
     pub(crate) fn reserve(&mut self, more: usize) -> Result<(), NoMemory>
         ensures entries { self.new.entries ≡ self.old.entries }
         ensures ok { OnOk result (more ≤ self.new.spare) }
@@ -164,10 +144,9 @@ impl Table {
         self.dets.reserve(more)?;
         let room = self.dets.capacity().min(u32::MAX as usize) - self.dets.len();
         self.entries.reserve(room)?;
-        self.older.reserve(room)?;
-        let (dets, count) = (self.dets.as_slice(), self.dets.capacity());
-        let turn = &mut self.turn;
-        widen(dets, &mut self.heads, &mut self.older, turn, count)?;
+        self.index.older.reserve(room)?;
+        let count = self.dets.capacity();
+        self.index.widen(self.dets.as_slice(), count)?;
         self.room = room;
         Ok(())
     }
@@ -180,14 +159,15 @@ impl Table {
         Ok(Table {
             entries: Vec::from_slice(alloc, self.entries.as_slice())?,
             dets: Vec::from_slice(alloc, self.dets.as_slice())?,
-            heads: Vec::from_slice(alloc, self.heads.as_slice())?,
-            older: Vec::from_slice(alloc, self.older.as_slice())?,
-            turn: self.turn,
+            index: Index {
+                heads: Vec::from_slice(alloc, self.index.heads.as_slice())?,
+                older: Vec::from_slice(alloc, self.index.older.as_slice())?,
+                turn: self.index.turn,
+            },
             room: 0,
         })
     }
 
-    /// Takes out the entries that are known to be stable, and counts them.
     pub(crate) fn drop_stable(&mut self) -> u32
         ensures left { self.new.entries ≡ filter (λ e. not e.1.stable) self.old.entries }
         ensures distinct { IsDistinct same_det (keys_of self.old.entries) }
@@ -201,12 +181,10 @@ impl Table {
             { !entry.1.stable },
         );
         let entries = self.entries.as_slice();
-        let heads = self.heads.as_mut_slice();
-        list(entries, &mut self.dets, heads, &mut self.older, self.turn);
+        list(entries, &mut self.dets, &mut self.index);
         (before - self.entries.len()) as u32
     }
 
-    /// Puts the entries in order.
     pub(crate) fn sort(&mut self) -> Result<(), NoMemory>
         ensures same { log_of self.new.entries ≡ log_of self.old.entries }
         ensures ascending { OnOk result (is_ascending (keys_of self.new.entries) ≡ true) }
@@ -215,81 +193,164 @@ impl Table {
     {
         sort(&mut self.entries)?;
         let entries = self.entries.as_slice();
-        let heads = self.heads.as_mut_slice();
-        list(entries, &mut self.dets, heads, &mut self.older, self.turn);
+        list(entries, &mut self.dets, &mut self.index);
         Ok(())
     }
 }
 
-/// Makes a power of two of heads, so many at least, where there are fewer or they are crowded: then in the next turn.
-fn widen(
-    dets: &[Det],
-    heads: &mut Vec<u32>,
-    older: &mut Vec<u32>,
-    turn: &mut u8,
-    least: usize,
-) -> Result<(), NoMemory>
-    requires index { IsIndex turn.old dets.now heads.old.items older.old.items }
-    requires few { length dets.now < 2 ^ 32 }
-    requires fewer { length dets.now ≤ least }
-    requires room { length dets.now ≤ vec_capacity older.old }
-    ensures index { IsIndex turn.new dets.now heads.new.items older.new.items }
-    ensures ok { OnOk result (least ≤ vec_len heads.new) }
-    ensures len { vec_len heads.old ≤ vec_len heads.new }
-    ensures capacity { vec_capacity older.old ≤ vec_capacity older.new }
-{
-    // more than half of the entries came to a head that led to another one already
-    let is_crowded = older.iter().filter(|number| **number > 0).count() > older.len() / 2;
-    if least <= heads.len() && !is_crowded {
-        return Ok(());
-    }
-    let fewest = if is_crowded { FEWEST_IF_CROWDED } else { 0 };
-    let count = least.max(heads.len()).max(fewest);
-    heads.resize(count.checked_next_power_of_two().ok_or(NoMemory)?, 0)?;
-    if is_crowded {
-        *turn = turn.wrapping_add(TURN);
-    }
-    lead(dets, heads.as_mut_slice(), older, *turn);
-    Ok(())
-}
-
 /// Lists the determinants of some entries anew, and leads heads to them, in room that there is.
-fn list(
-    entries: &[(Det, Known)],
-    dets: &mut Vec<Det>,
-    heads: &mut [u32],
-    older: &mut Vec<u32>,
-    turn: u8,
-)
-    requires some { 0 < length entries.now → 0 < length heads.old }
+fn list(entries: &[(Det, Known)], dets: &mut Vec<Det>, index: &mut Index)
+    requires some { 0 < length entries.now → 0 < vec_len index.old.heads }
     requires few { length entries.now < 2 ^ 32 }
     requires dets_room { length entries.now ≤ vec_capacity dets.old }
-    requires room { length entries.now ≤ vec_capacity older.old }
+    requires room { length entries.now ≤ vec_capacity index.old.older }
     ensures dets { dets.new.items ≡ keys_of entries.now }
-    ensures index { IsIndex turn dets.new.items heads.new older.new.items }
-    ensures len { length heads.new ≡ length heads.old }
+    ensures index { IsIndexOf dets.new.items index.new }
+    ensures len { vec_len index.new.heads ≡ vec_len index.old.heads }
     ensures dets_capacity { vec_capacity dets.old ≤ vec_capacity dets.new }
-    ensures capacity { vec_capacity older.old ≤ vec_capacity older.new }
+    ensures capacity { vec_capacity index.old.older ≤ vec_capacity index.new.older }
 {
     dets.clear();
     for (det, _) in entries {
         dets.push_reserved(*det);
     }
-    lead(dets.as_slice(), heads, older, turn);
+    index.lead(dets.as_slice());
 }
 
-/// Leads heads to some determinants anew, in room that there is.
-fn lead(dets: &[Det], heads: &mut [u32], older: &mut Vec<u32>, turn: u8)
-    requires some { 0 < length dets.now → 0 < length heads.old }
-    requires few { length dets.now < 2 ^ 32 }
-    requires room { length dets.now ≤ vec_capacity older.old }
-    ensures index { IsIndex turn dets.now heads.new older.new.items }
-    ensures len { length heads.new ≡ length heads.old }
-    ensures capacity { vec_capacity older.old ≤ vec_capacity older.new }
+/// Learns something of one determinant. It takes no memory: where the determinant is not logged, there is room.
+pub(crate) fn learn(entries: &mut Table, det: Det, heard: Known)
+    requires room { fin.get (log_of entries.old.entries) det ≡ None → 1 ≤ entries.old.spare }
+    ensures learned { log_of entries.new.entries ≡ learned (log_of entries.old.entries) det heard }
+    ensures spare { entries.old.spare ≤ entries.new.spare + 1 }
 {
-    older.clear();
-    heads.fill(0);
-    for det in dets {
-        link(heads, older, turn, det.slot());
+    match entries.find(det) {
+        Some((place, _)) => entries.join(place, heard),
+        None => entries.add(det, heard),
     }
+}
+
+/// Learns what the items of a message from one process tell another, in room made before.
+pub(crate) fn learn_items(entries: &mut Table, items: &[Item], from: Pid, me: Pid)
+    requires room { length items.now ≤ entries.old.spare }
+    ensures learned { log_of entries.new.entries ≡
+        absorbed items.now from me (log_of entries.old.entries) }
+    ensures spare { entries.old.spare ≤ entries.new.spare + length items.now }
+{
+    let both = Known::held_by_both(from, me);
+    for item in items {
+        learn(entries, item.det, item.told(&both));
+    }
+}
+
+pub(crate) fn learn_entries(entries: &mut Table, others: &[(Det, Known)])
+    requires room { length others.now ≤ entries.old.spare }
+    ensures learned { log_of entries.new.entries ≡
+        learned_all others.now (log_of entries.old.entries) }
+    ensures spare { entries.old.spare ≤ entries.new.spare + length others.now }
+{
+    for (det, heard) in others {
+        learn(entries, *det, *heard);
+    }
+}
+
+pub(crate) fn dets(alloc: Global, entries: &[(Det, Known)]) -> Result<Vec<Det>, NoMemory>
+    ensures { IfOk result (λ dets. dets.items ≡ keys_of entries.now) }
+{
+    Ok(entries.iter().map(|(det, _)| *det).collect(alloc)?)
+}
+
+pub(crate) fn stable_dets(alloc: Global, entries: &[(Det, Known)]) -> Result<Vec<Det>, NoMemory>
+    ensures { IfOk result (λ dets. dets.items ≡
+        map (λ e. e.0) (filter (λ e. e.1.stable) entries.now)) }
+{
+    let stable = entries.iter().filter(|(_, known)| known.stable);
+    Ok(stable.map(|(det, _)| *det).collect(alloc)?)
+}
+
+pub(crate) fn unstable_dets(alloc: Global, entries: &[(Det, Known)]) -> Result<Vec<Det>, NoMemory>
+    ensures { IfOk result (λ dets. dets.items ≡
+        map (λ e. e.0) (filter (λ e. not e.1.stable) entries.now)) }
+{
+    let unstable = entries.iter().filter(|(_, known)| !known.stable);
+    Ok(unstable.map(|(det, _)| *det).collect(alloc)?)
+}
+
+pub(crate) fn unstable_len(entries: &[(Det, Known)]) -> u32
+    requires { length entries.now < 2 ^ 32 }
+    ensures { result ≡ length (filter (λ e. not e.1.stable) entries.now) }
+{
+    entries.iter().filter(|(_, known)| !known.stable).count() as u32
+}
+
+pub(crate) fn carried(
+    alloc: Global,
+    entries: &[(Det, Known)],
+    f: u16,
+) -> Result<Vec<Item>, NoMemory>
+    ensures { IfOk result (λ items. items.items ≡
+        map item_of (filter (λ e. is_carried f e.1) entries.now)) }
+{
+    let carried = entries.iter().filter(|(_, known)| known.is_carried(f));
+    let items = carried.map(|(det, known)| Item {
+        det: *det,
+        holders: known.holders,
+    });
+    Ok(items.collect(alloc)?)
+}
+
+pub(crate) fn chosen(alloc: Global, entries: &[(Det, Known)], f: u16) -> Result<Vec<Item>, NoMemory>
+    requires { IsDistinct same_det (keys_of entries.now) }
+    ensures { IfOk result (λ items. items.items ≡ chosen f (log_of entries.now)) }
+{
+    let copy = in_order(alloc, entries)?;
+    carried(alloc, copy.as_slice(), f)
+}
+
+/// A copy of the entries in ascending order.
+pub(crate) fn in_order(
+    alloc: Global,
+    entries: &[(Det, Known)],
+) -> Result<Vec<(Det, Known)>, NoMemory>
+    requires { IsDistinct same_det (keys_of entries.now) }
+    ensures { IfOk result (λ copy. copy.items ≡ fin.entries (log_of entries.now)) }
+{
+    let mut copy = Vec::from_slice(alloc, entries)?;
+    sort(&mut copy)?;
+    Ok(copy)
+}
+
+/// Puts entries in order: in the time of their number where they are a few runs that ascend.
+pub(crate) fn sort(entries: &mut Vec<(Det, Known)>) -> Result<(), NoMemory>
+    requires { IsDistinct same_det (keys_of entries.old.items) }
+    ensures same { log_of entries.new.items ≡ log_of entries.old.items }
+    ensures ascending { OnOk result (is_ascending (keys_of entries.new.items) ≡ true) }
+    ensures distinct { IsDistinct same_det (keys_of entries.new.items) }
+    ensures len { vec_len entries.new ≡ vec_len entries.old }
+    ensures capacity { vec_capacity entries.new ≡ vec_capacity entries.old }
+    ensures err { OnErr result (entries.new.items ≡ entries.old.items) }
+{
+    entries.sort_by_key(
+        |entry: &(Det, Known)| -> Det
+            ensures { result ≡ entry.now.0 }
+        { entry.0 },
+    )?;
+    Ok(())
+}
+
+fn rank(dets: &[Det], det: &Det) -> usize
+    ensures { result ≡ length (filter (λ d. is_before d det.now) dets.now) }
+{
+    dets.iter().filter(|each| each.comes_before(det)).count()
+}
+
+/// The determinant that so many come before.
+pub(crate) fn ranked(dets: &[Det], place: u32) -> Option<Det>
+    ensures { result ≡ find (λ d. has_rank dets.now place d) dets.now }
+{
+    for det in dets {
+        if rank(dets, det) == place as usize {
+            return Some(*det);
+        }
+    }
+    None
 }

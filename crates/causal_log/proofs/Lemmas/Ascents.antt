@@ -1,5 +1,5 @@
 -- Entries in the order of a map, and what a filter leaves of them, ascend.
-use Rattle.std.proofs.Common.{◌≡◌, ◌∙◌, Bool, true, false, cond, ◌&&◌, ◌||◌, List, [], ◌∷◌, filter, refl, sym, ap, true≢false}
+use Rattle.std.proofs.Common.{arith, ◌≡◌, ◌∙◌, Bool, true, false, ◌||◌, List, [], ◌∷◌, filter, refl, sym, ap, true≢false}
 use Rattle.std.specs.List.{list_any}
 use Rattle.std.specs.FinMap as fin
 use Rattle.std.specs.FinMap.Entries.{is_sorted, below_all}
@@ -30,10 +30,7 @@ before_trans x y z h k = ap is_lt (dets_total.trans x y z (is_less (det_cmp x y)
 -- an ascending list without its second
 pub ascending_skip : (d e : Det) (ds : List Det) → is_ascending (d ∷ e ∷ ds) ≡ true → is_ascending (d ∷ ds) ≡ true
 ascending_skip d e [] h = refl
-ascending_skip d e (f ∷ ds) h =
-    let two = both (is_before d e) (is_ascending (e ∷ f ∷ ds)) h in
-    let rest = both (is_before e f) (is_ascending (f ∷ ds)) two.1 in
-    (λ i. before_trans d e f two.0 rest.0 i && rest.1 i)
+ascending_skip d e (f ∷ ds) h = grind (arith, both, before_trans)
 
 -- the first of an ascending list is before the others
 pub first_before : (d : Det) (ds : List Det) (det : Det) → is_ascending (d ∷ ds) ≡ true → list_any (same_det det) ds ≡ true → is_before d det ≡ true
@@ -48,28 +45,16 @@ first_before d (e ∷ ds) det h there =
 module _ {X : Type 0} where
   below_filter : (p : Det × X → Bool) (d : Det) (es : List (Det × X)) → below_all det_cmp d es ≡ true → below_all det_cmp d (filter p es) ≡ true
   below_filter p d [] h = refl
-  below_filter p d (e ∷ es) h =
-      let two = both (is_before d e.0) (below_all det_cmp d es) h in
-      elim (p e) as (λ b. below_all det_cmp d (cond b (e ∷ filter p es) (filter p es)) ≡ true) [
-        | true ↦ ap (λ b. b && below_all det_cmp d (filter p es)) two.0 ∙ below_filter p d es two.1
-        | false ↦ below_filter p d es two.1
-      ]
+  below_filter p d (e ∷ es) h = grind (arith, below_filter p d es, both)
 
   sorted_filter : (p : Det × X → Bool) (es : List (Det × X)) → is_sorted det_cmp es ≡ true → is_sorted det_cmp (filter p es) ≡ true
   sorted_filter p [] h = refl
-  sorted_filter p (e ∷ es) h =
-      let two = both (below_all det_cmp e.0 es) (is_sorted det_cmp es) h in
-      elim (p e) as (λ b. is_sorted det_cmp (cond b (e ∷ filter p es) (filter p es)) ≡ true) [
-        | true ↦ ap (λ b. b && is_sorted det_cmp (filter p es)) (below_filter p e.0 es two.0) ∙ sorted_filter p es two.1
-        | false ↦ sorted_filter p es two.1
-      ]
+  sorted_filter p (e ∷ es) h = grind (arith, sorted_filter p es, both, below_filter)
 
   keys_ascend : (es : List (Det × X)) → is_sorted det_cmp es ≡ true → is_ascending (keys_of es) ≡ true
   keys_ascend [] h = refl
   keys_ascend (e ∷ []) h = refl
-  keys_ascend (e ∷ f ∷ es) h =
-      let two = both (below_all det_cmp e.0 (f ∷ es)) (is_sorted det_cmp (f ∷ es)) h in
-      ap (λ b. b && is_ascending (keys_of (f ∷ es))) (both (is_before e.0 f.0) (below_all det_cmp e.0 es) two.0).0 ∙ keys_ascend (f ∷ es) two.1
+  keys_ascend (e ∷ f ∷ es) h = grind (arith, keys_ascend (f ∷ es), both)
 
   -- the keys of a map ascend
   pub map_ascends : (m : fin.FinMap det_cmp X) → is_ascending (fin.keys m) ≡ true

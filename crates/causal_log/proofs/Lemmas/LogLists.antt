@@ -1,5 +1,5 @@
 -- The determinants of a log, the marked ones and the others, as lists.
-use Rattle.std.proofs.Common.{◌≡◌, ◌∙◌, ◌+◌, Bool, true, not, ◌&&◌, map, filter, length, Option, Some, None, is_some, unwrap_or, ap, sym, refl}
+use Rattle.std.proofs.Common.{arith, ◌≡◌, ◌∙◌, ◌+◌, Bool, true, not, ◌&&◌, map, filter, length, Option, Some, None, is_some, unwrap_or, ap, sym, refl, false, cond, ℕ, slice_get}
 use Rattle.std.proofs.Math.Bool.{and_comm}
 use Rattle.std.specs.List.{list_any}
 use Rattle.std.specs.FinMap as fin
@@ -9,11 +9,13 @@ use Rattle.std.proofs.lemmas.List.Filters.{length-filter_both}
 use Rattle.causal_name.specs.declared.Det.{Det}
 use Rattle.causal_name.specs.Names.{same_det, is_ascending}
 use Rattle.causal_log.specs.declared.known.Known.{Known}
-use Rattle.causal_log.specs.Knowledge.{nothing_known}
-use Rattle.causal_log.specs.Logs.{LogMap, known_of, stable_in, unstable_in, unmarked}
+use Rattle.causal_log.specs.Knowledge.{nothing_known, as_stable}
+use Rattle.causal_log.specs.Logs.{LogMap, known_of, stable_in, unstable_in, unmarked, mark, marked}
 use Rattle.causal_log.proofs.EntryLemmas.{own_entries}
 use Rattle.causal_log.proofs.Lemmas.Ascents.{filter_ascends}
-use Rattle.causal_log.proofs.Lemmas.Searches.{any_map, any_kept, any_dets, any_logged, passes}
+use Rattle.causal_log.proofs.Lemmas.Searches.{any_map, any_kept, any_dets, any_logged, passes, find_kept, kept_if, shown, shown_found, found_shown}
+use Rattle.std.specs.Option.{option_map}
+use Rattle.causal_name.proofs.Lemmas.DetOrder.{dets_total, det_ties, same_is}
 
 -- a determinant is logged where it is one of the determinants
 pub keys_logged : (log : LogMap) (det : Det) → list_any (same_det det) (fin.keys log) ≡ is_some (fin.get log det)
@@ -25,9 +27,7 @@ module _ (P : Known → Bool) where
   passing_ascend log = filter_ascends (λ e. P e.1) log
 
   pub passing_logged : (log : LogMap) (det : Det) → list_any (same_det det) (map (λ e. e.0) (filter (λ e. P e.1) (fin.entries log))) ≡ passes P (fin.get log det)
-  passing_logged log det =
-      any_kept (λ e. e.0) (λ e. P e.1) (same_det det) (λ e. same_det det e.0 && P e.1) (λ e. and_comm (P e.1) (same_det det e.0)) (fin.entries log)
-      ∙ any_logged P det log
+  passing_logged log det = grind (arith, any_kept, and_comm, any_logged P det log)
 
 -- the marked ones ascend, and are just those with a mark
 pub stable_ascends : (log : LogMap) → is_ascending (stable_in log) ≡ true
@@ -35,11 +35,7 @@ stable_ascends = passing_ascend (λ k. k.stable)
 
 -- a determinant is among the marked ones where what is known of it has the mark
 pub stable_listed : (log : LogMap) (det : Det) → list_any (same_det det) (stable_in log) ≡ (known_of log det).stable
-stable_listed log det = passing_logged (λ k. k.stable) log det ∙ by (fin.get log det)
-  where
-    by : (o : Option Known) → passes (λ k. k.stable) o ≡ (unwrap_or o nothing_known).stable
-    by None = refl
-    by (Some known) = refl
+stable_listed log det = grind (arith, passing_logged (λ k. k.stable) log det)
 
 -- the others ascend, and are just those that are logged without a mark
 pub unstable_ascends : (log : LogMap) → is_ascending (unstable_in log) ≡ true
@@ -47,19 +43,45 @@ unstable_ascends = passing_ascend (λ k. not k.stable)
 
 -- a determinant is among the others where it is logged and has no mark
 pub unstable_listed : (log : LogMap) (det : Det) → list_any (same_det det) (unstable_in log) ≡ (is_some (fin.get log det) && not (known_of log det).stable)
-unstable_listed log det = passing_logged (λ k. not k.stable) log det ∙ by (fin.get log det)
-  where
-    by : (o : Option Known) → passes (λ k. not k.stable) o ≡ (is_some o && not (unwrap_or o nothing_known).stable)
-    by None = refl
-    by (Some known) = refl
+unstable_listed log det = grind (arith, passing_logged (λ k. not k.stable) log det)
 
 -- together they are all
 pub stable_and_unstable : (log : LogMap) → length (stable_in log) + length (unstable_in log) ≡ fin.len log
-stable_and_unstable log =
-    (λ i. length-map (filter (λ e. e.1.stable) (fin.entries log)) (λ e. e.0) i + length-map (filter (λ e. not e.1.stable) (fin.entries log)) (λ e. e.0) i)
-    ∙ length-filter_both (λ e. e.1.stable) (λ e. not e.1.stable) (λ x. refl) (fin.entries log)
-    ∙ sym (fin.len-entries log)
+stable_and_unstable log = grind (arith, length-map, length-filter_both, fin.len-entries)
 
 -- the others are what is left once the marked ones are taken out
 pub unmarked_keys : (log : LogMap) → fin.keys (unmarked log) ≡ unstable_in log
 unmarked_keys log = ap keys_of (own_entries (filter (λ e. not e.1.stable) (fin.entries log)) (filter_ascends (λ e. not e.1.stable) log))
+
+module _ (log : LogMap) (det other : Det) where
+  get_mark : (o : Option Known) → fin.get log det ≡ o → (b : Bool) → same_det other det ≡ b → fin.get (mark log det o) other ≡ cond b (option_map as_stable (fin.get log other)) (fin.get log other)
+  get_mark None was true is = grind (arith, same_is)
+  get_mark None was false is = refl
+  get_mark (Some known) was true is = grind (arith, fin.get-insert dets_total log det (as_stable known) other, dets_total, det_ties other det, same_is other det is)
+  get_mark (Some known) was false is = grind (arith, fin.get-insert, dets_total, det_ties)
+
+left : (o : Option Known) → kept_if (λ k. not k.stable) o ≡ cond (unwrap_or o nothing_known).stable None o
+left None = refl
+left (Some known) = elim known.stable as (λ b. cond (not b) (Some known) None ≡ cond b None (Some known)) [ true ↦ refl | false ↦ refl ]
+
+-- a mark changes the marked entry alone
+pub get_marked : (log : LogMap) (det other : Det) → fin.get (marked log det) other ≡ cond (same_det other det) (option_map as_stable (fin.get log other)) (fin.get log other)
+get_marked log det other = get_mark log det other (fin.get log det) refl (same_det other det) refl
+
+-- the entries without a mark stay as they are
+pub get_unmarked : (log : LogMap) (det : Det) → fin.get (unmarked log) det ≡ cond (known_of log det).stable None (fin.get log det)
+get_unmarked log det =
+    grind (
+      arith,
+      fin.get-from_entries dets_total (filter (λ e. not e.1.stable) (fin.entries log)) det,
+      find_kept (λ k. not k.stable) det (fin.entries log) (shown _ (fin.entries_sorted log)),
+      fin.get-entries log det,
+    )
+
+-- a place shows an entry
+pub place_shown : (log : LogMap) (i : ℕ) (det : Det) (known : Known) → slice_get (fin.entries log) i ≡ Some (det, known) → fin.get log det ≡ Some known
+place_shown log i det known at = fin.get-entries log det ∙ shown_found (fin.entries log) (shown _ (fin.entries_sorted log)) i det known at
+
+-- each entry has a place
+pub place_found : (log : LogMap) (det : Det) (known : Known) → fin.get log det ≡ Some known → (i : ℕ) × (slice_get (fin.entries log) i ≡ Some (det, known))
+place_found log det known is = found_shown (fin.entries log) det known (sym (fin.get-entries log det) ∙ is)

@@ -34,10 +34,7 @@ safe f known false is h = inr (grind (arith, nat_tests))
 
 -- a determinant is carried where what is known of it says so
 pub carried_dets : (f : ℕ) (log : LogMap) (det : Det) → list_any (λ item. same_det det item.det) (chosen f log) ≡ is_chosen f (fin.get log det)
-carried_dets f log det =
-    any_kept item_of (λ e. is_carried f e.1) (λ item. same_det det item.det) (λ e. same_det det e.0 && is_carried f e.1) (λ e. and_comm (is_carried f e.1) (same_det det e.0)) (fin.entries log)
-    ∙ any_logged (is_carried f) det log
-    ∙ carried f (fin.get log det)
+carried_dets f log det = grind (arith, any_kept, and_comm, any_logged (is_carried f) det log, carried f (fin.get log det))
 
 -- and with its known holders
 pub carried_holders : (f : ℕ) (log : LogMap) (det : Det) (p : ℕ) →

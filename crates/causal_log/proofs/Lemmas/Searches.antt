@@ -1,7 +1,8 @@
 -- What tests and look-ups find in lists, filtered lists and entries in order.
-use Rattle.std.proofs.Common.{ℕ, zero, suc, ◌≡◌, ◌∙◌, Bool, true, false, cond, ◌&&◌, ◌||◌, List, [], ◌∷◌, map, filter, slice_get, Option, Some, None, is_some, unwrap_or, refl, sym, ap, true≢false}
+use Rattle.std.proofs.Common.{arith, ℕ, zero, suc, ◌≡◌, ◌∙◌, Bool, true, false, cond, ◌&&◌, ◌||◌, List, [], ◌∷◌, map, filter, slice_get, Option, Some, None, is_some, unwrap_or, refl, sym, ap, true≢false}
 use Rattle.std.specs.Prelude.{T}
 use Rattle.std.specs.List.{list_any}
+use Rattle.std.specs.Map.{keys_of}
 use Rattle.std.specs.Ordering.{is_eq, is_lt, eq_by_cmp}
 use Rattle.std.specs.FinMap as fin
 use Rattle.std.specs.FinMap.Entries.{find, is_sorted, below_all}
@@ -40,9 +41,7 @@ any_map f test given is (x ∷ xs) = λ i. is x i || any_map f test given is xs 
 -- and among what it gives of a filtered list
 pub any_kept : {A B : Type 0} (f : A → B) (keeps : A → Bool) (test : B → Bool) (given : A → Bool) → ((x : A) → (keeps x && test (f x)) ≡ given x) → (xs : List A) → list_any test (map f (filter keeps xs)) ≡ list_any given xs
 any_kept f keeps test given is [] = refl
-any_kept f keeps test given is (x ∷ xs) =
-    elim (keeps x) as (λ b. list_any test (map f (cond b (x ∷ filter keeps xs) (filter keeps xs))) ≡ ((b && test (f x)) || list_any test (map f (filter keeps xs)))) [ true ↦ refl | false ↦ refl ]
-    ∙ (λ i. is x i || any_kept f keeps test given is xs i)
+any_kept f keeps test given is (x ∷ xs) = grind (arith, any_kept f keeps test given is xs)
 
 apart : (r : Ordering) → is_lt r ≡ true → is_eq r ≡ false
 apart Less h = refl
@@ -71,55 +70,27 @@ module _ {X : Type 0} where
   module _ (P : X → Bool) where
     none_below : (d : Det) (es : List (Det × X)) → below_all det_cmp d es ≡ true → list_any (λ e. same_det d e.0 && P e.1) es ≡ false
     none_below d [] h = refl
-    none_below d (e ∷ es) h =
-        let two = both (is_before d e.0) (below_all det_cmp d es) h in
-        ap (λ b. (b && P e.1) || list_any (λ e. same_det d e.0 && P e.1) es) (before_apart d e.0 two.0) ∙ none_below d es two.1
+    none_below d (e ∷ es) h = grind (arith, none_below d es, both, before_apart)
 
     -- in entries in order, a test of one determinant's value finds what a look-up finds
     pub any_found : (q : Det) (es : List (Det × X)) → is_sorted det_cmp es ≡ true → list_any (λ e. same_det q e.0 && P e.1) es ≡ passes P (find det_cmp q es)
     any_found q [] h = refl
-    any_found q (e ∷ es) h =
-        let two = both (below_all det_cmp e.0 es) (is_sorted det_cmp es) h in
-        by (eq_by_cmp det_cmp q e.0) (det_ties q e.0) two.0 (any_found q es two.1)
-      where
-        by : (b : Bool) → same_det q e.0 ≡ b → below_all det_cmp e.0 es ≡ true → list_any (λ e. same_det q e.0 && P e.1) es ≡ passes P (find det_cmp q es)
-            → ((same_det q e.0 && P e.1) || list_any (λ e. same_det q e.0 && P e.1) es) ≡ passes P (cond b (Some e.1) (find det_cmp q es))
-        by true is below rest =
-            let none : list_any (λ e. same_det q e.0 && P e.1) es ≡ false = ap (λ d. list_any (λ e. same_det d e.0 && P e.1) es) (same_is q e.0 is) ∙ none_below e.0 es below in
-            (λ i. (is i && P e.1) || none i) ∙ sym (or_nothing (P e.1))
-        by false is below rest = ap (λ b. (b && P e.1) || list_any (λ e. same_det q e.0 && P e.1) es) is ∙ rest
+    any_found q (e ∷ es) h = grind (arith, any_found q es, both, det_ties, same_is, none_below, or_nothing)
 
   missing_below : (d : Det) (es : List (Det × X)) → below_all det_cmp d es ≡ true → find det_cmp d es ≡ None
   missing_below d [] h = refl
-  missing_below d (e ∷ es) h =
-      let two = both (is_before d e.0) (below_all det_cmp d es) h in
-      ap (λ b. cond b (Some e.1) (find det_cmp d es)) (apart (det_cmp d e.0) two.0) ∙ missing_below d es two.1
+  missing_below d (e ∷ es) h = grind (arith, missing_below d es, both, apart)
 
   -- a look-up in the entries that pass finds what passes of what it finds in all
   pub find_kept : (P : X → Bool) (q : Det) (es : List (Det × X)) → is_sorted det_cmp es ≡ true → find det_cmp q (filter (λ e. P e.1) es) ≡ kept_if P (find det_cmp q es)
   find_kept P q [] h = refl
-  find_kept P q (e ∷ es) h =
-      let two = both (below_all det_cmp e.0 es) (is_sorted det_cmp es) h in
-      by (eq_by_cmp det_cmp q e.0) refl (P e.1) refl two.0 (find_kept P q es two.1)
-    where
-      by : (b : Bool) → eq_by_cmp det_cmp q e.0 ≡ b → (k : Bool) → P e.1 ≡ k → below_all det_cmp e.0 es ≡ true → find det_cmp q (filter (λ e. P e.1) es) ≡ kept_if P (find det_cmp q es)
-          → find det_cmp q (cond k (e ∷ filter (λ e. P e.1) es) (filter (λ e. P e.1) es)) ≡ kept_if P (cond b (Some e.1) (find det_cmp q es))
-      by true is true keeps below rest = ap (λ b. cond b (Some e.1) (find det_cmp q (filter (λ e. P e.1) es))) is ∙ sym (ap (λ k. cond k (Some e.1) None) keeps)
-      by false is true keeps below rest = ap (λ b. cond b (Some e.1) (find det_cmp q (filter (λ e. P e.1) es))) is ∙ rest
-      by true is false keeps below rest =
-          rest ∙ ap (λ d. kept_if P (find det_cmp d es)) (same_is q e.0 (det_ties q e.0 ∙ is)) ∙ ap (kept_if P) (missing_below e.0 es below) ∙ sym (ap (λ k. cond k (Some e.1) None) keeps)
-      by false is false keeps below rest = rest
+  find_kept P q (e ∷ es) h = grind (arith, find_kept P q es, same_is, det_ties, missing_below)
 
 module _ {X : Type 0} where
   -- what stands below some entries in order is before the determinant of each
   before_each : (d : Det) (es : List (Det × X)) (i : ℕ) (e : Det × X) → below_all det_cmp d es ≡ true → slice_get es i ≡ Some e → is_before d e.0 ≡ true
   before_each d [] i e h at = absurd (true≢false (sym (ap is_some at)))
-  before_each d (f ∷ es) zero e h at =
-      ap (λ o. is_before d (fst_or o f)) (sym at) ∙ (both (is_before d f.0) (below_all det_cmp d es) h).0
-    where
-      fst_or : Option (Det × X) → Det × X → Det
-      fst_or None f = f.0
-      fst_or (Some e) f = e.0
+  before_each d (f ∷ es) zero e h at = grind (arith, both)
   before_each d (f ∷ es) (suc i) e h at = before_each d es i e (both (is_before d f.0) (below_all det_cmp d es) h).1 at
 
   -- in a map's entries
@@ -128,25 +99,16 @@ module _ {X : Type 0} where
 
   -- a determinant is among the entries where the map has it
   pub any_dets : (q : Det) (m : fin.FinMap det_cmp X) → list_any (λ e. same_det q e.0) (fin.entries m) ≡ is_some (fin.get m q)
-  any_dets q m = each (fin.entries m) ∙ any_logged (λ x. true) q m ∙ there (fin.get m q)
+  any_dets q m = each (fin.entries m) ∙ sym (fin.contains_key-keys m q)
     where
-      alone : (b : Bool) → b ≡ (b && true)
-      alone true = refl
-      alone false = refl
-
-      each : (es : List (Det × X)) → list_any (λ e. same_det q e.0) es ≡ list_any (λ e. same_det q e.0 && true) es
+      each : (es : List (Det × X)) → list_any (λ e. same_det q e.0) es ≡ list_any (eq_by_cmp det_cmp q) (keys_of es)
       each [] = refl
-      each (e ∷ es) = λ i. alone (same_det q e.0) i || each es i
-
-      there : (o : Option X) → passes (λ x. true) o ≡ is_some o
-      there None = refl
-      there (Some x) = refl
+      each (e ∷ es) = λ i. det_ties q e.0 i || each es i
 
   -- the place of an entry shows what a look-up finds, and the other way round
   pub shown_found : (es : List (Det × X)) → is_sorted det_cmp es ≡ true → (i : ℕ) (q : Det) (x : X) → slice_get es i ≡ Some (q, x) → find det_cmp q es ≡ Some x
   shown_found [] h i q x at = absurd (true≢false (sym (ap is_some at)))
-  shown_found (e ∷ es) h zero q x at =
-      ap (λ f. find det_cmp q (f ∷ es)) (ap (λ o. unwrap_or o e) at) ∙ ap (λ r. cond (is_eq r) (Some x) (find det_cmp q es)) (tied_itself dets_total q)
+  shown_found (e ∷ es) h zero q x at = grind (arith, tied_itself, dets_total)
   shown_found (e ∷ es) h (suc i) q x at =
       let two = both (below_all det_cmp e.0 es) (is_sorted det_cmp es) h in
       ap (λ b. cond b (Some e.1) (find det_cmp q es)) ((eq_by_cmp_equiv dets_total).symm q e.0 ∙ apart (det_cmp e.0 q) (before_each e.0 es i (q, x) two.0 at))

@@ -1,6 +1,6 @@
 -- Sets of determinants, and what a list of determinants says of the set that it makes: for writers of stores.
-use Rattle.std.proofs.Common.{◌≡◌, ◌∙◌, Bool, true, false, cond, ◌||◌, List, [], ◌∷◌, ◌++◌, map, length, Option, Some, None, is_some, refl, sym, ap, subst}
-use Rattle.std.specs.List.{list_any}
+use Rattle.std.proofs.Common.{arith, ◌≡◌, ◌∙◌, Bool, true, false, cond, ◌||◌, List, [], ◌∷◌, ◌++◌, map, length, Option, Some, None, is_some, refl, sym, ap, subst}
+use Rattle.std.specs.List.{list_any, IsDistinct}
 use Rattle.std.specs.Ordering.{eq_by_cmp}
 use Rattle.std.specs.Map.{keys_of}
 use Rattle.std.specs.Cmp.{Equal-is}
@@ -14,12 +14,13 @@ use Rattle.std.proofs.lemmas.List.Sorted.{IsPermutation-map}
 use Rattle.std.proofs.lemmas.List.Folds.{list_any-append}
 use Rattle.std.proofs.lemmas.Map.Keys.{IsDistinct-IsPermutation}
 use Rattle.std.proofs.lemmas.Map.Made.{is_some-lookup}
-use Rattle.std.specs.List.{IsDistinct}
 use Rattle.std.specs.List.Sorted.{IsPermutation, IsSorted}
-use Rattle.causal_log.proofs.EntryLemmas.{get_log, own_entries, sorted_ascend}
+use Rattle.causal_log.proofs.EntryLemmas.{get_log, own_entries, sorted_ascend, moved_log}
 use Rattle.causal_log.proofs.PlaceLemmas.{same_length}
-use Rattle.causal_log.proofs.SortLemmas.{moved_log}
 use Rattle.causal_log.proofs.Lemmas.Searches.{same_turned}
+use Rattle.std.specs.Option.{option_map}
+use Rattle.causal_log.specs.declared.known.Known.{Known}
+use Rattle.causal_log.specs.Logs.{log_of}
 
 abbrev paired : List Det → List (Det × Unit {0})
 paired ds = map (λ d. (d, tt)) ds
@@ -43,20 +44,11 @@ with_member s d member =
 
 -- a determinant is a member where it is one of the members
 pub listed : (s : DetSet) (d : Det) → has s d ≡ list_any (same_det d) (dets_in s)
-listed s d = fin.contains_key-keys s d ∙ ties (dets_in s)
-  where
-    ties : (ds : List Det) → list_any (eq_by_cmp det_cmp d) ds ≡ list_any (same_det d) ds
-    ties [] = refl
-    ties (x ∷ ds) = λ i. sym (det_ties d x) i || ties ds i
+listed s d = grind (arith, fin.contains_key-keys, det_ties)
 
 -- one put in is a member beside those before
 pub stored : (s : DetSet) (d other : Det) → has (with_det s d) other ≡ (same_det other d || has s other)
-stored s d other =
-    ap is_some (fin.get-insert dets_total s d tt other) ∙ either (eq_by_cmp det_cmp other d) (fin.get s other) ∙ ap (λ b. b || has s other) (sym (det_ties other d))
-  where
-    either : (b : Bool) (o : Option (Unit {0})) → is_some (cond b (Some tt) o) ≡ (b || is_some o)
-    either true o = refl
-    either false o = refl
+stored s d other = grind (arith, fin.get-insert, dets_total, det_ties)
 
 -- a store that counts no member is empty
 pub none_stored : (s : DetSet) → count_in s ≡ 0 → s ≡ fin.empty
@@ -83,26 +75,17 @@ sorted_list ds fs moved distinct sorted =
 
 -- sets with the same members are the same
 same_set : (s t : DetSet) → ((q : Det) → has s q ≡ has t q) → s ≡ t
-same_set s t h = fin.same_map dets_total exact_dets s t (λ q. unit_same (fin.get s q) (fin.get t q) (h q))
-  where
-    unit_same : (a b : Option (Unit {0})) → is_some a ≡ is_some b → a ≡ b
-    unit_same None None h = refl
-    unit_same None (Some u) h = Prim.cc
-    unit_same (Some u) None h = Prim.cc
-    unit_same (Some u) (Some v) h = refl
+same_set s t h = fin.same_map dets_total exact_dets s t (λ q. grind (arith, h q))
 
 -- a list with one more makes the set with that one
 pub set_push : (ds : List Det) (d : Det) → set_of (ds ++ d ∷ []) ≡ with_det (set_of ds) d
-set_push ds d =
-    same_set (set_of (ds ++ d ∷ [])) (with_det (set_of ds) d) (λ q.
-    has_list (ds ++ d ∷ []) q
-    ∙ list_any-append (same_det q) ds (d ∷ [])
-    ∙ turned (list_any (same_det q) ds) (same_det q d)
-    ∙ ap (λ b. same_det q d || b) (sym (has_list ds q))
-    ∙ sym (stored (set_of ds) d q))
-  where
-    turned : (a b : Bool) → (a || (b || false)) ≡ (b || a)
-    turned true true = refl
-    turned true false = refl
-    turned false true = refl
-    turned false false = refl
+set_push ds d = grind (arith, same_set, has_list, list_any-append, stored)
+
+-- what is made of something is there where that is
+pub some_of : {X Y : Type 0} (f : X → Y) (o : Option X) → is_some (option_map f o) ≡ is_some o
+some_of f None = refl
+some_of f (Some x) = refl
+
+-- a log has a determinant where the set of its determinants has it
+pub has_there : (es : List (Det × Known)) (d : Det) → is_some (fin.get (log_of es) d) ≡ has (set_of (keys_of es)) d
+has_there es d = ap is_some (get_log es d) ∙ is_some-lookup (same_det d) es ∙ sym (has_list (keys_of es) d)

@@ -5,9 +5,10 @@ use Rattle.std.specs.Arc.{arc_value}
 use Rattle.std.specs.FinMap as fin
 use Rattle.causal_name.specs.declared.Det.{Det}
 use Rattle.causal_name.specs.declared.Pid.{Pid}
+use Rattle.causal_name.specs.Names.{is_ascending}
 use Rattle.causal_log.specs.declared.known.Known.{Known}
 use Rattle.causal_log.specs.declared.batch.Item.{Item}
-use Rattle.causal_log.specs.declared.carried.Carried.{Carried}
+use Rattle.causal_log.specs.declared.log.Carried.{Carried}
 use Rattle.causal_log.specs.Knowledge.{held_by, joined, is_carried}
 use Rattle.causal_log.specs.Logs.{LogMap, chosen, learned}
 
@@ -27,21 +28,13 @@ is_open log det = option_map_or (λ known. not known.stable) (fin.get log det) f
 abbrev pub open_in : LogMap → List Item → List Item
 open_in log items = filter (λ item. is_open log item.det) items
 
--- the items that messages still carry of a batch, since when determinants may have been marked
-abbrev pub still : Bool → LogMap → List Item → List Item
-still is_marked log items = cond is_marked (open_in log items) items
-
--- and of what a log keeps
+-- the items that messages still carry of a batch that a log keeps, since when determinants may have been marked
 abbrev pub still_carried : Carried → LogMap → List Item
-still_carried kept log = still kept.is_marked log (arc_value kept.batch)
+still_carried kept log = cond kept.is_marked (open_in log (arc_value kept.batch)) (arc_value kept.batch)
 
--- what messages carry of a log for f failures is what they still carry of this batch
-abbrev pub IsCarried : ℕ → List Item → Bool → LogMap → Type 0
-IsCarried f items is_marked log = still is_marked log items ≡ chosen f log
-
--- so it is of what a log keeps
+-- what messages carry of a log is what they still carry of what is kept
 abbrev pub Carries : Option Carried → LogMap → Type 0
-Carries kept log = IfSome kept (λ k. IsCarried k.f (arc_value k.batch) k.is_marked log)
+Carries kept log = IfSome kept (λ k. still_carried k log ≡ chosen k.f log)
 
 -- what is kept, once a determinant is marked
 abbrev pub as_marked : Carried → Carried
@@ -54,3 +47,8 @@ with_carried f det known items = cond (is_carried f known) (items ++ record { de
 -- from the items that messages carry of a log to those that they carry once this is heard of a determinant
 abbrev pub HearsNext : ℕ → Det → Known → LogMap → List Item → List Item → Type 0
 HearsNext f det heard log before after = before ≡ chosen f log → after ≡ chosen f (learned log det heard)
+
+-- how a log is kept: its entries ascend where it says so, and messages carry what is still open of the batch that it keeps
+pub record IsKept (dets : List Det) (sorted : Bool) (carried : Option Carried) (log : LogMap) : Type 0 where
+  pub ascending : sorted ≡ true → is_ascending dets ≡ true
+  pub carries : Carries carried log

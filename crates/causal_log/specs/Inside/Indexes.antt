@@ -4,6 +4,7 @@ use Rattle.std.specs.Prelude.{◌≡◌, ℕ, zero, suc, bit_and, ◌+◌, ◌-�
 use Rattle.causal_name.specs.declared.Det.{Det}
 use Rattle.causal_name.specs.declared.Slot.{Slot}
 use Rattle.causal_name.specs.Names.{slot_of}
+use Rattle.causal_log.specs.declared.index.Index.{Index}
 
 -- the head of a slot, of so many heads: eight slots of a receiver have heads beside each other, and each receiver has a step of
 -- its own to the next eight, another one in each turn
@@ -31,3 +32,7 @@ pub record IsIndex (turn : ℕ) (dets : List Det) (heads older : List ℕ) : Typ
   pub within : (h : ℕ) → slice_index_or heads h 0 ≤ length dets
   pub down : (i : ℕ) → slice_index_or older i 0 ≤ i
   pub found : (k : ℕ) (d : Det) → slice_get dets k ≡ Some d → IsLed older (newest_of heads turn (slot_of d)) k
+
+-- this is the index of some determinants
+abbrev pub IsIndexOf : List Det → Index → Type 0
+IsIndexOf dets index = IsIndex index.turn dets index.heads.items index.older.items

@@ -1,5 +1,5 @@
 use Rattle.causal_log.proofs.Lemmas.Ascents.{map_ascends}
-use Rattle.causal_log.proofs.Lemmas.Places.{place_shown, place_found}
+use Rattle.causal_log.proofs.Lemmas.LogLists.{place_shown, place_found}
 use Rattle.causal_log.proofs.laws.places_law.Goals as goal
 
 pub returns-clause-ascending : goal.returns-clause-ascending

@@ -2,13 +2,11 @@ use Rattle.std.proofs.Common.{◌≡◌, ◌∙◌, [], List, Bool, true, ◌==�
 use Rattle.std.proofs.lemmas.Bool.{eqb-true}
 use Rattle.std.proofs.lemmas.List.{nil_from_length}
 use Rattle.causal_log.specs.declared.batch.Item.{Item}
-use Rattle.causal_log.specs.declared.known.Known.{Known}
 use Rattle.causal_log.specs.Knowledge.{held_by}
-use Rattle.causal_log.specs.Logs.{absorbed, chosen, learned}
-use Rattle.causal_log.specs.Inside.Merges.{are_known_to_hold, source_of, heard_of}
-use Rattle.causal_log.proofs.CarriedLemmas.{absorbed_known, learned_known}
+use Rattle.causal_log.specs.Logs.{absorbed, chosen}
+use Rattle.causal_log.specs.Inside.Merges.{source_of, heard_of}
+use Rattle.causal_log.proofs.MergeLemmas.{absorbed_known, learned_known, still_out}
 use Rattle.causal_log.proofs.KnownLemmas.{held_out}
-use Rattle.causal_log.proofs.MergeLemmas.{still_out}
 use Rattle.causal_log.proofs.merging.changes_nothing.Goals as goal
 
 none : (xs : List Item) (b : Bool) → b ≡ (length xs == 0) → b ≡ true → xs ≡ []
@@ -23,9 +21,4 @@ returns-then-delivery-eq0 c = λ told is.
     empty ∙ still_out d.f (heard_of d) d.own (held_by d.me) [] [] heard refl refl (held_out d.f d.me (omega (arith, c.if-delivery-eq0.true)))
 
 pub returns-then-are_known_to_hold : goal.returns-then-are_known_to_hold
-returns-then-are_known_to_hold c = λ all is.
-    let d = c.args.delivery.now in
-    let own = ap (λ (k : Known). are_known_to_hold (source_of d) d.own k.holders) (sym c.held-held.ensures) ∙ sym c.are_known_to_hold.ensures ∙ c.if-are_known_to_hold.true in
-    is
-    ∙ ap (chosen d.f)
-    (sym (ap (λ log. learned log d.own (held_by d.me)) (absorbed_known d.from d.me d.items.now (source_of d) (sym c.are_items_known.ensures ∙ all)) ∙ learned_known (source_of d) d.own (held_by d.me) refl own))
+returns-then-are_known_to_hold c = grind (arith, absorbed_known, learned_known)

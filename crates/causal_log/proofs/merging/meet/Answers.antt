@@ -1,6 +1,5 @@
-use Rattle.std.proofs.Common.{◌≡◌, ◌∙◌, ◌+◌, ◌++◌, ◌∷◌, [], true, drop, is_some, ap, sym, subst}
+use Rattle.std.proofs.Common.{arith, ◌≡◌, ◌∙◌, ◌+◌, ◌++◌, drop, is_some, ap, sym}
 use Rattle.causal_name.specs.declared.Pid.{Pid}
-use Rattle.causal_name.specs.Names.{is_ascending}
 use Rattle.causal_log.specs.declared.known.Known.{Known}
 use Rattle.causal_log.specs.declared.batch.Item.{Item}
 use Rattle.causal_log.specs.Knowledge.{joined, told}
@@ -27,8 +26,7 @@ returns-in-Some-clause-heard c = λ log logged was.
     ∙ met d.f log det (told d.from d.me c.args.item.now).1 out next rest (ap (λ xs. out ++ xs) (sym here) ∙ was) c.requires.before c.in-Some.ensures.same
 
 pub returns-in-Some-clause-before : goal.returns-in-Some-clause-before
-returns-in-Some-clause-before c = λ d low.
-    subst (λ xs. is_ascending (dets_of xs ++ d ∷ []) ≡ true) (sym c.in_ok-carry.ensures) (before_later c.args.delivery.now.f c.args.item.now.det c.joined.result c.args.out.now.items c.requires.before d low)
+returns-in-Some-clause-before c = grind (arith, before_later)
 
 pub returns-then-not-may_carry-clause-heard : goal.returns-then-not-may_carry-clause-heard
 returns-then-not-may_carry-clause-heard c = λ log logged was.
@@ -61,5 +59,4 @@ returns-clause-heard c = λ log logged was.
     ∙ comes_in d.f log det heard out rest was c.requires.before after (logged ∙ sym c.is_logged.ensures ∙ c.if-is_logged.false)
 
 pub returns-clause-before : goal.returns-clause-before
-returns-clause-before c = λ d low.
-    subst (λ xs. is_ascending (dets_of xs ++ d ∷ []) ≡ true) (sym c.in_ok-carry-2.ensures) (before_later c.args.delivery.now.f c.args.item.now.det c.told-heard-2.result c.args.out.now.items c.requires.before d low)
+returns-clause-before c = grind (arith, before_later)

@@ -1,4 +1,4 @@
-use Rattle.std.proofs.Common.{◌≡◌, ◌∙◌, ◌+◌, ◌++◌, ◌∷◌, [], true, drop, length, ap, sym, subst, arith}
+use Rattle.std.proofs.Common.{◌≡◌, ◌∙◌, ◌+◌, ◌∷◌, true, drop, ap, sym, subst, arith}
 use Rattle.std.proofs.lemmas.Bool.{eqb-true}
 use Rattle.std.proofs.lemmas.List.{drop_more, drop_all, nil_from_length}
 use Rattle.causal_name.specs.Names.{is_ascending}
@@ -21,8 +21,7 @@ loop-item-init c =
     }
 
 pub pass-requires-clause-ascending : goal.pass-requires-clause-ascending
-pass-requires-clause-ascending c =
-    ap (λ xs. is_ascending (dets_of xs)) c.loop-item.invariant.merged.carries ∙ chosen_ascend c.args.delivery.now.f c.loop-item.invariant.merged.log
+pass-requires-clause-ascending c = grind (arith, chosen_ascend)
 
 pub pass-requires-clause-before : goal.pass-requires-clause-before
 pass-requires-clause-before c =
@@ -55,18 +54,7 @@ loop-item-preserved c =
     }
 
 pub returns : goal.returns
-returns c =
-    let d = c.args.delivery.now in
-    let out = c.loop-item.out.items in
-    let begun = drop c.loop-item.place c.args.kept.now in
-    c.in_ok-extend_from_slice.ensures.items
-    ∙ ap (λ xs. out ++ xs) (cut_rest c.args.kept.now c.loop-item.place)
-    ∙ merged_all d.f d.items.now d.from d.me (source_of d) out begun
-    (subst (λ xs. HasMerged d.f d.items.now xs d.from d.me (source_of d) out begun) (drop_all c.loop-item.item-index d.items.now (omega (arith, c.loop-item-test.false))) c.loop-item.invariant.merged)
+returns c = grind (arith, cut_rest, merged_all, drop_all)
 
 pub returns-then-not-may_carry : goal.returns-then-not-may_carry
-returns-then-not-may_carry c =
-    let d = c.args.delivery.now in
-    let none : c.args.kept.now ≡ [] = nil_from_length c.args.kept.now (eqb-true (length c.args.kept.now) 0 (sym c.is_empty.ensures ∙ c.if-is_empty.true)) in
-    c.in_ok-out.ensures.items
-    ∙ none_carried d.f d.from d.me d.items.now (source_of d) (c.may_carry.ensures c.if-not-may_carry.true) (sym none ∙ c.requires.kept)
+returns-then-not-may_carry c = grind (arith, nil_from_length, eqb-true, none_carried)

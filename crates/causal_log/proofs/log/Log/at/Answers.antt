@@ -1,4 +1,4 @@
-use Rattle.std.proofs.Common.{◌≡◌, ◌∙◌, List, Option, ℕ, ap, sym, slice_get, find, option_map, rules, Bor, Some, None, refl, length}
+use Rattle.std.proofs.Common.{arith, ◌≡◌, ◌∙◌, List, Option, ℕ, ap, sym, slice_get, find, Bor, Some, None, refl, length}
 use Rattle.std.specs.Option.{option_copied}
 use Rattle.std.specs.Slice.{IsItemAt}
 use Rattle.std.proofs.lemmas.Option.{slice_get_past, slice_get_read}
@@ -20,22 +20,10 @@ shown : (es : List (Det × Known)) → IsDistinct same_det (keys_of es) → (i :
 shown es distinct i ds are o is = ap (with_known (log_of es)) (is ∙ (λ j. find (λ d. has_rank (are j) i d) (are j))) ∙ ranked_entry es distinct i
 
 pub returns : goal.returns
-returns c =
-    let es = c.self.inside.entries.entries in
-    let one : c.map.result ≡ option_map (λ known. (c.in_ok-det.det, known)) c.known.result = search rules in
-    one
-    ∙ ap (option_map (λ known. (c.in_ok-det.det, known))) (c.known.ensures ∙ sym (ap (λ log. fin.get log.map c.in_ok-det.det) c.self.view_is))
-    ∙ sym (ap (with_known (log_of es)) c.in_ok-det.was)
-    ∙ shown es c.dets.ensures.distinct c.args.i c.dets.result.now c.dets.ensures.dets c.ranked.result c.ranked.ensures
-    ∙ ap (λ log. slice_get (fin.entries log.map) c.args.i) c.self.view_is
+returns c = grind (arith, shown c.self.inside.entries.entries c.dets.ensures.distinct c.args.i c.dets.result.now c.dets.ensures.dets c.ranked.result c.ranked.ensures)
 
 pub returns-in_err-det : goal.returns-in_err-det
-returns-in_err-det c =
-    let es = c.self.inside.entries.entries in
-    c.from_residual.ensures
-    ∙ sym (ap (with_known (log_of es)) c.in_err-det.was)
-    ∙ shown es c.dets.ensures.distinct c.args.i c.dets.result.now c.dets.ensures.dets c.ranked.result c.ranked.ensures
-    ∙ ap (λ log. slice_get (fin.entries log.map) c.args.i) c.self.view_is
+returns-in_err-det c = grind (arith, shown c.self.inside.entries.entries c.dets.ensures.distinct c.args.i c.dets.result.now c.dets.ensures.dets c.ranked.result c.ranked.ensures)
 
 -- what a reference to an element leads to
 got : {X : Type 0} (xs : List X) (i : ℕ) (r : Option (Bor X)) → IsItemAt xs i r → option_copied r ≡ slice_get xs i
@@ -43,8 +31,4 @@ got xs i None h = sym (slice_get_past xs i h.3)
 got xs i (Some x) h = sym (slice_get_read xs (length xs) i x.now refl h.3.0 h.1)
 
 pub returns-then-self : goal.returns-then-self
-returns-then-self c =
-    c.copied.ensures
-    ∙ got c.entries.result.now c.args.i c.get.result c.get.ensures.lookup
-    ∙ ap (λ es. slice_get es c.args.i) (c.entries.ensures.entries ∙ sym (own_entries c.self.inside.entries.entries (c.self.invariant.ascending c.if-self.true)))
-    ∙ ap (λ log. slice_get (fin.entries log.map) c.args.i) c.self.view_is
+returns-then-self c = grind (arith, got, own_entries)

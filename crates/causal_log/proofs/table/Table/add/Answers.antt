@@ -1,4 +1,4 @@
-use Rattle.std.proofs.Common.{◌≡◌, ◌∙◌, ◌+◌, ◌-◌, ◌≤◌, ◌++◌, ◌∷◌, [], None, drop, is_some, length, ap, sym, subst, arith}
+use Rattle.std.proofs.Common.{◌≡◌, ◌∙◌, ◌++◌, ◌∷◌, [], None, is_some, length, ap, sym, subst, arith}
 use Rattle.std.proofs.lemmas.List.{length_push}
 use Rattle.std.proofs.lemmas.Map.Keys.{IsDistinct-push}
 use Rattle.std.proofs.lemmas.Map.Made.{is_some-lookup}
@@ -7,9 +7,9 @@ use Rattle.std.specs.List.{IsDistinct, list_any}
 use Rattle.std.specs.Map.{lookup, keys_of}
 use Rattle.causal_name.specs.Names.{same_det}
 use Rattle.causal_log.specs.Logs.{log_of}
-use Rattle.causal_log.specs.Inside.Indexes.{IsIndex}
+use Rattle.causal_log.specs.Inside.Indexes.{IsIndexOf}
 use Rattle.causal_log.proofs.EntryLemmas.{det_equiv, get_log, inserted}
-use Rattle.causal_log.proofs.TableLemmas.{keys_push, lookup_push, take_whole}
+use Rattle.causal_log.proofs.TableLemmas.{keys_push, lookup_push}
 use Rattle.causal_log.proofs.table.Table.add.Goals as goal
 
 pub invariant_of-self : goal.invariant_of-self
@@ -20,31 +20,19 @@ invariant_of-self c =
     let len = ap length dets ∙ length_push before.dets.items c.args.det in
     let room = ap (λ t. t.spare) c.self.view_is in
     let none : lookup (same_det c.args.det) es ≡ None = sym (get_log es c.args.det) ∙ ap (λ t. fin.get (log_of t.entries) c.args.det) c.self.view_is ∙ c.requires.new in
-    let heads = ap length c.as_mut_slice-heads.ensures.value in
-    let written = take_whole c.link.new.heads (drop (length c.link.new.heads) before.heads.items) before.heads.len (omega (arith, heads, c.link.ensures.len, before.heads.ok.0)) in
     record {
       keys = dets ∙ ap (λ ds. ds ++ c.args.det ∷ []) c.self.invariant.keys ∙ sym (ap keys_of c.push_reserved-2.ensures.items ∙ keys_push es c.args.det c.args.known);
       distinct =
           subst (IsDistinct same_det) (sym dets)
           (IsDistinct-push det_equiv before.dets.items c.args.det c.self.invariant.distinct
           (ap (list_any (same_det c.args.det)) c.self.invariant.keys ∙ sym (is_some-lookup (same_det c.args.det) es) ∙ ap is_some none));
-      index =
-          subst (λ hs. IsIndex before.turn c.push_reserved.new.self.items hs c.link.new.older.items) (sym written)
-          (subst (λ ds. IsIndex before.turn ds c.link.new.heads c.link.new.older.items) (sym dets)
-          (c.link.ensures.index c.args.det (sym c.slot.ensures) before.dets.items (subst (λ hs. IsIndex before.turn before.dets.items hs before.older.items) (sym c.as_mut_slice-heads.ensures.value) c.self.invariant.index)));
+      indexed = subst (λ ds. IsIndexOf ds c.link.new.self) (sym dets) (c.link.ensures.index c.args.det (sym c.slot.ensures) before.dets.items c.self.invariant.indexed);
       few = omega (arith, len, room, c.requires.room, c.self.invariant.few);
       dets_fit = omega (arith, len, room, c.requires.room, c.self.invariant.dets_fit, c.push_reserved.ensures.capacity);
       entries_fit = omega (arith, len, room, c.requires.room, c.self.invariant.entries_fit, c.push_reserved-2.ensures.capacity);
       older_fit = omega (arith, len, room, c.requires.room, c.self.invariant.older_fit, c.link.ensures.capacity);
-      heads_fit =
-          subst (λ hs. length c.push_reserved.new.self.items + (before.room - 1) ≤ length hs) (sym written)
-          (omega (arith, len, room, heads, c.requires.room, c.self.invariant.heads_fit, c.link.ensures.len));
+      heads_fit = omega (arith, len, room, c.requires.room, c.self.invariant.heads_fit, c.link.ensures.len);
     }
 
 pub returns-clause-put : goal.returns-clause-put
-returns-clause-put c =
-    let es = c.self.inside.entries.items in
-    let none : lookup (same_det c.args.det) es ≡ None = sym (get_log es c.args.det) ∙ ap (λ t. fin.get (log_of t.entries) c.args.det) c.self.view_is ∙ c.requires.new in
-    ap log_of c.push_reserved-2.ensures.items
-    ∙ inserted es (es ++ (c.args.det, c.args.known) ∷ []) c.args.det c.args.known (lookup_push es c.args.det c.args.known none)
-    ∙ ap (λ t. fin.insert (log_of t.entries) c.args.det c.args.known) c.self.view_is
+returns-clause-put c = grind (arith, get_log, inserted, lookup_push)

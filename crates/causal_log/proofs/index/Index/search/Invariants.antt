@@ -1,0 +1,13 @@
+use Rattle.std.proofs.Common.{◌≤◌, length}
+use Rattle.causal_log.proofs.IndexLemmas.{LeadsOn}
+use Rattle.causal_log.proofs.index.Index.search.Given as goal
+
+abbrev pub invariant-loop-number : goal.invariant-loop-number
+invariant-loop-number l = record {
+  inside : l.number ≤ length l.dets;
+  leads : LeadsOn l.dets l.self.older.items l.det l.number;
+}
+
+-- each entry leads to an older one
+abbrev pub decreases-loop-number : goal.decreases-loop-number
+decreases-loop-number l = l.number
