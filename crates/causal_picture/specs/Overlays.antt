@@ -17,11 +17,11 @@ use Rattle.causal_picture.specs.declared.shapes.Shape.TheVariants.{Halo}
 use Rattle.causal_picture.specs.Shapes.{shape_text, upright_text}
 
 -- where an event stands
-abbrev pub point_of : Grid → Mark → Point
+unfoldable pub point_of : Grid → Mark → Point
 point_of g m = record { x = x_of g m.position; y = y_of g (process_of m.event).0 }
 
 -- where the entry at a position stands, if it is shown
-abbrev pub point_at : List Entry → Grid → ℕ → Option Point
+unfoldable pub point_at : List Entry → Grid → ℕ → Option Point
 point_at past g position = if is_shown g position then option_map (point_of g) (mark_at past position) else None
 
 -- where the entries of a chain stand that are shown

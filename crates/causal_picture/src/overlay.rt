@@ -5,7 +5,7 @@ ghost use Rattle.causal_picture.specs.Overlays as overlays;
 
 use crate::focus::Focus;
 use crate::layout::{bottom_of, is_shown, x_of, x_of_instant, y_of};
-use crate::marks::mark_at;
+use crate::marks::{Mark, mark_at};
 use crate::roles::push_processes;
 use crate::shapes::{Label, Shape, push_label, push_shape, push_upright};
 use crate::stretch::Grid;
@@ -21,7 +21,19 @@ pub struct Point {
     pub y: u32,
 }
 
+/// Where an event stands.
+#[tactic(auto, unfolding(crate::specs::Overlays::point_of))]
+fn point_of(grid: Grid, mark: &Mark) -> Point
+    ensures { result ≡ overlays.point_of grid mark.now }
+{
+    Point {
+        x: x_of(grid, mark.position),
+        y: y_of(grid, u16::from(mark.event.process().0)),
+    }
+}
+
 /// Where the entry at a position stands, if it is shown.
+#[tactic(auto, unfolding(crate::specs::Overlays::point_at))]
 fn point_at(trace: &Trace, grid: Grid, position: u32) -> Option<Point>
     ensures { result ≡ overlays.point_at trace.now.recording.past grid position }
 {
@@ -29,10 +41,7 @@ fn point_at(trace: &Trace, grid: Grid, position: u32) -> Option<Point>
         return None;
     }
     let mark = mark_at(trace, position)?;
-    Some(Point {
-        x: x_of(grid, position),
-        y: y_of(grid, u16::from(mark.event.process().0)),
-    })
+    Some(point_of(grid, &mark))
 }
 
 /// Where the entries of a chain stand that are shown.
