@@ -9,7 +9,7 @@ use std::marker::Model;
 
 /// The bytes of a message, any number of them. Contracts see a body as the list of its bytes. A short one, of at most 16
 /// bytes, is made without memory.
-#[derive(Debug, Drop)]
+#[derive(Drop)]
 pub struct Body {
     bytes: SmallVec<u8, 16>,
 }

@@ -12,7 +12,6 @@ use std::sync::atomic::{AtomicU64, Ordering};
 
 /// Reacts as the process inside, and adds one to a counter when it is dropped, so that a test can see whether a process
 /// was let go. Contracts see it as the process inside. That the counter grows by one is tested, and in no contract.
-#[derive(Debug)]
 pub struct Counted<P> {
     inner: P,
     drops: Arc<AtomicU64>,

@@ -11,7 +11,7 @@ use std::marker::Model;
 /// one before. When it begins, a process sends its count to its partner, as one byte, where the partner is below n.
 /// Whoever gets a count above 0, as the first byte of a body, sends that count less one back to the sender; an empty
 /// body counts as 0.
-#[derive(Debug, Drop)]
+#[derive(Drop)]
 pub struct Echo {
     n: u16,
     me: u8,

@@ -3,7 +3,7 @@ use crate::body::Body;
 use causal_name::Pid;
 
 /// What a process is told.
-#[derive(Debug, Drop)]
+#[derive(Drop)]
 pub enum Input {
     /// It begins, in its opening state. A run gives this once, before all else.
     Begin,
@@ -12,7 +12,7 @@ pub enum Input {
 }
 
 /// A message that a process sends. The receiver may be the process itself, or no process of the run.
-#[derive(Debug, Drop)]
+#[derive(Drop)]
 pub struct Outgoing {
     pub to: Pid,
     pub body: Body,

@@ -11,7 +11,7 @@ use std::marker::Model;
 /// count above 0, as the first byte of a body, sends the next one that count less one; an empty body counts as 0.
 ///
 /// The next of process `me` is `(me + 1) % n`. A process's number is a byte, so a ring of more than 256 closes at 256.
-#[derive(Debug, Drop)]
+#[derive(Drop)]
 pub struct Ring {
     n: u16,
     me: u8,

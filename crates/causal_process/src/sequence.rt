@@ -2,7 +2,7 @@
 use std::marker::Model;
 
 /// Values in order, any number of them. Contracts see a sequence as the list of its values.
-#[derive(Debug, Drop)]
+#[derive(Drop)]
 pub struct Sequence<T> {
     values: Vec<T>,
 }

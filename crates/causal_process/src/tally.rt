@@ -18,7 +18,7 @@ use std::marker::Model;
 /// new total, as eight bytes with the most significant first; an empty body adds 0. The others answer no message.
 ///
 /// So what it sends depends on the order of its deliveries.
-#[derive(Debug, Drop)]
+#[derive(Drop)]
 pub struct Tally {
     me: u8,
     total: u64,

@@ -10,7 +10,7 @@ use causal_script::{Kind, Script};
 use std::alloc::Global;
 
 /// A process of one of the kinds.
-#[derive(Debug, Drop)]
+#[derive(Drop)]
 pub(crate) enum Member {
     Ring(Ring),
     Echo(Echo),

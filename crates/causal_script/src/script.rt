@@ -22,7 +22,7 @@ pub struct Command {
 pub type Commands = Sequence<Command>;
 
 /// A script: n processes of one kind, of which at most f are down at once, and the commands in their order.
-#[derive(Debug, Drop)]
+#[derive(Drop)]
 pub struct Script {
     pub kind: Kind,
     /// From 1 to 256.

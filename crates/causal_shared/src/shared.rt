@@ -328,15 +328,6 @@ pub(crate) fn settle<S: Stable>(
     if let Some(fault) = finish_fault(&locked, seats, tag, k, faults, opening) {
         return Err(fault);
     }
-    Ok(remains(locked))
-}
-
-/// What is left of the value that was behind the lock.
-fn remains<S: Stable>(locked: Locked<S>) -> Finished<S>
-    ensures run { run_of result.core ≡ (held_of locked).run }
-    ensures history { result.history ≡ (held_of locked).history }
-    ensures legal { IsHistory (run_of result.core) result.history }
-{
     let (core, history) = locked.into_parts();
-    Finished { core, history }
+    Ok(Finished { core, history })
 }

@@ -27,24 +27,24 @@ pub returns-in-Some-clause-opened : goal.returns-in-Some-clause-opened
 returns-in-Some-clause-opened g c = λ e. c.finish_fault.ensures.opened (c.in-Some.is ∙ found _ _ e)
 
 pub returns-clause-safe : goal.returns-clause-safe
-returns-clause-safe g c = safe_carried (run_of c.remains.result.core) c.remains.result.core.kept
+returns-clause-safe g c = safe_carried (run_of c.into_parts-core.result.0) c.into_parts-core.result.0.kept
 
 pub returns-clause-single : goal.returns-clause-single
-returns-clause-single g c = single_carried (run_of c.remains.result.core) c.remains.result.core.kept
+returns-clause-single g c = single_carried (run_of c.into_parts-core.result.0) c.into_parts-core.result.0.kept
 
 pub returns-clause-opening : goal.returns-clause-opening
-returns-clause-opening g c = rw (c.remains.ensures.run, c.remains.ensures.history) c.in_default.ensures.settled.begins
+returns-clause-opening g c = rw (c.into_parts-core.ensures.run, c.into_parts-core.ensures.history) c.in_default.ensures.settled.begins
 
 pub returns-clause-seats : goal.returns-clause-seats
-returns-clause-seats g c = rw c.remains.ensures.history c.in_default.ensures.settled.agree
+returns-clause-seats g c = rw c.into_parts-core.ensures.history c.in_default.ensures.settled.agree
 
 pub returns-clause-others : goal.returns-clause-others
-returns-clause-others g c = rw c.remains.ensures.history c.in_default.ensures.settled.seated
+returns-clause-others g c = rw c.into_parts-core.ensures.history c.in_default.ensures.settled.seated
 
 pub returns-clause-total : goal.returns-clause-total
 returns-clause-total g c =
     let settled = c.in_default.ensures.settled in
-    rw c.remains.ensures.history (total_is c.args.seats.now c.args.locked.history.items settled.complete.once settled.seated settled.agree)
+    rw c.into_parts-core.ensures.history (total_is c.args.seats.now c.args.locked.history.items settled.complete.once settled.seated settled.agree)
 
 pub returns-clause-missing : goal.returns-clause-missing
 returns-clause-missing g c = (λ e. absurd (ok_err _ _ e), λ no. absurd (no c.in_default.ensures.settled.complete))
