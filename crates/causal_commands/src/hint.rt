@@ -3,24 +3,18 @@ ghost use Rattle.std.specs.Prelude.{◌≡◌, option_map};
 ghost use Rattle.causal_commands.specs.Hints as told;
 
 use crate::script::Reason;
-use causal_script::{ScriptFault, ScriptFaultKind};
+use causal_script::ScriptFaultKind;
 
 /// What was expected at the line of a script's fault, where it is none of a script there; None of another reason.
 pub fn hint_of(reason: Reason) -> Option<&'static str>
     ensures { option_map (λ text. text.now) result ≡ told.hint_of reason }
 {
     match reason {
-        Reason::Script(fault) => hint_at(fault),
+        Reason::Script(fault) => match fault.kind {
+            ScriptFaultKind::Script => Some(expected_at(fault.line)),
+            ScriptFaultKind::Big | ScriptFaultKind::NoMemory => None,
+        },
         Reason::Run(_) => None,
-    }
-}
-
-fn hint_at(fault: ScriptFault) -> Option<&'static str>
-    ensures { option_map (λ text. text.now) result ≡ told.hint_at fault.line fault.kind }
-{
-    match fault.kind {
-        ScriptFaultKind::Script => Some(expected_at(fault.line)),
-        ScriptFaultKind::Big | ScriptFaultKind::NoMemory => None,
     }
 }
 

@@ -92,30 +92,19 @@ fn exceeded_part(alloc: Global, from: u16) -> Result<Vec<u8>, NoMemory>
     ensures { IfOk result (λ text. text.items ≡ told.exceeded_part from) }
 {
     if from > 0 {
-        exceeded_to(alloc, from - 1)
+        let last = from - 1;
+        Ok(format!(in alloc;
+            "exceeded to={last}: at some instant more than f processes are down\n"
+        )?.into_bytes())
     } else {
         Ok(Vec::new(alloc))
     }
-}
-
-fn exceeded_to(alloc: Global, last: u16) -> Result<Vec<u8>, NoMemory>
-    ensures { IfOk result (λ text. text.items ≡ told.exceeded_to last) }
-{
-    Ok(format!(in alloc;
-        "exceeded to={last}: at some instant more than f processes are down\n"
-    )?.into_bytes())
 }
 
 fn accept_from(alloc: Global, first: u16) -> Result<Vec<u8>, NoMemory>
     ensures { IfOk result (λ text. text.items ≡ told.accept_from first) }
 {
     Ok(format!(in alloc; "accept from={first}: the run is safe for f\n")?.into_bytes())
-}
-
-fn accept_between(alloc: Global, first: u16, last: u16) -> Result<Vec<u8>, NoMemory>
-    ensures { IfOk result (λ text. text.items ≡ told.accept_between first last) }
-{
-    Ok(format!(in alloc; "accept from={first} to={last}: the run is safe for f\n")?.into_bytes())
 }
 
 fn orphan_from(alloc: Global, first: u16) -> Result<Vec<u8>, NoMemory>
@@ -130,7 +119,8 @@ fn accept_part(alloc: Global, from: u16, end: u16) -> Result<Vec<u8>, NoMemory>
     ensures { IfOk result (λ text. text.items ≡ told.accept_part from end) }
 {
     if from < end {
-        accept_between(alloc, from, end - 1)
+        let last = end - 1;
+        Ok(format!(in alloc; "accept from={from} to={last}: the run is safe for f\n")?.into_bytes())
     } else {
         Ok(Vec::new(alloc))
     }
