@@ -1,33 +1,20 @@
 -- What is kept makes a state safe.
-use Rattle.std.proofs.Common.{ℕ, ◌≡◌, ◌+◌, ◌-◌, ◌<◌, ◌≤◌, inl, inr, Bool, false, List, [], ◌∷◌, length, drop, refl, sym, ap, subst, ◌∙◌, add-one, arith}
-use Rattle.std.proofs.lemmas.Bool.{both_ways, or_cases, cases_Bool}
+use Rattle.std.proofs.Common.{ℕ, ◌≡◌, ◌+◌, ◌-◌, ◌<◌, ◌≤◌, inl, inr, Bool, false, List, [], ◌∷◌, length, drop, sym, ap, subst, add-one, arith}
+use Rattle.std.proofs.lemmas.Bool.{both_ways, cases_Bool}
 use Rattle.std.proofs.lemmas.Bool.Decides.{eqb_tells}
 use Rattle.causal_name.specs.declared.Det.{Det}
 use Rattle.causal_trace.specs.declared.entry.Entry.{Entry}
-use Rattle.causal_trace.specs.Past.{instant, is_down, logs, is_stable}
+use Rattle.causal_trace.specs.Past.{instant, logs, is_stable}
 use Rattle.causal_trace.specs.Judgement.{IsCrashSet, IsSafe, IsSafeTrace}
 use Rattle.causal_trace.specs.Dependence.{AreForward}
 use Rattle.causal_holders.proofs.Lemmas.MemberCounts.{count_below-within}
 use Rattle.causal_protocol.specs.Memory.{Memories}
-use Rattle.causal_protocol.specs.Kept.{gone, IsSpread, Keeping}
+use Rattle.causal_protocol.specs.Kept.{IsSpread, Keeping}
 use Rattle.causal_protocol.specs.Runs.{Matches, IsSound}
 
 -- what is spread has no orphan
 spread_kept : (n f : ℕ) (past : List Entry) (d : Det) (crash : ℕ → Bool) → IsSpread n f past d → IsCrashSet n f past crash → is_stable past d ≡ false → ((q : ℕ) → q < n → crash q ≡ false → logs past q d ≡ false) → ⊥
-spread_kept n f past d crash (inl stable) may unstable lost = both_ways (is_stable past d) unstable stable
-spread_kept n f past d crash (inr many) may unstable lost =
-    omega (
-      arith,
-      many,
-      may.few,
-      count_below-within n (gone past d) crash (λ q below h. elim (cases_Bool (crash q)) [
-        | inl crashed ↦ crashed
-        | inr alive ↦ elim (or_cases (is_down past q) (logs past q d) h) [
-          | inl down ↦ may.down q below down
-          | inr held ↦ absurd (both_ways (logs past q d) (lost q below alive) held)
-        ]
-      ]),
-    )
+spread_kept n f past d crash a may unstable lost = grind (arith, count_below-within, cases_Bool)
 
 pub kept_safe : (n f : ℕ) (past : List Entry) (ms : Memories) → Keeping n f past ms → IsSafe n f past
 kept_safe n f past ms k = record {
@@ -42,10 +29,7 @@ kept_safe n f past ms k = record {
 
 -- one more entry leaves the instants that there were, and makes one more
 instants_stay : (e : Entry) (past : List Entry) (t : ℕ) → t ≤ length past → instant (e ∷ past) t ≡ instant past t
-instants_stay e past t within = ap (λ n. drop n (e ∷ past)) (let later : length (e ∷ past) - t ≡ (length past - t) + 1 = omega (arith, within) in later) ∙ dropped (length past - t) e past
-  where
-    dropped : (n : ℕ) (e : Entry) (past : List Entry) → drop (n + 1) (e ∷ past) ≡ drop n past
-    dropped n e past = rw add-one refl
+instants_stay e past t within = grind (arith, add-one)
 
 last_instant : (past : List Entry) (t : ℕ) → t ≡ length past → instant past t ≡ past
 last_instant past t whole = ap (λ n. drop n past) (let none : length past - t ≡ 0 = omega (arith, whole) in none)
@@ -56,12 +40,7 @@ next_sound n f e past ms next s forward facts fit = record {
   facts = facts;
   fit = fit;
   forward = forward;
-  safe = λ t within. elim (eqb_tells t (length past + 1)) [
-    | inl whole ↦ subst (λ x. IsSafe n f x) (sym (last_instant (e ∷ past) t (omega (arith, whole.1)))) (kept_safe n f (e ∷ past) next facts)
-    | inr earlier ↦
-        let still : t ≤ length past = let ne : t ≡ length past + 1 → ⊥ = earlier.1 in omega (arith, within) in
-        subst (λ x. IsSafe n f x) (sym (instants_stay e past t still)) (s.safe t still)
-  ];
+  safe = λ t within. grind (arith, eqb_tells t (length past + 1), last_instant, kept_safe n f (e ∷ past) next facts, instants_stay);
 }
 
 -- what is kept makes a run safe in which nothing has happened

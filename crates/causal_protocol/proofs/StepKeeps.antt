@@ -194,26 +194,10 @@ module _ (r : Run) (s : IsRun r) where
       by_list (d ∷ ds) low m here known = forget_sound n r.faults past ms p m (d ∷ ds) here low known s
 
   nothing_appended : (request : Request) (appended : List Entry) → appended ≡ [] → IsRun (extended r request appended)
-  nothing_appended request appended is = subst (λ es. IsRun (extended r request es)) (sym is) (by request)
-    where
-      by : (request : Request) → IsRun (extended r request [])
-      by (Ask.Deliver q source ssn) = s
-      by (Ask.Crash p) = s
-      by (Ask.Restart p) = s
-      by (Ask.Flush p) = s
-      by (Ask.Forget p) = s
+  nothing_appended request appended is = grind arith
 
 none_written : (fault reason : CoreFault) (done all : ℕ) → flush_reason_of fault ≡ Some reason → IsPart fault done all → done ≡ 0
-none_written Why.NoMemory reason done all is part = absurd (let e : None ≡ Some reason = is in cc)
-none_written Why.StoreFault reason done all is part = absurd (let e : None ≡ Some reason = is in cc)
-none_written Why.NoProcess reason done all is part = part
-none_written Why.Down reason done all is part = part
-none_written Why.NotDown reason done all is part = part
-none_written Why.OverFaults reason done all is part = part
-none_written (Why.MustReplay m) reason done all is part = part
-none_written Why.NotAvailable reason done all is part = part
-none_written Why.AlreadyDelivered reason done all is part = part
-none_written Why.Full reason done all is part = part
+none_written a reason done all is part = grind arith
 
 legal_kept : (r : Run) (request : Request) (reply : Reply) (appended : List Entry) → LegalStep r request reply appended → IsRun r → IsRun (extended r request appended)
 unfolding LegalStep
@@ -241,18 +225,4 @@ steps_keep_runs old new request reply step s = subst IsRun (sym step.grown) (leg
 -- a refusal, but a flush that stopped part way, leaves the run as it was
 pub refusals_change_nothing : RefusalsChangeNothing
 unfolding LegalStep
-refusals_change_nothing old new request fault step = step.grown ∙ ap (extended old request) (nothing old request fault step.appended step.legal) ∙ same request
-  where
-    nothing : (r : Run) (request : Request) (fault : CoreFault) (appended : List Entry) → LegalStep r request (Told.Refused fault) appended → appended ≡ []
-    nothing r (Ask.Deliver q source ssn) fault appended h = h.1
-    nothing r (Ask.Crash p) fault appended h = h.1
-    nothing r (Ask.Restart p) fault appended h = h.1
-    nothing r (Ask.Flush p) fault appended h = absurd h
-    nothing r (Ask.Forget p) fault appended h = h.1
-
-    same : (request : Request) → extended old request [] ≡ old
-    same (Ask.Deliver q source ssn) = refl
-    same (Ask.Crash p) = refl
-    same (Ask.Restart p) = refl
-    same (Ask.Flush p) = refl
-    same (Ask.Forget p) = refl
+refusals_change_nothing old new request fault step = grind arith
