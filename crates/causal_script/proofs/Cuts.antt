@@ -92,13 +92,8 @@ tail_whole (y ∷ ys) = let less : length (y ∷ ys) - 1 ≡ length ys = omega a
 -- the rest as a slice
 pub cut_slices : (byte : ℕ) (xs front back : List ℕ) (at : ℕ) → front ≡ take at xs → back ≡ drop at xs → cut byte xs ≡ Some (take at xs, drop (suc at) xs)
     → ◌≡◌ {A = Option (List ℕ × List ℕ)} (Some (front, take (length back - 1) (drop 1 back))) (cut byte xs)
-cut_slices byte xs front back at f b e =
-    let rest : take (length back - 1) (drop 1 back) ≡ drop (suc at) xs = tail_whole back ∙ ap (drop 1) b ∙ drop_more xs at in
-    rw (f, rest) (sym e)
+cut_slices byte xs front back at f b e = grind (arith, tail_whole back, drop_more xs at)
 
 -- what stands after the byte is shorter than the text
 pub cut_shorter : (byte : ℕ) (xs : List ℕ) (parts : List ℕ × List ℕ) → cut byte xs ≡ Some parts → length parts.1 < length xs
-cut_shorter byte xs parts e =
-    let c = cut_whole byte xs parts e in
-    let all : length xs ≡ length (parts.0 ++ byte ∷ parts.1) = ap length c.whole in
-    omega (arith, length-append parts.0 (byte ∷ parts.1))
+cut_shorter byte xs parts e = grind (arith, cut_whole byte xs parts e, length-append parts.0 (byte ∷ parts.1))
