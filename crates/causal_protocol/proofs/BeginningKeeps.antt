@@ -15,7 +15,7 @@ use Rattle.causal_protocol.specs.Kept.{survives, Keeping}
 use Rattle.causal_protocol.specs.Runs.{IsSound, IsRun, Opens, IsMade, opened, stepped, OpeningsAreRuns}
 use Rattle.causal_protocol.proofs.LearnedLogs.{none_entry, none_holds, none_stable}
 use Rattle.causal_protocol.proofs.Sets.{survives_found}
-use Rattle.causal_protocol.proofs.Safety.{first_safe}
+use Rattle.causal_protocol.proofs.SoundSteps.{first_safe}
 use Rattle.causal_protocol.proofs.StepKeeps.{IsKept, are_sends_kept, steps_keep_runs}
 
 abbrev beginners : ℕ → Memories

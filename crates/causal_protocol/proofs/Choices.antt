@@ -1,8 +1,7 @@
 -- What lists that are made of logs have.
-use Rattle.std.proofs.Common.{ℕ, ◌≡◌, ◌<◌, Bool, true, false, cond, not, ◌&&◌, ◌||◌, List, [], ◌∷◌, find, Option, Some, None, is_some, unwrap_or, refl, sym, ap, ◌∙◌, arith, true≢false}
+use Rattle.std.proofs.Common.{ℕ, ◌≡◌, ◌<◌, Bool, true, cond, not, ◌&&◌, ◌||◌, List, [], ◌∷◌, find, Option, Some, None, is_some, unwrap_or, refl, sym, ap, ◌∙◌, arith, true≢false}
 use Rattle.std.specs.Prelude.{◌⊎◌}
 use Rattle.std.specs.Option.{option_map}
-use Rattle.std.specs.Ordering.{eq_by_cmp}
 use Rattle.std.specs.declared.cmp.Ordering.{Ordering}
 use Rattle.std.specs.declared.cmp.Ordering.TheVariants.{Less, Equal, Greater}
 use Rattle.std.specs.FinMap as fin
@@ -72,21 +71,7 @@ unstable_logged log d h =
 
 -- a mark
 get_mark : (log : LogMap) (det other : Det) (o : Option Known) → fin.get log det ≡ o → (b : Bool) → same_det other det ≡ b → fin.get (mark log det o) other ≡ cond b (option_map as_stable (fin.get log other)) (fin.get log other)
-get_mark log det other None was true is = grind (arith, same_is other det is)
-get_mark log det other None was false is = refl
-get_mark log det other (Some known) was true is = grind (
-  arith,
-  fin.get-insert dets_total log det (as_stable known) other,
-  dets_total,
-  det_ties other det,
-  same_is other det is,
-)
-get_mark log det other (Some known) was false is = grind (
-  arith,
-  fin.get-insert dets_total log det (as_stable known) other,
-  dets_total,
-  det_ties other det,
-)
+get_mark log det other o was b is = grind (arith, fin.get-insert dets_total log det, det_ties other det, same_is other det)
 
 module _ (log : LogMap) (det d : Det) where
   marked_get : fin.get (marked log det) d ≡ cond (same_det d det) (option_map as_stable (fin.get log d)) (fin.get log d)
@@ -137,12 +122,7 @@ module _ (listed : List Det) (log : LogMap) (d : Det) where
 pub stable_has : (past : List Entry) (d : Det) → store.has (stable_set past) d ≡ is_stable past d
 unfolding stable_set
 stable_has [] d = ap is_some (fin.get-empty det_cmp d)
-stable_has (Stable det ∷ past) d =
-    ap is_some (fin.get-insert dets_total (stable_set past) det tt d) ∙ put (eq_by_cmp det_cmp d det) (fin.get (stable_set past) d) ∙ (λ i. sym (det_ties d det) i || stable_has past d i)
-  where
-    put : (b : Bool) (o : Option (Unit {0})) → is_some (cond b (Some tt) o) ≡ (b || is_some o)
-    put true o = refl
-    put false o = refl
+stable_has (Stable det ∷ past) d = grind (arith, fin.get-insert dets_total (stable_set past) det tt d, det_ties d det, stable_has past d)
 stable_has (Send from to ssn ∷ past) d = stable_has past d
 stable_has (Deliver to send rsn listed ∷ past) d = stable_has past d
 stable_has (Crash who ∷ past) d = stable_has past d
@@ -155,20 +135,10 @@ unfolding with_own
 own_have own [] d = refl
 own_have own (x ∷ ds) d = by (det_cmp own x) refl (own_have own ds d)
   where
-    turned : (a b c : Bool) → (b || (a || c)) ≡ (a || (b || c))
-    turned true true c = refl
-    turned true false c = refl
-    turned false true c = refl
-    turned false false c = refl
-
-    twice : (a b : Bool) → (a || b) ≡ (a || (a || b))
-    twice true b = refl
-    twice false b = refl
-
     by : (o : Ordering) → det_cmp own x ≡ o → has (with_own own ds) d ≡ (same_det d own || has ds d) → has (by_order o (own ∷ x ∷ ds) (x ∷ ds) (x ∷ with_own own ds)) d ≡ (same_det d own || (same_det d x || has ds d))
     by Less is rest = refl
-    by Equal is rest = twice (same_det d x) (has ds d) ∙ ap (λ y. same_det d y || (same_det d x || has ds d)) (sym (exact_dets own x is))
-    by Greater is rest = ap (λ b. same_det d x || b) rest ∙ turned (same_det d own) (same_det d x) (has ds d)
+    by Equal is rest = grind (arith, exact_dets own x is)
+    by Greater is rest = grind arith
 
 -- the determinants of items
 pub items_have : (items : List Item) (d : Det) → has (dets_of items) d ≡ has_item d items

@@ -171,48 +171,34 @@ module _ (p : ℕ) (d : Det) (tells : LogMap → Bool) (Gives : Run → Option P
         | inr old ↦ later n f writers e past old.0 (known_contributed n f (older e writers) past (s.up old.0 up) old.1)
       ]
 
-  neither : (a b : Bool) → (a || b) ≡ false → (a ≡ false) × (b ≡ false)
-  neither a b h = grind arith
-
   given_known : (n f : ℕ) (writers : List Pid) (past : List Entry) (k : ℕ) (entry : Entry) → is_some (at (memories n f writers past) p) ≡ true → slice_get past k ≡ Some entry
       → Gives (run_before (suc k) (run n f writers past)) (slice_get (writers_before k past writers) 0) entry → list_any (ends p d) (take k past) ≡ false → tells (log_at (memories n f writers past) p) ≡ true
   unfolding memories writers_before
   given_known n f writers [] k entry up is given lasts = absurd (let no : None ≡ Some entry = is in cc)
-  given_known n f writers (e ∷ past) zero entry up is given lasts =
-      let same : e ≡ entry = cc is in
-      let r = run n f (older e writers) past in
-      ((step r (slice_get writers 0) e).log up).fresh (subst (Gives r (slice_get writers 0)) (sym same) given)
+  given_known n f writers (e ∷ past) zero entry up is given lasts = grind (arith, step (run n f (older e writers) past) (slice_get writers 0) e)
   given_known n f writers (e ∷ past) (suc k) entry up is given lasts =
-      let s = step (run n f (older e writers) past) (slice_get writers 0) e in
-      let parts = neither (ends p d e) (list_any (ends p d) (take k past)) lasts in
-      (s.log up).kept parts.0 (given_known n f (older e writers) past k entry (s.up parts.0 up) is given parts.1)
+      grind (arith, step (run n f (older e writers) past) (slice_get writers 0) e, given_known n f (older e writers) past k entry)
 
   pub contributed_known : (r : Run) → is_some (at (memories_of r) p) ≡ true → IsContributed Gives p d r → tells (log_at (memories_of r) p) ≡ true
   contributed_known r up c = given_known r.recording.processes r.faults r.writers r.recording.past c.since c.entry up c.stands c.gives c.lasts
 
 -- holders
 holder_facts : (p : ℕ) (d : Det) (q : ℕ) → Facts p d (tells_holder d q) (GivesHolder p d q)
-holder_facts p d q = record {
-  lacks = LearnedLogs.none_holds d q;
-  sent = λ r by from to ssn g. g;
-  crashed = λ r by who g. g;
-  forgot = λ r by who listed g. g;
-  receiver = λ r by to send rsn listed g. (g.0, (g.1.0, g.1.1));
-  writer = λ r by det g. absurd g;
-  restarter = λ r by who listed g. g.0;
-  delivered = λ r by to send rsn listed x m is sent. grind (arith, LearnedLogs.gained_holder, LearnedLogs.gained_told, LearnedLogs.gained_old);
-  written = λ r w det m is here. steady _ _ _ (λ g. g) (Choices.marked_holder m.log det d q);
-  restarted = λ r by who listed old is. grind (
-    arith,
-    LearnedLogs.gathered_holder,
-    LearnedLogs.keys_have (gathered_log (memories_of r) (stable_of r) who) d,
-    LearnedLogs.entry_of_holder,
-    LearnedLogs.gathered_itself,
-    LearnedLogs.gathered_known,
-    false≢true,
-  );
-  left = λ listed log. Choices.without_holder listed log d q;
-}
+holder_facts p d q = grind (
+  arith,
+  LearnedLogs.none_holds,
+  LearnedLogs.gained_holder,
+  LearnedLogs.gained_told,
+  LearnedLogs.gained_old,
+  steady,
+  Choices.marked_holder,
+  LearnedLogs.gathered_holder,
+  LearnedLogs.keys_have,
+  LearnedLogs.entry_of_holder,
+  LearnedLogs.gathered_itself,
+  LearnedLogs.gathered_known,
+  Choices.without_holder,
+)
 
 -- an up process knows just the holders that its present lane was told of
 pub holders_are_contributed : HoldersAreContributed

@@ -90,17 +90,15 @@ module _ (n f : ℕ) (past : List Entry) (ms next : Memories) (to : Pid) (send r
 
   -- what survives survived before, or is the new determinant
   pub left : (d : Det) → survives n (e ∷ past) d ≡ true → (d ≡ own) ⊎ (survives n past d ≡ true)
-  left d h =
-      elim (survives_found n (e ∷ past) d h) [
-        | inl stable ↦ inr (survives_stable n past d stable)
-        | inr held ↦ elim (or_cases (to.0 == held.0 && has listed d) (logs past held.0 d) held.2) [
-          | inl new ↦ elim (or_cases (same_det d own) (has_item d s.delivered.batch) (sym (s.lists d) ∙ (and_parts (to.0 == held.0) (has listed d) new).1)) [
-            | inl same ↦ inl (same_is d own same)
-            | inr carried ↦ inr (finds_survive n past source d s.sender (k.senders_find source s.delivered d s.sender s.keeps carried))
-          ]
-          | inr old ↦ inr (survives_log n past held.0 d held.1 old)
-        ]
-      ]
+  left d h = grind (
+    arith,
+    survives_found n (e ∷ past) d h,
+    survives_stable n past d,
+    s.lists d,
+    same_is d own,
+    finds_survive n past source d s.sender,
+    survives_log n past,
+  )
 
   -- the receiver holds what it is told of itself; the sender what the message carries
   true_told : (p : ℕ) (d : Det) (q : ℕ) → p < n → knows next p d q ≡ true → (q < n) × IsTrueOf (e ∷ past) d q

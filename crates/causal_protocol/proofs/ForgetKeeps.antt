@@ -67,13 +67,7 @@ module _ (n f : ℕ) (past : List Entry) (ms next : Memories) (who : Pid) (liste
         true_stays n past (Forget who listed ∷ past) d q (k.named_processes p x d q small (s.kept p x keeps) names) (stays d) (k.named_hold p x d q small (s.kept p x keeps) names);
     named_processes = λ p x d q small keeps names. k.named_processes p x d q small (s.kept p x keeps) names;
     marks_true = λ p d small h. k.marks_true p d small (s.marked p d h);
-    dependents_hold = λ i p d small at dep. grind (
-      arith,
-      depends_old (Forget who listed) past i p forward dep.up refl dep,
-      held_or_spread,
-      det_earlier (Forget who listed) past i d refl at,
-      no_actor,
-    );
+    dependents_hold = λ i p d small at dep. grind (arith, depends_old (Forget who listed) past i p forward dep.up refl dep, held_or_spread, no_actor);
     messages_carry = λ i p x d small at keeps r.
         elim (k.messages_carry i p x d small (det_earlier (Forget who listed) past i d refl at) (s.kept p x keeps) (reaches_old (Forget who listed) past i forward x.send (k.earlier p x small (s.kept p x keeps)) r)) [
           | inl carried ↦ inl carried

@@ -6,7 +6,7 @@ use Rattle.std.specs.Cmp.{nat_cmp_total}
 use Rattle.std.specs.Ordering.{nat_cmp}
 use Rattle.std.specs.FinMap as fin
 use Rattle.std.specs.FinSet as set
-use Rattle.std.proofs.lemmas.Bool.{false≢true, both_ways, or_cases, or_left, or_right, and_from, and_parts, eqb-true, eq-eqb}
+use Rattle.std.proofs.lemmas.Bool.{false≢true, both_ways, or_cases, or_left, or_right, and_parts, eqb-true, eq-eqb}
 use Rattle.causal_name.specs.declared.Pid.{Pid}
 use Rattle.causal_name.specs.declared.Det.{Det}
 use Rattle.causal_name.specs.Names.{det_cmp, same_det}
@@ -48,24 +48,10 @@ entry_of_mark log d h = grind (arith, false≢true)
 -- an item that names a holder is an item
 pub item_of_holder : (d : Det) (q : ℕ) (items : List Item) → item_holder d q items ≡ true → has_item d items ≡ true
 item_of_holder d q [] h = absurd (false≢true h)
-item_of_holder d q (item ∷ items) h = grind (
-  arith,
-  or_cases (same_det d item.det && set.contains item.holders q) (item_holder d q items) h,
-  and_parts,
-  item_of_holder d q items,
-)
+item_of_holder d q (item ∷ items) h = grind (arith, item_of_holder d q items)
 
 pub alone_holds : (p q : ℕ) → set.contains (set.insert (set.empty {R = nat_cmp}) p) q ≡ true → q ≡ p
-alone_holds p q h = grind (
-  arith,
-  or_cases,
-  set.contains-insert nat_cmp_total set.empty p q,
-  nat_cmp_total,
-  eqb-true,
-  nat_ties q p,
-  both_ways,
-  set.contains-empty nat_cmp q,
-)
+alone_holds p q h = grind (arith, set.contains-insert nat_cmp_total set.empty p q, nat_ties q p, set.contains-empty nat_cmp q)
 
 pub itself_holds : (p : ℕ) → set.contains (set.insert (set.empty {R = nat_cmp}) p) p ≡ true
 itself_holds p = set.contains-insert nat_cmp_total set.empty p p ∙ or_left _ _ (sym (nat_ties p p) ∙ eq-eqb p p refl)
@@ -111,21 +97,12 @@ module _ (batch : List Item) (own : Det) (log : LogMap) (d : Det) where
 
   item_named : (q : ℕ) (items : List Item) → item_holder d q items ≡ true → list_any (tells_item q) items ≡ true
   item_named q [] h = absurd (false≢true h)
-  item_named q (item ∷ items) h = grind (
-    arith,
-    or_cases (same_det d item.det && set.contains item.holders q) (item_holder d q items) h,
-    and_parts,
-    item_named q items,
-  )
+  item_named q (item ∷ items) h = grind (arith, item_named q items)
 
   -- an item that comes tells that both ends of its message hold it
   item_at : (q : ℕ) → (q == own.source.0 || q == own.dest.0) ≡ true → (items : List Item) → has_item d items ≡ true → list_any (tells_item q) items ≡ true
   item_at q end [] h = absurd (false≢true h)
-  item_at q end (item ∷ items) h =
-      elim (or_cases (same_det d item.det) (has_item d items) h) [
-        | inl one ↦ or_left _ _ (and_from _ _ one (or_right _ _ end))
-        | inr more ↦ or_right _ _ (item_at q end items more)
-      ]
+  item_at q end (item ∷ items) h = grind (arith, item_at q end items)
 
   item_sent : (items : List Item) → has_item d items ≡ true → list_any (tells_item own.source.0) items ≡ true
   item_sent = item_at own.source.0 (or_left _ _ (eq-eqb own.source.0 own.source.0 refl))
@@ -158,17 +135,12 @@ module _ (batch : List Item) (own : Det) (log : LogMap) (d : Det) where
 
   -- by a delivery nothing new is known to be stable
   pub gained_stable : tells_stable d (gained batch own log) ≡ true → tells_stable d log ≡ true
-  gained_stable h =
-      elim (or_cases (tells_stable d absorbs) ((same_det d own && false) || false) (sym (one_stable absorbs own (held_by own.dest) d) ∙ h)) [
-        | inl before ↦ elim (or_cases (tells_stable d log) (list_any (λ e. same_det d e.0 && e.1.stable) (map (told own.source own.dest) batch)) (sym (known_all (λ k. k.stable) stable_either (map (told own.source own.dest) batch) log d) ∙ before)) [
-          | inl old ↦ old
-          | inr none ↦ absurd (both_ways _ (told_stable own.source own.dest d batch) none)
-        ]
-        | inr mine ↦ elim (or_cases (same_det d own && false) false mine) [
-          | inl one ↦ absurd (false≢true (and_parts (same_det d own) false one).1)
-          | inr none ↦ absurd (false≢true none)
-        ]
-      ]
+  gained_stable h = grind (
+    arith,
+    one_stable absorbs own (held_by own.dest) d,
+    known_all (λ k. k.stable) stable_either (map (told own.source own.dest) batch) log d,
+    told_stable own.source own.dest d batch,
+  )
 
 -- a property of a log that two logs have together where either has it, and that the empty one has not
 module _ (tells : LogMap → Bool) (either : (log other : LogMap) → tells (united log other) ≡ (tells log || tells other)) (lacks : tells fin.empty ≡ false) where

@@ -108,27 +108,11 @@ set_cases ms w x p low = grind (arith, eqb_tells w p, log_set ms w x p low, cond
 pub changed_cases : (g : Memory → Memory) (ms : Memories) (w : ℕ) (m : Memory) → at ms w ≡ Some m → (p : ℕ)
     → (((w == p) ≡ true) × (w ≡ p) × (log_at (changed g ms w) p ≡ (g m).log) × (messages (changed g ms w) p ≡ (g m).sent) × (log_at ms p ≡ m.log) × (messages ms p ≡ m.sent))
     ⊎ (((w == p) ≡ false) × (log_at (changed g ms w) p ≡ log_at ms p) × (messages (changed g ms w) p ≡ messages ms p))
-changed_cases g ms w m here p = grind (
-  arith,
-  eqb_tells w p,
-  log_changed g ms w m here p,
-  cond-true,
-  messages_changed g ms w m here p,
-  log_here,
-  messages_here,
-  cond-false,
-)
+changed_cases g ms w m here p = grind (arith, log_changed g ms w m here p, messages_changed g ms w m here p, log_here, messages_here)
 
 -- who is up after a change
 pub changed_state : (g : Memory → Memory) (ms : Memories) (w : ℕ) (m : Memory) → at ms w ≡ Some m → (p : ℕ) → is_none (at (changed g ms w) p) ≡ is_none (at ms p)
-changed_state g ms w m here p = grind (
-  arith,
-  at_set ms w (option_map g (at ms w)) p (at_within ms w m here),
-  at_within ms w m here,
-  eqb_tells w p,
-  cond-true,
-  cond-false,
-)
+changed_state g ms w m here p = grind (arith, at_set, at_within, eqb_tells)
 
 -- where one memory is set, its process is up or down by that, and each other as before
 pub set_state : (ms : Memories) (w : ℕ) (x : Option Memory) (p : ℕ) → w < length ms → is_none (at (slice_set ms w x) p) ≡ cond (w == p) (is_none x) (is_none (at ms p))

@@ -3,7 +3,7 @@ use Rattle.std.proofs.Common.{ℕ, zero, suc, ◌≡◌, ◌+◌, ◌<◌, inl, 
 use Rattle.std.specs.Prelude.{◌==◌, ◌⊎◌, if◌then◌else◌}
 use Rattle.std.specs.Option.{option_map, option_and_then}
 use Rattle.std.specs.FinMap as fin
-use Rattle.std.proofs.lemmas.Bool.{false≢true, or_cases, and_from, and_parts, eqb-true, eq-eqb}
+use Rattle.std.proofs.lemmas.Bool.{false≢true, and_parts, eqb-true}
 use Rattle.std.proofs.lemmas.List.Sums.{sum_by-cons}
 use Rattle.causal_name.specs.declared.Pid.{Pid}
 use Rattle.causal_name.specs.declared.MsgName.{MsgName}
@@ -44,10 +44,6 @@ not_not a h = grind arith
 pub is_there : {X : Type 0} (o : Option X) → is_none o ≡ false → (x : X) × (o ≡ Some x)
 is_there a h = grind arith
 
--- what is not there is missing
-pub is_missing : {X : Type 0} (o : Option X) → is_some o ≡ false → o ≡ None
-is_missing a h = grind arith
-
 same_message-is : (a b : MsgName) → same_message a b ≡ true → a ≡ b
 same_message-is a b h = grind (arith, and_parts (same_pid a.source b.source) (a.ssn == b.ssn) h, eqb-true)
 
@@ -81,9 +77,6 @@ lesser_some (Some x) (Some y) h = by (is_before y x)
 slot_is : (q : Pid) (rsn : ℕ) (d : Det) → is_of_slot q rsn d ≡ true → (d.dest ≡ q) × (d.rsn ≡ rsn)
 slot_is q rsn d h = grind (arith, and_parts (same_pid d.dest q) (d.rsn == rsn) h, eqb-true)
 
-slot_of : (q : Pid) (rsn : ℕ) (d : Det) → d.dest ≡ q → d.rsn ≡ rsn → is_of_slot q rsn d ≡ true
-slot_of q rsn d dest place = and_from _ _ (eq-eqb d.dest.0 q.0 (ap (λ (x : Pid). x.0) dest)) (eq-eqb d.rsn rsn place)
-
 module _ (n f : ℕ) (past : List Entry) (ms : Memories) (q : Pid) (m : Memory) (here : at ms q.0 ≡ Some m) (low : q.0 < n) (s : IsSound n f past ms) where
   keys_logs : (d : Det) → has (fin.keys m.log) d ≡ logs past q.0 d
   keys_logs d = keys_have m.log d ∙ ap (λ log. is_some (fin.get log d)) (sym (log_here ms q.0 m here)) ∙ s.facts.logged q.0 d low
@@ -102,15 +95,7 @@ module _ (n f : ℕ) (past : List Entry) (ms : Memories) (q : Pid) (m : Memory) 
   )
 
   next_some : (d : Det) → finds past q.0 d ≡ true → d.dest ≡ q → d.rsn ≡ length m.received → (x : Det) × (next_det (stable_set past) q m ≡ Some x)
-  next_some d found dest place = grind (
-    arith,
-    slot_of q (length m.received) d dest place,
-    lesser_some,
-    or_cases (logs past q.0 d) (is_stable past d) found,
-    first_there,
-    keys_logs d,
-    dets_stable d,
-  )
+  next_some d found dest place = grind (arith, lesser_some, first_there, keys_logs d, dets_stable d)
 
   -- what is found for the next delivery names the message that is asked for, where no other is named
   pub only_named : (asked : MsgName) → unless asked (named_for ms (stable_set past) q) ≡ None → (d : Det) → finds past q.0 d ≡ true → d.dest ≡ q → d.rsn ≡ length m.received → message_of d ≡ asked

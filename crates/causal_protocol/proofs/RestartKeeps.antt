@@ -1,7 +1,7 @@
 -- What the protocol keeps, over a restart.
 use Rattle.std.proofs.Common.{ℕ, ◌≡◌, ◌<◌, inl, inr, true, false, List, ◌∷◌, Some, refl, sym, ap, ◌∙◌, arith}
 use Rattle.std.specs.Prelude.{◌⊎◌, ◌||◌, not, ◌&&◌, ◌==◌}
-use Rattle.std.proofs.lemmas.Bool.{both_ways, or_cases, or_left, or_right, and_from, and_parts, eq-eqb, not_from_false, cond-true, cond-false}
+use Rattle.std.proofs.lemmas.Bool.{or_cases, or_left, or_right, and_from, and_parts, eq-eqb, not_from_false, cond-true, cond-false}
 use Rattle.std.proofs.lemmas.Bool.Decides.{eqb_tells}
 use Rattle.causal_name.specs.declared.Det.{Det}
 use Rattle.causal_name.specs.declared.Pid.{Pid}
@@ -72,14 +72,7 @@ module _ (n f : ℕ) (past : List Entry) (ms next : Memories) (who : Pid) (liste
   keeps_restart = record {
     few_down = omega (arith, k.few_down, count_below-within n (is_down (Restart who listed ∷ past)) (is_down past) (λ p below h. (and_parts (not (who.0 == p)) (is_down past p) h).1));
     logged = λ p d small. s.has_as p d ∙ ap (λ b. (who.0 == p && has listed d) || b) (k.logged p d small);
-    own = λ p d small h. grind (
-      arith,
-      eqb_tells who.0 p,
-      or_cases (who.0 == p && has listed d) (logs past p d) h,
-      and_parts,
-      survives_log,
-      both_ways,
-    );
+    own = λ p d small h. grind (arith, survives_log);
     known_processes = λ p d q small h. (new_holder p d q small h).0;
     holders_hold = λ p d q small h. (new_holder p d q small h).1;
     named_hold = λ p x d q small keeps names.

@@ -1,7 +1,7 @@
 -- What the protocol keeps, over a send.
-use Rattle.std.proofs.Common.{ℕ, ◌≡◌, ◌<◌, inl, inr, true, false, cond, List, [], ◌∷◌, length, Some, None, refl, sym, ap, subst, ◌∙◌, arith}
+use Rattle.std.proofs.Common.{ℕ, ◌≡◌, ◌<◌, inl, inr, true, false, cond, List, [], ◌∷◌, length, Some, None, refl, sym, ap, ◌∙◌, arith}
 use Rattle.std.specs.Prelude.{◌⊎◌, ◌==◌}
-use Rattle.std.proofs.lemmas.Bool.{both_ways, or_left, cases_Bool, eq-eqb, ne_eqb, cond-true, cond-false}
+use Rattle.std.proofs.lemmas.Bool.{both_ways, cases_Bool, eq-eqb, ne_eqb, cond-true, cond-false}
 use Rattle.std.proofs.lemmas.Bool.Decides.{eqb_tells}
 use Rattle.causal_name.specs.declared.Pid.{Pid}
 use Rattle.causal_name.specs.declared.Det.{Det}
@@ -80,31 +80,20 @@ module _ (n f : ℕ) (past : List Entry) (ms next : Memories) (from to : Pid) (s
     own = λ p d small h. ap (tells_holder d p) (s.same p) ∙ k.own p d small h;
     known_processes = λ p d q small h. k.known_processes p d q small (sym (ap (tells_holder d q) (s.same p)) ∙ h);
     holders_hold = λ p d q small h. k.holders_hold p d q small (sym (ap (tells_holder d q) (s.same p)) ∙ h);
-    named_hold = λ p x d q small keeps names. elim (s.kept p x keeps) [
-      | inl old ↦ k.named_hold p x d q small old names
-      | inr new ↦ k.holders_hold from.0 d q s.process (s.named d q (sym (ap (λ (y : Kept). item_holder d q y.batch) new.1) ∙ names))
-    ];
-    named_processes = λ p x d q small keeps names. elim (s.kept p x keeps) [
-      | inl old ↦ k.named_processes p x d q small old names
-      | inr new ↦ k.known_processes from.0 d q s.process (s.named d q (sym (ap (λ (y : Kept). item_holder d q y.batch) new.1) ∙ names))
-    ];
-    marks_true = λ p d small h. k.marks_true p d small (sym (ap (tells_stable d) (s.same p)) ∙ h);
-    dependents_hold = λ i p d small at dep. grind (
+    named_hold = λ p x d q small keeps names. grind (arith, s.kept p x keeps, s.named d q, k.named_hold p x d q small, k.holders_hold from.0 d q);
+    named_processes = λ p x d q small keeps names. grind (
       arith,
-      det_earlier (Send from to ssn) past i d refl at,
-      depends_old (Send from to ssn) past i p forward dep.up refl dep,
-      sent_depends,
+      s.kept p x keeps,
+      s.named d q,
+      k.named_processes p x d q small,
+      k.known_processes from.0 d q,
     );
+    marks_true = λ p d small h. k.marks_true p d small (sym (ap (tells_stable d) (s.same p)) ∙ h);
+    dependents_hold = λ i p d small at dep. grind (arith, det_earlier, depends_old, sent_depends);
     messages_carry = λ i p x d small at keeps r. covered i p x d small (det_earlier (Send from to ssn) past i d refl at) r (s.kept p x keeps);
     receivers_find = k.receivers_find;
-    senders_find = λ p x d small keeps carries. elim (s.kept p x keeps) [
-      | inl old ↦ k.senders_find p x d small old carries
-      | inr new ↦ or_left _ _ (subst (λ y. logs past y d ≡ true) new.0 (sym (k.logged from.0 d s.process) ∙ s.carried d (sym (ap (λ (y : Kept). has_item d y.batch) new.1) ∙ carries)))
-    ];
-    earlier = λ p x small keeps. elim (s.kept p x keeps) [
-      | inl old ↦ omega (arith, k.earlier p x small old)
-      | inr new ↦ omega (arith, (let e : x.send ≡ length past = ap (λ (y : Kept). y.send) new.1 ∙ s.place in e))
-    ];
+    senders_find = λ p x d small keeps carries. grind (arith, s.kept p x keeps, s.carried d, k.senders_find p x d small, k.logged from.0 d);
+    earlier = λ p x small keeps. grind (arith, s.kept p x keeps, k.earlier p x small, s.place);
     single_slots = k.single_slots;
     survivors_delivered = k.survivors_delivered;
   }

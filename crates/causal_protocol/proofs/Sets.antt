@@ -1,8 +1,8 @@
 -- Sets of processes as tests, and determinants that are spread.
 use Rattle.std.proofs.Common.{ℕ, ◌≡◌, ◌<◌, ◌≤◌, inl, inr, true, false, List, arith}
 use Rattle.std.specs.Prelude.{◌⊎◌}
-use Rattle.std.proofs.lemmas.Bool.{both_ways, or_cases, or_left, or_right, cases_Bool}
-use Rattle.causal_name.specs.Sets.{count_below, any_below, IsWithin}
+use Rattle.std.proofs.lemmas.Bool.{or_cases, or_left, or_right, cases_Bool}
+use Rattle.causal_name.specs.Sets.{count_below, IsWithin}
 use Rattle.causal_name.specs.declared.Det.{Det}
 use Rattle.causal_holders.proofs.Lemmas.MemberCounts.{count_below-within, any_below-found, any_below-from}
 use Rattle.causal_protocol.specs.Kept.{survives, finds, gone, IsSpread, IsTrueOf}
@@ -23,20 +23,7 @@ survives_stable n past d h = or_left _ _ h
 
 -- where at most f are down, what is spread survives
 pub spread_survives : (n f : ℕ) (past : List Entry) (d : Det) → count_below n (is_down past) ≤ f → IsSpread n f past d → survives n past d ≡ true
-spread_survives n f past d few (inl stable) = survives_stable n past d stable
-spread_survives n f past d few (inr many) =
-    elim (cases_Bool (any_below n (λ p. logs past p d))) [
-      | inl some ↦ or_right _ _ some
-      | inr none ↦ absurd (omega (
-        arith,
-        few,
-        many,
-        count_below-within n (gone past d) (is_down past) (λ p below h. elim (or_cases _ _ h) [
-          | inl down ↦ down
-          | inr held ↦ absurd (both_ways _ none (any_below-from n (λ q. logs past q d) p below held))
-        ]),
-      ))
-    ]
+spread_survives n f past d few spread = grind (arith, count_below-within, any_below-from n (λ q. logs past q d))
 
 -- what a process finds survives
 pub finds_survive : (n : ℕ) (past : List Entry) (p : ℕ) (d : Det) → p < n → finds past p d ≡ true → survives n past d ≡ true

@@ -1,11 +1,10 @@
 -- One more entry, with what it does to the memories, leaves a sound state.
-use Rattle.std.proofs.Common.{ℕ, ◌≡◌, ◌<◌, inl, inr, Bool, true, false, not, ◌&&◌, ◌||◌, List, ◌∷◌, length, slice_get, slice_set, Some, None, is_none, refl, sym, ap, subst, ◌∙◌, arith}
+use Rattle.std.proofs.Common.{ℕ, ◌≡◌, ◌<◌, inl, inr, Bool, true, false, not, ◌&&◌, ◌||◌, List, ◌∷◌, length, slice_get, slice_set, Some, None, is_none, refl, sym, ap, subst, ◌∙◌, arith, ◌+◌, ◌-◌, ◌≤◌, [], drop, add-one}
 use Rattle.std.specs.Prelude.{◌==◌, ◌⊎◌}
-use Rattle.std.specs.Cmp.{both_ways as same_answer}
 use Rattle.std.specs.Option.{option_map, option_and_then}
 use Rattle.std.specs.FinMap as fin
 use Rattle.std.specs.FinSet as set
-use Rattle.std.proofs.lemmas.Bool.{both_ways, and_parts, eqb-true, eq-eqb}
+use Rattle.std.proofs.lemmas.Bool.{both_ways, and_parts, eqb-true, eq-eqb, cases_Bool}
 use Rattle.causal_name.specs.declared.Pid.{Pid}
 use Rattle.causal_name.specs.declared.MsgName.{MsgName}
 use Rattle.causal_name.specs.declared.Det.{Det}
@@ -13,14 +12,14 @@ use Rattle.causal_name.specs.Names.{same_det, message_of}
 use Rattle.causal_name.specs.Sets.{count_below}
 use Rattle.causal_trace.specs.declared.entry.Entry.{Entry}
 use Rattle.causal_trace.specs.declared.entry.Entry.TheVariants.{Send, Deliver, Stable, Crash, Restart, Forget}
-use Rattle.causal_trace.specs.Past.{has, is_down, entry_at, message_sent, message_at, det_from}
+use Rattle.causal_trace.specs.Past.{has, is_down, entry_at, message_sent, message_at, det_from, instant, logs, is_stable}
 use Rattle.causal_trace.specs.Dependence.{AreForward, is_delivery_of}
-use Rattle.causal_holders.proofs.Lemmas.MemberCounts.{len_counted}
+use Rattle.causal_holders.proofs.Lemmas.MemberCounts.{len_counted, count_below-within}
 use Rattle.causal_log.specs.Logs.{LogMap, known_of, chosen, marked}
 use Rattle.causal_protocol.specs.Memory.{Kept, Memory, Memories, at, changed, fresh, with_sent, with_received, with_log, gained}
 use Rattle.causal_protocol.specs.Gathering.{stable_set, gathered_log, without}
 use Rattle.causal_protocol.specs.Sight.{log_at, messages, has_entry, tells_holder, tells_stable, has_logged, marks, has_item}
-use Rattle.causal_protocol.specs.Kept.{survives, finds}
+use Rattle.causal_protocol.specs.Kept.{survives, finds, IsSpread, Keeping}
 use Rattle.causal_protocol.specs.Runs.{Matches, IsSound}
 use Rattle.causal_protocol.proofs.Places.{set_cases, changed_cases, changed_state, set_state, length_set, kept_more, log_here, log_none, grown, shrunk, log_changed}
 use Rattle.causal_protocol.proofs.LearnedLogs
@@ -32,7 +31,43 @@ use Rattle.causal_protocol.proofs.CrashKeeps.{IsCrashed, keeps_crash}
 use Rattle.causal_protocol.proofs.RestartKeeps.{IsRestarted, keeps_restart}
 use Rattle.causal_protocol.proofs.ForgetKeeps.{IsForgotten, keeps_forget}
 use Rattle.causal_protocol.proofs.DeliveryKeeps.{message_below, IsDelivered, keeps_delivery}
-use Rattle.causal_protocol.proofs.Safety.{next_sound}
+use Rattle.std.proofs.lemmas.Bool.Decides.{eqb_tells}
+use Rattle.causal_trace.specs.Judgement.{IsCrashSet, IsSafe, IsSafeTrace}
+
+-- what is spread has no orphan
+spread_kept : (n f : ℕ) (past : List Entry) (d : Det) (crash : ℕ → Bool) → IsSpread n f past d → IsCrashSet n f past crash → is_stable past d ≡ false → ((q : ℕ) → q < n → crash q ≡ false → logs past q d ≡ false) → ⊥
+spread_kept n f past d crash a may unstable lost = grind (arith, count_below-within, cases_Bool)
+
+pub kept_safe : (n f : ℕ) (past : List Entry) (ms : Memories) → Keeping n f past ms → IsSafe n f past
+kept_safe n f past ms k = record {
+  few_down = k.few_down;
+  no_orphan = λ i h. grind (
+    arith,
+    k.dependents_hold i h.orphan h.is_orphan.det,
+    h.is_orphan.lost h.orphan,
+    spread_kept n f past h.is_orphan.det h.crash,
+  );
+}
+
+-- one more entry leaves the instants that there were, and makes one more
+instants_stay : (e : Entry) (past : List Entry) (t : ℕ) → t ≤ length past → instant (e ∷ past) t ≡ instant past t
+instants_stay e past t within = grind (arith, add-one)
+
+last_instant : (past : List Entry) (t : ℕ) → t ≡ length past → instant past t ≡ past
+last_instant past t whole = ap (λ n. drop n past) (let none : length past - t ≡ 0 = omega (arith, whole) in none)
+
+-- what is kept by one more entry, which made a sound state, is a sound state
+pub next_sound : (n f : ℕ) (e : Entry) (past : List Entry) (ms next : Memories) → IsSound n f past ms → AreForward (e ∷ past) → Keeping n f (e ∷ past) next → Matches n (e ∷ past) next → IsSound n f (e ∷ past) next
+next_sound n f e past ms next s forward facts fit = record {
+  facts = facts;
+  fit = fit;
+  forward = forward;
+  safe = λ t within. grind (arith, eqb_tells t (length past + 1), last_instant, kept_safe n f (e ∷ past) next facts, instants_stay);
+}
+
+-- what is kept makes a run safe in which nothing has happened
+pub first_safe : (n f : ℕ) (ms : Memories) → Keeping n f [] ms → IsSafeTrace (record { processes = n; past = [] }) f
+first_safe n f ms k t within = subst (λ x. IsSafe n f x) (sym (last_instant [] t (omega (arith, within)))) (kept_safe n f [] ms k)
 
 -- the message at a position stays, and the newest entry's is at the newest one
 message_older : (e : Entry) (past : List Entry) (send : ℕ) (x : MsgName) → message_at past send ≡ Some x → message_at (e ∷ past) send ≡ Some x
@@ -65,14 +100,7 @@ module _ (n f : ℕ) (past : List Entry) (ms : Memories) (from to : Pid) (m : Me
   there = log_here ms from.0 m here
 
   sent_kept : (p ssn : ℕ) (k : Kept) → slice_get (messages sent_memories p) ssn ≡ Some k → (slice_get (messages ms p) ssn ≡ Some k) ⊎ ((from.0 ≡ p) × (ssn ≡ length m.sent) × (k ≡ new_message))
-  sent_kept p ssn k h =
-      elim (changed_cases sent_to ms from.0 m here p) [
-        | inl is ↦ elim (kept_more m.sent new_message k ssn (ap (λ xs. slice_get xs ssn) (sym is.3) ∙ h)) [
-          | inl old ↦ inl (ap (λ xs. slice_get xs ssn) is.5 ∙ old)
-          | inr new ↦ inr (is.1, new.0, new.1)
-        ]
-        | inr other ↦ inl (ap (λ xs. slice_get xs ssn) (sym other.2) ∙ h)
-      ]
+  sent_kept p ssn k h = grind (arith, changed_cases sent_to ms from.0 m here p, kept_more)
 
   is_sent : IsSent n f past from.0 ms sent_memories new_message
   is_sent = record {
@@ -121,11 +149,7 @@ module _ (n f : ℕ) (past : List Entry) (ms : Memories) (to : Pid) (rsn : ℕ) 
   was_sent = s.fit.placed asked.source.0 asked.ssn k found
 
   received_kept : (p ssn : ℕ) (x : Kept) → slice_get (messages received_memories p) ssn ≡ Some x → slice_get (messages ms p) ssn ≡ Some x
-  received_kept p ssn x h =
-      elim (changed_cases receiving ms to.0 m here p) [
-        | inl is ↦ ap (λ xs. slice_get xs ssn) (is.5 ∙ sym is.3) ∙ h
-        | inr other ↦ ap (λ xs. slice_get xs ssn) (sym other.2) ∙ h
-      ]
+  received_kept p ssn x h = grind (arith, changed_cases receiving ms to.0 m here p)
 
   is_delivered : IsDelivered n past to k.send rsn listed ms received_memories
   is_delivered = record {
@@ -141,22 +165,10 @@ module _ (n f : ℕ) (past : List Entry) (ms : Memories) (to : Pid) (rsn : ℕ) 
     lists = lists;
     has_as = λ p d. ap (has_entry d) (log_changed receiving ms to.0 m here p)
         ∙ grown ms to.0 p (has_entry d) (gained k.batch own m.log) (has listed d) (LearnedLogs.gained_entry k.batch own m.log d ∙ (λ i. has_entry d (sym (log_here ms to.0 m here) i) || sym (lists d) i));
-    heard = λ p d q h. elim (changed_cases receiving ms to.0 m here p) [
-      | inl is ↦ elim (LearnedLogs.gained_holder k.batch own m.log d q (ap (tells_holder d q) (sym is.2) ∙ h)) [
-        | inl old ↦ inl (ap (tells_holder d q) is.4 ∙ old)
-        | inr new ↦ inr new
-      ]
-      | inr other ↦ inl (ap (tells_holder d q) (sym other.1) ∙ h)
-    ];
+    heard = λ p d q h. grind (arith, changed_cases receiving ms to.0 m here p, LearnedLogs.gained_holder);
     own = λ d h. grind (arith, changed_cases, LearnedLogs.gained_new, both_ways, eq-eqb to.0 to.0 refl);
-    before = λ p d q h. elim (changed_cases receiving ms to.0 m here p) [
-      | inl is ↦ ap (tells_holder d q) is.2 ∙ LearnedLogs.gained_old k.batch own m.log d q (ap (tells_holder d q) (sym is.4) ∙ h)
-      | inr other ↦ ap (tells_holder d q) other.1 ∙ h
-    ];
-    marked = λ p d h. elim (changed_cases receiving ms to.0 m here p) [
-      | inl is ↦ ap (tells_stable d) is.4 ∙ LearnedLogs.gained_stable k.batch own m.log d (ap (tells_stable d) (sym is.2) ∙ h)
-      | inr other ↦ ap (tells_stable d) (sym other.1) ∙ h
-    ];
+    before = λ p d q h. grind (arith, changed_cases receiving ms to.0 m here p, LearnedLogs.gained_old);
+    marked = λ p d h. grind (arith, changed_cases receiving ms to.0 m here p, LearnedLogs.gained_stable);
     kept = λ p x keeps. (keeps.0, received_kept p keeps.0 x keeps.1);
   }
 
@@ -191,18 +203,9 @@ module _ (n f : ℕ) (past : List Entry) (ms : Memories) (p : Pid) (m : Memory) 
     process = p.0;
     below = low;
     logged = logged;
-    has_as = λ x d. elim (changed_cases (with_log marking) ms p.0 m here x) [
-      | inl is ↦ ap (has_entry d) is.2 ∙ Choices.marked_entry m.log det d ∙ ap (has_entry d) (sym is.4)
-      | inr other ↦ ap (has_entry d) other.1
-    ];
-    holds_as = λ x d q. elim (changed_cases (with_log marking) ms p.0 m here x) [
-      | inl is ↦ ap (tells_holder d q) is.2 ∙ Choices.marked_holder m.log det d q ∙ ap (tells_holder d q) (sym is.4)
-      | inr other ↦ ap (tells_holder d q) other.1
-    ];
-    marked = λ x d h. elim (changed_cases (with_log marking) ms p.0 m here x) [
-      | inl is ↦ elim (Choices.marked_mark m.log det d (ap (tells_stable d) (sym is.2) ∙ h)) [ inl same ↦ inl same | inr old ↦ inr (ap (tells_stable d) is.4 ∙ old) ]
-      | inr other ↦ inr (ap (tells_stable d) (sym other.1) ∙ h)
-    ];
+    has_as = λ x d. grind (arith, changed_cases (with_log marking) ms p.0 m here x, Choices.marked_entry m.log det d);
+    holds_as = λ x d q. grind (arith, changed_cases (with_log marking) ms p.0 m here x, Choices.marked_holder m.log det d q);
+    marked = λ x d h. grind (arith, changed_cases (with_log marking) ms p.0 m here x, Choices.marked_mark);
     kept = λ x k keeps. (keeps.0, log_kept n past ms p.0 m marking here s.fit x keeps.0 k keeps.1);
   }
 
@@ -274,21 +277,17 @@ module _ (n f : ℕ) (past : List Entry) (ms : Memories) (who : Pid) (s : IsSoun
 
   -- a restart gathers just what survives
   pub gathered_survivors : (d : Det) → has_entry d (gathered_log ms (stable_set past) who) ≡ survives n past d
-  gathered_survivors d = same_answer _ _ forth back
-    where
-      forth : has_entry d (gathered_log ms (stable_set past) who) ≡ true → survives n past d ≡ true
-      forth h =
-          elim (LearnedLogs.gathered_found ms (stable_set past) who d h) [
-            | inl stored ↦ survives_stable n past d (sym (Choices.stable_has past d) ∙ stored)
-            | inr some ↦ survives_log n past some.0 d (under some.0 some.1) (sym (s.facts.logged some.0 d (under some.0 some.1)) ∙ some.2)
-          ]
-
-      back : survives n past d ≡ true → has_entry d (gathered_log ms (stable_set past) who) ≡ true
-      back h =
-          elim (survives_found n past d h) [
-            | inl stable ↦ LearnedLogs.gathered_stored ms (stable_set past) who d (Choices.stable_has past d ∙ stable)
-            | inr held ↦ LearnedLogs.gathered_logged ms (stable_set past) who d held.0 (s.facts.logged held.0 d held.1 ∙ held.2)
-          ]
+  gathered_survivors d = grind (
+    arith,
+    LearnedLogs.gathered_found ms (stable_set past) who d,
+    survives_stable n past d,
+    Choices.stable_has past d,
+    survives_log n past,
+    under,
+    survives_found n past d,
+    LearnedLogs.gathered_stored ms (stable_set past) who d,
+    LearnedLogs.gathered_logged ms (stable_set past) who d,
+  )
 
 -- a restart
 module _ (n f : ℕ) (past : List Entry) (ms : Memories) (who : Pid) (listed : List Det) (low : who.0 < n) (down : at ms who.0 ≡ None) (lists : (d : Det) → has listed d ≡ has_entry d (gathered_log ms (stable_set past) who)) (s : IsSound n f past ms) where
@@ -308,11 +307,7 @@ module _ (n f : ℕ) (past : List Entry) (ms : Memories) (who : Pid) (listed : L
   nothing_there tells lacks p is = ap tells (log_none ms p (ap (at ms) (sym is) ∙ down)) ∙ lacks
 
   restarted_kept : (p ssn : ℕ) (x : Kept) → slice_get (messages restarted p) ssn ≡ Some x → slice_get (messages ms p) ssn ≡ Some x
-  restarted_kept p ssn x h =
-      elim (set_cases ms who.0 (Some (fresh gathered)) p bound) [
-        | inl is ↦ absurd (let e : None ≡ Some x = ap (λ xs. slice_get xs ssn) (sym is.3) ∙ h in cc)
-        | inr other ↦ ap (λ xs. slice_get xs ssn) (sym other.2) ∙ h
-      ]
+  restarted_kept p ssn x h = grind (arith, set_cases ms who.0 (Some (fresh gathered)) p bound, bound)
 
   is_restarted : IsRestarted n past who.0 listed ms restarted
   is_restarted = record {
@@ -323,14 +318,7 @@ module _ (n f : ℕ) (past : List Entry) (ms : Memories) (who : Pid) (listed : L
       | inr other ↦ ap (has_entry d) other.1 ∙ (λ i. (sym other.0 i && has listed d) || has_logged ms p d)
     ];
     heard = λ p d q h. grind (arith, set_cases, bound, LearnedLogs.gathered_holder, under);
-    own = λ d h. grind (
-      arith,
-      set_cases,
-      bound,
-      LearnedLogs.gathered_itself ms (stable_set past) who d (sym (lists d) ∙ h),
-      both_ways,
-      eq-eqb who.0 who.0 refl,
-    );
+    own = λ d h. grind (arith, set_cases, bound, LearnedLogs.gathered_itself);
     before = λ p d q away h. grind (arith, set_cases, bound, both_ways);
     marked = λ p d h. grind (arith, set_cases, bound, LearnedLogs.gathered_mark, Choices.stable_has past d, under);
     kept = λ p x keeps. (keeps.0, restarted_kept p keeps.0 x keeps.1);

@@ -51,14 +51,7 @@ module _ (n f : ℕ) (past : List Entry) (ms next : Memories) (det : Det) (s : I
         true_stays n past (Stable det ∷ past) d q (k.named_processes p x d q small (s.kept p x keeps) names) (stays d) (k.named_hold p x d q small (s.kept p x keeps) names);
     named_processes = λ p x d q small keeps names. k.named_processes p x d q small (s.kept p x keeps) names;
     marks_true = λ p d small h. grind arith;
-    dependents_hold = λ i p d small at dep. grind (
-      arith,
-      det_earlier (Stable det) past i d refl at,
-      depends_old (Stable det) past i p forward dep.up refl dep,
-      spread_stays,
-      stays d,
-      no_actor,
-    );
+    dependents_hold = λ i p d small at dep. grind (arith, det_earlier, depends_old, spread_stays, stays, no_actor);
     messages_carry = λ i p x d small at keeps r. grind (
       arith,
       det_earlier (Stable det) past i d refl at,

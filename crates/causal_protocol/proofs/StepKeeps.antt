@@ -1,10 +1,10 @@
 -- Each legal step keeps what a run keeps.
-use Rattle.std.proofs.Common.{ℕ, zero, suc, ◌≡◌, ◌+◌, ◌<◌, inl, inr, true, not, ◌&&◌, ◌||◌, nat_lt, nat_le, List, [], ◌∷◌, ◌++◌, length, map, take, drop, replicate, slice_set, Option, Some, None, is_some, is_none, refl, sym, ap, subst, ◌∙◌, arith}
+use Rattle.std.proofs.Common.{ℕ, zero, suc, ◌≡◌, ◌+◌, ◌<◌, inl, inr, true, not, ◌&&◌, ◌||◌, nat_lt, List, [], ◌∷◌, ◌++◌, length, map, take, drop, replicate, slice_set, Option, Some, None, is_some, is_none, refl, sym, ap, subst, ◌∙◌, arith}
 use Rattle.std.specs.Prelude.{◌==◌}
 use Rattle.std.specs.List.{filter_map}
 use Rattle.std.specs.Option.{option_map, option_map_or}
 use Rattle.std.specs.FinMap as fin
-use Rattle.std.proofs.lemmas.Bool.{false≢true, or_cases, or_left, or_right, and_parts, cond-true, cond-false, ltb-true, leb-false}
+use Rattle.std.proofs.lemmas.Bool.{false≢true, or_cases, or_left, or_right, and_parts, cond-true, cond-false, ltb-true}
 use Rattle.std.proofs.lemmas.Bool.Decides.{eqb_tells}
 use Rattle.causal_name.specs.declared.Pid.{Pid}
 use Rattle.causal_name.specs.declared.MsgName.{MsgName}
@@ -25,15 +25,15 @@ use Rattle.causal_protocol.specs.Memory.{Kept, Memory, Memories, at, changed, fr
 use Rattle.causal_protocol.specs.Gathering.{stable_set, gathered_log}
 use Rattle.causal_protocol.specs.Run.{Run, receive, memories, memories_of, stable_of}
 use Rattle.causal_protocol.specs.Naming.{name, named_for, kept_for, send_of, next_rsn, next_ssn, own_det, listed_for}
-use Rattle.causal_protocol.specs.Refusals.{when, unless, rows, first_fault, gathered, unwritten, forgettable, count_down}
+use Rattle.causal_protocol.specs.Refusals.{when, unless, rows, first_fault, gathered, unwritten, forgettable}
 use Rattle.causal_protocol.specs.Steps.{pushed, extended, receiver_of, sends_of, AreSends, delivery_of, forget_entries, LegalStep, flush_reason_of, IsPart}
 use Rattle.causal_protocol.specs.Sight.{tells_stable, has_logged, marks, has_item}
 use Rattle.causal_protocol.specs.Kept.{finds}
-use Rattle.causal_protocol.specs.Runs.{IsSound, IsRun, StepsKeepRuns, RefusalsChangeNothing}
+use Rattle.causal_protocol.specs.Runs.{IsSound, IsRun, StepsKeepRuns, RefusalsChangeNothing, Of, After}
 use Rattle.causal_protocol.proofs.Places.{at_set, at_within, log_here}
 use Rattle.causal_protocol.proofs.LearnedLogs.{keys_have}
 use Rattle.causal_protocol.proofs.Choices.{own_have, items_have, unstable_logged, stable_have, marked_entry}
-use Rattle.causal_protocol.proofs.Refusals.{first_none, when_none, not_not, is_there, is_missing, kept_for-is, kept_message, only_named, down_counted}
+use Rattle.causal_protocol.proofs.Refusals.{first_none, when_none, not_not, is_there, kept_for-is, kept_message, only_named, down_counted}
 use Rattle.causal_protocol.proofs.SoundSteps.{send_sound, was_sent, delivery_sound, stable_sound, forget_sound, crash_sound, restart_sound}
 
 -- what a state keeps, with the memories that the run makes
@@ -144,21 +144,13 @@ module _ (r : Run) (s : IsRun r) where
 
   crashes : (p : Pid) (appended : List Entry) → first_fault r (Ask.Crash p) ≡ None → appended ≡ Crash p ∷ [] → IsRun (extended r (Ask.Crash p) appended)
   unfolding rows memories
-  crashes p appended none is =
-      let row1 = first_none (when (not (nat_lt p.0 n)) Why.NoProcess) _ none in
-      let row2 = first_none (when (is_none (at ms p.0)) Why.Down) _ row1.1 in
-      let row3 = first_none (when (nat_le r.faults (count_down r)) Why.OverFaults) _ row2.1 in
-      let low = ltb-true p.0 n (not_not _ (when_none _ Why.NoProcess row1.0)) in
-      let few : count_down r < r.faults = leb-false r.faults (count_down r) (when_none _ Why.OverFaults row3.0) in
-      subst (λ es. IsKept n r.faults r.writers (pushed es past)) (sym is) (crash_sound n r.faults past ms p low (subst (λ x. x < r.faults) (down_counted n past ms s.fit.count s.fit.state) few) s)
+  crashes p appended none is = grind (arith, crash_sound n r.faults past ms p, down_counted n past ms s.fit.count s.fit.state)
 
   restarts_kept : (p : Pid) (number : ℕ) (appended : List Entry) → first_fault r (Ask.Restart p) ≡ None → appended ≡ Restart p (gathered r p) ∷ drop 1 appended → AreSends n p 0 number (drop 1 appended) → IsRun (extended r (Ask.Restart p) appended)
   unfolding rows memories
   restarts_kept p number appended none is sends =
-      let row1 = first_none (when (not (nat_lt p.0 n)) Why.NoProcess) _ none in
-      let row2 = first_none (when (is_some (at ms p.0)) Why.NotDown) _ row1.1 in
-      let low = ltb-true p.0 n (not_not _ (when_none _ Why.NoProcess row1.0)) in
-      let down = is_missing (at ms p.0) (when_none _ Why.NotDown row2.0) in
+      let low : p.0 < n = grind arith in
+      let down : at ms p.0 ≡ None = grind arith in
       let bound : p.0 < length ms = omega (arith, low, s.fit.count) in
       let next : IsKept n r.faults r.writers (Restart p (gathered r p) ∷ past) = restart_sound n r.faults past ms p (gathered r p) low down (λ d. keys_have (gathered_log ms (stable_set past) p) d) s in
       let there : at (memories n r.faults r.writers (Restart p (gathered r p) ∷ past)) p.0 ≡ Some (fresh (gathered_log ms (stable_set past) p)) = set_here ms p.0 (Some (fresh (gathered_log ms (stable_set past) p))) bound in
@@ -226,3 +218,7 @@ steps_keep_runs old new request reply step s = subst IsRun (sym step.grown) (leg
 pub refusals_change_nothing : RefusalsChangeNothing
 unfolding LegalStep
 refusals_change_nothing old new request fault step = grind arith
+
+-- a fact of all runs holds after each legal step
+pub after : (IsAsked : Request → Type 0) (Fact : ℕ → ℕ → List Entry → Memories → Type 0) → ((r : Run) → IsRun r → Of Fact r) → After IsAsked Fact
+after IsAsked Fact from old new request reply asked step s = from new (steps_keep_runs old new request reply step s)

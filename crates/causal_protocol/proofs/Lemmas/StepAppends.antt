@@ -83,8 +83,4 @@ length-pushed (e ∷ es) past = let rest = length-pushed es (e ∷ past) in omeg
 
 -- each reply tells by how many entries the run grew
 pub replies_tell_entries : RepliesTellEntries
-replies_tell_entries old new request reply step = grind (
-  arith,
-  told_entries-is old request reply step.appended step.legal,
-  length-pushed step.appended old.recording.past,
-)
+replies_tell_entries old new request reply step = grind (arith, told_entries-is, length-pushed)
