@@ -7,7 +7,7 @@ use Rattle.causal_name.specs.Sets.{count_below}
 use Rattle.causal_name.specs.declared.Det.{Det}
 use Rattle.causal_name.specs.declared.Pid.{Pid}
 use Rattle.causal_protocol.proofs.Sets.{survives_found, survives_log, survives_stable, finds_more, Stays, spread_stays, true_stays}
-use Rattle.causal_protocol.proofs.SendKeeps.{det_earlier, no_actor}
+use Rattle.causal_protocol.proofs.SendKeeps.{det_earlier}
 use Rattle.causal_holders.proofs.Lemmas.MemberCounts.{count_below-within}
 use Rattle.causal_protocol.specs.Memory.{Kept, Memories}
 use Rattle.causal_protocol.specs.Sight.{has_logged, knows, marks, Keeps}
@@ -70,12 +70,13 @@ module _ (n f : ℕ) (past : List Entry) (ms next : Memories) (who : Pid) (s : I
         true_stays n past (Crash who ∷ past) d q (k.named_processes p x d q small (s.kept p x keeps).1 names) (stays d) (k.named_hold p x d q small (s.kept p x keeps).1 names);
     named_processes = λ p x d q small keeps names. k.named_processes p x d q small (s.kept p x keeps).1 names;
     marks_true = λ p d small h. k.marks_true p d small (s.marked p d h);
-    dependents_hold = λ i p d small at dep.
-        let up = or_parts (who.0 == p) (is_down past p) dep.up in
-        elim (depends_old (Crash who) past i p forward up.1 refl dep) [
-          | inl old ↦ elim (k.dependents_hold i p d small (det_earlier (Crash who) past i d refl at) old) [ inl held ↦ inl (kept p d up.0 held) | inr spread ↦ inr (spread_stays n f past (Crash who ∷ past) d (stays d) spread) ]
-          | inr new ↦ absurd (no_actor p new.0)
-        ];
+    dependents_hold = λ i p d small at dep. grind (
+      arith,
+      depends_old (Crash who) past i p forward,
+      k.dependents_hold i p d small,
+      det_earlier (Crash who) past i d refl at,
+      spread_stays n f past (Crash who ∷ past) d (stays d),
+    );
     messages_carry = λ i p x d small at keeps r.
         elim (k.messages_carry i p x d small (det_earlier (Crash who) past i d refl at) (s.kept p x keeps).1 (reaches_old (Crash who) past i forward x.send (k.earlier p x small (s.kept p x keeps).1) r)) [
           | inl carried ↦ inl carried

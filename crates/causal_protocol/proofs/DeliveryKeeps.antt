@@ -88,6 +88,9 @@ module _ (n f : ℕ) (past : List Entry) (ms next : Memories) (to : Pid) (send r
   stays : (d : Det) → Stays n past (e ∷ past) d
   stays d = grind (arith, or_cases)
 
+  spreads : (d : Det) → IsSpread n f past d → IsSpread n f (e ∷ past) d
+  spreads d = spread_stays n f past (e ∷ past) d (stays d)
+
   -- what survives survived before, or is the new determinant
   pub left : (d : Det) → survives n (e ∷ past) d ≡ true → (d ≡ own) ⊎ (survives n past d ≡ true)
   left d h = grind (
@@ -124,27 +127,18 @@ module _ (n f : ℕ) (past : List Entry) (ms next : Memories) (to : Pid) (send r
         | inr (inr (inr mine)) ↦ (subst (λ x. x < n) (sym mine.1) s.process, subst (λ x. IsTrueOf (e ∷ past) d x) (sym mine.1) (inr (or_right _ _ (subst (λ x. logs (e ∷ past) to.0 x ≡ true) (sym mine.0) logs_own))))
       ]
 
+  old_depends : (i p : ℕ) (d : Det) → p < n → det_at (e ∷ past) i ≡ Some d → Depends past i p → (logs (e ∷ past) p d ≡ true) ⊎ IsSpread n f (e ∷ past) d
+  old_depends i p d small at old =
+      grind (arith, k.dependents_hold i p d small (det_older e past i d (reaches_begins past i old.event old.reached) at) old, spreads d)
+
   delivered_depends : (i p : ℕ) (d : Det) → p < n → det_at (e ∷ past) i ≡ Some d → is_down past p ≡ false → actor e ≡ Some p → ReachesNewest e past i p → (logs (e ∷ past) p d ≡ true) ⊎ IsSpread n f (e ∷ past) d
   delivered_depends i p d small at up who (is_newest is) = grind (arith, at_newest, own_det, logs_own)
   delivered_depends i p d small at up who (in_lane j event r) =
-      elim (k.dependents_hold i p d small (det_older e past i d (reaches_begins past i j r) at) (record { up = up; event = j; present = event; reached = r })) [
-        | inl held ↦ inl (or_right _ _ held)
-        | inr spread ↦ inr (spread_stays n f past (e ∷ past) d (stays d) spread)
-      ]
+      old_depends i p d small at (record { up = up; event = j; present = event; reached = r })
   delivered_depends i p d small at up who (through_message j is r) =
       let from_send : Reaches past i s.delivered.send = subst (λ x. Reaches past i x) (sym (s.place ∙ eqb-true send j is)) r in
-      let here : to.0 ≡ p = cc in
-      elim (k.messages_carry i source s.delivered d s.sender (det_older e past i d (reaches_begins past i j r) at) s.keeps from_send) [
-        | inl carried ↦ inl (subst (λ x. logs (e ∷ past) x d ≡ true) here (logs_carried d carried))
-        | inr spread ↦ inr (spread_stays n f past (e ∷ past) d (stays d) spread)
-      ]
-
-  old_depends : (i p : ℕ) (d : Det) → p < n → det_at (e ∷ past) i ≡ Some d → Depends past i p → (logs (e ∷ past) p d ≡ true) ⊎ IsSpread n f (e ∷ past) d
-  old_depends i p d small at old =
-      elim (k.dependents_hold i p d small (det_older e past i d (reaches_begins past i old.event old.reached) at) old) [
-        | inl held ↦ inl (or_right _ _ held)
-        | inr spread ↦ inr (spread_stays n f past (e ∷ past) d (stays d) spread)
-      ]
+      let before = det_older e past i d (reaches_begins past i j r) at in
+      grind (arith, k.messages_carry i source s.delivered d s.sender before s.keeps from_send, logs_carried, spreads d)
 
   -- an old determinant in the slot of the new one is the new one
   one_slot : (d : Det) → survives n past d ≡ true → d.dest ≡ to → d.rsn ≡ rsn → d ≡ own
@@ -177,10 +171,8 @@ module _ (n f : ℕ) (past : List Entry) (ms next : Memories) (to : Pid) (send r
     ];
     messages_carry = λ i p x d small at keeps r.
         let before = reaches_old e past i forward x.send (k.earlier p x small (s.kept p x keeps)) r in
-        elim (k.messages_carry i p x d small (det_older e past i d (reaches_begins past i x.send before) at) (s.kept p x keeps) before) [
-          | inl carried ↦ inl carried
-          | inr spread ↦ inr (spread_stays n f past (e ∷ past) d (stays d) spread)
-        ];
+        let older = det_older e past i d (reaches_begins past i x.send before) at in
+        grind (arith, k.messages_carry i p x d small older (s.kept p x keeps) before, spreads d);
     receivers_find = λ d below up h. homed d below up h;
     senders_find = λ p x d small keeps carries. finds_more past (e ∷ past) p d (λ held. or_right _ _ held) (λ stable. stable) (k.senders_find p x d small (s.kept p x keeps) carries);
     earlier = λ p x small keeps. omega (arith, k.earlier p x small (s.kept p x keeps));

@@ -1,14 +1,14 @@
 -- What it says that nothing stands against a request.
-use Rattle.std.proofs.Common.{ℕ, zero, suc, ◌≡◌, ◌+◌, ◌<◌, inl, inr, Bool, true, false, cond, not, List, [], ◌∷◌, length, slice_get, count_by, Option, Some, None, is_some, is_none, refl, sym, ap, ◌∙◌, arith}
-use Rattle.std.specs.Prelude.{◌==◌, ◌⊎◌, if◌then◌else◌}
+use Rattle.std.proofs.Common.{ℕ, zero, suc, ◌≡◌, ◌+◌, ◌<◌, Bool, true, false, cond, not, List, [], ◌∷◌, length, slice_get, count_by, Option, Some, None, is_some, is_none, refl, sym, ap, ◌∙◌, arith}
+use Rattle.std.specs.Prelude.{◌==◌, ◌⊎◌}
 use Rattle.std.specs.Option.{option_map, option_and_then}
 use Rattle.std.specs.FinMap as fin
-use Rattle.std.proofs.lemmas.Bool.{false≢true, and_parts, eqb-true}
+use Rattle.std.proofs.lemmas.Bool.{and_parts, eqb-true}
 use Rattle.std.proofs.lemmas.List.Sums.{sum_by-cons}
 use Rattle.causal_name.specs.declared.Pid.{Pid}
 use Rattle.causal_name.specs.declared.MsgName.{MsgName}
 use Rattle.causal_name.specs.declared.Det.{Det}
-use Rattle.causal_name.specs.Names.{same_pid, same_message, message_of, is_before}
+use Rattle.causal_name.specs.Names.{same_pid, same_message, message_of}
 use Rattle.causal_name.specs.Sets.{count_below}
 use Rattle.causal_trace.specs.declared.entry.Entry.{Entry}
 use Rattle.causal_trace.specs.Past.{has, is_down, logs, is_stable}
@@ -64,15 +64,7 @@ lesser_from : (a b : Option Det) (d : Det) → lesser a b ≡ Some d → (a ≡ 
 lesser_from a b d h = grind arith
 
 lesser_some : (a b : Option Det) → (is_some a ≡ true) ⊎ (is_some b ≡ true) → (d : Det) × (lesser a b ≡ Some d)
-lesser_some None None (inl h) = absurd (false≢true h)
-lesser_some None None (inr h) = absurd (false≢true h)
-lesser_some None (Some y) h = (y, refl)
-lesser_some (Some x) None h = (x, refl)
-lesser_some (Some x) (Some y) h = by (is_before y x)
-  where
-    by : (c : Bool) → (d : Det) × ((if c then Some y else Some x) ≡ Some d)
-    by true = (y, refl)
-    by false = (x, refl)
+lesser_some a b some = is_there (lesser a b) (grind arith)
 
 slot_is : (q : Pid) (rsn : ℕ) (d : Det) → is_of_slot q rsn d ≡ true → (d.dest ≡ q) × (d.rsn ≡ rsn)
 slot_is q rsn d h = grind (arith, and_parts (same_pid d.dest q) (d.rsn == rsn) h, eqb-true)

@@ -81,13 +81,7 @@ module _ (n f : ℕ) (past : List Entry) (ms next : Memories) (from to : Pid) (s
     known_processes = λ p d q small h. k.known_processes p d q small (sym (ap (tells_holder d q) (s.same p)) ∙ h);
     holders_hold = λ p d q small h. k.holders_hold p d q small (sym (ap (tells_holder d q) (s.same p)) ∙ h);
     named_hold = λ p x d q small keeps names. grind (arith, s.kept p x keeps, s.named d q, k.named_hold p x d q small, k.holders_hold from.0 d q);
-    named_processes = λ p x d q small keeps names. grind (
-      arith,
-      s.kept p x keeps,
-      s.named d q,
-      k.named_processes p x d q small,
-      k.known_processes from.0 d q,
-    );
+    named_processes = λ p x d q small keeps names. grind (arith, s.kept p x keeps, s.named d q, k.named_processes p x d q small);
     marks_true = λ p d small h. k.marks_true p d small (sym (ap (tells_stable d) (s.same p)) ∙ h);
     dependents_hold = λ i p d small at dep. grind (arith, det_earlier, depends_old, sent_depends);
     messages_carry = λ i p x d small at keeps r. covered i p x d small (det_earlier (Send from to ssn) past i d refl at) r (s.kept p x keeps);

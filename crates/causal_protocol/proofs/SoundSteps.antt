@@ -41,12 +41,7 @@ spread_kept n f past d crash a may unstable lost = grind (arith, count_below-wit
 pub kept_safe : (n f : ℕ) (past : List Entry) (ms : Memories) → Keeping n f past ms → IsSafe n f past
 kept_safe n f past ms k = record {
   few_down = k.few_down;
-  no_orphan = λ i h. grind (
-    arith,
-    k.dependents_hold i h.orphan h.is_orphan.det,
-    h.is_orphan.lost h.orphan,
-    spread_kept n f past h.is_orphan.det h.crash,
-  );
+  no_orphan = λ i h. grind (arith, h.is_orphan.lost h.orphan, spread_kept n f past h.is_orphan.det h.crash);
 }
 
 -- one more entry leaves the instants that there were, and makes one more
