@@ -4,7 +4,7 @@ use Rattle.std.proofs.lemmas.Option.{none-some, same_Some}
 use Rattle.std.proofs.lemmas.Slice.Eq.{bytes_eq-Decides}
 use Rattle.causal_name.specs.declared.Pid.{Pid}
 use Rattle.causal_protocol.specs.declared.request.Request.{Request}
-use Rattle.causal_protocol.specs.declared.request.Request.TheVariants.{Deliver, Crash, Restart, Flush, Forget}
+use Rattle.causal_protocol.specs.declared.request.Request.TheVariants.{Deliver}
 use Rattle.causal_script.specs.Spelling.{command_line, IsRequest}
 use Rattle.causal_script.specs.Faults.{IsCommandLine}
 use Rattle.causal_script.specs.Inside.Reading.{◌>>=◌, cut, number_of, process_of, delivery_of, of_process, named_request, request_of}
@@ -72,12 +72,7 @@ says_process make word name words line p r fits spells whole number named e = gr
 
 says_of_process : (name words line : List ℕ) (p : Pid) (r : Request) → line ≡ name ++ 32 ∷ words → words ≡ decimal p.0 → p.0 < 2 ^ 8 → of_process name p ≡ Some r → Says line r
 unfolding of_process
-says_of_process name words line p r whole number small e =
-    chosen name (codes "crash") _ _ r (λ named is. says_process Crash (codes "crash") name words line p r small refl whole number named is)
-    (chosen name (codes "restart") _ _ r (λ named is. says_process Restart (codes "restart") name words line p r small refl whole number named is)
-    (chosen name (codes "flush") _ _ r (λ named is. says_process Flush (codes "flush") name words line p r small refl whole number named is)
-    (chosen name (codes "forget") _ None r (λ named is. says_process Forget (codes "forget") name words line p r small refl whole number named is)
-    (λ no. absurd (none-some r no))))) e
+says_of_process name words line p r whole number small e = grind (arith, bytes_eq-Decides name)
 
 says_named : (name words line : List ℕ) (r : Request) → line ≡ name ++ 32 ∷ words → named_request name words ≡ Some r → Says line r
 unfolding named_request
@@ -106,11 +101,7 @@ process_back make p small = rw (process_of-decimal p small) refl
 -- the line of a command is read as its request
 pub request_back : (r : Request) → IsRequest r → request_of (command_line r) ≡ Some r
 unfolding request_of named_request of_process
-request_back (Deliver q source ssn) h = delivery_back q source ssn h.0 h.1 h.2
-request_back (Crash p) h = process_back Crash p h
-request_back (Restart p) h = process_back Restart p h
-request_back (Flush p) h = process_back Flush p h
-request_back (Forget p) h = process_back Forget p h
+request_back r h = grind (arith, delivery_back, process_of-decimal)
 
 -- ---- in place
 

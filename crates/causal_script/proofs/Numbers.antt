@@ -1,7 +1,6 @@
 -- A number and its word.
-use Rattle.std.proofs.Common.{◌≡◌, ◌≢◌, ◌⊎◌, ℕ, ◌<◌, ◌≤◌, ◌^◌, List, [], ◌∷◌, ◌++◌, length, get_or, Bool, true, false, cond, eqb, ltb, leb, Option, Some, None, Result, Ok, Err, refl, ap, sym, ◌∙◌, subst, arith, decimal}
+use Rattle.std.proofs.Common.{◌≡◌, ◌≢◌, ◌⊎◌, ℕ, ◌<◌, ◌≤◌, ◌^◌, List, [], ◌∷◌, ◌++◌, length, get_or, Bool, true, false, cond, leb, Option, Some, None, Result, Ok, Err, refl, ap, sym, ◌∙◌, subst, arith, decimal}
 use Rattle.std.specs.Prelude.{slice_get, ◌&&◌, nat_le}
-use Rattle.std.specs.Char.{is_ascii_digit}
 use Rattle.std.specs.Str.{all_ascii_digits}
 use Rattle.std.specs.Str.Parse.{digits_value, ParsesUnsigned}
 use Rattle.std.proofs.lemmas.Bool.{eqb-true, eq-eqb}
@@ -12,7 +11,7 @@ use Rattle.std.proofs.lemmas.Str.{IsUtf8-from_ascii}
 use Rattle.std.proofs.lemmas.Fmt.{IsAscii-decimal, digits_decimal, digits_value-decimal, decimal-digits_value, decimal_nonempty, first_decimal, decimal_digit}
 use Rattle.std.proofs.lemmas.Option.{none-some, same_Some}
 use Rattle.causal_name.specs.declared.Pid.{Pid}
-use Rattle.causal_script.specs.Inside.Reading.{cut, is_plain, number_of, process_of, count_of, ◌>>=◌}
+use Rattle.causal_script.specs.Inside.Reading.{cut, is_plain, number_of, process_of, count_of}
 use Rattle.causal_script.proofs.Cuts.{Lacks, cut_front}
 
 -- digits spell the number that is their value
@@ -41,14 +40,7 @@ decimal_plain n small = grind (arith, digits_decimal own n small, own, decimal_n
 -- the word of a number is read as the number
 pub number_of-decimal : (limit n : ℕ) → n ≤ limit → n < 2 ^ 64 → number_of limit (decimal n) ≡ Some n
 unfolding number_of
-number_of-decimal limit n within small = grind (
-  arith,
-  is_plain-from (decimal n) (decimal_plain n small),
-  decimal_plain n small,
-  digits_value-decimal own n small,
-  own,
-  nat_tests,
-)
+number_of-decimal limit n within small = grind (arith, is_plain-from, decimal_plain, digits_value-decimal, own, nat_tests)
 
 -- what is read as a number is its word
 pub decimal-number_of : (limit n : ℕ) (word : List ℕ) → limit < 2 ^ 64 → number_of limit word ≡ Some n → (word ≡ decimal n) × (n ≤ limit)
@@ -67,12 +59,9 @@ decimal-number_of limit n word small e = by_test (is_plain word && leb (digits_v
 -- a number in decimal has no space
 pub decimal_lacks : (n : ℕ) → n < 2 ^ 64 → Lacks 32 (decimal n)
 decimal_lacks n small = from (decimal n) (digits_decimal own n small) where
-  digit : (x : ℕ) → is_ascii_digit x ≡ true → eqb x 32 ≡ false
-  digit x h = grind (arith, nat_tests)
-
   from : (xs : List ℕ) → all_ascii_digits xs ≡ true → Lacks 32 xs
   from [] h = tt
-  from (x ∷ xs) h = let parts = both (is_ascii_digit x) (all_ascii_digits xs) h in (digit x parts.0, from xs parts.1)
+  from (x ∷ xs) h = grind (arith, nat_tests, from xs)
 
 -- words that begin with a number in decimal are cut behind it
 pub cut_number : (n : ℕ) (rest : List ℕ) → n < 2 ^ 64 → cut 32 (decimal n ++ (32 ∷ rest)) ≡ Some (decimal n, rest)
@@ -88,14 +77,7 @@ process_of-decimal p small = rw (number_of-decimal 255 p.0 (omega arith) (omega 
 -- a word that is read as a process is its number in decimal
 pub decimal-process_of : (p : Pid) (word : List ℕ) → process_of word ≡ Some p → (word ≡ decimal p.0) × (p.0 < 2 ^ 8)
 unfolding process_of
-decimal-process_of p word e = by_cases (number_of 255 word) refl e where
-  by_cases : (r : Option ℕ) → number_of 255 word ≡ r → (r >>= λ n. Some (record { 0 = n })) ≡ Some p → (word ≡ decimal p.0) × (p.0 < 2 ^ 8)
-  by_cases None s e = absurd (none-some p e)
-  by_cases (Some n) s e =
-      let same : ◌≡◌ {A = Pid} (record { 0 = n }) p = same_Some _ _ e in
-      let number : n ≡ p.0 = ap (λ (q : Pid). q.0) same in
-      let read = decimal-number_of 255 n word (omega arith) s in
-      (read.0 ∙ ap decimal number, omega (arith, read.1))
+decimal-process_of p word e = grind (arith, decimal-number_of 255 p.0 word)
 
 -- a count up to 256, in decimal, is read as that count
 pub count_of-decimal : (n : ℕ) → 1 ≤ n → n ≤ 256 → count_of (decimal n) ≡ Some n
@@ -105,18 +87,7 @@ count_of-decimal n some few = grind (arith, nat_tests, number_of-decimal)
 -- a word that is read as a count is that count in decimal
 pub decimal-count_of : (n : ℕ) (word : List ℕ) → count_of word ≡ Some n → (word ≡ decimal n) × (1 ≤ n) × (n ≤ 256)
 unfolding count_of
-decimal-count_of n word e = by_cases (number_of 256 word) refl e where
-  by_test : (m : ℕ) (b : Bool) → number_of 256 word ≡ Some m → ltb 0 m ≡ b → cond b (Some m) None ≡ Some n → (word ≡ decimal n) × (1 ≤ n) × (n ≤ 256)
-  by_test m true s t e =
-      let same : m ≡ n = same_Some _ _ e in
-      let read = decimal-number_of 256 m word (omega arith) s in
-      let some : 0 < m = grind (arith, nat_tests) in
-      (read.0 ∙ ap decimal same, omega arith, omega (arith, read.1))
-  by_test m false s t e = absurd (none-some n e)
-
-  by_cases : (r : Option ℕ) → number_of 256 word ≡ r → (r >>= λ m. cond (ltb 0 m) (Some m) None) ≡ Some n → (word ≡ decimal n) × (1 ≤ n) × (n ≤ 256)
-  by_cases None s e = absurd (none-some n e)
-  by_cases (Some m) s e = by_test m (ltb 0 m) s refl e
+decimal-count_of n word e = grind (arith, decimal-number_of 256 n word, nat_tests)
 
 -- ---- what `parse` answers
 
@@ -133,17 +104,10 @@ parsed : {E : Type 0} (limit : ℕ) (word : List ℕ) (r : Result ℕ E) → lim
 unfolding number_of
 parsed {E} limit word r small some sign lone parses = by_cases r (parse_plain own 32 word r parses sign) where
   spelled : (n : ℕ) → number_of limit word ≡ Some n → (all_ascii_digits word ≡ true) × (0 < length word) × (digits_value 10 word < 2 ^ 32) × (digits_value 10 word ≡ n) × (n ≤ limit)
-  spelled n e =
-      let d = decimal-number_of limit n word (omega arith) e in
-      let value : digits_value 10 (decimal n) ≡ n = digits_value-decimal own n (omega (arith, d.1)) in
-      let same : digits_value 10 word ≡ n = ap (digits_value 10) d.0 ∙ value in
-      let digits : all_ascii_digits (decimal n) ≡ true = digits_decimal own n (omega (arith, d.1)) in
-      (ap all_ascii_digits d.0 ∙ digits, some, omega (arith, d.1), same, d.1)
+  spelled n e = grind (arith, decimal-number_of limit n word, digits_value-decimal own n, digits_decimal own n)
 
   by_limit : (n : ℕ) → n ≡ digits_value 10 word → all_ascii_digits word ≡ true → (b : Bool) → leb n limit ≡ b → number_of limit word ≡ cond b (Some n) None
-  by_limit n value digits b t =
-      let plain : is_plain word ≡ true = is_plain-from word (record { digits = digits; some = some; lone = λ e. let one : length word ≤ 1 = lone e in omega arith }) in
-      rw (plain, sym value, t) refl
+  by_limit n value digits b t = grind (arith, is_plain-from word)
 
   by_cases : (o : Result ℕ E) → OkIff o ((all_ascii_digits word ≡ true) × (0 < length word) × (digits_value 10 word < 2 ^ 32)) (digits_value 10 word) → number_of limit word ≡ within limit o
   by_cases (Ok n) h = by_limit n h.1 h.0.0 (leb n limit) refl

@@ -18,13 +18,7 @@ length_map f (x ∷ xs) = ap suc (length_map f xs)
 -- a text that has been read to its end spells the start and the commands that were read
 pub spelled : (text first rest : List ℕ) (s : Start) (commands : List Command) (line : ℕ) → lines text ≡ first ∷ lines rest → IsStart s → first ≡ start_line s
     → AreCommands rest commands [] → AreOnLines text commands line [] → Spells text (record { start = s; commands = commands })
-spelled text first rest s commands line split start is read r = grind (
-  arith,
-  append-nil,
-  whole_within text line r.after,
-  length_map,
-  length_lines text,
-)
+spelled text first rest s commands line split start is read r = grind (arith, append-nil, whole_within, length_map, length_lines)
 
 -- the first fault of an empty text is that its first line is no start
 pub empty_fault : (text : List ℕ) → text ≡ [] → IsFirstFault text (record { line = 1; kind = Script })

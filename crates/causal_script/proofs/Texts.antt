@@ -5,7 +5,7 @@ use Rattle.std.specs.List.{onto_first, AllByRecursion, range_with_len}
 use Rattle.std.proofs.Math.Seq.{take-length}
 use Rattle.std.proofs.lemmas.List.Sums.{sum_by-cons}
 use Rattle.std.proofs.lemmas.Bool.{eqb-true, eq-eqb, cases_lt}
-use Rattle.std.proofs.lemmas.Option.{none-some, same_Some, slice_get_within}
+use Rattle.std.proofs.lemmas.Option.{none-some, slice_get_within}
 use Rattle.std.proofs.lemmas.List.{map-append, append_assoc}
 use Rattle.causal_script.specs.declared.script.Command.{Command}
 use Rattle.causal_script.specs.declared.script.ScriptFault.{ScriptFault}
@@ -29,29 +29,13 @@ drop_all (suc count) (k ∷ ls) h = drop_all count ls (omega arith)
 -- what stands before the first line feed is the first line, and the rest has the others
 pub lines_cut : (xs : List ℕ) (parts : List ℕ × List ℕ) → cut 10 xs ≡ Some parts → lines xs ≡ parts.0 ∷ lines parts.1
 lines_cut [] parts e = absurd (none-some parts e)
-lines_cut (x ∷ xs) parts e = by_test (eqb x 10) refl (lines_cut xs) e where
-  later : (r : Option (List ℕ × List ℕ)) → eqb x 10 ≡ false → ((q : List ℕ × List ℕ) → r ≡ Some q → lines xs ≡ q.0 ∷ lines q.1) → option_map (λ q. (x ∷ q.0, q.1)) r ≡ Some parts → lines (x ∷ xs) ≡ parts.0 ∷ lines parts.1
-  later None t ih e = absurd (none-some parts e)
-  later (Some q) t ih e =
-      let same : (x ∷ q.0, q.1) ≡ parts = same_Some _ _ e in
-      let here : lines (x ∷ xs) ≡ (x ∷ q.0) ∷ lines q.1 = rw (t, ih q refl) refl in
-      subst (λ (p : List ℕ × List ℕ). lines (x ∷ xs) ≡ p.0 ∷ lines p.1) same here
-
-  by_test : (b : Bool) → eqb x 10 ≡ b → ((q : List ℕ × List ℕ) → cut 10 xs ≡ Some q → lines xs ≡ q.0 ∷ lines q.1) → cond b (Some ([], xs)) (option_map (λ q. (x ∷ q.0, q.1)) (cut 10 xs)) ≡ Some parts → lines (x ∷ xs) ≡ parts.0 ∷ lines parts.1
-  by_test true t ih e =
-      let same : ([], xs) ≡ parts = same_Some _ _ e in
-      let here : lines (x ∷ xs) ≡ [] ∷ lines xs = rw t refl in
-      subst (λ (p : List ℕ × List ℕ). lines (x ∷ xs) ≡ p.0 ∷ lines p.1) same here
-  by_test false t ih e = later (cut 10 xs) t ih e
+lines_cut (x ∷ xs) parts e = grind (arith, lines_cut xs)
 
 unmapped : (x : ℕ) (r : Option (List ℕ × List ℕ)) → option_map {T = List ℕ × List ℕ} {U = List ℕ × List ℕ} (λ q. (x ∷ q.0, q.1)) r ≡ None → r ≡ None
 unmapped x a e = grind (arith, none-some)
 
 no_feed : (x : ℕ) (xs : List ℕ) → cut 10 (x ∷ xs) ≡ None → (eqb x 10 ≡ false) × (cut 10 xs ≡ None)
-no_feed x xs e = by_test (eqb x 10) refl e where
-  by_test : (b : Bool) → eqb x 10 ≡ b → cond {A = Option (List ℕ × List ℕ)} b (Some ([], xs)) (option_map {T = List ℕ × List ℕ} {U = List ℕ × List ℕ} (λ q. (x ∷ q.0, q.1)) (cut 10 xs)) ≡ None → (eqb x 10 ≡ false) × (cut 10 xs ≡ None)
-  by_test true t e = absurd (none-some ([], xs) (sym e))
-  by_test false t e = (t, unmapped x (cut 10 xs) e)
+no_feed x xs e = grind arith
 
 lines_uncut : (x : ℕ) (xs : List ℕ) → cut 10 (x ∷ xs) ≡ None → lines (x ∷ xs) ≡ (x ∷ xs) ∷ []
 lines_uncut x [] e = let h = no_feed x [] e in rw h.0 refl
@@ -89,9 +73,8 @@ length_lines (x ∷ xs) = grind (arith, length_lines xs)
 
 -- the first of the lines that are left stands after those that were read
 pub line_here : {X : Type 0} (count : ℕ) (ls : List X) (l : X) (rest : List X) → drop count ls ≡ l ∷ rest → (slice_get ls count ≡ Some l) × (drop (suc count) ls ≡ rest)
-line_here zero [] l rest e = absurd (let no : [] ≡ l ∷ rest = e in cc)
+line_here zero ls l rest e = grind arith
 line_here (suc count) [] l rest e = absurd (let no : [] ≡ l ∷ rest = e in cc)
-line_here zero (k ∷ ls) l rest e = let all : k ∷ ls ≡ l ∷ rest = e in (cc, cc)
 line_here (suc count) (k ∷ ls) l rest e = line_here count ls l rest e
 
 -- where none are left, there are no more lines than were read
@@ -178,24 +161,16 @@ after_more text left l after count next big said x is a split bigs e place =
 
 -- no text has more lines without a fault
 pub count_small : (text left : List ℕ) (count : ℕ) → IsAfter text count left → count ≤ 1048576
-count_small text left count a = by_size (cases_lt max_script (length text)) where
-  by_lines : (feeds (take max_script text) < count) ⊎ (count ≤ feeds (take max_script text)) → max_script < length text → count ≤ 1048576
-  by_lines (inl lower) over = absurd (a.sound (feeds (take max_script text)) Big lower (over, refl))
-  by_lines (inr upper) over = omega (arith, feeds_take max_script text)
-
-  by_size : (max_script < length text) ⊎ (length text ≤ max_script) → count ≤ 1048576
-  by_size (inl over) = by_lines (cases_lt (feeds (take max_script text)) count) over
-  by_size (inr within) = omega (arith, a.within, length_lines text)
+count_small text left count a = grind (arith, feeds_take max_script text, length_lines text, a.sound (feeds (take max_script text)) Big)
 
 -- a text without a fault is within the limit
 pub whole_within : (text : List ℕ) (count : ℕ) → IsAfter text count [] → length text ≤ max_script
-whole_within text count a = by_size (cases_lt max_script (length text)) where
-  by_size : (max_script < length text) ⊎ (length text ≤ max_script) → length text ≤ max_script
-  by_size (inl over) =
-      let all : length (lines text) ≤ count = line_past count (lines text) a.rest in
-      let line : feeds (take max_script text) < length (lines text) = feeds_below max_script text over in
-      absurd (a.sound (feeds (take max_script text)) Big (omega arith) (over, refl))
-  by_size (inr within) = within
+whole_within text count a = grind (
+  arith,
+  line_past count (lines text) a.rest,
+  feeds_below max_script text,
+  a.sound (feeds (take max_script text)) Big,
+)
 
 -- ---- the commands so far
 

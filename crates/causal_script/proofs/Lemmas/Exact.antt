@@ -117,10 +117,7 @@ read_on text big (l ∷ ls) k bigs rest within sound = by_line (λ sounder. read
       })
 
   inside : suc (suc k) ≤ length (lines text)
-  inside = by_length (cases_lt (suc k) (length (lines text))) where
-    by_length : (suc k < length (lines text)) ⊎ (length (lines text) ≤ suc k) → suc (suc k) ≤ length (lines text)
-    by_length (inl lower) = omega arith
-    by_length (inr upper) = absurd (let no : l ∷ ls ≡ [] = sym rest ∙ drop_all (suc k) (lines text) upper in cc)
+  inside = grind (arith, drop_all (suc k) (lines text))
 
   by_line : (AreSound text (suc (suc k)) → AreRead text ls (suc (suc k)) ⊎ ((f : ScriptFault) × IsFirstFault text f)) → (r : Result Request ScriptFault) → judged big (suc k + 1) (request_of l) ≡ r → AreRead text (l ∷ ls) (suc k) ⊎ ((f : ScriptFault) × IsFirstFault text f)
   by_line again (Err f) e = inr (f, first_fault text l (suc k) big (request_of l) f bigs sound here.0 (λ none place. not_commanded l none place) e)
@@ -135,7 +132,7 @@ read_on text big (l ∷ ls) k bigs rest within sound = by_line (λ sounder. read
 whole : (text l : List ℕ) (ls : List (List ℕ)) (s : Start) → lines text ≡ l ∷ ls → IsStart s → l ≡ start_line s → AreRead text ls 1 → (p : Plan) × Spells text p
 whole text l ls s split fits is read =
     let said : lines text ≡ start_line s ∷ map (λ (c : Command). command_line c.request) read.commands = split ∙ ap (λ x. x ∷ ls) is ∙ ap (λ xs. start_line s ∷ xs) read.said in
-    let within : length text ≤ max_script = short (cases_lt max_script (length text)) in
+    let within : length text ≤ max_script = grind (arith, read.sound (feeds (take max_script text)) Big, feeds_below max_script text) in
     let count : length (lines text) ≡ suc (length read.commands) = ap length said ∙ ap suc (length_map (λ (c : Command). command_line c.request) read.commands) in (
       record { start = s; commands = read.commands },
       record {
@@ -143,10 +140,7 @@ whole text l ls s split fits is read =
         said = said;
         within = within;
       },
-    ) where
-      short : (max_script < length text) ⊎ (length text ≤ max_script) → length text ≤ max_script
-      short (inl over) = absurd (read.sound (feeds (take max_script text)) Big (feeds_below max_script text over) (over, refl))
-      short (inr within) = within
+    )
 
 -- each text spells a plan or has a first fault
 pub one_of_them : (text : List ℕ) → ((p : Plan) × Spells text p) ⊎ ((f : ScriptFault) × IsFirstFault text f)
