@@ -1,5 +1,5 @@
 -- A command and its line.
-use Rattle.std.proofs.Common.{◌≡◌, ℕ, ◌<◌, ◌^◌, List, ◌∷◌, ◌++◌, cond, Option, Some, None, refl, ap, sym, ◌∙◌, arith, decimal, codes, bytes_eq}
+use Rattle.std.proofs.Common.{◌≡◌, ℕ, ◌<◌, ◌^◌, List, ◌∷◌, ◌++◌, cond, Option, Some, None, ap, sym, ◌∙◌, arith, decimal, codes, bytes_eq}
 use Rattle.std.proofs.lemmas.Option.{none-some, same_Some}
 use Rattle.std.proofs.lemmas.Slice.Eq.{bytes_eq-Decides}
 use Rattle.causal_name.specs.declared.Pid.{Pid}
@@ -13,7 +13,7 @@ use Rattle.causal_script.proofs.Numbers.{number_of-decimal, decimal-number_of, p
 
 -- where two steps of reading give something, both do
 pub bind_some : {A B : Type 0} (r : Option A) (f : A → Option B) (y : B) → (r >>= f) ≡ Some y → (x : A) × (r ≡ Some x) × (f x ≡ Some y)
-bind_some a f y e = grind (arith, none-some)
+bind_some r f y e = grind (arith, none-some)
 
 -- what is read behind a cut is said where it is said of the two parts
 pub behind_cut : {A P : Type 0} (line : List ℕ) (f : List ℕ × List ℕ → Option A) (y : A) → (cut 32 line >>= f) ≡ Some y → ((parts : List ℕ × List ℕ) → line ≡ parts.0 ++ 32 ∷ parts.1 → f parts ≡ Some y → P) → P
@@ -64,12 +64,6 @@ Says line r = IsRequest r × (line ≡ command_line r)
 says_delivery : (name words line : List ℕ) (r : Request) → line ≡ name ++ 32 ∷ words → name ≡ codes "deliver" → delivery_of words ≡ Some r → Says line r
 says_delivery name words line r whole named e = grind (arith, delivered words r e)
 
--- a command of one process
-says_process : (make : Pid → Request) (word name words line : List ℕ) (p : Pid) (r : Request)
-    → IsRequest (make p) → word ++ 32 ∷ decimal p.0 ≡ command_line (make p)
-    → line ≡ name ++ 32 ∷ words → words ≡ decimal p.0 → name ≡ word → Some (make p) ≡ Some r → Says line r
-says_process make word name words line p r fits spells whole number named e = grind (arith, same_Some _ _ e)
-
 says_of_process : (name words line : List ℕ) (p : Pid) (r : Request) → line ≡ name ++ 32 ∷ words → words ≡ decimal p.0 → p.0 < 2 ^ 8 → of_process name p ≡ Some r → Says line r
 unfolding of_process
 says_of_process name words line p r whole number small e = grind (arith, bytes_eq-Decides name)
@@ -94,9 +88,6 @@ says_request line r e = behind_cut line _ r e (λ parts whole is. says_named par
 delivery_back : (q source : Pid) (ssn : ℕ) → q.0 < 2 ^ 8 → source.0 < 2 ^ 8 → ssn < 2 ^ 32 → delivery_of (decimal q.0 ++ (32 ∷ (decimal source.0 ++ (32 ∷ decimal ssn)))) ≡ Some (Deliver q source ssn)
 unfolding delivery_of
 delivery_back q source ssn a b s = grind (arith, cut_number, process_of-decimal q a, process_of-decimal source b, number_of-decimal)
-
-process_back : (make : Pid → Request) (p : Pid) → p.0 < 2 ^ 8 → (process_of (decimal p.0) >>= λ q. Some (make q)) ≡ Some (make p)
-process_back make p small = rw (process_of-decimal p small) refl
 
 -- the line of a command is read as its request
 pub request_back : (r : Request) → IsRequest r → request_of (command_line r) ≡ Some r

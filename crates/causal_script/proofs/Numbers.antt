@@ -29,10 +29,10 @@ pub record IsPlain (word : List ℕ) : Type 0 where
   pub lone : get_or word 0 0 ≡ 48 → length word ≡ 1
 
 pub plain_is : (word : List ℕ) → is_plain word ≡ true → IsPlain word
-plain_is a e = grind (arith, eq-eqb)
+plain_is word e = grind (arith, eq-eqb)
 
 pub is_plain-from : (word : List ℕ) → IsPlain word → is_plain word ≡ true
-is_plain-from a h = grind (arith, eqb-true)
+is_plain-from word h = grind (arith, eqb-true)
 
 pub decimal_plain : (n : ℕ) → n < 2 ^ 64 → IsPlain (decimal n)
 decimal_plain n small = grind (arith, digits_decimal own n small, own, decimal_nonempty n small, decimal_digit, first_decimal)
@@ -126,7 +126,7 @@ first_is [] first e = absurd (none-some first (sym e))
 first_is (x ∷ xs) first e = (let same : first ≡ x = same_Some _ _ e in sym same, omega arith)
 
 lone_from : (x n : ℕ) → ((x ≡ 48) × (n ≤ 1)) ⊎ (x ≢ 48) → x ≡ 48 → n ≤ 1
-lone_from x n a e = grind arith
+lone_from x n h e = grind arith
 
 -- a word with no plus sign, and no zero before others, spells what `parse` answers
 pub parsed_word : {E : Type 0} (limit first : ℕ) (word text : List ℕ) (r : Result ℕ E) → limit < 2 ^ 32 → Some first ≡ slice_get word 0 → first ≢ 43 → ((first ≡ 48) × (length word ≤ 1)) ⊎ (first ≢ 48)

@@ -1,5 +1,5 @@
 -- The lines of a text, one after another.
-use Rattle.std.proofs.Common.{◌≡◌, ◌⊎◌, inl, inr, ℕ, zero, suc, ◌+◌, ◌<◌, ◌≤◌, List, [], ◌∷◌, ◌++◌, length, take, drop, map, Bool, true, false, cond, eqb, Option, Some, None, Result, Ok, Err, refl, ap, sym, ◌∙◌, subst, arith, option_map}
+use Rattle.std.proofs.Common.{◌≡◌, ◌⊎◌, inl, inr, ℕ, zero, suc, ◌+◌, ◌<◌, ◌≤◌, List, [], ◌∷◌, ◌++◌, length, take, drop, map, Bool, true, false, cond, eqb, Option, Some, None, Result, Ok, Err, refl, ap, sym, ◌∙◌, subst, arith}
 use Rattle.std.specs.Prelude.{slice_get, is_ok, is_err, min, ◌-◌, ◌^◌}
 use Rattle.std.specs.List.{onto_first, AllByRecursion, range_with_len}
 use Rattle.std.proofs.Math.Seq.{take-length}
@@ -31,9 +31,6 @@ pub lines_cut : (xs : List ℕ) (parts : List ℕ × List ℕ) → cut 10 xs ≡
 lines_cut [] parts e = absurd (none-some parts e)
 lines_cut (x ∷ xs) parts e = grind (arith, lines_cut xs)
 
-unmapped : (x : ℕ) (r : Option (List ℕ × List ℕ)) → option_map {T = List ℕ × List ℕ} {U = List ℕ × List ℕ} (λ q. (x ∷ q.0, q.1)) r ≡ None → r ≡ None
-unmapped x a e = grind (arith, none-some)
-
 no_feed : (x : ℕ) (xs : List ℕ) → cut 10 (x ∷ xs) ≡ None → (eqb x 10 ≡ false) × (cut 10 xs ≡ None)
 no_feed x xs e = grind arith
 
@@ -43,12 +40,12 @@ lines_uncut x (y ∷ ys) e = let h = no_feed x (y ∷ ys) e in rw (h.0, lines_un
 
 -- a text with no line feed is a line
 pub lines_last : (xs front back : List ℕ) → 0 < length xs → None ≡ cut 10 xs → front ≡ take (length xs) xs → back ≡ drop (length xs) xs → lines xs ≡ front ∷ lines back
-lines_last a front back some e f b = grind (arith, lines_uncut, take-length, drop_all)
+lines_last xs front back some e f b = grind (arith, lines_uncut, take-length, drop_all)
 
 -- ---- how many lines there are
 
 length_onto : (x : ℕ) (ls : List (List ℕ)) → 0 < length ls → length (onto_first x ls) ≡ length ls
-length_onto x a some = grind arith
+length_onto x ls some = grind arith
 
 feeds_cons : (x : ℕ) (xs : List ℕ) (b : Bool) → eqb x 10 ≡ b → feeds (x ∷ xs) ≡ cond b 1 0 + feeds xs
 feeds_cons x xs b t = sum_by-cons (λ y. cond (is_feed y) 1 0) x xs ∙ ap (λ c. cond c 1 0 + feeds xs) t
@@ -108,7 +105,7 @@ is_big text (Some line) before h t = let same : line ≡ before + 1 = eqb-true l
 
 -- where the line with the first byte past the limit is another one, this one is not too big
 pub not_big : (text : List ℕ) (big : Option ℕ) (before : ℕ) → IsBigLine text big → is_line (before + 1) big ≡ false → IsFaultAfter text before Big → ⊥
-not_big text a before h t bad = grind (arith, eq-eqb)
+not_big text big before h t bad = grind (arith, eq-eqb)
 
 -- none of no lines has a fault
 pub sound_none : (text : List ℕ) → AreSound text 0
@@ -226,7 +223,7 @@ judged_line big line said f e = grind (arith, judged_err big line said f e)
 
 -- a push that was not refused left what it adds
 pub pushed : {T E X : Type 0} (r : Result T E) (new more old : X) → is_err r ≡ false → new ≡ cond (is_ok r) more old → new ≡ more
-pushed a new more old told e = grind arith
+pushed r new more old told e = grind arith
 
 -- where no line so high comes, the next number is one more
 pub next_line : (text left : List ℕ) (line next : ℕ) → IsAfter text line left → next ≡ min (line + 1) (2 ^ 32 - 1) → next ≡ line + 1

@@ -62,7 +62,7 @@ one_fault text f g a b = by_place (cases_lt a.before b.before) (cases_lt b.befor
 -- ---- never both
 
 relabelled : (a b : ℕ) (o : Option (List ℕ)) → IsInPlace (suc a) o → IsInPlace (suc b) o
-relabelled a b c h = grind arith
+relabelled a b o h = grind arith
 
 commands_stand : (cs : List Command) (k : ℕ) → AllByRecursion (λ c. IsRequest c.request) cs → IsInPlace (suc k) (slice_get (map (λ c. command_line c.request) cs) k)
 commands_stand [] k h = tt
@@ -70,7 +70,7 @@ commands_stand (c ∷ cs) zero h = (c.request, h.0, refl)
 commands_stand (c ∷ cs) (suc k) h = relabelled k (suc k) (slice_get (map (λ (c : Command). command_line c.request) cs) k) (commands_stand cs k h.1)
 
 stands : (s : Start) (cs : List Command) (k : ℕ) → IsStart s → AllByRecursion (λ c. IsRequest c.request) cs → IsInPlace k (slice_get (start_line s ∷ map (λ c. command_line c.request) cs) k)
-stands s cs a h all = grind (arith, commands_stand)
+stands s cs k h all = grind (arith, commands_stand)
 
 -- no text both spells a plan and has a first fault
 pub not_both : (text : List ℕ) (p : Plan) (f : ScriptFault) → Spells text p → IsFirstFault text f → ⊥
