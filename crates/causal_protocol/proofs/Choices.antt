@@ -51,7 +51,7 @@ module _ (f : ℕ) (log : LogMap) (d : Det) where
   chosen_left h = grind (arith, not_from_false, nat_tests, false≢true, chosen_item)
 
 passes_stable : (o : Option Known) → passes (λ k. k.stable) o ≡ (unwrap_or o nothing_known).stable
-passes_stable a = grind arith
+passes_stable o = grind arith
 
 -- what a log knows to be stable, and what it does not
 pub stable_have : (log : LogMap) (d : Det) → has (stable_in log) d ≡ tells_stable d log

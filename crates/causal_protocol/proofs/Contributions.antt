@@ -119,7 +119,7 @@ module _ (p : ℕ) (d : Det) (tells : LogMap → Bool) (Gives : Run → Option P
 
   -- a forgetting of p
   less : (r : Run) (by : Option Pid) (who : Pid) (listed : List Det) (log : LogMap) → (who.0 == p) ≡ true → (b : Bool) → has listed d ≡ b → Grows (Gives r by (Forget who listed)) (ends p d (Forget who listed)) (tells log) (tells (without listed log))
-  less r by who listed log here a gone = grind (arith, steady)
+  less r by who listed log here b gone = grind (arith, steady)
 
   step : (r : Run) (by : Option Pid) (e : Entry) → Stepped r by e
   step r by (Send from to ssn) =
@@ -184,21 +184,7 @@ module _ (p : ℕ) (d : Det) (tells : LogMap → Bool) (Gives : Run → Option P
 
 -- holders
 holder_facts : (p : ℕ) (d : Det) (q : ℕ) → Facts p d (tells_holder d q) (GivesHolder p d q)
-holder_facts p d q = grind (
-  arith,
-  LearnedLogs.none_holds,
-  LearnedLogs.gained_holder,
-  LearnedLogs.gained_told,
-  LearnedLogs.gained_old,
-  steady,
-  Choices.marked_holder,
-  LearnedLogs.gathered_holder,
-  LearnedLogs.keys_have,
-  LearnedLogs.entry_of_holder,
-  LearnedLogs.gathered_itself,
-  LearnedLogs.gathered_known,
-  Choices.without_holder,
-)
+holder_facts p d q = grind (arith, steady, LearnedLogs.none_holds, LearnedLogs.told_holders_of, Choices.marked_holder, Choices.without_holder)
 
 -- an up process knows just the holders that its present lane was told of
 pub holders_are_contributed : HoldersAreContributed
@@ -218,23 +204,9 @@ mark_facts p d = record {
   writer = λ r by det g. g.0;
   restarter = λ r by who listed g. g.0;
   delivered = λ r by to send rsn listed x m is sent. grind (arith, LearnedLogs.gained_stable, LearnedLogs.gained_still);
-  written = λ r w det m is here. grind (
-    arith,
-    log_here (memories_of r) p m here,
-    Choices.marked_mark,
-    Choices.marked_entry m.log det d,
-    LearnedLogs.entry_of_mark,
-    Choices.marked_new,
-    Choices.marked_old,
-  );
-  restarted = λ r by who listed old is. grind (
-    arith,
-    LearnedLogs.gathered_mark,
-    Choices.stable_has r.recording.past d,
-    LearnedLogs.stored_marks,
-    LearnedLogs.gathered_marks,
-    false≢true,
-  );
+  written = λ r w det m is here.
+      grind (arith, log_here (memories_of r) p m here, LearnedLogs.told_marks_of, Choices.marked_mark, Choices.marked_entry m.log det d, Choices.marked_new, Choices.marked_old);
+  restarted = λ r by who listed old is. grind (arith, LearnedLogs.told_marks_of, Choices.stable_has r.recording.past d);
   left = λ listed log. Choices.without_stable listed log d;
 }
 

@@ -1,5 +1,5 @@
 -- What the protocol keeps, over a crash.
-use Rattle.std.proofs.Common.{ℕ, zero, suc, ◌≡◌, ◌+◌, ◌≤◌, inl, inr, Bool, true, false, cond, List, ◌∷◌, ◌<◌, refl, sym, ap, ◌∙◌, arith}
+use Rattle.std.proofs.Common.{ℕ, zero, suc, ◌≡◌, ◌+◌, ◌≤◌, Bool, true, false, cond, List, ◌∷◌, ◌<◌, refl, sym, ap, ◌∙◌, arith}
 use Rattle.std.specs.Prelude.{◌||◌, ◌&&◌, not, ◌==◌}
 use Rattle.std.proofs.lemmas.Bool.{or_cases, or_parts, and_from, and_parts, eqb-true, not_from_false}
 use Rattle.std.proofs.lemmas.Bool.Decides.{eqb_tells}
@@ -11,7 +11,7 @@ use Rattle.causal_protocol.proofs.SendKeeps.{det_earlier}
 use Rattle.causal_holders.proofs.Lemmas.MemberCounts.{count_below-within}
 use Rattle.causal_protocol.specs.Memory.{Kept, Memories}
 use Rattle.causal_protocol.specs.Sight.{has_logged, knows, marks, Keeps}
-use Rattle.causal_protocol.specs.Kept.{survives, Keeping}
+use Rattle.causal_protocol.specs.Kept.{survives, IsSpread, Keeping}
 use Rattle.causal_trace.proofs.Lemmas.DependenceSteps.{reaches_old, depends_old}
 use Rattle.causal_trace.specs.Past.{is_down, logs}
 use Rattle.causal_trace.specs.declared.entry.Entry.{Entry}
@@ -25,7 +25,7 @@ one_or : (x y : Bool) → x ≡ false → cond (x || y) 1 0 ≤ cond y 1 0
 one_or x y e = rw e (omega arith)
 
 at_most : (b : Bool) → cond b 1 0 ≤ 1
-at_most a = grind arith
+at_most b = grind arith
 
 -- one more has at most one more member
 count_one : (n : ℕ) (a : ℕ → Bool) (w : ℕ) → count_below n (λ p. w == p || a p) ≤ count_below n a + 1
@@ -49,6 +49,9 @@ module _ (n f : ℕ) (past : List Entry) (ms next : Memories) (who : Pid) (s : I
   stays : (d : Det) → Stays n past (Crash who ∷ past) d
   stays d = grind (arith, eqb_tells, or_cases, not_from_false)
 
+  spreads : (d : Det) → IsSpread n f past d → IsSpread n f (Crash who ∷ past) d
+  spreads d = spread_stays n f past (Crash who ∷ past) d (stays d)
+
   pub left : (d : Det) → survives n (Crash who ∷ past) d ≡ true → survives n past d ≡ true
   left d h = grind (arith, survives_found n (Crash who ∷ past) d h, survives_stable, survives_log, and_parts)
 
@@ -70,18 +73,11 @@ module _ (n f : ℕ) (past : List Entry) (ms next : Memories) (who : Pid) (s : I
         true_stays n past (Crash who ∷ past) d q (k.named_processes p x d q small (s.kept p x keeps).1 names) (stays d) (k.named_hold p x d q small (s.kept p x keeps).1 names);
     named_processes = λ p x d q small keeps names. k.named_processes p x d q small (s.kept p x keeps).1 names;
     marks_true = λ p d small h. k.marks_true p d small (s.marked p d h);
-    dependents_hold = λ i p d small at dep. grind (
-      arith,
-      depends_old (Crash who) past i p forward,
-      k.dependents_hold i p d small,
-      det_earlier (Crash who) past i d refl at,
-      spread_stays n f past (Crash who ∷ past) d (stays d),
-    );
+    dependents_hold = λ i p d small at dep.
+        grind (arith, depends_old (Crash who) past i p forward, k.dependents_hold i p d small, det_earlier (Crash who) past i d refl at, spreads d);
     messages_carry = λ i p x d small at keeps r.
-        elim (k.messages_carry i p x d small (det_earlier (Crash who) past i d refl at) (s.kept p x keeps).1 (reaches_old (Crash who) past i forward x.send (k.earlier p x small (s.kept p x keeps).1) r)) [
-          | inl carried ↦ inl carried
-          | inr spread ↦ inr (spread_stays n f past (Crash who ∷ past) d (stays d) spread)
-        ];
+        let before = reaches_old (Crash who) past i forward x.send (k.earlier p x small (s.kept p x keeps).1) r in
+        grind (arith, k.messages_carry i p x d small (det_earlier (Crash who) past i d refl at) (s.kept p x keeps).1 before, spreads d);
     receivers_find = λ d below up h. grind (arith, or_parts (who.0 == d.dest.0) (is_down past d.dest.0) up, finds_more, kept, left d h);
     senders_find = λ p x d small keeps carries.
         let old = s.kept p x keeps in

@@ -11,13 +11,13 @@ use Rattle.causal_name.specs.declared.MsgName.{MsgName}
 use Rattle.causal_name.specs.declared.Pid.{Pid}
 use Rattle.causal_trace.specs.declared.entry.Entry.{Entry}
 use Rattle.causal_trace.specs.declared.entry.Entry.TheVariants.{Deliver}
-use Rattle.causal_trace.specs.Past.{has, is_down, logs, is_stable, message_at, det_from, det_of, det_at, is_delivered}
+use Rattle.causal_trace.specs.Past.{has, is_down, logs, message_at, det_from, det_of, det_at, is_delivered}
 use Rattle.causal_trace.specs.Dependence.{AreForward, actor, Reaches, Depends}
 use Rattle.causal_trace.proofs.Lemmas.DependenceSteps.{reaches_old, reaches_begins, ReachesNewest, is_newest, in_lane, through_message, depends_old}
 use Rattle.causal_protocol.specs.Memory.{Kept, Memories}
 use Rattle.causal_protocol.specs.Sight.{has_logged, knows, marks, Keeps, has_item, item_holder}
 use Rattle.causal_protocol.specs.Kept.{finds, survives, IsSpread, IsTrueOf, SlotsAreSingle, Keeping}
-use Rattle.causal_protocol.proofs.Sets.{survives_found, survives_log, survives_stable, finds_survive, finds_more, Stays, spread_stays, true_stays}
+use Rattle.causal_protocol.proofs.Sets.{survives_found, survives_log, finds_survive, finds_more, Stays, spread_stays, true_stays}
 use Rattle.causal_protocol.proofs.SendKeeps.{at_newest, det_older}
 
 -- a message was sent at a position within the past
@@ -93,38 +93,19 @@ module _ (n f : ℕ) (past : List Entry) (ms next : Memories) (to : Pid) (send r
 
   -- what survives survived before, or is the new determinant
   pub left : (d : Det) → survives n (e ∷ past) d ≡ true → (d ≡ own) ⊎ (survives n past d ≡ true)
-  left d h = grind (
-    arith,
-    survives_found n (e ∷ past) d h,
-    survives_stable n past d,
-    s.lists d,
-    same_is d own,
-    finds_survive n past source d s.sender,
-    survives_log n past,
-  )
+  left d h = grind (arith, survives_found n (e ∷ past) d h, s.lists d, same_is d own, finds_survive n past source d s.sender, survives_log n past)
+
+  still_true : (d : Det) (q : ℕ) → (q < n) × IsTrueOf past d q → (q < n) × IsTrueOf (e ∷ past) d q
+  still_true d q h = (h.0, true_stays n past (e ∷ past) d q h.0 (stays d) h.1)
 
   -- the receiver holds what it is told of itself; the sender what the message carries
   true_told : (p : ℕ) (d : Det) (q : ℕ) → p < n → knows next p d q ≡ true → (q < n) × IsTrueOf (e ∷ past) d q
   true_told p d q small h =
       elim (s.heard p d q h) [
-        | inl old ↦
-            let process = k.known_processes p d q small old in
-            (process, true_stays n past (e ∷ past) d q process (stays d) (k.holders_hold p d q small old))
-        | inr (inl named) ↦
-            let process = k.named_processes source s.delivered d q s.sender s.keeps named in
-            (process, true_stays n past (e ∷ past) d q process (stays d) (k.named_hold source s.delivered d q s.sender s.keeps named))
-        | inr (inr (inl ends)) ↦ elim ends.1 [
-          | inl is ↦
-              let here : source ≡ q = sym is in (
-                subst (λ x. x < n) here s.sender,
-                subst (λ x. IsTrueOf (e ∷ past) d x) here (true_stays n past (e ∷ past) d source s.sender (stays d) (elim (or_cases (logs past source d) (is_stable past d) (k.senders_find source s.delivered d s.sender s.keeps ends.0)) [
-                  | inl held ↦ inr (or_right _ _ held)
-                  | inr stable ↦ inl stable
-                ])),
-              )
-          | inr is ↦ (subst (λ x. x < n) (sym is) s.process, subst (λ x. IsTrueOf (e ∷ past) d x) (sym is) (inr (or_right _ _ (logs_carried d ends.0))))
-        ]
-        | inr (inr (inr mine)) ↦ (subst (λ x. x < n) (sym mine.1) s.process, subst (λ x. IsTrueOf (e ∷ past) d x) (sym mine.1) (inr (or_right _ _ (subst (λ x. logs (e ∷ past) to.0 x ≡ true) (sym mine.0) logs_own))))
+        | inl old ↦ still_true d q (k.known_processes p d q small old, k.holders_hold p d q small old)
+        | inr (inl named) ↦ still_true d q (k.named_processes source s.delivered d q s.sender s.keeps named, k.named_hold source s.delivered d q s.sender s.keeps named)
+        | inr (inr (inl ends)) ↦ grind (arith, k.senders_find source s.delivered d s.sender s.keeps ends.0, still_true d source, logs_carried d ends.0)
+        | inr (inr (inr mine)) ↦ grind (arith, logs_own)
       ]
 
   old_depends : (i p : ℕ) (d : Det) → p < n → det_at (e ∷ past) i ≡ Some d → Depends past i p → (logs (e ∷ past) p d ≡ true) ⊎ IsSpread n f (e ∷ past) d

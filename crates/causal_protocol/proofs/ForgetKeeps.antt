@@ -69,10 +69,9 @@ module _ (n f : ℕ) (past : List Entry) (ms next : Memories) (who : Pid) (liste
     marks_true = λ p d small h. k.marks_true p d small (s.marked p d h);
     dependents_hold = λ i p d small at dep. grind (arith, depends_old (Forget who listed) past i p forward dep.up refl dep, held_or_spread, no_actor);
     messages_carry = λ i p x d small at keeps r.
-        elim (k.messages_carry i p x d small (det_earlier (Forget who listed) past i d refl at) (s.kept p x keeps) (reaches_old (Forget who listed) past i forward x.send (k.earlier p x small (s.kept p x keeps)) r)) [
-          | inl carried ↦ inl carried
-          | inr spread ↦ inr (spread_stays n f past (Forget who listed ∷ past) d (stays d) spread)
-        ];
+        let before = reaches_old (Forget who listed) past i forward x.send (k.earlier p x small (s.kept p x keeps)) r in
+        let spreads = spread_stays n f past (Forget who listed ∷ past) d (stays d) in
+        grind (arith, k.messages_carry i p x d small (det_earlier (Forget who listed) past i d refl at) (s.kept p x keeps) before, spreads);
     receivers_find = λ d below up h. found d.dest.0 d (k.receivers_find d below up (left d h));
     senders_find = λ p x d small keeps carries. found p d (k.senders_find p x d small (s.kept p x keeps) carries);
     earlier = λ p x small keeps. omega (arith, k.earlier p x small (s.kept p x keeps));

@@ -125,7 +125,7 @@ module _ (batch : List Item) (own : Det) (log : LogMap) (d : Det) where
 
   -- whom the message tells to hold it is told so
   pub gained_told : (q : ℕ) → TellsHolder batch own d q → tells_holder d q (gained batch own log) ≡ true
-  gained_told q a = grind (arith, gained_known, item_named, item_sent, gained_new, same_itself)
+  gained_told q h = grind (arith, gained_known, item_named, item_sent, gained_new, same_itself)
 
   -- what is told to be stable is so still
   pub gained_still : tells_stable d log ≡ true → tells_stable d (gained batch own log) ≡ true
@@ -135,12 +135,9 @@ module _ (batch : List Item) (own : Det) (log : LogMap) (d : Det) where
 
   -- by a delivery nothing new is known to be stable
   pub gained_stable : tells_stable d (gained batch own log) ≡ true → tells_stable d log ≡ true
-  gained_stable h = grind (
-    arith,
-    one_stable absorbs own (held_by own.dest) d,
-    known_all (λ k. k.stable) stable_either (map (told own.source own.dest) batch) log d,
-    told_stable own.source own.dest d batch,
-  )
+  gained_stable h =
+      let before = known_all (λ k. k.stable) stable_either (map (told own.source own.dest) batch) log d in
+      grind (arith, before, one_stable absorbs own (held_by own.dest) d, told_stable own.source own.dest d batch)
 
 -- a property of a log that two logs have together where either has it, and that the empty one has not
 module _ (tells : LogMap → Bool) (either : (log other : LogMap) → tells (united log other) ≡ (tells log || tells other)) (lacks : tells fin.empty ≡ false) where
@@ -180,7 +177,7 @@ pub entry_either : (d : Det) (log other : LogMap) → has_entry d (united log ot
 entry_either d log other = logged_all (fin.entries other) log d ∙ ap (λ b. has_entry d log || b) (any_dets d other)
 
 known_passes : (P : Known → Bool) → P nothing_known ≡ false → (o : Option Known) → passes P o ≡ P (unwrap_or o nothing_known)
-known_passes a lacks b = grind arith
+known_passes P lacks o = grind arith
 
 pub holder_either : (d : Det) (q : ℕ) (log other : LogMap) → tells_holder d q (united log other) ≡ (tells_holder d q log || tells_holder d q other)
 holder_either d q log other =
@@ -299,22 +296,21 @@ module _ (ms : Memories) (stored : DetSet) (p : Pid) (d : Det) where
   -- p is known to hold all that is gathered
   pub gathered_itself : has_entry d gathered ≡ true → tells_holder d p.0 gathered ≡ true
   gathered_itself h =
-      all_known (λ k. set.contains k.holders p.0) (holds_either p.0)
-      ∙ elim (or_cases (has_entry d held) (has (dets_in stored) d) (sym all_entry ∙ h)) [
-        | inl log ↦ or_left _ _ (held_known (λ k. set.contains k.holders p.0) (holds_either p.0) ∙ or_right _ _ (any_for d (λ x. set.contains (held_by p).holders p.0) (fin.keys together) (elim (or_cases (has_entry d together) (has (fin.keys together) d) (sym held_entry ∙ log)) [
-          | inl one ↦ keys_have together d ∙ one
-          | inr one ↦ one
-        ]) (itself_holds p.0)))
-        | inr member ↦ or_right _ _ (any_for d (λ x. set.contains (stable_and_held_by p).holders p.0) (dets_in stored) member (itself_holds p.0))
-      ]
+      let all = all_known (λ k. set.contains k.holders p.0) (holds_either p.0) in
+      let some = held_known (λ k. set.contains k.holders p.0) (holds_either p.0) in
+      let mine = any_for d (λ x. set.contains (held_by p).holders p.0) (fin.keys together) in
+      let kept = any_for d (λ x. set.contains (stable_and_held_by p).holders p.0) (dets_in stored) in
+      grind (arith, all, some, mine, kept, all_entry, held_entry, keys_have together d, itself_holds p.0)
 
   -- what is gathered as stable is stored, or a process that is up knew it so
   pub gathered_mark : tells_stable d gathered ≡ true → (store.has stored d ≡ true) ⊎ ((r : ℕ) × (r < length ms) × (marks ms r d ≡ true))
   gathered_mark h =
-      elim (or_cases (tells_stable d held) (list_any (λ x. same_det d x && true) (dets_in stored)) (sym (all_known (λ k. k.stable) stable_either) ∙ h)) [
-        | inl log ↦ elim (or_cases (tells_stable d together) (list_any (λ x. same_det d x && false) (fin.keys together)) (sym (held_known (λ k. k.stable) stable_either) ∙ log)) [
-          | inl one ↦ inr (elim (united_found (tells_stable d) (mark_either d) (none_stable d) ms fin.empty one) [ inl none ↦ absurd (both_ways _ (none_stable d) none) | inr some ↦ some ])
-          | inr none ↦ absurd (false≢true (any_of d (λ x. false) (fin.keys together) none).1)
-        ]
-        | inr member ↦ inl (sym (stored_have stored d) ∙ (any_of d (λ x. true) (dets_in stored) member).0)
-      ]
+      let all = all_known (λ k. k.stable) stable_either in
+      let some = held_known (λ k. k.stable) stable_either in
+      let united = united_found (tells_stable d) (mark_either d) (none_stable d) ms fin.empty in
+      grind (arith, all, some, united, none_stable d, any_of d (λ x. true) (dets_in stored), any_of d (λ x. false) (fin.keys together), stored_have stored d)
+
+-- what is told of holders, and of what is stable, after a delivery and after a restart
+pub ruleset told_holders_of = (gained_holder, gained_told, gained_old, gathered_holder, gathered_itself, gathered_known, keys_have, entry_of_holder)
+
+pub ruleset told_marks_of = (gained_stable, gained_still, gathered_mark, gathered_marks, stored_marks, entry_of_mark)

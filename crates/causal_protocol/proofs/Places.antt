@@ -26,7 +26,7 @@ get_set : {X : Type 0} (xs : List X) (w : ℕ) (x : X) (p : ℕ) → w < length 
 get_set xs w x p low = grind (arith, eqb_tells w p, set_same xs w x low, cond-true, set_other, cond-false)
 
 joined_if : {X : Type 0} (b : Bool) (x : Option X) (y : Option (Option X)) → option_and_then (λ z. z) (cond b (Some x) y) ≡ cond b x (option_and_then (λ z. z) y)
-joined_if a x y = grind arith
+joined_if b x y = grind arith
 
 -- after one place is set, that has what it was set to, and each other what it had
 pub at_set : {X : Type 0} (xs : List (Option X)) (w : ℕ) (x : Option X) (p : ℕ) → w < length xs → at (slice_set xs w x) p ≡ cond (w == p) x (at xs p)
@@ -45,7 +45,7 @@ abbrev pub sent_in : Option Memory → List Kept
 sent_in o = option_map_or (λ m. m.sent) o []
 
 map_if : {A B : Type 0} (g : A → B) (b : Bool) (x y : A) → g (cond b x y) ≡ cond b (g x) (g y)
-map_if g a x y = grind arith
+map_if g b x y = grind arith
 
 -- where the memory at a place is set, the logs and the messages elsewhere are as before
 pub log_set : (ms : Memories) (w : ℕ) (x : Option Memory) (p : ℕ) → w < length ms → log_at (slice_set ms w x) p ≡ cond (w == p) (log_in x) (log_at ms p)

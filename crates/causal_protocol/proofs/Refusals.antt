@@ -30,19 +30,19 @@ use Rattle.causal_protocol.proofs.Sets.{finds_survive}
 
 -- where no row tells anything, neither does the first nor one of the rest
 pub first_none : (x : Option CoreFault) (rest : List (Option CoreFault)) → first_of (x ∷ rest) ≡ None → (x ≡ None) × (first_of rest ≡ None)
-first_none a rest h = grind arith
+first_none x rest h = grind arith
 
 -- a row that tells nothing does not hold
 pub when_none : (b : Bool) (fault : CoreFault) → when b fault ≡ None → b ≡ false
-when_none a fault h = grind arith
+when_none b fault h = grind arith
 
 -- what does not fail holds
 pub not_not : (b : Bool) → not b ≡ false → b ≡ true
-not_not a h = grind arith
+not_not b h = grind arith
 
 -- what is not missing is there
 pub is_there : {X : Type 0} (o : Option X) → is_none o ≡ false → (x : X) × (o ≡ Some x)
-is_there a h = grind arith
+is_there o h = grind arith
 
 same_message-is : (a b : MsgName) → same_message a b ≡ true → a ≡ b
 same_message-is a b h = grind (arith, and_parts (same_pid a.source b.source) (a.ssn == b.ssn) h, eqb-true)
@@ -77,14 +77,9 @@ module _ (n f : ℕ) (past : List Entry) (ms : Memories) (q : Pid) (m : Memory) 
   dets_stable d = stored_have (stable_set past) d ∙ stable_has past d
 
   next_found : (d : Det) → next_det (stable_set past) q m ≡ Some d → (finds past q.0 d ≡ true) × (d.dest ≡ q) × (d.rsn ≡ length m.received)
-  next_found d h = grind (
-    arith,
-    lesser_from (first_of_slot q (length m.received) (fin.keys m.log)) (first_of_slot q (length m.received) (dets_in (stable_set past))) d h,
-    first_passes,
-    slot_is,
-    keys_logs d,
-    dets_stable d,
-  )
+  next_found d h =
+      let found = lesser_from (first_of_slot q (length m.received) (fin.keys m.log)) (first_of_slot q (length m.received) (dets_in (stable_set past))) d h in
+      grind (arith, found, first_passes, slot_is, keys_logs d, dets_stable d)
 
   next_some : (d : Det) → finds past q.0 d ≡ true → d.dest ≡ q → d.rsn ≡ length m.received → (x : Det) × (next_det (stable_set past) q m ≡ Some x)
   next_some d found dest place = grind (arith, lesser_some, first_there, keys_logs d, dets_stable d)

@@ -1,5 +1,5 @@
 -- What the protocol keeps, over a restart.
-use Rattle.std.proofs.Common.{ℕ, ◌≡◌, ◌<◌, inl, inr, true, false, List, ◌∷◌, Some, refl, sym, ap, ◌∙◌, arith}
+use Rattle.std.proofs.Common.{ℕ, ◌≡◌, ◌<◌, true, false, List, ◌∷◌, Some, refl, sym, ap, ◌∙◌, arith}
 use Rattle.std.specs.Prelude.{◌⊎◌, ◌||◌, not, ◌&&◌, ◌==◌}
 use Rattle.std.proofs.lemmas.Bool.{or_cases, or_left, or_right, and_from, and_parts, eq-eqb, not_from_false, cond-true, cond-false}
 use Rattle.std.proofs.lemmas.Bool.Decides.{eqb_tells}
@@ -82,10 +82,8 @@ module _ (n f : ℕ) (past : List Entry) (ms next : Memories) (who : Pid) (liste
     marks_true = λ p d small h. marked_before p d small h;
     dependents_hold = λ i p d small at dep. restarted_depends i p d small (det_earlier (Restart who listed) past i d refl at) dep;
     messages_carry = λ i p x d small at keeps r.
-        elim (k.messages_carry i p x d small (det_earlier (Restart who listed) past i d refl at) (s.kept p x keeps) (reaches_old (Restart who listed) past i forward x.send (k.earlier p x small (s.kept p x keeps)) r)) [
-          | inl carried ↦ inl carried
-          | inr spread ↦ inr (spreads d spread)
-        ];
+        let before = reaches_old (Restart who listed) past i forward x.send (k.earlier p x small (s.kept p x keeps)) r in
+        grind (arith, k.messages_carry i p x d small (det_earlier (Restart who listed) past i d refl at) (s.kept p x keeps) before, spreads d);
     receivers_find = λ d below up h. grind (arith, eqb_tells who.0 d.dest.0, left d h, finds_more);
     senders_find = λ p x d small keeps carries. finds_more past (Restart who listed ∷ past) p d (λ held. or_right _ _ held) (λ stable. stable) (k.senders_find p x d small (s.kept p x keeps) carries);
     earlier = λ p x small keeps. omega (arith, k.earlier p x small (s.kept p x keeps));

@@ -70,7 +70,7 @@ module _ (n f : ℕ) (past : List Entry) (ms next : Memories) (from to : Pid) (s
   chosen d held = grind (arith, cases_Bool (is_stable past d), count_below-within, both_ways)
 
   sent_depends : (i p : ℕ) (d : Det) → p < n → det_at past i ≡ Some d → is_down past p ≡ false → ReachesNewest (Send from to ssn) past i p → (logs past p d ≡ true) ⊎ IsSpread n f past d
-  sent_depends i p d small at up a = grind (arith, det_below)
+  sent_depends i p d small at up h = grind (arith, det_below)
 
   -- all that the protocol keeps stands after a send
   pub keeps_send : Keeping n f (Send from to ssn ∷ past) next

@@ -42,8 +42,8 @@ pub record Stays (n : ℕ) (past next : List Entry) (d : Det) : Type 0 where
 
 -- a determinant that is spread, and stays, is still spread
 pub spread_stays : (n f : ℕ) (past next : List Entry) (d : Det) → Stays n past next d → IsSpread n f past d → IsSpread n f next d
-spread_stays n f past next d s a = grind (arith, cases_Bool, count_below-within)
+spread_stays n f past next d s h = grind (arith, cases_Bool, count_below-within)
 
 -- where a determinant stays, it is still no lie that q holds it
 pub true_stays : (n : ℕ) (past next : List Entry) (d : Det) (q : ℕ) → q < n → Stays n past next d → IsTrueOf past d q → IsTrueOf next d q
-true_stays n past next d q below s a = grind (arith, cases_Bool)
+true_stays n past next d q below s h = grind (arith, cases_Bool)

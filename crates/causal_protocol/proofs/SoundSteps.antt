@@ -36,7 +36,7 @@ use Rattle.causal_trace.specs.Judgement.{IsCrashSet, IsSafe, IsSafeTrace}
 
 -- what is spread has no orphan
 spread_kept : (n f : ℕ) (past : List Entry) (d : Det) (crash : ℕ → Bool) → IsSpread n f past d → IsCrashSet n f past crash → is_stable past d ≡ false → ((q : ℕ) → q < n → crash q ≡ false → logs past q d ≡ false) → ⊥
-spread_kept n f past d crash a may unstable lost = grind (arith, count_below-within, cases_Bool)
+spread_kept n f past d crash h may unstable lost = grind (arith, count_below-within, cases_Bool)
 
 pub kept_safe : (n f : ℕ) (past : List Entry) (ms : Memories) → Keeping n f past ms → IsSafe n f past
 kept_safe n f past ms k = record {
@@ -72,7 +72,7 @@ message_newest : (e : Entry) (past : List Entry) (send : ℕ) → send ≡ lengt
 message_newest e past send is = ap (λ o. option_and_then message_sent o) (at_newest send (length past) (Some e) (entry_at past send) is)
 
 no_delivery : (e : Entry) (past : List Entry) → ((i : ℕ) → is_delivery_of i e ≡ false) → AreForward past → AreForward (e ∷ past)
-no_delivery e past none forward j i a = grind arith
+no_delivery e past none forward j i h = grind arith
 
 is_up : (n : ℕ) (past : List Entry) (ms : Memories) (p : ℕ) (m : Memory) → Matches n past ms → p < n → at ms p ≡ Some m → is_down past p ≡ false
 is_up n past ms p m fit low here = sym (fit.state p low) ∙ ap is_none here
@@ -168,7 +168,7 @@ module _ (n f : ℕ) (past : List Entry) (ms : Memories) (to : Pid) (rsn : ℕ) 
   }
 
   received_forward : AreForward (delivery ∷ past)
-  received_forward j i a = grind (arith, eqb-true, message_below, was_sent)
+  received_forward j i h = grind (arith, eqb-true, message_below, was_sent)
 
   received_fits : Matches n (delivery ∷ past) received_memories
   received_fits = grind (arith, length_set, changed_state, message_older, received_kept)
@@ -272,17 +272,11 @@ module _ (n f : ℕ) (past : List Entry) (ms : Memories) (who : Pid) (s : IsSoun
 
   -- a restart gathers just what survives
   pub gathered_survivors : (d : Det) → has_entry d (gathered_log ms (stable_set past) who) ≡ survives n past d
-  gathered_survivors d = grind (
-    arith,
-    LearnedLogs.gathered_found ms (stable_set past) who d,
-    survives_stable n past d,
-    Choices.stable_has past d,
-    survives_log n past,
-    under,
-    survives_found n past d,
-    LearnedLogs.gathered_stored ms (stable_set past) who d,
-    LearnedLogs.gathered_logged ms (stable_set past) who d,
-  )
+  gathered_survivors d =
+      let found = LearnedLogs.gathered_found ms (stable_set past) who d in
+      let stored = LearnedLogs.gathered_stored ms (stable_set past) who d in
+      let held = LearnedLogs.gathered_logged ms (stable_set past) who d in
+      grind (arith, found, stored, held, survives_stable n past d, Choices.stable_has past d, survives_log n past, under, survives_found n past d)
 
 -- a restart
 module _ (n f : ℕ) (past : List Entry) (ms : Memories) (who : Pid) (listed : List Det) (low : who.0 < n) (down : at ms who.0 ≡ None) (lists : (d : Det) → has listed d ≡ has_entry d (gathered_log ms (stable_set past) who)) (s : IsSound n f past ms) where

@@ -52,16 +52,9 @@ module _ (n f : ℕ) (past : List Entry) (ms next : Memories) (det : Det) (s : I
     named_processes = λ p x d q small keeps names. k.named_processes p x d q small (s.kept p x keeps) names;
     marks_true = λ p d small h. grind arith;
     dependents_hold = λ i p d small at dep. grind (arith, det_earlier, depends_old, spread_stays, stays, no_actor);
-    messages_carry = λ i p x d small at keeps r. grind (
-      arith,
-      det_earlier (Stable det) past i d refl at,
-      reaches_old (Stable det) past i forward x.send (k.earlier p x small (s.kept p x keeps)) r,
-      spread_stays,
-      stays d,
-      k.messages_carry i p x d small,
-      s.kept p x keeps,
-      k.earlier p x small (s.kept p x keeps),
-    );
+    messages_carry = λ i p x d small at keeps r.
+        let before = reaches_old (Stable det) past i forward x.send (k.earlier p x small (s.kept p x keeps)) r in
+        grind (arith, k.messages_carry i p x d small (det_earlier (Stable det) past i d refl at) (s.kept p x keeps) before, spread_stays, stays d);
     receivers_find = λ d below up h. finds_more past (Stable det ∷ past) d.dest.0 d (λ held. held) (stays d).stable (k.receivers_find d below up (left d h));
     senders_find = λ p x d small keeps carries. finds_more past (Stable det ∷ past) p d (λ held. held) (stays d).stable (k.senders_find p x d small (s.kept p x keeps) carries);
     earlier = λ p x small keeps. omega (arith, k.earlier p x small (s.kept p x keeps));

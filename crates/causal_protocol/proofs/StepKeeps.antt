@@ -176,7 +176,7 @@ module _ (r : Run) (s : IsRun r) where
   nothing_appended request appended is = grind arith
 
 none_written : (fault reason : CoreFault) (done all : ℕ) → flush_reason_of fault ≡ Some reason → IsPart fault done all → done ≡ 0
-none_written a reason done all is part = grind arith
+none_written fault reason done all is part = grind arith
 
 legal_kept : (r : Run) (request : Request) (reply : Reply) (appended : List Entry) → LegalStep r request reply appended → IsRun r → IsRun (extended r request appended)
 unfolding LegalStep

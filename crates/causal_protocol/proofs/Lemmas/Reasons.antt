@@ -6,4 +6,4 @@ use Rattle.causal_protocol.specs.Steps.{reason_of}
 
 -- every fault but want of memory is a reason
 pub reason_known : (fault : CoreFault) → fault ≢ Why.NoMemory → reason_of fault ≡ Some fault
-reason_known a known = grind arith
+reason_known fault known = grind arith

@@ -33,7 +33,7 @@ length-writers p zero = refl
 length-writers p (suc n) = let rest = length-writers p n in omega (arith, rest)
 
 written-forget : (p : Pid) (ds : List Det) → count_by is_written (forget_entries p ds) ≡ 0
-written-forget p a = grind arith
+written-forget p ds = grind arith
 
 -- a step appends as many stable entries as it names writers
 pub written-step : (r : Run) (request : Request) (reply : Reply) (es : List Entry) → LegalStep r request reply es → count_by is_written es ≡ length (writers_of request es)
@@ -41,10 +41,10 @@ unfolding LegalStep
 written-step r request reply es legal = grind (arith, written-sends_of, written-stable, length-writers, written-forget)
 
 IsPart-le : (fault : CoreFault) (done all : ℕ) → IsPart fault done all → done ≤ all
-IsPart-le a done all part = grind arith
+IsPart-le fault done all part = grind arith
 
 length-forget : (p : Pid) (ds : List Det) → length (forget_entries p ds) ≡ one_for_some (length ds)
-length-forget p a = grind arith
+length-forget p ds = grind arith
 
 -- a reply tells how many entries the step appended
 pub told_entries-is : (r : Run) (request : Request) (reply : Reply) (es : List Entry) → LegalStep r request reply es → length es ≡ told_entries reply
