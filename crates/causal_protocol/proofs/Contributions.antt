@@ -205,7 +205,8 @@ mark_facts p d = record {
   restarter = λ r by who listed g. g.0;
   delivered = λ r by to send rsn listed x m is sent. grind (arith, LearnedLogs.gained_stable, LearnedLogs.gained_still);
   written = λ r w det m is here.
-      grind (arith, log_here (memories_of r) p m here, LearnedLogs.told_marks_of, Choices.marked_mark, Choices.marked_entry m.log det d, Choices.marked_new, Choices.marked_old);
+      let own = log_here (memories_of r) p m here in
+      grind (arith, own, LearnedLogs.told_marks_of, Choices.marked_mark, Choices.marked_entry m.log det d, Choices.marked_new, Choices.marked_old);
   restarted = λ r by who listed old is. grind (arith, LearnedLogs.told_marks_of, Choices.stable_has r.recording.past d);
   left = λ listed log. Choices.without_stable listed log d;
 }

@@ -103,8 +103,10 @@ module _ (n f : ℕ) (past : List Entry) (ms next : Memories) (to : Pid) (send r
   true_told p d q small h =
       elim (s.heard p d q h) [
         | inl old ↦ still_true d q (k.known_processes p d q small old, k.holders_hold p d q small old)
-        | inr (inl named) ↦ still_true d q (k.named_processes source s.delivered d q s.sender s.keeps named, k.named_hold source s.delivered d q s.sender s.keeps named)
-        | inr (inr (inl ends)) ↦ grind (arith, k.senders_find source s.delivered d s.sender s.keeps ends.0, still_true d source, logs_carried d ends.0)
+        | inr (inl named) ↦
+            still_true d q (k.named_processes source s.delivered d q s.sender s.keeps named, k.named_hold source s.delivered d q s.sender s.keeps named)
+        | inr (inr (inl ends)) ↦
+            grind (arith, k.senders_find source s.delivered d s.sender s.keeps ends.0, still_true d source, logs_carried d ends.0)
         | inr (inr (inr mine)) ↦ grind (arith, logs_own)
       ]
 

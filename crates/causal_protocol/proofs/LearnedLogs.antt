@@ -308,7 +308,8 @@ module _ (ms : Memories) (stored : DetSet) (p : Pid) (d : Det) where
       let all = all_known (λ k. k.stable) stable_either in
       let some = held_known (λ k. k.stable) stable_either in
       let united = united_found (tells_stable d) (mark_either d) (none_stable d) ms fin.empty in
-      grind (arith, all, some, united, none_stable d, any_of d (λ x. true) (dets_in stored), any_of d (λ x. false) (fin.keys together), stored_have stored d)
+      let marked = any_of d (λ x. true) (dets_in stored) in
+      grind (arith, all, some, united, none_stable d, marked, any_of d (λ x. false) (fin.keys together), stored_have stored d)
 
 -- what is told of holders, and of what is stable, after a delivery and after a restart
 pub ruleset told_holders_of = (gained_holder, gained_told, gained_old, gathered_holder, gathered_itself, gathered_known, keys_have, entry_of_holder)

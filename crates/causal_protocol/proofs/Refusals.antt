@@ -78,7 +78,8 @@ module _ (n f : ℕ) (past : List Entry) (ms : Memories) (q : Pid) (m : Memory) 
 
   next_found : (d : Det) → next_det (stable_set past) q m ≡ Some d → (finds past q.0 d ≡ true) × (d.dest ≡ q) × (d.rsn ≡ length m.received)
   next_found d h =
-      let found = lesser_from (first_of_slot q (length m.received) (fin.keys m.log)) (first_of_slot q (length m.received) (dets_in (stable_set past))) d h in
+      let first = first_of_slot q (length m.received) in
+      let found = lesser_from (first (fin.keys m.log)) (first (dets_in (stable_set past))) d h in
       grind (arith, found, first_passes, slot_is, keys_logs d, dets_stable d)
 
   next_some : (d : Det) → finds past q.0 d ≡ true → d.dest ≡ q → d.rsn ≡ length m.received → (x : Det) × (next_det (stable_set past) q m ≡ Some x)
