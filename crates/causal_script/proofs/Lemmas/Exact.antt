@@ -39,12 +39,7 @@ one_plan text p q a b = grind (arith, same_Some, start_back p.start a.plan.start
 pub one_fault : (text : List ℕ) (f g : ScriptFault) → IsFirstFault text f → IsFirstFault text g → f ≡ g
 one_fault text f g a b = by_place (cases_lt a.before b.before) (cases_lt b.before a.before) where
   kinds : (k l : ScriptFaultKind) → IsFaultAfter text a.before k → IsFaultAfter text a.before l → (k ≡ Script → IsFaultAfter text a.before Big → ⊥) → (l ≡ Script → IsFaultAfter text a.before Big → ⊥) → k ≡ l
-  kinds Big Big x y p q = refl
-  kinds Big Script x y p q = absurd (q refl x)
-  kinds Script Big x y p q = absurd (p refl y)
-  kinds Script Script x y p q = refl
-  kinds NoMemory l x y p q = absurd x
-  kinds k NoMemory x y p q = absurd y
+  kinds k l x y p q = grind arith
 
   same : b.before ≡ a.before → f ≡ g
   same e =
