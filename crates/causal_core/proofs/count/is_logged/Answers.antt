@@ -1,6 +1,4 @@
-use Rattle.std.proofs.Common.{◌∙◌, ◌+◌, ◌||◌, drop, sym, ap, true, false, arith}
-use Rattle.causal_core.specs.Inside.Memories.{memories_in}
-use Rattle.causal_core.specs.Inside.Gathers.{is_logged}
+use Rattle.std.proofs.Common.{◌∙◌, sym, true, false, arith}
 use Rattle.causal_core.proofs.RestartCounts.{logged_here, logged_end}
 use Rattle.causal_core.proofs.count.is_logged.Goals as goal
 

@@ -1,5 +1,4 @@
-use Rattle.std.proofs.Common.{◌∙◌, ◌+◌, ap, sym, drop, arith}
-use Rattle.causal_protocol.specs.Gathering.{held_all}
+use Rattle.std.proofs.Common.{◌∙◌, sym, arith}
 use Rattle.causal_core.proofs.Gathers.{held_more, held_end}
 use Rattle.causal_core.proofs.gather.hold_all.Goals as goal
 

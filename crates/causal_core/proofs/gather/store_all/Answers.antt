@@ -1,5 +1,4 @@
-use Rattle.std.proofs.Common.{◌∙◌, ◌+◌, ap, sym, drop, arith}
-use Rattle.causal_protocol.specs.Gathering.{stable_all}
+use Rattle.std.proofs.Common.{◌∙◌, sym, arith}
 use Rattle.causal_core.proofs.Gathers.{stable_more, stable_end}
 use Rattle.causal_core.proofs.gather.store_all.Goals as goal
 

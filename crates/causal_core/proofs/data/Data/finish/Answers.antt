@@ -19,10 +19,9 @@ use Rattle.causal_protocol.specs.Naming.{name, next_ssn}
 use Rattle.causal_protocol.specs.Refusals.{first_fault}
 use Rattle.causal_protocol.specs.Steps.{LegalStep, Steps, delivery_of, pushed, sends_of}
 use Rattle.causal_core.specs.Inside.Facts.{AllFit}
-use Rattle.causal_core.specs.View.{DataState, sent_in, with_delivery, run_from, receivers}
+use Rattle.causal_core.specs.View.{DataState, sent_in, with_delivery, run_from, receivers, with_bodies}
 use Rattle.causal_core.specs.Inside.Grown.{IsGrown, carried_by, first_batch, batches_of}
 use Rattle.causal_core.specs.Inside.Memories.{HasRoom, memories_in, memory_at, log_at, bodies_in, rooms_in}
-use Rattle.causal_core.specs.View.{with_bodies}
 use Rattle.causal_core.proofs.RuntimeSend.{are_sends, receivers_below, receivers_long, addressed_few}
 use Rattle.causal_core.proofs.Legal.{held_fit}
 use Rattle.causal_core.proofs.LegalDelivery.{MayDeliver, may_deliver, legal, sent_name, ssn_is}

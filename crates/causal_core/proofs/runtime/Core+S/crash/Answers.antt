@@ -1,7 +1,6 @@
-use Rattle.std.proofs.Common.{◌∙◌, ap, sym, subst, refl, arith, map, length, is_some}
+use Rattle.std.proofs.Common.{◌∙◌, ap, sym, subst, refl, arith, map, length, is_some, slice_set, false}
 use Rattle.std.proofs.lemmas.Grind.{common_steps}
 use Rattle.std.proofs.lemmas.List.{length-map}
-use Rattle.std.proofs.Common.{slice_set, false}
 use Rattle.causal_trace.specs.Past.{is_stable}
 use Rattle.causal_protocol.specs.Run.{memories_of}
 use Rattle.causal_protocol.specs.declared.request.Request.TheVariants as Ask

@@ -10,8 +10,7 @@ use Rattle.causal_protocol.proofs.Lemmas.KeptByType.{step_carried}
 use Rattle.causal_protocol.specs.Naming.{name, next_ssn, own_det}
 use Rattle.causal_protocol.specs.declared.request.Request.TheVariants as Ask
 use Rattle.causal_protocol.specs.Steps.{extended, delivery_of, sends_of}
-use Rattle.causal_core.specs.View.{DataState, receivers, sent_bodies}
-use Rattle.causal_core.specs.View.{with_bodies}
+use Rattle.causal_core.specs.View.{DataState, receivers, sent_bodies, with_bodies}
 use Rattle.causal_core.proofs.StoreEntries.{store_is}
 use Rattle.causal_core.proofs.UpAfterStep.{box_there}
 use Rattle.causal_core.proofs.RefusedRequests.{refused_delivery}
