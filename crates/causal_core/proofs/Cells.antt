@@ -1,16 +1,15 @@
 -- A cell among others: what is read at its place, and what a write there changes.
-use Rattle.std.proofs.Common.{ℕ, zero, suc, ◌≡◌, ◌<◌, true, List, [], ◌∷◌, ◌++◌, length, get_or, map, Option, Some, None, refl, sym, ap, ◌∙◌, arith, slice_get, slice_set}
+use Rattle.std.proofs.Common.{ℕ, suc, ◌≡◌, ◌<◌, true, List, [], ◌∷◌, ◌++◌, length, get_or, map, Option, Some, refl, sym, ap, ◌∙◌, arith, slice_get, slice_set}
 use Rattle.std.specs.Prelude.{is_some, unwrap_or}
 use Rattle.std.specs.Option.{option_map, option_map_or, option_and_then}
 use Rattle.std.proofs.lemmas.Option.{slice_get_read, slice_get-map, slice_get_within}
-use Rattle.std.proofs.lemmas.Bool.{false≢true}
 use Rattle.causal_core.proofs.Lemmas.Slices.{slice_get-set_same}
 use Rattle.causal_core.specs.declared.cell.Cell.{Cell}
 use Rattle.causal_core.specs.declared.cell.Message.{Message}
 use Rattle.causal_name.specs.declared.Pid.{Pid}
 use Rattle.causal_protocol.specs.Memory.{Memory, Memories, at}
 use Rattle.causal_protocol.specs.Naming.{if_to, kept_for, name}
-use Rattle.causal_core.specs.Inside.Memories.{memory_of, memories_in, memory_at, bodies_of, bodies_in, no_room, room_of, rooms_in, room_at}
+use Rattle.causal_core.specs.Inside.Memories.{memory_of, memories_in, memory_at, bodies_of, bodies_in, room_of, rooms_in, room_at}
 use Rattle.causal_core.specs.View.{body_in, with_bodies}
 use Rattle.causal_core.proofs.BoxLemmas.{map-set}
 use Rattle.causal_core.proofs.RuntimeSend.{set_same}
@@ -25,7 +24,7 @@ read_at xs i x y h is same = slice_get_read xs (length xs) i x refl h is ∙ ap 
 
 -- the body of a message that is read
 pub body_read : (kept : List Message) (ssn : ℕ) (m : Message) → ssn < length kept → m ≡ get_or kept ssn m → body_in (map (λ m. m.body) kept) ssn ≡ m.body
-body_read kept ssn m h is = grind (arith, slice_get-map (λ m. m.body) kept ssn, slice_get_read kept (length kept) ssn m refl h is)
+body_read kept ssn m h is = grind (arith, slice_get-map, slice_get_read)
 
 -- there are as many memories as cells
 pub memories_length : (cells : List (Option Cell)) → length (memories_in cells) ≡ length cells
@@ -33,8 +32,8 @@ memories_length [] = refl
 memories_length (c ∷ cells) = ap suc (memories_length cells)
 
 pub up_within : (cells : List (Option Cell)) (p : ℕ) → is_some (at (memories_in cells) p) ≡ true → p < length cells
-up_within [] p h = grind (arith, false≢true)
-up_within (each ∷ others) p h = grind (arith, up_within others, false≢true)
+up_within [] p h = grind arith
+up_within (each ∷ others) p h = grind (arith, up_within others)
 
 -- the cell of a process that is up, as it is lent at a place that is its number
 pub lent_at : (cells : List (Option Cell)) (p i : ℕ) (slot : Option Cell) (cell : Cell) → is_some (at (memories_in cells) p) ≡ true → i ≡ p → slot ≡ get_or cells i slot → slot ≡ Some cell → slice_get cells p ≡ Some (Some cell)
@@ -58,7 +57,7 @@ module _ (cells : List (Option Cell)) (p : ℕ) (cell : Cell) (found : slice_get
   memory_there = ap (λ o. unwrap_or o (memory_at [] 0)) there
 
   pub room_there : room_at (rooms_in cells) p ≡ room_of cell
-  room_there = grind (arith, found, slice_get-map (λ c. option_map_or room_of c no_room) cells p)
+  room_there = grind (arith, slice_get-map)
 
   pub bodies_there : slice_get (bodies_in cells) p ≡ Some (bodies_of cell)
   bodies_there = slice_get-map (λ c. option_map_or bodies_of c []) cells p ∙ ap (option_map (λ c. option_map_or bodies_of c [])) found

@@ -1,5 +1,5 @@
 -- What a flush writes, and that it is a legal step.
-use Rattle.std.proofs.Common.{ℕ, zero, suc, ◌≡◌, ◌+◌, ◌<◌, ◌≤◌, ◌∙◌, Bool, true, cond, List, [], ◌∷◌, ◌++◌, length, take, map, replicate, get_or, Option, Some, None, is_some, refl, sym, ap, arith}
+use Rattle.std.proofs.Common.{ℕ, ◌≡◌, ◌+◌, ◌<◌, ◌≤◌, ◌∙◌, Bool, true, cond, List, [], ◌∷◌, ◌++◌, length, take, map, replicate, get_or, Option, Some, None, is_some, refl, sym, ap, arith}
 use Rattle.std.specs.Prelude.{◌&&◌, not, nat_lt, unwrap_or, Result, IfOk, IfErr, is_none}
 use Rattle.std.specs.List.{list_all}
 use Rattle.std.specs.Option.{option_map, option_map_or}
@@ -25,7 +25,7 @@ use Rattle.causal_protocol.specs.declared.request.Reply.TheVariants as Told
 use Rattle.causal_protocol.specs.Memory.{Memory, Memories, at, changed, with_log}
 use Rattle.causal_protocol.specs.Run.{Run, memories, memories_of}
 use Rattle.causal_protocol.specs.Refusals.{rows, first_of, when, first_fault, is_long, unwritten}
-use Rattle.causal_protocol.specs.Steps.{LegalStep, Steps, IsPart, extended, reason_of, flush_reason_of, told_flush}
+use Rattle.causal_protocol.specs.Steps.{LegalStep, Steps, extended, reason_of, flush_reason_of, told_flush}
 use Rattle.causal_core.specs.Inside.Memories.{memory_at, log_at}
 use Rattle.causal_core.specs.Inside.Stables.{written}
 use Rattle.causal_core.proofs.MemoriesFit.{all_more}
@@ -129,9 +129,6 @@ flush_below r p none = grind arith
 pub flush_short : (r : Run) (p : Pid) → first_fault r (Ask.Flush p) ≡ None → length r.recording.past + length (unwritten r p) ≤ 16777216
 unfolding rows
 flush_short r p none = grind arith
-
-part : (fault : CoreFault) (done all : ℕ) → flush_reason_of fault ≡ None → done < all → IsPart fault done all
-part fault done all h h2 = grind arith
 
 -- a flush that nothing stands against is a legal step
 pub flush_steps : (r mid next : Run) (p : Pid) (dets : List Det) (told : Result ℕ FlushFault) → mid ≡ r → first_fault r (Ask.Flush p) ≡ None → dets ≡ unwritten r p → next ≡ extended mid (Ask.Flush p) (map Stable (take (written told) dets))

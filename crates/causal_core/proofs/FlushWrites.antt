@@ -8,7 +8,6 @@ use Rattle.std.proofs.lemmas.Bool.{false≢true, and_parts}
 use Rattle.causal_name.specs.declared.Pid.{Pid}
 use Rattle.causal_name.specs.declared.Det.{Det}
 use Rattle.causal_name.specs.Names.{same_det}
-use Rattle.causal_name.proofs.Lemmas.DetOrder.{same_is}
 use Rattle.causal_log.specs.declared.known.Known.{Known}
 use Rattle.causal_log.specs.Knowledge.{as_stable}
 use Rattle.causal_log.specs.Logs.{LogMap, mark, marked}
@@ -53,7 +52,7 @@ fits_option past p det o h = grind (arith, marked_fits)
 -- what p logs was delivered, so nothing stands against its stable entry
 pub stable_legal : (n : ℕ) (past : List Entry) (p : ℕ) (det : Det) (m : Memory) → Fits past p m → is_some (fin.get m.log det) ≡ true → length past < 16777216 → listed_in past ≤ 268435456 → Rows.first_fault n past (Stable det) ≡ None
 unfolding Rows.rows
-stable_legal n past p det m fit logged short within = grind (arith, logged_passes, short)
+stable_legal n past p det m fit logged short within = grind (arith, logged_passes)
 
 -- the same of a process that is up in a run
 pub stable_may : (r : Run) (p : Pid) (det : Det) → AllFit r.recording.processes r.recording.past (memories_of r) → p.0 < r.recording.processes → is_some (at (memories_of r) p.0) ≡ true → is_some (fin.get (log_at (memories_of r) p.0) det) ≡ true → length r.recording.past < 16777216 → IsWellFormed r.recording

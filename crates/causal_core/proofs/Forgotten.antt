@@ -4,8 +4,6 @@ use Rattle.std.specs.Prelude.{not, Result}
 use Rattle.std.specs.List.{list_all}
 use Rattle.std.specs.Option.{option_map, option_map_or}
 use Rattle.std.specs.FinMap as fin
-use Rattle.std.proofs.lemmas.Bool.{false≢true}
-use Rattle.std.proofs.lemmas.Bool.Decides.{nat_tests}
 use Rattle.causal_name.specs.declared.Pid.{Pid}
 use Rattle.causal_name.specs.declared.Det.{Det}
 use Rattle.causal_name.specs.Names.{is_ascending}
@@ -32,7 +30,7 @@ use Rattle.causal_core.proofs.RestartCounts.{keys_have}
 use Rattle.causal_core.proofs.FlushWrites.{logged_passes}
 use Rattle.causal_core.proofs.FlushSteps.{all_from, passes_some}
 use Rattle.causal_core.proofs.ForgetKeeps.{forgets_marked, get_unmarked, has_marked}
-use Rattle.causal_core.proofs.Legal.{row_none, there, fits_up}
+use Rattle.causal_core.proofs.Legal.{there, fits_up}
 
 kept_some : (P : Known → Bool) (o : Option Known) → is_some (kept_if P o) ≡ true → is_some o ≡ true
 kept_some P o h = grind arith
@@ -79,7 +77,7 @@ forgotten_held r ms p listed held process is next =
 pub forget_legal : (r : Run) (p : Pid) (listed : List Det) → AllFit r.recording.processes r.recording.past (memories_of r) → first_fault r (Ask.Forget p) ≡ None → listed ≡ forgettable r p → 1 ≤ length listed
     → (p.0 < r.recording.processes) × (Rows.first_fault r.recording.processes r.recording.past (Forget p listed) ≡ None)
 unfolding rows Rows.rows
-forget_legal r p listed fit none is some = grind (arith, row_none, nat_tests, fits_up, there, stable_ascends, stable_all)
+forget_legal r p listed fit none is some = grind (arith, fits_up, there, stable_ascends, stable_all)
 
 -- a list of what is delivered is no longer than the limit
 pub forget_few : (r : Run) (p : Pid) (listed : List Det) → first_fault r (Ask.Forget p) ≡ None → listed ≡ forgettable r p → length listed ≤ 268435456

@@ -1,11 +1,8 @@
 -- What is known where nothing stands against a request.
-use Rattle.std.proofs.Common.{ℕ, zero, suc, ◌≡◌, ◌≢◌, ◌<◌, Bool, true, false, ◌==◌, List, [], ◌∷◌, Option, Some, None, refl, sym, ap, subst, ◌∙◌, arith, slice_get, slice_set}
+use Rattle.std.proofs.Common.{ℕ, ◌≡◌, ◌≢◌, ◌<◌, Bool, true, false, ◌==◌, List, [], ◌∷◌, Option, Some, None, refl, sym, ap, subst, arith, slice_get, slice_set}
 use Rattle.std.specs.Prelude.{◌||◌, is_none, unwrap_or}
-use Rattle.std.specs.List.{list_all}
 use Rattle.std.proofs.lemmas.Bool.{false≢true}
-use Rattle.std.proofs.lemmas.Bool.Decides.{nat_tests}
 use Rattle.causal_name.specs.declared.Pid.{Pid}
-use Rattle.causal_name.specs.declared.MsgName.{MsgName}
 use Rattle.causal_trace.specs.declared.entry.Entry.{Entry}
 use Rattle.causal_trace.specs.declared.entry.Entry.TheVariants.{Crash}
 use Rattle.causal_trace.specs.Past.{is_down}
@@ -16,40 +13,21 @@ use Rattle.causal_protocol.specs.declared.request.CoreFault.{CoreFault}
 use Rattle.causal_protocol.specs.declared.request.CoreFault.TheVariants as Why
 use Rattle.causal_protocol.specs.declared.request.Request.{Request}
 use Rattle.causal_protocol.specs.declared.request.Request.TheVariants as Ask
-use Rattle.causal_protocol.specs.Memory.{Memory, Memories, at}
+use Rattle.causal_protocol.specs.Memory.{Memory, Memories}
 use Rattle.causal_protocol.specs.Run.{Run, memories, memories_of}
-use Rattle.causal_protocol.specs.Refusals.{rows, first_of, first_fault, when, unless}
+use Rattle.causal_protocol.specs.Refusals.{rows, first_of, first_fault, when}
 use Rattle.causal_protocol.specs.Steps.{reason_of, extended}
 use Rattle.causal_core.specs.Inside.Facts.{FitsAt, AllFit, IsHeld}
 use Rattle.causal_core.proofs.MemoriesFit.{is_of, fits_other, all_fit_set}
 
-none_first : (row : Option CoreFault) (rest : List (Option CoreFault)) → first_of (row ∷ rest) ≡ None → (row ≡ None) × (first_of rest ≡ None)
-none_first row rest h = grind arith
-
 -- where nothing is told, no row tells anything
 pub row_none : (told : List (Option CoreFault)) → first_of told ≡ None → (k : ℕ) (row : Option CoreFault) → slice_get told k ≡ Some row → row ≡ None
-row_none [] h k row h2 = grind (arith, none_first)
-row_none (each ∷ others) h k row h2 = grind (arith, row_none others, none_first)
+row_none [] h k row h2 = grind arith
+row_none (each ∷ others) h k row h2 = grind (arith, row_none others)
 
 -- where a row tells nothing, its test fails
 pub when_false : (test : Bool) (fault : CoreFault) → when test fault ≡ None → test ≡ false
 when_false test fault h = grind arith
-
--- whether a row tells a reason, and not want of memory or a fault of the store
-abbrev is_reason : Option CoreFault → Bool
-is_reason (Some Why.NoMemory) = false
-is_reason (Some Why.StoreFault) = false
-is_reason _ = true
-
-reasons : (told : List (Option CoreFault)) (fault : CoreFault) → list_all is_reason told ≡ true → first_of told ≡ Some fault → reason_of fault ≡ Some fault
-reasons [] fault h h2 = grind arith
-reasons (each ∷ others) fault h h2 = grind (arith, reasons others)
-
-when_reason : (test : Bool) (fault : CoreFault) → is_reason (Some fault) ≡ true → is_reason (when test fault) ≡ true
-when_reason test fault h = grind arith
-
-unless_reason : (asked : MsgName) (o : Option MsgName) → is_reason (unless asked o) ≡ true
-unless_reason asked o = grind arith
 
 -- a reason that is told is no want of memory
 pub tells_reason : (r : Run) (request : Request) (fault : CoreFault) → first_fault r request ≡ Some fault → first_fault r request ≡ reason_of fault
@@ -76,7 +54,7 @@ fits_up past p m h h2 = grind arith
 -- what stands against no crash of the runtime stands against none of the trace
 pub crash_legal : (r : Run) (p : Pid) → AllFit r.recording.processes r.recording.past (memories_of r) → IsWellFormed r.recording → first_fault r (Ask.Crash p) ≡ None → (p.0 < r.recording.processes) × (Rows.first_fault r.recording.processes r.recording.past (Crash p) ≡ None)
 unfolding rows Rows.rows
-crash_legal r p fit formed none = grind (arith, formed_short, row_none, fits_up)
+crash_legal r p fit formed none = grind (arith, formed_short)
 
 same_then : (n : ℕ) (b : Bool) → ((n == n) || b) ≡ true
 same_then n b = grind arith

@@ -9,10 +9,9 @@ use Rattle.causal_name.specs.declared.Pid.{Pid}
 use Rattle.causal_name.specs.declared.MsgName.{MsgName}
 use Rattle.causal_name.specs.declared.Det.{Det}
 use Rattle.causal_name.specs.Names.{same_message, same_pid, is_ascending}
-use Rattle.causal_name.proofs.Lemmas.DetOrder.{same_itself}
 use Rattle.causal_log.specs.Logs.{dets_of}
 use Rattle.causal_trace.specs.declared.entry.Entry.{Entry}
-use Rattle.causal_trace.specs.Past.{is_send_to, is_sent_to, message_at, det_from, is_det, is_delivered}
+use Rattle.causal_trace.specs.Past.{is_send_to, is_sent_to, message_at, is_det, is_delivered}
 use Rattle.causal_trace.specs.Rows as Rows
 use Rattle.causal_protocol.specs.declared.request.Request.TheVariants as Ask
 use Rattle.causal_protocol.specs.Memory.{Kept, Memory, Memories, at, kept_by, batch_of}
@@ -21,11 +20,10 @@ use Rattle.causal_protocol.specs.Naming.{name, if_to, kept_for, send_of, has_rec
 use Rattle.causal_protocol.specs.Refusals.{rows, first_fault, is_full}
 use Rattle.causal_protocol.specs.Steps.{delivery_of}
 use Rattle.causal_core.specs.Inside.Facts.{IsPlaced, Fits, FitsAt, AllFit}
-use Rattle.causal_core.specs.declared.cell.Message.{Message}
 use Rattle.causal_core.specs.declared.grown.Grown.{Grown}
 use Rattle.causal_core.specs.View.{DataState}
-use Rattle.causal_core.specs.Inside.Grown.{IsMade, IsGrown, carried_by}
-use Rattle.causal_core.specs.Inside.Memories.{kept_of, memory_at}
+use Rattle.causal_core.specs.Inside.Grown.{IsGrown, carried_by}
+use Rattle.causal_core.specs.Inside.Memories.{memory_at}
 use Rattle.causal_core.proofs.MemoriesFit.{all_more}
 use Rattle.std.proofs.lemmas.List.{length-map}
 use Rattle.std.proofs.lemmas.Option.{slice_get_within}
@@ -113,11 +111,6 @@ pub receiver_below : (r : Run) (q source : Pid) (ssn : ℕ) → first_fault r (A
 unfolding rows
 receiver_below r q source ssn none = grind arith
 
--- what was made for the message at hand is what a delivery of it puts in place
-pub made_grown : (d : DataState) (ms : Memories) (q source : Pid) (ssn : ℕ) (m : Memory) (message : Message) (g : Grown) (mine : Det) → ms ≡ memories_of d.run → at ms q.0 ≡ Some m → kept_for ms q (name source ssn) ≡ Some (kept_of message)
-    → mine ≡ det_from q (length m.received) (name source ssn) → IsMade d.run.faults mine m message g → IsGrown d q (name source ssn) g
-made_grown d ms q source ssn m message g mine same up kept is made = grind arith
-
 -- the same run
 pub grown_same : (a b : DataState) (q : Pid) (m : MsgName) (g : Grown) → b.run ≡ a.run → IsGrown a q m g → IsGrown b q m g
 grown_same a b q m g run h = grind arith
@@ -162,9 +155,9 @@ module _ (r : Run) (q source : Pid) (ssn : ℕ) (d : MayDeliver r q source ssn) 
   ascending = ap (λ b. is_ascending (with_own own (dets_of b))) batch_is ∙ with_ascending own (dets_of d.kept.batch) d.placed.ascending
 
   known : list_all (λ x. is_det (Some own) x || is_delivered r.recording.past x) listed ≡ true
-  known = grind (arith, batch_is, with_all, all_more)
+  known = grind (arith, with_all, all_more)
 
   -- what stands against no delivery of the runtime stands against none of the trace
   pub legal : Rows.first_fault r.recording.processes r.recording.past (delivery_of r q (name source ssn)) ≡ None
   unfolding Rows.rows
-  legal = grind (arith, rsn_is, sent_to, ascending, known, d.process, d.fits.up, d.long)
+  legal = grind (arith, rsn_is, sent_to, ascending, known, d.fits.up, d.long)

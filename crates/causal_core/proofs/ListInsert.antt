@@ -85,7 +85,7 @@ past own (x ∷ xs) ys h =
 
 -- before what comes after it, it comes first
 first : (own : Det) (ys : List Det) → is_ascending (own ∷ ys) ≡ true → with_own own ys ≡ own ∷ ys
-first own ys h = grind (arith, with_end, less_is, is_less)
+first own ys h = grind (arith, with_end, less_is)
 
 -- among the determinants of items, of which one names it
 module _ (own : Det) (items : List Item) (ascend : is_ascending (dets_of items) ≡ true) (named : names_det own items ≡ true) where

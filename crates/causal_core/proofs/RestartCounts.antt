@@ -16,9 +16,9 @@ use Rattle.causal_name.specs.Names.{det_cmp, same_det, is_before, is_ascending}
 use Rattle.causal_name.proofs.Lemmas.DetOrder.{dets_total, exact_dets, det_ties, same_itself}
 use Rattle.causal_log.specs.declared.known.Known.{Known}
 use Rattle.causal_log.specs.Knowledge.{held_by, stable_and_held_by}
-use Rattle.causal_log.specs.Logs.{LogMap, learned, learned_all, united}
+use Rattle.causal_log.specs.Logs.{LogMap, learned, learned_all}
 use Rattle.causal_log.specs.Stores.{DetSet, with_det, has, count_in}
-use Rattle.causal_log.proofs.Lemmas.Searches.{or_right, or_nothing, any_map, any_dets}
+use Rattle.causal_log.proofs.Lemmas.Searches.{or_nothing, any_map, any_dets}
 use Rattle.causal_log.proofs.Lemmas.Ascents.{ascending_tail, first_before, map_ascends}
 use Rattle.causal_protocol.specs.Memory.{Memory, Memories}
 use Rattle.causal_protocol.specs.Gathering.{united_all, held_all, stable_all, gathered_log}
@@ -45,7 +45,7 @@ logged_all (e ∷ es) log d = one_more log e.0 e.1 d _ _ (logged_all es (learned
 -- what all logs together have
 united_has : (ms : Memories) (log : LogMap) (d : Det) → is_some (fin.get (united_all ms log) d) ≡ (is_some (fin.get log d) || is_logged ms d)
 unfolding united_all
-united_has [] log d = grind (arith, logged_all, any_dets)
+united_has [] log d = grind arith
 united_has (each ∷ others) log d = grind (arith, united_has others, logged_all, any_dets)
 
 held_has : (ds : List Det) (p : Pid) (log : LogMap) (d : Det) → is_some (fin.get (held_all ds p log) d) ≡ (is_some (fin.get log d) || list_any (same_det d) ds)
@@ -57,9 +57,6 @@ stable_has : (ds : List Det) (p : Pid) (log : LogMap) (d : Det) → is_some (fin
 unfolding stable_all
 stable_has [] p log d = or_nothing (is_some (fin.get log d))
 stable_has (x ∷ ds) p log d = one_more log x (stable_and_held_by p) d _ _ (stable_has ds p (learned log x (stable_and_held_by p)) d)
-
-either_or : (k s : Bool) → ((k || k) || s) ≡ (s || k)
-either_or k s = grind arith
 
 -- what a restart gathers
 pub gathered_has : (ms : Memories) (stored : DetSet) (p : Pid) (d : Det) → is_some (fin.get (gathered_log ms stored p) d) ≡ (has stored d || is_logged ms d)
@@ -108,18 +105,18 @@ everything (Some m ∷ ms) s = everything ms (with_all (fin.keys m.log) s)
 
 every_has : (ms : Memories) (s : DetSet) (d : Det) → has (everything ms s) d ≡ (has s d || is_logged ms d)
 unfolding everything
-every_has [] s d = grind (arith, with_all, all_have, keys_have, or_assoc)
-every_has (each ∷ others) s d = grind (arith, every_has others, with_all, all_have, keys_have, or_assoc)
+every_has [] s d = grind arith
+every_has (each ∷ others) s d = grind (arith, every_has others, all_have, keys_have, or_assoc)
 
 every_last : (ms : Memories) (m : Memory) (s : DetSet) → everything (ms ++ Some m ∷ []) s ≡ with_all (fin.keys m.log) (everything ms s)
 unfolding everything
-every_last [] m s = grind (arith, with_all)
-every_last (each ∷ others) m s = grind (arith, every_last others, with_all)
+every_last [] m s = grind arith
+every_last (each ∷ others) m s = grind (arith, every_last others)
 
 every_down : (ms : Memories) (s : DetSet) → everything (ms ++ None ∷ []) s ≡ everything ms s
 unfolding everything
-every_down [] s = grind (arith, with_all)
-every_down (each ∷ others) s = grind (arith, every_down others, with_all)
+every_down [] s = grind arith
+every_down (each ∷ others) s = grind (arith, every_down others)
 
 -- how many determinants a set and these logs have
 pub count_all : Memories → DetSet → ℕ
@@ -138,7 +135,7 @@ count_down ms s = ap count_in (every_down ms s)
 -- one more log has as many more as neither the set nor those before has
 pub count_more : (ms : Memories) (m : Memory) (s : DetSet) → count_all (ms ++ Some m ∷ []) s ≡ count_all ms s + count_by (λ d. not (has s d || is_logged ms d)) (fin.keys m.log)
 unfolding count_all
-count_more ms m s = grind (arith, every_last, all_count, map_ascends, same_count, every_has, length-filter)
+count_more ms m s = grind (arith, every_last, all_count, map_ascends, every_has, length-filter)
 
 same_unit : (a b : Option (Unit {0})) → is_some a ≡ is_some b → a ≡ b
 same_unit a b h = grind arith

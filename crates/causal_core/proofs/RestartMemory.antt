@@ -1,5 +1,5 @@
 -- What a core remembers of its last restart stays, while no memory changes but that of its process.
-use Rattle.std.proofs.Common.{arith, ℕ, zero, suc, ◌≡◌, ◌+◌, ◌∙◌, true, false, List, [], ◌∷◌, Option, Some, None, is_some, refl, ap, slice_set}
+use Rattle.std.proofs.Common.{arith, ℕ, ◌≡◌, ◌+◌, ◌∙◌, false, List, [], ◌∷◌, Option, None, is_some, refl, ap, slice_set}
 use Rattle.causal_name.specs.declared.Pid.{Pid}
 use Rattle.causal_name.specs.declared.MsgName.{MsgName}
 use Rattle.causal_name.specs.declared.Det.{Det}

@@ -3,19 +3,18 @@ use Rattle.std.proofs.Common.{ℕ, suc, ◌≡◌, ◌≢◌, ◌+◌, ◌<◌, 
 use Rattle.std.specs.Prelude.{◌||◌, not, nat_lt, nat_le, is_some}
 use Rattle.std.specs.List.{list_any, list_all}
 use Rattle.std.specs.FinMap as fin
-use Rattle.std.proofs.lemmas.Bool.{false≢true, and_parts, or_right}
+use Rattle.std.proofs.lemmas.Bool.{false≢true, and_parts}
 use Rattle.std.proofs.lemmas.List.{length-map}
-use Rattle.std.proofs.lemmas.Bool.Decides.{nat_tests}
 use Rattle.causal_name.specs.declared.Pid.{Pid}
 use Rattle.causal_name.specs.declared.Det.{Det}
-use Rattle.causal_name.specs.Names.{det_cmp, same_det}
+use Rattle.causal_name.specs.Names.{same_det}
 use Rattle.causal_name.proofs.Lemmas.DetOrder.{dets_total}
 use Rattle.causal_log.specs.Logs.{LogMap, chosen}
 use Rattle.causal_log.specs.Stores.{has, count_in}
 use Rattle.causal_log.proofs.Lemmas.Ascents.{map_ascends}
 use Rattle.causal_trace.specs.declared.entry.Entry.{Entry}
-use Rattle.causal_trace.specs.declared.entry.Entry.TheVariants.{Send, Deliver, Stable, Crash, Restart, Forget}
-use Rattle.causal_trace.specs.Past.{is_down, is_stable, is_delivered, det_of, is_det, listed_in, restarts}
+use Rattle.causal_trace.specs.declared.entry.Entry.TheVariants.{Restart}
+use Rattle.causal_trace.specs.Past.{is_down, is_stable, is_delivered, listed_in, restarts}
 use Rattle.causal_trace.specs.Rows as Rows
 use Rattle.causal_trace.specs.Rows.{are_delivered, AreAccepted}
 use Rattle.causal_protocol.specs.declared.request.Request.TheVariants as Ask
@@ -64,13 +63,8 @@ module _ (P : Det → Bool) where
 -- what is stable was delivered
 stable_delivered : (n : ℕ) (past : List Entry) → AreAccepted n past → (d : Det) → is_stable past d ≡ true → is_delivered past d ≡ true
 unfolding Rows.rows
-stable_delivered n [] accepted d h = absurd (false≢true h)
-stable_delivered n (Send from to ssn ∷ past) accepted d h = or_right (is_det (det_of past (Send from to ssn)) d) (is_delivered past d) (stable_delivered n past accepted.0 d h)
-stable_delivered n (Deliver to send rsn listed ∷ past) accepted d h = or_right (is_det (det_of past (Deliver to send rsn listed)) d) (is_delivered past d) (stable_delivered n past accepted.0 d h)
-stable_delivered n (Crash who ∷ past) accepted d h = or_right (is_det (det_of past (Crash who)) d) (is_delivered past d) (stable_delivered n past accepted.0 d h)
-stable_delivered n (Restart who listed ∷ past) accepted d h = or_right (is_det (det_of past (Restart who listed)) d) (is_delivered past d) (stable_delivered n past accepted.0 d h)
-stable_delivered n (Forget who listed ∷ past) accepted d h = or_right (is_det (det_of past (Forget who listed)) d) (is_delivered past d) (stable_delivered n past accepted.0 d h)
-stable_delivered n (Stable det ∷ past) accepted d h = grind (arith, stable_delivered n past accepted.0 d)
+stable_delivered n [] h d h2 = grind arith
+stable_delivered n (each ∷ others) h d h2 = grind (arith, stable_delivered n others)
 
 -- what a restart gathers was delivered
 pub gathered_delivered : (n : ℕ) (past : List Entry) (ms : Memories) (p : Pid) → AreAccepted n past → AllFit n past ms → are_delivered past (fin.keys (gathered_log ms (stable_set past) p)) ≡ true
@@ -98,7 +92,7 @@ may_restart r p fit none = grind arith
 -- then nothing stands against its entry
 pub restart_legal : (r : Run) (p : Pid) → MayRestart r p → are_delivered r.recording.past (gathered r p) ≡ true → Rows.first_fault r.recording.processes r.recording.past (Restart p (gathered r p)) ≡ None
 unfolding Rows.rows
-restart_legal r p may delivered = grind (arith, map_ascends, nat_tests, may.down, may.long, may.lanes, delivered)
+restart_legal r p may delivered = grind (arith, map_ascends, may.down, may.long, delivered)
 
 -- a restart is an entry of its process alone
 pub restart_apart : (q : ℕ) (p : Pid) (listed : List Det) → q ≢ p.0 → is_of q (Restart p listed) ≡ false
@@ -123,8 +117,8 @@ restart_memories r p listed tos inside =
 -- there are no more stable ones than entries
 pub few_stable : (past : List Entry) → count_in (stable_set past) ≤ length past
 unfolding stable_set
-few_stable [] = grind (arith, fin.len-empty, fin.len-insert, dets_total)
-few_stable (each ∷ others) = grind (arith, few_stable others, fin.len-empty, fin.len-insert, dets_total)
+few_stable [] = grind (arith, fin.len-empty)
+few_stable (each ∷ others) = grind (arith, few_stable others, fin.len-insert, dets_total)
 
 -- what stands against a restart is what stands against one that lists what is gathered
 pub restart_lists : (r : Run) (p : Pid) (listed : ℕ) → listed ≡ length (gathered r p) → listing_fault r p listed ≡ first_fault r (Ask.Restart p)

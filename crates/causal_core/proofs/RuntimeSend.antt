@@ -1,8 +1,7 @@
 -- A send of the runtime.
-use Rattle.std.proofs.Common.{ℕ, zero, suc, ◌≡◌, ◌≢◌, ◌+◌, ◌<◌, ◌≤◌, ◌⊎◌, inl, inr, true, false, cond, ◌==◌, List, [], ◌∷◌, ◌++◌, length, Option, Some, None, refl, sym, ap, ◌∙◌, arith, slice_get, slice_set, length-append, replicate}
+use Rattle.std.proofs.Common.{ℕ, zero, suc, ◌≡◌, ◌≢◌, ◌+◌, ◌<◌, ◌≤◌, ◌⊎◌, true, false, cond, ◌==◌, List, [], ◌∷◌, ◌++◌, length, Option, Some, None, refl, ap, ◌∙◌, arith, slice_get, slice_set, length-append, replicate}
 use Rattle.std.specs.Prelude.{nat_lt}
 use Rattle.std.specs.List.{list_all, filter_map}
-use Rattle.std.specs.Option.{option_map}
 use Rattle.std.proofs.lemmas.List.{length-map}
 use Rattle.causal_name.specs.declared.Pid.{Pid}
 use Rattle.causal_name.specs.Names.{is_ascending}
@@ -14,7 +13,7 @@ use Rattle.causal_trace.specs.declared.entry.Entry.TheVariants.{Send}
 use Rattle.causal_trace.specs.Past.{listed_in}
 use Rattle.causal_trace.specs.Rows as Rows
 use Rattle.causal_trace.specs.Rows.{are_delivered}
-use Rattle.causal_protocol.specs.Memory.{Memory, Memories, at, keeping, with_sent}
+use Rattle.causal_protocol.specs.Memory.{Memory, Memories, at, keeping}
 use Rattle.causal_protocol.specs.Run.{memories}
 use Rattle.causal_protocol.specs.Steps.{pushed, sends_of, receiver_of, AreSends}
 use Rattle.causal_core.specs.Inside.Facts.{Fits}
@@ -38,7 +37,7 @@ get_last (each ∷ others) x y i h = grind (arith, get_last others)
 
 -- q keeps what it has sent
 pub send_fits : (past : List Entry) (q to : Pid) (batch : List Item) (m : Memory) → Fits past q.0 m → is_ascending (dets_of batch) ≡ true → are_delivered past (dets_of batch) ≡ true → Fits (Send q to (length m.sent) ∷ past) q.0 (keeping to (length past) batch m)
-send_fits past q to batch m fit ascending delivered = grind (arith, length-append, eqb_refl, get_last, placed_more)
+send_fits past q to batch m fit ascending delivered = grind (arith, length-append, get_last, placed_more)
 
 -- a send is an entry of its sender alone
 pub send_apart : (q : ℕ) (from to : Pid) (ssn : ℕ) → q ≢ from.0 → is_of q (Send from to ssn) ≡ false

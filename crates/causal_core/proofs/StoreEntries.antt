@@ -1,14 +1,14 @@
 -- The store, said by the stable entries.
-use Rattle.std.proofs.Common.{arith, ℕ, ◌≡◌, ◌∙◌, List, [], ◌∷◌, Option, is_some, refl, sym, ap}
+use Rattle.std.proofs.Common.{arith, ℕ, ◌≡◌, ◌∙◌, List, [], ◌∷◌, Option, is_some, refl, sym}
 use Rattle.std.specs.Prelude.{◌||◌}
 use Rattle.std.specs.FinMap as fin
 use Rattle.causal_name.specs.declared.Pid.{Pid}
 use Rattle.causal_name.specs.declared.Det.{Det}
-use Rattle.causal_name.specs.Names.{det_cmp, same_det}
+use Rattle.causal_name.specs.Names.{same_det}
 use Rattle.causal_name.proofs.Lemmas.DetOrder.{dets_total, exact_dets, det_ties}
 use Rattle.causal_log.specs.Stores.{DetSet, with_det, has}
 use Rattle.causal_trace.specs.declared.entry.Entry.{Entry}
-use Rattle.causal_trace.specs.declared.entry.Entry.TheVariants.{Send, Deliver, Stable, Crash, Restart, Forget}
+use Rattle.causal_trace.specs.declared.entry.Entry.TheVariants.{Send}
 use Rattle.causal_trace.specs.Past.{is_stable}
 use Rattle.causal_protocol.specs.Gathering.{stable_set}
 use Rattle.causal_protocol.specs.Steps.{pushed, sends_of}
@@ -20,8 +20,8 @@ has_with s det d = grind (arith, fin.get-insert, dets_total, det_ties)
 -- the set of the stable entries has what is stable
 pub has_stable : (past : List Entry) (d : Det) → has (stable_set past) d ≡ is_stable past d
 unfolding stable_set
-has_stable [] d = grind (arith, fin.get-empty, has_with)
-has_stable (each ∷ others) d = grind (arith, has_stable others, fin.get-empty, has_with)
+has_stable [] d = grind (arith, fin.get-empty)
+has_stable (each ∷ others) d = grind (arith, has_stable others, has_with)
 
 same_unit : (a b : Option (Unit {0})) → is_some a ≡ is_some b → a ≡ b
 same_unit a b h = grind arith

@@ -11,4 +11,4 @@ loop-cell-preserved c =
     logged_here c.args.cells.now c.loop-cell.cell-index _ c.loop-cell-test.true c.cell-item.is c.args.det false (sym c.if-logs.false ∙ c.logs.ensures) ∙ c.loop-cell.invariant
 
 pub returns : goal.returns
-returns c = sym (logged_end c.args.cells.now c.loop-cell.cell-index c.args.det (omega (arith, c.loop-cell-test.false))) ∙ c.loop-cell.invariant
+returns c = grind (arith, logged_end)

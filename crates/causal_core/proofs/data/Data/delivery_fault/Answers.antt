@@ -20,7 +20,7 @@ use Rattle.causal_core.specs.View.{run_from}
 use Rattle.causal_core.specs.Inside.Memories.{memories_in, memory_of, kept_of, stored_for}
 use Rattle.causal_core.proofs.DeliveryRows.{tell_process, tell_down, tell_other, tell_absent, tell_again, tell_full, received_few, stored_here, listed_is}
 use Rattle.causal_core.proofs.data.Data.delivery_fault.Goals as goal
-use Rattle.causal_core.proofs.data.Data.delivery_fault.Goals.{After-are_processes, In-Some, After-cell_at, After-other_named, In-Some-message, After-is_full}
+use Rattle.causal_core.proofs.data.Data.delivery_fault.Goals.{After-are_processes, In-Some, After-other_named, In-Some-message, After-is_full}
 
 abbrev run : After-are_processes → Run
 run c = run_from c.self.inside.trace.recording c.self.inside.faults c.self.inside.writers.items
