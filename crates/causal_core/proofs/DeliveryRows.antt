@@ -4,7 +4,6 @@ use Rattle.std.specs.Prelude.{◌&&◌, not, nat_lt, is_none}
 use Rattle.std.specs.List.{list_any}
 use Rattle.std.specs.Option.{option_map}
 use Rattle.causal_name.specs.declared.Pid.{Pid}
-use Rattle.causal_name.specs.declared.MsgName.{MsgName}
 use Rattle.causal_name.specs.Names.{same_message, message_of, same_pid}
 use Rattle.causal_trace.specs.declared.entry.Entry.{Entry}
 use Rattle.causal_trace.proofs.Lemmas.CountBounds.{deliveries_few}
@@ -13,12 +12,10 @@ use Rattle.causal_protocol.specs.declared.request.CoreFault.TheVariants as Why
 use Rattle.causal_protocol.specs.declared.request.Request.TheVariants as Ask
 use Rattle.causal_protocol.specs.Memory.{Kept, Memory, Memories, at}
 use Rattle.causal_protocol.specs.Run.{Run, memories_of, stable_of}
-use Rattle.causal_trace.specs.Past.{det_from}
-use Rattle.causal_log.specs.Logs.{dets_of}
 use Rattle.causal_log.specs.Stores.{dets_in}
 use Rattle.causal_log.specs.Slots.{first_of_slot}
 use Rattle.causal_core.specs.Inside.Memories.{stored_for}
-use Rattle.causal_protocol.specs.Naming.{name, next_det, named_for, if_to, kept_for, has_received, with_own, listed_for}
+use Rattle.causal_protocol.specs.Naming.{name, next_det, named_for, if_to, kept_for, has_received, listed_for}
 use Rattle.causal_protocol.specs.Refusals.{rows, first_of, first_fault, is_full, when, unless}
 use Rattle.causal_core.specs.Inside.Facts.{AllFit}
 
@@ -97,7 +94,3 @@ stored_here r ms q m same up = grind arith
 -- a message that is kept for q is kept, and goes to q
 pub kept_found : (q : Pid) (o : Option Kept) (k : Kept) → if_to q o ≡ Some k → (o ≡ Some k) × (same_pid k.to q ≡ true)
 kept_found q o k h = grind arith
-
--- what a delivery lists, by the receiver's memory and the message
-pub listed_is : (ms : Memories) (q : Pid) (n : MsgName) (m : Memory) (k : Kept) → at ms q.0 ≡ Some m → kept_for ms q n ≡ Some k → listed_for ms q n ≡ with_own (det_from q (length m.received) n) (dets_of k.batch)
-listed_is ms q n m k up kept = grind arith

@@ -68,5 +68,5 @@ stable_held r ms p det held process next =
       all_fit_set r.recording.processes r.recording.past (Stable det ∷ r.recording.past) ms p.0,
       fits_other,
       fits_option,
-      formed_push r.recording (Stable det) held.formed next,
+      formed_push r.recording,
     )

@@ -111,10 +111,6 @@ pub receiver_below : (r : Run) (q source : Pid) (ssn : ℕ) → first_fault r (A
 unfolding rows
 receiver_below r q source ssn none = grind arith
 
--- the same run
-pub grown_same : (a b : DataState) (q : Pid) (m : MsgName) (g : Grown) → b.run ≡ a.run → IsGrown a q m g → IsGrown b q m g
-grown_same a b q m g run h = grind arith
-
 -- what a delivery lists is within the limit
 pub listed_few : (r : Run) (q source : Pid) (ssn : ℕ) → first_fault r (Ask.Deliver q source ssn) ≡ None → length (listed_for (memories_of r) q (name source ssn)) ≤ 268435456
 unfolding rows
@@ -160,4 +156,4 @@ module _ (r : Run) (q source : Pid) (ssn : ℕ) (d : MayDeliver r q source ssn) 
   -- what stands against no delivery of the runtime stands against none of the trace
   pub legal : Rows.first_fault r.recording.processes r.recording.past (delivery_of r q (name source ssn)) ≡ None
   unfolding Rows.rows
-  legal = grind (arith, rsn_is, sent_to, ascending, known, d.fits.up, d.long)
+  legal = grind (arith, rsn_is, sent_to, ascending, known, d.long)

@@ -53,8 +53,7 @@ module _ (e : Entry) (past : List Entry) where
   -- of the other processes nothing changes
   pub fits_other : (p : ℕ) → is_of p e ≡ false → (m : Option Memory) → FitsAt past p m → FitsAt (e ∷ past) p m
   fits_other p apart None down = down_other past p e apart ∙ down
-  fits_other p apart (Some m) fits =
-      grind (arith, down_other past p e apart, sends_other past p e apart, received_other, delivered_more (fin.keys m.log) fits.logged, placed_more)
+  fits_other p apart (Some m) fits = grind (arith, down_other past, sends_other past, received_other, delivered_more (fin.keys m.log), placed_more)
 
 -- at the place of a write there is what was written
 pub at-set_same : {X : Type 0} (xs : List (Option X)) (p : ℕ) (x : Option X) → p < length xs → at (slice_set xs p x) p ≡ x

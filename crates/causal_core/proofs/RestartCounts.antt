@@ -106,7 +106,7 @@ everything (Some m ∷ ms) s = everything ms (with_all (fin.keys m.log) s)
 every_has : (ms : Memories) (s : DetSet) (d : Det) → has (everything ms s) d ≡ (has s d || is_logged ms d)
 unfolding everything
 every_has [] s d = grind arith
-every_has (each ∷ others) s d = grind (arith, every_has others, all_have, keys_have, or_assoc)
+every_has (each ∷ others) s d = grind (arith, every_has others, all_have, keys_have)
 
 every_last : (ms : Memories) (m : Memory) (s : DetSet) → everything (ms ++ Some m ∷ []) s ≡ with_all (fin.keys m.log) (everything ms s)
 unfolding everything

@@ -92,7 +92,7 @@ may_restart r p fit none = grind arith
 -- then nothing stands against its entry
 pub restart_legal : (r : Run) (p : Pid) → MayRestart r p → are_delivered r.recording.past (gathered r p) ≡ true → Rows.first_fault r.recording.processes r.recording.past (Restart p (gathered r p)) ≡ None
 unfolding Rows.rows
-restart_legal r p may delivered = grind (arith, map_ascends, may.down, may.long, delivered)
+restart_legal r p may delivered = grind (arith, map_ascends, may.down, may.long)
 
 -- a restart is an entry of its process alone
 pub restart_apart : (q : ℕ) (p : Pid) (listed : List Det) → q ≢ p.0 → is_of q (Restart p listed) ≡ false
