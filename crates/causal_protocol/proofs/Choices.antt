@@ -63,11 +63,8 @@ stable_have log d =
 -- a flush writes only what the log has
 pub unstable_logged : (log : LogMap) (d : Det) → has (unstable_in log) d ≡ true → has_entry d log ≡ true
 unstable_logged log d h =
-    by (fin.get log d) (sym (any_kept (λ e. e.0) (λ e. not e.1.stable) (same_det d) (λ e. same_det d e.0 && not e.1.stable) (λ e. swap (not e.1.stable) (same_det d e.0)) (fin.entries log) ∙ any_logged (λ k. not k.stable) d log) ∙ h)
-  where
-    by : (o : Option Known) → passes (λ k. not k.stable) o ≡ true → is_some o ≡ true
-    by None h = absurd (false≢true h)
-    by (Some k) h = refl
+    let kept = any_kept (λ e. e.0) (λ e. not e.1.stable) (same_det d) (λ e. same_det d e.0 && not e.1.stable) (λ e. swap (not e.1.stable) (same_det d e.0)) (fin.entries log) in
+    grind (arith, kept, any_logged (λ k. not k.stable) d log)
 
 -- a mark
 get_mark : (log : LogMap) (det other : Det) (o : Option Known) → fin.get log det ≡ o → (b : Bool) → same_det other det ≡ b → fin.get (mark log det o) other ≡ cond b (option_map as_stable (fin.get log other)) (fin.get log other)

@@ -1,5 +1,5 @@
 -- What the protocol keeps, over a crash.
-use Rattle.std.proofs.Common.{ℕ, zero, suc, ◌≡◌, ◌+◌, ◌≤◌, Bool, true, false, cond, List, ◌∷◌, ◌<◌, refl, sym, ap, ◌∙◌, arith}
+use Rattle.std.proofs.Common.{ℕ, zero, suc, ◌≡◌, ◌+◌, ◌≤◌, Bool, true, false, List, ◌∷◌, ◌<◌, refl, sym, ap, ◌∙◌, arith}
 use Rattle.std.specs.Prelude.{◌||◌, ◌&&◌, not, ◌==◌}
 use Rattle.std.proofs.lemmas.Bool.{or_cases, or_parts, and_from, and_parts, eqb-true, not_from_false}
 use Rattle.std.proofs.lemmas.Bool.Decides.{eqb_tells}
@@ -21,16 +21,10 @@ use Rattle.causal_trace.specs.Dependence.{AreForward}
 only_others : (n : ℕ) (a : ℕ → Bool) (w : ℕ) → n ≤ w → count_below n (λ p. w == p || a p) ≤ count_below n a
 only_others n a w above = grind (arith, count_below-within, or_cases, eqb-true)
 
-one_or : (x y : Bool) → x ≡ false → cond (x || y) 1 0 ≤ cond y 1 0
-one_or x y e = rw e (omega arith)
-
-at_most : (b : Bool) → cond b 1 0 ≤ 1
-at_most b = grind arith
-
 -- one more has at most one more member
 count_one : (n : ℕ) (a : ℕ → Bool) (w : ℕ) → count_below n (λ p. w == p || a p) ≤ count_below n a + 1
 count_one zero a w = omega arith
-count_one (suc n) a w = grind (arith, eqb_tells w n, only_others, at_most (w == n || a n), count_one n a w, one_or)
+count_one (suc n) a w = grind (arith, eqb_tells w n, only_others n a w, count_one n a w)
 
 -- one more process goes down, and all that it has in volatile memory is lost
 pub record IsCrashed (n f : ℕ) (past : List Entry) (who : ℕ) (ms next : Memories) : Type 0 where

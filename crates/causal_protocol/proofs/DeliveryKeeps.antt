@@ -11,12 +11,12 @@ use Rattle.causal_name.specs.declared.MsgName.{MsgName}
 use Rattle.causal_name.specs.declared.Pid.{Pid}
 use Rattle.causal_trace.specs.declared.entry.Entry.{Entry}
 use Rattle.causal_trace.specs.declared.entry.Entry.TheVariants.{Deliver}
-use Rattle.causal_trace.specs.Past.{has, is_down, logs, message_at, det_from, det_of, det_at, is_delivered}
+use Rattle.causal_trace.specs.Past.{has, is_down, logs, message_at, det_from, det_of, det_at}
 use Rattle.causal_trace.specs.Dependence.{AreForward, actor, Reaches, Depends}
 use Rattle.causal_trace.proofs.Lemmas.DependenceSteps.{reaches_old, reaches_begins, ReachesNewest, is_newest, in_lane, through_message, depends_old}
 use Rattle.causal_protocol.specs.Memory.{Kept, Memories}
 use Rattle.causal_protocol.specs.Sight.{has_logged, knows, marks, Keeps, has_item, item_holder}
-use Rattle.causal_protocol.specs.Kept.{finds, survives, IsSpread, IsTrueOf, SlotsAreSingle, Keeping}
+use Rattle.causal_protocol.specs.Kept.{finds, survives, IsSpread, IsTrueOf, Keeping}
 use Rattle.causal_protocol.proofs.Sets.{survives_found, survives_log, finds_survive, finds_more, Stays, spread_stays, true_stays}
 use Rattle.causal_protocol.proofs.SendKeeps.{at_newest, det_older}
 
@@ -127,15 +127,6 @@ module _ (n f : ℕ) (past : List Entry) (ms next : Memories) (to : Pid) (send r
   one_slot : (d : Det) → survives n past d ≡ true → d.dest ≡ to → d.rsn ≡ rsn → d ≡ own
   one_slot d alive dest place = grind arith
 
-  single : SlotsAreSingle n (e ∷ past)
-  single x y hx hy dest place = grind (arith, left x hx, left y hy, one_slot)
-
-  delivered : (d : Det) → survives n (e ∷ past) d ≡ true → is_delivered (e ∷ past) d ≡ true
-  delivered d h = grind (arith, left d h, own_det, same_itself)
-
-  homed : (d : Det) → d.dest.0 < n → is_down past d.dest.0 ≡ false → survives n (e ∷ past) d ≡ true → finds (e ∷ past) d.dest.0 d ≡ true
-  homed d below up h = grind (arith, left d h, logs_own, finds_more)
-
   -- all that the protocol keeps stands after a delivery
   pub keeps_delivery : Keeping n f (Deliver to send rsn listed ∷ past) next
   keeps_delivery = record {
@@ -156,9 +147,9 @@ module _ (n f : ℕ) (past : List Entry) (ms next : Memories) (to : Pid) (send r
         let before = reaches_old e past i forward x.send (k.earlier p x small (s.kept p x keeps)) r in
         let older = det_older e past i d (reaches_begins past i x.send before) at in
         grind (arith, k.messages_carry i p x d small older (s.kept p x keeps) before, spreads d);
-    receivers_find = λ d below up h. homed d below up h;
+    receivers_find = λ d below up h. grind (arith, left d h, logs_own, finds_more);
     senders_find = λ p x d small keeps carries. finds_more past (e ∷ past) p d (λ held. or_right _ _ held) (λ stable. stable) (k.senders_find p x d small (s.kept p x keeps) carries);
     earlier = λ p x small keeps. omega (arith, k.earlier p x small (s.kept p x keeps));
-    single_slots = single;
-    survivors_delivered = delivered;
+    single_slots = λ x y hx hy dest place. grind (arith, left x hx, left y hy, one_slot);
+    survivors_delivered = λ d h. grind (arith, left d h, own_det, same_itself);
   }

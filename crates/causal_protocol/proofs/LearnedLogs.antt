@@ -269,13 +269,12 @@ module _ (ms : Memories) (stored : DetSet) (p : Pid) (d : Det) where
   -- of what is gathered a known holder is p itself, or a process that is up knew of it
   pub gathered_holder : (q : ℕ) → tells_holder d q gathered ≡ true → (q ≡ p.0) ⊎ ((r : ℕ) × (r < length ms) × (knows ms r d q ≡ true))
   gathered_holder q h =
-      elim (or_cases (tells_holder d q held) (list_any (λ x. same_det d x && set.contains (stable_and_held_by p).holders q) (dets_in stored)) (sym (all_known (λ k. set.contains k.holders q) (holds_either q)) ∙ h)) [
-        | inl log ↦ elim (or_cases (tells_holder d q together) (list_any (λ x. same_det d x && set.contains (held_by p).holders q) (fin.keys together)) (sym (held_known (λ k. set.contains k.holders q) (holds_either q)) ∙ log)) [
-          | inl one ↦ inr (elim (united_found (tells_holder d q) (holder_either d q) (none_holds d q) ms fin.empty one) [ inl none ↦ absurd (both_ways _ (none_holds d q) none) | inr some ↦ some ])
-          | inr mine ↦ inl (alone_holds p.0 q (any_of d (λ x. set.contains (held_by p).holders q) (fin.keys together) mine).1)
-        ]
-        | inr mine ↦ inl (alone_holds p.0 q (any_of d (λ x. set.contains (stable_and_held_by p).holders q) (dets_in stored) mine).1)
-      ]
+      let all = all_known (λ k. set.contains k.holders q) (holds_either q) in
+      let some = held_known (λ k. set.contains k.holders q) (holds_either q) in
+      let united = united_found (tells_holder d q) (holder_either d q) (none_holds d q) ms fin.empty in
+      let mine = any_of d (λ x. set.contains (held_by p).holders q) (fin.keys together) in
+      let kept = any_of d (λ x. set.contains (stable_and_held_by p).holders q) (dets_in stored) in
+      grind (arith, all, some, united, none_holds d q, mine, kept, alone_holds p.0 q)
 
   -- holders of which a process that is up knew are known in what is gathered
   pub gathered_known : (r q : ℕ) → knows ms r d q ≡ true → tells_holder d q gathered ≡ true

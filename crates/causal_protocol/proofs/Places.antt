@@ -1,7 +1,7 @@
 -- One memory of many is changed.
 use Rattle.std.proofs.Common.{ℕ, zero, suc, ◌≡◌, ◌<◌, inl, inr, Bool, true, false, cond, not, ◌&&◌, ◌||◌, List, [], ◌∷◌, ◌++◌, length, slice_get, slice_set, Option, Some, None, is_none, refl, ap, ◌∙◌, arith}
 use Rattle.std.specs.Prelude.{◌==◌, ◌⊎◌}
-use Rattle.std.specs.Option.{option_map, option_map_or, option_and_then}
+use Rattle.std.specs.Option.{option_map, option_map_or}
 use Rattle.std.proofs.lemmas.Bool.{cond-true, cond-false}
 use Rattle.std.proofs.lemmas.Bool.Decides.{eqb_tells}
 use Rattle.std.specs.FinMap as fin
@@ -22,15 +22,9 @@ set_other (y ∷ ys) zero x (suc p) other = refl
 set_other (y ∷ ys) (suc w) x zero other = refl
 set_other (y ∷ ys) (suc w) x (suc p) other = set_other ys w x p (λ e. other (ap suc e))
 
-get_set : {X : Type 0} (xs : List X) (w : ℕ) (x : X) (p : ℕ) → w < length xs → slice_get (slice_set xs w x) p ≡ cond (w == p) (Some x) (slice_get xs p)
-get_set xs w x p low = grind (arith, eqb_tells w p, set_same xs w x low, cond-true, set_other, cond-false)
-
-joined_if : {X : Type 0} (b : Bool) (x : Option X) (y : Option (Option X)) → option_and_then (λ z. z) (cond b (Some x) y) ≡ cond b x (option_and_then (λ z. z) y)
-joined_if b x y = grind arith
-
 -- after one place is set, that has what it was set to, and each other what it had
 pub at_set : {X : Type 0} (xs : List (Option X)) (w : ℕ) (x : Option X) (p : ℕ) → w < length xs → at (slice_set xs w x) p ≡ cond (w == p) x (at xs p)
-at_set xs w x p low = ap (option_and_then (λ z. z)) (get_set xs w x p low) ∙ joined_if (w == p) x (slice_get xs p)
+at_set xs w x p low = grind (arith, eqb_tells w p, set_same xs w x low, set_other xs w x p)
 
 -- where something is at a place, the list is longer
 pub at_within : {X : Type 0} (xs : List (Option X)) (p : ℕ) (x : X) → at xs p ≡ Some x → p < length xs
@@ -44,17 +38,14 @@ log_in o = option_map_or (λ m. m.log) o fin.empty
 abbrev pub sent_in : Option Memory → List Kept
 sent_in o = option_map_or (λ m. m.sent) o []
 
-map_if : {A B : Type 0} (g : A → B) (b : Bool) (x y : A) → g (cond b x y) ≡ cond b (g x) (g y)
-map_if g b x y = grind arith
-
 -- where the memory at a place is set, the logs and the messages elsewhere are as before
 pub log_set : (ms : Memories) (w : ℕ) (x : Option Memory) (p : ℕ) → w < length ms → log_at (slice_set ms w x) p ≡ cond (w == p) (log_in x) (log_at ms p)
 unfolding log_at
-log_set ms w x p low = ap log_in (at_set ms w x p low) ∙ map_if log_in (w == p) x (at ms p)
+log_set ms w x p low = grind (arith, at_set ms w x p low)
 
 pub messages_set : (ms : Memories) (w : ℕ) (x : Option Memory) (p : ℕ) → w < length ms → messages (slice_set ms w x) p ≡ cond (w == p) (sent_in x) (messages ms p)
 unfolding messages
-messages_set ms w x p low = ap sent_in (at_set ms w x p low) ∙ map_if sent_in (w == p) x (at ms p)
+messages_set ms w x p low = grind (arith, at_set ms w x p low)
 
 -- where one memory is changed, its process has the new log, and each other its own
 pub log_changed : (g : Memory → Memory) (ms : Memories) (w : ℕ) (m : Memory) → at ms w ≡ Some m → (p : ℕ) → log_at (changed g ms w) p ≡ cond (w == p) ((g m).log) (log_at ms p)
@@ -116,4 +107,4 @@ changed_state g ms w m here p = grind (arith, at_set, at_within, eqb_tells)
 
 -- where one memory is set, its process is up or down by that, and each other as before
 pub set_state : (ms : Memories) (w : ℕ) (x : Option Memory) (p : ℕ) → w < length ms → is_none (at (slice_set ms w x) p) ≡ cond (w == p) (is_none x) (is_none (at ms p))
-set_state ms w x p low = ap is_none (at_set ms w x p low) ∙ map_if is_none (w == p) x (at ms p)
+set_state ms w x p low = grind (arith, at_set ms w x p low)

@@ -1,7 +1,6 @@
 -- What it says that nothing stands against a request.
 use Rattle.std.proofs.Common.{ℕ, zero, suc, ◌≡◌, ◌+◌, ◌<◌, Bool, true, false, cond, not, List, [], ◌∷◌, length, slice_get, count_by, Option, Some, None, is_some, is_none, refl, sym, ap, ◌∙◌, arith}
 use Rattle.std.specs.Prelude.{◌==◌, ◌⊎◌}
-use Rattle.std.specs.Option.{option_map, option_and_then}
 use Rattle.std.specs.FinMap as fin
 use Rattle.std.proofs.lemmas.Bool.{and_parts, eqb-true}
 use Rattle.std.proofs.lemmas.List.Sums.{sum_by-cons}
@@ -90,9 +89,8 @@ module _ (n f : ℕ) (past : List Entry) (ms : Memories) (q : Pid) (m : Memory) 
   only_named asked none d found dest place =
       let some = next_some d found dest place in
       let next = next_found some.0 some.1 in
-      let named : named_for ms (stable_set past) q ≡ Some (message_of some.0) = ap (λ o. option_map message_of (option_and_then (next_det (stable_set past) q) o)) here ∙ ap (option_map message_of) some.1 in
-      let same : some.0 ≡ d = s.facts.single_slots some.0 d (finds_survive n past q.0 some.0 low next.0) (finds_survive n past q.0 d low found) (next.1 ∙ sym dest) (next.2 ∙ sym place) in
-      ap message_of (sym same) ∙ unless_none asked (message_of some.0) (ap (unless asked) (sym named) ∙ none)
+      let alive = finds_survive n past q.0 some.0 low next.0 in
+      grind (arith, next, alive, some.1, s.facts.single_slots some.0 d, finds_survive n past q.0 d low found, unless_none asked (message_of some.0))
 
 -- how many are down
 count_front : (n : ℕ) (test : ℕ → Bool) → count_below (suc n) test ≡ cond (test 0) 1 0 + count_below n (λ p. test (suc p))

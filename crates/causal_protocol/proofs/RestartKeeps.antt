@@ -61,9 +61,6 @@ module _ (n f : ℕ) (past : List Entry) (ms next : Memories) (who : Pid) (liste
   new_holder : (p : ℕ) (d : Det) (q : ℕ) → p < n → knows next p d q ≡ true → (q < n) × IsTrueOf (Restart who listed ∷ past) d q
   new_holder p d q small h = grind (arith, old_holder, entry_of_holder, or_cases, eq-eqb, and_parts)
 
-  marked_before : (p : ℕ) (d : Det) → p < n → marks next p d ≡ true → is_stable past d ≡ true
-  marked_before p d small h = grind arith
-
   restarted_depends : (i p : ℕ) (d : Det) → p < n → det_at past i ≡ Some d → Depends (Restart who listed ∷ past) i p → (logs (Restart who listed ∷ past) p d ≡ true) ⊎ IsSpread n f (Restart who listed ∷ past) d
   restarted_depends i p d small at dep = grind (arith, eqb_tells who.0 p, depends_restarted, cond-true, depends_old, cond-false, spreads, no_actor)
 
@@ -79,7 +76,7 @@ module _ (n f : ℕ) (past : List Entry) (ms next : Memories) (who : Pid) (liste
         true_stays n past (Restart who listed ∷ past) d q (k.named_processes p x d q small (s.kept p x keeps) names)
         (stays d (finds_survive n past p d small (k.senders_find p x d small (s.kept p x keeps) (item_of_holder d q x.batch names)))) (k.named_hold p x d q small (s.kept p x keeps) names);
     named_processes = λ p x d q small keeps names. k.named_processes p x d q small (s.kept p x keeps) names;
-    marks_true = λ p d small h. marked_before p d small h;
+    marks_true = λ p d small h. grind arith;
     dependents_hold = λ i p d small at dep. restarted_depends i p d small (det_earlier (Restart who listed) past i d refl at) dep;
     messages_carry = λ i p x d small at keeps r.
         let before = reaches_old (Restart who listed) past i forward x.send (k.earlier p x small (s.kept p x keeps)) r in

@@ -95,10 +95,5 @@ module _ (n f : ℕ) (past : List Entry) (ms next : Memories) (from to : Pid) (s
       covered : (i p : ℕ) (x : Kept) (d : Det) → p < n → det_at past i ≡ Some d → Reaches (Send from to ssn ∷ past) i x.send → (Keeps ms p x ⊎ ((from.0 ≡ p) × (x ≡ new))) → (has_item d x.batch ≡ true) ⊎ IsSpread n f past d
       covered i p x d small at r (inl old) = k.messages_carry i p x d small at old (reaches_old (Send from to ssn) past i forward x.send (k.earlier p x small old) r)
       covered i p x d small at r (inr mine) =
-          elim (sent_depends i from.0 d s.process at s.up (reaches_newest (Send from to ssn) past i from.0 x.send forward (ap (λ (y : Kept). y.send) mine.1 ∙ s.place) refl r)) [
-            | inl held ↦ elim (chosen d held) [
-              | inl goes ↦ inl (ap (λ (y : Kept). has_item d y.batch) mine.1 ∙ goes)
-              | inr spread ↦ inr spread
-            ]
-            | inr spread ↦ inr spread
-          ]
+          let newest = reaches_newest (Send from to ssn) past i from.0 x.send forward (ap (λ (y : Kept). y.send) mine.1 ∙ s.place) refl r in
+          grind (arith, sent_depends i from.0 d s.process at s.up newest, chosen d)

@@ -302,20 +302,15 @@ module _ (n f : ℕ) (past : List Entry) (ms : Memories) (who : Pid) (listed : L
   is_restarted = record {
     process = low;
     lists = lists_survivors;
-    has_as = λ p d. elim (set_cases ms who.0 (Some (fresh gathered)) p bound) [
-      | inl is ↦ ap (has_entry d) is.2 ∙ sym (lists d) ∙ alone (has listed d) ∙ (λ i. (sym is.0 i && has listed d) || sym (nothing_there (has_entry d) (LearnedLogs.none_entry d) p is.1) i)
-      | inr other ↦ ap (has_entry d) other.1 ∙ (λ i. (sym other.0 i && has listed d) || has_logged ms p d)
-    ];
+    has_as = λ p d.
+        let empty = nothing_there (has_entry d) (LearnedLogs.none_entry d) p in
+        grind (arith, set_cases ms who.0 (Some (fresh gathered)) p bound, lists d, empty);
     heard = λ p d q h. grind (arith, set_cases, bound, LearnedLogs.gathered_holder, under);
     own = λ d h. grind (arith, set_cases, bound, LearnedLogs.gathered_itself);
     before = λ p d q away h. grind (arith, set_cases, bound, both_ways);
     marked = λ p d h. grind (arith, set_cases, bound, LearnedLogs.gathered_mark, Choices.stable_has past d, under);
     kept = λ p x keeps. (keeps.0, restarted_kept p keeps.0 x keeps.1);
   }
-    where
-      alone : (b : Bool) → b ≡ ((true && b) || false)
-      alone true = refl
-      alone false = refl
 
   restart_fits : Matches n (Restart who listed ∷ past) restarted
   restart_fits = grind (arith, length_set, set_state, bound, message_older, restarted_kept)
