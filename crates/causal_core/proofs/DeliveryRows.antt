@@ -12,9 +12,6 @@ use Rattle.causal_protocol.specs.declared.request.CoreFault.TheVariants as Why
 use Rattle.causal_protocol.specs.declared.request.Request.TheVariants as Ask
 use Rattle.causal_protocol.specs.Memory.{Kept, Memory, Memories, at}
 use Rattle.causal_protocol.specs.Run.{Run, memories_of, stable_of}
-use Rattle.causal_log.specs.Stores.{dets_in}
-use Rattle.causal_log.specs.Slots.{first_of_slot}
-use Rattle.causal_core.specs.Inside.Memories.{stored_for}
 use Rattle.causal_protocol.specs.Naming.{name, next_det, named_for, if_to, kept_for, has_received, listed_for}
 use Rattle.causal_protocol.specs.Refusals.{rows, first_of, first_fault, is_full, when, unless}
 use Rattle.causal_core.specs.Inside.Facts.{AllFit}
@@ -86,10 +83,6 @@ module _ (r : Run) (ms : Memories) (q source : Pid) (ssn : ℕ) (same : ms ≡ m
 -- an up process has received no more messages than a trace may have entries
 pub received_few : (n : ℕ) (past : List Entry) (ms : Memories) (p : ℕ) (m : Memory) → AllFit n past ms → length past ≤ 16777216 → p < n → at ms p ≡ Some m → length m.received ≤ 16777216
 received_few n past ms p m fit short inside is = grind (arith, deliveries_few)
-
--- what stable storage has for q's next delivery
-pub stored_here : (r : Run) (ms : Memories) (q : Pid) (m : Memory) → ms ≡ memories_of r → at ms q.0 ≡ Some m → stored_for r q ≡ first_of_slot q (length m.received) (dets_in (stable_of r))
-stored_here r ms q m same up = grind arith
 
 -- a message that is kept for q is kept, and goes to q
 pub kept_found : (q : Pid) (o : Option Kept) (k : Kept) → if_to q o ≡ Some k → (o ≡ Some k) × (same_pid k.to q ≡ true)

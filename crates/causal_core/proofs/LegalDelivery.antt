@@ -16,7 +16,7 @@ use Rattle.causal_trace.specs.Rows as Rows
 use Rattle.causal_protocol.specs.declared.request.Request.TheVariants as Ask
 use Rattle.causal_protocol.specs.Memory.{Kept, Memory, Memories, at, kept_by, batch_of}
 use Rattle.causal_protocol.specs.Run.{Run, memories_of}
-use Rattle.causal_protocol.specs.Naming.{name, if_to, kept_for, send_of, has_received, next_rsn, next_ssn, own_det, with_own, listed_for}
+use Rattle.causal_protocol.specs.Naming.{name, if_to, kept_for, send_of, has_received, next_rsn, own_det, with_own, listed_for}
 use Rattle.causal_protocol.specs.Refusals.{rows, first_fault, is_full}
 use Rattle.causal_protocol.specs.Steps.{delivery_of}
 use Rattle.causal_core.specs.Inside.Facts.{IsPlaced, Fits, FitsAt, AllFit}
@@ -130,9 +130,6 @@ module _ (r : Run) (q source : Pid) (ssn : ℕ) (d : MayDeliver r q source ssn) 
   -- the numbers, the send and the batch, by the receiver's memory and the kept message
   pub rsn_is : next_rsn (memories_of r) q ≡ length d.memory.received
   rsn_is = ap (λ o. option_map_or (λ (x : Memory). length x.received) o 0) d.memory_is
-
-  pub ssn_is : next_ssn (memories_of r) q ≡ length d.memory.sent
-  ssn_is = ap (λ o. option_map_or (λ (x : Memory). length x.sent) o 0) d.memory_is
 
   pub send_is : send_of (memories_of r) (name source ssn) ≡ d.kept.send
   send_is = ap (λ o. option_map_or (λ (x : Kept). x.send) o 0) d.by

@@ -1,5 +1,5 @@
 -- A delivery of the runtime.
-use Rattle.std.proofs.Common.{ℕ, ◌≡◌, ◌≢◌, Bool, true, false, List, [], ◌∷◌, ◌++◌, map, filter, Some, refl, ap, ◌∙◌, arith, length-append}
+use Rattle.std.proofs.Common.{ℕ, ◌≡◌, Bool, true, List, [], ◌∷◌, ◌++◌, map, filter, Some, refl, ap, ◌∙◌, arith, length-append}
 use Rattle.std.specs.Prelude.{◌||◌, ◌&&◌}
 use Rattle.std.specs.List.{list_any, list_all}
 use Rattle.std.specs.FinMap as fin
@@ -21,7 +21,7 @@ use Rattle.causal_trace.specs.Past.{message_at, det_from, is_delivered}
 use Rattle.causal_trace.specs.Rows.{are_delivered}
 use Rattle.causal_protocol.specs.Memory.{Memory, gained}
 use Rattle.causal_core.specs.Inside.Facts.{Fits}
-use Rattle.causal_core.proofs.MemoriesFit.{is_of, placed_more}
+use Rattle.causal_core.proofs.MemoriesFit.{placed_more}
 
 -- of a test that each determinant of a log passes
 module _ (P : Det → Bool) where
@@ -75,7 +75,3 @@ any_last f (y ∷ ys) x = ap (λ b. f y || b) (any_last f ys x) ∙ or_swap (f y
 pub received_fits : (past : List Entry) (q : Pid) (send rsn : ℕ) (name : MsgName) (listed : List Det) (log : LogMap) (m : Memory) → message_at past send ≡ Some name → Fits past q.0 m
     → are_delivered (Deliver q send rsn listed ∷ past) (fin.keys log) ≡ true → Fits (Deliver q send rsn listed ∷ past) q.0 (record { log = log; sent = m.sent; received = m.received ++ name ∷ [] })
 received_fits past q send rsn name listed log m sent fit logged = grind (arith, length-append, any_last, placed_more)
-
--- a delivery is an entry of its receiver alone
-pub delivery_apart : (q : ℕ) (to : Pid) (send rsn : ℕ) (listed : List Det) → q ≢ to.0 → is_of q (Deliver to send rsn listed) ≡ false
-delivery_apart q to send rsn listed h = grind arith

@@ -11,7 +11,7 @@ use Rattle.causal_core.specs.View.{run_from, receivers}
 use Rattle.causal_core.specs.Inside.Memories.{memory_of, memories_in}
 use Rattle.causal_core.proofs.MemoriesFit.{all_fit_set, at-set_other}
 use Rattle.causal_core.proofs.RuntimeDelivery.{chosen_all}
-use Rattle.causal_core.proofs.ProcessBegins.{none_pass, begun_memories}
+use Rattle.causal_core.proofs.ProcessBegins.{begun_memories}
 use Rattle.causal_core.proofs.data.Data.begin.Goals as goal
 use Rattle.causal_core.proofs.data.Data.begin.Goals.{After-drop-fresh}
 
@@ -19,7 +19,7 @@ pub append_sends-number-requires-clause-ascending : goal.append_sends-number-req
 append_sends-number-requires-clause-ascending c = grind (arith, chosen_ascend)
 
 pub append_sends-number-requires-clause-delivered : goal.append_sends-number-requires-clause-delivered
-append_sends-number-requires-clause-delivered c = grind (arith, chosen_all, none_pass)
+append_sends-number-requires-clause-delivered c = grind (arith, chosen_all)
 
 -- to whom it sends
 abbrev tos : After-drop-fresh → List Pid
@@ -35,7 +35,7 @@ made : (c : After-drop-fresh) → IsGathered c.self.inside.faults fin.empty c.ar
 made c = subst (λ s. IsGathered s.run.faults fin.empty c.args.fresh) (sym c.self.view_is) c.requires.fresh
 
 one : (c : After-drop-fresh) → c.append_sends-number.new.trace.recording ≡ record { processes = c.self.inside.trace.recording.processes; past = pushed (sends_of c.args.p 0 (tos c)) c.self.inside.trace.recording.past }
-one c = grind (arith, made)
+one c = grind arith
 
 pub invariant_of-self : goal.invariant_of-self
 invariant_of-self c =
@@ -51,4 +51,4 @@ invariant_of-self c =
     )
 
 pub returns : goal.returns
-returns c = grind (arith, one, made, begun_memories, may, at-set_other)
+returns c = grind (arith, one, begun_memories, may, at-set_other)

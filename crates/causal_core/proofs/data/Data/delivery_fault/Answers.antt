@@ -2,7 +2,6 @@ use Rattle.std.proofs.Common.{◌≡◌, ◌∙◌, ◌<◌, ◌≤◌, Some, No
 use Rattle.std.specs.Prelude.{not, ◌&&◌, nat_lt}
 use Rattle.std.specs.Option.{option_map, option_copied}
 use Rattle.std.specs.List.{list_any}
-use Rattle.std.proofs.lemmas.Grind.{common_steps}
 use Rattle.std.proofs.lemmas.Bool.Decides.{nat_tests}
 use Rattle.causal_name.specs.Names.{message_of, same_message}
 use Rattle.causal_trace.proofs.Lemmas.WellFormed.{formed_short}
@@ -14,7 +13,7 @@ use Rattle.causal_protocol.specs.Naming.{name, next_det, kept_for, listed_for}
 use Rattle.causal_protocol.specs.Refusals.{first_fault, unless, is_full}
 use Rattle.causal_core.specs.View.{run_from}
 use Rattle.causal_core.specs.Inside.Memories.{memories_in, memory_of, kept_of}
-use Rattle.causal_core.proofs.DeliveryRows.{tell_process, tell_down, tell_other, tell_absent, tell_again, tell_full, received_few, stored_here}
+use Rattle.causal_core.proofs.DeliveryRows.{tell_process, tell_down, tell_other, tell_absent, tell_again, tell_full, received_few}
 use Rattle.causal_core.proofs.data.Data.delivery_fault.Goals as goal
 use Rattle.causal_core.proofs.data.Data.delivery_fault.Goals.{After-are_processes, In-Some, After-other_named, In-Some-message, After-is_full}
 
@@ -28,21 +27,21 @@ asked_of : (c : After-are_processes) → first_fault (run c) (Ask.Deliver c.args
 asked_of c = ap (λ d. first_fault d.run (Ask.Deliver c.args.q c.args.source c.args.ssn)) c.self.view_is
 
 pub returns-then-not-are_processes : goal.returns-then-not-are_processes
-returns-then-not-are_processes c = grind (arith, tell_process, asked_of)
+returns-then-not-are_processes c = grind (arith, tell_process)
 
 pub returns-in_default : goal.returns-in_default
-returns-in_default c = grind (arith, tell_down, asked_of)
+returns-in_default c = grind (arith, tell_down)
 
 -- the receiver is a process, and up
 inside : (c : In-Some) → not (nat_lt c.args.q.0 c.self.inside.trace.recording.processes && nat_lt c.args.source.0 c.self.inside.trace.recording.processes) ≡ false
-inside c = grind (arith, c.are_processes.ensures, c.processes.ensures.value, c.if-not-are_processes.false)
+inside c = grind arith
 
 up : (c : In-Some) → at (memories_in c.self.inside.cells.items) c.args.q.0 ≡ Some (memory_of c.in-Some.cell.now)
 up c = ap (λ xs. at (memories_in xs) c.args.q.0) (sym c.as_slice-cells.ensures.value) ∙ sym c.cell_at.ensures ∙ ap (λ o. option_map memory_of (option_copied o)) c.in-Some.is
 
 -- the trace says what the receiver has received
 again : (c : In-Some) → has_delivered c.self.inside.trace.recording.past c.args.q.0 (name c.args.source c.args.ssn) ≡ list_any (λ k. same_message k (name c.args.source c.args.ssn)) c.in-Some.cell.now.received.items
-again c = grind (arith, inside, nat_tests, up)
+again c = grind arith
 
 few : (c : In-Some) → length c.in-Some.cell.now.received.items ≤ 16777216
 few c =
@@ -51,11 +50,11 @@ few c =
     received_few c.self.inside.trace.recording.processes c.self.inside.trace.recording.past (memories_in c.self.inside.cells.items) c.args.q.0 (memory_of c.in-Some.cell.now) c.self.invariant.fit (formed_short _ c.self.invariant.formed).entries process (up c)
 
 pub other_named-requires : goal.other_named-requires
-other_named-requires c = grind (arith, few, common_steps)
+other_named-requires c = grind (arith, few)
 
 -- what is named
 other_is : (c : After-other_named) → at (memories_in c.self.inside.cells.items) c.args.q.0 ≡ Some (memory_of c.in-Some.cell.now) → c.other_named.result ≡ unless (name c.args.source c.args.ssn) (option_map message_of (next_det (stable_of (run_from c.self.inside.trace.recording c.self.inside.faults c.self.inside.writers.items)) c.args.q (memory_of c.in-Some.cell.now)))
-other_is c here = grind (arith, stored_here)
+other_is c here = grind arith
 
 pub returns-in-Some-other_named : goal.returns-in-Some-other_named
 returns-in-Some-other_named c =
@@ -80,7 +79,7 @@ returns-then-has_delivered c =
     sym (tell_again (run at0) (ms at0) c.args.q c.args.source c.args.ssn c.self.invariant.same (inside at1) (memory_of c.in-Some.cell.now) (up at1) (sym (other_is at2 (up at1)) ∙ c.in_default-other_named.is) (kept_of c.in-Some-message.message.now) (kept at3) (sym (again at1) ∙ sym c.has_delivered.ensures ∙ c.if-has_delivered.true)) ∙ asked_of at0
 
 pub overflow_cast-own : goal.overflow_cast-own
-overflow_cast-own c = grind (arith, few, common_steps)
+overflow_cast-own c = grind (arith, few)
 
 full_is : (c : After-is_full) → at (memories_in c.self.inside.cells.items) c.args.q.0 ≡ Some (memory_of c.in-Some.cell.now) → kept_for (memories_in c.self.inside.cells.items) c.args.q (name c.args.source c.args.ssn) ≡ Some (kept_of c.in-Some-message.message.now)
     → is_full (run_from c.self.inside.trace.recording c.self.inside.faults c.self.inside.writers.items) 9 (length (listed_for (memories_in c.self.inside.cells.items) c.args.q (name c.args.source c.args.ssn))) ≡ c.is_full.result

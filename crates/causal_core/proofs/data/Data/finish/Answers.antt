@@ -1,4 +1,4 @@
-use Rattle.std.proofs.Common.{◌≡◌, ◌∙◌, ◌+◌, ◌∷◌, None, refl, ap, sym, subst, arith, length, vec_len}
+use Rattle.std.proofs.Common.{◌≡◌, ◌∙◌, ◌∷◌, None, refl, ap, sym, subst, arith, length, vec_len}
 use Rattle.std.specs.Prelude.{◌-◌, min, vec_capacity}
 use Rattle.std.proofs.lemmas.Bool.Decides.{nat_tests}
 use Rattle.causal_name.specs.Names.{message_of}
@@ -18,11 +18,11 @@ use Rattle.causal_protocol.specs.Steps.{LegalStep, Steps, delivery_of, sends_of}
 use Rattle.causal_core.specs.Inside.Facts.{AllFit}
 use Rattle.causal_core.specs.View.{DataState, sent_in, with_delivery, run_from, receivers, with_bodies}
 use Rattle.causal_core.specs.Inside.Grown.{IsGrown, carried_by, first_batch, batches_of}
-use Rattle.causal_core.specs.Inside.Memories.{HasRoom, memories_in, memory_at, bodies_in, rooms_in}
+use Rattle.causal_core.specs.Inside.Memories.{memories_in, memory_at, bodies_in, rooms_in}
 use Rattle.causal_core.proofs.RuntimeSend.{are_sends, receivers_below, receivers_long, addressed_few}
 use Rattle.causal_core.proofs.Legal.{held_fit}
-use Rattle.causal_core.proofs.LegalDelivery.{MayDeliver, may_deliver, legal, sent_name, ssn_is}
-use Rattle.causal_core.proofs.DeliveryMemories.{memory_here, all_delivered, chosen_delivered, same_memories}
+use Rattle.causal_core.proofs.LegalDelivery.{MayDeliver, may_deliver, legal, sent_name}
+use Rattle.causal_core.proofs.DeliveryMemories.{all_delivered, chosen_delivered, same_memories}
 use Rattle.causal_core.proofs.data.Data.finish.Goals as goal
 use Rattle.causal_core.proofs.data.Data.finish.Goals.{After-len-first}
 
@@ -42,7 +42,7 @@ pub commit_at-sends-requires-clause-up : goal.commit_at-sends-requires-clause-up
 commit_at-sends-requires-clause-up c = grind (arith, may ((goal.at.commit_at-sends-requires-clause-up c).After-len-first))
 
 pub commit_at-sends-requires-clause-legal : goal.commit_at-sends-requires-clause-legal
-commit_at-sends-requires-clause-legal c = grind (arith, grown, legal, may)
+commit_at-sends-requires-clause-legal c = grind (arith, legal, may)
 
 pub commit_at-sends-requires-clause-sent : goal.commit_at-sends-requires-clause-sent
 commit_at-sends-requires-clause-sent c =
@@ -50,16 +50,16 @@ commit_at-sends-requires-clause-sent c =
     ap (message_at c.self.inside.trace.recording.past) (grown at0).send ∙ sent_name (state at0).run c.args.q c.args.grown.own.source c.args.grown.own.ssn (may at0)
 
 pub commit_at-sends-requires-clause-logged : goal.commit_at-sends-requires-clause-logged
-commit_at-sends-requires-clause-logged c = grind (arith, grown, all_delivered, may)
+commit_at-sends-requires-clause-logged c = grind (arith, all_delivered, may)
 
 pub commit_at-sends-requires-clause-ascending : goal.commit_at-sends-requires-clause-ascending
-commit_at-sends-requires-clause-ascending c = grind (arith, grown, chosen_ascend)
+commit_at-sends-requires-clause-ascending c = grind (arith, chosen_ascend)
 
 pub commit_at-sends-requires-clause-delivered : goal.commit_at-sends-requires-clause-delivered
-commit_at-sends-requires-clause-delivered c = grind (arith, grown, chosen_delivered, may)
+commit_at-sends-requires-clause-delivered c = grind (arith, chosen_delivered, may)
 
 pub commit_at-sends-requires-clause-next : goal.commit_at-sends-requires-clause-next
-commit_at-sends-requires-clause-next c = grind (arith, grown)
+commit_at-sends-requires-clause-next c = grind arith
 
 pub commit_at-sends-requires-clause-short : goal.commit_at-sends-requires-clause-short
 commit_at-sends-requires-clause-short c = let long = (may (goal.at.commit_at-sends-requires-clause-short c).After-len-first).long in grind (arith, nat_tests, long)
@@ -85,7 +85,7 @@ invariant_of-self c =
 
 -- what is recorded then
 new_run : (c : goal.After-commit_at-sends) → run_from c.commit_at-sends.new.trace.recording c.self.inside.faults c.self.inside.writers.items ≡ with_delivery (run_from c.self.inside.trace.recording c.self.inside.faults c.self.inside.writers.items) c.args.q (message_of c.args.grown.own) c.args.sends.items
-new_run c = grind (arith, grown, may, memory_here, ssn_is)
+new_run c = grind arith
 
 pub returns-clause-step : goal.returns-clause-step
 unfolding LegalStep
@@ -129,23 +129,20 @@ commit_at-sends-requires-clause-process c = (may (goal.at.commit_at-sends-requir
 pub commit_at-sends-requires-clause-shares : goal.commit_at-sends-requires-clause-shares
 commit_at-sends-requires-clause-shares c = grind arith
 
-room : (c : After-len-first) → HasRoom c.args.q.0 (length (carried_by c.args.grown) + 1) (state c)
-room c = subst (HasRoom c.args.q.0 (length (carried_by c.args.grown) + 1)) (sym c.self.view_is) c.requires.room
-
 pub commit_at-sends-requires-clause-spare : goal.commit_at-sends-requires-clause-spare
-commit_at-sends-requires-clause-spare c = grind (arith, room)
+commit_at-sends-requires-clause-spare c = grind arith
 
 pub commit_at-sends-requires-clause-room : goal.commit_at-sends-requires-clause-room
-commit_at-sends-requires-clause-room c = grind (arith, room)
+commit_at-sends-requires-clause-room c = grind arith
 
 pub commit_at-sends-requires-clause-received : goal.commit_at-sends-requires-clause-received
-commit_at-sends-requires-clause-received c = grind (arith, room)
+commit_at-sends-requires-clause-received c = grind arith
 
 pub commit_at-sends-requires-clause-insertions : goal.commit_at-sends-requires-clause-insertions
-commit_at-sends-requires-clause-insertions c = grind (arith, room)
+commit_at-sends-requires-clause-insertions c = grind arith
 
 pub returns-clause-run : goal.returns-clause-run
-returns-clause-run c = grind (arith, new_run)
+returns-clause-run c = grind arith
 
 pub returns-clause-bodies : goal.returns-clause-bodies
 returns-clause-bodies c = c.commit_at-sends.ensures.bodies ∙ ap (λ s. with_bodies s.bodies c.args.q.0 (sent_in s.run c.args.sends.items)) c.self.view_is

@@ -28,7 +28,7 @@ unreachable-requires c =
     false≢true (sym (message_there (state at0).run c.args.q c.args.source c.args.ssn (none at0)) ∙ ap (λ xs. is_none (kept_for xs c.args.q (name c.args.source c.args.ssn))) (sym c.self.invariant.same) ∙ ap is_none nothing)
 
 pub unreachable-requires-in_default-cell_at : goal.unreachable-requires-in_default-cell_at
-unreachable-requires-in_default-cell_at c = grind (arith, false≢true, receiver_up, none)
+unreachable-requires-in_default-cell_at c = grind (arith, receiver_up, none)
 
 up : (c : In-Some-cell_at) → at (memories_in c.self.inside.cells.items) c.args.q.0 ≡ Some (memory_of c.in-Some-cell_at.cell.now)
 up c = ap (λ xs. at (memories_in xs) c.args.q.0) (sym c.as_slice-cells.ensures.value) ∙ sym c.cell_at.ensures ∙ ap (λ o. option_map memory_of (option_copied o)) c.in-Some-cell_at.is

@@ -1,5 +1,4 @@
 use Rattle.std.proofs.Common.{◌∙◌, ap, sym, arith}
-use Rattle.std.proofs.lemmas.Grind.{common_steps}
 use Rattle.causal_protocol.specs.declared.request.Request.TheVariants as Ask
 use Rattle.causal_protocol.specs.Refusals.{first_fault, forgettable}
 use Rattle.causal_core.specs.View.{run_from}
@@ -9,10 +8,10 @@ use Rattle.causal_core.proofs.Forgotten.{forgotten_held, forget_legal, forget_fe
 use Rattle.causal_core.proofs.data.Data.note_forgotten.Goals as goal
 
 pub overflow_cast-count : goal.overflow_cast-count
-overflow_cast-count c = grind (arith, forget_few, common_steps)
+overflow_cast-count c = grind (arith, forget_few)
 
 pub push_reserved-requires-clause-legal : goal.push_reserved-requires-clause-legal
-push_reserved-requires-clause-legal c = grind (arith, forget_legal, held_fit)
+push_reserved-requires-clause-legal c = grind (arith, forget_legal)
 
 pub invariant_of-self : goal.invariant_of-self
 invariant_of-self c =

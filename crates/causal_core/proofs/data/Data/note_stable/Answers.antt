@@ -10,7 +10,7 @@ use Rattle.causal_core.proofs.FlushWrites.{stable_may, stable_held}
 use Rattle.causal_core.proofs.data.Data.note_stable.Goals as goal
 
 pub push_stable_reserved-requires-clause-legal : goal.push_stable_reserved-requires-clause-legal
-push_stable_reserved-requires-clause-legal c = grind (arith, stable_may, held_fit)
+push_stable_reserved-requires-clause-legal c = grind (arith, stable_may)
 
 pub invariant_of-self : goal.invariant_of-self
 invariant_of-self c =

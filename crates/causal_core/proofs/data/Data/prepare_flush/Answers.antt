@@ -1,5 +1,4 @@
 use Rattle.std.proofs.Common.{arith}
-use Rattle.std.proofs.lemmas.Grind.{common_steps}
 use Rattle.causal_core.proofs.Legal.{tells_reason}
 use Rattle.causal_core.proofs.FlushSteps.{flush_short}
 use Rattle.causal_core.proofs.data.Data.prepare_flush.Goals as goal
@@ -8,4 +7,4 @@ pub returns-in-Some-clause-refused : goal.returns-in-Some-clause-refused
 returns-in-Some-clause-refused c = grind (arith, tells_reason)
 
 pub make_room_for_stable-requires : goal.make_room_for_stable-requires
-make_room_for_stable-requires c = grind (arith, flush_short, common_steps)
+make_room_for_stable-requires c = grind (arith, flush_short)

@@ -1,6 +1,5 @@
 use Rattle.std.proofs.Common.{arith}
 use Rattle.std.proofs.lemmas.Grind.{common_steps}
-use Rattle.std.proofs.lemmas.List.{length-map}
 use Rattle.causal_protocol.proofs.Lemmas.KeptByType.{step_carried}
 use Rattle.causal_core.proofs.UpAfterStep.{memories_count}
 use Rattle.causal_core.proofs.RestartMemory.{crash_alone}
@@ -8,13 +7,13 @@ use Rattle.causal_core.proofs.RunAfterStep.{crash_refused, crash_below, crash_fi
 use Rattle.causal_core.proofs.runtime.Core+S.crash.Goals as goal
 
 pub invariant_of-self : goal.invariant_of-self
-invariant_of-self g c = grind (arith, crash_refused, step_carried)
+invariant_of-self g c = grind (arith, crash_refused)
 
 pub returns-in-Err-clause-refused : goal.returns-in-Err-clause-refused
 returns-in-Err-clause-refused g c = grind (arith, crash_refused)
 
 pub empty_at-requires : goal.empty_at-requires
-empty_at-requires g c = grind (arith, crash_below, memories_count, length-map, common_steps)
+empty_at-requires g c = grind (arith, crash_below, memories_count, common_steps)
 
 pub invariant_of-self-2 : goal.invariant_of-self-2
 invariant_of-self-2 g c = grind (arith, crash_filled, crash_stable, crash_alone, step_carried)
