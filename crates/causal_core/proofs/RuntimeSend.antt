@@ -60,7 +60,13 @@ unfolding memories keep_all sends_of
 memories_sends n f writers past q ssn [] ms m same inside is = set_same ms q.0 m is ∙ same
 memories_sends n f writers past q ssn (to ∷ tos) ms m same inside is =
     let next : Memory = keeping to (length past) (chosen f m.log) m in
-    grind (arith, memories_sends n f writers (Send q to ssn ∷ past) q (ssn + 1) tos (slice_set ms q.0 (Some next)) next, set_twice, length-slice_set, at-set_same)
+    grind (
+      arith,
+      memories_sends n f writers (Send q to ssn ∷ past) q (ssn + 1) tos (slice_set ms q.0 (Some next)) next,
+      set_twice,
+      length-slice_set,
+      at-set_same,
+    )
 
 -- one more entry comes last
 pub pushed_last : (es : List Entry) (e : Entry) (past : List Entry) → pushed (es ++ e ∷ []) past ≡ e ∷ pushed es past

@@ -20,8 +20,7 @@ all_nothing (s ∷ ss) h =
 
 pub returns-then-carry_nothing-clause-same : goal.returns-then-carry_nothing-clause-same
 returns-then-carry_nothing-clause-same c =
-    grind (
-      arith,
-      nothing c.as_slice.result.now (sym c.if-is_empty.ensures),
-      all_nothing c.args.left.items (ap (list_all (λ share. length (arc_value share) == 0)) (sym c.as_slice-then-is_empty.ensures.value) ∙ sym c.if-carry_nothing.ensures),
-    )
+    let left = c.args.left.items in
+    let empty : arc_value c.args.batch.now ≡ [] = sym (c.as_slice.ensures.items ∙ c.deref.ensures) ∙ nothing c.as_slice.result.now (sym c.if-is_empty.ensures) in
+    let all = ap (list_all (λ share. length (arc_value share) == 0)) (sym c.as_slice-then-is_empty.ensures.value) ∙ sym c.if-carry_nothing.ensures in
+    all_nothing left all ∙ ap (replicate (length left)) (sym empty)
