@@ -1,40 +1,22 @@
 -- A cell among others: what is read at its place, and what a write there changes.
-use Rattle.std.proofs.Common.{ℕ, zero, suc, ◌≡◌, ◌<◌, true, List, [], ◌∷◌, ◌++◌, length, get_or, map, Option, Some, None, refl, sym, ap, ◌∙◌, arith, slice_get, slice_set}
+use Rattle.std.proofs.Common.{ℕ, suc, ◌≡◌, ◌<◌, true, List, [], ◌∷◌, ◌++◌, length, get_or, map, Option, Some, refl, sym, ap, ◌∙◌, arith, slice_get, slice_set}
 use Rattle.std.specs.Prelude.{is_some, unwrap_or}
 use Rattle.std.specs.Option.{option_map, option_map_or, option_and_then}
-use Rattle.std.proofs.lemmas.Option.{slice_get_read}
-use Rattle.std.proofs.lemmas.Bool.{false≢true}
+use Rattle.std.proofs.lemmas.Option.{slice_get_read, slice_get-map, slice_get_within}
+use Rattle.causal_core.proofs.Lemmas.Slices.{slice_get-set_same}
 use Rattle.causal_core.specs.declared.cell.Cell.{Cell}
 use Rattle.causal_core.specs.declared.cell.Message.{Message}
 use Rattle.causal_name.specs.declared.Pid.{Pid}
 use Rattle.causal_protocol.specs.Memory.{Memory, Memories, at}
 use Rattle.causal_protocol.specs.Naming.{if_to, kept_for, name}
-use Rattle.causal_core.specs.Inside.Memories.{memory_of, memories_in, memory_at, bodies_of, bodies_in, no_room, room_of, rooms_in, room_at}
+use Rattle.causal_core.specs.Inside.Memories.{memory_of, memories_in, memory_at, bodies_of, bodies_in, room_of, rooms_in, room_at}
 use Rattle.causal_core.specs.View.{body_in, with_bodies}
 use Rattle.causal_core.proofs.BoxLemmas.{map-set}
 use Rattle.causal_core.proofs.RuntimeSend.{set_same}
 
--- to read a mapped list is to map what is read
-pub get-map : {X Y : Type 0} (f : X → Y) (xs : List X) (p : ℕ) → slice_get (map f xs) p ≡ option_map f (slice_get xs p)
-get-map f [] p = refl
-get-map f (x ∷ xs) zero = refl
-get-map f (x ∷ xs) (suc p) = get-map f xs p
-
-pub get-set_same : {X : Type 0} (xs : List X) (i : ℕ) (x : X) → i < length xs → slice_get (slice_set xs i x) i ≡ Some x
-get-set_same [] i x h = absurd (omega arith)
-get-set_same (y ∷ ys) zero x h = refl
-get-set_same (y ∷ ys) (suc i) x h = get-set_same ys i x (omega arith)
-
 pub set_read : {X : Type 0} (xs : List X) (i : ℕ) (x : X) → slice_get xs i ≡ Some x → slice_set xs i x ≡ xs
-set_read [] i x h = refl
-set_read (y ∷ ys) zero x h = let e : Some y ≡ Some x = h in ap (λ z. z ∷ ys) (sym (let is : y ≡ x = cc e in is))
-set_read (y ∷ ys) (suc i) x h = ap (λ zs. y ∷ zs) (set_read ys i x h)
-
--- what is read stands within the list
-pub get_within : {X : Type 0} (xs : List X) (i : ℕ) (x : X) → slice_get xs i ≡ Some x → i < length xs
-get_within [] i x h = absurd (let e : None ≡ Some x = h in cc)
-get_within (y ∷ ys) zero x h = omega arith
-get_within (y ∷ ys) (suc i) x h = omega (arith, get_within ys i x h)
+set_read [] i x h = grind arith
+set_read (each ∷ others) i x h = grind (arith, set_read others)
 
 -- an element that is read
 pub read_at : {X : Type 0} (xs : List X) (i : ℕ) (x y : X) → i < length xs → x ≡ get_or xs i x → x ≡ y → slice_get xs i ≡ Some y
@@ -42,7 +24,7 @@ read_at xs i x y h is same = slice_get_read xs (length xs) i x refl h is ∙ ap 
 
 -- the body of a message that is read
 pub body_read : (kept : List Message) (ssn : ℕ) (m : Message) → ssn < length kept → m ≡ get_or kept ssn m → body_in (map (λ m. m.body) kept) ssn ≡ m.body
-body_read kept ssn m h is = ap (λ o. unwrap_or o []) (get-map (λ m. m.body) kept ssn ∙ ap (option_map (λ m. m.body)) (slice_get_read kept (length kept) ssn m refl h is))
+body_read kept ssn m h is = grind (arith, slice_get-map, slice_get_read)
 
 -- there are as many memories as cells
 pub memories_length : (cells : List (Option Cell)) → length (memories_in cells) ≡ length cells
@@ -50,21 +32,17 @@ memories_length [] = refl
 memories_length (c ∷ cells) = ap suc (memories_length cells)
 
 pub up_within : (cells : List (Option Cell)) (p : ℕ) → is_some (at (memories_in cells) p) ≡ true → p < length cells
-up_within [] p h = absurd (false≢true h)
-up_within (c ∷ cells) zero h = omega arith
-up_within (c ∷ cells) (suc p) h = omega (arith, up_within cells p h)
+up_within [] p h = grind arith
+up_within (each ∷ others) p h = grind (arith, up_within others)
 
 -- the cell of a process that is up, as it is lent at a place that is its number
 pub lent_at : (cells : List (Option Cell)) (p i : ℕ) (slot : Option Cell) (cell : Cell) → is_some (at (memories_in cells) p) ≡ true → i ≡ p → slot ≡ get_or cells i slot → slot ≡ Some cell → slice_get cells p ≡ Some (Some cell)
-lent_at cells p i slot cell up is value some =
-    let h = up_within cells p up in
-    rw is at (read_at cells i slot (Some cell) (omega (arith, h, is)) value some)
+lent_at cells p i slot cell up is value some = grind (arith, up_within, read_at)
 
 -- where a process remembers something, it is one of the run
 pub some_within : (ms : Memories) (p : ℕ) (m : Memory) → at ms p ≡ Some m → p < length ms
-some_within [] p m h = absurd (let e : None ≡ Some m = h in cc)
-some_within (x ∷ ms) zero m h = omega arith
-some_within (x ∷ ms) (suc p) m h = omega (arith, some_within ms p m h)
+some_within [] p m h = grind arith
+some_within (each ∷ others) p m h = grind (arith, some_within others)
 
 -- the message that a process keeps for q, by what its sender has
 pub kept_from : (ms : Memories) (q source : Pid) (ssn : ℕ) (sender : Option Memory) → sender ≡ at ms source.0 → kept_for ms q (name source ssn) ≡ if_to q (option_and_then (λ m. slice_get m.sent ssn) sender)
@@ -73,16 +51,16 @@ kept_from ms q source ssn sender is = ap (λ o. if_to q (option_and_then (λ (m 
 module _ (cells : List (Option Cell)) (p : ℕ) (cell : Cell) (found : slice_get cells p ≡ Some (Some cell)) where
   -- what a process has is what its cell has
   pub there : at (memories_in cells) p ≡ Some (memory_of cell)
-  there = ap (λ o. option_and_then (λ x. x) o) (get-map (option_map memory_of) cells p ∙ ap (option_map (option_map memory_of)) found)
+  there = ap (λ o. option_and_then (λ x. x) o) (slice_get-map (option_map memory_of) cells p ∙ ap (option_map (option_map memory_of)) found)
 
   pub memory_there : memory_at (memories_in cells) p ≡ memory_of cell
   memory_there = ap (λ o. unwrap_or o (memory_at [] 0)) there
 
   pub room_there : room_at (rooms_in cells) p ≡ room_of cell
-  room_there = ap (λ o. unwrap_or o no_room) (get-map (λ c. option_map_or room_of c no_room) cells p ∙ ap (option_map (λ c. option_map_or room_of c no_room)) found)
+  room_there = grind (arith, slice_get-map)
 
   pub bodies_there : slice_get (bodies_in cells) p ≡ Some (bodies_of cell)
-  bodies_there = get-map (λ c. option_map_or bodies_of c []) cells p ∙ ap (option_map (λ c. option_map_or bodies_of c [])) found
+  bodies_there = slice_get-map (λ c. option_map_or bodies_of c []) cells p ∙ ap (option_map (λ c. option_map_or bodies_of c [])) found
 
   pub body_there : (ssn : ℕ) → body_in (unwrap_or (slice_get (bodies_in cells) p) []) ssn ≡ body_in (bodies_of cell) ssn
   body_there ssn = ap (λ o. body_in (unwrap_or o []) ssn) bodies_there
@@ -93,10 +71,7 @@ module _ (cells : List (Option Cell)) (p : ℕ) (cell : Cell) (found : slice_get
     memories_put = map-set (option_map memory_of) cells p (Some new)
 
     pub memories_changed : (change : Memory → Memory) → memory_of new ≡ change (memory_of cell) → memories_in (slice_set cells p (Some new)) ≡ slice_set (memories_in cells) p (option_map change (at (memories_in cells) p))
-    memories_changed change is =
-        memories_put
-        ∙ ap (λ m. slice_set (memories_in cells) p (Some m)) is
-        ∙ ap (λ o. slice_set (memories_in cells) p (option_map change o)) (sym there)
+    memories_changed change is = grind (arith, memories_put, there)
 
     pub memories_kept : memory_of new ≡ memory_of cell → memories_in (slice_set cells p (Some new)) ≡ memories_in cells
     memories_kept same = memories_put ∙ ap (λ m. slice_set (memories_in cells) p (Some m)) same ∙ set_same (memories_in cells) p (memory_of cell) there
@@ -108,17 +83,10 @@ module _ (cells : List (Option Cell)) (p : ℕ) (cell : Cell) (found : slice_get
     bodies_kept same = bodies_put ∙ ap (slice_set (bodies_in cells) p) same ∙ set_read (bodies_in cells) p (bodies_of cell) bodies_there
 
     pub bodies_more : (more : List (List ℕ)) → bodies_of new ≡ bodies_of cell ++ more → bodies_in (slice_set cells p (Some new)) ≡ with_bodies (bodies_in cells) p more
-    bodies_more more is =
-        bodies_put ∙ ap (slice_set (bodies_in cells) p) is
-        ∙ ap (λ o. slice_set (bodies_in cells) p (unwrap_or o [] ++ more)) (sym bodies_there)
+    bodies_more more is = grind (arith, bodies_put, bodies_there)
 
     pub rooms_kept : room_of new ≡ room_of cell → rooms_in (slice_set cells p (Some new)) ≡ rooms_in cells
-    rooms_kept same =
-        map-set (λ c. option_map_or room_of c no_room) cells p (Some new) ∙ ap (slice_set (rooms_in cells) p) same
-        ∙ set_read (rooms_in cells) p (room_of cell)
-        (get-map (λ c. option_map_or room_of c no_room) cells p ∙ ap (option_map (λ c. option_map_or room_of c no_room)) found)
+    rooms_kept same = grind (arith, map-set, set_read, slice_get-map)
 
     pub room_put : room_at (rooms_in (slice_set cells p (Some new))) p ≡ room_of new
-    room_put =
-        ap (λ o. unwrap_or o no_room) (get-map (λ c. option_map_or room_of c no_room) (slice_set cells p (Some new)) p
-        ∙ ap (option_map (λ c. option_map_or room_of c no_room)) (get-set_same cells p (Some new) (get_within cells p (Some cell) found)))
+    room_put = grind (arith, slice_get-map, slice_get-set_same, slice_get_within)

@@ -1,7 +1,6 @@
 -- What a delivery and its sends make of the memories.
 use Rattle.std.proofs.Common.{ℕ, ◌≡◌, ◌+◌, ◌<◌, true, List, [], ◌∷◌, ◌++◌, length, Some, sym, ap, subst, ◌∙◌, arith, slice_set}
 use Rattle.std.specs.Prelude.{unwrap_or}
-use Rattle.std.specs.Option.{option_map}
 use Rattle.std.specs.FinMap as fin
 use Rattle.causal_name.specs.declared.Pid.{Pid}
 use Rattle.causal_name.specs.declared.Det.{Det}
@@ -12,8 +11,8 @@ use Rattle.causal_trace.specs.declared.entry.Entry.{Entry}
 use Rattle.causal_trace.specs.declared.entry.Entry.TheVariants.{Deliver}
 use Rattle.causal_trace.specs.Past.{is_delivered}
 use Rattle.causal_trace.specs.Rows.{are_delivered}
-use Rattle.causal_protocol.specs.Memory.{Memory, Memories, batch_of, gained, with_received}
-use Rattle.causal_protocol.specs.Run.{Run, memories, memories_of, receive}
+use Rattle.causal_protocol.specs.Memory.{Memory, Memories, batch_of, gained}
+use Rattle.causal_protocol.specs.Run.{Run, memories, memories_of}
 use Rattle.causal_protocol.specs.Naming.{name, send_of, next_rsn, own_det, listed_for}
 use Rattle.causal_protocol.specs.Steps.{delivery_of, pushed, sends_of}
 use Rattle.causal_core.specs.Inside.Memories.{memory_at, log_at, keep_all}
@@ -39,12 +38,7 @@ module _ (r : Run) (q source : Pid) (ssn : ℕ) (d : MayDeliver r q source ssn) 
 
   one : slice_set (memories_of r) q.0 (Some next) ≡ memories r.recording.processes r.faults r.writers (entry ∷ r.recording.past)
   unfolding memories
-  one =
-      let batch = batch_of (memories_of r) (name source ssn) in
-      let mine = own_det (memories_of r) q (name source ssn) in
-      ap (λ (m : Memory). slice_set (memories_of r) q.0 (Some (with_received batch mine m))) memory_here
-      ∙ ap (λ o. slice_set (memories_of r) q.0 (option_map (with_received batch mine) o)) (sym d.memory_is)
-      ∙ ap (λ m. receive (memories_of r) q (next_rsn (memories_of r) q) m) (sym (sent_name r q source ssn d))
+  one = grind arith
 
   pub delivered_memories : (tos : List Pid) → slice_set (memories_of r) q.0 (Some (keep_all (length r.recording.past + 1) (chosen r.faults log) tos next))
       ≡ memories r.recording.processes r.faults r.writers (pushed (sends_of q (length (memory_at (memories_of r) q.0).sent) tos) (entry ∷ r.recording.past))
@@ -72,8 +66,4 @@ module _ (r : Run) (q source : Pid) (ssn : ℕ) (d : MayDeliver r q source ssn) 
   pub same_memories : (ms : Memories) (lg : LogMap) (batch : List Item) (mine : Det) (send : ℕ) (listed : List Det) (tos : List Pid) → ms ≡ memories_of r → lg ≡ log → batch ≡ chosen r.faults lg → mine ≡ own r q source ssn d → send ≡ send_of (memories_of r) (name source ssn) → listed ≡ listed_for (memories_of r) q (name source ssn)
       → slice_set ms q.0 (Some (keep_all (length r.recording.past + 1) batch tos (record { log = lg; sent = (memory_at ms q.0).sent; received = (memory_at ms q.0).received ++ message_of mine ∷ [] })))
       ≡ memories r.recording.processes r.faults r.writers (pushed (sends_of q (length (memory_at ms q.0).sent) tos) (Deliver q send mine.rsn listed ∷ r.recording.past))
-  same_memories ms lg batch mine send listed tos same a b e s l =
-      let bs : batch ≡ chosen r.faults log = b ∙ ap (chosen r.faults) a in
-      (λ i. slice_set (same i) q.0 (Some (keep_all (length r.recording.past + 1) (bs i) tos (record { log = a i; sent = (memory_at (same i) q.0).sent; received = (memory_at (same i) q.0).received ++ message_of (e i) ∷ [] }))))
-      ∙ delivered_memories tos
-      ∙ sym (λ i. memories r.recording.processes r.faults r.writers (pushed (sends_of q (length (memory_at (same i) q.0).sent) tos) (Deliver q (s i) (e i).rsn (l i) ∷ r.recording.past)))
+  same_memories ms lg batch mine send listed tos same a b e s l = grind (arith, delivered_memories)

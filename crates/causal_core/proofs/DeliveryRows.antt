@@ -1,11 +1,10 @@
 -- Which row of a delivery is told.
-use Rattle.std.proofs.Common.{ℕ, ◌≡◌, ◌<◌, ◌≤◌, Bool, true, false, cond, List, [], ◌∷◌, length, Option, Some, None, refl, sym, ap, subst, ◌∙◌, arith}
+use Rattle.std.proofs.Common.{ℕ, ◌≡◌, ◌<◌, ◌≤◌, Bool, true, false, List, [], ◌∷◌, length, Option, Some, None, sym, ap, ◌∙◌, arith}
 use Rattle.std.specs.Prelude.{◌&&◌, not, nat_lt, is_none}
 use Rattle.std.specs.List.{list_any}
-use Rattle.std.specs.Option.{option_map, option_map_or, option_and_then}
+use Rattle.std.specs.Option.{option_map}
 use Rattle.causal_name.specs.declared.Pid.{Pid}
-use Rattle.causal_name.specs.declared.MsgName.{MsgName}
-use Rattle.causal_name.specs.Names.{same_message, message_of}
+use Rattle.causal_name.specs.Names.{same_message, message_of, same_pid}
 use Rattle.causal_trace.specs.declared.entry.Entry.{Entry}
 use Rattle.causal_trace.proofs.Lemmas.CountBounds.{deliveries_few}
 use Rattle.causal_protocol.specs.declared.request.CoreFault.{CoreFault}
@@ -13,16 +12,9 @@ use Rattle.causal_protocol.specs.declared.request.CoreFault.TheVariants as Why
 use Rattle.causal_protocol.specs.declared.request.Request.TheVariants as Ask
 use Rattle.causal_protocol.specs.Memory.{Kept, Memory, Memories, at}
 use Rattle.causal_protocol.specs.Run.{Run, memories_of, stable_of}
-use Rattle.causal_name.specs.Names.{same_pid}
-use Rattle.causal_trace.specs.Past.{det_from}
-use Rattle.causal_log.specs.Logs.{dets_of}
-use Rattle.causal_log.specs.Stores.{dets_in}
-use Rattle.causal_log.specs.Slots.{first_of_slot}
-use Rattle.causal_protocol.specs.Memory.{kept_by}
-use Rattle.causal_core.specs.Inside.Memories.{stored_for}
-use Rattle.causal_protocol.specs.Naming.{name, next_rsn, next_det, named_for, if_to, kept_for, has_received, with_own, listed_for}
+use Rattle.causal_protocol.specs.Naming.{name, next_det, named_for, if_to, kept_for, has_received, listed_for}
 use Rattle.causal_protocol.specs.Refusals.{rows, first_of, first_fault, is_full, when, unless}
-use Rattle.causal_core.specs.Inside.Facts.{Fits, FitsAt, AllFit}
+use Rattle.causal_core.specs.Inside.Facts.{AllFit}
 
 module _ (r : Run) (ms : Memories) (q source : Pid) (ssn : ℕ) (same : ms ≡ memories_of r) where
   abbrev outside : Bool
@@ -57,9 +49,7 @@ module _ (r : Run) (ms : Memories) (q source : Pid) (ssn : ℕ) (same : ms ≡ m
     -- then that the receiver is down
     pub tell_down : at ms q.0 ≡ None → first_fault r (Ask.Deliver q source ssn) ≡ Some Why.Down
     unfolding told
-    tell_down h =
-        as_told
-        ∙ (λ i. rest (when (inside i) Why.NoProcess) (when (is_none (h i)) Why.Down) (unless (name source ssn) (named_for ms (stable_of r) q)) (when (is_none (kept_for ms q (name source ssn))) Why.NotAvailable) (when (has_received ms q (name source ssn)) Why.AlreadyDelivered) (when full Why.Full))
+    tell_down h = grind (arith, as_told)
 
     module _ (m : Memory) (up : at ms q.0 ≡ Some m) where
       abbrev other : Option CoreFault
@@ -70,9 +60,7 @@ module _ (r : Run) (ms : Memories) (q source : Pid) (ssn : ℕ) (same : ms ≡ m
 
       start : first_fault r (Ask.Deliver q source ssn) ≡ rest None None other (when (is_none (kept_for ms q (name source ssn))) Why.NotAvailable) (when again Why.AlreadyDelivered) (when full Why.Full)
       unfolding told
-      start =
-          as_told
-          ∙ (λ i. rest (when (inside i) Why.NoProcess) (when (is_none (up i)) Why.Down) (unless (name source ssn) (option_map message_of (option_and_then (next_det (stable_of r) q) (up i)))) (when (is_none (kept_for ms q (name source ssn))) Why.NotAvailable) (when (option_map_or (λ (x : Memory). list_any (λ k. same_message k (name source ssn)) x.received) (up i) false) Why.AlreadyDelivered) (when full Why.Full))
+      start = grind (arith, as_told)
 
       -- then that another message is named
       pub tell_other : (fault : CoreFault) → other ≡ Some fault → first_fault r (Ask.Deliver q source ssn) ≡ Some fault
@@ -90,32 +78,12 @@ module _ (r : Run) (ms : Memories) (q source : Pid) (ssn : ℕ) (same : ms ≡ m
 
           -- and last that there is no room
           pub tell_full : again ≡ false → (b : Bool) → full ≡ b → first_fault r (Ask.Deliver q source ssn) ≡ when b Why.Full
-          tell_full h true f = start ∙ (λ i. rest None None (none i) (when (is_none (kept i)) Why.NotAvailable) (when (h i) Why.AlreadyDelivered) (when (f i) Why.Full))
-          tell_full h false f = start ∙ (λ i. rest None None (none i) (when (is_none (kept i)) Why.NotAvailable) (when (h i) Why.AlreadyDelivered) (when (f i) Why.Full))
+          tell_full h b h2 = grind (arith, start)
 
 -- an up process has received no more messages than a trace may have entries
 pub received_few : (n : ℕ) (past : List Entry) (ms : Memories) (p : ℕ) (m : Memory) → AllFit n past ms → length past ≤ 16777216 → p < n → at ms p ≡ Some m → length m.received ≤ 16777216
-received_few n past ms p m fit short inside is =
-    let fits : Fits past p m = subst (FitsAt past p) is (fit.each p inside) in
-    let few = deliveries_few past p in let count = fits.count in omega (arith, few, count, short)
-
--- what stable storage has for q's next delivery
-pub stored_here : (r : Run) (ms : Memories) (q : Pid) (m : Memory) → ms ≡ memories_of r → at ms q.0 ≡ Some m → stored_for r q ≡ first_of_slot q (length m.received) (dets_in (stable_of r))
-stored_here r ms q m same up =
-    ap (λ xs. first_of_slot q (next_rsn xs q) (dets_in (stable_of r))) (sym same)
-    ∙ ap (λ o. first_of_slot q (option_map_or (λ (x : Memory). length x.received) o 0) (dets_in (stable_of r))) up
+received_few n past ms p m fit short inside is = grind (arith, deliveries_few)
 
 -- a message that is kept for q is kept, and goes to q
 pub kept_found : (q : Pid) (o : Option Kept) (k : Kept) → if_to q o ≡ Some k → (o ≡ Some k) × (same_pid k.to q ≡ true)
-kept_found q None k h = absurd (let e : None ≡ Some k = h in cc)
-kept_found q (Some x) k h =
-    elim (same_pid x.to q) as (λ b. same_pid x.to q ≡ b → cond b (Some x) None ≡ Some k → (Some x ≡ Some k) × (same_pid k.to q ≡ true)) [
-      | true ↦ λ is e. (e, let one : x ≡ k = cc e in ap (λ (y : Kept). same_pid y.to q) (sym one) ∙ is)
-      | false ↦ λ is e. absurd (let n : None ≡ Some k = e in cc)
-    ] refl h
-
--- what a delivery lists, by the receiver's memory and the message
-pub listed_is : (ms : Memories) (q : Pid) (n : MsgName) (m : Memory) (k : Kept) → at ms q.0 ≡ Some m → kept_for ms q n ≡ Some k → listed_for ms q n ≡ with_own (det_from q (length m.received) n) (dets_of k.batch)
-listed_is ms q n m k up kept =
-    let by : kept_by ms n ≡ Some k = (kept_found q (kept_by ms n) k kept).0 in
-    λ i. with_own (det_from q (option_map_or (λ (x : Memory). length x.received) (up i) 0) n) (dets_of (option_map_or (λ (x : Kept). x.batch) (by i) []))
+kept_found q o k h = grind arith

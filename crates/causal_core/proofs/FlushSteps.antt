@@ -1,19 +1,17 @@
 -- What a flush writes, and that it is a legal step.
-use Rattle.std.proofs.Common.{ℕ, zero, suc, inl, inr, ◌⊎◌, ◌≡◌, ◌+◌, ◌<◌, ◌≤◌, ◌∙◌, Bool, true, false, cond, List, [], ◌∷◌, ◌++◌, length, take, map, replicate, get_or, Option, Some, None, is_some, refl, sym, ap, subst, arith}
-use Rattle.std.specs.Prelude.{◌&&◌, not, nat_lt, unwrap_or, Result, Ok, Err, IfOk, IfErr, is_none}
+use Rattle.std.proofs.Common.{ℕ, ◌≡◌, ◌+◌, ◌<◌, ◌≤◌, ◌∙◌, Bool, true, cond, List, [], ◌∷◌, ◌++◌, length, take, map, replicate, get_or, Option, Some, None, is_some, refl, sym, ap, arith}
+use Rattle.std.specs.Prelude.{◌&&◌, not, nat_lt, unwrap_or, Result, IfOk, IfErr, is_none}
 use Rattle.std.specs.List.{list_all}
 use Rattle.std.specs.Option.{option_map, option_map_or}
 use Rattle.std.specs.FinMap as fin
 use Rattle.std.proofs.Math.Bool.{and_comm}
-use Rattle.std.proofs.lemmas.Bool.{false≢true}
-use Rattle.std.proofs.lemmas.Bool.Decides.{nat_tests}
+use Rattle.std.proofs.lemmas.Bool.{false≢true, or_left, or_right}
 use Rattle.std.proofs.lemmas.List.{take_more, take_all, map-append}
 use Rattle.causal_name.specs.declared.Pid.{Pid}
 use Rattle.causal_name.specs.declared.Det.{Det}
 use Rattle.causal_name.specs.Names.{same_det}
 use Rattle.causal_name.proofs.Lemmas.DetOrder.{same_itself, dets_total}
 use Rattle.causal_log.specs.declared.known.Known.{Known}
-use Rattle.causal_log.specs.Knowledge.{as_stable}
 use Rattle.causal_log.specs.Logs.{LogMap, mark, marked, unstable_in}
 use Rattle.causal_log.proofs.Lemmas.Searches.{any_kept, any_logged, passes}
 use Rattle.causal_trace.specs.declared.entry.Entry.{Entry}
@@ -27,10 +25,10 @@ use Rattle.causal_protocol.specs.declared.request.Reply.TheVariants as Told
 use Rattle.causal_protocol.specs.Memory.{Memory, Memories, at, changed, with_log}
 use Rattle.causal_protocol.specs.Run.{Run, memories, memories_of}
 use Rattle.causal_protocol.specs.Refusals.{rows, first_of, when, first_fault, is_long, unwritten}
-use Rattle.causal_protocol.specs.Steps.{LegalStep, Steps, IsPart, extended, reason_of, flush_reason_of, told_flush}
+use Rattle.causal_protocol.specs.Steps.{LegalStep, Steps, extended, reason_of, flush_reason_of, told_flush}
 use Rattle.causal_core.specs.Inside.Memories.{memory_at, log_at}
 use Rattle.causal_core.specs.Inside.Stables.{written}
-use Rattle.causal_core.proofs.MemoriesFit.{all_more, or_left, or_right}
+use Rattle.causal_core.proofs.MemoriesFit.{all_more}
 use Rattle.causal_core.proofs.RuntimeSend.{pushed_last}
 use Rattle.causal_core.proofs.Legal.{row_none, when_false, there}
 
@@ -53,25 +51,17 @@ stables_more dets i d h = ap (map Stable) (take_more dets i d h) ∙ map-append 
 -- one more determinant written
 pub flushed_one : (r mid next : Run) (p : Pid) (dets : List Det) (i : ℕ) (d det : Det) → i < length dets → det ≡ get_or dets i d → mid ≡ extended r (Ask.Flush p) (map Stable (take i dets)) → next ≡ extended mid (Ask.Flush p) (Stable det ∷ [])
     → next ≡ extended r (Ask.Flush p) (map Stable (take (i + 1) dets))
-flushed_one r mid next p dets i d det h is before one =
-    one
-    ∙ (λ j. extended (before j) (Ask.Flush p) (Stable (is j) ∷ []))
-    ∙ flushed_more r p (map Stable (take i dets)) (Stable (get_or dets i d))
-    ∙ ap (extended r (Ask.Flush p)) (sym (stables_more dets i d h))
+flushed_one r mid next p dets i d det h is before one = grind (arith, flushed_more, stables_more dets i d h)
 
 pub at-changed : (g : Memory → Memory) (ms : Memories) (p : ℕ) → at (changed g ms p) p ≡ option_map g (at ms p)
-at-changed g [] p = refl
-at-changed g (None ∷ ms) zero = refl
-at-changed g (Some m ∷ ms) zero = refl
-at-changed g (m ∷ ms) (suc p) = at-changed g ms p
+at-changed g [] p = grind arith
+at-changed g (each ∷ others) p = grind (arith, at-changed g others)
 
 either : (b : Bool) (k : Known) (o : Option Known) → is_some o ≡ true → is_some (cond b (Some k) o) ≡ true
-either true k o h = refl
-either false k o h = h
+either b k o h = grind arith
 
 marked_by : (log : LogMap) (det d : Det) (o : Option Known) → is_some (fin.get log d) ≡ true → is_some (fin.get (mark log det o) d) ≡ true
-marked_by log det d None h = h
-marked_by log det d (Some k) h = ap is_some (fin.get-insert dets_total log det (as_stable k) d) ∙ either _ (as_stable k) (fin.get log d) h
+marked_by log det d o h = grind (arith, fin.get-insert, dets_total, either)
 
 -- what is logged stays logged where one is marked
 pub marked_logged : (log : LogMap) (det d : Det) → is_some (fin.get log d) ≡ true → is_some (fin.get (marked log det) d) ≡ true
@@ -89,8 +79,7 @@ all_marked_at None det ds up h = absurd (false≢true up)
 all_marked_at (Some m) det ds up h = all_marked m.log det ds h
 
 some_mapped : (g : Memory → Memory) (o : Option Memory) → is_some o ≡ true → is_some (option_map g o) ≡ true
-some_mapped g None h = h
-some_mapped g (Some m) h = refl
+some_mapped g o h = grind arith
 
 -- after a determinant was written the process is up still, and logs all that it did
 module _ (r next : Run) (p : Pid) (det : Det) (run : next ≡ extended r (Ask.Flush p) (Stable det ∷ [])) (up : is_some (at (memories_of r) p.0) ≡ true) where
@@ -111,8 +100,7 @@ all_from P (d ∷ ds) h = ap (λ b. b && list_all P ds) (h d (or_left _ _ (same_
 
 -- a value that passes is there
 pub passes_some : (P : Known → Bool) (o : Option Known) → passes P o ≡ true → is_some o ≡ true
-passes_some P None h = absurd (false≢true h)
-passes_some P (Some k) h = refl
+passes_some P o h = grind arith
 
 -- what a log does not know to be stable it has
 unstable_logged : (log : LogMap) (d : Det) → has (unstable_in log) d ≡ true → is_some (fin.get log d) ≡ true
@@ -121,8 +109,7 @@ unstable_logged log d h = passes_some (λ k. not k.stable) (fin.get log d)
     ∙ h)
 
 unwritten_of : (o : Option Memory) → logs_all o (option_map_or (λ m. unstable_in m.log) o []) ≡ true
-unwritten_of None = refl
-unwritten_of (Some m) = all_from (λ d. is_some (fin.get m.log d)) (unstable_in m.log) (unstable_logged m.log)
+unwritten_of o = grind (arith, all_from, unstable_logged)
 
 -- what a flush has to write is logged
 pub unwritten_logged : (r : Run) (p : Pid) → list_all (λ d. is_some (fin.get (log_at (memories_of r) p.0) d)) (unwritten r p) ≡ true
@@ -136,48 +123,22 @@ flush_up r p none = ap is_some (there (at (memories_of r) p.0) (when_false _ _ (
 -- its process is one of the run
 pub flush_below : (r : Run) (p : Pid) → first_fault r (Ask.Flush p) ≡ None → p.0 < r.recording.processes
 unfolding rows
-flush_below r p none =
-    let inside : not (nat_lt p.0 r.recording.processes) ≡ false = when_false _ _ (row_none (rows r (Ask.Flush p)) none 0 _ refl) in grind (arith, nat_tests, inside)
+flush_below r p none = grind arith
 
 -- and the trace has room for an entry of each determinant that it has to write
 pub flush_short : (r : Run) (p : Pid) → first_fault r (Ask.Flush p) ≡ None → length r.recording.past + length (unwritten r p) ≤ 16777216
 unfolding rows
-flush_short r p none =
-    let short : is_long r (length (unwritten r p)) ≡ false = when_false _ _ (row_none (rows r (Ask.Flush p)) none 2 _ refl) in grind (arith, nat_tests, short)
-
-part : (fault : CoreFault) (done all : ℕ) → flush_reason_of fault ≡ None → done < all → IsPart fault done all
-part Why.NoMemory done all is h = omega (arith, h)
-part Why.StoreFault done all is h = h
-part Why.NoProcess done all is h = absurd (let e : Some Why.NoProcess ≡ None = is in cc)
-part Why.Down done all is h = absurd (let e : Some Why.Down ≡ None = is in cc)
-part Why.NotDown done all is h = absurd (let e : Some Why.NotDown ≡ None = is in cc)
-part Why.OverFaults done all is h = absurd (let e : Some Why.OverFaults ≡ None = is in cc)
-part (Why.MustReplay m) done all is h = absurd (let e : Some (Why.MustReplay m) ≡ None = is in cc)
-part Why.NotAvailable done all is h = absurd (let e : Some Why.NotAvailable ≡ None = is in cc)
-part Why.AlreadyDelivered done all is h = absurd (let e : Some Why.AlreadyDelivered ≡ None = is in cc)
-part Why.Full done all is h = absurd (let e : Some Why.Full ≡ None = is in cc)
+flush_short r p none = grind arith
 
 -- a flush that nothing stands against is a legal step
 pub flush_steps : (r mid next : Run) (p : Pid) (dets : List Det) (told : Result ℕ FlushFault) → mid ≡ r → first_fault r (Ask.Flush p) ≡ None → dets ≡ unwritten r p → next ≡ extended mid (Ask.Flush p) (map Stable (take (written told) dets))
     → IfOk told (λ count. count ≡ length dets) → IfErr told (λ f. f.done < length dets) → IfErr told (λ f. flush_reason_of f.fault ≡ None) → Steps r (Ask.Flush p) (told_flush told) next
 unfolding LegalStep
-flush_steps r mid next p dets (Ok count) same none is run all part_of why = record {
-  appended = map Stable (take count dets);
-  grown = run ∙ ap (λ x. extended x (Ask.Flush p) (map Stable (take count dets))) same;
-  legal = (none, all ∙ ap length is, ap (map Stable) (take_all count dets (omega (arith, all)) ∙ is));
-}
-flush_steps r mid next p dets (Err f) same none is run all part_of why = record {
-  appended = map Stable (take f.done dets);
-  grown = run ∙ ap (λ x. extended x (Ask.Flush p) (map Stable (take f.done dets))) same;
-  legal = (none ∙ sym why, part f.fault f.done (length (unwritten r p)) why (subst (λ ds. f.done < length ds) is part_of), ap (λ ds. map Stable (take f.done ds)) is);
-}
+flush_steps r mid next p dets told h h2 h3 h4 h5 h6 h7 = grind (arith, take_all)
 
 -- no row of a flush tells a fault of the store
 never_store : (a b c : Bool) → first_of (when a Why.NoProcess ∷ when b Why.Down ∷ when c Why.Full ∷ []) ≡ Some Why.StoreFault → ⊥
-never_store true b c h = let e : Some Why.NoProcess ≡ Some Why.StoreFault = h in cc
-never_store false true c h = let e : Some Why.Down ≡ Some Why.StoreFault = h in cc
-never_store false false true h = let e : Some Why.Full ≡ Some Why.StoreFault = h in cc
-never_store false false false h = let e : None ≡ Some Why.StoreFault = h in cc
+never_store a b c h = grind arith
 
 no_store : (r : Run) (p : Pid) → first_fault r (Ask.Flush p) ≡ Some Why.StoreFault → ⊥
 unfolding rows
@@ -187,24 +148,7 @@ no_store r p h = never_store (not (nat_lt p.0 r.recording.processes)) (is_none (
 pub refusal_stores : (r : Run) (p : Pid) (fault : CoreFault) → first_fault r (Ask.Flush p) ≡ reason_of fault → fault ≡ Why.StoreFault → ⊥
 refusal_stores r p fault h is = no_store r p (h ∙ ap reason_of is)
 
--- but for a fault of the store, a flush tells the reason and wrote nothing
-told_first : (fault : CoreFault) (all : ℕ) → (fault ≡ Why.StoreFault) ⊎ ((reason_of fault ≡ flush_reason_of fault) × IsPart fault 0 all)
-told_first Why.NoMemory all = inr (refl, omega arith)
-told_first Why.StoreFault all = inl refl
-told_first Why.NoProcess all = inr (refl, refl)
-told_first Why.Down all = inr (refl, refl)
-told_first Why.NotDown all = inr (refl, refl)
-told_first Why.OverFaults all = inr (refl, refl)
-told_first (Why.MustReplay m) all = inr (refl, refl)
-told_first Why.NotAvailable all = inr (refl, refl)
-told_first Why.AlreadyDelivered all = inr (refl, refl)
-told_first Why.Full all = inr (refl, refl)
-
 -- a flush that is refused is a legal step too
 pub flush_refused : (r next : Run) (p : Pid) (fault : CoreFault) → next ≡ r → first_fault r (Ask.Flush p) ≡ reason_of fault → Steps r (Ask.Flush p) (Told.FlushRefused (record { fault = fault; done = 0 })) next
 unfolding LegalStep
-flush_refused r next p fault same reason =
-    elim (told_first fault (length (unwritten r p))) [
-      | inl store ↦ absurd (refusal_stores r p fault reason store)
-      | inr told ↦ record { appended = []; grown = same; legal = (reason ∙ told.0, told.1, refl) }
-    ]
+flush_refused r next p fault same reason = grind (arith, refusal_stores)

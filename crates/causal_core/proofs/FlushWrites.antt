@@ -1,43 +1,35 @@
 -- A determinant that a flush writes.
-use Rattle.std.proofs.Common.{ℕ, ◌≡◌, ◌<◌, ◌≤◌, ◌∙◌, Bool, true, false, List, [], ◌∷◌, length, Option, Some, None, is_some, refl, sym, ap, subst, arith}
-use Rattle.std.specs.Prelude.{◌||◌, unwrap_or}
-use Rattle.causal_core.specs.Inside.Memories.{log_at, memory_at}
+use Rattle.std.proofs.Common.{ℕ, ◌≡◌, ◌<◌, ◌≤◌, ◌∙◌, Bool, true, List, [], ◌∷◌, length, Option, Some, None, is_some, refl, ap, arith}
+use Rattle.causal_core.specs.Inside.Memories.{log_at}
 use Rattle.std.specs.List.{list_any, list_all}
 use Rattle.std.specs.Option.{option_map}
 use Rattle.std.specs.FinMap as fin
-use Rattle.std.proofs.lemmas.Bool.{false≢true}
-use Rattle.std.proofs.lemmas.Bool.Decides.{nat_tests}
+use Rattle.std.proofs.lemmas.Bool.{false≢true, and_parts}
 use Rattle.causal_name.specs.declared.Pid.{Pid}
 use Rattle.causal_name.specs.declared.Det.{Det}
 use Rattle.causal_name.specs.Names.{same_det}
-use Rattle.causal_name.proofs.Lemmas.DetOrder.{same_is}
 use Rattle.causal_log.specs.declared.known.Known.{Known}
 use Rattle.causal_log.specs.Knowledge.{as_stable}
 use Rattle.causal_log.specs.Logs.{LogMap, mark, marked}
 use Rattle.causal_log.proofs.Lemmas.Searches.{any_map, any_dets}
 use Rattle.causal_trace.specs.declared.entry.Entry.{Entry}
 use Rattle.causal_trace.specs.declared.entry.Entry.TheVariants.{Stable}
-use Rattle.causal_trace.specs.Past.{is_delivered, listed_in}
+use Rattle.causal_trace.specs.Past.{listed_in}
 use Rattle.causal_trace.specs.Rows as Rows
-use Rattle.causal_trace.specs.Rows.{are_delivered, IsWellFormed}
+use Rattle.causal_trace.specs.Rows.{IsWellFormed}
 use Rattle.causal_trace.proofs.Lemmas.WellFormed.{formed_push, formed_short}
 use Rattle.causal_protocol.specs.declared.request.Request.TheVariants as Ask
 use Rattle.causal_protocol.specs.Memory.{Memory, Memories, at, changed, with_log}
 use Rattle.causal_protocol.specs.Run.{Run, memories, memories_of}
 use Rattle.causal_protocol.specs.Steps.{extended}
 use Rattle.causal_core.specs.Inside.Facts.{Fits, FitsAt, AllFit, IsHeld}
-use Rattle.causal_core.proofs.MemoriesFit.{and_both, fits_other, all_fit_set, delivered_more, placed_more}
+use Rattle.causal_core.proofs.MemoriesFit.{fits_other, all_fit_set, placed_more}
 use Rattle.causal_core.proofs.RuntimeDelivery.{insert_all}
 
 -- what passes for all passes for one of them
 all_at : (P : Det → Bool) (ds : List Det) (d : Det) → list_all P ds ≡ true → list_any (same_det d) ds ≡ true → P d ≡ true
 all_at P [] d all h = absurd (false≢true h)
-all_at P (x ∷ ds) d all h =
-    let two = and_both (P x) (list_all P ds) all in
-    elim (same_det d x) as (λ b. same_det d x ≡ b → (b || list_any (same_det d) ds) ≡ true → P d ≡ true) [
-      | true ↦ λ is _. ap P (same_is d x is) ∙ two.0
-      | false ↦ λ is rest. all_at P ds d two.1 rest
-    ] refl h
+all_at P (x ∷ ds) d all h = grind (arith, all_at P ds d (and_parts (P x) (list_all P ds) all).1)
 
 -- a determinant that is logged
 pub logged_passes : (P : Det → Bool) (log : LogMap) (d : Det) → list_all P (fin.keys log) ≡ true → is_some (fin.get log d) ≡ true → P d ≡ true
@@ -52,46 +44,29 @@ marked_all P log d all = by (fin.get log d) refl
 
 -- p's memory with one more mark
 marked_fits : (past : List Entry) (p : ℕ) (det : Det) (m : Memory) → Fits past p m → Fits (Stable det ∷ past) p (with_log (λ log. marked log det) m)
-marked_fits past p det m fit = record {
-  up = fit.up;
-  sent = fit.sent;
-  count = fit.count;
-  received = fit.received;
-  logged = marked_all (is_delivered (Stable det ∷ past)) m.log det (delivered_more (Stable det) past (fin.keys m.log) fit.logged);
-  placed = λ ssn k is. placed_more (Stable det) past p ssn k (fit.placed ssn k is);
-}
+marked_fits past p det m fit = grind (arith, marked_all, placed_more)
 
 fits_option : (past : List Entry) (p : ℕ) (det : Det) (o : Option Memory) → FitsAt past p o → FitsAt (Stable det ∷ past) p (option_map (with_log (λ log. marked log det)) o)
-fits_option past p det None h = h
-fits_option past p det (Some m) h = marked_fits past p det m h
+fits_option past p det o h = grind (arith, marked_fits)
 
 -- what p logs was delivered, so nothing stands against its stable entry
 pub stable_legal : (n : ℕ) (past : List Entry) (p : ℕ) (det : Det) (m : Memory) → Fits past p m → is_some (fin.get m.log det) ≡ true → length past < 16777216 → listed_in past ≤ 268435456 → Rows.first_fault n past (Stable det) ≡ None
 unfolding Rows.rows
-stable_legal n past p det m fit logged short within =
-    let there : is_delivered past det ≡ true = logged_passes (is_delivered past) m.log det fit.logged logged in
-    grind (arith, nat_tests, there, short, within)
-
-some_there : (o : Option Memory) → is_some o ≡ true → (m : Memory) × (o ≡ Some m)
-some_there None h = absurd (false≢true h)
-some_there (Some m) h = (m, refl)
+stable_legal n past p det m fit logged short within = grind (arith, logged_passes)
 
 -- the same of a process that is up in a run
 pub stable_may : (r : Run) (p : Pid) (det : Det) → AllFit r.recording.processes r.recording.past (memories_of r) → p.0 < r.recording.processes → is_some (at (memories_of r) p.0) ≡ true → is_some (fin.get (log_at (memories_of r) p.0) det) ≡ true → length r.recording.past < 16777216 → IsWellFormed r.recording
     → Rows.first_fault r.recording.processes r.recording.past (Stable det) ≡ None
-stable_may r p det fit process up logged short formed =
-    let m = some_there (at (memories_of r) p.0) up in
-    stable_legal r.recording.processes r.recording.past p.0 det m.0 (subst (FitsAt r.recording.past p.0) m.1 (fit.each p.0 process))
-    (ap (λ o. is_some (fin.get (unwrap_or o (memory_at [] 0)).log det)) (sym m.1) ∙ logged) short (formed_short r.recording formed).listed
+stable_may r p det fit process up logged short formed = grind (arith, stable_legal, formed_short)
 
 -- once p has marked the determinant, the memories are those of the run with its stable entry
 pub stable_held : (r : Run) (ms : Memories) (p : Pid) (det : Det) → IsHeld r ms → p.0 < r.recording.processes → Rows.first_fault r.recording.processes r.recording.past (Stable det) ≡ None → IsHeld (extended r (Ask.Flush p) (Stable det ∷ [])) (changed (with_log (λ log. marked log det)) ms p.0)
 unfolding memories
-stable_held r ms p det held process next = record {
-  same = ap (λ xs. changed (with_log (λ log. marked log det)) xs p.0) held.same;
-  fit =
-      all_fit_set r.recording.processes r.recording.past (Stable det ∷ r.recording.past) ms p.0 _ process held.fit
-      (λ q o apart. fits_other (Stable det) r.recording.past q refl o)
-      (fits_option r.recording.past p.0 det (at ms p.0) (held.fit.each p.0 process));
-  formed = formed_push r.recording (Stable det) held.formed next;
-}
+stable_held r ms p det held process next =
+    grind (
+      arith,
+      all_fit_set r.recording.processes r.recording.past (Stable det ∷ r.recording.past) ms p.0,
+      fits_other,
+      fits_option,
+      formed_push r.recording,
+    )

@@ -1,5 +1,5 @@
 -- To forget what is marked is to keep the rest.
-use Rattle.std.proofs.Common.{◌≡◌, ◌∙◌, Bool, cond, List, Option, Some, None, refl, sym, ap}
+use Rattle.std.proofs.Common.{arith, ◌≡◌, ◌∙◌, cond, List, Option, None, sym, ap}
 use Rattle.std.specs.Prelude.{◌&&◌, not}
 use Rattle.std.specs.FinMap as fin
 use Rattle.std.proofs.Math.Bool.{and_comm}
@@ -29,8 +29,7 @@ get_unmarked log d =
     ∙ ap (kept_if (λ k. not k.stable)) (sym (fin.get-entries log d))
 
 left : (o : Option Known) → cond (not (passes (λ k. k.stable) o)) o None ≡ kept_if (λ k. not k.stable) o
-left None = refl
-left (Some k) = refl
+left o = grind arith
 
 -- a log without what it knows to be stable is its unmarked part
 pub forgets_marked : (log : LogMap) → without (stable_in log) log ≡ unmarked log

@@ -1,5 +1,5 @@
 -- One more of what is gathered.
-use Rattle.std.proofs.Common.{ℕ, ◌≡◌, ◌+◌, ◌<◌, ◌≤◌, List, ◌∷◌, length, get_or, drop, Option, Some, None, refl, sym, ap, ◌∙◌}
+use Rattle.std.proofs.Common.{arith, ℕ, ◌≡◌, ◌+◌, ◌<◌, ◌≤◌, List, ◌∷◌, length, get_or, drop, Option, Some, None, sym, ap, ◌∙◌}
 use Rattle.std.specs.Option.{option_map}
 use Rattle.std.proofs.lemmas.List.{drop_more, drop_all}
 use Rattle.causal_name.specs.declared.Pid.{Pid}
@@ -17,8 +17,7 @@ united_one (Some m) log = united log m.log
 
 united_cons : (m : Option Memory) (ms : Memories) (log : LogMap) → united_all (m ∷ ms) log ≡ united_all ms (united_one m log)
 unfolding united_all united_one
-united_cons None ms log = refl
-united_cons (Some m) ms log = refl
+united_cons m ms log = grind arith
 
 module _ (cells : List (Option Cell)) (i : ℕ) (c : Option Cell) (h : i < length cells) (is : c ≡ get_or cells i c) (log : LogMap) where
   here : memories_in (drop i cells) ≡ option_map memory_of c ∷ memories_in (drop (i + 1) cells)

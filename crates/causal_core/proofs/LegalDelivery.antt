@@ -1,36 +1,32 @@
 -- A delivery against which nothing stands.
-use Rattle.std.proofs.Common.{ℕ, ◌≡◌, ◌<◌, ◌≤◌, true, false, List, [], length, Option, Some, None, refl, sym, ap, subst, ◌∙◌, arith, slice_get, replicate}
-use Rattle.std.specs.Prelude.{◌||◌, ◌&&◌, not, nat_lt, is_none, is_some, unwrap_or}
+use Rattle.std.proofs.Common.{ℕ, ◌≡◌, ◌<◌, ◌≤◌, true, false, List, [], length, Option, Some, None, refl, sym, ap, subst, ◌∙◌, arith, slice_get}
+use Rattle.std.specs.Prelude.{◌||◌, ◌&&◌, not, nat_lt, is_none, is_some}
 use Rattle.std.specs.List.{list_any, list_all}
-use Rattle.std.specs.Option.{option_map, option_map_or, option_and_then}
-use Rattle.std.specs.Arc.{arc_value}
+use Rattle.std.specs.Option.{option_map_or, option_and_then}
 use Rattle.std.proofs.lemmas.Bool.{false≢true}
 use Rattle.std.proofs.lemmas.Bool.Decides.{nat_tests}
 use Rattle.causal_name.specs.declared.Pid.{Pid}
 use Rattle.causal_name.specs.declared.MsgName.{MsgName}
 use Rattle.causal_name.specs.declared.Det.{Det}
 use Rattle.causal_name.specs.Names.{same_message, same_pid, is_ascending}
-use Rattle.causal_name.proofs.Lemmas.DetOrder.{same_itself}
-use Rattle.causal_log.specs.Logs.{chosen, dets_of}
+use Rattle.causal_log.specs.Logs.{dets_of}
 use Rattle.causal_trace.specs.declared.entry.Entry.{Entry}
-use Rattle.causal_trace.specs.Past.{is_send_to, is_sent_to, message_sent, message_at, det_from, det_of, is_det, is_delivered, has_delivered, deliveries}
+use Rattle.causal_trace.specs.Past.{is_send_to, is_sent_to, message_at, is_det, is_delivered}
 use Rattle.causal_trace.specs.Rows as Rows
-use Rattle.causal_trace.specs.Rows.{are_delivered, are_delivered_with}
 use Rattle.causal_protocol.specs.declared.request.Request.TheVariants as Ask
-use Rattle.causal_protocol.specs.Memory.{Kept, Memory, Memories, at, kept_by, batch_of, gained}
+use Rattle.causal_protocol.specs.Memory.{Kept, Memory, Memories, at, kept_by, batch_of}
 use Rattle.causal_protocol.specs.Run.{Run, memories_of}
-use Rattle.causal_protocol.specs.Naming.{name, if_to, kept_for, send_of, has_received, next_rsn, next_ssn, own_det, with_own, listed_for}
+use Rattle.causal_protocol.specs.Naming.{name, if_to, kept_for, send_of, has_received, next_rsn, own_det, with_own, listed_for}
 use Rattle.causal_protocol.specs.Refusals.{rows, first_fault, is_full}
 use Rattle.causal_protocol.specs.Steps.{delivery_of}
 use Rattle.causal_core.specs.Inside.Facts.{IsPlaced, Fits, FitsAt, AllFit}
-use Rattle.causal_core.specs.declared.cell.Message.{Message}
 use Rattle.causal_core.specs.declared.grown.Grown.{Grown}
 use Rattle.causal_core.specs.View.{DataState}
-use Rattle.causal_core.specs.Inside.Grown.{IsMade, IsGrown, carried_by}
-use Rattle.causal_core.specs.Inside.Memories.{kept_of, memory_at, log_at}
-use Rattle.causal_core.proofs.Cells.{get_within}
-use Rattle.causal_core.proofs.MemoriesFit.{all_more, or_left, or_right}
+use Rattle.causal_core.specs.Inside.Grown.{IsGrown, carried_by}
+use Rattle.causal_core.specs.Inside.Memories.{memory_at}
+use Rattle.causal_core.proofs.MemoriesFit.{all_more}
 use Rattle.std.proofs.lemmas.List.{length-map}
+use Rattle.std.proofs.lemmas.Option.{slice_get_within}
 use Rattle.causal_core.proofs.ListInsert.{with_all, with_ascending, with_longer}
 use Rattle.causal_core.proofs.Legal.{row_none, when_false, there}
 use Rattle.causal_core.proofs.DeliveryRows.{kept_found}
@@ -50,8 +46,7 @@ pub record MayDeliver (r : Run) (q source : Pid) (ssn : ℕ) : Type 0 where
   pub long : is_full r 9 (length (listed_for (memories_of r) q (name source ssn))) ≡ false
 
 in_place : (o : Option Kept) → is_none o ≡ false → (k : Kept) × (o ≡ Some k)
-in_place None h = absurd (false≢true (sym h))
-in_place (Some k) h = (k, refl)
+in_place o h = grind arith
 
 of_sender : (n : MsgName) (o : Option Memory) (k : Kept) → option_and_then (λ m. slice_get m.sent n.ssn) o ≡ Some k → (m : Memory) × (o ≡ Some m) × (slice_get m.sent n.ssn ≡ Some k)
 of_sender n None k h = absurd (let e : None ≡ Some k = h in cc)
@@ -104,71 +99,26 @@ kept_within q sent ssn h = by (slice_get sent ssn) refl h
   where
     by : (o : Option Kept) → slice_get sent ssn ≡ o → is_none (if_to q o) ≡ false → ssn < length sent
     by None is h = absurd (false≢true (sym h))
-    by (Some k) is h = get_within sent ssn k is
+    by (Some k) is h = slice_get_within sent ssn k is
 
 -- the sender of a message that is kept for q is up, and keeps more messages than the number of this one
 pub sender_keeps : (ms : Memories) (q source : Pid) (ssn : ℕ) → is_none (kept_for ms q (name source ssn)) ≡ false
     → (is_some (at ms source.0) ≡ true) × (ssn < length (memory_at ms source.0).sent)
-sender_keeps ms q source ssn h =
-    elim (at ms source.0) as (λ o. is_none (if_to q (option_and_then (λ (m : Memory). slice_get m.sent ssn) o)) ≡ false → (is_some o ≡ true) × (ssn < length (unwrap_or o (memory_at [] 0)).sent)) [
-      | None ↦ λ k. absurd (false≢true (sym k))
-      | Some m ↦ λ k. (refl, kept_within q m.sent ssn k)
-    ] h
+sender_keeps ms q source ssn h = grind (arith, kept_within)
 
 -- where nothing stands against a delivery, the receiver is a process of the run
 pub receiver_below : (r : Run) (q source : Pid) (ssn : ℕ) → first_fault r (Ask.Deliver q source ssn) ≡ None → q.0 < r.recording.processes
 unfolding rows
-receiver_below r q source ssn none =
-    let inside : not (nat_lt q.0 r.recording.processes && nat_lt source.0 r.recording.processes) ≡ false = when_false _ _ (row_none (rows r (Ask.Deliver q source ssn)) none 0 _ refl) in
-    grind (arith, nat_tests, inside)
-
--- what was made for the message at hand is what a delivery of it puts in place
-pub made_grown : (d : DataState) (ms : Memories) (q source : Pid) (ssn : ℕ) (m : Memory) (message : Message) (g : Grown) (mine : Det) → ms ≡ memories_of d.run → at ms q.0 ≡ Some m → kept_for ms q (name source ssn) ≡ Some (kept_of message)
-    → mine ≡ det_from q (length m.received) (name source ssn) → IsMade d.run.faults mine m message g → IsGrown d q (name source ssn) g
-made_grown d ms q source ssn m message g mine same up kept is made =
-    let by : kept_by ms (name source ssn) ≡ Some (kept_of message) = (kept_found q (kept_by ms (name source ssn)) (kept_of message) kept).0 in
-    let rsn : next_rsn (memories_of d.run) q ≡ length m.received = ap (λ xs. next_rsn xs q) (sym same) ∙ ap (λ o. option_map_or (λ (x : Memory). length x.received) o 0) up in
-    let here : mine ≡ own_det (memories_of d.run) q (name source ssn) = is ∙ ap (λ k. det_from q k (name source ssn)) (sym rsn) in
-    let batch : arc_value message.batch ≡ batch_of (memories_of d.run) (name source ssn) = sym (ap (λ xs. batch_of xs (name source ssn)) (sym same) ∙ ap (λ o. option_map_or (λ (x : Kept). x.batch) o []) by) in
-    let send : message.send ≡ send_of (memories_of d.run) (name source ssn) = sym (ap (λ xs. send_of xs (name source ssn)) (sym same) ∙ ap (λ o. option_map_or (λ (x : Kept). x.send) o 0) by) in
-    let log : m.log ≡ log_at (memories_of d.run) q.0 = sym (ap (λ xs. log_at xs q.0) (sym same) ∙ ap (λ o. (unwrap_or o (memory_at [] 0)).log) up) in
-    record {
-      own = made.own_is ∙ here;
-      send = made.send ∙ send;
-      listed = made.listed ∙ (λ i. with_own (here i) (dets_of (batch i)));
-      carried = made.carried ∙ batch;
-      next = made.next ∙ (λ i. chosen d.run.faults (gained (sym made.carried i) (sym made.own_is i) (log i)));
-      shares = made.shares ∙ (λ i. replicate 8 (chosen d.run.faults (gained (sym made.carried i) (sym made.own_is i) (log i))));
-    }
-
--- the same run
-pub grown_same : (a b : DataState) (q : Pid) (m : MsgName) (g : Grown) → b.run ≡ a.run → IsGrown a q m g → IsGrown b q m g
-grown_same a b q m g run h = record {
-  own = h.own ∙ ap (λ r. own_det (memories_of r) q m) (sym run);
-  send = h.send ∙ ap (λ r. send_of (memories_of r) m) (sym run);
-  listed = h.listed ∙ ap (λ r. listed_for (memories_of r) q m) (sym run);
-  carried = h.carried ∙ ap (λ r. batch_of (memories_of r) m) (sym run);
-  next = h.next ∙ ap (λ r. chosen r.faults (gained (carried_by g) g.own (log_at (memories_of r) q.0))) (sym run);
-  shares = h.shares ∙ ap (λ r. replicate 8 (chosen r.faults (gained (carried_by g) g.own (log_at (memories_of r) q.0)))) (sym run);
-}
+receiver_below r q source ssn none = grind arith
 
 -- what a delivery lists is within the limit
 pub listed_few : (r : Run) (q source : Pid) (ssn : ℕ) → first_fault r (Ask.Deliver q source ssn) ≡ None → length (listed_for (memories_of r) q (name source ssn)) ≤ 268435456
 unfolding rows
-listed_few r q source ssn none =
-    let long : is_full r 9 (length (listed_for (memories_of r) q (name source ssn))) ≡ false = when_false _ _ (row_none (rows r (Ask.Deliver q source ssn)) none 5 _ refl) in grind (arith, nat_tests, long)
+listed_few r q source ssn none = grind arith
 
 -- and is no less than what the message carries
 pub carried_listed : (d : DataState) (q : Pid) (m : MsgName) (g : Grown) → IsGrown d q m g → length (carried_by g) ≤ length g.listed.items
-carried_listed d q m g h =
-    let longer = with_longer (own_det (memories_of d.run) q m) (dets_of (batch_of (memories_of d.run) m)) in
-    let count = ap length h.carried in
-    let listed = ap length h.listed in
-    let items = length-map (batch_of (memories_of d.run) m) (λ item. item.det) in
-    omega (arith, longer, count, listed, items)
-
-pid_same : (p q : Pid) → p.0 ≡ q.0 → p ≡ q
-pid_same p q h = λ i. record { 0 = h i }
+carried_listed d q m g h = grind (arith, with_longer, length-map)
 
 module _ (r : Run) (q source : Pid) (ssn : ℕ) (d : MayDeliver r q source ssn) where
   abbrev pub own : Det
@@ -181,9 +131,6 @@ module _ (r : Run) (q source : Pid) (ssn : ℕ) (d : MayDeliver r q source ssn) 
   pub rsn_is : next_rsn (memories_of r) q ≡ length d.memory.received
   rsn_is = ap (λ o. option_map_or (λ (x : Memory). length x.received) o 0) d.memory_is
 
-  pub ssn_is : next_ssn (memories_of r) q ≡ length d.memory.sent
-  ssn_is = ap (λ o. option_map_or (λ (x : Memory). length x.sent) o 0) d.memory_is
-
   pub send_is : send_of (memories_of r) (name source ssn) ≡ d.kept.send
   send_is = ap (λ o. option_map_or (λ (x : Kept). x.send) o 0) d.by
 
@@ -192,10 +139,7 @@ module _ (r : Run) (q source : Pid) (ssn : ℕ) (d : MayDeliver r q source ssn) 
 
   -- the message of its entry
   pub sent_name : message_at r.recording.past (send_of (memories_of r) (name source ssn)) ≡ Some (name source ssn)
-  sent_name =
-      ap (message_at r.recording.past) send_is
-      ∙ ap (λ e. option_and_then message_sent e) d.placed.sent
-      ∙ (λ i. Some (record { source = pid_same d.placed.source source d.placed.source_is i; ssn = ssn }))
+  sent_name = grind arith
 
   sent_to : is_sent_to r.recording.past (send_of (memories_of r) (name source ssn)) q.0 ≡ true
   sent_to = ap (λ k. is_sent_to r.recording.past k q.0) send_is ∙ ap (λ e. option_map_or (is_send_to q.0) e false) d.placed.sent ∙ d.to
@@ -204,22 +148,9 @@ module _ (r : Run) (q source : Pid) (ssn : ℕ) (d : MayDeliver r q source ssn) 
   ascending = ap (λ b. is_ascending (with_own own (dets_of b))) batch_is ∙ with_ascending own (dets_of d.kept.batch) d.placed.ascending
 
   known : list_all (λ x. is_det (Some own) x || is_delivered r.recording.past x) listed ≡ true
-  known =
-      let test = λ (x : Det). is_det (Some own) x || is_delivered r.recording.past x in
-      ap (λ b. list_all test (with_own own (dets_of b))) batch_is
-      ∙ with_all test own (dets_of d.kept.batch) (or_left _ _ (same_itself own)) (all_more (is_delivered r.recording.past) test (dets_of d.kept.batch) (λ x was. or_right _ _ was) d.placed.delivered)
+  known = grind (arith, with_all, all_more)
 
   -- what stands against no delivery of the runtime stands against none of the trace
   pub legal : Rows.first_fault r.recording.processes r.recording.past (delivery_of r q (name source ssn)) ≡ None
   unfolding Rows.rows
-  legal =
-      let process = d.process in
-      let up = d.fits.up in
-      let rsn : next_rsn (memories_of r) q ≡ deliveries r.recording.past q.0 = rsn_is ∙ d.fits.count in
-      let sent = sent_to in
-      let once : option_map_or (has_delivered r.recording.past q.0) (message_at r.recording.past (send_of (memories_of r) (name source ssn))) false ≡ false = ap (λ o. option_map_or (has_delivered r.recording.past q.0) o false) sent_name ∙ d.fits.received (name source ssn) ∙ d.fresh in
-      let ordered = ascending in
-      let mine : det_of r.recording.past (delivery_of r q (name source ssn)) ≡ Some own = ap (option_map (det_from q (next_rsn (memories_of r) q))) sent_name in
-      let all : are_delivered_with r.recording.past (det_of r.recording.past (delivery_of r q (name source ssn))) listed ≡ true = ap (λ o. are_delivered_with r.recording.past o listed) mine ∙ known in
-      let long = d.long in
-      grind (arith, nat_tests, process, up, rsn, sent, once, all, ordered, long)
+  legal = grind (arith, rsn_is, sent_to, ascending, known, d.long)

@@ -27,3 +27,4 @@ mod StoreEntries
 mod DeliveryRows
 mod PendingMessages
 mod FlushWrites
+mod Rules

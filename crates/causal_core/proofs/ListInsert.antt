@@ -1,12 +1,12 @@
 -- An ascending list with one more determinant.
-use Rattle.std.proofs.Common.{ℕ, suc, ◌≡◌, ◌+◌, ◌≤◌, Bool, true, false, true≢false, List, [], ◌∷◌, ◌++◌, length, take, drop, refl, sym, ap, ◌∙◌, arith}
+use Rattle.std.proofs.Common.{ℕ, ◌≡◌, ◌+◌, ◌≤◌, Bool, true, false, true≢false, List, [], ◌∷◌, ◌++◌, length, take, drop, refl, sym, ap, ◌∙◌, arith}
 use Rattle.std.specs.Prelude.{◌&&◌, ◌||◌}
 use Rattle.std.specs.List.{list_all, list_any}
 use Rattle.std.specs.Ordering.{is_lt, is_eq, ordering_reverse}
 use Rattle.std.specs.Cmp.{tied_itself}
 use Rattle.std.specs.declared.cmp.Ordering.{Ordering}
 use Rattle.std.specs.declared.cmp.Ordering.TheVariants.{Less, Equal, Greater}
-use Rattle.std.proofs.lemmas.Bool.{or_right}
+use Rattle.std.proofs.lemmas.Bool.{or_right, and_parts}
 use Rattle.std.proofs.lemmas.List.{length-append, length-map, map-append, take-append-drop}
 use Rattle.causal_name.specs.declared.Det.{Det}
 use Rattle.causal_name.specs.Names.{same_det, is_before, is_ascending, det_cmp}
@@ -16,18 +16,12 @@ use Rattle.causal_log.specs.Logs.{dets_of, names_det}
 use Rattle.causal_log.proofs.Lemmas.Ascents.{ascending_tail, first_before, is_less}
 use Rattle.causal_log.proofs.Lemmas.Searches.{any_map}
 use Rattle.causal_protocol.specs.Naming.{with_own, by_order}
-use Rattle.causal_core.proofs.MemoriesFit.{and_both}
 
 -- what holds of the own determinant and of all that are listed holds of the list with it
 pub with_all : (P : Det → Bool) (own : Det) (ds : List Det) → P own ≡ true → list_all P ds ≡ true → list_all P (with_own own ds) ≡ true
 unfolding with_own
 with_all P own [] is h = ap (λ b. b && true) is
-with_all P own (d ∷ ds) is h =
-    elim (det_cmp own d) as (λ o. list_all P (by_order o (own ∷ d ∷ ds) (d ∷ ds) (d ∷ with_own own ds)) ≡ true) [
-      | Less ↦ ap (λ b. b && (P d && list_all P ds)) is ∙ h
-      | Equal ↦ h
-      | Greater ↦ let two = and_both (P d) (list_all P ds) h in ap (λ b. b && list_all P (with_own own ds)) two.0 ∙ with_all P own ds is two.1
-    ]
+with_all P own (d ∷ ds) is h = grind (arith, with_all P own ds is)
 
 after_greater : (own d : Det) → det_cmp own d ≡ Greater → is_before d own ≡ true
 after_greater own d h = ap is_lt (dets_total.antisymm d own ∙ ap ordering_reverse h)
@@ -35,24 +29,13 @@ after_greater own d h = ap is_lt (dets_total.antisymm d own ∙ ap ordering_reve
 below : (own d : Det) (ds : List Det) → is_before d own ≡ true → is_ascending (d ∷ ds) ≡ true → is_ascending (with_own own ds) ≡ true → is_ascending (d ∷ with_own own ds) ≡ true
 unfolding with_own
 below own d [] low was rest = ap (λ b. b && true) low
-below own d (e ∷ es) low was rest =
-    let two = and_both (is_before d e) (is_ascending (e ∷ es)) was in
-    elim (det_cmp own e) as (λ o. is_ascending (by_order o (own ∷ e ∷ es) (e ∷ es) (e ∷ with_own own es)) ≡ true → is_ascending (d ∷ by_order o (own ∷ e ∷ es) (e ∷ es) (e ∷ with_own own es)) ≡ true) [
-      | Less ↦ λ r. ap (λ b. b && is_ascending (own ∷ e ∷ es)) low ∙ r
-      | Equal ↦ λ r. ap (λ b. b && is_ascending (e ∷ es)) two.0 ∙ r
-      | Greater ↦ λ r. ap (λ b. b && is_ascending (e ∷ with_own own es)) two.0 ∙ r
-    ] rest
+below own d (e ∷ es) low was rest = grind (arith, and_parts)
 
 -- a list that ascends still does with the own determinant in it
 pub with_ascending : (own : Det) (ds : List Det) → is_ascending ds ≡ true → is_ascending (with_own own ds) ≡ true
 unfolding with_own
 with_ascending own [] h = refl
-with_ascending own (d ∷ ds) h =
-    elim (det_cmp own d) as (λ o. det_cmp own d ≡ o → is_ascending (by_order o (own ∷ d ∷ ds) (d ∷ ds) (d ∷ with_own own ds)) ≡ true) [
-      | Less ↦ λ is. ap (λ o. is_lt o && is_ascending (d ∷ ds)) is ∙ h
-      | Equal ↦ λ is. h
-      | Greater ↦ λ is. below own d ds (after_greater own d is) h (with_ascending own ds (ascending_tail d ds h))
-    ] refl
+with_ascending own (d ∷ ds) h = grind (arith, below, after_greater, with_ascending own ds (ascending_tail d ds h))
 
 module _ (own d : Det) (rest : List Det) where
   pub step_is : with_own own (d ∷ rest) ≡ by_order (det_cmp own d) (own ∷ d ∷ rest) (d ∷ rest) (d ∷ with_own own rest)
@@ -102,8 +85,7 @@ past own (x ∷ xs) ys h =
 
 -- before what comes after it, it comes first
 first : (own : Det) (ys : List Det) → is_ascending (own ∷ ys) ≡ true → with_own own ys ≡ own ∷ ys
-first own [] h = with_end own
-first own (y ∷ ys) h = less_is own y ys (is_less (det_cmp own y) (and_both (is_before own y) (is_ascending (y ∷ ys)) h).0)
+first own ys h = grind (arith, with_end, less_is)
 
 -- among the determinants of items, of which one names it
 module _ (own : Det) (items : List Item) (ascend : is_ascending (dets_of items) ≡ true) (named : names_det own items ≡ true) where
@@ -122,20 +104,10 @@ module _ (own : Det) (items : List Item) (place : ℕ) (before : is_ascending (d
   own_put = ap (with_own own) parts ∙ past own (dets_of (take place items)) (dets_of (drop place items)) before ∙ ap (λ ds. dets_of (take place items) ++ ds) (first own (dets_of (drop place items)) after)
 
   pub put_len : length (with_own own (dets_of items)) ≡ length items + 1
-  put_len =
-      let all = ap length parts ∙ length-append (dets_of (take place items)) (dets_of (drop place items)) in
-      let more : length (with_own own (dets_of items)) ≡ length (dets_of (take place items)) + suc (length (dets_of (drop place items))) = ap length own_put ∙ length-append (dets_of (take place items)) (own ∷ dets_of (drop place items)) in
-      let len = length-map items (λ item. item.det) in
-      omega (arith, all, more, len)
+  put_len = grind (arith, parts, length-append, own_put, length-map)
 
 -- no list is shorter with the own determinant in it
 pub with_longer : (own : Det) (ds : List Det) → length ds ≤ length (with_own own ds)
 unfolding with_own
 with_longer own [] = omega arith
-with_longer own (d ∷ ds) =
-    let rest = with_longer own ds in
-    elim (det_cmp own d) as (λ o. suc (length ds) ≤ length (by_order o (own ∷ d ∷ ds) (d ∷ ds) (d ∷ with_own own ds))) [
-      | Less ↦ omega arith
-      | Equal ↦ omega arith
-      | Greater ↦ omega (arith, rest)
-    ]
+with_longer own (d ∷ ds) = grind (arith, with_longer own ds)

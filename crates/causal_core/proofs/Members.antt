@@ -1,25 +1,23 @@
 -- Which messages stand in the list of what is pending.
 use Rattle.std.proofs.Common.{ℕ, zero, suc, ◌≡◌, ◌+◌, ◌<◌, ◌∙◌, Bool, true, false, [], ◌∷◌, map, length, slice_get, Option, Some, None, is_some, refl, sym, ap, arith}
-use Rattle.std.specs.Prelude.{◌==◌, ◌&&◌, not}
+use Rattle.std.specs.Prelude.{◌&&◌, not}
 use Rattle.std.specs.List.{list_any, range_with_len}
 use Rattle.std.specs.Option.{option_and_then}
-use Rattle.std.proofs.lemmas.Bool.{false≢true, or_left, or_right, and_parts, eqb-true}
+use Rattle.std.proofs.lemmas.Bool.{and_parts}
 use Rattle.std.proofs.lemmas.List.Folds.{list_any-append, list_any_at}
 use Rattle.std.proofs.lemmas.List.FromFn.{length-map-range_with_len, get_or-map-range_with_len}
 use Rattle.std.proofs.lemmas.Map.Views.{any-filter_same}
+use Rattle.std.proofs.lemmas.Option.{slice_get_within}
 use Rattle.causal_name.specs.declared.Pid.{Pid}
 use Rattle.causal_name.specs.declared.MsgName.{MsgName}
-use Rattle.causal_name.specs.Names.{same_pid, same_message}
+use Rattle.causal_name.specs.Names.{same_message}
 use Rattle.causal_protocol.specs.Memory.{Kept, Memory, Memories, at, kept_by}
 use Rattle.causal_protocol.specs.Naming.{name, if_to, kept_for, has_received}
 use Rattle.causal_core.specs.Pendings.{is_pending, names_sent, names_from, PendingAreThese}
-use Rattle.causal_core.proofs.Cells.{get_within}
 use Rattle.causal_core.proofs.RuntimeSend.{eqb_refl}
 
 same_is : (a b : MsgName) → same_message a b ≡ true → a ≡ b
-same_is a b h =
-    let parts = and_parts (same_pid a.source b.source) (a.ssn == b.ssn) h in
-    λ i. record { source = record { 0 = eqb-true a.source.0 b.source.0 parts.0 i }; ssn = eqb-true a.ssn b.ssn parts.1 i }
+same_is a b h = grind arith
 
 same_itself : (m : MsgName) → same_message m m ≡ true
 same_itself m = λ i. eqb_refl m.source.0 i && eqb_refl m.ssn i
@@ -39,19 +37,11 @@ sent_named source ssn m h =
 -- and so among those of all
 all_named : (p i source ssn : ℕ) (ms : Memories) (m : Memory) → source ≡ p + i → at ms i ≡ Some m → ssn < length m.sent → list_any (same_message (name (record { 0 = source }) ssn)) (names_from p ms) ≡ true
 all_named p i source ssn [] m is there h = absurd (let e : None ≡ Some m = there in cc)
-all_named p zero source ssn (o ∷ ms) m is there h =
-    list_any-append (same_message (name (record { 0 = source }) ssn)) (names_sent p o) (names_from (p + 1) ms)
-    ∙ or_left _ _ ((λ k. list_any (same_message (name (record { 0 = source }) ssn)) (names_sent (here k) (there k))) ∙ sent_named source ssn m h)
-  where
-    here : p ≡ source
-    here = omega (arith, is)
-all_named p (suc i) source ssn (o ∷ ms) m is there h =
-    list_any-append (same_message (name (record { 0 = source }) ssn)) (names_sent p o) (names_from (p + 1) ms)
-    ∙ or_right _ _ (all_named (p + 1) i source ssn ms m (omega (arith, is)) there h)
+all_named p zero source ssn (o ∷ ms) m is there h = grind (arith, list_any-append, sent_named source ssn m h)
+all_named p (suc i) source ssn (o ∷ ms) m is there h = grind (arith, list_any-append, all_named (p + 1) i source ssn ms m)
 
 kept_there : (q : Pid) (o : Option Kept) → is_some (if_to q o) ≡ true → (k : Kept) × (o ≡ Some k)
-kept_there q None h = absurd (false≢true h)
-kept_there q (Some k) h = (k, refl)
+kept_there q o h = grind arith
 
 sender_there : (ssn : ℕ) (k : Kept) (o : Option Memory) → option_and_then (λ (m : Memory). slice_get m.sent ssn) o ≡ Some k → (m : Memory) × (o ≡ Some m) × (slice_get m.sent ssn ≡ Some k)
 sender_there ssn k None h = absurd (let e : None ≡ Some k = h in cc)
@@ -62,7 +52,7 @@ pending_named : (ms : Memories) (q : Pid) (m : MsgName) → is_pending ms q m �
 pending_named ms q m h =
     let kept = kept_there q (kept_by ms m) (and_parts (is_some (kept_for ms q m)) (not (has_received ms q m)) h).0 in
     let sender = sender_there m.ssn kept.0 (at ms m.source.0) kept.1 in
-    all_named 0 m.source.0 m.source.0 m.ssn ms sender.0 (let e : m.source.0 ≡ 0 + m.source.0 = omega arith in e) sender.1 (get_within sender.0.sent m.ssn kept.0 sender.2)
+    grind (arith, all_named 0 m.source.0 m.source.0 m.ssn ms sender.0, slice_get_within sender.0.sent m.ssn kept.0 sender.2)
 
 pub pending_are_these : PendingAreThese
 pending_are_these ms q m =

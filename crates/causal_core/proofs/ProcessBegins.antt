@@ -1,5 +1,5 @@
 -- The processes of a core begin.
-use Rattle.std.proofs.Common.{ℕ, zero, suc, ◌≡◌, ◌+◌, ◌-◌, ◌<◌, ◌≤◌, Bool, true, List, [], ◌∷◌, ◌++◌, length, map, replicate, Option, Some, None, is_some, refl, sym, ap, subst, ◌∙◌, arith, slice_set, length-append}
+use Rattle.std.proofs.Common.{ℕ, zero, suc, ◌≡◌, ◌+◌, ◌-◌, ◌<◌, ◌≤◌, Bool, true, List, [], ◌∷◌, ◌++◌, length, map, replicate, Option, Some, is_some, refl, sym, ap, subst, ◌∙◌, arith, slice_set, length-append}
 use Rattle.std.specs.List.{list_all}
 use Rattle.std.specs.FinMap as fin
 use Rattle.std.proofs.lemmas.Bool.{false≢true}
@@ -13,7 +13,7 @@ use Rattle.causal_log.specs.Logs.{LogMap, chosen}
 use Rattle.causal_log.specs.Stores.{DetSet, has}
 use Rattle.causal_trace.specs.declared.entry.Entry.{Entry}
 use Rattle.causal_trace.specs.Limits.{IsProcessCount}
-use Rattle.causal_trace.specs.Past.{is_stable, is_delivered}
+use Rattle.causal_trace.specs.Past.{is_stable}
 use Rattle.causal_protocol.specs.Memory.{Memories, fresh, at}
 use Rattle.causal_protocol.specs.Run.{Run, memories, memories_of}
 use Rattle.causal_protocol.specs.Runs.{Opens}
@@ -36,14 +36,7 @@ pub none_pass : (P : Det → Bool) (log : LogMap) → log ≡ fin.empty → list
 none_pass P log is = all_of P (fin.keys log) (λ d there. absurd (false≢true (sym (keys_have log d ∙ ap (λ m. is_some (fin.get m d)) is ∙ ap is_some (fin.get-empty det_cmp d)) ∙ there)))
 
 fits_first : (p : ℕ) → Fits [] p (fresh fin.empty)
-fits_first p = record {
-  up = refl;
-  sent = refl;
-  count = refl;
-  received = λ k. refl;
-  logged = none_pass (is_delivered []) fin.empty refl;
-  placed = λ ssn k is. absurd (let no : None ≡ Some k = is in cc);
-}
+fits_first p = grind (arith, none_pass)
 
 at_replicate : {X : Type 0} (n p : ℕ) (x : Option X) → p < n → at (replicate n x) p ≡ x
 at_replicate zero p x h = absurd (omega (arith, h))
@@ -74,19 +67,11 @@ module _ (r : Run) (ms : Memories) (held : IsHeld r ms) (p : Pid) (may : MayBegi
 beginnings_last : (n p : ℕ) (sends : List (List Outgoing)) (sent : List Outgoing) (past : List Entry) → with_beginnings n p (sends ++ sent ∷ []) past ≡ with_beginning n (p + length sends) sent (with_beginnings n p sends past)
 unfolding with_beginnings
 beginnings_last n p [] sent past = ap (λ k. with_beginning n k sent past) (omega arith)
-beginnings_last n p (s ∷ sends) sent past =
-    beginnings_last n (p + 1) sends sent (with_beginning n p s past)
-    ∙ ap (λ k. with_beginning n k sent (with_beginnings n (p + 1) sends (with_beginning n p s past))) (omega arith)
+beginnings_last n p (s ∷ sends) sent past = grind (arith, beginnings_last n (p + 1) sends sent (with_beginning n p s past))
 
 -- it is at most eight entries
 beginning_short : (n p : ℕ) (sent : List Outgoing) (past : List Entry) → length sent ≤ 8 → length (with_beginning n p sent past) ≤ length past + 8
-beginning_short n p sent past few =
-    let q : Pid = record { 0 = p } in
-    let a = pushed_length (sends_of q 0 (receivers n sent)) past in
-    let b = sends_length q 0 (receivers n sent) in
-    let c = receivers_long n sent in
-    let d = addressed_few n sent in
-    omega (arith, a, b, c, d, few)
+beginning_short n p sent past few = grind (arith, pushed_length, sends_length, receivers_long, addressed_few)
 
 set_after : {X : Type 0} (xs rest : List X) (x y : X) (k : ℕ) → k ≡ length xs → slice_set (xs ++ x ∷ rest) k y ≡ (xs ++ y ∷ []) ++ rest
 set_after {X = X} xs rest x y k is = ap (λ i. slice_set (xs ++ x ∷ rest) i y) is ∙ by xs
@@ -96,12 +81,8 @@ set_after {X = X} xs rest x y k is = ap (λ i. slice_set (xs ++ x ∷ rest) i y)
     by (z ∷ zs) = ap (λ ws. z ∷ ws) (by zs)
 
 began_sends : {B : Type 0} (answers : B → List Input → List (List Outgoing)) (boxes : List B) (sends : List (List Outgoing)) (slots : List (Option B)) → Began answers boxes sends slots → (length sends ≡ length boxes) × (length slots ≡ length boxes)
-began_sends answers [] [] [] began = (refl, refl)
-began_sends answers (b ∷ bs) (s ∷ ss) (t ∷ ts) began = let rest = began_sends answers bs ss ts began.1 in (ap suc rest.0, ap suc rest.1)
-began_sends answers [] (s ∷ ss) ts began = absurd began
-began_sends answers [] [] (t ∷ ts) began = absurd began
-began_sends answers (x ∷ xs) [] ts began = absurd began
-began_sends answers (x ∷ xs) (s ∷ ss) [] began = absurd began
+began_sends answers [] sends slots h = grind arith
+began_sends answers (each ∷ others) sends slots h = grind (arith, began_sends answers others)
 
 module _ {B : Type 0} (answers : B → List Input → List (List Outgoing)) where
   pub slots_long : (n f : ℕ) (boxes : List B) (slots : List (Option B)) (d : DataState) → HaveBegun answers n f boxes slots d → length slots ≡ length boxes
@@ -110,15 +91,7 @@ module _ {B : Type 0} (answers : B → List Input → List (List Outgoing)) wher
   -- before any box has begun
   pub none_begun : (n f : ℕ) (d : DataState) (slots : List (Option B)) → slots ≡ [] → d.run ≡ opening n f [] → d.bodies ≡ replicate n [] → HaveBegun answers n f [] slots d
   unfolding with_beginnings memories
-  none_begun n f d slots empty run bodies = record {
-    sends = [];
-    began = subst (Began answers [] []) (sym empty) tt;
-    run = run;
-    bodies = bodies ∙ ap (λ k. replicate k []) (omega arith);
-    fresh_yet = λ q low high. ap (λ r. at (memories_of r) q) run ∙ at_replicate n q (Some (fresh fin.empty)) high;
-    short = let none = ap (λ r. length r.recording.past) run in omega (arith, none);
-    opens = ap (λ r. r.recording.past) run;
-  }
+  none_begun n f d slots empty run bodies = grind (arith, at_replicate)
 
   -- one more box has begun
   module _ (n f : ℕ) (boxes : List B) (slots next : List (Option B)) (was is : DataState) (b : B) (h : HaveBegun answers n f boxes slots was) (one : Begins answers b slots next was is) (low : length boxes < n) where
@@ -185,19 +158,8 @@ beginnings_unstable n p (s ∷ sends) past d = beginnings_unstable n (p + 1) sen
 
 -- and nothing is stable, so an empty store has just that
 pub none_stored : (n f : ℕ) (sends : List (List Outgoing)) (r : Run) (s : DetSet) → r ≡ opening n f (with_beginnings n 0 sends []) → s ≡ fin.empty → (d : Det) → has s d ≡ is_stable r.recording.past d
-none_stored n f sends r s is none d =
-    ap (λ m. has m d) none ∙ ap is_some (fin.get-empty det_cmp d)
-    ∙ sym (ap (λ x. is_stable x.recording.past d) is ∙ beginnings_unstable n 0 sends [] d)
+none_stored n f sends r s is none d = grind (arith, fin.get-empty, beginnings_unstable)
 
 -- the next box may begin
 pub may_begin : {B : Type 0} (answers : B → List Input → List (List Outgoing)) (n f : ℕ) (boxes : List B) (slots : List (Option B)) (d : DataState) → HaveBegun answers n f boxes slots d → length boxes < n → n ≤ 256 → MayBegin (length slots) d.run
-may_begin answers n f boxes slots d h low few =
-    let long = slots_long answers n f boxes slots d h in
-    let count = ap (λ r. r.recording.processes) h.run in
-    let short = h.short in
-    record {
-      process = omega (arith, long, count, low);
-      number = omega (arith, count, few);
-      fresh_yet = h.fresh_yet (length slots) (omega (arith, long)) (omega (arith, long, low));
-      short = omega (arith, short, low, few);
-    }
+may_begin answers n f boxes slots d h low few = grind (arith, slots_long answers n f boxes slots d h)

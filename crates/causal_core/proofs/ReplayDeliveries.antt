@@ -1,11 +1,11 @@
 -- Deliveries of a replay, one after the other.
-use Rattle.std.proofs.Common.{ℕ, ◌≡◌, ◌+◌, ◌∙◌, List, [], ◌∷◌, length, Option, Some, None, refl, sym, ap, subst, arith}
+use Rattle.std.proofs.lemmas.Grind.{common_steps}
+use Rattle.std.proofs.Common.{ℕ, ◌≡◌, ◌+◌, ◌∙◌, List, [], ◌∷◌, Option, Some, None, refl, sym, ap, subst, arith}
 use Rattle.std.specs.Prelude.{Ok, Err}
 use Rattle.causal_name.specs.declared.Pid.{Pid}
 use Rattle.causal_name.specs.declared.MsgName.{MsgName}
 use Rattle.causal_name.specs.Names.{message_of}
 use Rattle.causal_process.specs.declared.message.Input.{Input}
-use Rattle.causal_process.specs.declared.message.Input.TheVariants.{Message as Given}
 use Rattle.causal_process.specs.declared.message.Outgoing.{Outgoing}
 use Rattle.causal_protocol.specs.declared.request.Request.TheVariants as Ask
 use Rattle.causal_protocol.specs.declared.request.Reply.TheVariants as Told
@@ -14,11 +14,12 @@ use Rattle.causal_protocol.specs.declared.request.Delivered.{Delivered}
 use Rattle.causal_protocol.specs.Run.{Run}
 use Rattle.causal_protocol.specs.Refusals.{first_fault}
 use Rattle.causal_protocol.specs.Steps.{LegalStep, Steps, reason_of}
-use Rattle.causal_core.specs.Boxes.{answers_at, after, after_all}
+use Rattle.causal_core.specs.Boxes.{answers_at, after}
 use Rattle.causal_core.specs.View.{body_at, naming}
 use Rattle.causal_core.specs.CoreView.{CoreState, IsUnchanged, Delivers}
 use Rattle.causal_core.specs.Replays.{Redelivery, inputs_of, sends_in, IsRefused, RefusesNamed, Redelivers, Replays, Replayed, Redelivered}
-use Rattle.causal_core.proofs.BoxLemmas.{told_more, same_refl}
+use Rattle.causal_process.specs.declared.message.Input.TheVariants.{Message as Given}
+use Rattle.causal_core.proofs.BoxLemmas.{told_more}
 
 -- what is told of a delivery names its message
 told_message : (r next : Run) (q : Pid) (m : MsgName) (d : Delivered) → Steps r (Ask.Deliver q m.source m.ssn) (Told.Delivered d) next → m ≡ message_of d.det
@@ -82,13 +83,7 @@ module _ {B : Type 0} (answers : B → List Input → List (List Outgoing)) (p :
 
   -- where nothing was delivered, the replay is of no deliveries
   pub replayed_none : (s : CoreState B) → Replayed answers p 0 s s
-  replayed_none s = record {
-    deliveries = [];
-    number = refl;
-    made = record { run = refl; bodies = refl; boxes = λ q inputs. refl };
-    box = same_refl answers p.0 s.slots;
-    others = λ q inputs apart. refl;
-  }
+  replayed_none s = grind arith
 
   -- one more
   pub replayed_more : (count : ℕ) (told : Option Delivered) (d : Delivered) (old mid new : CoreState B) → Replayed answers p count old mid → told ≡ Some d → Redelivered answers p told mid new → Replayed answers p (count + 1) old new
@@ -106,13 +101,7 @@ module _ {B : Type 0} (answers : B → List Input → List (List Outgoing)) (p :
 
   -- a replay stays one where nothing changes after it
   pub replayed_on : (count : ℕ) (old mid new : CoreState B) → Replayed answers p count old mid → IsUnchanged answers mid new → Replayed answers p count old new
-  replayed_on count old mid new r u = record {
-    deliveries = r.deliveries;
-    number = r.number;
-    made = replays_on r.deliveries old mid new r.made u;
-    box = λ inputs. r.box inputs ∙ ap (after_all (sends_in r.deliveries)) (sym (u.boxes p.0 inputs));
-    others = λ q inputs apart. u.boxes q inputs ∙ r.others q inputs apart;
-  }
+  replayed_on count old mid new r u = grind (arith, replays_on)
 
   -- where none is named
   pub replayed_unnamed : (count : ℕ) (told : Option Delivered) (old mid new : CoreState B) → Replayed answers p count old mid → told ≡ None → Redelivered answers p told mid new → Replayed answers p count old new
@@ -120,8 +109,4 @@ module _ {B : Type 0} (answers : B → List Input → List (List Outgoing)) (p :
 
   -- no delivery changes nothing
   pub replayed_nothing : (count : ℕ) (old new : CoreState B) → Replayed answers p count old new → count ≡ 0 → IsUnchanged answers old new
-  replayed_nothing count old new r none = nothing r.deliveries (r.number ∙ none) r.made
-    where
-      nothing : (xs : List Redelivery) → length xs ≡ 0 → Replays answers p xs old new → IsUnchanged answers old new
-      nothing [] h made = made
-      nothing (x ∷ xs) h made = absurd (omega (arith, h))
+  replayed_nothing count old new r none = grind (arith, common_steps)

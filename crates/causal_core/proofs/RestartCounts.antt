@@ -6,24 +6,22 @@ use Rattle.std.specs.List.{list_any}
 use Rattle.std.specs.Option.{option_map, option_map_or}
 use Rattle.std.specs.FinMap as fin
 use Rattle.std.specs.FinMap.Entries.{find, is_sorted, below_all}
-use Rattle.std.specs.Ordering.{eq_by_cmp, is_lt}
-use Rattle.std.specs.Cmp.{tied_itself}
+use Rattle.std.specs.Ordering.{is_lt}
 use Rattle.std.proofs.Math.Bool.{or_assoc}
-use Rattle.std.proofs.lemmas.Bool.{false≢true}
 use Rattle.std.proofs.lemmas.List.{length-map, map-append, drop_more, drop_all, take_more}
 use Rattle.std.proofs.lemmas.List.Sums.{length-filter}
 use Rattle.causal_name.specs.declared.Pid.{Pid}
 use Rattle.causal_name.specs.declared.Det.{Det}
 use Rattle.causal_name.specs.Names.{det_cmp, same_det, is_before, is_ascending}
-use Rattle.causal_name.proofs.Lemmas.DetOrder.{dets_total, exact_dets, det_ties, same_is, same_itself}
+use Rattle.causal_name.proofs.Lemmas.DetOrder.{dets_total, exact_dets, det_ties, same_itself}
 use Rattle.causal_log.specs.declared.known.Known.{Known}
-use Rattle.causal_log.specs.Knowledge.{joined, held_by, stable_and_held_by}
-use Rattle.causal_log.specs.Logs.{LogMap, known_of, learned, learned_all, united}
-use Rattle.causal_log.specs.Stores.{DetSet, with_det, has, count_in, dets_in}
-use Rattle.causal_log.proofs.Lemmas.Searches.{or_right, or_nothing, any_map, any_dets}
+use Rattle.causal_log.specs.Knowledge.{held_by, stable_and_held_by}
+use Rattle.causal_log.specs.Logs.{LogMap, learned, learned_all}
+use Rattle.causal_log.specs.Stores.{DetSet, with_det, has, count_in}
+use Rattle.causal_log.proofs.Lemmas.Searches.{or_nothing, any_map, any_dets}
 use Rattle.causal_log.proofs.Lemmas.Ascents.{ascending_tail, first_before, map_ascends}
 use Rattle.causal_protocol.specs.Memory.{Memory, Memories}
-use Rattle.causal_protocol.specs.Gathering.{united_all, held_all, stable_all, known_together, gathered_log}
+use Rattle.causal_protocol.specs.Gathering.{united_all, held_all, stable_all, gathered_log}
 use Rattle.causal_core.specs.Inside.Gathers.{is_logged}
 use Rattle.causal_core.specs.declared.cell.Cell.{Cell}
 use Rattle.causal_core.specs.Inside.Memories.{memory_of, memories_in}
@@ -34,12 +32,7 @@ pub keys_have : {X : Type 0} (m : fin.FinMap det_cmp X) (d : Det) → list_any (
 keys_have m d = any_map (λ e. e.0) (same_det d) (λ e. same_det d e.0) (λ e. refl) (fin.entries m) ∙ any_dets d m
 
 logged_one : (log : LogMap) (det : Det) (known : Known) (d : Det) → is_some (fin.get (learned log det known) d) ≡ (is_some (fin.get log d) || same_det d det)
-logged_one log det known d =
-    ap is_some (fin.get-insert dets_total log det (joined (known_of log det) known) d ∙ ap (λ b. cond b (Some (joined (known_of log det) known)) (fin.get log d)) (sym (det_ties d det)))
-    ∙ elim (same_det d det) as (λ b. is_some (cond b (Some (joined (known_of log det) known)) (fin.get log d)) ≡ (is_some (fin.get log d) || b)) [
-      | true ↦ or_right (is_some (fin.get log d))
-      | false ↦ or_nothing (is_some (fin.get log d))
-    ]
+logged_one log det known d = grind (arith, fin.get-insert, dets_total, det_ties, or_nothing)
 
 -- where what is found in a log that learned one more is known, what is found in the log before is
 one_more : (log : LogMap) (det : Det) (known : Known) (d : Det) (found rest : Bool) → found ≡ (is_some (fin.get (learned log det known) d) || rest) → found ≡ (is_some (fin.get log d) || (same_det d det || rest))
@@ -52,12 +45,8 @@ logged_all (e ∷ es) log d = one_more log e.0 e.1 d _ _ (logged_all es (learned
 -- what all logs together have
 united_has : (ms : Memories) (log : LogMap) (d : Det) → is_some (fin.get (united_all ms log) d) ≡ (is_some (fin.get log d) || is_logged ms d)
 unfolding united_all
-united_has [] log d = or_nothing (is_some (fin.get log d))
-united_has (None ∷ ms) log d = united_has ms log d
-united_has (Some m ∷ ms) log d =
-    united_has ms (united log m.log) d
-    ∙ ap (λ b. b || is_logged ms d) (logged_all (fin.entries m.log) log d ∙ ap (λ b. is_some (fin.get log d) || b) (any_dets d m.log))
-    ∙ or_assoc (is_some (fin.get log d)) (is_some (fin.get m.log d)) (is_logged ms d)
+united_has [] log d = grind arith
+united_has (each ∷ others) log d = grind (arith, united_has others, logged_all, any_dets)
 
 held_has : (ds : List Det) (p : Pid) (log : LogMap) (d : Det) → is_some (fin.get (held_all ds p log) d) ≡ (is_some (fin.get log d) || list_any (same_det d) ds)
 unfolding held_all
@@ -69,64 +58,28 @@ unfolding stable_all
 stable_has [] p log d = or_nothing (is_some (fin.get log d))
 stable_has (x ∷ ds) p log d = one_more log x (stable_and_held_by p) d _ _ (stable_has ds p (learned log x (stable_and_held_by p)) d)
 
-either_or : (k s : Bool) → ((k || k) || s) ≡ (s || k)
-either_or true true = refl
-either_or true false = refl
-either_or false true = refl
-either_or false false = refl
-
 -- what a restart gathers
 pub gathered_has : (ms : Memories) (stored : DetSet) (p : Pid) (d : Det) → is_some (fin.get (gathered_log ms stored p) d) ≡ (has stored d || is_logged ms d)
-gathered_has ms stored p d =
-    let all = known_together ms in
-    let known : is_some (fin.get all d) ≡ is_logged ms d = united_has ms fin.empty d ∙ ap (λ o. is_some o || is_logged ms d) (fin.get-empty det_cmp d) in
-    stable_has (dets_in stored) p (held_all (fin.keys all) p all) d
-    ∙ ap (λ b. b || list_any (same_det d) (dets_in stored)) (held_has (fin.keys all) p all d)
-    ∙ (λ i. (known i || (keys_have all d ∙ known) i) || keys_have stored d i)
-    ∙ either_or (is_logged ms d) (has stored d)
+gathered_has ms stored p d = grind (arith, united_has, fin.get-empty, stable_has, held_has, keys_have)
 
 -- the members of a set, with these
 with_all : List Det → DetSet → DetSet
 with_all [] s = s
 with_all (d ∷ ds) s = with_all ds (with_det s d)
 
-turned : (a b c : Bool) → ((a || b) || c) ≡ (b || (a || c))
-turned true true c = refl
-turned true false c = refl
-turned false true c = refl
-turned false false c = refl
-
 all_have : (ds : List Det) (s : DetSet) (d : Det) → has (with_all ds s) d ≡ (has s d || list_any (same_det d) ds)
 unfolding with_all
 all_have [] s d = or_nothing (has s d)
-all_have (x ∷ ds) s d =
-    all_have ds (with_det s x) d
-    ∙ ap (λ b. b || list_any (same_det d) ds) (has_with s x d)
-    ∙ turned (same_det d x) (has s d) (list_any (same_det d) ds)
+all_have (x ∷ ds) s d = grind (arith, all_have ds (with_det s x) d, has_with)
 
 -- a test that says the same of each element
 same_count : {X : Type 0} (same : X → X → Bool) → ((x : X) → same x x ≡ true) → (P Q : X → Bool) (xs : List X) → ((x : X) → list_any (same x) xs ≡ true → P x ≡ Q x) → length (filter P xs) ≡ length (filter Q xs)
 same_count same itself P Q [] h = refl
-same_count same itself P Q (x ∷ xs) h =
-    let rest = same_count same itself P Q xs (λ y there. h y (later (same y x) (list_any (same y) xs) there)) in
-    let here = h x (ap (λ b. b || list_any (same x) xs) (itself x)) in
-    ap (λ b. length (cond b (x ∷ filter P xs) (filter P xs))) here
-    ∙ elim (Q x) as (λ b. length (cond b (x ∷ filter P xs) (filter P xs)) ≡ length (cond b (x ∷ filter Q xs) (filter Q xs))) [ true ↦ ap suc rest | false ↦ rest ]
-  where
-    later : (a b : Bool) → b ≡ true → (a || b) ≡ true
-    later true b there = refl
-    later false b there = there
+same_count same itself P Q (x ∷ xs) h = grind (arith, same_count same itself P Q xs)
 
 -- what comes before another is not the same
 before_apart : (d x : Det) → is_before d x ≡ true → same_det x d ≡ false
-before_apart d x h = by (same_det x d) refl
-  where
-    by : (b : Bool) → same_det x d ≡ b → b ≡ false
-    by false e = refl
-    by true e =
-        let is : x ≡ d = same_is x d e in
-        let before : is_before d d ≡ true = ap (is_before d) (sym is) ∙ h in
-        absurd (false≢true (sym (ap is_lt (tied_itself dets_total d)) ∙ before))
+before_apart d x h = grind arith
 
 -- these are as many more as the set has not
 all_count : (ds : List Det) (s : DetSet) → is_ascending ds ≡ true → count_in (with_all ds s) ≡ count_in s + length (filter (λ d. not (has s d)) ds)
@@ -152,24 +105,18 @@ everything (Some m ∷ ms) s = everything ms (with_all (fin.keys m.log) s)
 
 every_has : (ms : Memories) (s : DetSet) (d : Det) → has (everything ms s) d ≡ (has s d || is_logged ms d)
 unfolding everything
-every_has [] s d = or_nothing (has s d)
-every_has (None ∷ ms) s d = every_has ms s d
-every_has (Some m ∷ ms) s d =
-    every_has ms (with_all (fin.keys m.log) s) d
-    ∙ ap (λ b. b || is_logged ms d) (all_have (fin.keys m.log) s d ∙ ap (λ b. has s d || b) (keys_have m.log d))
-    ∙ or_assoc (has s d) (is_some (fin.get m.log d)) (is_logged ms d)
+every_has [] s d = grind arith
+every_has (each ∷ others) s d = grind (arith, every_has others, all_have, keys_have)
 
 every_last : (ms : Memories) (m : Memory) (s : DetSet) → everything (ms ++ Some m ∷ []) s ≡ with_all (fin.keys m.log) (everything ms s)
 unfolding everything
-every_last [] m s = refl
-every_last (None ∷ ms) m s = every_last ms m s
-every_last (Some k ∷ ms) m s = every_last ms m (with_all (fin.keys k.log) s)
+every_last [] m s = grind arith
+every_last (each ∷ others) m s = grind (arith, every_last others)
 
 every_down : (ms : Memories) (s : DetSet) → everything (ms ++ None ∷ []) s ≡ everything ms s
 unfolding everything
-every_down [] s = refl
-every_down (None ∷ ms) s = every_down ms s
-every_down (Some k ∷ ms) s = every_down ms (with_all (fin.keys k.log) s)
+every_down [] s = grind arith
+every_down (each ∷ others) s = grind (arith, every_down others)
 
 -- how many determinants a set and these logs have
 pub count_all : Memories → DetSet → ℕ
@@ -188,18 +135,10 @@ count_down ms s = ap count_in (every_down ms s)
 -- one more log has as many more as neither the set nor those before has
 pub count_more : (ms : Memories) (m : Memory) (s : DetSet) → count_all (ms ++ Some m ∷ []) s ≡ count_all ms s + count_by (λ d. not (has s d || is_logged ms d)) (fin.keys m.log)
 unfolding count_all
-count_more ms m s =
-    ap count_in (every_last ms m s)
-    ∙ all_count (fin.keys m.log) (everything ms s) (map_ascends m.log)
-    ∙ ap (λ k. count_in (everything ms s) + k)
-    (same_count same_det same_itself (λ d. not (has (everything ms s) d)) (λ d. not (has s d || is_logged ms d)) (fin.keys m.log) (λ d there. ap not (every_has ms s d))
-    ∙ length-filter (λ d. not (has s d || is_logged ms d)) (fin.keys m.log))
+count_more ms m s = grind (arith, every_last, all_count, map_ascends, every_has, length-filter)
 
 same_unit : (a b : Option (Unit {0})) → is_some a ≡ is_some b → a ≡ b
-same_unit None None h = refl
-same_unit None (Some u) h = Prim.cc
-same_unit (Some u) None h = Prim.cc
-same_unit (Some u) (Some v) h = refl
+same_unit a b h = grind arith
 
 -- the keys of entries, as entries with nothing at them
 module _ {X : Type 0} where
@@ -220,8 +159,7 @@ module _ {X : Type 0} where
   bare_found : (d : Det) (es : List (Det × X)) → is_some (find det_cmp d (bare es)) ≡ is_some (find det_cmp d es)
   unfolding bare
   bare_found d [] = refl
-  bare_found d (e ∷ es) =
-      elim (eq_by_cmp det_cmp d e.0) as (λ b. is_some (cond b (Some tt) (find det_cmp d (bare es))) ≡ is_some (cond b (Some e.1) (find det_cmp d es))) [ true ↦ refl | false ↦ bare_found d es ]
+  bare_found d (e ∷ es) = grind (arith, bare_found d es)
 
   bare_length : (es : List (Det × X)) → length (bare es) ≡ length es
   unfolding bare

@@ -1,11 +1,10 @@
 -- What a core remembers of its last restart stays, while no memory changes but that of its process.
-use Rattle.std.proofs.Common.{ℕ, zero, suc, ◌≡◌, ◌+◌, ◌∙◌, true, false, List, [], ◌∷◌, Option, Some, None, is_some, refl, sym, ap, slice_set}
+use Rattle.std.proofs.Common.{arith, ℕ, ◌≡◌, ◌+◌, ◌∙◌, false, List, [], ◌∷◌, Option, None, is_some, refl, ap, slice_set}
 use Rattle.causal_name.specs.declared.Pid.{Pid}
 use Rattle.causal_name.specs.declared.MsgName.{MsgName}
 use Rattle.causal_name.specs.declared.Det.{Det}
 use Rattle.causal_trace.specs.declared.entry.Entry.{Entry}
 use Rattle.causal_trace.specs.declared.entry.Entry.TheVariants.{Send, Deliver, Restart}
-use Rattle.causal_trace.specs.Past.{message_at}
 use Rattle.causal_protocol.specs.declared.request.Request.TheVariants as Ask
 use Rattle.causal_protocol.specs.declared.request.Reply.TheVariants as Told
 use Rattle.causal_protocol.specs.Gathering.{stable_set, gathered_log}
@@ -21,10 +20,8 @@ use Rattle.causal_core.proofs.RunAfterStep.{crash_done}
 
 -- of a process that is down nothing is taken out
 set_none : (ms : Memories) (p : ℕ) → is_some (at ms p) ≡ false → slice_set ms p None ≡ ms
-set_none [] p h = refl
-set_none (None ∷ ms) zero h = refl
-set_none (Some m ∷ ms) zero h = absurd (let e : true ≡ false = h in cc)
-set_none (m ∷ ms) (suc p) h = ap (λ xs. m ∷ xs) (set_none ms p h)
+set_none [] p h = grind arith
+set_none (each ∷ others) p h = grind (arith, set_none others)
 
 -- what a process that is down gathers
 pub gathered_down : (r : Run) (p : Pid) → is_some (at (memories_of r) p.0) ≡ false → gathered_by r p ≡ gathered_log (memories_of r) (stable_of r) p
@@ -36,8 +33,7 @@ sends_alone n f writers q ssn [] past = refl
 sends_alone n f writers q ssn (to ∷ tos) past = sends_alone n f writers q (ssn + 1) tos (Send q to ssn ∷ past) ∙ set_twice (memories n f writers past) q.0 _ None
 
 receive_alone : (ms : Memories) (to : Pid) (rsn : ℕ) (m : Option MsgName) → slice_set (receive ms to rsn m) to.0 None ≡ slice_set ms to.0 None
-receive_alone ms to rsn None = refl
-receive_alone ms to rsn (Some m) = set_twice ms to.0 _ None
+receive_alone ms to rsn m = grind (arith, set_twice)
 
 sends_stored : (q : Pid) (ssn : ℕ) (tos : List Pid) (past : List Entry) → stable_set (pushed (sends_of q ssn tos) past) ≡ stable_set past
 unfolding sends_of stable_set
@@ -46,8 +42,7 @@ sends_stored q ssn (to ∷ tos) past = sends_stored q (ssn + 1) tos (Send q to s
 
 deliver_alone : (n f : ℕ) (writers : List Pid) (q : Pid) (ssn : ℕ) (tos : List Pid) (send rsn : ℕ) (listed : List Det) (past : List Entry) → slice_set (memories n f writers (pushed (sends_of q ssn tos) (Deliver q send rsn listed ∷ past))) q.0 None ≡ slice_set (memories n f writers past) q.0 None
 unfolding memories
-deliver_alone n f writers q ssn tos send rsn listed past =
-    sends_alone n f writers q ssn tos (Deliver q send rsn listed ∷ past) ∙ receive_alone (memories n f writers past) q rsn (message_at past send)
+deliver_alone n f writers q ssn tos send rsn listed past = grind (arith, sends_alone, receive_alone)
 
 deliver_stored : (q : Pid) (ssn : ℕ) (tos : List Pid) (send rsn : ℕ) (listed : List Det) (past : List Entry) → stable_set (pushed (sends_of q ssn tos) (Deliver q send rsn listed ∷ past)) ≡ stable_set past
 unfolding stable_set
@@ -55,8 +50,7 @@ deliver_stored q ssn tos send rsn listed past = sends_stored q ssn tos (Deliver 
 
 restart_alone : (n f : ℕ) (writers : List Pid) (p : Pid) (ssn : ℕ) (tos : List Pid) (listed : List Det) (past : List Entry) → slice_set (memories n f writers (pushed (sends_of p ssn tos) (Restart p listed ∷ past))) p.0 None ≡ slice_set (memories n f writers past) p.0 None
 unfolding memories
-restart_alone n f writers p ssn tos listed past =
-    sends_alone n f writers p ssn tos (Restart p listed ∷ past) ∙ set_twice (memories n f writers past) p.0 _ None
+restart_alone n f writers p ssn tos listed past = grind (arith, sends_alone, set_twice)
 
 restart_stored : (p : Pid) (ssn : ℕ) (tos : List Pid) (listed : List Det) (past : List Entry) → stable_set (pushed (sends_of p ssn tos) (Restart p listed ∷ past)) ≡ stable_set past
 unfolding stable_set
@@ -65,34 +59,18 @@ restart_stored p ssn tos listed past = sends_stored p ssn tos (Restart p listed 
 module _ (r mid next : Run) (q source : Pid) (ssn : ℕ) (m : MsgName) (k : ℕ) (tos : List Pid) (same : mid ≡ r) (run : next ≡ extended mid (Ask.Deliver q source ssn) (delivery_of mid q m ∷ sends_of q k tos)) where
   -- a delivery and its sends change the memory of the receiver alone, and store nothing
   pub delivery_alone : ChangesAlone q r next
-  delivery_alone = record {
-    others =
-        ap (λ x. slice_set (memories_of x) q.0 None) run
-        ∙ deliver_alone mid.recording.processes mid.faults mid.writers q k tos _ _ _ mid.recording.past
-        ∙ ap (λ x. slice_set (memories_of x) q.0 None) same;
-    stable = ap stable_of run ∙ deliver_stored q k tos _ _ _ mid.recording.past ∙ ap stable_of same;
-  }
+  delivery_alone = grind (arith, deliver_alone, deliver_stored)
 
 module _ (r mid next : Run) (p : Pid) (listed : List Det) (tos : List Pid) (same : mid ≡ r) (run : next ≡ extended mid (Ask.Restart p) (Restart p listed ∷ sends_of p 0 tos)) where
   -- and so do a restart and its sends, of the process that comes up
   pub restarted_alone : ChangesAlone p r next
-  restarted_alone = record {
-    others =
-        ap (λ x. slice_set (memories_of x) p.0 None) run
-        ∙ restart_alone mid.recording.processes mid.faults mid.writers p 0 tos listed mid.recording.past
-        ∙ ap (λ x. slice_set (memories_of x) p.0 None) same;
-    stable = ap stable_of run ∙ restart_stored p 0 tos listed mid.recording.past ∙ ap stable_of same;
-  }
+  restarted_alone = grind (arith, restart_alone, restart_stored)
 
 -- a crash changes the memory of its process alone, and stores nothing
 pub crash_alone : (r next : Run) (p : Pid) (first : ℕ) → Steps r (Ask.Crash p) (Told.Crashed first) next → ChangesAlone p r next
 unfolding memories stable_set
-crash_alone r next p first s = record {
-  others = ap (λ x. slice_set (memories_of x) p.0 None) (crash_done r next p first s) ∙ set_twice (memories_of r) p.0 None None;
-  stable = ap stable_of (crash_done r next p first s);
-}
+crash_alone r next p first s = grind (arith, crash_done r next p first s, set_twice)
 
 -- what was gathered for a process that is down may be remembered: it is what that process would gather
 pub remembered_anew : (r : Run) (p : Pid) (log : LogMap) (last : Option Remembered) → is_some (at (memories_of r) p.0) ≡ false → log ≡ gathered_log (memories_of r) (stable_of r) p → IfSome last (λ l. (l.by ≡ p) × (l.log.map ≡ log)) → IsRemembered r last
-remembered_anew r p log None down is made = tt
-remembered_anew r p log (Some l) down is made = made.1 ∙ is ∙ sym (gathered_down r p down) ∙ ap (gathered_by r) (sym made.0)
+remembered_anew r p log last h h2 h3 = grind (arith, gathered_down)

@@ -1,7 +1,5 @@
 -- What a step tells of the run after it.
-use Rattle.std.proofs.Common.{ℕ, ◌≡◌, ◌<◌, ◌∙◌, false, List, [], ◌∷◌, map, None, is_some, refl, sym, ap, arith, slice_set}
-use Rattle.std.specs.Prelude.{not, nat_lt}
-use Rattle.std.proofs.lemmas.Bool.Decides.{nat_tests}
+use Rattle.std.proofs.Common.{ℕ, ◌≡◌, ◌<◌, ◌∙◌, false, List, [], ◌∷◌, map, None, is_some, ap, arith, slice_set}
 use Rattle.causal_name.specs.declared.Pid.{Pid}
 use Rattle.causal_name.specs.declared.MsgName.{MsgName}
 use Rattle.causal_name.specs.declared.Det.{Det}
@@ -11,18 +9,13 @@ use Rattle.causal_protocol.specs.declared.request.CoreFault.{CoreFault}
 use Rattle.causal_protocol.specs.declared.request.Request.TheVariants as Ask
 use Rattle.causal_protocol.specs.declared.request.Reply.TheVariants as Told
 use Rattle.causal_protocol.specs.Run.{Run, memories, memories_of}
-use Rattle.causal_protocol.specs.Naming.{send_of, next_rsn, listed_for}
 use Rattle.causal_protocol.specs.Refusals.{rows}
 use Rattle.causal_protocol.specs.Steps.{LegalStep, Steps, extended, delivery_of, sends_of}
-use Rattle.causal_core.proofs.Legal.{row_none, when_false}
 use Rattle.causal_core.proofs.BoxLemmas.{map-set}
-use Rattle.causal_core.proofs.UpAfterStep.{delivery_up}
-use Rattle.std.specs.Prelude.{◌||◌}
-use Rattle.causal_name.specs.Names.{same_det}
+use Rattle.causal_core.proofs.UpAfterStep.{delivery_up, changed_up}
 use Rattle.causal_log.specs.Logs.{marked}
 use Rattle.causal_log.specs.Stores.{DetSet, with_det, has}
 use Rattle.causal_protocol.specs.Memory.{with_log}
-use Rattle.causal_core.proofs.UpAfterStep.{changed_up}
 use Rattle.causal_core.proofs.StoreEntries.{has_with, sends_unstable}
 
 -- a crash that is refused leaves the run
@@ -38,8 +31,7 @@ crash_done r next p first s = s.grown ∙ ap (extended r (Ask.Crash p)) s.legal.
 -- what crashes is a process of the run
 pub crash_below : (r next : Run) (p : Pid) (first : ℕ) → Steps r (Ask.Crash p) (Told.Crashed first) next → p.0 < r.recording.processes
 unfolding LegalStep rows
-crash_below r next p first s =
-    let inside : not (nat_lt p.0 r.recording.processes) ≡ false = when_false _ _ (row_none (rows r (Ask.Crash p)) s.legal.0 0 _ refl) in grind (arith, nat_tests, inside)
+crash_below r next p first s = grind arith
 
 -- it is down then, and the others are as they were
 pub crash_filled : (r next : Run) (p : Pid) (first : ℕ) → Steps r (Ask.Crash p) (Told.Crashed first) next → map is_some (memories_of next) ≡ slice_set (map is_some (memories_of r)) p.0 false
@@ -57,19 +49,12 @@ stable_filled r next p det run = ap (λ x. map is_some (memories_of x)) run ∙ 
 
 -- a store that has just what is stable still does once that determinant is in it
 pub stable_stored : (r next : Run) (p : Pid) (det : Det) (old new : DetSet) → next ≡ extended r (Ask.Flush p) (Stable det ∷ []) → new ≡ with_det old det → ((d : Det) → has old d ≡ is_stable r.recording.past d) → (d : Det) → has new d ≡ is_stable next.recording.past d
-stable_stored r next p det old new run put stored d =
-    ap (λ s. has s d) put ∙ has_with old det d ∙ ap (λ b. same_det d det || b) (stored d) ∙ sym (ap (λ x. is_stable x.recording.past d) run)
+stable_stored r next p det old new run put stored d = grind (arith, has_with)
 
 -- a delivery and its sends leave who is up, and what is stable
 module _ (r mid next : Run) (q source : Pid) (ssn : ℕ) (m : MsgName) (k : ℕ) (tos : List Pid) (same : mid ≡ r) (run : next ≡ extended mid (Ask.Deliver q source ssn) (delivery_of mid q m ∷ sends_of q k tos)) where
   pub delivery_filled : map is_some (memories_of next) ≡ map is_some (memories_of r)
-  delivery_filled =
-      ap (λ x. map is_some (memories_of x)) run
-      ∙ delivery_up mid.recording.processes mid.faults mid.writers q k tos q (send_of (memories_of mid) m) (next_rsn (memories_of mid) q) (listed_for (memories_of mid) q m) mid.recording.past
-      ∙ ap (λ x. map is_some (memories_of x)) same
+  delivery_filled = grind (arith, delivery_up)
 
   pub delivery_stable : (d : Det) → is_stable next.recording.past d ≡ is_stable r.recording.past d
-  delivery_stable d =
-      ap (λ x. is_stable x.recording.past d) run
-      ∙ sends_unstable q k tos (delivery_of mid q m ∷ mid.recording.past) d
-      ∙ ap (λ x. is_stable x.recording.past d) same
+  delivery_stable d = grind (arith, sends_unstable)

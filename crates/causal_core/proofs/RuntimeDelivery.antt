@@ -1,46 +1,33 @@
 -- A delivery of the runtime.
-use Rattle.std.proofs.Common.{ℕ, ◌≡◌, ◌≢◌, ◌+◌, Bool, true, false, cond, List, [], ◌∷◌, ◌++◌, map, filter, Some, refl, sym, ap, ◌∙◌, arith, length-append}
+use Rattle.std.proofs.Common.{ℕ, ◌≡◌, Bool, true, List, [], ◌∷◌, ◌++◌, map, filter, Some, refl, ap, ◌∙◌, arith, length-append}
 use Rattle.std.specs.Prelude.{◌||◌, ◌&&◌}
 use Rattle.std.specs.List.{list_any, list_all}
-use Rattle.std.specs.Option.{option_map}
 use Rattle.std.specs.FinMap as fin
-use Rattle.std.specs.FinMap.Entries.{put, by_order}
+use Rattle.std.specs.FinMap.Entries.{put}
 use Rattle.std.specs.Map.{keys_of}
-use Rattle.std.specs.declared.cmp.Ordering.TheVariants.{Less, Equal, Greater}
-use Rattle.std.proofs.lemmas.Bool.Decides.{nat_tests}
+use Rattle.std.proofs.lemmas.Bool.{and_parts}
 use Rattle.causal_name.specs.declared.Pid.{Pid}
 use Rattle.causal_name.specs.declared.MsgName.{MsgName}
 use Rattle.causal_name.specs.declared.Det.{Det}
-use Rattle.causal_name.specs.Names.{same_message, det_cmp}
-use Rattle.causal_name.proofs.Lemmas.DetOrder.{dets_total, same_itself}
+use Rattle.causal_name.specs.Names.{det_cmp}
+use Rattle.causal_name.proofs.Lemmas.DetOrder.{dets_total}
 use Rattle.causal_log.specs.declared.batch.Item.{Item}
 use Rattle.causal_log.specs.declared.known.Known.{Known}
 use Rattle.causal_log.specs.Knowledge.{told, is_carried, held_by, joined}
 use Rattle.causal_log.specs.Logs.{LogMap, known_of, learned, learned_all, chosen, item_of, dets_of}
 use Rattle.causal_trace.specs.declared.entry.Entry.{Entry}
 use Rattle.causal_trace.specs.declared.entry.Entry.TheVariants.{Deliver}
-use Rattle.causal_trace.specs.Past as Past
-use Rattle.causal_trace.specs.Past.{message_at, det_from, det_of, is_det, is_delivered, has_delivered, is_message}
+use Rattle.causal_trace.specs.Past.{message_at, det_from, is_delivered}
 use Rattle.causal_trace.specs.Rows.{are_delivered}
 use Rattle.causal_protocol.specs.Memory.{Memory, gained}
 use Rattle.causal_core.specs.Inside.Facts.{Fits}
-use Rattle.causal_core.proofs.MemoriesFit.{is_of, or_left, and_both, placed_more}
-use Rattle.causal_core.proofs.RuntimeSend.{eqb_refl}
-
-both : (a b c : Bool) → (a && b) ≡ true → (b ≡ true → c ≡ true) → (a && c) ≡ true
-both true b c h more = more h
-both false b c h more = h
+use Rattle.causal_core.proofs.MemoriesFit.{placed_more}
 
 -- of a test that each determinant of a log passes
 module _ (P : Det → Bool) where
   put_all : (d : Det) (x : Known) (es : List (Det × Known)) → P d ≡ true → list_all P (keys_of es) ≡ true → list_all P (keys_of (put det_cmp d x es)) ≡ true
   put_all d x [] own h = ap (λ b. b && true) own
-  put_all d x (e ∷ es) own h =
-      elim (det_cmp d e.0) as (λ o. list_all P (keys_of (by_order o ((d, x) ∷ e ∷ es) ((e.0, x) ∷ es) (e ∷ put det_cmp d x es))) ≡ true) [
-        | Less ↦ ap (λ b. b && (P e.0 && list_all P (keys_of es))) own ∙ h
-        | Equal ↦ h
-        | Greater ↦ both (P e.0) (list_all P (keys_of es)) (list_all P (keys_of (put det_cmp d x es))) h (put_all d x es own)
-      ]
+  put_all d x (e ∷ es) own h = grind (arith, put_all d x es own)
 
   pub insert_all : (log : LogMap) (d : Det) (x : Known) → P d ≡ true → list_all P (fin.keys log) ≡ true → list_all P (fin.keys (fin.insert log d x)) ≡ true
   insert_all log d x own h = ap (λ es. list_all P (keys_of es)) (fin.entries-insert dets_total log d x) ∙ put_all d x (fin.entries log) own h
@@ -52,14 +39,12 @@ module _ (P : Det → Bool) where
   pub learned_each : (es : List (Det × Known)) (log : LogMap) → list_all P (keys_of es) ≡ true → list_all P (fin.keys log) ≡ true → list_all P (fin.keys (learned_all es log)) ≡ true
   learned_each [] log pass h = h
   learned_each (e ∷ es) log pass h =
-      let two = and_both (P e.0) (list_all P (keys_of es)) pass in
+      let two = and_parts (P e.0) (list_all P (keys_of es)) pass in
       learned_each es (learned log e.0 e.1) two.1 (learned_one log e.0 e.1 two.0 h)
 
   told_all : (from me : Pid) (items : List Item) → list_all P (dets_of items) ≡ true → list_all P (keys_of (map (told from me) items)) ≡ true
   told_all from me [] h = refl
-  told_all from me (item ∷ items) h =
-      let two = and_both (P item.det) (list_all P (dets_of items)) h in
-      ap (λ b. b && list_all P (keys_of (map (told from me) items))) two.0 ∙ told_all from me items two.1
+  told_all from me (item ∷ items) h = grind (arith, told_all from me items (and_parts (P item.det) (list_all P (dets_of items)) h).1)
 
   -- what a delivery brings
   pub gained_all : (items : List Item) (own : Det) (log : LogMap) → list_all P (dets_of items) ≡ true → P own ≡ true → list_all P (fin.keys log) ≡ true → list_all P (fin.keys (gained items own log)) ≡ true
@@ -69,12 +54,7 @@ module _ (P : Det → Bool) where
 
   filtered_all : (f : ℕ) (es : List (Det × Known)) → list_all P (keys_of es) ≡ true → list_all P (dets_of (map item_of (filter (λ e. is_carried f e.1) es))) ≡ true
   filtered_all f [] h = refl
-  filtered_all f (e ∷ es) h =
-      let two = and_both (P e.0) (list_all P (keys_of es)) h in
-      elim (is_carried f e.1) as (λ b. list_all P (dets_of (map item_of (cond b (e ∷ filter (λ x. is_carried f x.1) es) (filter (λ x. is_carried f x.1) es)))) ≡ true) [
-        | true ↦ ap (λ b. b && list_all P (dets_of (map item_of (filter (λ x. is_carried f x.1) es)))) two.0 ∙ filtered_all f es two.1
-        | false ↦ filtered_all f es two.1
-      ]
+  filtered_all f (e ∷ es) h = grind (arith, filtered_all f es (and_parts (P e.0) (list_all P (keys_of es)) h).1)
 
   -- what a log chooses
   pub chosen_all : (f : ℕ) (log : LogMap) → list_all P (fin.keys log) ≡ true → list_all P (dets_of (chosen f log)) ≡ true
@@ -82,14 +62,10 @@ module _ (P : Det → Bool) where
 
 -- a delivery's own determinant is delivered
 pub own_delivered : (past : List Entry) (q : Pid) (send rsn : ℕ) (name : MsgName) (listed : List Det) → message_at past send ≡ Some name → is_delivered (Deliver q send rsn listed ∷ past) (det_from q rsn name) ≡ true
-own_delivered past q send rsn name listed sent =
-    or_left _ _ (ap (λ m. is_det (option_map (det_from q rsn) m) (det_from q rsn name)) sent ∙ same_itself (det_from q rsn name))
+own_delivered past q send rsn name listed sent = grind arith
 
 or_swap : (a b c : Bool) → (a || (b || c)) ≡ (b || (a || c))
-or_swap true true c = refl
-or_swap true false c = refl
-or_swap false true c = refl
-or_swap false false c = refl
+or_swap a b c = grind arith
 
 any_last : {X : Type 0} (f : X → Bool) (xs : List X) (x : X) → list_any f (xs ++ x ∷ []) ≡ (f x || list_any f xs)
 any_last f [] x = refl
@@ -98,22 +74,4 @@ any_last f (y ∷ ys) x = ap (λ b. f y || b) (any_last f ys x) ∙ or_swap (f y
 -- q remembers what it has received
 pub received_fits : (past : List Entry) (q : Pid) (send rsn : ℕ) (name : MsgName) (listed : List Det) (log : LogMap) (m : Memory) → message_at past send ≡ Some name → Fits past q.0 m
     → are_delivered (Deliver q send rsn listed ∷ past) (fin.keys log) ≡ true → Fits (Deliver q send rsn listed ∷ past) q.0 (record { log = log; sent = m.sent; received = m.received ++ name ∷ [] })
-received_fits past q send rsn name listed log m sent fit logged =
-    let e = Deliver q send rsn listed in
-    record {
-      up = fit.up;
-      sent = fit.sent;
-      count =
-          length-append m.received (name ∷ [])
-          ∙ ap (λ k. k + 1) fit.count
-          ∙ sym (ap (λ b. cond b (Past.deliveries past q.0 + 1) (Past.deliveries past q.0)) (eqb_refl q.0));
-      received = λ k.
-          (λ i. (eqb_refl q.0 i && is_message (sent i) k) || fit.received k i)
-          ∙ sym (any_last (λ x. same_message x k) m.received name);
-      logged = logged;
-      placed = λ ssn k is. placed_more e past q.0 ssn k (fit.placed ssn k is);
-    }
-
--- a delivery is an entry of its receiver alone
-pub delivery_apart : (q : ℕ) (to : Pid) (send rsn : ℕ) (listed : List Det) → q ≢ to.0 → is_of q (Deliver to send rsn listed) ≡ false
-delivery_apart q to send rsn listed h = grind (arith, nat_tests, h)
+received_fits past q send rsn name listed log m sent fit logged = grind (arith, length-append, any_last, placed_more)

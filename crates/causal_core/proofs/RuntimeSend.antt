@@ -1,10 +1,7 @@
 -- A send of the runtime.
-use Rattle.std.proofs.Common.{ℕ, zero, suc, ◌≡◌, ◌≢◌, ◌+◌, ◌<◌, ◌≤◌, ◌⊎◌, inl, inr, true, false, cond, ◌==◌, List, [], ◌∷◌, ◌++◌, length, map, Option, Some, None, refl, sym, ap, subst, ◌∙◌, arith, slice_get, slice_set, length-append, replicate}
-use Rattle.std.specs.Prelude.{◌&&◌, nat_lt}
+use Rattle.std.proofs.Common.{ℕ, zero, suc, ◌≡◌, ◌≢◌, ◌+◌, ◌<◌, ◌≤◌, ◌⊎◌, true, false, cond, ◌==◌, List, [], ◌∷◌, ◌++◌, length, Option, Some, None, refl, ap, ◌∙◌, arith, slice_get, slice_set, length-append, replicate}
+use Rattle.std.specs.Prelude.{nat_lt}
 use Rattle.std.specs.List.{list_all, filter_map}
-use Rattle.std.specs.Option.{option_map}
-use Rattle.std.specs.FinMap as fin
-use Rattle.std.proofs.lemmas.Bool.Decides.{nat_tests}
 use Rattle.std.proofs.lemmas.List.{length-map}
 use Rattle.causal_name.specs.declared.Pid.{Pid}
 use Rattle.causal_name.specs.Names.{is_ascending}
@@ -13,84 +10,48 @@ use Rattle.causal_log.specs.declared.batch.Item.{Item}
 use Rattle.causal_log.specs.Logs.{chosen, dets_of}
 use Rattle.causal_trace.specs.declared.entry.Entry.{Entry}
 use Rattle.causal_trace.specs.declared.entry.Entry.TheVariants.{Send}
-use Rattle.causal_trace.specs.Past as Past
-use Rattle.causal_trace.specs.Past.{is_down, has_delivered, listed_in}
+use Rattle.causal_trace.specs.Past.{listed_in}
 use Rattle.causal_trace.specs.Rows as Rows
 use Rattle.causal_trace.specs.Rows.{are_delivered}
-use Rattle.causal_protocol.specs.Memory.{Memory, Memories, at, keeping, with_sent}
+use Rattle.causal_protocol.specs.Memory.{Memory, Memories, at, keeping}
 use Rattle.causal_protocol.specs.Run.{memories}
 use Rattle.causal_protocol.specs.Steps.{pushed, sends_of, receiver_of, AreSends}
-use Rattle.causal_core.specs.Inside.Facts.{IsPlaced, Fits}
+use Rattle.causal_core.specs.Inside.Facts.{Fits}
 use Rattle.causal_core.specs.View.{addressed, receivers}
 use Rattle.causal_core.specs.Inside.Memories.{keep_all}
-use Rattle.causal_core.proofs.MemoriesFit.{is_of, length-slice_set, delivered_more, placed_more, at-set_same}
+use Rattle.causal_core.proofs.MemoriesFit.{is_of, length-slice_set, placed_more, at-set_same}
 
 -- the test for equal numbers passes a number and itself
 pub eqb_refl : (n : ℕ) → (n == n) ≡ true
-eqb_refl n = grind (arith, nat_tests)
+eqb_refl n = grind arith
 
 -- where there is room, the trace has nothing against the next send of an up process
 pub send_legal : (n : ℕ) (past : List Entry) (q to : Pid) (m : Memory) → q.0 < n → to.0 < n → Fits past q.0 m → length past < 16777216 → listed_in past ≤ 268435456 → Rows.first_fault n past (Send q to (length m.sent)) ≡ None
 unfolding Rows.rows
-send_legal n past q to m from process fit short within =
-    let up = fit.up in let ssn = fit.sent in
-    grind (arith, nat_tests, from, process, up, ssn, short, within)
+send_legal n past q to m from process fit short within = grind arith
 
 -- the last element of a list with one more
 get_last : {X : Type 0} (xs : List X) (x y : X) (i : ℕ) → slice_get (xs ++ x ∷ []) i ≡ Some y → (slice_get xs i ≡ Some y) ⊎ ((i ≡ length xs) × (x ≡ y))
-get_last [] x y zero h = inr (refl, cc h)
-get_last [] x y (suc i) h = absurd (let e : None ≡ Some y = h in cc)
-get_last (z ∷ xs) x y zero h = inl h
-get_last (z ∷ xs) x y (suc i) h =
-    elim (get_last xs x y i h) [
-      | inl k ↦ inl k
-      | inr k ↦ inr (ap suc k.0, k.1)
-    ]
+get_last [] x y i h = grind arith
+get_last (each ∷ others) x y i h = grind (arith, get_last others)
 
 -- q keeps what it has sent
 pub send_fits : (past : List Entry) (q to : Pid) (batch : List Item) (m : Memory) → Fits past q.0 m → is_ascending (dets_of batch) ≡ true → are_delivered past (dets_of batch) ≡ true → Fits (Send q to (length m.sent) ∷ past) q.0 (keeping to (length past) batch m)
-send_fits past q to batch m fit ascending delivered =
-    let e = Send q to (length m.sent) in
-    record {
-      up = fit.up;
-      sent =
-          length-append m.sent (record { to = to; send = length past; batch = batch } ∷ [])
-          ∙ ap (λ k. k + 1) fit.sent
-          ∙ sym (ap (λ b. cond b (Past.sends past q.0 + 1) (Past.sends past q.0)) (eqb_refl q.0));
-      count = fit.count;
-      received = fit.received;
-      logged = delivered_more e past (fin.keys m.log) fit.logged;
-      placed = λ ssn k is.
-          elim (get_last m.sent (record { to = to; send = length past; batch = batch }) k ssn is) [
-            | inl was ↦ placed_more e past q.0 ssn k (fit.placed ssn k was)
-            | inr new ↦
-                subst (λ i. IsPlaced (e ∷ past) q.0 i k) (sym new.0)
-                (subst (λ x. IsPlaced (e ∷ past) q.0 (length m.sent) x) new.1
-                (record {
-                  source = q;
-                  source_is = refl;
-                  sent = ap (λ b. cond b (Some e) (Past.entry_at past (length past))) (eqb_refl (length past));
-                  ascending = ascending;
-                  delivered = delivered_more e past (dets_of batch) delivered;
-                }))
-          ];
-    }
+send_fits past q to batch m fit ascending delivered = grind (arith, length-append, get_last, placed_more)
 
 -- a send is an entry of its sender alone
 pub send_apart : (q : ℕ) (from to : Pid) (ssn : ℕ) → q ≢ from.0 → is_of q (Send from to ssn) ≡ false
-send_apart q from to ssn h = grind (arith, nat_tests, h)
+send_apart q from to ssn h = grind arith
 
 -- to write what is there changes nothing
 pub set_same : {X : Type 0} (xs : List (Option X)) (p : ℕ) (x : X) → at xs p ≡ Some x → slice_set xs p (Some x) ≡ xs
-set_same [] p x h = refl
-set_same (y ∷ ys) zero x h = ap (λ z. z ∷ ys) (sym h)
-set_same (y ∷ ys) (suc p) x h = ap (λ zs. y ∷ zs) (set_same ys p x h)
+set_same [] p x h = grind arith
+set_same (each ∷ others) p x h = grind (arith, set_same others)
 
 -- of two writes to a place the later one counts
 pub set_twice : {X : Type 0} (xs : List X) (p : ℕ) (x y : X) → slice_set (slice_set xs p x) p y ≡ slice_set xs p y
-set_twice [] p x y = refl
-set_twice (z ∷ zs) zero x y = refl
-set_twice (z ∷ zs) (suc p) x y = ap (λ ws. z ∷ ws) (set_twice zs p x y)
+set_twice [] p x y = grind arith
+set_twice (each ∷ others) p x y = grind (arith, set_twice others)
 
 -- what the sends of a step make of the memories
 pub memories_sends : (n f : ℕ) (writers : List Pid) (past : List Entry) (q : Pid) (ssn : ℕ) (tos : List Pid) (ms : Memories) (m : Memory) → ms ≡ memories n f writers past → q.0 < length ms → at ms q.0 ≡ Some m
@@ -98,16 +59,14 @@ pub memories_sends : (n f : ℕ) (writers : List Pid) (past : List Entry) (q : P
 unfolding memories keep_all sends_of
 memories_sends n f writers past q ssn [] ms m same inside is = set_same ms q.0 m is ∙ same
 memories_sends n f writers past q ssn (to ∷ tos) ms m same inside is =
-    let e = Send q to ssn in
     let next : Memory = keeping to (length past) (chosen f m.log) m in
-    let grown : slice_set ms q.0 (Some next) ≡ memories n f writers (e ∷ past) =
-    sym (ap (λ o. slice_set ms q.0 (option_map (with_sent f to (length past)) o)) is)
-    ∙ ap (λ xs. slice_set xs q.0 (option_map (with_sent f to (length past)) (at xs q.0))) same in
-    let rest : slice_set (slice_set ms q.0 (Some next)) q.0 (Some (keep_all (length (e ∷ past)) (chosen f m.log) tos next)) ≡ memories n f writers (pushed (sends_of q (ssn + 1) tos) (e ∷ past)) =
-    memories_sends n f writers (e ∷ past) q (ssn + 1) tos (slice_set ms q.0 (Some next)) next grown (subst (λ k. q.0 < k) (sym (length-slice_set ms q.0 (Some next))) inside) (at-set_same ms q.0 (Some next) inside) in
-    ap (λ k. slice_set ms q.0 (Some (keep_all k (chosen f m.log) tos next))) (let long : length past + 1 ≡ length (e ∷ past) = omega arith in long)
-    ∙ sym (set_twice ms q.0 (Some next) (Some (keep_all (length (e ∷ past)) (chosen f m.log) tos next)))
-    ∙ rest
+    grind (
+      arith,
+      memories_sends n f writers (Send q to ssn ∷ past) q (ssn + 1) tos (slice_set ms q.0 (Some next)) next,
+      set_twice,
+      length-slice_set,
+      at-set_same,
+    )
 
 -- one more entry comes last
 pub pushed_last : (es : List Entry) (e : Entry) (past : List Entry) → pushed (es ++ e ∷ []) past ≡ e ∷ pushed es past
@@ -122,18 +81,12 @@ pushed_length (e ∷ es) past = let rest = pushed_length es (e ∷ past) in omeg
 -- one more send of a step
 pub addressed_more : (n : ℕ) (sends : List Outgoing) (s : Outgoing) → addressed n (sends ++ s ∷ []) ≡ addressed n sends ++ cond (nat_lt s.to.0 n) (s ∷ []) []
 addressed_more n [] s = refl
-addressed_more n (t ∷ ts) s =
-    elim (nat_lt t.to.0 n) as (λ b. cond b (t ∷ addressed n (ts ++ s ∷ [])) (addressed n (ts ++ s ∷ [])) ≡ cond b (t ∷ addressed n ts) (addressed n ts) ++ cond (nat_lt s.to.0 n) (s ∷ []) []) [
-      | true ↦ ap (λ xs. t ∷ xs) (addressed_more n ts s)
-      | false ↦ addressed_more n ts s
-    ]
+addressed_more n (t ∷ ts) s = grind (arith, addressed_more n ts s)
 
 -- no more sends go to processes than a step makes
 pub addressed_few : (n : ℕ) (sends : List Outgoing) → length (addressed n sends) ≤ length sends
 addressed_few n [] = omega arith
-addressed_few n (s ∷ ss) =
-    let rest = addressed_few n ss in
-    elim (nat_lt s.to.0 n) as (λ b. length (cond b (s ∷ addressed n ss) (addressed n ss)) ≤ suc (length ss)) [ true ↦ omega (arith, rest) | false ↦ omega (arith, rest) ]
+addressed_few n (s ∷ ss) = grind (arith, addressed_few n ss)
 
 -- each send to a process has one receiver
 pub receivers_long : (n : ℕ) (sends : List Outgoing) → length (receivers n sends) ≡ length (addressed n sends)
@@ -142,11 +95,7 @@ receivers_long n sends = length-map (addressed n sends) (λ s. s.to)
 -- the receivers are processes
 pub receivers_below : (n : ℕ) (sends : List Outgoing) → list_all (λ to. nat_lt to.0 n) (receivers n sends) ≡ true
 receivers_below n [] = refl
-receivers_below n (s ∷ ss) =
-    elim (nat_lt s.to.0 n) as (λ b. nat_lt s.to.0 n ≡ b → list_all (λ to. nat_lt to.0 n) (map (λ x. x.to) (cond b (s ∷ addressed n ss) (addressed n ss))) ≡ true) [
-      | true ↦ λ is. ap (λ b. b && list_all (λ to. nat_lt to.0 n) (receivers n ss)) is ∙ receivers_below n ss
-      | false ↦ λ is. receivers_below n ss
-    ] refl
+receivers_below n (s ∷ ss) = grind (arith, receivers_below n ss)
 
 -- the last of equal ones is one of them
 pub replicate_last : {X : Type 0} (k : ℕ) (b : X) (xs : List X) (x : X) → replicate k b ≡ xs ++ x ∷ [] → (j : ℕ) × (k ≡ suc j) × (xs ≡ replicate j b) × (x ≡ b)
@@ -178,8 +127,7 @@ sends_more q ssn (x ∷ xs) to = ap (λ es. Send q x ssn ∷ es) (sends_more q (
 pub kept_length : (send : ℕ) (batch : List Item) (tos : List Pid) (m : Memory) → length (keep_all send batch tos m).sent ≡ length m.sent + length tos
 unfolding keep_all
 kept_length send batch [] m = omega arith
-kept_length send batch (x ∷ xs) m =
-    let rest = kept_length (send + 1) batch xs (keeping x send batch m) in let more = length-append m.sent (record { to = x; send = send; batch = batch } ∷ []) in omega (arith, rest, more)
+kept_length send batch (x ∷ xs) m = grind (arith, kept_length (send + 1) batch xs (keeping x send batch m), length-append)
 
 -- there is one send for each receiver
 pub sends_length : (q : Pid) (ssn : ℕ) (tos : List Pid) → length (sends_of q ssn tos) ≡ length tos
@@ -194,9 +142,4 @@ receivers_of_sends q ssn (x ∷ xs) = ap (λ ys. x ∷ ys) (receivers_of_sends q
 
 -- sends to these processes are sends
 pub are_sends : (n : ℕ) (q : Pid) (ssn number : ℕ) (tos : List Pid) → list_all (λ to. nat_lt to.0 n) tos ≡ true → length tos ≡ number → number ≤ 8 → AreSends n q ssn number (sends_of q ssn tos)
-are_sends n q ssn number tos below count few = record {
-  sends = ap (sends_of q ssn) (sym (receivers_of_sends q ssn tos));
-  to = ap (list_all (λ to. nat_lt to.0 n)) (receivers_of_sends q ssn tos) ∙ below;
-  count = sends_length q ssn tos ∙ count;
-  few = few;
-}
+are_sends n q ssn number tos below count few = grind (arith, receivers_of_sends, sends_length)

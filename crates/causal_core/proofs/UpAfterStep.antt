@@ -1,6 +1,5 @@
 -- Which processes are up after a step.
-use Rattle.std.proofs.Common.{ℕ, zero, suc, ◌≡◌, ◌+◌, ◌∙◌, true, false, List, [], ◌∷◌, map, length, Option, Some, None, is_some, refl, ap, slice_get}
-use Rattle.std.specs.Option.{option_map}
+use Rattle.std.proofs.Common.{arith, ℕ, zero, suc, ◌≡◌, ◌+◌, ◌∙◌, true, false, List, [], ◌∷◌, map, length, Option, Some, None, is_some, refl, slice_get}
 use Rattle.causal_name.specs.declared.Pid.{Pid}
 use Rattle.causal_name.specs.declared.MsgName.{MsgName}
 use Rattle.causal_name.specs.declared.Det.{Det}
@@ -14,14 +13,12 @@ use Rattle.causal_trace.specs.Past.{message_at}
 use Rattle.causal_protocol.specs.Memory.{Memory, Memories, fresh, at, changed}
 use Rattle.causal_protocol.specs.Run.{memories, receive, write}
 use Rattle.causal_protocol.specs.Steps.{pushed, sends_of}
-use Rattle.causal_core.specs.Inside.Slots.{IsBox, HasBox}
+use Rattle.causal_core.specs.Inside.Slots.{HasBox}
 
 -- to change the memory of an up process leaves who is up
 pub changed_up : (g : Memory → Memory) (ms : Memories) (p : ℕ) → map is_some (changed g ms p) ≡ map is_some ms
-changed_up g [] p = refl
-changed_up g (None ∷ ms) zero = refl
-changed_up g (Some m ∷ ms) zero = refl
-changed_up g (m ∷ ms) (suc p) = ap (λ bits. is_some m ∷ bits) (changed_up g ms p)
+changed_up g [] p = grind arith
+changed_up g (each ∷ others) p = grind (arith, changed_up g others)
 
 -- sends leave who is up
 pub sends_up : (n f : ℕ) (writers : List Pid) (q : Pid) (ssn : ℕ) (tos : List Pid) (past : List Entry) → map is_some (memories n f writers (pushed (sends_of q ssn tos) past)) ≡ map is_some (memories n f writers past)
@@ -30,24 +27,20 @@ sends_up n f writers q ssn [] past = refl
 sends_up n f writers q ssn (to ∷ tos) past = sends_up n f writers q (ssn + 1) tos (Send q to ssn ∷ past) ∙ changed_up _ (memories n f writers past) q.0
 
 receive_up : (ms : Memories) (to : Pid) (rsn : ℕ) (m : Option MsgName) → map is_some (receive ms to rsn m) ≡ map is_some ms
-receive_up ms to rsn None = refl
-receive_up ms to rsn (Some m) = changed_up _ ms to.0
+receive_up ms to rsn m = grind (arith, changed_up)
 
 -- a delivery and its sends leave who is up
 pub delivery_up : (n f : ℕ) (writers : List Pid) (q : Pid) (ssn : ℕ) (tos : List Pid) (to : Pid) (send rsn : ℕ) (listed : List Det) (past : List Entry) → map is_some (memories n f writers (pushed (sends_of q ssn tos) (Deliver to send rsn listed ∷ past))) ≡ map is_some (memories n f writers past)
 unfolding memories
-delivery_up n f writers q ssn tos to send rsn listed past =
-    sends_up n f writers q ssn tos (Deliver to send rsn listed ∷ past) ∙ receive_up (memories n f writers past) to rsn (message_at past send)
+delivery_up n f writers q ssn tos to send rsn listed past = grind (arith, sends_up, receive_up)
 
 -- there are as many memories as processes
 module _ (n f : ℕ) where
   write_length : (ms : Memories) (by : Option Pid) (g : Memory → Memory) → length (write ms by g) ≡ length ms
-  write_length ms None g = refl
-  write_length ms (Some p) g = length-slice_set ms p.0 (option_map g (at ms p.0))
+  write_length ms by g = grind (arith, length-slice_set)
 
   receive_length : (ms : Memories) (to : Pid) (rsn : ℕ) (m : Option MsgName) → length (receive ms to rsn m) ≡ length ms
-  receive_length ms to rsn None = refl
-  receive_length ms to rsn (Some m) = length-slice_set ms to.0 _
+  receive_length ms to rsn m = grind (arith, length-slice_set)
 
   pub memories_count : (writers : List Pid) (past : List Entry) → length (memories n f writers past) ≡ n
   unfolding memories
@@ -64,9 +57,5 @@ pub box_there : {B : Type 0} (slots : List (Option B)) (ms : Memories) (q : ℕ)
 box_there [] [] q h up = absurd (let e : false ≡ true = up in cc)
 box_there [] (m ∷ ms) q h up = absurd (let e : [] ≡ is_some m ∷ map is_some ms = h in cc)
 box_there (s ∷ ss) [] q h up = absurd (let e : false ≡ true = up in cc)
-box_there (s ∷ ss) (m ∷ ms) zero h up = holds s (let e : is_some s ∷ map is_some ss ≡ is_some m ∷ map is_some ms = h in (let is : is_some s ≡ is_some m = cc e in is ∙ up))
-  where
-    holds : {B : Type 0} (s : Option B) → is_some s ≡ true → IsBox (Some s)
-    holds None h = absurd (let e : false ≡ true = h in cc)
-    holds (Some b) h = tt
+box_there (s ∷ ss) (m ∷ ms) zero h up = grind arith
 box_there (s ∷ ss) (m ∷ ms) (suc q) h up = box_there ss ms q (let e : is_some s ∷ map is_some ss ≡ is_some m ∷ map is_some ms = h in cc e) up

@@ -61,6 +61,7 @@ pub(crate) fn step_at(
 }
 
 /// Takes the box of slot p out, and drops it.
+#[tactic(auto, using(crate::proofs::Rules::of_emptying))]
 pub(crate) fn empty_at(slots: &mut Vec<Option<Box<dyn Process + Send>>>, p: usize)
     requires { p < vec_len slots.old }
     ensures empty { HoldsNone answers p slots.new.items }
@@ -71,6 +72,7 @@ pub(crate) fn empty_at(slots: &mut Vec<Option<Box<dyn Process + Send>>>, p: usiz
 }
 
 /// Puts a box into slot p.
+#[tactic(auto, using(crate::proofs::Rules::of_filling))]
 pub(crate) fn fill_at(
     slots: &mut Vec<Option<Box<dyn Process + Send>>>,
     p: usize,

@@ -42,6 +42,7 @@ fn is_new<S: Stable>(cells: &[Option<Cell>], store: &S, det: Det) -> bool
 }
 
 /// How many determinants of a log neither the store nor one of these processes has.
+#[tactic(auto, using(crate::proofs::Rules::of_counting))]
 fn count_new<S: Stable>(cells: &[Option<Cell>], store: &S, log: &Log) -> usize
     ensures value { result ≡ count_new (S.contents store.now) (memories_in cells.now) log.now.map }
     ensures few { result < 2 ^ 32 }

@@ -99,6 +99,7 @@ pub(crate) fn is_full(trace: &Trace, entries: u32, listed: usize) -> bool
 }
 
 /// Drops what a process has.
+#[tactic(auto, using(crate::proofs::Rules::of_maps))]
 fn empty(cells: &mut Vec<Option<Cell>>, p: usize)
     requires { p < vec_len cells.old }
     ensures memories { memories_in cells.new.items

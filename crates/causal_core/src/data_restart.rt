@@ -35,6 +35,7 @@ use std::alloc::Global;
 use std::sync::Arc;
 
 /// Puts what a process has into its place.
+#[tactic(auto, using(crate::proofs::Rules::of_maps))]
 pub(crate) fn put(cells: &mut Vec<Option<Cell>>, p: usize, cell: Cell)
     requires { p < vec_len cells.old }
     ensures memories { memories_in cells.new.items
@@ -104,6 +105,7 @@ impl Data {
     }
 
     /// What stands against a restart of p that lists so many determinants.
+    #[tactic(auto, using(crate::proofs::RuntimeRestart::gathering_told, crate::proofs::RuntimeRestart::listing_full))]
     fn listing_fault(&self, p: Pid, listed: usize) -> Option<CoreFault>
         ensures { result ≡ listing_fault self.now.run p listed }
     {
@@ -154,6 +156,7 @@ impl Data {
     ///
     /// # Errors
     /// Where memory was refused, what stands against the restart, and `NoMemory` where nothing does.
+    #[tactic(auto, using(crate::proofs::Legal::reason_or))]
     fn log_for<S: Stable>(
         &self,
         alloc: Global,

@@ -14,6 +14,7 @@ use causal_holders::Holders;
 use causal_log::Stable;
 
 /// The processes that have nothing in volatile memory.
+#[tactic(auto, using(crate::proofs::Rules::of_down))]
 fn down_among(cells: &[Option<Cell>]) -> Holders
     requires { length cells.now ≤ max_processes }
     ensures { HasMembers (length cells.now) result (λ p. is_none (at (memories_in cells.now) p)) }

@@ -11,6 +11,7 @@ use causal_name::{Det, NoMemory, Pid};
 use std::alloc::Global;
 
 /// All that the up processes know becomes known.
+#[tactic(auto, using(crate::proofs::Rules::of_knowing))]
 fn know_all(log: &mut Log, cells: &[Option<Cell>]) -> Result<(), NoMemory>
     ensures { OnOk result (log.new.map ≡ united_all (memories_in cells.now) log.old.map) }
 {
@@ -23,6 +24,7 @@ fn know_all(log: &mut Log, cells: &[Option<Cell>]) -> Result<(), NoMemory>
 }
 
 /// That p holds each of these becomes known.
+#[tactic(auto, using(crate::proofs::Gathers::held_more, crate::proofs::Gathers::held_end))]
 fn hold_all(log: &mut Log, dets: &[Det], p: Pid) -> Result<(), NoMemory>
     ensures { OnOk result (log.new.map ≡ held_all dets.now p log.old.map) }
 {
@@ -33,6 +35,7 @@ fn hold_all(log: &mut Log, dets: &[Det], p: Pid) -> Result<(), NoMemory>
 }
 
 /// That p holds each of these, and that they are stable, becomes known.
+#[tactic(auto, using(crate::proofs::Gathers::stable_more, crate::proofs::Gathers::stable_end))]
 fn store_all(log: &mut Log, dets: &[Det], p: Pid) -> Result<(), NoMemory>
     ensures { OnOk result (log.new.map ≡ stable_all dets.now p log.old.map) }
 {

@@ -50,6 +50,7 @@ fn give_body(
 }
 
 /// The same of the message that a process keeps at a place.
+#[tactic(auto, using(crate::proofs::Cells::body_read, crate::proofs::Rules::of_giving))]
 fn give_kept(
     slots: &mut Vec<Option<Box<dyn Process + Send>>>,
     q: usize,

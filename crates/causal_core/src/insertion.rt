@@ -8,6 +8,7 @@ use causal_name::{Det, NoMemory};
 use std::alloc::Global;
 
 /// How many determinants a batch has with one more, unless that is one of them.
+#[tactic(auto, using(crate::proofs::ListInsert::put_len, crate::proofs::ListInsert::kept_len))]
 pub(crate) fn listed_len(own: Det, batch: &Batch) -> usize
     ensures { result ≡ length (with_own own (dets_of batch.now)) }
 {
@@ -19,6 +20,7 @@ pub(crate) fn listed_len(own: Det, batch: &Batch) -> usize
 }
 
 /// The determinants of a batch, ascending, with one more in its place, unless that is one of them.
+#[tactic(auto, using(crate::proofs::Rules::of_listed))]
 pub(crate) fn listed(alloc: Global, own: Det, batch: &Batch) -> Result<Vec<Det>, NoMemory>
     ensures { IfOk result (λ dets. dets.items ≡ with_own own (dets_of batch.now)) }
 {
@@ -35,6 +37,7 @@ pub(crate) fn listed(alloc: Global, own: Det, batch: &Batch) -> Result<Vec<Det>,
 }
 
 /// Lists the determinants of items, in room that there is.
+#[tactic(auto, using(crate::proofs::Rules::of_listing))]
 fn list(listed: &mut Vec<Det>, items: &[Item])
     requires { vec_len listed.old + length items.now ≤ vec_capacity listed.old }
     ensures items { listed.new.items ≡ listed.old.items ++ dets_of items.now }

@@ -72,6 +72,7 @@ fn list_pending(
 }
 
 /// Lists what is pending for q, which is up.
+#[tactic(auto, using(crate::proofs::Rules::of_pending_rows))]
 fn pending_among(
     alloc: Global,
     trace: &Trace,
@@ -94,6 +95,7 @@ fn pending_among(
 
 impl Data {
     /// What is pending for q.
+    #[tactic(auto, using(crate::proofs::Rules::of_pending))]
     pub(crate) fn pending(&self, alloc: Global, q: Pid) -> Result<Vec<MsgName>, CoreFault>
         ensures ok { IfOk result (λ names. names.items ≡ pending_in (memories_of self.now.run) q) }
         ensures legal { OnOk result (pending_fault self.now.run q ≡ None) }

@@ -29,6 +29,7 @@ pub(crate) fn cell_at(cells: &[Option<Cell>], p: Pid) -> Option<&Cell>
 }
 
 /// The message of that name that its sender keeps for q.
+#[tactic(auto, using(crate::proofs::Cells::kept_from))]
 pub(crate) fn message(cells: &[Option<Cell>], q: Pid, source: Pid, ssn: u32) -> Option<&Message>
     ensures { option_map kept_of (option_copied result)
         ≡ kept_for (memories_in cells.now) q (name source ssn) }

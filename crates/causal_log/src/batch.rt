@@ -14,7 +14,7 @@ use causal_name::{Det, NoMemory};
 use std::marker::Model;
 
 /// A determinant that a message carries, with the processes that its sender knew to hold it.
-#[derive(Clone, Copy, Debug, PartialEq, Eq)]
+#[derive(Clone, Copy, PartialEq, Eq)]
 pub struct Item {
     pub det: Det,
     pub holders: Holders,
@@ -43,7 +43,7 @@ impl Item {
 ///
 /// All messages of a step carry the same batch. So a runtime keeps one for each step, and not one for each message: batches
 /// kept for each message would multiply the memory of a long one.
-#[derive(Debug, Drop)]
+#[derive(Drop)]
 pub struct Batch {
     items: Vec<Item>,
 }

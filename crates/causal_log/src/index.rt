@@ -36,7 +36,7 @@ fn head_of(heads: usize, turn: u8, slot: Slot) -> usize
 }
 
 /// Heads, a power of two of them, and of each entry the number of the next older one.
-#[derive(Debug, Drop)]
+#[derive(Drop)]
 pub(crate) struct Index {
     pub heads: Vec<u32>,
     pub older: Vec<u32>,

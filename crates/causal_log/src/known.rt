@@ -8,7 +8,7 @@ use causal_holders::Holders;
 use causal_name::Pid;
 
 /// What a process knows of a determinant: who holds it in volatile memory, and whether it is in stable storage.
-#[derive(Clone, Copy, Debug, PartialEq, Eq)]
+#[derive(Clone, Copy, PartialEq, Eq)]
 pub struct Known {
     pub holders: Holders,
     pub stable: bool,

@@ -27,7 +27,7 @@ use std::sync::Arc;
 ///
 /// It is seen as a finite map, and as the number of insertions that are sure of their memory, of which equality does not
 /// speak. It has at most 4,294,967,295 entries: further ones are refused as want of memory.
-#[derive(Debug, Drop)]
+#[derive(Drop)]
 pub struct Log {
     /// In the order in which they came, unless they were sorted since.
     entries: Table,
@@ -368,7 +368,7 @@ impl Log {
 }
 
 /// The batch that messages carry for a number of failures, which the messages of the last step share.
-#[derive(Debug, Drop)]
+#[derive(Drop)]
 pub(crate) struct Carried {
     pub f: u16,
     pub batch: Arc<Batch>,

@@ -12,7 +12,7 @@ use std::alloc::Global;
 use std::marker::Model;
 
 /// Stable storage that has no device, and so no faults but want of memory.
-#[derive(Debug, Drop)]
+#[derive(Drop)]
 pub struct MemStable {
     /// Of its members nothing else is known.
     members: Table,

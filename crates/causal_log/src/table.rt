@@ -23,7 +23,7 @@ use std::alloc::Global;
 use std::marker::Model;
 
 /// Entries, with the heads that lead to them, of which there are no fewer than there is room for entries.
-#[derive(Debug, Drop)]
+#[derive(Drop)]
 pub(crate) struct Table {
     entries: Vec<(Det, Known)>,
     /// The determinants of the entries.

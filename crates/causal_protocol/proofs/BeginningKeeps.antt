@@ -1,5 +1,5 @@
 -- A beginning keeps what a run keeps, and so the runs that the runtime makes are safe.
-use Rattle.std.proofs.Common.{ℕ, zero, suc, ◌≡◌, ◌<◌, ◌≤◌, inl, inr, true, List, [], replicate, slice_get, Some, None, is_none, refl, sym, ap, subst, ◌∙◌, arith}
+use Rattle.std.proofs.Common.{ℕ, zero, suc, ◌≡◌, ◌<◌, ◌≤◌, inl, inr, true, List, [], replicate, slice_get, Some, None, refl, sym, ap, subst, ◌∙◌, arith}
 use Rattle.std.specs.Prelude.{◌⊎◌}
 use Rattle.std.specs.Option.{option_map_or}
 use Rattle.std.specs.FinMap as fin
@@ -7,16 +7,15 @@ use Rattle.std.proofs.lemmas.Bool.{false≢true, both_ways}
 use Rattle.std.proofs.lemmas.List.{length-replicate}
 use Rattle.causal_name.specs.declared.Det.{Det}
 use Rattle.causal_trace.specs.declared.entry.Entry.{Entry}
-use Rattle.causal_trace.specs.Past.{is_down}
 use Rattle.causal_holders.proofs.Lemmas.MemberCounts.{count_below-none}
 use Rattle.causal_protocol.specs.Memory.{Kept, Memories, at, fresh}
 use Rattle.causal_protocol.specs.Run.{Run, memories}
-use Rattle.causal_protocol.specs.Sight.{log_at, messages, has_entry, tells_holder, tells_stable}
+use Rattle.causal_protocol.specs.Sight.{log_at, messages}
 use Rattle.causal_protocol.specs.Kept.{survives, Keeping}
 use Rattle.causal_protocol.specs.Runs.{IsSound, IsRun, Opens, IsMade, opened, stepped, OpeningsAreRuns}
 use Rattle.causal_protocol.proofs.LearnedLogs.{none_entry, none_holds, none_stable}
 use Rattle.causal_protocol.proofs.Sets.{survives_found}
-use Rattle.causal_protocol.proofs.Safety.{first_safe}
+use Rattle.causal_protocol.proofs.SoundSteps.{first_safe}
 use Rattle.causal_protocol.proofs.StepKeeps.{IsKept, are_sends_kept, steps_keep_runs}
 
 abbrev beginners : ℕ → Memories
@@ -47,41 +46,15 @@ none_survives : (n : ℕ) (d : Det) → survives n [] d ≡ true → ⊥
 none_survives n d h = elim (survives_found n [] d h) [ inl stable ↦ false≢true stable | inr held ↦ false≢true held.2 ]
 
 keeps_nothing : (n f : ℕ) → Keeping n f [] (beginners n)
-keeps_nothing n f = record {
-  few_down = omega (arith, count_below-none n (is_down []) (λ q low. refl));
-  logged = λ p d small. ap (has_entry d) (log_first n p) ∙ none_entry d;
-  own = λ p d small h. absurd (false≢true h);
-  known_processes = λ p d q small h. absurd (both_ways _ (none_holds d q) (ap (tells_holder d q) (sym (log_first n p)) ∙ h));
-  holders_hold = λ p d q small h. absurd (both_ways _ (none_holds d q) (ap (tells_holder d q) (sym (log_first n p)) ∙ h));
-  named_hold = λ p x d q small keeps names. absurd (none_kept n p keeps.0 x keeps.1);
-  named_processes = λ p x d q small keeps names. absurd (none_kept n p keeps.0 x keeps.1);
-  marks_true = λ p d small h. absurd (both_ways _ (none_stable d) (ap (tells_stable d) (sym (log_first n p)) ∙ h));
-  dependents_hold = λ k p d small at dep. absurd (let x : None ≡ Some d = at in cc);
-  messages_carry = λ k p x d small at keeps r. absurd (none_kept n p keeps.0 x keeps.1);
-  receivers_find = λ d below up h. absurd (none_survives n d h);
-  senders_find = λ p x d small keeps carries. absurd (none_kept n p keeps.0 x keeps.1);
-  earlier = λ p x small keeps. absurd (none_kept n p keeps.0 x keeps.1);
-  single_slots = λ a b ha hb dest rsn. absurd (none_survives n a ha);
-  survivors_delivered = λ d h. absurd (none_survives n d h);
-}
+keeps_nothing n f = grind (arith, count_below-none, log_first, none_entry, false≢true, both_ways, none_holds, none_kept, none_stable, none_survives)
 
 first_sound : (n f : ℕ) → IsSound n f [] (beginners n)
-first_sound n f = record {
-  facts = keeps_nothing n f;
-  fit = record {
-    count = length-replicate n (Some (fresh fin.empty));
-    state = λ p small. ap is_none (at_first n p small);
-    placed = λ p ssn k h. absurd (none_kept n p ssn k h);
-  };
-  forward = λ j i h. absurd h;
-  safe = first_safe n f (beginners n) (keeps_nothing n f);
-}
+first_sound n f = grind (arith, keeps_nothing n f, length-replicate n (Some (fresh fin.empty)), at_first, none_kept, first_safe)
 
 -- so many processes have begun; those that have not sent nothing
 opens_kept : (n f p : ℕ) (past : List Entry) → p ≤ n → Opens n p past → IsKept n f [] past × ((q : ℕ) → p ≤ q → q < n → at (memories n f [] past) q ≡ Some (fresh fin.empty))
 unfolding memories
-opens_kept n f zero past within h =
-    subst (λ x. IsKept n f [] x × ((q : ℕ) → 0 ≤ q → q < n → at (memories n f [] x) q ≡ Some (fresh fin.empty))) (sym h) (first_sound n f, λ q above low. at_first n q low)
+opens_kept n f zero past within h = grind (arith, first_sound n f, at_first)
 opens_kept n f (suc p) past within h =
     let before = opens_kept n f p h.0 (omega (arith, within)) h.3 in
     let sent = are_sends_kept n f [] h.0 (record { 0 = p }) 0 h.1 h.2 (fresh fin.empty) h.4 (before.1 p (omega arith) (omega (arith, within))) (omega (arith, within)) refl before.0 in

@@ -1,13 +1,12 @@
 -- What lists that are made of logs have.
-use Rattle.std.proofs.Common.{ℕ, ◌≡◌, ◌<◌, inl, inr, Bool, true, false, cond, not, ◌&&◌, ◌||◌, nat_le, List, [], ◌∷◌, find, Option, Some, None, is_some, unwrap_or, refl, sym, ap, subst, ◌∙◌, arith, true≢false}
+use Rattle.std.proofs.Common.{ℕ, ◌≡◌, ◌<◌, Bool, true, cond, not, ◌&&◌, ◌||◌, List, [], ◌∷◌, find, Option, Some, None, is_some, unwrap_or, refl, sym, ap, ◌∙◌, arith, true≢false}
 use Rattle.std.specs.Prelude.{◌⊎◌}
 use Rattle.std.specs.Option.{option_map}
-use Rattle.std.specs.Ordering.{nat_cmp, eq_by_cmp}
 use Rattle.std.specs.declared.cmp.Ordering.{Ordering}
 use Rattle.std.specs.declared.cmp.Ordering.TheVariants.{Less, Equal, Greater}
 use Rattle.std.specs.FinMap as fin
 use Rattle.std.specs.FinSet as set
-use Rattle.std.proofs.lemmas.Bool.{false≢true, both_ways, or_cases, or_left, or_right, and_from, and_parts, not_from_false}
+use Rattle.std.proofs.lemmas.Bool.{false≢true, both_ways, or_cases, and_parts, not_from_false}
 use Rattle.std.proofs.lemmas.Bool.Decides.{nat_tests}
 use Rattle.causal_name.specs.declared.Det.{Det}
 use Rattle.causal_name.specs.Names.{det_cmp, same_det}
@@ -19,7 +18,6 @@ use Rattle.causal_log.specs.declared.known.Known.{Known}
 use Rattle.causal_log.specs.declared.batch.Item.{Item}
 use Rattle.causal_log.specs.Knowledge.{nothing_known, is_carried, as_stable}
 use Rattle.causal_log.specs.Logs.{LogMap, known_of, item_of, is_chosen, chosen, stable_in, marked, mark, dets_of, unstable_in}
-use Rattle.causal_log.specs.Stores.{DetSet, with_det}
 use Rattle.causal_log.specs.Stores as store
 use Rattle.causal_log.proofs.Lemmas.MessageItems.{carried, swap_first}
 use Rattle.causal_log.proofs.Lemmas.Searches.{any_map, any_kept, any_logged, passes}
@@ -28,18 +26,12 @@ use Rattle.causal_protocol.specs.Naming.{with_own, by_order}
 use Rattle.causal_protocol.specs.Sight.{has_entry, tells_holder, tells_stable, has_item, item_holder}
 
 swap : (a b : Bool) → (a && b) ≡ (b && a)
-swap true true = refl
-swap true false = refl
-swap false true = refl
-swap false false = refl
+swap a b = grind arith
 
 -- what a log chooses
 module _ (f : ℕ) (log : LogMap) (d : Det) where
   pub chosen_item : has_item d (chosen f log) ≡ is_chosen f (fin.get log d)
-  chosen_item =
-      any_kept item_of (λ e. is_carried f e.1) (λ item. same_det d item.det) (λ e. same_det d e.0 && is_carried f e.1) (λ e. swap (is_carried f e.1) (same_det d e.0)) (fin.entries log)
-      ∙ any_logged (is_carried f) d log
-      ∙ carried f (fin.get log d)
+  chosen_item = grind (arith, any_kept, swap, any_logged (is_carried f) d log, carried f (fin.get log d))
 
   pub chosen_holder : (q : ℕ) → item_holder d q (chosen f log) ≡ passes (λ k. is_carried f k && set.contains k.holders q) (fin.get log d)
   chosen_holder q =
@@ -48,40 +40,18 @@ module _ (f : ℕ) (log : LogMap) (d : Det) where
 
   -- a message carries only what its sender's log has
   pub chosen_logged : has_item d (chosen f log) ≡ true → has_entry d log ≡ true
-  chosen_logged h = by (fin.get log d) (sym chosen_item ∙ h)
-    where
-      by : (o : Option Known) → is_chosen f o ≡ true → is_some o ≡ true
-      by None h = absurd (false≢true h)
-      by (Some k) h = refl
+  chosen_logged h = grind (arith, chosen_item, false≢true)
 
   -- whom a message names as a holder its sender's log knows as one
   pub chosen_known : (q : ℕ) → item_holder d q (chosen f log) ≡ true → tells_holder d q log ≡ true
-  chosen_known q h = by (fin.get log d) (sym (chosen_holder q) ∙ h)
-    where
-      by : (o : Option Known) → passes (λ k. is_carried f k && set.contains k.holders q) o ≡ true → set.contains (unwrap_or o nothing_known).holders q ≡ true
-      by None h = absurd (false≢true h)
-      by (Some k) h = (and_parts (is_carried f k) (set.contains k.holders q) h).1
+  chosen_known q h = grind (arith, chosen_holder q, passes, false≢true, and_parts)
 
   -- what a log has is carried, or is known to be stable, or to have more than f holders
   pub chosen_left : has_entry d log ≡ true → (has_item d (chosen f log) ≡ true) ⊎ ((tells_stable d log ≡ true) ⊎ (f < set.len (known_of log d).holders))
-  chosen_left h = by (fin.get log d) refl h
-    where
-      safe : (k : Known) (b : Bool) → k.stable ≡ b → (c : Bool) → nat_le (set.len k.holders) f ≡ c → (is_carried f k ≡ true) ⊎ ((k.stable ≡ true) ⊎ (f < set.len k.holders))
-      safe k true is c few = inr (inl is)
-      safe k false is true few = inl (and_from _ _ (not_from_false k.stable is) few)
-      safe k false is false few = inr (inr (grind (arith, nat_tests)))
-
-      by : (o : Option Known) → fin.get log d ≡ o → is_some o ≡ true → (has_item d (chosen f log) ≡ true) ⊎ ((tells_stable d log ≡ true) ⊎ (f < set.len (known_of log d).holders))
-      by None is h = absurd (false≢true h)
-      by (Some k) is h = elim (safe k k.stable refl (nat_le (set.len k.holders) f) refl) [
-        | inl goes ↦ inl (chosen_item ∙ ap (is_chosen f) is ∙ goes)
-        | inr (inl stable) ↦ inr (inl (ap (λ o. (unwrap_or o nothing_known).stable) is ∙ stable))
-        | inr (inr many) ↦ inr (inr (subst (λ o. f < set.len (unwrap_or o nothing_known).holders) (sym is) many))
-      ]
+  chosen_left h = grind (arith, not_from_false, nat_tests, false≢true, chosen_item)
 
 passes_stable : (o : Option Known) → passes (λ k. k.stable) o ≡ (unwrap_or o nothing_known).stable
-passes_stable None = refl
-passes_stable (Some k) = refl
+passes_stable o = grind arith
 
 -- what a log knows to be stable, and what it does not
 pub stable_have : (log : LogMap) (d : Det) → has (stable_in log) d ≡ tells_stable d log
@@ -93,25 +63,12 @@ stable_have log d =
 -- a flush writes only what the log has
 pub unstable_logged : (log : LogMap) (d : Det) → has (unstable_in log) d ≡ true → has_entry d log ≡ true
 unstable_logged log d h =
-    by (fin.get log d) (sym (any_kept (λ e. e.0) (λ e. not e.1.stable) (same_det d) (λ e. same_det d e.0 && not e.1.stable) (λ e. swap (not e.1.stable) (same_det d e.0)) (fin.entries log) ∙ any_logged (λ k. not k.stable) d log) ∙ h)
-  where
-    by : (o : Option Known) → passes (λ k. not k.stable) o ≡ true → is_some o ≡ true
-    by None h = absurd (false≢true h)
-    by (Some k) h = refl
+    let kept = any_kept (λ e. e.0) (λ e. not e.1.stable) (same_det d) (λ e. same_det d e.0 && not e.1.stable) (λ e. swap (not e.1.stable) (same_det d e.0)) (fin.entries log) in
+    grind (arith, kept, any_logged (λ k. not k.stable) d log)
 
 -- a mark
 get_mark : (log : LogMap) (det other : Det) (o : Option Known) → fin.get log det ≡ o → (b : Bool) → same_det other det ≡ b → fin.get (mark log det o) other ≡ cond b (option_map as_stable (fin.get log other)) (fin.get log other)
-get_mark log det other None was true is =
-    let none : fin.get log other ≡ None = ap (fin.get log) (same_is other det is) ∙ was in
-    none ∙ ap (option_map as_stable) (sym none)
-get_mark log det other None was false is = refl
-get_mark log det other (Some known) was true is =
-    fin.get-insert dets_total log det (as_stable known) other
-    ∙ ap (λ b. cond b (Some (as_stable known)) (fin.get log other)) (sym (det_ties other det) ∙ is)
-    ∙ ap (option_map as_stable) (sym (ap (fin.get log) (same_is other det is) ∙ was))
-get_mark log det other (Some known) was false is =
-    fin.get-insert dets_total log det (as_stable known) other
-    ∙ ap (λ b. cond b (Some (as_stable known)) (fin.get log other)) (sym (det_ties other det) ∙ is)
+get_mark log det other o was b is = grind (arith, fin.get-insert dets_total log det, det_ties other det, same_is other det)
 
 module _ (log : LogMap) (det d : Det) where
   marked_get : fin.get (marked log det) d ≡ cond (same_det d det) (option_map as_stable (fin.get log d)) (fin.get log d)
@@ -119,47 +76,23 @@ module _ (log : LogMap) (det d : Det) where
 
   -- to mark a determinant leaves what the log has
   pub marked_entry : has_entry d (marked log det) ≡ has_entry d log
-  marked_entry = ap is_some marked_get ∙ by (same_det d det) (fin.get log d)
-    where
-      by : (b : Bool) (o : Option Known) → is_some (cond b (option_map as_stable o) o) ≡ is_some o
-      by true None = refl
-      by true (Some k) = refl
-      by false o = refl
+  marked_entry = grind (arith, marked_get)
 
   -- to mark a determinant leaves whom the log knows as holders
   pub marked_holder : (q : ℕ) → tells_holder d q (marked log det) ≡ tells_holder d q log
-  marked_holder q = ap (λ o. set.contains (unwrap_or o nothing_known).holders q) marked_get ∙ by (same_det d det) (fin.get log d)
-    where
-      by : (b : Bool) (o : Option Known) → set.contains (unwrap_or (cond b (option_map as_stable o) o) nothing_known).holders q ≡ set.contains (unwrap_or o nothing_known).holders q
-      by true None = refl
-      by true (Some k) = refl
-      by false o = refl
+  marked_holder q = grind (arith, marked_get)
 
   -- what is known to be stable after a mark was marked, or was known so before
   pub marked_mark : tells_stable d (marked log det) ≡ true → (same_det d det ≡ true) ⊎ (tells_stable d log ≡ true)
-  marked_mark h = by (same_det d det) refl (fin.get log d) (sym (ap (λ o. (unwrap_or o nothing_known).stable) marked_get) ∙ h)
-    where
-      by : (b : Bool) → same_det d det ≡ b → (o : Option Known) → (unwrap_or (cond b (option_map as_stable o) o) nothing_known).stable ≡ true → (same_det d det ≡ true) ⊎ ((unwrap_or o nothing_known).stable ≡ true)
-      by true is o h = inl is
-      by false is o h = inr h
+  marked_mark h = grind (arith, marked_get)
 
   -- a logged determinant that was marked is known to be stable
   pub marked_new : same_det d det ≡ true → has_entry d log ≡ true → tells_stable d (marked log det) ≡ true
-  marked_new same there = ap (λ o. (unwrap_or o nothing_known).stable) marked_get ∙ by (same_det d det) same (fin.get log d) there
-    where
-      by : (b : Bool) → b ≡ true → (o : Option Known) → is_some o ≡ true → (unwrap_or (cond b (option_map as_stable o) o) nothing_known).stable ≡ true
-      by false e o h = absurd (false≢true e)
-      by true e None h = absurd (false≢true h)
-      by true e (Some k) h = refl
+  marked_new same there = grind (arith, marked_get, false≢true)
 
   -- what was known to be stable is so after a mark
   pub marked_old : tells_stable d log ≡ true → tells_stable d (marked log det) ≡ true
-  marked_old h = ap (λ o. (unwrap_or o nothing_known).stable) marked_get ∙ by (same_det d det) (fin.get log d) h
-    where
-      by : (b : Bool) (o : Option Known) → (unwrap_or o nothing_known).stable ≡ true → (unwrap_or (cond b (option_map as_stable o) o) nothing_known).stable ≡ true
-      by false o h = h
-      by true None h = absurd (false≢true h)
-      by true (Some k) h = refl
+  marked_old h = grind (arith, marked_get, false≢true)
 
 -- a log without some determinants
 module _ (listed : List Det) (log : LogMap) (d : Det) where
@@ -168,46 +101,25 @@ module _ (listed : List Det) (log : LogMap) (d : Det) where
 
   -- a log without some determinants still has the others
   pub without_entry : has_entry d (without listed log) ≡ (not (has listed d) && has_entry d log)
-  without_entry = ap is_some without_get ∙ by (not (has listed d)) (fin.get log d)
-    where
-      by : (b : Bool) (o : Option Known) → is_some (cond b o None) ≡ (b && is_some o)
-      by true o = refl
-      by false o = refl
+  without_entry = grind (arith, without_get)
 
   -- a log without some determinants still knows the holders of the others
   pub without_holder : (q : ℕ) → tells_holder d q (without listed log) ≡ (not (has listed d) && tells_holder d q log)
-  without_holder q = ap (λ o. set.contains (unwrap_or o nothing_known).holders q) without_get ∙ by (not (has listed d)) (fin.get log d)
-    where
-      by : (b : Bool) (o : Option Known) → set.contains (unwrap_or (cond b o None) nothing_known).holders q ≡ (b && set.contains (unwrap_or o nothing_known).holders q)
-      by true o = refl
-      by false o = set.contains-empty nat_cmp q
+  without_holder q = grind (arith, without_get, set.contains-empty)
 
   -- a log without some determinants still knows which of the others are stable
   pub without_stable : tells_stable d (without listed log) ≡ (not (has listed d) && tells_stable d log)
-  without_stable = ap (λ o. (unwrap_or o nothing_known).stable) without_get ∙ by (not (has listed d)) (fin.get log d)
-    where
-      by : (b : Bool) (o : Option Known) → (unwrap_or (cond b o None) nothing_known).stable ≡ (b && (unwrap_or o nothing_known).stable)
-      by true o = refl
-      by false o = refl
+  without_stable = grind (arith, without_get)
 
   -- a log without some determinants knows only that to be stable which it knew so
   pub without_mark : tells_stable d (without listed log) ≡ true → tells_stable d log ≡ true
-  without_mark h = by (not (has listed d)) (fin.get log d) (sym (ap (λ o. (unwrap_or o nothing_known).stable) without_get) ∙ h)
-    where
-      by : (b : Bool) (o : Option Known) → (unwrap_or (cond b o None) nothing_known).stable ≡ true → (unwrap_or o nothing_known).stable ≡ true
-      by true o h = h
-      by false o h = absurd (false≢true h)
+  without_mark h = grind (arith, without_get, false≢true)
 
 -- the store of a past has what is stable
 pub stable_has : (past : List Entry) (d : Det) → store.has (stable_set past) d ≡ is_stable past d
 unfolding stable_set
 stable_has [] d = ap is_some (fin.get-empty det_cmp d)
-stable_has (Stable det ∷ past) d =
-    ap is_some (fin.get-insert dets_total (stable_set past) det tt d) ∙ put (eq_by_cmp det_cmp d det) (fin.get (stable_set past) d) ∙ (λ i. sym (det_ties d det) i || stable_has past d i)
-  where
-    put : (b : Bool) (o : Option (Unit {0})) → is_some (cond b (Some tt) o) ≡ (b || is_some o)
-    put true o = refl
-    put false o = refl
+stable_has (Stable det ∷ past) d = grind (arith, fin.get-insert dets_total (stable_set past) det tt d, det_ties d det, stable_has past d)
 stable_has (Send from to ssn ∷ past) d = stable_has past d
 stable_has (Deliver to send rsn listed ∷ past) d = stable_has past d
 stable_has (Crash who ∷ past) d = stable_has past d
@@ -220,20 +132,10 @@ unfolding with_own
 own_have own [] d = refl
 own_have own (x ∷ ds) d = by (det_cmp own x) refl (own_have own ds d)
   where
-    turned : (a b c : Bool) → (b || (a || c)) ≡ (a || (b || c))
-    turned true true c = refl
-    turned true false c = refl
-    turned false true c = refl
-    turned false false c = refl
-
-    twice : (a b : Bool) → (a || b) ≡ (a || (a || b))
-    twice true b = refl
-    twice false b = refl
-
     by : (o : Ordering) → det_cmp own x ≡ o → has (with_own own ds) d ≡ (same_det d own || has ds d) → has (by_order o (own ∷ x ∷ ds) (x ∷ ds) (x ∷ with_own own ds)) d ≡ (same_det d own || (same_det d x || has ds d))
     by Less is rest = refl
-    by Equal is rest = twice (same_det d x) (has ds d) ∙ ap (λ y. same_det d y || (same_det d x || has ds d)) (sym (exact_dets own x is))
-    by Greater is rest = ap (λ b. same_det d x || b) rest ∙ turned (same_det d own) (same_det d x) (has ds d)
+    by Equal is rest = grind (arith, exact_dets own x is)
+    by Greater is rest = grind arith
 
 -- the determinants of items
 pub items_have : (items : List Item) (d : Det) → has (dets_of items) d ≡ has_item d items
@@ -242,20 +144,9 @@ items_have items d = any_map (λ item. item.det) (same_det d) (λ item. same_det
 -- what a search finds
 pub first_passes : (p : Det → Bool) (ds : List Det) (d : Det) → find p ds ≡ Some d → (p d ≡ true) × (has ds d ≡ true)
 first_passes p [] d h = absurd (true≢false (sym (ap is_some h)))
-first_passes p (x ∷ ds) d h = by (p x) refl h (λ at. first_passes p ds d at)
-  where
-    by : (b : Bool) → p x ≡ b → cond b (Some x) (find p ds) ≡ Some d → (find p ds ≡ Some d → (p d ≡ true) × (has ds d ≡ true)) → (p d ≡ true) × ((same_det d x || has ds d) ≡ true)
-    by true is at later =
-        let one : x ≡ d = ap (λ o. unwrap_or o x) at in
-        (ap p (sym one) ∙ is, or_left _ _ (ap (same_det d) one ∙ same_itself d))
-    by false is at later = let rest = later at in (rest.0, or_right _ _ rest.1)
+first_passes p (x ∷ ds) d h = grind (arith, first_passes p ds d, same_itself)
 
 -- where a member of a list passes, a first one is found
 pub first_there : (p : Det → Bool) (ds : List Det) (d : Det) → has ds d ≡ true → p d ≡ true → is_some (find p ds) ≡ true
 first_there p [] d h fit = absurd (false≢true h)
-first_there p (x ∷ ds) d h fit = by (p x) refl (or_cases (same_det d x) (has ds d) h) (λ rest. first_there p ds d rest fit)
-  where
-    by : (b : Bool) → p x ≡ b → (same_det d x ≡ true) ⊎ (has ds d ≡ true) → (has ds d ≡ true → is_some (find p ds) ≡ true) → is_some (cond b (Some x) (find p ds)) ≡ true
-    by true is at later = refl
-    by false is (inl same) later = absurd (both_ways (p x) is (ap p (sym (same_is d x same)) ∙ fit))
-    by false is (inr rest) later = later rest
+first_there p (x ∷ ds) d h fit = grind (arith, or_cases (same_det d x) (has ds d) h, first_there p ds d, both_ways, same_is)

@@ -1,10 +1,10 @@
 -- What an up process knows is what its present lane contributed: entry by entry.
-use Rattle.std.proofs.Common.{ℕ, zero, suc, ◌≡◌, ◌<◌, inl, inr, Bool, true, false, ◌&&◌, ◌||◌, not, List, [], ◌∷◌, length, replicate, drop, take, slice_get, slice_set, Option, Some, None, is_some, refl, sym, ap, subst, ◌∙◌}
+use Rattle.std.proofs.Common.{arith, ℕ, zero, suc, ◌≡◌, inl, inr, Bool, true, false, ◌&&◌, ◌||◌, not, List, [], ◌∷◌, replicate, take, slice_get, slice_set, Option, Some, None, is_some, refl, sym, ap, subst, ◌∙◌}
 use Rattle.std.specs.Prelude.{◌==◌, ◌⊎◌}
 use Rattle.std.specs.List.{list_any}
-use Rattle.std.specs.Option.{option_map, option_map_or, option_and_then}
+use Rattle.std.specs.Option.{option_map, option_and_then}
 use Rattle.std.specs.FinMap as fin
-use Rattle.std.proofs.lemmas.Bool.{false≢true, both_ways, or_cases, eq-eqb}
+use Rattle.std.proofs.lemmas.Bool.{false≢true, both_ways}
 use Rattle.std.proofs.lemmas.Bool.Decides.{eqb_tells}
 use Rattle.causal_name.specs.declared.Pid.{Pid}
 use Rattle.causal_name.specs.declared.MsgName.{MsgName}
@@ -16,7 +16,7 @@ use Rattle.causal_log.specs.Logs.{LogMap, marked}
 use Rattle.causal_protocol.specs.Memory.{Memory, Memories, at, changed, fresh, gained, batch_of, with_received}
 use Rattle.causal_protocol.specs.Gathering.{gathered_log, without}
 use Rattle.causal_protocol.specs.Run.{Run, memories, memories_of, stable_of, receive, after, older}
-use Rattle.causal_protocol.specs.Sight.{log_at, has_entry, tells_holder, tells_stable, knows, marks}
+use Rattle.causal_protocol.specs.Sight.{log_at, tells_holder, tells_stable}
 use Rattle.causal_protocol.specs.Contributions.{GivesHolder, GivesMark, HoldersAreContributed, IsContributed, MarksAreContributed, ends, run_before, writers_before}
 use Rattle.causal_protocol.proofs.Places.{log_here, set_other}
 use Rattle.causal_protocol.proofs.LearnedLogs
@@ -58,28 +58,13 @@ module _ (p : ℕ) (tells : LogMap → Bool) where
 
   keeps : (Given : Type 0) (ended : Bool) (ms next : Memories) → (Given → ⊥) → ended ≡ false → at next p ≡ at ms p → Steps Given ended ms next
   unfolding log_at
-  keeps Given ended ms next nothing is same = record {
-    up = λ _ h. sym (ap is_some same) ∙ h;
-    log = λ _. subst (λ b. Grows Given b (tells (log_at ms p)) (tells (log_at next p))) (sym is) (steady Given _ _ nothing (ap (λ o. tells (option_map_or (λ m. m.log) o fin.empty)) same));
-  }
+  keeps Given ended ms next nothing is same = grind (arith, steady)
 
   loses : (Given : Type 0) (ended : Bool) (ms next : Memories) → at next p ≡ None → Steps Given ended ms next
-  loses Given ended ms next none = record {
-    up = λ _ h. absurd (false≢true (sym (ap is_some none) ∙ h));
-    log = λ h. absurd (false≢true (sym (ap is_some none) ∙ h));
-  }
+  loses Given ended ms next none = grind (arith, false≢true)
 
   changes : (Given : Type 0) (ended : Bool) (g : Memory → Memory) (ms next : Memories) → at next p ≡ option_map g (at ms p) → ((m : Memory) → at ms p ≡ Some m → Grows Given ended (tells m.log) (tells ((g m).log))) → Steps Given ended ms next
-  changes Given ended g ms next is grows = by (at ms p) refl
-    where
-      by : (o : Option Memory) → at ms p ≡ o → Steps Given ended ms next
-      by None e = loses Given ended ms next (is ∙ ap (option_map g) e)
-      by (Some m) e = record {
-        up = λ _ _. ap is_some e;
-        log = λ _.
-            subst (λ log. Grows Given ended (tells log) (tells (log_at next p))) (sym (log_here ms p m e))
-            (subst (λ log. Grows Given ended (tells m.log) (tells log)) (sym (log_here next p (g m) (is ∙ ap (option_map g) e))) (grows m e));
-      }
+  changes Given ended g ms next is grows = grind (arith, loses, log_here)
 
 -- what must be known of what entries contribute
 pub record Facts (p : ℕ) (d : Det) (tells : LogMap → Bool) (Gives : Run → Option Pid → Entry → Type 0) : Type 0 where
@@ -107,8 +92,7 @@ module _ (p : ℕ) (d : Det) (tells : LogMap → Bool) (Gives : Run → Option P
 
   -- a delivery
   received : (r : Run) (by : Option Pid) (to : Pid) (send rsn : ℕ) (listed : List Det) (x : Option MsgName) → message_at r.recording.past send ≡ x → Stepped r by (Deliver to send rsn listed)
-  received r by to send rsn listed None none =
-      keeps p tells _ false (memories_of r) _ (λ g. let m = (facts.receiver r by to send rsn listed g).1 in let is : None ≡ Some m.0 = sym none ∙ m.1 in cc) refl (ap (λ o. at (receive (memories_of r) to rsn o) p) none)
+  received r by to send rsn listed None none = grind (arith, keeps)
   received r by to send rsn listed (Some x) sent =
       let ms = memories_of r in
       let g = with_received (batch_of ms x) (det_from to rsn x) in
@@ -135,18 +119,7 @@ module _ (p : ℕ) (d : Det) (tells : LogMap → Bool) (Gives : Run → Option P
 
   -- a forgetting of p
   less : (r : Run) (by : Option Pid) (who : Pid) (listed : List Det) (log : LogMap) → (who.0 == p) ≡ true → (b : Bool) → has listed d ≡ b → Grows (Gives r by (Forget who listed)) (ends p d (Forget who listed)) (tells log) (tells (without listed log))
-  less r by who listed log here true gone =
-      let not_told : tells (without listed log) ≡ false = facts.left listed log ∙ ap (λ b. not b && tells log) gone in
-      let ended : ends p d (Forget who listed) ≡ true = λ i. here i && gone i in
-      record {
-        found = λ h. absurd (both_ways (tells (without listed log)) not_told h);
-        fresh = λ g. absurd (facts.forgot r by who listed g);
-        kept = λ lives _. absurd (both_ways (ends p d (Forget who listed)) lives ended);
-      }
-  less r by who listed log here false there =
-      let ended : ends p d (Forget who listed) ≡ false = λ i. here i && there i in
-      subst (λ b. Grows (Gives r by (Forget who listed)) b (tells log) (tells (without listed log))) (sym ended)
-      (steady _ _ _ (facts.forgot r by who listed) (facts.left listed log ∙ ap (λ b. not b && tells log) there))
+  less r by who listed log here b gone = grind (arith, steady)
 
   step : (r : Run) (by : Option Pid) (e : Entry) → Stepped r by e
   step r by (Send from to ssn) =
@@ -156,32 +129,16 @@ module _ (p : ℕ) (d : Det) (tells : LogMap → Bool) (Gives : Run → Option P
         | inr other ↦ keeps p tells _ false ms _ (facts.sent r by from to ssn) refl (elsewhere _ ms from.0 other.1)
       ]
   step r by (Deliver to send rsn listed) = received r by to send rsn listed (message_at r.recording.past send) refl
-  step r None (Stable det) =
-      keeps p tells _ false (memories_of r) _ (λ g. let is : None ≡ Some (facts.writer r None det g).0 = (facts.writer r None det g).1 in cc) refl refl
+  step r None (Stable det) = grind (arith, keeps)
   step r (Some w) (Stable det) =
       let ms = memories_of r in
       elim (eqb_tells w.0 p) [
         | inl is ↦ changes p tells _ false _ ms _ (at_it _ ms w.0 is.1) (λ m here. facts.written r w det m is.1 here)
         | inr other ↦ keeps p tells _ false ms _ (λ g. let who = facts.writer r (Some w) det g in let is : w ≡ who.0 = cc who.1 in other.1 (ap (λ (x : Pid). x.0) is ∙ who.2)) refl (elsewhere _ ms w.0 other.1)
       ]
-  step r by (Crash who) =
-      let ms = memories_of r in
-      elim (eqb_tells who.0 p) [
-        | inl is ↦ loses p tells _ _ ms _ (subst (λ x. at (slice_set ms x None) p ≡ None) (sym is.1) (none_here ms p))
-        | inr other ↦ keeps p tells _ _ ms _ (facts.crashed r by who) other.0 (set_elsewhere ms who.0 None p other.1)
-      ]
-  step r by (Restart who listed) =
-      let ms = memories_of r in
-      elim (eqb_tells who.0 p) [
-        | inl is ↦ returned r by who listed is.0 is.1
-        | inr other ↦ keeps p tells _ _ ms _ (λ g. other.1 (facts.restarter r by who listed g)) other.0 (set_elsewhere ms who.0 _ p other.1)
-      ]
-  step r by (Forget who listed) =
-      let ms = memories_of r in
-      elim (eqb_tells who.0 p) [
-        | inl is ↦ changes p tells _ _ _ ms _ (at_it _ ms who.0 is.1) (λ m _. less r by who listed m.log is.0 (has listed d) refl)
-        | inr other ↦ keeps p tells _ _ ms _ (facts.forgot r by who listed) (ap (λ b. b && has listed d) other.0) (elsewhere _ ms who.0 other.1)
-      ]
+  step r by (Crash who) = grind (arith, eqb_tells who.0 p, loses, none_here, keeps, set_elsewhere)
+  step r by (Restart who listed) = grind (arith, eqb_tells who.0 p, returned, keeps, set_elsewhere)
+  step r by (Forget who listed) = grind (arith, eqb_tells who.0 p, changes, at_it, less, keeps, elsewhere)
 
   abbrev run : ℕ → ℕ → List Pid → List Entry → Run
   run n f writers past = record { recording = record { processes = n; past = past }; faults = f; writers = writers }
@@ -214,66 +171,20 @@ module _ (p : ℕ) (d : Det) (tells : LogMap → Bool) (Gives : Run → Option P
         | inr old ↦ later n f writers e past old.0 (known_contributed n f (older e writers) past (s.up old.0 up) old.1)
       ]
 
-  neither : (a b : Bool) → (a || b) ≡ false → (a ≡ false) × (b ≡ false)
-  neither true b h = absurd (false≢true (sym h))
-  neither false b h = (refl, h)
-
   given_known : (n f : ℕ) (writers : List Pid) (past : List Entry) (k : ℕ) (entry : Entry) → is_some (at (memories n f writers past) p) ≡ true → slice_get past k ≡ Some entry
       → Gives (run_before (suc k) (run n f writers past)) (slice_get (writers_before k past writers) 0) entry → list_any (ends p d) (take k past) ≡ false → tells (log_at (memories n f writers past) p) ≡ true
   unfolding memories writers_before
   given_known n f writers [] k entry up is given lasts = absurd (let no : None ≡ Some entry = is in cc)
-  given_known n f writers (e ∷ past) zero entry up is given lasts =
-      let same : e ≡ entry = cc is in
-      let r = run n f (older e writers) past in
-      ((step r (slice_get writers 0) e).log up).fresh (subst (Gives r (slice_get writers 0)) (sym same) given)
+  given_known n f writers (e ∷ past) zero entry up is given lasts = grind (arith, step (run n f (older e writers) past) (slice_get writers 0) e)
   given_known n f writers (e ∷ past) (suc k) entry up is given lasts =
-      let s = step (run n f (older e writers) past) (slice_get writers 0) e in
-      let parts = neither (ends p d e) (list_any (ends p d) (take k past)) lasts in
-      (s.log up).kept parts.0 (given_known n f (older e writers) past k entry (s.up parts.0 up) is given parts.1)
+      grind (arith, step (run n f (older e writers) past) (slice_get writers 0) e, given_known n f (older e writers) past k entry)
 
   pub contributed_known : (r : Run) → is_some (at (memories_of r) p) ≡ true → IsContributed Gives p d r → tells (log_at (memories_of r) p) ≡ true
   contributed_known r up c = given_known r.recording.processes r.faults r.writers r.recording.past c.since c.entry up c.stands c.gives c.lasts
 
 -- holders
 holder_facts : (p : ℕ) (d : Det) (q : ℕ) → Facts p d (tells_holder d q) (GivesHolder p d q)
-holder_facts p d q = record {
-  lacks = LearnedLogs.none_holds d q;
-  sent = λ r by from to ssn g. g;
-  crashed = λ r by who g. g;
-  forgot = λ r by who listed g. g;
-  receiver = λ r by to send rsn listed g. (g.0, (g.1.0, g.1.1));
-  writer = λ r by det g. absurd g;
-  restarter = λ r by who listed g. g.0;
-  delivered = λ r by to send rsn listed x m is sent. record {
-    found = λ h. elim (LearnedLogs.gained_holder (batch_of (memories_of r) x) (det_from to rsn x) m.log d q h) [
-      | inl old ↦ inr (refl, old)
-      | inr told ↦ inl (is, (x, sent, told))
-    ];
-    fresh = λ g.
-        let same : x ≡ g.1.0 = cc (sym sent ∙ g.1.1) in
-        subst (λ y. tells_holder d q (gained (batch_of (memories_of r) y) (det_from to rsn y) m.log) ≡ true) (sym same)
-        (LearnedLogs.gained_told (batch_of (memories_of r) g.1.0) (det_from to rsn g.1.0) m.log d q g.1.2);
-    kept = λ _ h. LearnedLogs.gained_old (batch_of (memories_of r) x) (det_from to rsn x) m.log d q h;
-  };
-  written = λ r w det m is here. steady _ _ _ (λ g. g) (Choices.marked_holder m.log det d q);
-  restarted = λ r by who listed old is. record {
-    found = λ h. inl (
-      is,
-      elim (LearnedLogs.gathered_holder (memories_of r) (stable_of r) who d q h) [
-        | inl itself ↦ inl (LearnedLogs.keys_have (gathered_log (memories_of r) (stable_of r) who) d ∙ LearnedLogs.entry_of_holder (gathered_log (memories_of r) (stable_of r) who) d q h, itself ∙ is)
-        | inr some ↦ inr (some.0, some.2)
-      ],
-    );
-    fresh = λ g. elim g.1 [
-      | inl own ↦
-          ap (λ x. tells_holder d x (gathered_log (memories_of r) (stable_of r) who)) (own.1 ∙ sym is)
-          ∙ LearnedLogs.gathered_itself (memories_of r) (stable_of r) who d (sym (LearnedLogs.keys_have (gathered_log (memories_of r) (stable_of r) who) d) ∙ own.0)
-      | inr some ↦ LearnedLogs.gathered_known (memories_of r) (stable_of r) who d some.0 q some.1
-    ];
-    kept = λ lives _. absurd (false≢true (sym lives));
-  };
-  left = λ listed log. Choices.without_holder listed log d q;
-}
+holder_facts p d q = grind (arith, steady, LearnedLogs.none_holds, LearnedLogs.told_holders_of, Choices.marked_holder, Choices.without_holder)
 
 -- an up process knows just the holders that its present lane was told of
 pub holders_are_contributed : HoldersAreContributed
@@ -292,35 +203,11 @@ mark_facts p d = record {
   receiver = λ r by to send rsn listed g. absurd g;
   writer = λ r by det g. g.0;
   restarter = λ r by who listed g. g.0;
-  delivered = λ r by to send rsn listed x m is sent. record {
-    found = λ h. inr (refl, LearnedLogs.gained_stable (batch_of (memories_of r) x) (det_from to rsn x) m.log d h);
-    fresh = λ g. absurd g;
-    kept = λ _ h. LearnedLogs.gained_still (batch_of (memories_of r) x) (det_from to rsn x) m.log d h;
-  };
+  delivered = λ r by to send rsn listed x m is sent. grind (arith, LearnedLogs.gained_stable, LearnedLogs.gained_still);
   written = λ r w det m is here.
-      let own : log_at (memories_of r) p ≡ m.log = log_here (memories_of r) p m here in
-      record {
-        found = λ h. elim (Choices.marked_mark m.log det d h) [
-          | inl same ↦ inl ((w, refl, is), (same, ap (has_entry d) own ∙ sym (Choices.marked_entry m.log det d) ∙ LearnedLogs.entry_of_mark (marked m.log det) d h))
-          | inr old ↦ inr (refl, old)
-        ];
-        fresh = λ g. Choices.marked_new m.log det d g.1.0 (ap (has_entry d) (sym own) ∙ g.1.1);
-        kept = λ _ h. Choices.marked_old m.log det d h;
-      };
-  restarted = λ r by who listed old is. record {
-    found = λ h. inl (
-      is,
-      elim (LearnedLogs.gathered_mark (memories_of r) (stable_of r) who d h) [
-        | inl stored ↦ inl (sym (Choices.stable_has r.recording.past d) ∙ stored)
-        | inr some ↦ inr (some.0, some.2)
-      ],
-    );
-    fresh = λ g. elim g.1 [
-      | inl stable ↦ LearnedLogs.stored_marks (memories_of r) (stable_of r) who d (Choices.stable_has r.recording.past d ∙ stable)
-      | inr some ↦ LearnedLogs.gathered_marks (memories_of r) (stable_of r) who d some.0 some.1
-    ];
-    kept = λ lives _. absurd (false≢true (sym lives));
-  };
+      let own = log_here (memories_of r) p m here in
+      grind (arith, own, LearnedLogs.told_marks_of, Choices.marked_mark, Choices.marked_entry m.log det d, Choices.marked_new, Choices.marked_old);
+  restarted = λ r by who listed old is. grind (arith, LearnedLogs.told_marks_of, Choices.stable_has r.recording.past d);
   left = λ listed log. Choices.without_stable listed log d;
 }
 

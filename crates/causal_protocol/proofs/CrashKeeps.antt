@@ -1,17 +1,17 @@
 -- What the protocol keeps, over a crash.
-use Rattle.std.proofs.Common.{ℕ, zero, suc, ◌≡◌, ◌+◌, ◌≤◌, inl, inr, Bool, true, false, cond, List, ◌∷◌, ◌<◌, refl, sym, ap, ◌∙◌, arith}
+use Rattle.std.proofs.Common.{ℕ, zero, suc, ◌≡◌, ◌+◌, ◌≤◌, Bool, true, false, List, ◌∷◌, ◌<◌, refl, sym, ap, ◌∙◌, arith}
 use Rattle.std.specs.Prelude.{◌||◌, ◌&&◌, not, ◌==◌}
-use Rattle.std.proofs.lemmas.Bool.{or_cases, or_parts, or_left, or_right, and_from, and_parts, eqb-true, not_from_false}
+use Rattle.std.proofs.lemmas.Bool.{or_cases, or_parts, and_from, and_parts, eqb-true, not_from_false}
 use Rattle.std.proofs.lemmas.Bool.Decides.{eqb_tells}
 use Rattle.causal_name.specs.Sets.{count_below}
 use Rattle.causal_name.specs.declared.Det.{Det}
 use Rattle.causal_name.specs.declared.Pid.{Pid}
 use Rattle.causal_protocol.proofs.Sets.{survives_found, survives_log, survives_stable, finds_more, Stays, spread_stays, true_stays}
-use Rattle.causal_protocol.proofs.SendKeeps.{det_earlier, no_actor}
+use Rattle.causal_protocol.proofs.SendKeeps.{det_earlier}
 use Rattle.causal_holders.proofs.Lemmas.MemberCounts.{count_below-within}
 use Rattle.causal_protocol.specs.Memory.{Kept, Memories}
 use Rattle.causal_protocol.specs.Sight.{has_logged, knows, marks, Keeps}
-use Rattle.causal_protocol.specs.Kept.{survives, Keeping}
+use Rattle.causal_protocol.specs.Kept.{survives, IsSpread, Keeping}
 use Rattle.causal_trace.proofs.Lemmas.DependenceSteps.{reaches_old, depends_old}
 use Rattle.causal_trace.specs.Past.{is_down, logs}
 use Rattle.causal_trace.specs.declared.entry.Entry.{Entry}
@@ -19,27 +19,12 @@ use Rattle.causal_trace.specs.declared.entry.Entry.TheVariants.{Crash}
 use Rattle.causal_trace.specs.Dependence.{AreForward}
 
 only_others : (n : ℕ) (a : ℕ → Bool) (w : ℕ) → n ≤ w → count_below n (λ p. w == p || a p) ≤ count_below n a
-only_others n a w above =
-    count_below-within n (λ p. w == p || a p) a (λ p below h. elim (or_cases (w == p) (a p) h) [
-      | inl is ↦ absurd (omega (arith, below, above, eqb-true w p is))
-      | inr old ↦ old
-    ])
-
-one_or : (x y : Bool) → x ≡ false → cond (x || y) 1 0 ≤ cond y 1 0
-one_or x y e = rw e (omega arith)
-
-at_most : (b : Bool) → cond b 1 0 ≤ 1
-at_most true = omega arith
-at_most false = omega arith
+only_others n a w above = grind (arith, count_below-within, or_cases, eqb-true)
 
 -- one more has at most one more member
 count_one : (n : ℕ) (a : ℕ → Bool) (w : ℕ) → count_below n (λ p. w == p || a p) ≤ count_below n a + 1
 count_one zero a w = omega arith
-count_one (suc n) a w =
-    elim (eqb_tells w n) [
-      | inl is ↦ omega (arith, only_others n a w (omega (arith, is.1)), at_most (w == n || a n))
-      | inr other ↦ omega (arith, count_one n a w, one_or (w == n) (a n) other.0)
-    ]
+count_one (suc n) a w = grind (arith, eqb_tells w n, only_others n a w, count_one n a w)
 
 -- one more process goes down, and all that it has in volatile memory is lost
 pub record IsCrashed (n f : ℕ) (past : List Entry) (who : ℕ) (ms next : Memories) : Type 0 where
@@ -56,24 +41,13 @@ pub record IsCrashed (n f : ℕ) (past : List Entry) (who : ℕ) (ms next : Memo
 
 module _ (n f : ℕ) (past : List Entry) (ms next : Memories) (who : Pid) (s : IsCrashed n f past who.0 ms next) (forward : AreForward (Crash who ∷ past)) (k : Keeping n f past ms) where
   stays : (d : Det) → Stays n past (Crash who ∷ past) d
-  stays d = record {
-    stable = λ h. h;
-    within = λ _ p below h.
-        elim (eqb_tells who.0 p) [
-          | inl is ↦ or_left _ _ (or_left _ _ is.0)
-          | inr other ↦ elim (or_cases (is_down past p) (logs past p d) h) [
-            | inl down ↦ or_left _ _ (or_right _ _ down)
-            | inr held ↦ or_right _ _ (and_from _ _ (not_from_false (who.0 == p) other.0) held)
-          ]
-        ];
-  }
+  stays d = grind (arith, eqb_tells, or_cases, not_from_false)
+
+  spreads : (d : Det) → IsSpread n f past d → IsSpread n f (Crash who ∷ past) d
+  spreads d = spread_stays n f past (Crash who ∷ past) d (stays d)
 
   pub left : (d : Det) → survives n (Crash who ∷ past) d ≡ true → survives n past d ≡ true
-  left d h =
-      elim (survives_found n (Crash who ∷ past) d h) [
-        | inl stable ↦ survives_stable n past d stable
-        | inr held ↦ survives_log n past held.0 d held.1 (and_parts (not (who.0 == held.0)) (logs past held.0 d) held.2).1
-      ]
+  left d h = grind (arith, survives_found n (Crash who ∷ past) d h, survives_stable, survives_log, and_parts)
 
   kept : (p : ℕ) (d : Det) → (who.0 == p) ≡ false → logs past p d ≡ true → logs (Crash who ∷ past) p d ≡ true
   kept p d other held = and_from _ _ (not_from_false (who.0 == p) other) held
@@ -94,19 +68,11 @@ module _ (n f : ℕ) (past : List Entry) (ms next : Memories) (who : Pid) (s : I
     named_processes = λ p x d q small keeps names. k.named_processes p x d q small (s.kept p x keeps).1 names;
     marks_true = λ p d small h. k.marks_true p d small (s.marked p d h);
     dependents_hold = λ i p d small at dep.
-        let up = or_parts (who.0 == p) (is_down past p) dep.up in
-        elim (depends_old (Crash who) past i p forward up.1 refl dep) [
-          | inl old ↦ elim (k.dependents_hold i p d small (det_earlier (Crash who) past i d refl at) old) [ inl held ↦ inl (kept p d up.0 held) | inr spread ↦ inr (spread_stays n f past (Crash who ∷ past) d (stays d) spread) ]
-          | inr new ↦ absurd (no_actor p new.0)
-        ];
+        grind (arith, depends_old (Crash who) past i p forward, k.dependents_hold i p d small, det_earlier (Crash who) past i d refl at, spreads d);
     messages_carry = λ i p x d small at keeps r.
-        elim (k.messages_carry i p x d small (det_earlier (Crash who) past i d refl at) (s.kept p x keeps).1 (reaches_old (Crash who) past i forward x.send (k.earlier p x small (s.kept p x keeps).1) r)) [
-          | inl carried ↦ inl carried
-          | inr spread ↦ inr (spread_stays n f past (Crash who ∷ past) d (stays d) spread)
-        ];
-    receivers_find = λ d below up h.
-        let parts = or_parts (who.0 == d.dest.0) (is_down past d.dest.0) up in
-        finds_more past (Crash who ∷ past) d.dest.0 d (kept d.dest.0 d parts.0) (λ stable. stable) (k.receivers_find d below parts.1 (left d h));
+        let before = reaches_old (Crash who) past i forward x.send (k.earlier p x small (s.kept p x keeps).1) r in
+        grind (arith, k.messages_carry i p x d small (det_earlier (Crash who) past i d refl at) (s.kept p x keeps).1 before, spreads d);
+    receivers_find = λ d below up h. grind (arith, or_parts (who.0 == d.dest.0) (is_down past d.dest.0) up, finds_more, kept, left d h);
     senders_find = λ p x d small keeps carries.
         let old = s.kept p x keeps in
         finds_more past (Crash who ∷ past) p d (kept p d old.0) (λ stable. stable) (k.senders_find p x d small old.1 carries);

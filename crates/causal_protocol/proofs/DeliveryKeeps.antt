@@ -1,7 +1,7 @@
 -- What the protocol keeps, over a delivery.
 use Rattle.std.proofs.Common.{ℕ, ◌≡◌, ◌<◌, inl, inr, true, false, List, [], ◌∷◌, length, Some, None, refl, sym, ap, subst, ◌∙◌, arith}
 use Rattle.std.specs.Prelude.{◌⊎◌, ◌||◌, ◌&&◌, ◌==◌}
-use Rattle.std.specs.Option.{option_map, option_and_then}
+use Rattle.std.specs.Option.{option_map}
 use Rattle.std.proofs.lemmas.Bool.{or_cases, or_left, or_right, and_from, and_parts, eqb-true, eq-eqb, cond-false}
 use Rattle.std.proofs.lemmas.Bool.Decides.{eqb_tells}
 use Rattle.causal_name.proofs.Lemmas.DetOrder.{same_itself, same_is}
@@ -11,23 +11,19 @@ use Rattle.causal_name.specs.declared.MsgName.{MsgName}
 use Rattle.causal_name.specs.declared.Pid.{Pid}
 use Rattle.causal_trace.specs.declared.entry.Entry.{Entry}
 use Rattle.causal_trace.specs.declared.entry.Entry.TheVariants.{Deliver}
-use Rattle.causal_trace.specs.Past.{has, is_down, logs, is_stable, entry_at, message_sent, message_at, det_from, det_of, det_at, is_det, is_delivered}
+use Rattle.causal_trace.specs.Past.{has, is_down, logs, message_at, det_from, det_of, det_at}
 use Rattle.causal_trace.specs.Dependence.{AreForward, actor, Reaches, Depends}
 use Rattle.causal_trace.proofs.Lemmas.DependenceSteps.{reaches_old, reaches_begins, ReachesNewest, is_newest, in_lane, through_message, depends_old}
 use Rattle.causal_protocol.specs.Memory.{Kept, Memories}
 use Rattle.causal_protocol.specs.Sight.{has_logged, knows, marks, Keeps, has_item, item_holder}
-use Rattle.causal_protocol.specs.Kept.{finds, survives, IsSpread, IsTrueOf, SlotsAreSingle, Keeping}
-use Rattle.causal_protocol.proofs.Sets.{survives_found, survives_log, survives_stable, finds_survive, finds_more, Stays, spread_stays, true_stays}
+use Rattle.causal_protocol.specs.Kept.{finds, survives, IsSpread, IsTrueOf, Keeping}
+use Rattle.causal_protocol.proofs.Sets.{survives_found, survives_log, finds_survive, finds_more, Stays, spread_stays, true_stays}
 use Rattle.causal_protocol.proofs.SendKeeps.{at_newest, det_older}
 
 -- a message was sent at a position within the past
 pub message_below : (past : List Entry) (m : ℕ) (x : MsgName) → message_at past m ≡ Some x → m < length past
 message_below [] m x h = absurd (let none : None ≡ Some x = h in cc)
-message_below (e ∷ past) m x h =
-    elim (eqb_tells m (length past)) [
-      | inl is ↦ omega (arith, is.1)
-      | inr older ↦ omega (arith, message_below past m x (sym (ap (λ y. option_and_then message_sent y) (cond-false (m == length past) (Some e) (entry_at past m) older.0)) ∙ h))
-    ]
+message_below (e ∷ past) m x h = grind (arith, eqb_tells m (length past), message_below past m x, cond-false)
 
 -- an up process delivers a message that an up process keeps, which is the one that its log and stable storage name for this
 -- delivery, if they name any; it then has in its log what the message carries and the delivery's determinant
@@ -90,120 +86,53 @@ module _ (n f : ℕ) (past : List Entry) (ms next : Memories) (to : Pid) (send r
   logs_carried d h = logs_listed d (s.lists d ∙ or_right _ _ h)
 
   stays : (d : Det) → Stays n past (e ∷ past) d
-  stays d = record {
-    stable = λ h. h;
-    within = λ _ p below h. elim (or_cases (is_down past p) (logs past p d) h) [
-      | inl down ↦ or_left _ _ down
-      | inr held ↦ or_right _ _ (or_right _ _ held)
-    ];
-  }
+  stays d = grind (arith, or_cases)
+
+  spreads : (d : Det) → IsSpread n f past d → IsSpread n f (e ∷ past) d
+  spreads d = spread_stays n f past (e ∷ past) d (stays d)
 
   -- what survives survived before, or is the new determinant
   pub left : (d : Det) → survives n (e ∷ past) d ≡ true → (d ≡ own) ⊎ (survives n past d ≡ true)
-  left d h =
-      elim (survives_found n (e ∷ past) d h) [
-        | inl stable ↦ inr (survives_stable n past d stable)
-        | inr held ↦ elim (or_cases (to.0 == held.0 && has listed d) (logs past held.0 d) held.2) [
-          | inl new ↦ elim (or_cases (same_det d own) (has_item d s.delivered.batch) (sym (s.lists d) ∙ (and_parts (to.0 == held.0) (has listed d) new).1)) [
-            | inl same ↦ inl (same_is d own same)
-            | inr carried ↦ inr (finds_survive n past source d s.sender (k.senders_find source s.delivered d s.sender s.keeps carried))
-          ]
-          | inr old ↦ inr (survives_log n past held.0 d held.1 old)
-        ]
-      ]
+  left d h = grind (arith, survives_found n (e ∷ past) d h, s.lists d, same_is d own, finds_survive n past source d s.sender, survives_log n past)
+
+  still_true : (d : Det) (q : ℕ) → (q < n) × IsTrueOf past d q → (q < n) × IsTrueOf (e ∷ past) d q
+  still_true d q h = (h.0, true_stays n past (e ∷ past) d q h.0 (stays d) h.1)
 
   -- the receiver holds what it is told of itself; the sender what the message carries
   true_told : (p : ℕ) (d : Det) (q : ℕ) → p < n → knows next p d q ≡ true → (q < n) × IsTrueOf (e ∷ past) d q
   true_told p d q small h =
       elim (s.heard p d q h) [
-        | inl old ↦
-            let process = k.known_processes p d q small old in
-            (process, true_stays n past (e ∷ past) d q process (stays d) (k.holders_hold p d q small old))
+        | inl old ↦ still_true d q (k.known_processes p d q small old, k.holders_hold p d q small old)
         | inr (inl named) ↦
-            let process = k.named_processes source s.delivered d q s.sender s.keeps named in
-            (process, true_stays n past (e ∷ past) d q process (stays d) (k.named_hold source s.delivered d q s.sender s.keeps named))
-        | inr (inr (inl ends)) ↦ elim ends.1 [
-          | inl is ↦
-              let here : source ≡ q = sym is in (
-                subst (λ x. x < n) here s.sender,
-                subst (λ x. IsTrueOf (e ∷ past) d x) here (true_stays n past (e ∷ past) d source s.sender (stays d) (elim (or_cases (logs past source d) (is_stable past d) (k.senders_find source s.delivered d s.sender s.keeps ends.0)) [
-                  | inl held ↦ inr (or_right _ _ held)
-                  | inr stable ↦ inl stable
-                ])),
-              )
-          | inr is ↦ (subst (λ x. x < n) (sym is) s.process, subst (λ x. IsTrueOf (e ∷ past) d x) (sym is) (inr (or_right _ _ (logs_carried d ends.0))))
-        ]
-        | inr (inr (inr mine)) ↦ (subst (λ x. x < n) (sym mine.1) s.process, subst (λ x. IsTrueOf (e ∷ past) d x) (sym mine.1) (inr (or_right _ _ (subst (λ x. logs (e ∷ past) to.0 x ≡ true) (sym mine.0) logs_own))))
-      ]
-
-  delivered_depends : (i p : ℕ) (d : Det) → p < n → det_at (e ∷ past) i ≡ Some d → is_down past p ≡ false → actor e ≡ Some p → ReachesNewest e past i p → (logs (e ∷ past) p d ≡ true) ⊎ IsSpread n f (e ∷ past) d
-  delivered_depends i p d small at up who (is_newest is) =
-      let mine : d ≡ own = let x : Some d ≡ Some own = sym at ∙ at_newest i (length past) (det_of past e) (det_at past i) is ∙ own_det in cc in
-      let here : to.0 ≡ p = cc in
-      inl (subst (λ x. logs (e ∷ past) p x ≡ true) (sym mine) (subst (λ x. logs (e ∷ past) x own ≡ true) here logs_own))
-  delivered_depends i p d small at up who (in_lane j event r) =
-      elim (k.dependents_hold i p d small (det_older e past i d (reaches_begins past i j r) at) (record { up = up; event = j; present = event; reached = r })) [
-        | inl held ↦ inl (or_right _ _ held)
-        | inr spread ↦ inr (spread_stays n f past (e ∷ past) d (stays d) spread)
-      ]
-  delivered_depends i p d small at up who (through_message j is r) =
-      let from_send : Reaches past i s.delivered.send = subst (λ x. Reaches past i x) (sym (s.place ∙ eqb-true send j is)) r in
-      let here : to.0 ≡ p = cc in
-      elim (k.messages_carry i source s.delivered d s.sender (det_older e past i d (reaches_begins past i j r) at) s.keeps from_send) [
-        | inl carried ↦ inl (subst (λ x. logs (e ∷ past) x d ≡ true) here (logs_carried d carried))
-        | inr spread ↦ inr (spread_stays n f past (e ∷ past) d (stays d) spread)
+            still_true d q (k.named_processes source s.delivered d q s.sender s.keeps named, k.named_hold source s.delivered d q s.sender s.keeps named)
+        | inr (inr (inl ends)) ↦
+            grind (arith, k.senders_find source s.delivered d s.sender s.keeps ends.0, still_true d source, logs_carried d ends.0)
+        | inr (inr (inr mine)) ↦ grind (arith, logs_own)
       ]
 
   old_depends : (i p : ℕ) (d : Det) → p < n → det_at (e ∷ past) i ≡ Some d → Depends past i p → (logs (e ∷ past) p d ≡ true) ⊎ IsSpread n f (e ∷ past) d
   old_depends i p d small at old =
-      elim (k.dependents_hold i p d small (det_older e past i d (reaches_begins past i old.event old.reached) at) old) [
-        | inl held ↦ inl (or_right _ _ held)
-        | inr spread ↦ inr (spread_stays n f past (e ∷ past) d (stays d) spread)
-      ]
+      grind (arith, k.dependents_hold i p d small (det_older e past i d (reaches_begins past i old.event old.reached) at) old, spreads d)
+
+  delivered_depends : (i p : ℕ) (d : Det) → p < n → det_at (e ∷ past) i ≡ Some d → is_down past p ≡ false → actor e ≡ Some p → ReachesNewest e past i p → (logs (e ∷ past) p d ≡ true) ⊎ IsSpread n f (e ∷ past) d
+  delivered_depends i p d small at up who (is_newest is) = grind (arith, at_newest, own_det, logs_own)
+  delivered_depends i p d small at up who (in_lane j event r) =
+      old_depends i p d small at (record { up = up; event = j; present = event; reached = r })
+  delivered_depends i p d small at up who (through_message j is r) =
+      let from_send : Reaches past i s.delivered.send = subst (λ x. Reaches past i x) (sym (s.place ∙ eqb-true send j is)) r in
+      let before = det_older e past i d (reaches_begins past i j r) at in
+      grind (arith, k.messages_carry i source s.delivered d s.sender before s.keeps from_send, logs_carried, spreads d)
 
   -- an old determinant in the slot of the new one is the new one
   one_slot : (d : Det) → survives n past d ≡ true → d.dest ≡ to → d.rsn ≡ rsn → d ≡ own
-  one_slot d alive dest place =
-      let found : finds past to.0 d ≡ true = subst (λ x. finds past x.0 d ≡ true) dest (k.receivers_find d (subst (λ x. x.0 < n) (sym dest) s.process) (subst (λ x. is_down past x.0 ≡ false) (sym dest) s.up) alive) in
-      let named = s.only d found dest place in
-      λ i. record { source = (named i).source; ssn = (named i).ssn; dest = dest i; rsn = place i }
-
-  single : SlotsAreSingle n (e ∷ past)
-  single x y hx hy dest place =
-      elim (left x hx) [
-        | inl mine ↦ elim (left y hy) [
-          | inl same ↦ mine ∙ sym same
-          | inr old ↦ mine ∙ sym (one_slot y old (sym dest ∙ ap (λ (d : Det). d.dest) mine) (sym place ∙ ap (λ (d : Det). d.rsn) mine))
-        ]
-        | inr old ↦ elim (left y hy) [
-          | inl same ↦ one_slot x old (dest ∙ ap (λ (d : Det). d.dest) same) (place ∙ ap (λ (d : Det). d.rsn) same) ∙ sym same
-          | inr also ↦ k.single_slots x y old also dest place
-        ]
-      ]
-
-  delivered : (d : Det) → survives n (e ∷ past) d ≡ true → is_delivered (e ∷ past) d ≡ true
-  delivered d h =
-      elim (left d h) [
-        | inl mine ↦ or_left _ _ (subst (λ x. is_det (det_of past e) x ≡ true) (sym mine) (ap (λ o. is_det o own) own_det ∙ same_itself own))
-        | inr old ↦ or_right _ _ (k.survivors_delivered d old)
-      ]
-
-  homed : (d : Det) → d.dest.0 < n → is_down past d.dest.0 ≡ false → survives n (e ∷ past) d ≡ true → finds (e ∷ past) d.dest.0 d ≡ true
-  homed d below up h =
-      elim (left d h) [
-        | inl mine ↦ subst (λ (x : Det). finds (e ∷ past) x.dest.0 x ≡ true) (sym mine) (or_left _ _ logs_own)
-        | inr old ↦ finds_more past (e ∷ past) d.dest.0 d (λ held. or_right _ _ held) (λ stable. stable) (k.receivers_find d below up old)
-      ]
+  one_slot d alive dest place = grind arith
 
   -- all that the protocol keeps stands after a delivery
   pub keeps_delivery : Keeping n f (Deliver to send rsn listed ∷ past) next
   keeps_delivery = record {
     few_down = k.few_down;
     logged = λ p d small. s.has_as p d ∙ ap (λ b. (to.0 == p && has listed d) || b) (k.logged p d small);
-    own = λ p d small h. elim (or_cases (to.0 == p && has listed d) (logs past p d) h) [
-      | inl new ↦ let parts = and_parts (to.0 == p) (has listed d) new in subst (λ x. knows next x d x ≡ true) (eqb-true to.0 p parts.0) (s.own d parts.1)
-      | inr old ↦ s.before p d p (k.own p d small old)
-    ];
+    own = λ p d small h. grind (arith, or_cases (to.0 == p && has listed d) (logs past p d) h, and_parts, eqb-true);
     known_processes = λ p d q small h. (true_told p d q small h).0;
     holders_hold = λ p d q small h. (true_told p d q small h).1;
     named_hold = λ p x d q small keeps names.
@@ -216,13 +145,11 @@ module _ (n f : ℕ) (past : List Entry) (ms next : Memories) (to : Pid) (send r
     ];
     messages_carry = λ i p x d small at keeps r.
         let before = reaches_old e past i forward x.send (k.earlier p x small (s.kept p x keeps)) r in
-        elim (k.messages_carry i p x d small (det_older e past i d (reaches_begins past i x.send before) at) (s.kept p x keeps) before) [
-          | inl carried ↦ inl carried
-          | inr spread ↦ inr (spread_stays n f past (e ∷ past) d (stays d) spread)
-        ];
-    receivers_find = λ d below up h. homed d below up h;
+        let older = det_older e past i d (reaches_begins past i x.send before) at in
+        grind (arith, k.messages_carry i p x d small older (s.kept p x keeps) before, spreads d);
+    receivers_find = λ d below up h. grind (arith, left d h, logs_own, finds_more);
     senders_find = λ p x d small keeps carries. finds_more past (e ∷ past) p d (λ held. or_right _ _ held) (λ stable. stable) (k.senders_find p x d small (s.kept p x keeps) carries);
     earlier = λ p x small keeps. omega (arith, k.earlier p x small (s.kept p x keeps));
-    single_slots = single;
-    survivors_delivered = delivered;
+    single_slots = λ x y hx hy dest place. grind (arith, left x hx, left y hy, one_slot);
+    survivors_delivered = λ d h. grind (arith, left d h, own_det, same_itself);
   }

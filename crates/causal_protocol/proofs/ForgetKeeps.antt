@@ -1,7 +1,7 @@
 -- What the protocol keeps, over a forgetting.
 use Rattle.std.proofs.Common.{ℕ, ◌≡◌, inl, inr, true, false, List, ◌∷◌, ◌<◌, refl, sym, ap, ◌∙◌, arith}
 use Rattle.std.specs.Prelude.{◌⊎◌, not, ◌&&◌, ◌==◌}
-use Rattle.std.proofs.lemmas.Bool.{both_ways, or_cases, or_left, or_right, and_from, and_parts, cases_Bool, not_from_false, false_from_ne_true}
+use Rattle.std.proofs.lemmas.Bool.{both_ways, or_cases, and_from, and_parts, cases_Bool, not_from_false, false_from_ne_true}
 use Rattle.causal_name.specs.declared.Det.{Det}
 use Rattle.causal_name.specs.declared.Pid.{Pid}
 use Rattle.causal_protocol.proofs.Sets.{survives_found, survives_log, survives_stable, finds_more, Stays, spread_stays, true_stays}
@@ -10,7 +10,7 @@ use Rattle.causal_protocol.specs.Memory.{Kept, Memories}
 use Rattle.causal_protocol.specs.Sight.{has_logged, knows, marks, Keeps}
 use Rattle.causal_protocol.specs.Kept.{survives, finds, IsSpread, Keeping}
 use Rattle.causal_trace.proofs.Lemmas.DependenceSteps.{reaches_old, depends_old}
-use Rattle.causal_trace.specs.Past.{has, is_down, logs, is_stable}
+use Rattle.causal_trace.specs.Past.{has, logs, is_stable}
 use Rattle.causal_trace.specs.declared.entry.Entry.{Entry}
 use Rattle.causal_trace.specs.declared.entry.Entry.TheVariants.{Forget}
 use Rattle.causal_trace.specs.Dependence.{AreForward}
@@ -40,34 +40,16 @@ module _ (n f : ℕ) (past : List Entry) (ms next : Memories) (who : Pid) (liste
   kept p d unstable held = and_from _ _ (not_from_false (who.0 == p && has listed d) (false_from_ne_true (who.0 == p && has listed d) (λ gone. both_ways (is_stable past d) unstable (forgotten p d gone)))) held
 
   stays : (d : Det) → Stays n past (Forget who listed ∷ past) d
-  stays d = record {
-    stable = λ h. h;
-    within = λ unstable p below h. elim (or_cases (is_down past p) (logs past p d) h) [
-      | inl down ↦ or_left _ _ down
-      | inr held ↦ or_right _ _ (kept p d unstable held)
-    ];
-  }
+  stays d = grind (arith, or_cases, kept)
 
   pub left : (d : Det) → survives n (Forget who listed ∷ past) d ≡ true → survives n past d ≡ true
-  left d h =
-      elim (survives_found n (Forget who listed ∷ past) d h) [
-        | inl stable ↦ survives_stable n past d stable
-        | inr held ↦ survives_log n past held.0 d held.1 (and_parts (not (who.0 == held.0 && has listed d)) (logs past held.0 d) held.2).1
-      ]
+  left d h = grind (arith, survives_found n (Forget who listed ∷ past) d h, survives_stable, survives_log, and_parts)
 
   found : (p : ℕ) (d : Det) → finds past p d ≡ true → finds (Forget who listed ∷ past) p d ≡ true
-  found p d h =
-      elim (cases_Bool (is_stable past d)) [
-        | inl stable ↦ or_right _ _ stable
-        | inr unstable ↦ finds_more past (Forget who listed ∷ past) p d (kept p d unstable) (λ stable. stable) h
-      ]
+  found p d h = grind (arith, cases_Bool (is_stable past d), finds_more, kept)
 
   held_or_spread : (p : ℕ) (d : Det) → (logs past p d ≡ true) ⊎ IsSpread n f past d → (logs (Forget who listed ∷ past) p d ≡ true) ⊎ IsSpread n f (Forget who listed ∷ past) d
-  held_or_spread p d (inl held) =
-      elim (cases_Bool (is_stable past d)) [
-        | inl stable ↦ inr (inl stable)
-        | inr unstable ↦ inl (kept p d unstable held)
-      ]
+  held_or_spread p d (inl held) = grind (arith, cases_Bool (is_stable past d), kept)
   held_or_spread p d (inr spread) = inr (spread_stays n f past (Forget who listed ∷ past) d (stays d) spread)
 
   known : (p : ℕ) (d : Det) (q : ℕ) → knows next p d q ≡ true → knows ms p d q ≡ true
@@ -85,16 +67,11 @@ module _ (n f : ℕ) (past : List Entry) (ms next : Memories) (who : Pid) (liste
         true_stays n past (Forget who listed ∷ past) d q (k.named_processes p x d q small (s.kept p x keeps) names) (stays d) (k.named_hold p x d q small (s.kept p x keeps) names);
     named_processes = λ p x d q small keeps names. k.named_processes p x d q small (s.kept p x keeps) names;
     marks_true = λ p d small h. k.marks_true p d small (s.marked p d h);
-    dependents_hold = λ i p d small at dep.
-        elim (depends_old (Forget who listed) past i p forward dep.up refl dep) [
-          | inl old ↦ held_or_spread p d (k.dependents_hold i p d small (det_earlier (Forget who listed) past i d refl at) old)
-          | inr new ↦ absurd (no_actor p new.0)
-        ];
+    dependents_hold = λ i p d small at dep. grind (arith, depends_old (Forget who listed) past i p forward dep.up refl dep, held_or_spread, no_actor);
     messages_carry = λ i p x d small at keeps r.
-        elim (k.messages_carry i p x d small (det_earlier (Forget who listed) past i d refl at) (s.kept p x keeps) (reaches_old (Forget who listed) past i forward x.send (k.earlier p x small (s.kept p x keeps)) r)) [
-          | inl carried ↦ inl carried
-          | inr spread ↦ inr (spread_stays n f past (Forget who listed ∷ past) d (stays d) spread)
-        ];
+        let before = reaches_old (Forget who listed) past i forward x.send (k.earlier p x small (s.kept p x keeps)) r in
+        let spreads = spread_stays n f past (Forget who listed ∷ past) d (stays d) in
+        grind (arith, k.messages_carry i p x d small (det_earlier (Forget who listed) past i d refl at) (s.kept p x keeps) before, spreads);
     receivers_find = λ d below up h. found d.dest.0 d (k.receivers_find d below up (left d h));
     senders_find = λ p x d small keeps carries. found p d (k.senders_find p x d small (s.kept p x keeps) carries);
     earlier = λ p x small keeps. omega (arith, k.earlier p x small (s.kept p x keeps));

@@ -3,10 +3,10 @@ use Rattle.std.proofs.Common.{ℕ, zero, suc, ◌≡◌, ◌<◌, inl, inr, Bool
 use Rattle.std.specs.Prelude.{◌==◌, ◌⊎◌}
 use Rattle.std.specs.List.{list_any}
 use Rattle.std.specs.Cmp.{nat_cmp_total}
-use Rattle.std.specs.Ordering.{nat_cmp, eq_by_cmp}
+use Rattle.std.specs.Ordering.{nat_cmp}
 use Rattle.std.specs.FinMap as fin
 use Rattle.std.specs.FinSet as set
-use Rattle.std.proofs.lemmas.Bool.{false≢true, both_ways, or_cases, or_left, or_right, and_from, and_parts, eqb-true, eq-eqb}
+use Rattle.std.proofs.lemmas.Bool.{false≢true, both_ways, or_cases, or_left, or_right, and_parts, eqb-true, eq-eqb}
 use Rattle.causal_name.specs.declared.Pid.{Pid}
 use Rattle.causal_name.specs.declared.Det.{Det}
 use Rattle.causal_name.specs.Names.{det_cmp, same_det}
@@ -39,35 +39,19 @@ none_entry d = ap is_some (fin.get-empty det_cmp d)
 
 -- who is told to hold a determinant has it told in an entry
 pub entry_of_holder : (log : LogMap) (d : Det) (q : ℕ) → tells_holder d q log ≡ true → has_entry d log ≡ true
-entry_of_holder log d q h = by (fin.get log d) h
-  where
-    by : (o : Option Known) → set.contains (unwrap_or o nothing_known).holders q ≡ true → is_some o ≡ true
-    by None h = absurd (both_ways _ (set.contains-empty nat_cmp q) h)
-    by (Some k) h = refl
+entry_of_holder log d q h = grind (arith, both_ways, set.contains-empty)
 
 -- and so has what is told to be stable
 pub entry_of_mark : (log : LogMap) (d : Det) → tells_stable d log ≡ true → has_entry d log ≡ true
-entry_of_mark log d h = by (fin.get log d) h
-  where
-    by : (o : Option Known) → (unwrap_or o nothing_known).stable ≡ true → is_some o ≡ true
-    by None h = absurd (false≢true h)
-    by (Some k) h = refl
+entry_of_mark log d h = grind (arith, false≢true)
 
 -- an item that names a holder is an item
 pub item_of_holder : (d : Det) (q : ℕ) (items : List Item) → item_holder d q items ≡ true → has_item d items ≡ true
 item_of_holder d q [] h = absurd (false≢true h)
-item_of_holder d q (item ∷ items) h =
-    elim (or_cases (same_det d item.det && set.contains item.holders q) (item_holder d q items) h) [
-      | inl one ↦ or_left _ _ (and_parts (same_det d item.det) (set.contains item.holders q) one).0
-      | inr more ↦ or_right _ _ (item_of_holder d q items more)
-    ]
+item_of_holder d q (item ∷ items) h = grind (arith, item_of_holder d q items)
 
 pub alone_holds : (p q : ℕ) → set.contains (set.insert (set.empty {R = nat_cmp}) p) q ≡ true → q ≡ p
-alone_holds p q h =
-    elim (or_cases (eq_by_cmp nat_cmp q p) (set.contains (set.empty {R = nat_cmp}) q) (sym (set.contains-insert nat_cmp_total set.empty p q) ∙ h)) [
-      | inl is ↦ eqb-true q p (nat_ties q p ∙ is)
-      | inr none ↦ absurd (both_ways _ (set.contains-empty nat_cmp q) none)
-    ]
+alone_holds p q h = grind (arith, set.contains-insert nat_cmp_total set.empty p q, nat_ties q p, set.contains-empty nat_cmp q)
 
 pub itself_holds : (p : ℕ) → set.contains (set.insert (set.empty {R = nat_cmp}) p) p ≡ true
 itself_holds p = set.contains-insert nat_cmp_total set.empty p p ∙ or_left _ _ (sym (nat_ties p p) ∙ eq-eqb p p refl)
@@ -89,11 +73,7 @@ module _ (batch : List Item) (own : Det) (log : LogMap) (d : Det) where
   absorbs = absorbed batch own.source own.dest log
 
   or_lone : (a b c : Bool) → ((a || b) || (c || false)) ≡ (a || (c || b))
-  or_lone true b c = refl
-  or_lone false true true = refl
-  or_lone false true false = refl
-  or_lone false false true = refl
-  or_lone false false false = refl
+  or_lone a b c = grind arith
 
   -- after a delivery the log has its own determinant and what the message carries, too
   pub gained_entry : has_entry d (gained batch own log) ≡ (has_entry d log || (same_det d own || has_item d batch))
@@ -113,36 +93,16 @@ module _ (batch : List Item) (own : Det) (log : LogMap) (d : Det) where
 
   item_split : (q : ℕ) (items : List Item) → list_any (tells_item q) items ≡ true → (item_holder d q items ≡ true) ⊎ ((has_item d items ≡ true) × ((q ≡ own.source.0) ⊎ (q ≡ own.dest.0)))
   item_split q [] h = absurd (false≢true h)
-  item_split q (item ∷ items) h =
-      elim (or_cases (tells_item q item) (list_any (tells_item q) items) h) [
-        | inl one ↦
-            let parts = and_parts (same_det d item.det) (set.contains item.holders q || (q == own.source.0 || q == own.dest.0)) one in
-            elim (or_cases (set.contains item.holders q) (q == own.source.0 || q == own.dest.0) parts.1) [
-              | inl named ↦ inl (or_left _ _ (and_from _ _ parts.0 named))
-              | inr ends ↦ inr (or_left _ _ parts.0, elim (or_cases (q == own.source.0) (q == own.dest.0) ends) [ inl is ↦ inl (eqb-true q own.source.0 is) | inr is ↦ inr (eqb-true q own.dest.0 is) ])
-            ]
-        | inr more ↦ elim (item_split q items more) [
-          | inl named ↦ inl (or_right _ _ named)
-          | inr ends ↦ inr (or_right _ _ ends.0, ends.1)
-        ]
-      ]
+  item_split q (item ∷ items) h = grind (arith, or_cases, and_parts, eqb-true, item_split q items)
 
   item_named : (q : ℕ) (items : List Item) → item_holder d q items ≡ true → list_any (tells_item q) items ≡ true
   item_named q [] h = absurd (false≢true h)
-  item_named q (item ∷ items) h =
-      elim (or_cases (same_det d item.det && set.contains item.holders q) (item_holder d q items) h) [
-        | inl one ↦ let parts = and_parts (same_det d item.det) (set.contains item.holders q) one in or_left _ _ (and_from _ _ parts.0 (or_left _ _ parts.1))
-        | inr more ↦ or_right _ _ (item_named q items more)
-      ]
+  item_named q (item ∷ items) h = grind (arith, item_named q items)
 
   -- an item that comes tells that both ends of its message hold it
   item_at : (q : ℕ) → (q == own.source.0 || q == own.dest.0) ≡ true → (items : List Item) → has_item d items ≡ true → list_any (tells_item q) items ≡ true
   item_at q end [] h = absurd (false≢true h)
-  item_at q end (item ∷ items) h =
-      elim (or_cases (same_det d item.det) (has_item d items) h) [
-        | inl one ↦ or_left _ _ (and_from _ _ one (or_right _ _ end))
-        | inr more ↦ or_right _ _ (item_at q end items more)
-      ]
+  item_at q end (item ∷ items) h = grind (arith, item_at q end items)
 
   item_sent : (items : List Item) → has_item d items ≡ true → list_any (tells_item own.source.0) items ≡ true
   item_sent = item_at own.source.0 (or_left _ _ (eq-eqb own.source.0 own.source.0 refl))
@@ -153,17 +113,7 @@ module _ (batch : List Item) (own : Det) (log : LogMap) (d : Det) where
   -- who is told to hold it was before, or the message says so, or is its sender or receiver; or it is the receiver's own
   pub gained_holder : (q : ℕ) → tells_holder d q (gained batch own log) ≡ true
       → (tells_holder d q log ≡ true) ⊎ ((item_holder d q batch ≡ true) ⊎ (((has_item d batch ≡ true) × ((q ≡ own.source.0) ⊎ (q ≡ own.dest.0))) ⊎ ((d ≡ own) × (q ≡ own.dest.0))))
-  gained_holder q h =
-      elim (or_cases (tells_holder d q log || list_any (tells_item q) batch) ((same_det d own && set.contains (held_by own.dest).holders q) || false) (sym (gained_known q) ∙ h)) [
-        | inl before ↦ elim (or_cases (tells_holder d q log) (list_any (tells_item q) batch) before) [
-          | inl old ↦ inl old
-          | inr item ↦ elim (item_split q batch item) [ inl named ↦ inr (inl named) | inr ends ↦ inr (inr (inl ends)) ]
-        ]
-        | inr mine ↦ elim (or_cases (same_det d own && set.contains (held_by own.dest).holders q) false mine) [
-          | inl one ↦ let parts = and_parts (same_det d own) (set.contains (held_by own.dest).holders q) one in inr (inr (inr (same_is d own parts.0, alone_holds own.dest.0 q parts.1)))
-          | inr none ↦ absurd (false≢true none)
-        ]
-      ]
+  gained_holder q h = grind (arith, or_cases, gained_known q, item_split, and_parts, same_is, alone_holds, false≢true)
 
   -- the receiver is told that it holds what it had, if it knew so, and what it gained
   pub gained_old : (q : ℕ) → tells_holder d q log ≡ true → tells_holder d q (gained batch own log) ≡ true
@@ -171,23 +121,11 @@ module _ (batch : List Item) (own : Det) (log : LogMap) (d : Det) where
 
   -- the receiver is known to hold what a delivery brings
   pub gained_new : (same_det d own || has_item d batch) ≡ true → tells_holder d own.dest.0 (gained batch own log) ≡ true
-  gained_new h =
-      gained_known own.dest.0
-      ∙ elim (or_cases (same_det d own) (has_item d batch) h) [
-        | inl mine ↦ or_right _ _ (or_left _ _ (and_from _ _ mine (itself_holds own.dest.0)))
-        | inr item ↦ or_left _ _ (or_right _ _ (item_received batch item))
-      ]
+  gained_new h = grind (arith, gained_known own.dest.0, or_cases (same_det d own) (has_item d batch) h, itself_holds own.dest.0, item_received)
 
   -- whom the message tells to hold it is told so
   pub gained_told : (q : ℕ) → TellsHolder batch own d q → tells_holder d q (gained batch own log) ≡ true
-  gained_told q (inl named) = gained_known q ∙ or_left _ _ (or_right _ _ (item_named q batch named))
-  gained_told q (inr (inl ends)) =
-      elim ends.1 [
-        | inl is ↦ ap (λ x. tells_holder d x (gained batch own log)) is ∙ gained_known own.source.0 ∙ or_left _ _ (or_right _ _ (item_sent batch ends.0))
-        | inr is ↦ ap (λ x. tells_holder d x (gained batch own log)) is ∙ gained_new (or_right _ _ ends.0)
-      ]
-  gained_told q (inr (inr mine)) =
-      ap (λ x. tells_holder d x (gained batch own log)) mine.1 ∙ gained_new (or_left _ _ (ap (same_det d) (sym mine.0) ∙ same_itself d))
+  gained_told q h = grind (arith, gained_known, item_named, item_sent, gained_new, same_itself)
 
   -- what is told to be stable is so still
   pub gained_still : tells_stable d log ≡ true → tells_stable d (gained batch own log) ≡ true
@@ -198,16 +136,8 @@ module _ (batch : List Item) (own : Det) (log : LogMap) (d : Det) where
   -- by a delivery nothing new is known to be stable
   pub gained_stable : tells_stable d (gained batch own log) ≡ true → tells_stable d log ≡ true
   gained_stable h =
-      elim (or_cases (tells_stable d absorbs) ((same_det d own && false) || false) (sym (one_stable absorbs own (held_by own.dest) d) ∙ h)) [
-        | inl before ↦ elim (or_cases (tells_stable d log) (list_any (λ e. same_det d e.0 && e.1.stable) (map (told own.source own.dest) batch)) (sym (known_all (λ k. k.stable) stable_either (map (told own.source own.dest) batch) log d) ∙ before)) [
-          | inl old ↦ old
-          | inr none ↦ absurd (both_ways _ (told_stable own.source own.dest d batch) none)
-        ]
-        | inr mine ↦ elim (or_cases (same_det d own && false) false mine) [
-          | inl one ↦ absurd (false≢true (and_parts (same_det d own) false one).1)
-          | inr none ↦ absurd (false≢true none)
-        ]
-      ]
+      let before = known_all (λ k. k.stable) stable_either (map (told own.source own.dest) batch) log d in
+      grind (arith, before, one_stable absorbs own (held_by own.dest) d, told_stable own.source own.dest d batch)
 
 -- a property of a log that two logs have together where either has it, and that the empty one has not
 module _ (tells : LogMap → Bool) (either : (log other : LogMap) → tells (united log other) ≡ (tells log || tells other)) (lacks : tells fin.empty ≡ false) where
@@ -247,8 +177,7 @@ pub entry_either : (d : Det) (log other : LogMap) → has_entry d (united log ot
 entry_either d log other = logged_all (fin.entries other) log d ∙ ap (λ b. has_entry d log || b) (any_dets d other)
 
 known_passes : (P : Known → Bool) → P nothing_known ≡ false → (o : Option Known) → passes P o ≡ P (unwrap_or o nothing_known)
-known_passes P lacks None = sym lacks
-known_passes P lacks (Some known) = refl
+known_passes P lacks o = grind arith
 
 pub holder_either : (d : Det) (q : ℕ) (log other : LogMap) → tells_holder d q (united log other) ≡ (tells_holder d q log || tells_holder d q other)
 holder_either d q log other =
@@ -273,19 +202,11 @@ stable_is (d ∷ ds) p log = stable_is ds p (learned log d (stable_and_held_by p
 
 any_of : (d : Det) (g : Det → Bool) (ds : List Det) → list_any (λ x. same_det d x && g x) ds ≡ true → (has ds d ≡ true) × (g d ≡ true)
 any_of d g [] h = absurd (false≢true h)
-any_of d g (x ∷ ds) h =
-    elim (or_cases (same_det d x && g x) (list_any (λ x. same_det d x && g x) ds) h) [
-      | inl one ↦ let parts = and_parts (same_det d x) (g x) one in (or_left _ _ parts.0, ap g (same_is d x parts.0) ∙ parts.1)
-      | inr more ↦ let rest = any_of d g ds more in (or_right _ _ rest.0, rest.1)
-    ]
+any_of d g (x ∷ ds) h = grind (arith, or_cases, and_parts, same_is, any_of d g ds)
 
 any_for : (d : Det) (g : Det → Bool) (ds : List Det) → has ds d ≡ true → g d ≡ true → list_any (λ x. same_det d x && g x) ds ≡ true
 any_for d g [] h k = absurd (false≢true h)
-any_for d g (x ∷ ds) h k =
-    elim (or_cases (same_det d x) (has ds d) h) [
-      | inl is ↦ or_left _ _ (and_from _ _ is (ap g (sym (same_is d x is)) ∙ k))
-      | inr more ↦ or_right _ _ (any_for d g ds more k)
-    ]
+any_for d g (x ∷ ds) h k = grind (arith, or_cases (same_det d x) (has ds d) h, same_is, any_for d g ds)
 
 -- the keys of a log, and the members of a store
 pub keys_have : (m : LogMap) (d : Det) → has (fin.keys m) d ≡ has_entry d m
@@ -293,11 +214,7 @@ keys_have m d = any_map (λ e. e.0) (same_det d) (λ e. same_det d e.0) (λ x. r
 
 -- a set and the list of its members have the same determinants
 pub stored_have : (s : DetSet) (d : Det) → has (dets_in s) d ≡ store.has s d
-stored_have s d = ties d (dets_in s) ∙ sym (fin.contains_key-keys s d)
-  where
-    ties : (q : Det) (ds : List Det) → list_any (same_det q) ds ≡ list_any (eq_by_cmp det_cmp q) ds
-    ties q [] = refl
-    ties q (d ∷ ds) = λ i. det_ties q d i || ties q ds i
+stored_have s d = grind (arith, fin.contains_key-keys s d, det_ties)
 
 -- these are learned of p, each the same
 module _ (p : Pid) (k : Known) (d : Det) where
@@ -339,14 +256,7 @@ module _ (ms : Memories) (stored : DetSet) (p : Pid) (d : Det) where
 
   -- what is gathered is stored, or a process that is up logs it
   pub gathered_found : has_entry d gathered ≡ true → (store.has stored d ≡ true) ⊎ ((r : ℕ) × (r < length ms) × (has_logged ms r d ≡ true))
-  gathered_found h =
-      elim (or_cases (has_entry d held) (has (dets_in stored) d) (sym all_entry ∙ h)) [
-        | inl log ↦ elim (or_cases (has_entry d together) (has (fin.keys together) d) (sym held_entry ∙ log)) [
-          | inl one ↦ inr (together_entry one)
-          | inr one ↦ inr (together_entry (sym (keys_have together d) ∙ one))
-        ]
-        | inr member ↦ inl (sym (stored_have stored d) ∙ member)
-      ]
+  gathered_found h = grind (arith, or_cases, all_entry, held_entry, together_entry, keys_have, stored_have stored d)
 
   -- what is stored is gathered
   pub gathered_stored : store.has stored d ≡ true → has_entry d gathered ≡ true
@@ -359,13 +269,12 @@ module _ (ms : Memories) (stored : DetSet) (p : Pid) (d : Det) where
   -- of what is gathered a known holder is p itself, or a process that is up knew of it
   pub gathered_holder : (q : ℕ) → tells_holder d q gathered ≡ true → (q ≡ p.0) ⊎ ((r : ℕ) × (r < length ms) × (knows ms r d q ≡ true))
   gathered_holder q h =
-      elim (or_cases (tells_holder d q held) (list_any (λ x. same_det d x && set.contains (stable_and_held_by p).holders q) (dets_in stored)) (sym (all_known (λ k. set.contains k.holders q) (holds_either q)) ∙ h)) [
-        | inl log ↦ elim (or_cases (tells_holder d q together) (list_any (λ x. same_det d x && set.contains (held_by p).holders q) (fin.keys together)) (sym (held_known (λ k. set.contains k.holders q) (holds_either q)) ∙ log)) [
-          | inl one ↦ inr (elim (united_found (tells_holder d q) (holder_either d q) (none_holds d q) ms fin.empty one) [ inl none ↦ absurd (both_ways _ (none_holds d q) none) | inr some ↦ some ])
-          | inr mine ↦ inl (alone_holds p.0 q (any_of d (λ x. set.contains (held_by p).holders q) (fin.keys together) mine).1)
-        ]
-        | inr mine ↦ inl (alone_holds p.0 q (any_of d (λ x. set.contains (stable_and_held_by p).holders q) (dets_in stored) mine).1)
-      ]
+      let all = all_known (λ k. set.contains k.holders q) (holds_either q) in
+      let some = held_known (λ k. set.contains k.holders q) (holds_either q) in
+      let united = united_found (tells_holder d q) (holder_either d q) (none_holds d q) ms fin.empty in
+      let mine = any_of d (λ x. set.contains (held_by p).holders q) (fin.keys together) in
+      let kept = any_of d (λ x. set.contains (stable_and_held_by p).holders q) (dets_in stored) in
+      grind (arith, all, some, united, none_holds d q, mine, kept, alone_holds p.0 q)
 
   -- holders of which a process that is up knew are known in what is gathered
   pub gathered_known : (r q : ℕ) → knows ms r d q ≡ true → tells_holder d q gathered ≡ true
@@ -386,22 +295,22 @@ module _ (ms : Memories) (stored : DetSet) (p : Pid) (d : Det) where
   -- p is known to hold all that is gathered
   pub gathered_itself : has_entry d gathered ≡ true → tells_holder d p.0 gathered ≡ true
   gathered_itself h =
-      all_known (λ k. set.contains k.holders p.0) (holds_either p.0)
-      ∙ elim (or_cases (has_entry d held) (has (dets_in stored) d) (sym all_entry ∙ h)) [
-        | inl log ↦ or_left _ _ (held_known (λ k. set.contains k.holders p.0) (holds_either p.0) ∙ or_right _ _ (any_for d (λ x. set.contains (held_by p).holders p.0) (fin.keys together) (elim (or_cases (has_entry d together) (has (fin.keys together) d) (sym held_entry ∙ log)) [
-          | inl one ↦ keys_have together d ∙ one
-          | inr one ↦ one
-        ]) (itself_holds p.0)))
-        | inr member ↦ or_right _ _ (any_for d (λ x. set.contains (stable_and_held_by p).holders p.0) (dets_in stored) member (itself_holds p.0))
-      ]
+      let all = all_known (λ k. set.contains k.holders p.0) (holds_either p.0) in
+      let some = held_known (λ k. set.contains k.holders p.0) (holds_either p.0) in
+      let mine = any_for d (λ x. set.contains (held_by p).holders p.0) (fin.keys together) in
+      let kept = any_for d (λ x. set.contains (stable_and_held_by p).holders p.0) (dets_in stored) in
+      grind (arith, all, some, mine, kept, all_entry, held_entry, keys_have together d, itself_holds p.0)
 
   -- what is gathered as stable is stored, or a process that is up knew it so
   pub gathered_mark : tells_stable d gathered ≡ true → (store.has stored d ≡ true) ⊎ ((r : ℕ) × (r < length ms) × (marks ms r d ≡ true))
   gathered_mark h =
-      elim (or_cases (tells_stable d held) (list_any (λ x. same_det d x && true) (dets_in stored)) (sym (all_known (λ k. k.stable) stable_either) ∙ h)) [
-        | inl log ↦ elim (or_cases (tells_stable d together) (list_any (λ x. same_det d x && false) (fin.keys together)) (sym (held_known (λ k. k.stable) stable_either) ∙ log)) [
-          | inl one ↦ inr (elim (united_found (tells_stable d) (mark_either d) (none_stable d) ms fin.empty one) [ inl none ↦ absurd (both_ways _ (none_stable d) none) | inr some ↦ some ])
-          | inr none ↦ absurd (false≢true (any_of d (λ x. false) (fin.keys together) none).1)
-        ]
-        | inr member ↦ inl (sym (stored_have stored d) ∙ (any_of d (λ x. true) (dets_in stored) member).0)
-      ]
+      let all = all_known (λ k. k.stable) stable_either in
+      let some = held_known (λ k. k.stable) stable_either in
+      let united = united_found (tells_stable d) (mark_either d) (none_stable d) ms fin.empty in
+      let marked = any_of d (λ x. true) (dets_in stored) in
+      grind (arith, all, some, united, none_stable d, marked, any_of d (λ x. false) (fin.keys together), stored_have stored d)
+
+-- what is told of holders, and of what is stable, after a delivery and after a restart
+pub ruleset told_holders_of = (gained_holder, gained_told, gained_old, gathered_holder, gathered_itself, gathered_known, keys_have, entry_of_holder)
+
+pub ruleset told_marks_of = (gained_stable, gained_still, gathered_mark, gathered_marks, stored_marks, entry_of_mark)

@@ -9,10 +9,8 @@ mod CrashKeeps
 mod ForgetKeeps
 mod RestartKeeps
 mod DeliveryKeeps
-mod Safety
 mod SoundSteps
 mod Refusals
 mod StepKeeps
 mod BeginningKeeps
-mod FactByFact
 mod Contributions

@@ -1,7 +1,7 @@
 -- One memory of many is changed.
-use Rattle.std.proofs.Common.{ℕ, zero, suc, ◌≡◌, ◌<◌, inl, inr, Bool, true, false, cond, not, ◌&&◌, ◌||◌, List, [], ◌∷◌, ◌++◌, length, slice_get, slice_set, Option, Some, None, is_none, refl, sym, ap, ◌∙◌, arith}
+use Rattle.std.proofs.Common.{ℕ, zero, suc, ◌≡◌, ◌<◌, inl, inr, Bool, true, false, cond, not, ◌&&◌, ◌||◌, List, [], ◌∷◌, ◌++◌, length, slice_get, slice_set, Option, Some, None, is_none, refl, ap, ◌∙◌, arith}
 use Rattle.std.specs.Prelude.{◌==◌, ◌⊎◌}
-use Rattle.std.specs.Option.{option_map, option_map_or, option_and_then}
+use Rattle.std.specs.Option.{option_map, option_map_or}
 use Rattle.std.proofs.lemmas.Bool.{cond-true, cond-false}
 use Rattle.std.proofs.lemmas.Bool.Decides.{eqb_tells}
 use Rattle.std.specs.FinMap as fin
@@ -22,20 +22,9 @@ set_other (y ∷ ys) zero x (suc p) other = refl
 set_other (y ∷ ys) (suc w) x zero other = refl
 set_other (y ∷ ys) (suc w) x (suc p) other = set_other ys w x p (λ e. other (ap suc e))
 
-get_set : {X : Type 0} (xs : List X) (w : ℕ) (x : X) (p : ℕ) → w < length xs → slice_get (slice_set xs w x) p ≡ cond (w == p) (Some x) (slice_get xs p)
-get_set xs w x p low =
-    elim (eqb_tells w p) [
-      | inl is ↦ ap (slice_get (slice_set xs w x)) (sym is.1) ∙ set_same xs w x low ∙ sym (cond-true (w == p) (Some x) (slice_get xs p) is.0)
-      | inr other ↦ set_other xs w x p other.1 ∙ sym (cond-false (w == p) (Some x) (slice_get xs p) other.0)
-    ]
-
-joined_if : {X : Type 0} (b : Bool) (x : Option X) (y : Option (Option X)) → option_and_then (λ z. z) (cond b (Some x) y) ≡ cond b x (option_and_then (λ z. z) y)
-joined_if true x y = refl
-joined_if false x y = refl
-
 -- after one place is set, that has what it was set to, and each other what it had
 pub at_set : {X : Type 0} (xs : List (Option X)) (w : ℕ) (x : Option X) (p : ℕ) → w < length xs → at (slice_set xs w x) p ≡ cond (w == p) x (at xs p)
-at_set xs w x p low = ap (option_and_then (λ z. z)) (get_set xs w x p low) ∙ joined_if (w == p) x (slice_get xs p)
+at_set xs w x p low = grind (arith, eqb_tells w p, set_same xs w x low, set_other xs w x p)
 
 -- where something is at a place, the list is longer
 pub at_within : {X : Type 0} (xs : List (Option X)) (p : ℕ) (x : X) → at xs p ≡ Some x → p < length xs
@@ -49,18 +38,14 @@ log_in o = option_map_or (λ m. m.log) o fin.empty
 abbrev pub sent_in : Option Memory → List Kept
 sent_in o = option_map_or (λ m. m.sent) o []
 
-map_if : {A B : Type 0} (g : A → B) (b : Bool) (x y : A) → g (cond b x y) ≡ cond b (g x) (g y)
-map_if g true x y = refl
-map_if g false x y = refl
-
 -- where the memory at a place is set, the logs and the messages elsewhere are as before
 pub log_set : (ms : Memories) (w : ℕ) (x : Option Memory) (p : ℕ) → w < length ms → log_at (slice_set ms w x) p ≡ cond (w == p) (log_in x) (log_at ms p)
 unfolding log_at
-log_set ms w x p low = ap log_in (at_set ms w x p low) ∙ map_if log_in (w == p) x (at ms p)
+log_set ms w x p low = grind (arith, at_set ms w x p low)
 
 pub messages_set : (ms : Memories) (w : ℕ) (x : Option Memory) (p : ℕ) → w < length ms → messages (slice_set ms w x) p ≡ cond (w == p) (sent_in x) (messages ms p)
 unfolding messages
-messages_set ms w x p low = ap sent_in (at_set ms w x p low) ∙ map_if sent_in (w == p) x (at ms p)
+messages_set ms w x p low = grind (arith, at_set ms w x p low)
 
 -- where one memory is changed, its process has the new log, and each other its own
 pub log_changed : (g : Memory → Memory) (ms : Memories) (w : ℕ) (m : Memory) → at ms w ≡ Some m → (p : ℕ) → log_at (changed g ms w) p ≡ cond (w == p) ((g m).log) (log_at ms p)
@@ -85,25 +70,11 @@ messages_here ms p m here = ap (λ o. option_map_or (λ m. m.sent) o []) here
 
 -- what the log at a place tells after it grew, and after it shrank
 pub grown : (ms : Memories) (w p : ℕ) (tells : LogMap → Bool) (new : LogMap) (more : Bool) → tells new ≡ (tells (log_at ms w) || more) → tells (cond (w == p) new (log_at ms p)) ≡ ((w == p && more) || tells (log_at ms p))
-grown ms w p tells new more is =
-    elim (eqb_tells w p) [
-      | inl here ↦ ap tells (cond-true (w == p) new (log_at ms p) here.0) ∙ is ∙ swapped (tells (log_at ms w)) more ∙ (λ i. (sym here.0 i && more) || tells (log_at ms (here.1 i)))
-      | inr other ↦ ap tells (cond-false (w == p) new (log_at ms p) other.0) ∙ (λ i. (sym other.0 i && more) || tells (log_at ms p))
-    ]
-  where
-    swapped : (a b : Bool) → (a || b) ≡ (b || a)
-    swapped true true = refl
-    swapped true false = refl
-    swapped false true = refl
-    swapped false false = refl
+grown ms w p tells new more is = grind (arith, eqb_tells w p, cond-true, cond-false)
 
 -- where w's log is replaced by one that tells less, all others tell what they did
 pub shrunk : (ms : Memories) (w p : ℕ) (tells : LogMap → Bool) (new : LogMap) (less : Bool) → tells new ≡ (not less && tells (log_at ms w)) → tells (cond (w == p) new (log_at ms p)) ≡ (not (w == p && less) && tells (log_at ms p))
-shrunk ms w p tells new less is =
-    elim (eqb_tells w p) [
-      | inl here ↦ ap tells (cond-true (w == p) new (log_at ms p) here.0) ∙ is ∙ (λ i. not (sym here.0 i && less) && tells (log_at ms (here.1 i)))
-      | inr other ↦ ap tells (cond-false (w == p) new (log_at ms p) other.0) ∙ (λ i. not (sym other.0 i && less) && tells (log_at ms p))
-    ]
+shrunk ms w p tells new less is = grind (arith, eqb_tells w p, cond-true, cond-false)
 
 -- one more message
 pub kept_more : (xs : List Kept) (x k : Kept) (i : ℕ) → slice_get (xs ++ x ∷ []) i ≡ Some k → (slice_get xs i ≡ Some k) ⊎ ((i ≡ length xs) × (k ≡ x))
@@ -122,31 +93,18 @@ length_set (y ∷ ys) (suc w) x = ap suc (length_set ys w x)
 pub set_cases : (ms : Memories) (w : ℕ) (x : Option Memory) (p : ℕ) → w < length ms
     → (((w == p) ≡ true) × (w ≡ p) × (log_at (slice_set ms w x) p ≡ log_in x) × (messages (slice_set ms w x) p ≡ sent_in x))
     ⊎ (((w == p) ≡ false) × (log_at (slice_set ms w x) p ≡ log_at ms p) × (messages (slice_set ms w x) p ≡ messages ms p))
-set_cases ms w x p low =
-    elim (eqb_tells w p) [
-      | inl here ↦ inl (here.0, here.1, log_set ms w x p low ∙ cond-true (w == p) _ _ here.0, messages_set ms w x p low ∙ cond-true (w == p) _ _ here.0)
-      | inr other ↦ inr (other.0, log_set ms w x p low ∙ cond-false (w == p) _ _ other.0, messages_set ms w x p low ∙ cond-false (w == p) _ _ other.0)
-    ]
+set_cases ms w x p low = grind (arith, eqb_tells w p, log_set ms w x p low, cond-true, messages_set ms w x p low, cond-false)
 
 -- where one memory is changed, its process has the new log and messages, and each other its own
 pub changed_cases : (g : Memory → Memory) (ms : Memories) (w : ℕ) (m : Memory) → at ms w ≡ Some m → (p : ℕ)
     → (((w == p) ≡ true) × (w ≡ p) × (log_at (changed g ms w) p ≡ (g m).log) × (messages (changed g ms w) p ≡ (g m).sent) × (log_at ms p ≡ m.log) × (messages ms p ≡ m.sent))
     ⊎ (((w == p) ≡ false) × (log_at (changed g ms w) p ≡ log_at ms p) × (messages (changed g ms w) p ≡ messages ms p))
-changed_cases g ms w m here p =
-    elim (eqb_tells w p) [
-      | inl is ↦ inl (is.0, is.1, log_changed g ms w m here p ∙ cond-true (w == p) _ _ is.0, messages_changed g ms w m here p ∙ cond-true (w == p) _ _ is.0, log_here ms p m (ap (at ms) (sym is.1) ∙ here), messages_here ms p m (ap (at ms) (sym is.1) ∙ here))
-      | inr other ↦ inr (other.0, log_changed g ms w m here p ∙ cond-false (w == p) _ _ other.0, messages_changed g ms w m here p ∙ cond-false (w == p) _ _ other.0)
-    ]
+changed_cases g ms w m here p = grind (arith, log_changed g ms w m here p, messages_changed g ms w m here p, log_here, messages_here)
 
 -- who is up after a change
 pub changed_state : (g : Memory → Memory) (ms : Memories) (w : ℕ) (m : Memory) → at ms w ≡ Some m → (p : ℕ) → is_none (at (changed g ms w) p) ≡ is_none (at ms p)
-changed_state g ms w m here p =
-    ap is_none (at_set ms w (option_map g (at ms w)) p (at_within ms w m here))
-    ∙ elim (eqb_tells w p) [
-      | inl is ↦ ap is_none (cond-true (w == p) (option_map g (at ms w)) (at ms p) is.0) ∙ ap (λ o. is_none (option_map g o)) here ∙ sym (ap is_none (ap (at ms) (sym is.1) ∙ here))
-      | inr other ↦ ap is_none (cond-false (w == p) (option_map g (at ms w)) (at ms p) other.0)
-    ]
+changed_state g ms w m here p = grind (arith, at_set, at_within, eqb_tells)
 
 -- where one memory is set, its process is up or down by that, and each other as before
 pub set_state : (ms : Memories) (w : ℕ) (x : Option Memory) (p : ℕ) → w < length ms → is_none (at (slice_set ms w x) p) ≡ cond (w == p) (is_none x) (is_none (at ms p))
-set_state ms w x p low = ap is_none (at_set ms w x p low) ∙ map_if is_none (w == p) x (at ms p)
+set_state ms w x p low = grind (arith, at_set ms w x p low)

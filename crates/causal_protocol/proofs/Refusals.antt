@@ -1,14 +1,13 @@
 -- What it says that nothing stands against a request.
-use Rattle.std.proofs.Common.{ℕ, zero, suc, ◌≡◌, ◌+◌, ◌<◌, inl, inr, Bool, true, false, cond, not, List, [], ◌∷◌, length, slice_get, count_by, Option, Some, None, is_some, is_none, refl, sym, ap, ◌∙◌, arith}
-use Rattle.std.specs.Prelude.{◌==◌, ◌⊎◌, if◌then◌else◌}
-use Rattle.std.specs.Option.{option_map, option_map_or, option_and_then}
+use Rattle.std.proofs.Common.{ℕ, zero, suc, ◌≡◌, ◌+◌, ◌<◌, Bool, true, false, cond, not, List, [], ◌∷◌, length, slice_get, count_by, Option, Some, None, is_some, is_none, refl, sym, ap, ◌∙◌, arith}
+use Rattle.std.specs.Prelude.{◌==◌, ◌⊎◌}
 use Rattle.std.specs.FinMap as fin
-use Rattle.std.proofs.lemmas.Bool.{false≢true, or_cases, or_left, or_right, and_from, and_parts, eqb-true, eq-eqb}
+use Rattle.std.proofs.lemmas.Bool.{and_parts, eqb-true}
 use Rattle.std.proofs.lemmas.List.Sums.{sum_by-cons}
 use Rattle.causal_name.specs.declared.Pid.{Pid}
 use Rattle.causal_name.specs.declared.MsgName.{MsgName}
 use Rattle.causal_name.specs.declared.Det.{Det}
-use Rattle.causal_name.specs.Names.{same_pid, same_message, message_of, is_before}
+use Rattle.causal_name.specs.Names.{same_pid, same_message, message_of}
 use Rattle.causal_name.specs.Sets.{count_below}
 use Rattle.causal_trace.specs.declared.entry.Entry.{Entry}
 use Rattle.causal_trace.specs.Past.{has, is_down, logs, is_stable}
@@ -16,10 +15,9 @@ use Rattle.causal_holders.proofs.Lemmas.MemberCounts.{count_below-same}
 use Rattle.causal_log.specs.Slots.{is_of_slot, first_of_slot}
 use Rattle.causal_log.specs.Stores.{dets_in}
 use Rattle.causal_protocol.specs.declared.request.CoreFault.{CoreFault}
-use Rattle.causal_protocol.specs.declared.request.CoreFault.TheVariants as Why
 use Rattle.causal_protocol.specs.Memory.{Kept, Memory, Memories, at, kept_by}
 use Rattle.causal_protocol.specs.Gathering.{stable_set}
-use Rattle.causal_protocol.specs.Naming.{lesser, next_det, named_for, if_to, kept_for}
+use Rattle.causal_protocol.specs.Naming.{lesser, next_det, named_for, kept_for}
 use Rattle.causal_protocol.specs.Refusals.{when, unless, first_of}
 use Rattle.causal_protocol.specs.Sight.{messages}
 use Rattle.causal_protocol.specs.Kept.{finds}
@@ -31,90 +29,44 @@ use Rattle.causal_protocol.proofs.Sets.{finds_survive}
 
 -- where no row tells anything, neither does the first nor one of the rest
 pub first_none : (x : Option CoreFault) (rest : List (Option CoreFault)) → first_of (x ∷ rest) ≡ None → (x ≡ None) × (first_of rest ≡ None)
-first_none None rest h = (refl, h)
-first_none (Some fault) rest h = absurd (let e : Some fault ≡ None = h in cc)
+first_none x rest h = grind arith
 
 -- a row that tells nothing does not hold
 pub when_none : (b : Bool) (fault : CoreFault) → when b fault ≡ None → b ≡ false
-when_none true fault h = absurd (let e : Some fault ≡ None = h in cc)
-when_none false fault h = refl
+when_none b fault h = grind arith
 
 -- what does not fail holds
 pub not_not : (b : Bool) → not b ≡ false → b ≡ true
-not_not true h = refl
-not_not false h = absurd (false≢true (sym h))
+not_not b h = grind arith
 
 -- what is not missing is there
 pub is_there : {X : Type 0} (o : Option X) → is_none o ≡ false → (x : X) × (o ≡ Some x)
-is_there None h = absurd (false≢true (sym h))
-is_there (Some x) h = (x, refl)
-
--- what is not there is missing
-pub is_missing : {X : Type 0} (o : Option X) → is_some o ≡ false → o ≡ None
-is_missing None h = refl
-is_missing (Some x) h = absurd (false≢true (sym h))
+is_there o h = grind arith
 
 same_message-is : (a b : MsgName) → same_message a b ≡ true → a ≡ b
-same_message-is a b h =
-    let parts = and_parts (same_pid a.source b.source) (a.ssn == b.ssn) h in
-    λ i. record { source = record { 0 = eqb-true a.source.0 b.source.0 parts.0 i }; ssn = eqb-true a.ssn b.ssn parts.1 i }
+same_message-is a b h = grind (arith, and_parts (same_pid a.source b.source) (a.ssn == b.ssn) h, eqb-true)
 
 pub unless_none : (asked m : MsgName) → unless asked (Some m) ≡ None → m ≡ asked
-unless_none asked m h = by (same_message m asked) refl h
-  where
-    by : (b : Bool) → same_message m asked ≡ b → (if b then None else Some (Why.MustReplay m)) ≡ None → m ≡ asked
-    by true is h = same_message-is m asked is
-    by false is h = absurd (let e : Some (Why.MustReplay m) ≡ None = h in cc)
+unless_none asked m h = grind (arith, same_message-is)
 
 -- the message that is kept for a process
 pub kept_for-is : (ms : Memories) (q : Pid) (asked : MsgName) (k : Kept) → kept_for ms q asked ≡ Some k → kept_by ms asked ≡ Some k
-kept_for-is ms q asked k h = by (kept_by ms asked) h
-  where
-    by : (o : Option Kept) → if_to q o ≡ Some k → o ≡ Some k
-    by None h = absurd (let e : None ≡ Some k = h in cc)
-    by (Some x) h = to (same_pid x.to q) h
-      where
-        to : (b : Bool) → (if b then Some x else None) ≡ Some k → Some x ≡ Some k
-        to true h = h
-        to false h = absurd (let e : None ≡ Some k = h in cc)
+kept_for-is ms q asked k h = grind arith
 
 -- a message that its sender keeps stands there under its number
 pub kept_message : (ms : Memories) (asked : MsgName) (k : Kept) → kept_by ms asked ≡ Some k → slice_get (messages ms asked.source.0) asked.ssn ≡ Some k
 unfolding messages
-kept_message ms asked k h = by (at ms asked.source.0) h
-  where
-    by : (o : Option Memory) → option_and_then (λ m. slice_get m.sent asked.ssn) o ≡ Some k → slice_get (option_map_or (λ m. m.sent) o []) asked.ssn ≡ Some k
-    by None h = absurd (let e : None ≡ Some k = h in cc)
-    by (Some m) h = h
+kept_message ms asked k h = grind arith
 
 -- the determinant that is found for a process's next delivery
 lesser_from : (a b : Option Det) (d : Det) → lesser a b ≡ Some d → (a ≡ Some d) ⊎ (b ≡ Some d)
-lesser_from None b d h = inr h
-lesser_from (Some x) None d h = inl h
-lesser_from (Some x) (Some y) d h = by (is_before y x) h
-  where
-    by : (c : Bool) → (if c then Some y else Some x) ≡ Some d → (Some x ≡ Some d) ⊎ (Some y ≡ Some d)
-    by true h = inr h
-    by false h = inl h
+lesser_from a b d h = grind arith
 
 lesser_some : (a b : Option Det) → (is_some a ≡ true) ⊎ (is_some b ≡ true) → (d : Det) × (lesser a b ≡ Some d)
-lesser_some None None (inl h) = absurd (false≢true h)
-lesser_some None None (inr h) = absurd (false≢true h)
-lesser_some None (Some y) h = (y, refl)
-lesser_some (Some x) None h = (x, refl)
-lesser_some (Some x) (Some y) h = by (is_before y x)
-  where
-    by : (c : Bool) → (d : Det) × ((if c then Some y else Some x) ≡ Some d)
-    by true = (y, refl)
-    by false = (x, refl)
+lesser_some a b some = is_there (lesser a b) (grind arith)
 
 slot_is : (q : Pid) (rsn : ℕ) (d : Det) → is_of_slot q rsn d ≡ true → (d.dest ≡ q) × (d.rsn ≡ rsn)
-slot_is q rsn d h =
-    let parts = and_parts (same_pid d.dest q) (d.rsn == rsn) h in
-    ((λ i. record { 0 = eqb-true d.dest.0 q.0 parts.0 i }), eqb-true d.rsn rsn parts.1)
-
-slot_of : (q : Pid) (rsn : ℕ) (d : Det) → d.dest ≡ q → d.rsn ≡ rsn → is_of_slot q rsn d ≡ true
-slot_of q rsn d dest place = and_from _ _ (eq-eqb d.dest.0 q.0 (ap (λ (x : Pid). x.0) dest)) (eq-eqb d.rsn rsn place)
+slot_is q rsn d h = grind (arith, and_parts (same_pid d.dest q) (d.rsn == rsn) h, eqb-true)
 
 module _ (n f : ℕ) (past : List Entry) (ms : Memories) (q : Pid) (m : Memory) (here : at ms q.0 ≡ Some m) (low : q.0 < n) (s : IsSound n f past ms) where
   keys_logs : (d : Det) → has (fin.keys m.log) d ≡ logs past q.0 d
@@ -125,33 +77,20 @@ module _ (n f : ℕ) (past : List Entry) (ms : Memories) (q : Pid) (m : Memory) 
 
   next_found : (d : Det) → next_det (stable_set past) q m ≡ Some d → (finds past q.0 d ≡ true) × (d.dest ≡ q) × (d.rsn ≡ length m.received)
   next_found d h =
-      elim (lesser_from (first_of_slot q (length m.received) (fin.keys m.log)) (first_of_slot q (length m.received) (dets_in (stable_set past))) d h) [
-        | inl log ↦
-            let found = first_passes (is_of_slot q (length m.received)) (fin.keys m.log) d log in
-            let slot = slot_is q (length m.received) d found.0 in
-            (or_left _ _ (sym (keys_logs d) ∙ found.1), slot.0, slot.1)
-        | inr stored ↦
-            let found = first_passes (is_of_slot q (length m.received)) (dets_in (stable_set past)) d stored in
-            let slot = slot_is q (length m.received) d found.0 in
-            (or_right _ _ (sym (dets_stable d) ∙ found.1), slot.0, slot.1)
-      ]
+      let first = first_of_slot q (length m.received) in
+      let found = lesser_from (first (fin.keys m.log)) (first (dets_in (stable_set past))) d h in
+      grind (arith, found, first_passes, slot_is, keys_logs d, dets_stable d)
 
   next_some : (d : Det) → finds past q.0 d ≡ true → d.dest ≡ q → d.rsn ≡ length m.received → (x : Det) × (next_det (stable_set past) q m ≡ Some x)
-  next_some d found dest place =
-      let fit = slot_of q (length m.received) d dest place in
-      lesser_some (first_of_slot q (length m.received) (fin.keys m.log)) (first_of_slot q (length m.received) (dets_in (stable_set past))) (elim (or_cases (logs past q.0 d) (is_stable past d) found) [
-        | inl held ↦ inl (first_there (is_of_slot q (length m.received)) (fin.keys m.log) d (keys_logs d ∙ held) fit)
-        | inr stable ↦ inr (first_there (is_of_slot q (length m.received)) (dets_in (stable_set past)) d (dets_stable d ∙ stable) fit)
-      ])
+  next_some d found dest place = grind (arith, lesser_some, first_there, keys_logs d, dets_stable d)
 
   -- what is found for the next delivery names the message that is asked for, where no other is named
   pub only_named : (asked : MsgName) → unless asked (named_for ms (stable_set past) q) ≡ None → (d : Det) → finds past q.0 d ≡ true → d.dest ≡ q → d.rsn ≡ length m.received → message_of d ≡ asked
   only_named asked none d found dest place =
       let some = next_some d found dest place in
       let next = next_found some.0 some.1 in
-      let named : named_for ms (stable_set past) q ≡ Some (message_of some.0) = ap (λ o. option_map message_of (option_and_then (next_det (stable_set past) q) o)) here ∙ ap (option_map message_of) some.1 in
-      let same : some.0 ≡ d = s.facts.single_slots some.0 d (finds_survive n past q.0 some.0 low next.0) (finds_survive n past q.0 d low found) (next.1 ∙ sym dest) (next.2 ∙ sym place) in
-      ap message_of (sym same) ∙ unless_none asked (message_of some.0) (ap (unless asked) (sym named) ∙ none)
+      let alive = finds_survive n past q.0 some.0 low next.0 in
+      grind (arith, next, alive, some.1, s.facts.single_slots some.0 d, finds_survive n past q.0 d low found, unless_none asked (message_of some.0))
 
 -- how many are down
 count_front : (n : ℕ) (test : ℕ → Bool) → count_below (suc n) test ≡ cond (test 0) 1 0 + count_below n (λ p. test (suc p))

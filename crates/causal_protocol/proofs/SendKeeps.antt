@@ -1,7 +1,7 @@
 -- What the protocol keeps, over a send.
-use Rattle.std.proofs.Common.{ℕ, ◌≡◌, ◌<◌, inl, inr, true, false, cond, List, [], ◌∷◌, length, Some, None, refl, sym, ap, subst, ◌∙◌, arith}
+use Rattle.std.proofs.Common.{ℕ, ◌≡◌, ◌<◌, inl, inr, true, false, cond, List, [], ◌∷◌, length, Some, None, refl, sym, ap, ◌∙◌, arith}
 use Rattle.std.specs.Prelude.{◌⊎◌, ◌==◌}
-use Rattle.std.proofs.lemmas.Bool.{false≢true, both_ways, or_left, cases_Bool, eq-eqb, ne_eqb, cond-true, cond-false}
+use Rattle.std.proofs.lemmas.Bool.{both_ways, cases_Bool, eq-eqb, ne_eqb, cond-true, cond-false}
 use Rattle.std.proofs.lemmas.Bool.Decides.{eqb_tells}
 use Rattle.causal_name.specs.declared.Pid.{Pid}
 use Rattle.causal_name.specs.declared.Det.{Det}
@@ -10,10 +10,10 @@ use Rattle.causal_trace.specs.declared.entry.Entry.{Entry}
 use Rattle.causal_trace.specs.declared.entry.Entry.TheVariants.{Send}
 use Rattle.causal_trace.specs.Past.{is_down, logs, is_stable, det_of, det_at}
 use Rattle.causal_trace.specs.Dependence.{AreForward, Reaches}
-use Rattle.causal_trace.proofs.Lemmas.DependenceSteps.{reaches_old, ReachesNewest, is_newest, in_lane, through_message, reaches_newest, depends_old}
+use Rattle.causal_trace.proofs.Lemmas.DependenceSteps.{reaches_old, ReachesNewest, reaches_newest, depends_old}
 use Rattle.causal_protocol.specs.Memory.{Kept, Memories}
 use Rattle.causal_protocol.specs.Sight.{log_at, has_entry, tells_holder, tells_stable, has_logged, knows, marks, Keeps, has_item, item_holder}
-use Rattle.causal_protocol.specs.Kept.{gone, IsSpread, Keeping}
+use Rattle.causal_protocol.specs.Kept.{IsSpread, Keeping}
 use Rattle.causal_holders.proofs.Lemmas.MemberCounts.{count_below-within}
 
 -- at the newest position, and below it
@@ -26,11 +26,7 @@ at_older m l x y below = cond-false (m == l) x y (ne_eqb m l (λ e. omega (arith
 
 -- a determinant at a position is that of an earlier delivery, or the newest entry's
 pub det_past : (e : Entry) (past : List Entry) (k : ℕ) (d : Det) → det_at (e ∷ past) k ≡ Some d → ((k ≡ length past) × (det_of past e ≡ Some d)) ⊎ (det_at past k ≡ Some d)
-det_past e past k d h =
-    elim (eqb_tells k (length past)) [
-      | inl is ↦ inl (is.1, sym (at_newest k (length past) (det_of past e) (det_at past k) is.1) ∙ h)
-      | inr older ↦ inr (sym (cond-false (k == length past) (det_of past e) (det_at past k) older.0) ∙ h)
-    ]
+det_past e past k d h = grind (arith, eqb_tells k (length past), at_newest, cond-false)
 
 -- an entry without a determinant leaves those of the deliveries so far
 pub det_earlier : (e : Entry) (past : List Entry) (k : ℕ) (d : Det) → det_of past e ≡ None → det_at (e ∷ past) k ≡ Some d → det_at past k ≡ Some d
@@ -71,27 +67,10 @@ pub record IsSent (n f : ℕ) (past : List Entry) (from : ℕ) (ms next : Memori
 module _ (n f : ℕ) (past : List Entry) (ms next : Memories) (from to : Pid) (ssn : ℕ) (new : Kept) (s : IsSent n f past from.0 ms next new) (forward : AreForward (Send from to ssn ∷ past)) (k : Keeping n f past ms) where
   -- what the sender logs goes with the message, unless it is spread
   chosen : (d : Det) → logs past from.0 d ≡ true → (has_item d new.batch ≡ true) ⊎ IsSpread n f past d
-  chosen d held =
-      elim (cases_Bool (is_stable past d)) [
-        | inl stable ↦ inr (inl stable)
-        | inr unstable ↦ elim (s.left_out d (k.logged from.0 d s.process ∙ held)) [
-          | inl goes ↦ inl goes
-          | inr (inl mark) ↦ inr (inl (k.marks_true from.0 d s.process mark))
-          | inr (inr many) ↦ inr (inr (omega (
-            arith,
-            many,
-            count_below-within n (knows ms from.0 d) (gone past d) (λ q below known. elim (k.holders_hold from.0 d q s.process known) [
-              | inl stable ↦ absurd (both_ways (is_stable past d) unstable stable)
-              | inr out ↦ out
-            ]),
-          )))
-        ]
-      ]
+  chosen d held = grind (arith, cases_Bool (is_stable past d), count_below-within, both_ways)
 
   sent_depends : (i p : ℕ) (d : Det) → p < n → det_at past i ≡ Some d → is_down past p ≡ false → ReachesNewest (Send from to ssn) past i p → (logs past p d ≡ true) ⊎ IsSpread n f past d
-  sent_depends i p d small at up (is_newest is) = absurd (omega (arith, det_below past i d at, is))
-  sent_depends i p d small at up (in_lane j event r) = k.dependents_hold i p d small at (record { up = up; event = j; present = event; reached = r })
-  sent_depends i p d small at up (through_message j is r) = absurd (false≢true is)
+  sent_depends i p d small at up h = grind (arith, det_below)
 
   -- all that the protocol keeps stands after a send
   pub keeps_send : Keeping n f (Send from to ssn ∷ past) next
@@ -101,31 +80,14 @@ module _ (n f : ℕ) (past : List Entry) (ms next : Memories) (from to : Pid) (s
     own = λ p d small h. ap (tells_holder d p) (s.same p) ∙ k.own p d small h;
     known_processes = λ p d q small h. k.known_processes p d q small (sym (ap (tells_holder d q) (s.same p)) ∙ h);
     holders_hold = λ p d q small h. k.holders_hold p d q small (sym (ap (tells_holder d q) (s.same p)) ∙ h);
-    named_hold = λ p x d q small keeps names. elim (s.kept p x keeps) [
-      | inl old ↦ k.named_hold p x d q small old names
-      | inr new ↦ k.holders_hold from.0 d q s.process (s.named d q (sym (ap (λ (y : Kept). item_holder d q y.batch) new.1) ∙ names))
-    ];
-    named_processes = λ p x d q small keeps names. elim (s.kept p x keeps) [
-      | inl old ↦ k.named_processes p x d q small old names
-      | inr new ↦ k.known_processes from.0 d q s.process (s.named d q (sym (ap (λ (y : Kept). item_holder d q y.batch) new.1) ∙ names))
-    ];
+    named_hold = λ p x d q small keeps names. grind (arith, s.kept p x keeps, s.named d q, k.named_hold p x d q small, k.holders_hold from.0 d q);
+    named_processes = λ p x d q small keeps names. grind (arith, s.kept p x keeps, s.named d q, k.named_processes p x d q small);
     marks_true = λ p d small h. k.marks_true p d small (sym (ap (tells_stable d) (s.same p)) ∙ h);
-    dependents_hold = λ i p d small at dep.
-        let before = det_earlier (Send from to ssn) past i d refl at in
-        elim (depends_old (Send from to ssn) past i p forward dep.up refl dep) [
-          | inl old ↦ k.dependents_hold i p d small before old
-          | inr new ↦ sent_depends i p d small before dep.up new.1
-        ];
+    dependents_hold = λ i p d small at dep. grind (arith, det_earlier, depends_old, sent_depends);
     messages_carry = λ i p x d small at keeps r. covered i p x d small (det_earlier (Send from to ssn) past i d refl at) r (s.kept p x keeps);
     receivers_find = k.receivers_find;
-    senders_find = λ p x d small keeps carries. elim (s.kept p x keeps) [
-      | inl old ↦ k.senders_find p x d small old carries
-      | inr new ↦ or_left _ _ (subst (λ y. logs past y d ≡ true) new.0 (sym (k.logged from.0 d s.process) ∙ s.carried d (sym (ap (λ (y : Kept). has_item d y.batch) new.1) ∙ carries)))
-    ];
-    earlier = λ p x small keeps. elim (s.kept p x keeps) [
-      | inl old ↦ omega (arith, k.earlier p x small old)
-      | inr new ↦ omega (arith, (let e : x.send ≡ length past = ap (λ (y : Kept). y.send) new.1 ∙ s.place in e))
-    ];
+    senders_find = λ p x d small keeps carries. grind (arith, s.kept p x keeps, s.carried d, k.senders_find p x d small, k.logged from.0 d);
+    earlier = λ p x small keeps. grind (arith, s.kept p x keeps, k.earlier p x small, s.place);
     single_slots = k.single_slots;
     survivors_delivered = k.survivors_delivered;
   }
@@ -133,10 +95,5 @@ module _ (n f : ℕ) (past : List Entry) (ms next : Memories) (from to : Pid) (s
       covered : (i p : ℕ) (x : Kept) (d : Det) → p < n → det_at past i ≡ Some d → Reaches (Send from to ssn ∷ past) i x.send → (Keeps ms p x ⊎ ((from.0 ≡ p) × (x ≡ new))) → (has_item d x.batch ≡ true) ⊎ IsSpread n f past d
       covered i p x d small at r (inl old) = k.messages_carry i p x d small at old (reaches_old (Send from to ssn) past i forward x.send (k.earlier p x small old) r)
       covered i p x d small at r (inr mine) =
-          elim (sent_depends i from.0 d s.process at s.up (reaches_newest (Send from to ssn) past i from.0 x.send forward (ap (λ (y : Kept). y.send) mine.1 ∙ s.place) refl r)) [
-            | inl held ↦ elim (chosen d held) [
-              | inl goes ↦ inl (ap (λ (y : Kept). has_item d y.batch) mine.1 ∙ goes)
-              | inr spread ↦ inr spread
-            ]
-            | inr spread ↦ inr spread
-          ]
+          let newest = reaches_newest (Send from to ssn) past i from.0 x.send forward (ap (λ (y : Kept). y.send) mine.1 ∙ s.place) refl r in
+          grind (arith, sent_depends i from.0 d s.process at s.up newest, chosen d)

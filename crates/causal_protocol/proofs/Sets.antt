@@ -1,8 +1,8 @@
 -- Sets of processes as tests, and determinants that are spread.
 use Rattle.std.proofs.Common.{ℕ, ◌≡◌, ◌<◌, ◌≤◌, inl, inr, true, false, List, arith}
 use Rattle.std.specs.Prelude.{◌⊎◌}
-use Rattle.std.proofs.lemmas.Bool.{both_ways, or_cases, or_left, or_right, cases_Bool}
-use Rattle.causal_name.specs.Sets.{count_below, any_below, IsWithin}
+use Rattle.std.proofs.lemmas.Bool.{or_cases, or_left, or_right, cases_Bool}
+use Rattle.causal_name.specs.Sets.{count_below, IsWithin}
 use Rattle.causal_name.specs.declared.Det.{Det}
 use Rattle.causal_holders.proofs.Lemmas.MemberCounts.{count_below-within, any_below-found, any_below-from}
 use Rattle.causal_protocol.specs.Kept.{survives, finds, gone, IsSpread, IsTrueOf}
@@ -23,20 +23,7 @@ survives_stable n past d h = or_left _ _ h
 
 -- where at most f are down, what is spread survives
 pub spread_survives : (n f : ℕ) (past : List Entry) (d : Det) → count_below n (is_down past) ≤ f → IsSpread n f past d → survives n past d ≡ true
-spread_survives n f past d few (inl stable) = survives_stable n past d stable
-spread_survives n f past d few (inr many) =
-    elim (cases_Bool (any_below n (λ p. logs past p d))) [
-      | inl some ↦ or_right _ _ some
-      | inr none ↦ absurd (omega (
-        arith,
-        few,
-        many,
-        count_below-within n (gone past d) (is_down past) (λ p below h. elim (or_cases _ _ h) [
-          | inl down ↦ down
-          | inr held ↦ absurd (both_ways _ none (any_below-from n (λ q. logs past q d) p below held))
-        ]),
-      ))
-    ]
+spread_survives n f past d few spread = grind (arith, count_below-within, any_below-from n (λ q. logs past q d))
 
 -- what a process finds survives
 pub finds_survive : (n : ℕ) (past : List Entry) (p : ℕ) (d : Det) → p < n → finds past p d ≡ true → survives n past d ≡ true
@@ -55,18 +42,8 @@ pub record Stays (n : ℕ) (past next : List Entry) (d : Det) : Type 0 where
 
 -- a determinant that is spread, and stays, is still spread
 pub spread_stays : (n f : ℕ) (past next : List Entry) (d : Det) → Stays n past next d → IsSpread n f past d → IsSpread n f next d
-spread_stays n f past next d s (inl stable) = inl (s.stable stable)
-spread_stays n f past next d s (inr many) =
-    elim (cases_Bool (is_stable past d)) [
-      | inl stable ↦ inl (s.stable stable)
-      | inr unstable ↦ inr (omega (arith, many, count_below-within n (gone past d) (gone next d) (s.within unstable)))
-    ]
+spread_stays n f past next d s h = grind (arith, cases_Bool, count_below-within)
 
 -- where a determinant stays, it is still no lie that q holds it
 pub true_stays : (n : ℕ) (past next : List Entry) (d : Det) (q : ℕ) → q < n → Stays n past next d → IsTrueOf past d q → IsTrueOf next d q
-true_stays n past next d q below s (inl stable) = inl (s.stable stable)
-true_stays n past next d q below s (inr out) =
-    elim (cases_Bool (is_stable past d)) [
-      | inl stable ↦ inl (s.stable stable)
-      | inr unstable ↦ inr (s.within unstable q below out)
-    ]
+true_stays n past next d q below s h = grind (arith, cases_Bool)

@@ -1,11 +1,10 @@
 -- One more entry, with what it does to the memories, leaves a sound state.
-use Rattle.std.proofs.Common.{ℕ, ◌≡◌, ◌<◌, inl, inr, Bool, true, false, cond, not, ◌&&◌, ◌||◌, List, ◌∷◌, length, slice_get, slice_set, Some, None, is_none, refl, sym, ap, subst, ◌∙◌, arith}
+use Rattle.std.proofs.Common.{ℕ, ◌≡◌, ◌<◌, inl, inr, Bool, true, false, not, ◌&&◌, ◌||◌, List, ◌∷◌, length, slice_get, slice_set, Some, None, is_none, refl, sym, ap, subst, ◌∙◌, arith, ◌+◌, ◌-◌, ◌≤◌, [], drop, add-one}
 use Rattle.std.specs.Prelude.{◌==◌, ◌⊎◌}
-use Rattle.std.specs.Cmp.{both_ways as same_answer}
 use Rattle.std.specs.Option.{option_map, option_and_then}
 use Rattle.std.specs.FinMap as fin
 use Rattle.std.specs.FinSet as set
-use Rattle.std.proofs.lemmas.Bool.{both_ways, and_parts, eqb-true, eq-eqb}
+use Rattle.std.proofs.lemmas.Bool.{both_ways, and_parts, eqb-true, eq-eqb, cases_Bool}
 use Rattle.causal_name.specs.declared.Pid.{Pid}
 use Rattle.causal_name.specs.declared.MsgName.{MsgName}
 use Rattle.causal_name.specs.declared.Det.{Det}
@@ -13,15 +12,14 @@ use Rattle.causal_name.specs.Names.{same_det, message_of}
 use Rattle.causal_name.specs.Sets.{count_below}
 use Rattle.causal_trace.specs.declared.entry.Entry.{Entry}
 use Rattle.causal_trace.specs.declared.entry.Entry.TheVariants.{Send, Deliver, Stable, Crash, Restart, Forget}
-use Rattle.causal_trace.specs.Past.{has, is_down, entry_at, message_sent, message_at, det_from}
+use Rattle.causal_trace.specs.Past.{has, is_down, entry_at, message_sent, message_at, det_from, instant, logs, is_stable}
 use Rattle.causal_trace.specs.Dependence.{AreForward, is_delivery_of}
-use Rattle.causal_holders.proofs.Lemmas.MemberCounts.{len_counted}
+use Rattle.causal_holders.proofs.Lemmas.MemberCounts.{len_counted, count_below-within}
 use Rattle.causal_log.specs.Logs.{LogMap, known_of, chosen, marked}
 use Rattle.causal_protocol.specs.Memory.{Kept, Memory, Memories, at, changed, fresh, with_sent, with_received, with_log, gained}
 use Rattle.causal_protocol.specs.Gathering.{stable_set, gathered_log, without}
-use Rattle.causal_protocol.specs.Naming.{name}
 use Rattle.causal_protocol.specs.Sight.{log_at, messages, has_entry, tells_holder, tells_stable, has_logged, marks, has_item}
-use Rattle.causal_protocol.specs.Kept.{survives, finds}
+use Rattle.causal_protocol.specs.Kept.{survives, finds, IsSpread, Keeping}
 use Rattle.causal_protocol.specs.Runs.{Matches, IsSound}
 use Rattle.causal_protocol.proofs.Places.{set_cases, changed_cases, changed_state, set_state, length_set, kept_more, log_here, log_none, grown, shrunk, log_changed}
 use Rattle.causal_protocol.proofs.LearnedLogs
@@ -33,7 +31,38 @@ use Rattle.causal_protocol.proofs.CrashKeeps.{IsCrashed, keeps_crash}
 use Rattle.causal_protocol.proofs.RestartKeeps.{IsRestarted, keeps_restart}
 use Rattle.causal_protocol.proofs.ForgetKeeps.{IsForgotten, keeps_forget}
 use Rattle.causal_protocol.proofs.DeliveryKeeps.{message_below, IsDelivered, keeps_delivery}
-use Rattle.causal_protocol.proofs.Safety.{next_sound}
+use Rattle.std.proofs.lemmas.Bool.Decides.{eqb_tells}
+use Rattle.causal_trace.specs.Judgement.{IsCrashSet, IsSafe, IsSafeTrace}
+
+-- what is spread has no orphan
+spread_kept : (n f : ℕ) (past : List Entry) (d : Det) (crash : ℕ → Bool) → IsSpread n f past d → IsCrashSet n f past crash → is_stable past d ≡ false → ((q : ℕ) → q < n → crash q ≡ false → logs past q d ≡ false) → ⊥
+spread_kept n f past d crash h may unstable lost = grind (arith, count_below-within, cases_Bool)
+
+pub kept_safe : (n f : ℕ) (past : List Entry) (ms : Memories) → Keeping n f past ms → IsSafe n f past
+kept_safe n f past ms k = record {
+  few_down = k.few_down;
+  no_orphan = λ i h. grind (arith, h.is_orphan.lost h.orphan, spread_kept n f past h.is_orphan.det h.crash);
+}
+
+-- one more entry leaves the instants that there were, and makes one more
+instants_stay : (e : Entry) (past : List Entry) (t : ℕ) → t ≤ length past → instant (e ∷ past) t ≡ instant past t
+instants_stay e past t within = grind (arith, add-one)
+
+last_instant : (past : List Entry) (t : ℕ) → t ≡ length past → instant past t ≡ past
+last_instant past t whole = ap (λ n. drop n past) (let none : length past - t ≡ 0 = omega (arith, whole) in none)
+
+-- what is kept by one more entry, which made a sound state, is a sound state
+pub next_sound : (n f : ℕ) (e : Entry) (past : List Entry) (ms next : Memories) → IsSound n f past ms → AreForward (e ∷ past) → Keeping n f (e ∷ past) next → Matches n (e ∷ past) next → IsSound n f (e ∷ past) next
+next_sound n f e past ms next s forward facts fit = record {
+  facts = facts;
+  fit = fit;
+  forward = forward;
+  safe = λ t within. grind (arith, eqb_tells t (length past + 1), last_instant, kept_safe n f (e ∷ past) next facts, instants_stay);
+}
+
+-- what is kept makes a run safe in which nothing has happened
+pub first_safe : (n f : ℕ) (ms : Memories) → Keeping n f [] ms → IsSafeTrace (record { processes = n; past = [] }) f
+first_safe n f ms k t within = subst (λ x. IsSafe n f x) (sym (last_instant [] t (omega (arith, within)))) (kept_safe n f [] ms k)
 
 -- the message at a position stays, and the newest entry's is at the newest one
 message_older : (e : Entry) (past : List Entry) (send : ℕ) (x : MsgName) → message_at past send ≡ Some x → message_at (e ∷ past) send ≡ Some x
@@ -43,8 +72,7 @@ message_newest : (e : Entry) (past : List Entry) (send : ℕ) → send ≡ lengt
 message_newest e past send is = ap (λ o. option_and_then message_sent o) (at_newest send (length past) (Some e) (entry_at past send) is)
 
 no_delivery : (e : Entry) (past : List Entry) → ((i : ℕ) → is_delivery_of i e ≡ false) → AreForward past → AreForward (e ∷ past)
-no_delivery e past none forward j i (inl h) = forward j i h
-no_delivery e past none forward j i (inr h) = absurd (both_ways (is_delivery_of i e) (none i) h.1)
+no_delivery e past none forward j i h = grind arith
 
 is_up : (n : ℕ) (past : List Entry) (ms : Memories) (p : ℕ) (m : Memory) → Matches n past ms → p < n → at ms p ≡ Some m → is_down past p ≡ false
 is_up n past ms p m fit low here = sym (fit.state p low) ∙ ap is_none here
@@ -67,14 +95,7 @@ module _ (n f : ℕ) (past : List Entry) (ms : Memories) (from to : Pid) (m : Me
   there = log_here ms from.0 m here
 
   sent_kept : (p ssn : ℕ) (k : Kept) → slice_get (messages sent_memories p) ssn ≡ Some k → (slice_get (messages ms p) ssn ≡ Some k) ⊎ ((from.0 ≡ p) × (ssn ≡ length m.sent) × (k ≡ new_message))
-  sent_kept p ssn k h =
-      elim (changed_cases sent_to ms from.0 m here p) [
-        | inl is ↦ elim (kept_more m.sent new_message k ssn (ap (λ xs. slice_get xs ssn) (sym is.3) ∙ h)) [
-          | inl old ↦ inl (ap (λ xs. slice_get xs ssn) is.5 ∙ old)
-          | inr new ↦ inr (is.1, new.0, new.1)
-        ]
-        | inr other ↦ inl (ap (λ xs. slice_get xs ssn) (sym other.2) ∙ h)
-      ]
+  sent_kept p ssn k h = grind (arith, changed_cases sent_to ms from.0 m here p, kept_more)
 
   is_sent : IsSent n f past from.0 ms sent_memories new_message
   is_sent = record {
@@ -93,14 +114,7 @@ module _ (n f : ℕ) (past : List Entry) (ms : Memories) (from to : Pid) (m : Me
   }
 
   sent_fits : Matches n (sent_entry ∷ past) sent_memories
-  sent_fits = record {
-    count = length_set ms from.0 (option_map sent_to (at ms from.0)) ∙ s.fit.count;
-    state = λ p small. changed_state sent_to ms from.0 m here p ∙ s.fit.state p small;
-    placed = λ p ssn k h. elim (sent_kept p ssn k h) [
-      | inl old ↦ message_older sent_entry past k.send (name (record { 0 = p }) ssn) (s.fit.placed p ssn k old)
-      | inr new ↦ message_newest sent_entry past k.send (ap (λ (y : Kept). y.send) new.2) ∙ (λ i. Some (name (record { 0 = new.0 i }) (sym new.1 i)))
-    ];
-  }
+  sent_fits = grind (arith, length_set, changed_state, sent_kept, message_older, message_newest)
 
   -- the state after a send is sound
   pub send_sound : IsSound n f (Send from to (length m.sent) ∷ past) (changed (with_sent f to (length past)) ms from.0)
@@ -130,11 +144,7 @@ module _ (n f : ℕ) (past : List Entry) (ms : Memories) (to : Pid) (rsn : ℕ) 
   was_sent = s.fit.placed asked.source.0 asked.ssn k found
 
   received_kept : (p ssn : ℕ) (x : Kept) → slice_get (messages received_memories p) ssn ≡ Some x → slice_get (messages ms p) ssn ≡ Some x
-  received_kept p ssn x h =
-      elim (changed_cases receiving ms to.0 m here p) [
-        | inl is ↦ ap (λ xs. slice_get xs ssn) (is.5 ∙ sym is.3) ∙ h
-        | inr other ↦ ap (λ xs. slice_get xs ssn) (sym other.2) ∙ h
-      ]
+  received_kept p ssn x h = grind (arith, changed_cases receiving ms to.0 m here p)
 
   is_delivered : IsDelivered n past to k.send rsn listed ms received_memories
   is_delivered = record {
@@ -150,38 +160,18 @@ module _ (n f : ℕ) (past : List Entry) (ms : Memories) (to : Pid) (rsn : ℕ) 
     lists = lists;
     has_as = λ p d. ap (has_entry d) (log_changed receiving ms to.0 m here p)
         ∙ grown ms to.0 p (has_entry d) (gained k.batch own m.log) (has listed d) (LearnedLogs.gained_entry k.batch own m.log d ∙ (λ i. has_entry d (sym (log_here ms to.0 m here) i) || sym (lists d) i));
-    heard = λ p d q h. elim (changed_cases receiving ms to.0 m here p) [
-      | inl is ↦ elim (LearnedLogs.gained_holder k.batch own m.log d q (ap (tells_holder d q) (sym is.2) ∙ h)) [
-        | inl old ↦ inl (ap (tells_holder d q) is.4 ∙ old)
-        | inr new ↦ inr new
-      ]
-      | inr other ↦ inl (ap (tells_holder d q) (sym other.1) ∙ h)
-    ];
-    own = λ d h. elim (changed_cases receiving ms to.0 m here to.0) [
-      | inl is ↦ ap (tells_holder d to.0) is.2 ∙ LearnedLogs.gained_new k.batch own m.log d (sym (lists d) ∙ h)
-      | inr other ↦ absurd (both_ways (to.0 == to.0) other.0 (eq-eqb to.0 to.0 refl))
-    ];
-    before = λ p d q h. elim (changed_cases receiving ms to.0 m here p) [
-      | inl is ↦ ap (tells_holder d q) is.2 ∙ LearnedLogs.gained_old k.batch own m.log d q (ap (tells_holder d q) (sym is.4) ∙ h)
-      | inr other ↦ ap (tells_holder d q) other.1 ∙ h
-    ];
-    marked = λ p d h. elim (changed_cases receiving ms to.0 m here p) [
-      | inl is ↦ ap (tells_stable d) is.4 ∙ LearnedLogs.gained_stable k.batch own m.log d (ap (tells_stable d) (sym is.2) ∙ h)
-      | inr other ↦ ap (tells_stable d) (sym other.1) ∙ h
-    ];
+    heard = λ p d q h. grind (arith, changed_cases receiving ms to.0 m here p, LearnedLogs.gained_holder);
+    own = λ d h. grind (arith, changed_cases, LearnedLogs.gained_new, both_ways, eq-eqb to.0 to.0 refl);
+    before = λ p d q h. grind (arith, changed_cases receiving ms to.0 m here p, LearnedLogs.gained_old);
+    marked = λ p d h. grind (arith, changed_cases receiving ms to.0 m here p, LearnedLogs.gained_stable);
     kept = λ p x keeps. (keeps.0, received_kept p keeps.0 x keeps.1);
   }
 
   received_forward : AreForward (delivery ∷ past)
-  received_forward j i (inl h) = s.forward j i h
-  received_forward j i (inr h) = omega (arith, h.0, eqb-true k.send i h.1, message_below past k.send asked was_sent)
+  received_forward j i h = grind (arith, eqb-true, message_below, was_sent)
 
   received_fits : Matches n (delivery ∷ past) received_memories
-  received_fits = record {
-    count = length_set ms to.0 (option_map receiving (at ms to.0)) ∙ s.fit.count;
-    state = λ p small. changed_state receiving ms to.0 m here p ∙ s.fit.state p small;
-    placed = λ p ssn x h. message_older delivery past x.send (name (record { 0 = p }) ssn) (s.fit.placed p ssn x (received_kept p ssn x h));
-  }
+  received_fits = grind (arith, length_set, changed_state, message_older, received_kept)
 
   -- the state after a delivery is sound
   pub delivery_sound : IsSound n f (Deliver to k.send rsn listed ∷ past) (changed (with_received k.batch (det_from to rsn asked)) ms to.0)
@@ -190,18 +180,10 @@ module _ (n f : ℕ) (past : List Entry) (ms : Memories) (to : Pid) (rsn : ℕ) 
 -- a change of one log that leaves the messages
 module _ (n : ℕ) (past : List Entry) (ms : Memories) (w : ℕ) (m : Memory) (g : LogMap → LogMap) (here : at ms w ≡ Some m) (fit : Matches n past ms) where
   log_kept : (p ssn : ℕ) (x : Kept) → slice_get (messages (changed (with_log g) ms w) p) ssn ≡ Some x → slice_get (messages ms p) ssn ≡ Some x
-  log_kept p ssn x h =
-      elim (changed_cases (with_log g) ms w m here p) [
-        | inl is ↦ ap (λ xs. slice_get xs ssn) (is.5 ∙ sym is.3) ∙ h
-        | inr other ↦ ap (λ xs. slice_get xs ssn) (sym other.2) ∙ h
-      ]
+  log_kept p ssn x h = grind (arith, changed_cases (with_log g) ms w m here p)
 
   log_fits : (e : Entry) → ((p : ℕ) → is_down (e ∷ past) p ≡ is_down past p) → Matches n (e ∷ past) (changed (with_log g) ms w)
-  log_fits e down = record {
-    count = length_set ms w (option_map (with_log g) (at ms w)) ∙ fit.count;
-    state = λ p small. changed_state (with_log g) ms w m here p ∙ fit.state p small ∙ sym (down p);
-    placed = λ p ssn x h. message_older e past x.send (name (record { 0 = p }) ssn) (fit.placed p ssn x (log_kept p ssn x h));
-  }
+  log_fits e down = grind (arith, length_set ms w (option_map (with_log g) (at ms w)), changed_state, message_older, log_kept)
 
 -- a stable entry
 module _ (n f : ℕ) (past : List Entry) (ms : Memories) (p : Pid) (m : Memory) (det : Det) (here : at ms p.0 ≡ Some m) (low : p.0 < n) (logged : has_logged ms p.0 det ≡ true) (s : IsSound n f past ms) where
@@ -216,18 +198,9 @@ module _ (n f : ℕ) (past : List Entry) (ms : Memories) (p : Pid) (m : Memory) 
     process = p.0;
     below = low;
     logged = logged;
-    has_as = λ x d. elim (changed_cases (with_log marking) ms p.0 m here x) [
-      | inl is ↦ ap (has_entry d) is.2 ∙ Choices.marked_entry m.log det d ∙ ap (has_entry d) (sym is.4)
-      | inr other ↦ ap (has_entry d) other.1
-    ];
-    holds_as = λ x d q. elim (changed_cases (with_log marking) ms p.0 m here x) [
-      | inl is ↦ ap (tells_holder d q) is.2 ∙ Choices.marked_holder m.log det d q ∙ ap (tells_holder d q) (sym is.4)
-      | inr other ↦ ap (tells_holder d q) other.1
-    ];
-    marked = λ x d h. elim (changed_cases (with_log marking) ms p.0 m here x) [
-      | inl is ↦ elim (Choices.marked_mark m.log det d (ap (tells_stable d) (sym is.2) ∙ h)) [ inl same ↦ inl same | inr old ↦ inr (ap (tells_stable d) is.4 ∙ old) ]
-      | inr other ↦ inr (ap (tells_stable d) (sym other.1) ∙ h)
-    ];
+    has_as = λ x d. grind (arith, changed_cases (with_log marking) ms p.0 m here x, Choices.marked_entry m.log det d);
+    holds_as = λ x d q. grind (arith, changed_cases (with_log marking) ms p.0 m here x, Choices.marked_holder m.log det d q);
+    marked = λ x d h. grind (arith, changed_cases (with_log marking) ms p.0 m here x, Choices.marked_mark);
     kept = λ x k keeps. (keeps.0, log_kept n past ms p.0 m marking here s.fit x keeps.0 k keeps.1);
   }
 
@@ -250,10 +223,7 @@ module _ (n f : ℕ) (past : List Entry) (ms : Memories) (p : Pid) (m : Memory) 
         ∙ shrunk ms p.0 x (has_entry d) (without listed m.log) (has listed d) (Choices.without_entry listed m.log d ∙ (λ i. not (has listed d) && has_entry d (sym (log_here ms p.0 m here) i)));
     holds_as = λ x d q. ap (tells_holder d q) (log_changed (with_log (without listed)) ms p.0 m here x)
         ∙ shrunk ms p.0 x (tells_holder d q) (without listed m.log) (has listed d) (Choices.without_holder listed m.log d q ∙ (λ i. not (has listed d) && tells_holder d q (sym (log_here ms p.0 m here) i)));
-    marked = λ x d h. elim (changed_cases (with_log (without listed)) ms p.0 m here x) [
-      | inl is ↦ ap (tells_stable d) is.4 ∙ Choices.without_mark listed m.log d (ap (tells_stable d) (sym is.2) ∙ h)
-      | inr other ↦ ap (tells_stable d) (sym other.1) ∙ h
-    ];
+    marked = λ x d h. grind (arith, changed_cases (with_log (without listed)) ms p.0 m here x, Choices.without_mark);
     kept = λ x k keeps. (keeps.0, log_kept n past ms p.0 m (without listed) here s.fit x keeps.0 k keeps.1);
   }
 
@@ -272,18 +242,10 @@ module _ (n f : ℕ) (past : List Entry) (ms : Memories) (who : Pid) (low : who.
   within = omega (arith, low, s.fit.count)
 
   lost_one : (tells : LogMap → Bool) → tells fin.empty ≡ false → (p : ℕ) → tells (log_at left_memories p) ≡ (not (who.0 == p) && tells (log_at ms p))
-  lost_one tells lacks p =
-      elim (set_cases ms who.0 None p within) [
-        | inl is ↦ ap tells is.2 ∙ lacks ∙ (λ i. not (sym is.0 i) && tells (log_at ms p))
-        | inr other ↦ ap tells other.1 ∙ (λ i. not (sym other.0 i) && tells (log_at ms p))
-      ]
+  lost_one tells lacks p = grind (arith, set_cases ms who.0 None p within, within)
 
   lost_kept : (p ssn : ℕ) (x : Kept) → slice_get (messages left_memories p) ssn ≡ Some x → ((who.0 == p) ≡ false) × (slice_get (messages ms p) ssn ≡ Some x)
-  lost_kept p ssn x h =
-      elim (set_cases ms who.0 None p within) [
-        | inl is ↦ absurd (let e : None ≡ Some x = ap (λ xs. slice_get xs ssn) (sym is.3) ∙ h in cc)
-        | inr other ↦ (other.0, ap (λ xs. slice_get xs ssn) (sym other.2) ∙ h)
-      ]
+  lost_kept p ssn x h = grind (arith, set_cases ms who.0 None p within, within)
 
   is_crashed : IsCrashed n f past who.0 ms left_memories
   is_crashed = record {
@@ -295,15 +257,7 @@ module _ (n f : ℕ) (past : List Entry) (ms : Memories) (who : Pid) (low : who.
   }
 
   crash_fits : Matches n (Crash who ∷ past) left_memories
-  crash_fits = record {
-    count = length_set ms who.0 None ∙ s.fit.count;
-    state = λ p small. set_state ms who.0 None p within ∙ ap (λ b. cond (who.0 == p) true b) (s.fit.state p small) ∙ either (who.0 == p) (is_down past p);
-    placed = λ p ssn x h. message_older (Crash who) past x.send (name (record { 0 = p }) ssn) (s.fit.placed p ssn x (lost_kept p ssn x h).1);
-  }
-    where
-      either : (a b : Bool) → cond a true b ≡ (a || b)
-      either true b = refl
-      either false b = refl
+  crash_fits = grind (arith, length_set ms who.0 None, set_state, within, message_older, lost_kept)
 
   -- the state after a crash is sound
   pub crash_sound : IsSound n f (Crash who ∷ past) (slice_set ms who.0 None)
@@ -318,21 +272,11 @@ module _ (n f : ℕ) (past : List Entry) (ms : Memories) (who : Pid) (s : IsSoun
 
   -- a restart gathers just what survives
   pub gathered_survivors : (d : Det) → has_entry d (gathered_log ms (stable_set past) who) ≡ survives n past d
-  gathered_survivors d = same_answer _ _ forth back
-    where
-      forth : has_entry d (gathered_log ms (stable_set past) who) ≡ true → survives n past d ≡ true
-      forth h =
-          elim (LearnedLogs.gathered_found ms (stable_set past) who d h) [
-            | inl stored ↦ survives_stable n past d (sym (Choices.stable_has past d) ∙ stored)
-            | inr some ↦ survives_log n past some.0 d (under some.0 some.1) (sym (s.facts.logged some.0 d (under some.0 some.1)) ∙ some.2)
-          ]
-
-      back : survives n past d ≡ true → has_entry d (gathered_log ms (stable_set past) who) ≡ true
-      back h =
-          elim (survives_found n past d h) [
-            | inl stable ↦ LearnedLogs.gathered_stored ms (stable_set past) who d (Choices.stable_has past d ∙ stable)
-            | inr held ↦ LearnedLogs.gathered_logged ms (stable_set past) who d held.0 (s.facts.logged held.0 d held.1 ∙ held.2)
-          ]
+  gathered_survivors d =
+      let found = LearnedLogs.gathered_found ms (stable_set past) who d in
+      let stored = LearnedLogs.gathered_stored ms (stable_set past) who d in
+      let held = LearnedLogs.gathered_logged ms (stable_set past) who d in
+      grind (arith, found, stored, held, survives_stable n past d, Choices.stable_has past d, survives_log n past, under, survives_found n past d)
 
 -- a restart
 module _ (n f : ℕ) (past : List Entry) (ms : Memories) (who : Pid) (listed : List Det) (low : who.0 < n) (down : at ms who.0 ≡ None) (lists : (d : Det) → has listed d ≡ has_entry d (gathered_log ms (stable_set past) who)) (s : IsSound n f past ms) where
@@ -352,62 +296,24 @@ module _ (n f : ℕ) (past : List Entry) (ms : Memories) (who : Pid) (listed : L
   nothing_there tells lacks p is = ap tells (log_none ms p (ap (at ms) (sym is) ∙ down)) ∙ lacks
 
   restarted_kept : (p ssn : ℕ) (x : Kept) → slice_get (messages restarted p) ssn ≡ Some x → slice_get (messages ms p) ssn ≡ Some x
-  restarted_kept p ssn x h =
-      elim (set_cases ms who.0 (Some (fresh gathered)) p bound) [
-        | inl is ↦ absurd (let e : None ≡ Some x = ap (λ xs. slice_get xs ssn) (sym is.3) ∙ h in cc)
-        | inr other ↦ ap (λ xs. slice_get xs ssn) (sym other.2) ∙ h
-      ]
+  restarted_kept p ssn x h = grind (arith, set_cases ms who.0 (Some (fresh gathered)) p bound, bound)
 
   is_restarted : IsRestarted n past who.0 listed ms restarted
   is_restarted = record {
     process = low;
     lists = lists_survivors;
-    has_as = λ p d. elim (set_cases ms who.0 (Some (fresh gathered)) p bound) [
-      | inl is ↦ ap (has_entry d) is.2 ∙ sym (lists d) ∙ alone (has listed d) ∙ (λ i. (sym is.0 i && has listed d) || sym (nothing_there (has_entry d) (LearnedLogs.none_entry d) p is.1) i)
-      | inr other ↦ ap (has_entry d) other.1 ∙ (λ i. (sym other.0 i && has listed d) || has_logged ms p d)
-    ];
-    heard = λ p d q h. elim (set_cases ms who.0 (Some (fresh gathered)) p bound) [
-      | inl is ↦ inr (
-        is.1,
-        elim (LearnedLogs.gathered_holder ms (stable_set past) who d q (ap (tells_holder d q) (sym is.2) ∙ h)) [
-          | inl mine ↦ inl mine
-          | inr some ↦ inr (some.0, under n f past ms who s some.0 some.1, some.2)
-        ],
-      )
-      | inr other ↦ inl (ap (tells_holder d q) (sym other.1) ∙ h)
-    ];
-    own = λ d h. elim (set_cases ms who.0 (Some (fresh gathered)) who.0 bound) [
-      | inl is ↦ ap (tells_holder d who.0) is.2 ∙ LearnedLogs.gathered_itself ms (stable_set past) who d (sym (lists d) ∙ h)
-      | inr other ↦ absurd (both_ways (who.0 == who.0) other.0 (eq-eqb who.0 who.0 refl))
-    ];
-    before = λ p d q away h. elim (set_cases ms who.0 (Some (fresh gathered)) p bound) [
-      | inl is ↦ absurd (both_ways (who.0 == p) away is.0)
-      | inr other ↦ ap (tells_holder d q) other.1 ∙ h
-    ];
-    marked = λ p d h. elim (set_cases ms who.0 (Some (fresh gathered)) p bound) [
-      | inl is ↦ elim (LearnedLogs.gathered_mark ms (stable_set past) who d (ap (tells_stable d) (sym is.2) ∙ h)) [
-        | inl stored ↦ inr (inl (sym (Choices.stable_has past d) ∙ stored))
-        | inr some ↦ inr (inr (some.0, under n f past ms who s some.0 some.1, some.2))
-      ]
-      | inr other ↦ inl (ap (tells_stable d) (sym other.1) ∙ h)
-    ];
+    has_as = λ p d.
+        let empty = nothing_there (has_entry d) (LearnedLogs.none_entry d) p in
+        grind (arith, set_cases ms who.0 (Some (fresh gathered)) p bound, lists d, empty);
+    heard = λ p d q h. grind (arith, set_cases, bound, LearnedLogs.gathered_holder, under);
+    own = λ d h. grind (arith, set_cases, bound, LearnedLogs.gathered_itself);
+    before = λ p d q away h. grind (arith, set_cases, bound, both_ways);
+    marked = λ p d h. grind (arith, set_cases, bound, LearnedLogs.gathered_mark, Choices.stable_has past d, under);
     kept = λ p x keeps. (keeps.0, restarted_kept p keeps.0 x keeps.1);
   }
-    where
-      alone : (b : Bool) → b ≡ ((true && b) || false)
-      alone true = refl
-      alone false = refl
 
   restart_fits : Matches n (Restart who listed ∷ past) restarted
-  restart_fits = record {
-    count = length_set ms who.0 (Some (fresh gathered)) ∙ s.fit.count;
-    state = λ p small. set_state ms who.0 (Some (fresh gathered)) p bound ∙ ap (λ b. cond (who.0 == p) false b) (s.fit.state p small) ∙ cleared (who.0 == p) (is_down past p);
-    placed = λ p ssn x h. message_older (Restart who listed) past x.send (name (record { 0 = p }) ssn) (s.fit.placed p ssn x (restarted_kept p ssn x h));
-  }
-    where
-      cleared : (a b : Bool) → cond a false b ≡ (not a && b)
-      cleared true b = refl
-      cleared false b = refl
+  restart_fits = grind (arith, length_set, set_state, bound, message_older, restarted_kept)
 
   -- the state after a restart is sound
   pub restart_sound : IsSound n f (Restart who listed ∷ past) (slice_set ms who.0 (Some (fresh (gathered_log ms (stable_set past) who))))

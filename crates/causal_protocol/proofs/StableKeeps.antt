@@ -1,7 +1,7 @@
 -- What the protocol keeps, over a stable entry.
-use Rattle.std.proofs.Common.{ℕ, ◌≡◌, inl, inr, true, List, ◌∷◌, ◌<◌, refl, sym, subst, ◌∙◌, arith}
+use Rattle.std.proofs.Common.{ℕ, ◌≡◌, true, List, ◌∷◌, ◌<◌, refl, sym, ◌∙◌, arith}
 use Rattle.std.specs.Prelude.{◌⊎◌}
-use Rattle.std.proofs.lemmas.Bool.{or_cases, or_left, or_right}
+use Rattle.std.proofs.lemmas.Bool.{or_cases, or_right}
 use Rattle.causal_name.proofs.Lemmas.DetOrder.{same_is}
 use Rattle.causal_name.specs.Names.{same_det}
 use Rattle.causal_name.specs.declared.Det.{Det}
@@ -11,7 +11,6 @@ use Rattle.causal_protocol.specs.Memory.{Kept, Memories}
 use Rattle.causal_protocol.specs.Sight.{has_logged, knows, marks, Keeps}
 use Rattle.causal_protocol.specs.Kept.{survives, Keeping}
 use Rattle.causal_trace.proofs.Lemmas.DependenceSteps.{reaches_old, depends_old}
-use Rattle.causal_trace.specs.Past.{logs, is_stable}
 use Rattle.causal_trace.specs.declared.entry.Entry.{Entry}
 use Rattle.causal_trace.specs.declared.entry.Entry.TheVariants.{Stable}
 use Rattle.causal_trace.specs.Dependence.{AreForward}
@@ -38,14 +37,7 @@ module _ (n f : ℕ) (past : List Entry) (ms next : Memories) (det : Det) (s : I
   stays d = record { stable = λ h. or_right _ _ h; within = λ _ p below h. h }
 
   pub left : (d : Det) → survives n (Stable det ∷ past) d ≡ true → survives n past d ≡ true
-  left d h =
-      elim (survives_found n (Stable det ∷ past) d h) [
-        | inl stable ↦ elim (or_cases (same_det d det) (is_stable past d) stable) [
-          | inl same ↦ survives_log n past s.process d s.below (subst (λ x. logs past s.process x ≡ true) (sym (same_is d det same)) (sym (k.logged s.process det s.below) ∙ s.logged))
-          | inr old ↦ survives_stable n past d old
-        ]
-        | inr held ↦ survives_log n past held.0 d held.1 held.2
-      ]
+  left d h = grind (arith, survives_found n (Stable det ∷ past) d h, or_cases, survives_log, same_is, survives_stable)
 
   -- all that the protocol keeps stands after a stable entry
   pub keeps_stable : Keeping n f (Stable det ∷ past) next
@@ -54,27 +46,15 @@ module _ (n f : ℕ) (past : List Entry) (ms next : Memories) (det : Det) (s : I
     logged = λ p d small. s.has_as p d ∙ k.logged p d small;
     own = λ p d small h. s.holds_as p d p ∙ k.own p d small h;
     known_processes = λ p d q small h. k.known_processes p d q small (sym (s.holds_as p d q) ∙ h);
-    holders_hold = λ p d q small h.
-        let known = sym (s.holds_as p d q) ∙ h in
-        true_stays n past (Stable det ∷ past) d q (k.known_processes p d q small known) (stays d) (k.holders_hold p d q small known);
+    holders_hold = λ p d q small h. grind (arith, true_stays, stays d);
     named_hold = λ p x d q small keeps names.
         true_stays n past (Stable det ∷ past) d q (k.named_processes p x d q small (s.kept p x keeps) names) (stays d) (k.named_hold p x d q small (s.kept p x keeps) names);
     named_processes = λ p x d q small keeps names. k.named_processes p x d q small (s.kept p x keeps) names;
-    marks_true = λ p d small h. elim (s.marked p d h) [
-      | inl new ↦ or_left _ _ new
-      | inr old ↦ or_right _ _ (k.marks_true p d small old)
-    ];
-    dependents_hold = λ i p d small at dep.
-        let before = det_earlier (Stable det) past i d refl at in
-        elim (depends_old (Stable det) past i p forward dep.up refl dep) [
-          | inl old ↦ elim (k.dependents_hold i p d small before old) [ inl held ↦ inl held | inr spread ↦ inr (spread_stays n f past (Stable det ∷ past) d (stays d) spread) ]
-          | inr new ↦ absurd (no_actor p new.0)
-        ];
+    marks_true = λ p d small h. grind arith;
+    dependents_hold = λ i p d small at dep. grind (arith, det_earlier, depends_old, spread_stays, stays, no_actor);
     messages_carry = λ i p x d small at keeps r.
-        elim (k.messages_carry i p x d small (det_earlier (Stable det) past i d refl at) (s.kept p x keeps) (reaches_old (Stable det) past i forward x.send (k.earlier p x small (s.kept p x keeps)) r)) [
-          | inl carried ↦ inl carried
-          | inr spread ↦ inr (spread_stays n f past (Stable det ∷ past) d (stays d) spread)
-        ];
+        let before = reaches_old (Stable det) past i forward x.send (k.earlier p x small (s.kept p x keeps)) r in
+        grind (arith, k.messages_carry i p x d small (det_earlier (Stable det) past i d refl at) (s.kept p x keeps) before, spread_stays, stays d);
     receivers_find = λ d below up h. finds_more past (Stable det ∷ past) d.dest.0 d (λ held. held) (stays d).stable (k.receivers_find d below up (left d h));
     senders_find = λ p x d small keeps carries. finds_more past (Stable det ∷ past) p d (λ held. held) (stays d).stable (k.senders_find p x d small (s.kept p x keeps) carries);
     earlier = λ p x small keeps. omega (arith, k.earlier p x small (s.kept p x keeps));

@@ -1,10 +1,9 @@
 -- Each legal step keeps what a run keeps.
-use Rattle.std.proofs.Common.{ℕ, zero, suc, ◌≡◌, ◌+◌, ◌<◌, inl, inr, true, not, ◌&&◌, ◌||◌, nat_lt, nat_le, List, [], ◌∷◌, ◌++◌, length, map, take, drop, replicate, slice_set, Option, Some, None, is_some, is_none, refl, sym, ap, subst, ◌∙◌, arith}
+use Rattle.std.proofs.Common.{ℕ, zero, suc, ◌≡◌, ◌+◌, ◌<◌, inl, inr, true, not, ◌&&◌, ◌||◌, nat_lt, List, [], ◌∷◌, ◌++◌, length, map, take, drop, replicate, slice_set, Option, Some, None, is_none, refl, sym, ap, subst, ◌∙◌, arith}
 use Rattle.std.specs.Prelude.{◌==◌}
 use Rattle.std.specs.List.{filter_map}
 use Rattle.std.specs.Option.{option_map, option_map_or}
-use Rattle.std.specs.FinMap as fin
-use Rattle.std.proofs.lemmas.Bool.{false≢true, or_cases, or_left, or_right, and_parts, cond-true, cond-false, ltb-true, leb-false}
+use Rattle.std.proofs.lemmas.Bool.{false≢true, or_cases, or_left, or_right, and_parts, cond-true, cond-false, ltb-true}
 use Rattle.std.proofs.lemmas.Bool.Decides.{eqb_tells}
 use Rattle.causal_name.specs.declared.Pid.{Pid}
 use Rattle.causal_name.specs.declared.MsgName.{MsgName}
@@ -14,7 +13,7 @@ use Rattle.causal_name.proofs.Lemmas.DetOrder.{same_itself}
 use Rattle.causal_trace.specs.declared.entry.Entry.{Entry}
 use Rattle.causal_trace.specs.declared.entry.Entry.TheVariants.{Send, Deliver, Stable, Crash, Restart}
 use Rattle.causal_trace.specs.Past.{has, message_at}
-use Rattle.causal_log.specs.Logs.{stable_in, marked, dets_of, unstable_in}
+use Rattle.causal_log.specs.Logs.{marked, dets_of}
 use Rattle.causal_protocol.specs.declared.request.CoreFault.{CoreFault}
 use Rattle.causal_protocol.specs.declared.request.CoreFault.TheVariants as Why
 use Rattle.causal_protocol.specs.declared.request.Request.{Request}
@@ -25,15 +24,15 @@ use Rattle.causal_protocol.specs.Memory.{Kept, Memory, Memories, at, changed, fr
 use Rattle.causal_protocol.specs.Gathering.{stable_set, gathered_log}
 use Rattle.causal_protocol.specs.Run.{Run, receive, memories, memories_of, stable_of}
 use Rattle.causal_protocol.specs.Naming.{name, named_for, kept_for, send_of, next_rsn, next_ssn, own_det, listed_for}
-use Rattle.causal_protocol.specs.Refusals.{when, unless, rows, first_fault, gathered, unwritten, forgettable, count_down}
+use Rattle.causal_protocol.specs.Refusals.{when, unless, rows, first_fault, gathered, unwritten, forgettable}
 use Rattle.causal_protocol.specs.Steps.{pushed, extended, receiver_of, sends_of, AreSends, delivery_of, forget_entries, LegalStep, flush_reason_of, IsPart}
-use Rattle.causal_protocol.specs.Sight.{tells_stable, has_logged, marks, has_item}
+use Rattle.causal_protocol.specs.Sight.{has_logged, marks, has_item}
 use Rattle.causal_protocol.specs.Kept.{finds}
-use Rattle.causal_protocol.specs.Runs.{IsSound, IsRun, StepsKeepRuns, RefusalsChangeNothing}
+use Rattle.causal_protocol.specs.Runs.{IsSound, IsRun, StepsKeepRuns, RefusalsChangeNothing, Of, After}
 use Rattle.causal_protocol.proofs.Places.{at_set, at_within, log_here}
 use Rattle.causal_protocol.proofs.LearnedLogs.{keys_have}
 use Rattle.causal_protocol.proofs.Choices.{own_have, items_have, unstable_logged, stable_have, marked_entry}
-use Rattle.causal_protocol.proofs.Refusals.{first_none, when_none, not_not, is_there, is_missing, kept_for-is, kept_message, only_named, down_counted}
+use Rattle.causal_protocol.proofs.Refusals.{first_none, when_none, not_not, is_there, kept_for-is, kept_message, only_named, down_counted}
 use Rattle.causal_protocol.proofs.SoundSteps.{send_sound, was_sent, delivery_sound, stable_sound, forget_sound, crash_sound, restart_sound}
 
 -- what a state keeps, with the memories that the run makes
@@ -80,10 +79,8 @@ flush_kept n f writers past p (d ∷ ds) m here low logged s =
     let next : IsKept n f (p ∷ writers) (Stable d ∷ past) = stable_sound n f past ms p m d here low (logged d (or_left _ _ (same_itself d))) s in
     let there : at (memories n f (p ∷ writers) (Stable d ∷ past)) p.0 ≡ Some (with_log (λ log. marked log d) m) = set_here ms p.0 (option_map (with_log (λ log. marked log d)) (at ms p.0)) bound ∙ ap (option_map (with_log (λ log. marked log d))) here in
     let still : (x : Det) → has ds x ≡ true → has_logged (memories n f (p ∷ writers) (Stable d ∷ past)) p.0 x ≡ true = λ x h.
-    ap (λ log. is_some (fin.get log x)) (log_here (memories n f (p ∷ writers) (Stable d ∷ past)) p.0 (with_log (λ log. marked log d) m) there)
-    ∙ marked_entry m.log d x
-    ∙ ap (λ log. is_some (fin.get log x)) (sym (log_here ms p.0 m here))
-    ∙ logged x (or_right _ _ h) in
+    let new = log_here (memories n f (p ∷ writers) (Stable d ∷ past)) p.0 (with_log (λ log. marked log d) m) there in
+    grind (arith, new, log_here ms p.0 m here, marked_entry m.log d x, logged x) in
     subst (λ ws. IsKept n f ws (pushed (map Stable ds) (Stable d ∷ past))) (slide (length (map Stable ds)) p writers) (flush_kept n f (p ∷ writers) (Stable d ∷ past) p ds (with_log (λ log. marked log d) m) there low still next)
   where
     slide : (k : ℕ) (p : Pid) (ws : List Pid) → replicate k p ++ (p ∷ ws) ≡ p ∷ (replicate k p ++ ws)
@@ -126,39 +123,28 @@ module _ (r : Run) (s : IsRun r) where
           let place : next_rsn ms q ≡ length m.received = ap (λ o. option_map_or (λ m. length m.received) o 0) here in
           let named : (d : Det) → finds past q.0 d ≡ true → d.dest ≡ q → d.rsn ≡ next_rsn ms q → message_of d ≡ asked = λ d found dest rsn. only_named n r.faults past ms q m here low s asked only d found dest (rsn ∙ place) in
           let lists : (d : Det) → has (listed_for ms q asked) d ≡ (same_det d (own_det ms q asked) || has_item d k.batch) = λ d.
-          own_have (own_det ms q asked) (dets_of (batch_of ms asked)) d
-          ∙ ap (λ b. same_det d (own_det ms q asked) || b) (items_have (batch_of ms asked) d ∙ ap (λ o. has_item d (option_map_or (λ k. k.batch) o [])) by) in
+          grind (arith, own_have (own_det ms q asked) (dets_of (batch_of ms asked)) d, items_have (batch_of ms asked) d) in
           let sound = delivery_sound n r.faults past ms q (next_rsn ms q) asked m k (listed_for ms q asked) here low from found named lists s in
           let sent = was_sent n r.faults past ms q (next_rsn ms q) asked m k (listed_for ms q asked) here low from found named lists s in
           let given : receive ms q (next_rsn ms q) (message_at past (send_of ms asked)) ≡ changed (with_received k.batch (own_det ms q asked)) ms q.0 =
-          ap (λ o. receive ms q (next_rsn ms q) (message_at past (option_map_or (λ k. k.send) o 0))) by
-          ∙ ap (receive ms q (next_rsn ms q)) sent
-          ∙ ap (λ o. changed (with_received (option_map_or (λ k. k.batch) o []) (own_det ms q asked)) ms q.0) by in
+          grind (arith, sent) in
           let next : IsKept n r.faults r.writers (delivery_of r q asked ∷ past) =
           subst (λ x. IsSound n r.faults (delivery_of r q asked ∷ past) x) (sym given)
           (subst (λ x. IsSound n r.faults (Deliver q x (next_rsn ms q) (listed_for ms q asked) ∷ past) (changed (with_received k.batch (own_det ms q asked)) ms q.0)) (ap (λ o. option_map_or (λ k. k.send) o 0) (sym by)) sound) in
           let bound : q.0 < length ms = at_within ms q.0 m here in
           let there : at (memories n r.faults r.writers (delivery_of r q asked ∷ past)) q.0 ≡ Some (with_received k.batch (own_det ms q asked) m) =
-          ap (λ x. at x q.0) given ∙ set_here ms q.0 (option_map (with_received k.batch (own_det ms q asked)) (at ms q.0)) bound ∙ ap (option_map (with_received k.batch (own_det ms q asked))) here in
+          grind (arith, given, set_here ms q.0 (option_map (with_received k.batch (own_det ms q asked)) (at ms q.0)) bound) in
           (are_sends_kept n r.faults r.writers (delivery_of r q asked ∷ past) q (next_ssn ms q) number (drop 1 appended) (with_received k.batch (own_det ms q asked) m) sends there low (ap (λ o. option_map_or (λ m. length m.sent) o 0) here) next).0
 
   crashes : (p : Pid) (appended : List Entry) → first_fault r (Ask.Crash p) ≡ None → appended ≡ Crash p ∷ [] → IsRun (extended r (Ask.Crash p) appended)
   unfolding rows memories
-  crashes p appended none is =
-      let row1 = first_none (when (not (nat_lt p.0 n)) Why.NoProcess) _ none in
-      let row2 = first_none (when (is_none (at ms p.0)) Why.Down) _ row1.1 in
-      let row3 = first_none (when (nat_le r.faults (count_down r)) Why.OverFaults) _ row2.1 in
-      let low = ltb-true p.0 n (not_not _ (when_none _ Why.NoProcess row1.0)) in
-      let few : count_down r < r.faults = leb-false r.faults (count_down r) (when_none _ Why.OverFaults row3.0) in
-      subst (λ es. IsKept n r.faults r.writers (pushed es past)) (sym is) (crash_sound n r.faults past ms p low (subst (λ x. x < r.faults) (down_counted n past ms s.fit.count s.fit.state) few) s)
+  crashes p appended none is = grind (arith, crash_sound n r.faults past ms p, down_counted n past ms s.fit.count s.fit.state)
 
   restarts_kept : (p : Pid) (number : ℕ) (appended : List Entry) → first_fault r (Ask.Restart p) ≡ None → appended ≡ Restart p (gathered r p) ∷ drop 1 appended → AreSends n p 0 number (drop 1 appended) → IsRun (extended r (Ask.Restart p) appended)
   unfolding rows memories
   restarts_kept p number appended none is sends =
-      let row1 = first_none (when (not (nat_lt p.0 n)) Why.NoProcess) _ none in
-      let row2 = first_none (when (is_some (at ms p.0)) Why.NotDown) _ row1.1 in
-      let low = ltb-true p.0 n (not_not _ (when_none _ Why.NoProcess row1.0)) in
-      let down = is_missing (at ms p.0) (when_none _ Why.NotDown row2.0) in
+      let low : p.0 < n = grind arith in
+      let down : at ms p.0 ≡ None = grind arith in
       let bound : p.0 < length ms = omega (arith, low, s.fit.count) in
       let next : IsKept n r.faults r.writers (Restart p (gathered r p) ∷ past) = restart_sound n r.faults past ms p (gathered r p) low down (λ d. keys_have (gathered_log ms (stable_set past) p) d) s in
       let there : at (memories n r.faults r.writers (Restart p (gathered r p) ∷ past)) p.0 ≡ Some (fresh (gathered_log ms (stable_set past) p)) = set_here ms p.0 (Some (fresh (gathered_log ms (stable_set past) p))) bound in
@@ -167,26 +153,19 @@ module _ (r : Run) (s : IsRun r) where
   flushes : (p : Pid) (ds : List Det) (appended : List Entry) → first_fault r (Ask.Flush p) ≡ None → ((d : Det) → has ds d ≡ true → has (unwritten r p) d ≡ true) → appended ≡ map Stable ds → IsRun (extended r (Ask.Flush p) appended)
   unfolding rows
   flushes p ds appended none within is =
-      let row1 = first_none (when (not (nat_lt p.0 n)) Why.NoProcess) _ none in
-      let row2 = first_none (when (is_none (at ms p.0)) Why.Down) _ row1.1 in
-      let low = ltb-true p.0 n (not_not _ (when_none _ Why.NoProcess row1.0)) in
-      let up = is_there (at ms p.0) (when_none _ Why.Down row2.0) in
+      let low : p.0 < n = grind arith in
+      let up = is_there (at ms p.0) (grind arith) in
       let logged : (d : Det) → has ds d ≡ true → has_logged ms p.0 d ≡ true = λ d h.
-      ap (λ log. is_some (fin.get log d)) (log_here ms p.0 up.0 up.1)
-      ∙ unstable_logged up.0.log d (sym (ap (λ o. has (option_map_or (λ m. unstable_in m.log) o []) d) up.1) ∙ within d h) in
+      grind (arith, within d h, log_here ms p.0 up.0 up.1, unstable_logged up.0.log d) in
       subst (λ es. IsKept n r.faults (replicate (length es) p ++ r.writers) (pushed es past)) (sym is) (flush_kept n r.faults r.writers past p ds up.0 up.1 low logged s)
 
   forgets : (p : Pid) (appended : List Entry) → first_fault r (Ask.Forget p) ≡ None → appended ≡ forget_entries p (forgettable r p) → IsRun (extended r (Ask.Forget p) appended)
   unfolding rows memories
   forgets p appended none is =
-      let row1 = first_none (when (not (nat_lt p.0 n)) Why.NoProcess) _ none in
-      let row2 = first_none (when (is_none (at ms p.0)) Why.Down) _ row1.1 in
-      let low = ltb-true p.0 n (not_not _ (when_none _ Why.NoProcess row1.0)) in
-      let up = is_there (at ms p.0) (when_none _ Why.Down row2.0) in
+      let low : p.0 < n = grind arith in
+      let up = is_there (at ms p.0) (grind arith) in
       let known : (d : Det) → has (forgettable r p) d ≡ true → marks ms p.0 d ≡ true = λ d h.
-      ap (λ log. (tells_stable d log)) (log_here ms p.0 up.0 up.1)
-      ∙ sym (stable_have up.0.log d)
-      ∙ (sym (ap (λ o. has (option_map_or (λ m. stable_in m.log) o []) d) up.1) ∙ h) in
+      grind (arith, log_here ms p.0 up.0 up.1, stable_have up.0.log d) in
       subst (λ es. IsKept n r.faults r.writers (pushed es past)) (sym is) (by_list (forgettable r p) low up.0 up.1 known)
     where
       by_list : (ds : List Det) → p.0 < n → (m : Memory) → at ms p.0 ≡ Some m → ((d : Det) → has ds d ≡ true → marks ms p.0 d ≡ true) → IsKept n r.faults r.writers (pushed (forget_entries p ds) past)
@@ -194,26 +173,10 @@ module _ (r : Run) (s : IsRun r) where
       by_list (d ∷ ds) low m here known = forget_sound n r.faults past ms p m (d ∷ ds) here low known s
 
   nothing_appended : (request : Request) (appended : List Entry) → appended ≡ [] → IsRun (extended r request appended)
-  nothing_appended request appended is = subst (λ es. IsRun (extended r request es)) (sym is) (by request)
-    where
-      by : (request : Request) → IsRun (extended r request [])
-      by (Ask.Deliver q source ssn) = s
-      by (Ask.Crash p) = s
-      by (Ask.Restart p) = s
-      by (Ask.Flush p) = s
-      by (Ask.Forget p) = s
+  nothing_appended request appended is = grind arith
 
 none_written : (fault reason : CoreFault) (done all : ℕ) → flush_reason_of fault ≡ Some reason → IsPart fault done all → done ≡ 0
-none_written Why.NoMemory reason done all is part = absurd (let e : None ≡ Some reason = is in cc)
-none_written Why.StoreFault reason done all is part = absurd (let e : None ≡ Some reason = is in cc)
-none_written Why.NoProcess reason done all is part = part
-none_written Why.Down reason done all is part = part
-none_written Why.NotDown reason done all is part = part
-none_written Why.OverFaults reason done all is part = part
-none_written (Why.MustReplay m) reason done all is part = part
-none_written Why.NotAvailable reason done all is part = part
-none_written Why.AlreadyDelivered reason done all is part = part
-none_written Why.Full reason done all is part = part
+none_written fault reason done all is part = grind arith
 
 legal_kept : (r : Run) (request : Request) (reply : Reply) (appended : List Entry) → LegalStep r request reply appended → IsRun r → IsRun (extended r request appended)
 unfolding LegalStep
@@ -241,18 +204,8 @@ steps_keep_runs old new request reply step s = subst IsRun (sym step.grown) (leg
 -- a refusal, but a flush that stopped part way, leaves the run as it was
 pub refusals_change_nothing : RefusalsChangeNothing
 unfolding LegalStep
-refusals_change_nothing old new request fault step = step.grown ∙ ap (extended old request) (nothing old request fault step.appended step.legal) ∙ same request
-  where
-    nothing : (r : Run) (request : Request) (fault : CoreFault) (appended : List Entry) → LegalStep r request (Told.Refused fault) appended → appended ≡ []
-    nothing r (Ask.Deliver q source ssn) fault appended h = h.1
-    nothing r (Ask.Crash p) fault appended h = h.1
-    nothing r (Ask.Restart p) fault appended h = h.1
-    nothing r (Ask.Flush p) fault appended h = absurd h
-    nothing r (Ask.Forget p) fault appended h = h.1
+refusals_change_nothing old new request fault step = grind arith
 
-    same : (request : Request) → extended old request [] ≡ old
-    same (Ask.Deliver q source ssn) = refl
-    same (Ask.Crash p) = refl
-    same (Ask.Restart p) = refl
-    same (Ask.Flush p) = refl
-    same (Ask.Forget p) = refl
+-- a fact of all runs holds after each legal step
+pub after : (IsAsked : Request → Type 0) (Fact : ℕ → ℕ → List Entry → Memories → Type 0) → ((r : Run) → IsRun r → Of Fact r) → After IsAsked Fact
+after IsAsked Fact from old new request reply asked step s = from new (steps_keep_runs old new request reply step s)

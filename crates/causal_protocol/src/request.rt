@@ -3,7 +3,7 @@ use causal_name::{Det, MsgName, Pid};
 use thiserror::Error;
 
 /// What a caller asks.
-#[derive(Clone, Copy, Debug, PartialEq, Eq)]
+#[derive(Clone, Copy, PartialEq, Eq)]
 pub enum Request {
     /// That `q` delivers the message of that sender and number.
     Deliver { q: Pid, source: Pid, ssn: u32 },
@@ -53,7 +53,7 @@ pub enum CoreFault {
 }
 
 /// What is told of a delivery.
-#[derive(Clone, Copy, Debug, PartialEq, Eq)]
+#[derive(Clone, Copy, PartialEq, Eq)]
 pub struct Delivered {
     /// The position of the deliver entry.
     pub first: u32,
@@ -64,7 +64,7 @@ pub struct Delivered {
 }
 
 /// What is told of a restart.
-#[derive(Clone, Copy, Debug, PartialEq, Eq)]
+#[derive(Clone, Copy, PartialEq, Eq)]
 pub struct Restarted {
     /// The position of the restart entry.
     pub first: u32,
@@ -82,7 +82,7 @@ pub struct FlushFault {
 }
 
 /// What is told of a call.
-#[derive(Clone, Copy, Debug, PartialEq, Eq)]
+#[derive(Clone, Copy, PartialEq, Eq)]
 pub enum Reply {
     Delivered(Delivered),
     /// The position of the crash entry.

@@ -1,10 +1,10 @@
 -- A command and its line.
-use Rattle.std.proofs.Common.{◌≡◌, ℕ, ◌<◌, ◌^◌, List, ◌∷◌, ◌++◌, Bool, true, false, cond, Option, Some, None, refl, ap, sym, ◌∙◌, subst, arith, decimal, codes, bytes_eq}
+use Rattle.std.proofs.Common.{◌≡◌, ℕ, ◌<◌, ◌^◌, List, ◌∷◌, ◌++◌, cond, Option, Some, None, ap, sym, ◌∙◌, arith, decimal, codes, bytes_eq}
 use Rattle.std.proofs.lemmas.Option.{none-some, same_Some}
 use Rattle.std.proofs.lemmas.Slice.Eq.{bytes_eq-Decides}
 use Rattle.causal_name.specs.declared.Pid.{Pid}
 use Rattle.causal_protocol.specs.declared.request.Request.{Request}
-use Rattle.causal_protocol.specs.declared.request.Request.TheVariants.{Deliver, Crash, Restart, Flush, Forget}
+use Rattle.causal_protocol.specs.declared.request.Request.TheVariants.{Deliver}
 use Rattle.causal_script.specs.Spelling.{command_line, IsRequest}
 use Rattle.causal_script.specs.Faults.{IsCommandLine}
 use Rattle.causal_script.specs.Inside.Reading.{◌>>=◌, cut, number_of, process_of, delivery_of, of_process, named_request, request_of}
@@ -13,8 +13,7 @@ use Rattle.causal_script.proofs.Numbers.{number_of-decimal, decimal-number_of, p
 
 -- where two steps of reading give something, both do
 pub bind_some : {A B : Type 0} (r : Option A) (f : A → Option B) (y : B) → (r >>= f) ≡ Some y → (x : A) × (r ≡ Some x) × (f x ≡ Some y)
-bind_some None f y e = absurd (none-some y e)
-bind_some (Some x) f y e = (x, refl, e)
+bind_some r f y e = grind (arith, none-some)
 
 -- what is read behind a cut is said where it is said of the two parts
 pub behind_cut : {A P : Type 0} (line : List ℕ) (f : List ℕ × List ℕ → Option A) (y : A) → (cut 32 line >>= f) ≡ Some y → ((parts : List ℕ × List ℕ) → line ≡ parts.0 ++ 32 ∷ parts.1 → f parts ≡ Some y → P) → P
@@ -22,10 +21,7 @@ behind_cut line f y e said = let a = bind_some (cut 32 line) f y e in said a.0 (
 
 -- what a choice by a name gives is given for that name, or by the other choices
 pub chosen : {A : Type 0} (name word : List ℕ) (x y : Option A) (z : A) {P : Type 0} → (name ≡ word → x ≡ Some z → P) → (y ≡ Some z → P) → cond (bytes_eq name word) x y ≡ Some z → P
-chosen name word x y z {P} this other e = by_test (bytes_eq name word) refl e where
-  by_test : (b : Bool) → bytes_eq name word ≡ b → cond b x y ≡ Some z → P
-  by_test true t e = this ((bytes_eq-Decides name word).0 t) e
-  by_test false t e = other e
+chosen name word x y z {P} this other e = grind (arith, bytes_eq-Decides name word)
 
 -- ---- from the line
 
@@ -66,29 +62,11 @@ abbrev pub Says : List ℕ → Request → Type 0
 Says line r = IsRequest r × (line ≡ command_line r)
 
 says_delivery : (name words line : List ℕ) (r : Request) → line ≡ name ++ 32 ∷ words → name ≡ codes "deliver" → delivery_of words ≡ Some r → Says line r
-says_delivery name words line r whole named e =
-    let d = delivered words r e in
-    let spelled : line ≡ codes "deliver " ++ (decimal d.q.0 ++ (32 ∷ (decimal d.source.0 ++ (32 ∷ decimal d.ssn)))) = whole ∙ ap (λ xs. xs ++ 32 ∷ words) named ∙ ap (λ xs. codes "deliver " ++ xs) d.spelled in
-    let says : Says line (Deliver d.q d.source d.ssn) = (d.fits, spelled) in
-    subst (λ (q : Request). Says line q) (sym d.is) says
-
--- a command of one process
-says_process : (make : Pid → Request) (word name words line : List ℕ) (p : Pid) (r : Request)
-    → IsRequest (make p) → word ++ 32 ∷ decimal p.0 ≡ command_line (make p)
-    → line ≡ name ++ 32 ∷ words → words ≡ decimal p.0 → name ≡ word → Some (make p) ≡ Some r → Says line r
-says_process make word name words line p r fits spells whole number named e =
-    let spelled : line ≡ command_line (make p) = whole ∙ ap (λ xs. xs ++ 32 ∷ words) named ∙ ap (λ xs. word ++ 32 ∷ xs) number ∙ spells in
-    let says : Says line (make p) = (fits, spelled) in
-    subst (λ (q : Request). Says line q) (same_Some _ _ e) says
+says_delivery name words line r whole named e = grind (arith, delivered words r e)
 
 says_of_process : (name words line : List ℕ) (p : Pid) (r : Request) → line ≡ name ++ 32 ∷ words → words ≡ decimal p.0 → p.0 < 2 ^ 8 → of_process name p ≡ Some r → Says line r
 unfolding of_process
-says_of_process name words line p r whole number small e =
-    chosen name (codes "crash") _ _ r (λ named is. says_process Crash (codes "crash") name words line p r small refl whole number named is)
-    (chosen name (codes "restart") _ _ r (λ named is. says_process Restart (codes "restart") name words line p r small refl whole number named is)
-    (chosen name (codes "flush") _ _ r (λ named is. says_process Flush (codes "flush") name words line p r small refl whole number named is)
-    (chosen name (codes "forget") _ None r (λ named is. says_process Forget (codes "forget") name words line p r small refl whole number named is)
-    (λ no. absurd (none-some r no))))) e
+says_of_process name words line p r whole number small e = grind (arith, bytes_eq-Decides name)
 
 says_named : (name words line : List ℕ) (r : Request) → line ≡ name ++ 32 ∷ words → named_request name words ≡ Some r → Says line r
 unfolding named_request
@@ -109,21 +87,12 @@ says_request line r e = behind_cut line _ r e (λ parts whole is. says_named par
 
 delivery_back : (q source : Pid) (ssn : ℕ) → q.0 < 2 ^ 8 → source.0 < 2 ^ 8 → ssn < 2 ^ 32 → delivery_of (decimal q.0 ++ (32 ∷ (decimal source.0 ++ (32 ∷ decimal ssn)))) ≡ Some (Deliver q source ssn)
 unfolding delivery_of
-delivery_back q source ssn a b s =
-    rw (cut_number q.0 (decimal source.0 ++ (32 ∷ decimal ssn)) (omega arith)) (rw (cut_number source.0 (decimal ssn) (omega arith))
-    (rw (process_of-decimal q a) (rw (process_of-decimal source b) (rw (number_of-decimal 4294967295 ssn (omega arith) (omega arith)) refl))))
-
-process_back : (make : Pid → Request) (p : Pid) → p.0 < 2 ^ 8 → (process_of (decimal p.0) >>= λ q. Some (make q)) ≡ Some (make p)
-process_back make p small = rw (process_of-decimal p small) refl
+delivery_back q source ssn a b s = grind (arith, cut_number, process_of-decimal q a, process_of-decimal source b, number_of-decimal)
 
 -- the line of a command is read as its request
 pub request_back : (r : Request) → IsRequest r → request_of (command_line r) ≡ Some r
 unfolding request_of named_request of_process
-request_back (Deliver q source ssn) h = delivery_back q source ssn h.0 h.1 h.2
-request_back (Crash p) h = process_back Crash p h
-request_back (Restart p) h = process_back Restart p h
-request_back (Flush p) h = process_back Flush p h
-request_back (Forget p) h = process_back Forget p h
+request_back r h = grind (arith, delivery_back, process_of-decimal)
 
 -- ---- in place
 

@@ -1,9 +1,9 @@
 -- A text that is cut at the first such byte.
-use Rattle.std.proofs.Common.{◌≡◌, ◌⊎◌, inl, inr, ℕ, zero, suc, ◌+◌, ◌-◌, ◌<◌, ◌≤◌, List, [], ◌∷◌, ◌++◌, length, take, drop, Bool, true, false, cond, eqb, ltb, Option, Some, None, refl, ap, sym, ◌∙◌, subst, arith, option_map, length-append}
+use Rattle.std.proofs.Common.{◌≡◌, ℕ, zero, suc, ◌+◌, ◌-◌, ◌<◌, List, [], ◌∷◌, ◌++◌, length, take, drop, Bool, true, false, cond, eqb, ltb, Option, Some, None, refl, ap, sym, ◌∙◌, arith, option_map, length-append}
 use Rattle.std.specs.List.{position_or_len}
 use Rattle.std.proofs.Math.Seq.{take-length}
-use Rattle.std.proofs.lemmas.Bool.{eqb-true, eq-eqb, lt-ltb, le-ltb, cases_lt}
-use Rattle.std.proofs.lemmas.Option.{none-some, same_Some}
+use Rattle.std.proofs.lemmas.Bool.{eqb-true, eq-eqb, lt-ltb}
+use Rattle.std.proofs.lemmas.Option.{none-some}
 use Rattle.causal_script.specs.Inside.Reading.{cut}
 
 -- no byte is this one
@@ -28,17 +28,10 @@ cut_whole byte [] parts e = absurd (none-some parts e)
 cut_whole byte (x ∷ xs) parts e = by_test (eqb x byte) refl (cut_whole byte xs) e where
   later : (r : Option (List ℕ × List ℕ)) → eqb x byte ≡ false → ((q : List ℕ × List ℕ) → r ≡ Some q → IsCut byte xs q) → option_map (λ q. (x ∷ q.0, q.1)) r ≡ Some parts → IsCut byte (x ∷ xs) parts
   later None t ih e = absurd (none-some parts e)
-  later (Some q) t ih e =
-      let same : (x ∷ q.0, q.1) ≡ parts = same_Some _ _ e in
-      let h = ih q refl in
-      let here : IsCut byte (x ∷ xs) (x ∷ q.0, q.1) = record { whole = ap (λ ys. x ∷ ys) h.whole; lacks = (t, h.lacks) } in
-      subst (λ (p : List ℕ × List ℕ). IsCut byte (x ∷ xs) p) same here
+  later (Some q) t ih e = grind (arith, (ih q refl).whole, (ih q refl).lacks)
 
   by_test : (b : Bool) → eqb x byte ≡ b → ((q : List ℕ × List ℕ) → cut byte xs ≡ Some q → IsCut byte xs q) → cond b (Some ([], xs)) (option_map (λ q. (x ∷ q.0, q.1)) (cut byte xs)) ≡ Some parts → IsCut byte (x ∷ xs) parts
-  by_test true t ih e =
-      let same : ([], xs) ≡ parts = same_Some _ _ e in
-      let here : IsCut byte (x ∷ xs) ([], xs) = record { whole = ap (λ y. y ∷ xs) (eqb-true x byte t); lacks = tt } in
-      subst (λ (p : List ℕ × List ℕ). IsCut byte (x ∷ xs) p) same here
+  by_test true t ih e = grind (arith, eqb-true x byte t)
   by_test false t ih e = later (cut byte xs) t ih e
 
 -- what stands before this place, and what stands after it
@@ -53,19 +46,9 @@ place_of byte xs = cond (ltb (position_or_len (λ b. eqb b byte) xs) (length xs)
 pub cut_position : (byte : ℕ) (xs : List ℕ) → cut byte xs ≡ parts_at xs (place_of byte xs)
 cut_position byte [] = refl
 cut_position byte (x ∷ xs) = by_test (eqb x byte) refl (cut_position byte xs) where
-  inside : (n k : ℕ) (b : Bool) → ltb n (length xs) ≡ b → ltb (suc n) k ≡ b
-      → option_map (λ (q : List ℕ × List ℕ). (x ∷ q.0, q.1)) (parts_at xs (cond (ltb n (length xs)) (Some n) None)) ≡ parts_at (x ∷ xs) (cond (ltb (suc n) k) (Some (suc n)) None)
-  inside n k true s t = rw (s, t) refl
-  inside n k false s t = rw (s, t) refl
-
-  by_size : (n k : ℕ) → k ≡ suc (length xs) → (n < length xs) ⊎ (length xs ≤ n)
-      → option_map (λ (q : List ℕ × List ℕ). (x ∷ q.0, q.1)) (parts_at xs (cond (ltb n (length xs)) (Some n) None)) ≡ parts_at (x ∷ xs) (cond (ltb (suc n) k) (Some (suc n)) None)
-  by_size n k e (inl h) = inside n k true (lt-ltb n (length xs) h) (lt-ltb (suc n) k (omega arith))
-  by_size n k e (inr h) = inside n k false (le-ltb n (length xs) h) (le-ltb (suc n) k (omega arith))
-
   shifted : (n m k : ℕ) → m ≡ suc n → k ≡ suc (length xs)
       → option_map (λ (q : List ℕ × List ℕ). (x ∷ q.0, q.1)) (parts_at xs (cond (ltb n (length xs)) (Some n) None)) ≡ parts_at (x ∷ xs) (cond (ltb m k) (Some m) None)
-  shifted n m k e f = subst (λ (i : ℕ). option_map (λ (q : List ℕ × List ℕ). (x ∷ q.0, q.1)) (parts_at xs (cond (ltb n (length xs)) (Some n) None)) ≡ parts_at (x ∷ xs) (cond (ltb i k) (Some i) None)) (sym e) (by_size n k f (cases_lt n (length xs)))
+  shifted n m k e f = grind arith
 
   by_test : (b : Bool) → eqb x byte ≡ b → cut byte xs ≡ parts_at xs (place_of byte xs) → cut byte (x ∷ xs) ≡ parts_at (x ∷ xs) (place_of byte (x ∷ xs))
   by_test true t ih = let some : ltb 0 (length (x ∷ xs)) ≡ true = lt-ltb 0 (length (x ∷ xs)) (omega arith) in rw (t, some) refl
@@ -92,13 +75,8 @@ tail_whole (y ∷ ys) = let less : length (y ∷ ys) - 1 ≡ length ys = omega a
 -- the rest as a slice
 pub cut_slices : (byte : ℕ) (xs front back : List ℕ) (at : ℕ) → front ≡ take at xs → back ≡ drop at xs → cut byte xs ≡ Some (take at xs, drop (suc at) xs)
     → ◌≡◌ {A = Option (List ℕ × List ℕ)} (Some (front, take (length back - 1) (drop 1 back))) (cut byte xs)
-cut_slices byte xs front back at f b e =
-    let rest : take (length back - 1) (drop 1 back) ≡ drop (suc at) xs = tail_whole back ∙ ap (drop 1) b ∙ drop_more xs at in
-    rw (f, rest) (sym e)
+cut_slices byte xs front back at f b e = grind (arith, tail_whole back, drop_more xs at)
 
 -- what stands after the byte is shorter than the text
 pub cut_shorter : (byte : ℕ) (xs : List ℕ) (parts : List ℕ × List ℕ) → cut byte xs ≡ Some parts → length parts.1 < length xs
-cut_shorter byte xs parts e =
-    let c = cut_whole byte xs parts e in
-    let all : length xs ≡ length (parts.0 ++ byte ∷ parts.1) = ap length c.whole in
-    omega (arith, length-append parts.0 (byte ∷ parts.1))
+cut_shorter byte xs parts e = grind (arith, cut_whole byte xs parts e, length-append parts.0 (byte ∷ parts.1))

@@ -1,7 +1,6 @@
 -- A number and its word.
-use Rattle.std.proofs.Common.{◌≡◌, ◌≢◌, ◌⊎◌, inl, inr, ℕ, zero, suc, ◌<◌, ◌≤◌, ◌^◌, List, [], ◌∷◌, ◌++◌, length, get_or, Bool, true, false, cond, eqb, ltb, leb, not, Option, Some, None, Result, Ok, Err, refl, ap, sym, ◌∙◌, subst, arith, decimal}
+use Rattle.std.proofs.Common.{◌≡◌, ◌≢◌, ◌⊎◌, ℕ, ◌<◌, ◌≤◌, ◌^◌, List, [], ◌∷◌, ◌++◌, length, get_or, Bool, true, false, cond, leb, Option, Some, None, Result, Ok, Err, refl, ap, sym, ◌∙◌, subst, arith, decimal}
 use Rattle.std.specs.Prelude.{slice_get, ◌&&◌, nat_le}
-use Rattle.std.specs.Char.{is_ascii_digit}
 use Rattle.std.specs.Str.{all_ascii_digits}
 use Rattle.std.specs.Str.Parse.{digits_value, ParsesUnsigned}
 use Rattle.std.proofs.lemmas.Bool.{eqb-true, eq-eqb}
@@ -12,7 +11,7 @@ use Rattle.std.proofs.lemmas.Str.{IsUtf8-from_ascii}
 use Rattle.std.proofs.lemmas.Fmt.{IsAscii-decimal, digits_decimal, digits_value-decimal, decimal-digits_value, decimal_nonempty, first_decimal, decimal_digit}
 use Rattle.std.proofs.lemmas.Option.{none-some, same_Some}
 use Rattle.causal_name.specs.declared.Pid.{Pid}
-use Rattle.causal_script.specs.Inside.Reading.{cut, is_plain, number_of, process_of, count_of, ◌>>=◌}
+use Rattle.causal_script.specs.Inside.Reading.{cut, is_plain, number_of, process_of, count_of}
 use Rattle.causal_script.proofs.Cuts.{Lacks, cut_front}
 
 -- digits spell the number that is their value
@@ -20,8 +19,7 @@ pub own : IsNumeralModel (λ ds. all_ascii_digits ds ≡ true) (digits_value 10)
 own = numerals_by_value (λ ds. all_ascii_digits ds ≡ true) tells_all_ascii_digits
 
 both : (a b : Bool) → (a && b) ≡ true → (a ≡ true) × (b ≡ true)
-both true b h = (refl, h)
-both false b h = absurd (let no : false ≡ true = h in cc)
+both a b h = grind arith
 
 -- digits, and no zero before others
 pub record IsPlain (word : List ℕ) : Type 0 where
@@ -31,40 +29,18 @@ pub record IsPlain (word : List ℕ) : Type 0 where
   pub lone : get_or word 0 0 ≡ 48 → length word ≡ 1
 
 pub plain_is : (word : List ℕ) → is_plain word ≡ true → IsPlain word
-plain_is [] e = absurd (let no : false ≡ true = e in cc)
-plain_is (x ∷ []) e = record { digits = let digit : is_ascii_digit x ≡ true = e in rw digit refl; some = omega arith; lone = λ _. refl }
-plain_is (x ∷ y ∷ ys) e =
-    let parts = both (not (eqb x 48)) (all_ascii_digits (x ∷ y ∷ ys)) e in
-    record { digits = parts.1; some = omega arith; lone = λ zero_first. absurd (clash (eqb x 48) parts.0 (eq-eqb x 48 zero_first)) } where
-      clash : (b : Bool) → not b ≡ true → b ≡ true → ⊥
-      clash true e t = let no : false ≡ true = e in cc
-      clash false e t = let no : false ≡ true = t in cc
+plain_is word e = grind (arith, eq-eqb)
 
 pub is_plain-from : (word : List ℕ) → IsPlain word → is_plain word ≡ true
-is_plain-from [] h = absurd (let no : 0 < 0 = h.some in omega arith)
-is_plain-from (x ∷ []) h = (both (is_ascii_digit x) true h.digits).0
-is_plain-from (x ∷ y ∷ ys) h = join (not (eqb x 48)) _ (other (eqb x 48) refl) h.digits where
-  join : (a b : Bool) → a ≡ true → b ≡ true → (a && b) ≡ true
-  join a b p q = rw (p, q) refl
-
-  other : (b : Bool) → eqb x 48 ≡ b → not b ≡ true
-  other true t = absurd (let two : suc (suc (length ys)) ≡ 1 = h.lone (eqb-true x 48 t) in omega arith)
-  other false t = refl
+is_plain-from word h = grind (arith, eqb-true)
 
 pub decimal_plain : (n : ℕ) → n < 2 ^ 64 → IsPlain (decimal n)
-decimal_plain n small = record { digits = digits_decimal own n small; some = decimal_nonempty n small; lone = lone n small } where
-  lone : (m : ℕ) → m < 2 ^ 64 → get_or (decimal m) 0 0 ≡ 48 → length (decimal m) ≡ 1
-  lone zero s e = let one : decimal 0 ≡ 48 ∷ [] = decimal_digit 0 (omega arith) in ap length one
-  lone (suc m) s e = absurd (let first : 48 < get_or (decimal (suc m)) 0 0 = first_decimal (suc m) (omega arith) s in omega arith)
+decimal_plain n small = grind (arith, digits_decimal own n small, own, decimal_nonempty n small, decimal_digit, first_decimal)
 
 -- the word of a number is read as the number
 pub number_of-decimal : (limit n : ℕ) → n ≤ limit → n < 2 ^ 64 → number_of limit (decimal n) ≡ Some n
 unfolding number_of
-number_of-decimal limit n within small =
-    let plain : is_plain (decimal n) ≡ true = is_plain-from (decimal n) (decimal_plain n small) in
-    let value : digits_value 10 (decimal n) ≡ n = digits_value-decimal own n small in
-    let fits : leb n limit ≡ true = grind (arith, nat_tests) in
-    rw (plain, value, fits) refl
+number_of-decimal limit n within small = grind (arith, is_plain-from, decimal_plain, digits_value-decimal, own, nat_tests)
 
 -- what is read as a number is its word
 pub decimal-number_of : (limit n : ℕ) (word : List ℕ) → limit < 2 ^ 64 → number_of limit word ≡ Some n → (word ≡ decimal n) × (n ≤ limit)
@@ -83,12 +59,9 @@ decimal-number_of limit n word small e = by_test (is_plain word && leb (digits_v
 -- a number in decimal has no space
 pub decimal_lacks : (n : ℕ) → n < 2 ^ 64 → Lacks 32 (decimal n)
 decimal_lacks n small = from (decimal n) (digits_decimal own n small) where
-  digit : (x : ℕ) → is_ascii_digit x ≡ true → eqb x 32 ≡ false
-  digit x h = grind (arith, nat_tests)
-
   from : (xs : List ℕ) → all_ascii_digits xs ≡ true → Lacks 32 xs
   from [] h = tt
-  from (x ∷ xs) h = let parts = both (is_ascii_digit x) (all_ascii_digits xs) h in (digit x parts.0, from xs parts.1)
+  from (x ∷ xs) h = grind (arith, nat_tests, from xs)
 
 -- words that begin with a number in decimal are cut behind it
 pub cut_number : (n : ℕ) (rest : List ℕ) → n < 2 ^ 64 → cut 32 (decimal n ++ (32 ∷ rest)) ≡ Some (decimal n, rest)
@@ -104,37 +77,17 @@ process_of-decimal p small = rw (number_of-decimal 255 p.0 (omega arith) (omega 
 -- a word that is read as a process is its number in decimal
 pub decimal-process_of : (p : Pid) (word : List ℕ) → process_of word ≡ Some p → (word ≡ decimal p.0) × (p.0 < 2 ^ 8)
 unfolding process_of
-decimal-process_of p word e = by_cases (number_of 255 word) refl e where
-  by_cases : (r : Option ℕ) → number_of 255 word ≡ r → (r >>= λ n. Some (record { 0 = n })) ≡ Some p → (word ≡ decimal p.0) × (p.0 < 2 ^ 8)
-  by_cases None s e = absurd (none-some p e)
-  by_cases (Some n) s e =
-      let same : ◌≡◌ {A = Pid} (record { 0 = n }) p = same_Some _ _ e in
-      let number : n ≡ p.0 = ap (λ (q : Pid). q.0) same in
-      let read = decimal-number_of 255 n word (omega arith) s in
-      (read.0 ∙ ap decimal number, omega (arith, read.1))
+decimal-process_of p word e = grind (arith, decimal-number_of 255 p.0 word)
 
 -- a count up to 256, in decimal, is read as that count
 pub count_of-decimal : (n : ℕ) → 1 ≤ n → n ≤ 256 → count_of (decimal n) ≡ Some n
 unfolding count_of
-count_of-decimal n some few =
-    let test : ltb 0 n ≡ true = grind (arith, nat_tests) in
-    rw (number_of-decimal 256 n few (omega arith)) (rw test refl)
+count_of-decimal n some few = grind (arith, nat_tests, number_of-decimal)
 
 -- a word that is read as a count is that count in decimal
 pub decimal-count_of : (n : ℕ) (word : List ℕ) → count_of word ≡ Some n → (word ≡ decimal n) × (1 ≤ n) × (n ≤ 256)
 unfolding count_of
-decimal-count_of n word e = by_cases (number_of 256 word) refl e where
-  by_test : (m : ℕ) (b : Bool) → number_of 256 word ≡ Some m → ltb 0 m ≡ b → cond b (Some m) None ≡ Some n → (word ≡ decimal n) × (1 ≤ n) × (n ≤ 256)
-  by_test m true s t e =
-      let same : m ≡ n = same_Some _ _ e in
-      let read = decimal-number_of 256 m word (omega arith) s in
-      let some : 0 < m = grind (arith, nat_tests) in
-      (read.0 ∙ ap decimal same, omega arith, omega (arith, read.1))
-  by_test m false s t e = absurd (none-some n e)
-
-  by_cases : (r : Option ℕ) → number_of 256 word ≡ r → (r >>= λ m. cond (ltb 0 m) (Some m) None) ≡ Some n → (word ≡ decimal n) × (1 ≤ n) × (n ≤ 256)
-  by_cases None s e = absurd (none-some n e)
-  by_cases (Some m) s e = by_test m (ltb 0 m) s refl e
+decimal-count_of n word e = grind (arith, decimal-number_of 256 n word, nat_tests)
 
 -- ---- what `parse` answers
 
@@ -144,27 +97,17 @@ within limit (Ok n) = if nat_le n limit then Some n else None
 within limit (Err e) = None
 
 unspelled : (limit : ℕ) (word : List ℕ) → ((n : ℕ) → number_of limit word ≡ Some n → ⊥) → number_of limit word ≡ None
-unspelled limit word never = by_cases (number_of limit word) refl where
-  by_cases : (r : Option ℕ) → number_of limit word ≡ r → r ≡ None
-  by_cases None e = refl
-  by_cases (Some n) e = absurd (never n e)
+unspelled limit word never = grind arith
 
 parsed : {E : Type 0} (limit : ℕ) (word : List ℕ) (r : Result ℕ E) → limit < 2 ^ 32 → 0 < length word → get_or word 0 0 ≢ 43 → (get_or word 0 0 ≡ 48 → length word ≤ 1)
     → ParsesUnsigned 32 10 word r → number_of limit word ≡ within limit r
 unfolding number_of
 parsed {E} limit word r small some sign lone parses = by_cases r (parse_plain own 32 word r parses sign) where
   spelled : (n : ℕ) → number_of limit word ≡ Some n → (all_ascii_digits word ≡ true) × (0 < length word) × (digits_value 10 word < 2 ^ 32) × (digits_value 10 word ≡ n) × (n ≤ limit)
-  spelled n e =
-      let d = decimal-number_of limit n word (omega arith) e in
-      let value : digits_value 10 (decimal n) ≡ n = digits_value-decimal own n (omega (arith, d.1)) in
-      let same : digits_value 10 word ≡ n = ap (digits_value 10) d.0 ∙ value in
-      let digits : all_ascii_digits (decimal n) ≡ true = digits_decimal own n (omega (arith, d.1)) in
-      (ap all_ascii_digits d.0 ∙ digits, some, omega (arith, d.1), same, d.1)
+  spelled n e = grind (arith, decimal-number_of limit n word, digits_value-decimal own n, digits_decimal own n)
 
   by_limit : (n : ℕ) → n ≡ digits_value 10 word → all_ascii_digits word ≡ true → (b : Bool) → leb n limit ≡ b → number_of limit word ≡ cond b (Some n) None
-  by_limit n value digits b t =
-      let plain : is_plain word ≡ true = is_plain-from word (record { digits = digits; some = some; lone = λ e. let one : length word ≤ 1 = lone e in omega arith }) in
-      rw (plain, sym value, t) refl
+  by_limit n value digits b t = grind (arith, is_plain-from word)
 
   by_cases : (o : Result ℕ E) → OkIff o ((all_ascii_digits word ≡ true) × (0 < length word) × (digits_value 10 word < 2 ^ 32)) (digits_value 10 word) → number_of limit word ≡ within limit o
   by_cases (Ok n) h = by_limit n h.1 h.0.0 (leb n limit) refl
@@ -183,12 +126,9 @@ first_is [] first e = absurd (none-some first (sym e))
 first_is (x ∷ xs) first e = (let same : first ≡ x = same_Some _ _ e in sym same, omega arith)
 
 lone_from : (x n : ℕ) → ((x ≡ 48) × (n ≤ 1)) ⊎ (x ≢ 48) → x ≡ 48 → n ≤ 1
-lone_from x n (inl h) e = h.1
-lone_from x n (inr other) e = absurd (other e)
+lone_from x n h e = grind arith
 
 -- a word with no plus sign, and no zero before others, spells what `parse` answers
 pub parsed_word : {E : Type 0} (limit first : ℕ) (word text : List ℕ) (r : Result ℕ E) → limit < 2 ^ 32 → Some first ≡ slice_get word 0 → first ≢ 43 → ((first ≡ 48) × (length word ≤ 1)) ⊎ (first ≢ 48)
     → text ≡ word → ParsesUnsigned 32 10 text r → number_of limit word ≡ within limit r
-parsed_word limit first word text r small begins sign lone same parses =
-    let at = first_is word first begins in
-    parsed limit word r small at.1 (λ e. sign (sym at.0 ∙ e)) (λ e. lone_from first (length word) lone (sym at.0 ∙ e)) (subst (λ (w : List ℕ). ParsesUnsigned 32 10 w r) same parses)
+parsed_word limit first word text r small begins sign lone same parses = grind (arith, first_is word first begins, parsed, lone_from)

@@ -1,11 +1,11 @@
 -- A text that has been read to its end.
-use Rattle.std.proofs.Common.{◌≡◌, ℕ, suc, ◌<◌, ◌≤◌, List, [], ◌∷◌, length, map, refl, ap, sym, ◌∙◌, subst, arith}
+use Rattle.std.proofs.Common.{◌≡◌, ℕ, suc, List, [], ◌∷◌, length, map, refl, ap, arith}
 use Rattle.std.proofs.lemmas.List.{append-nil}
 use Rattle.causal_script.specs.declared.script.Command.{Command}
 use Rattle.causal_script.specs.declared.script.ScriptFaultKind.TheVariants.{Script}
 use Rattle.causal_script.specs.declared.start.Start.{Start}
 use Rattle.causal_script.specs.Lines.{lines}
-use Rattle.causal_script.specs.Spelling.{max_script, IsStart, Spells, start_line, command_line}
+use Rattle.causal_script.specs.Spelling.{IsStart, Spells, start_line}
 use Rattle.causal_script.specs.Faults.{IsFirstFault}
 use Rattle.causal_script.specs.Inside.Place.{AreCommands, AreOnLines}
 use Rattle.causal_script.proofs.Texts.{sound_none, length_lines, whole_within}
@@ -18,18 +18,8 @@ length_map f (x ∷ xs) = ap suc (length_map f xs)
 -- a text that has been read to its end spells the start and the commands that were read
 pub spelled : (text first rest : List ℕ) (s : Start) (commands : List Command) (line : ℕ) → lines text ≡ first ∷ lines rest → IsStart s → first ≡ start_line s
     → AreCommands rest commands [] → AreOnLines text commands line [] → Spells text (record { start = s; commands = commands })
-spelled text first rest s commands line split start is read r =
-    let words = λ (c : Command). command_line c.request in
-    let said : lines text ≡ start_line s ∷ map words commands = split ∙ ap (λ l. l ∷ lines rest) is ∙ ap (λ ls. start_line s ∷ ls) (read.said ∙ append-nil (map words commands)) in
-    let within : length text ≤ max_script = whole_within text line r.after in
-    let count : length (lines text) ≡ suc (length commands) = ap length said ∙ ap suc (length_map words commands) in
-    record {
-      plan = record { start = start; requests = read.requests; numbered = r.numbered; room = omega (arith, length_lines text) };
-      said = said;
-      within = within;
-    }
+spelled text first rest s commands line split start is read r = grind (arith, append-nil, whole_within, length_map, length_lines)
 
 -- the first fault of an empty text is that its first line is no start
 pub empty_fault : (text : List ℕ) → text ≡ [] → IsFirstFault text (record { line = 1; kind = Script })
-empty_fault text is = subst (λ (t : List ℕ). IsFirstFault t (record { line = 1; kind = Script })) (sym is)
-    (record { before = 0; number = refl; sound = sound_none []; faulty = λ place. place; big_first = λ same big. let over : max_script < 0 = big.0 in omega arith })
+empty_fault text is = grind (arith, sound_none [])

@@ -75,22 +75,10 @@ SaysStart line s = IsStart s × (line ≡ start_line s)
 says_with_param : (kind : Kind) (word name words line : List ℕ) (s : Start) → (kind ≡ Tally → ⊥)
     → ((n f param : ℕ) → codes "start " ++ (word ++ (32 ∷ (decimal n ++ (32 ∷ (decimal f ++ (32 ∷ decimal param)))))) ≡ start_line (record { kind = kind; n = n; f = f; param = param }))
     → line ≡ codes "start " ++ (name ++ 32 ∷ words) → name ≡ word → with_param kind words ≡ Some s → SaysStart line s
-says_with_param kind word name words line s other spells whole named e =
-    let w = with_param_is kind words s e in
-    let t : Start = record { kind = kind; n = w.0.n; f = w.0.f; param = w.0.param } in
-    let fits : IsStart t = record { some = w.0.some; few = w.0.few; faults = w.0.faults; param = w.0.small; tally = λ is. absurd (other is) } in
-    let spelled : line ≡ start_line t = whole ∙ ap (λ xs. codes "start " ++ (xs ++ 32 ∷ words)) named ∙ ap (λ xs. codes "start " ++ (word ++ 32 ∷ xs)) w.1 ∙ spells w.0.n w.0.f w.0.param in
-    let says : SaysStart line t = (fits, spelled) in
-    subst (λ (u : Start). SaysStart line u) (sym w.0.is) says
+says_with_param kind word name words line s other spells whole named e = grind (arith, with_param_is kind words s e)
 
 says_tally : (name words line : List ℕ) (s : Start) → line ≡ codes "start " ++ (name ++ 32 ∷ words) → name ≡ codes "tally" → tally_of words ≡ Some s → SaysStart line s
-says_tally name words line s whole named e =
-    let w = tally_is words s e in
-    let t : Start = record { kind = Tally; n = w.0.n; f = w.0.f; param = w.0.param } in
-    let fits : IsStart t = record { some = w.0.some; few = w.0.few; faults = w.0.faults; param = w.0.small; tally = λ is. w.1 } in
-    let spelled : line ≡ start_line t = whole ∙ ap (λ xs. codes "start " ++ (xs ++ 32 ∷ words)) named ∙ ap (λ xs. codes "start tally " ++ xs) w.2 in
-    let says : SaysStart line t = (fits, spelled) in
-    subst (λ (u : Start). SaysStart line u) (sym w.0.is) says
+says_tally name words line s whole named e = grind (arith, tally_is words s e)
 
 says_kind : (name words line : List ℕ) (s : Start) → line ≡ codes "start " ++ (name ++ 32 ∷ words) → start_of_kind name words ≡ Some s → SaysStart line s
 unfolding start_of_kind
@@ -120,9 +108,7 @@ says_start line s e = behind_cut line _ s e (λ parts whole is. says_named_start
 with_param_back : (kind : Kind) (n f param : ℕ) → 1 ≤ n → n ≤ 256 → f < 2 ^ 16 → param < 2 ^ 8
     → with_param kind (decimal n ++ (32 ∷ (decimal f ++ (32 ∷ decimal param)))) ≡ Some (record { kind = kind; n = n; f = f; param = param })
 unfolding with_param numbered_start
-with_param_back kind n f param some few faults small =
-    rw (cut_number n (decimal f ++ (32 ∷ decimal param)) (omega arith)) (rw (cut_number f (decimal param) (omega arith))
-    (rw (number_of-decimal 255 param (omega arith) (omega arith)) (rw (count_of-decimal n some few) (rw (number_of-decimal 65535 f (omega arith) (omega arith)) refl))))
+with_param_back kind n f param some few faults small = grind (arith, cut_number, number_of-decimal, count_of-decimal n some few)
 
 tally_back : (n f : ℕ) → 1 ≤ n → n ≤ 256 → f < 2 ^ 16 → tally_of (decimal n ++ (32 ∷ decimal f)) ≡ Some (record { kind = Tally; n = n; f = f; param = 0 })
 unfolding tally_of numbered_start

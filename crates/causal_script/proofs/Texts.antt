@@ -1,11 +1,11 @@
 -- The lines of a text, one after another.
-use Rattle.std.proofs.Common.{◌≡◌, ◌⊎◌, inl, inr, ℕ, zero, suc, ◌+◌, ◌<◌, ◌≤◌, List, [], ◌∷◌, ◌++◌, length, take, drop, map, Bool, true, false, cond, eqb, Option, Some, None, Result, Ok, Err, refl, ap, sym, ◌∙◌, subst, arith, option_map}
-use Rattle.std.specs.Prelude.{slice_get, ok_or, is_ok, is_err, min, ◌-◌, ◌^◌}
+use Rattle.std.proofs.Common.{◌≡◌, ◌⊎◌, inl, inr, ℕ, zero, suc, ◌+◌, ◌<◌, ◌≤◌, List, [], ◌∷◌, ◌++◌, length, take, drop, map, Bool, true, false, cond, eqb, Option, Some, None, Result, Ok, Err, refl, ap, sym, ◌∙◌, subst, arith}
+use Rattle.std.specs.Prelude.{slice_get, is_ok, is_err, min, ◌-◌, ◌^◌}
 use Rattle.std.specs.List.{onto_first, AllByRecursion, range_with_len}
 use Rattle.std.proofs.Math.Seq.{take-length}
 use Rattle.std.proofs.lemmas.List.Sums.{sum_by-cons}
 use Rattle.std.proofs.lemmas.Bool.{eqb-true, eq-eqb, cases_lt}
-use Rattle.std.proofs.lemmas.Option.{none-some, same_Some, slice_get_within}
+use Rattle.std.proofs.lemmas.Option.{none-some, slice_get_within}
 use Rattle.std.proofs.lemmas.List.{map-append, append_assoc}
 use Rattle.causal_script.specs.declared.script.Command.{Command}
 use Rattle.causal_script.specs.declared.script.ScriptFault.{ScriptFault}
@@ -29,30 +29,10 @@ drop_all (suc count) (k ∷ ls) h = drop_all count ls (omega arith)
 -- what stands before the first line feed is the first line, and the rest has the others
 pub lines_cut : (xs : List ℕ) (parts : List ℕ × List ℕ) → cut 10 xs ≡ Some parts → lines xs ≡ parts.0 ∷ lines parts.1
 lines_cut [] parts e = absurd (none-some parts e)
-lines_cut (x ∷ xs) parts e = by_test (eqb x 10) refl (lines_cut xs) e where
-  later : (r : Option (List ℕ × List ℕ)) → eqb x 10 ≡ false → ((q : List ℕ × List ℕ) → r ≡ Some q → lines xs ≡ q.0 ∷ lines q.1) → option_map (λ q. (x ∷ q.0, q.1)) r ≡ Some parts → lines (x ∷ xs) ≡ parts.0 ∷ lines parts.1
-  later None t ih e = absurd (none-some parts e)
-  later (Some q) t ih e =
-      let same : (x ∷ q.0, q.1) ≡ parts = same_Some _ _ e in
-      let here : lines (x ∷ xs) ≡ (x ∷ q.0) ∷ lines q.1 = rw (t, ih q refl) refl in
-      subst (λ (p : List ℕ × List ℕ). lines (x ∷ xs) ≡ p.0 ∷ lines p.1) same here
-
-  by_test : (b : Bool) → eqb x 10 ≡ b → ((q : List ℕ × List ℕ) → cut 10 xs ≡ Some q → lines xs ≡ q.0 ∷ lines q.1) → cond b (Some ([], xs)) (option_map (λ q. (x ∷ q.0, q.1)) (cut 10 xs)) ≡ Some parts → lines (x ∷ xs) ≡ parts.0 ∷ lines parts.1
-  by_test true t ih e =
-      let same : ([], xs) ≡ parts = same_Some _ _ e in
-      let here : lines (x ∷ xs) ≡ [] ∷ lines xs = rw t refl in
-      subst (λ (p : List ℕ × List ℕ). lines (x ∷ xs) ≡ p.0 ∷ lines p.1) same here
-  by_test false t ih e = later (cut 10 xs) t ih e
-
-unmapped : (x : ℕ) (r : Option (List ℕ × List ℕ)) → option_map {T = List ℕ × List ℕ} {U = List ℕ × List ℕ} (λ q. (x ∷ q.0, q.1)) r ≡ None → r ≡ None
-unmapped x None e = refl
-unmapped x (Some q) e = absurd (none-some (x ∷ q.0, q.1) (sym e))
+lines_cut (x ∷ xs) parts e = grind (arith, lines_cut xs)
 
 no_feed : (x : ℕ) (xs : List ℕ) → cut 10 (x ∷ xs) ≡ None → (eqb x 10 ≡ false) × (cut 10 xs ≡ None)
-no_feed x xs e = by_test (eqb x 10) refl e where
-  by_test : (b : Bool) → eqb x 10 ≡ b → cond {A = Option (List ℕ × List ℕ)} b (Some ([], xs)) (option_map {T = List ℕ × List ℕ} {U = List ℕ × List ℕ} (λ q. (x ∷ q.0, q.1)) (cut 10 xs)) ≡ None → (eqb x 10 ≡ false) × (cut 10 xs ≡ None)
-  by_test true t e = absurd (none-some ([], xs) (sym e))
-  by_test false t e = (t, unmapped x (cut 10 xs) e)
+no_feed x xs e = grind arith
 
 lines_uncut : (x : ℕ) (xs : List ℕ) → cut 10 (x ∷ xs) ≡ None → lines (x ∷ xs) ≡ (x ∷ xs) ∷ []
 lines_uncut x [] e = let h = no_feed x [] e in rw h.0 refl
@@ -60,18 +40,12 @@ lines_uncut x (y ∷ ys) e = let h = no_feed x (y ∷ ys) e in rw (h.0, lines_un
 
 -- a text with no line feed is a line
 pub lines_last : (xs front back : List ℕ) → 0 < length xs → None ≡ cut 10 xs → front ≡ take (length xs) xs → back ≡ drop (length xs) xs → lines xs ≡ front ∷ lines back
-lines_last [] front back some e f b = absurd (omega arith)
-lines_last (x ∷ xs) front back some e f b =
-    let one = lines_uncut x xs (sym e) in
-    let all : front ≡ x ∷ xs = f ∙ take-length (x ∷ xs) in
-    let none : back ≡ [] = b ∙ drop_all (length (x ∷ xs)) (x ∷ xs) (omega arith) in
-    one ∙ ap (λ l. l ∷ []) (sym all) ∙ ap (λ ys. front ∷ lines ys) (sym none)
+lines_last xs front back some e f b = grind (arith, lines_uncut, take-length, drop_all)
 
 -- ---- how many lines there are
 
 length_onto : (x : ℕ) (ls : List (List ℕ)) → 0 < length ls → length (onto_first x ls) ≡ length ls
-length_onto x [] some = absurd (omega arith)
-length_onto x (l ∷ ls) some = refl
+length_onto x ls some = grind arith
 
 feeds_cons : (x : ℕ) (xs : List ℕ) (b : Bool) → eqb x 10 ≡ b → feeds (x ∷ xs) ≡ cond b 1 0 + feeds xs
 feeds_cons x xs b t = sum_by-cons (λ y. cond (is_feed y) 1 0) x xs ∙ ap (λ c. cond c 1 0 + feeds xs) t
@@ -79,55 +53,25 @@ feeds_cons x xs b t = sum_by-cons (λ y. cond (is_feed y) 1 0) x xs ∙ ap (λ c
 -- a byte is in one of the lines
 pub feeds_below : (n : ℕ) (xs : List ℕ) → n < length xs → feeds (take n xs) < length (lines xs)
 feeds_below n [] h = absurd (omega arith)
-feeds_below zero (x ∷ xs) h = by_test (eqb x 10) refl where
-  onto : (ls : List (List ℕ)) → 0 < length (onto_first x ls)
-  onto [] = omega arith
-  onto (l ∷ ls) = omega arith
-
-  by_test : (b : Bool) → eqb x 10 ≡ b → 0 < length (lines (x ∷ xs))
-  by_test true t = rw t (omega arith)
-  by_test false t = rw t (onto (lines xs))
-feeds_below (suc n) (x ∷ xs) h = by_test (eqb x 10) refl (feeds_below n xs (omega arith)) where
-  by_test : (b : Bool) → eqb x 10 ≡ b → feeds (take n xs) < length (lines xs) → feeds (x ∷ take n xs) < length (lines (x ∷ xs))
-  by_test true t ih =
-      let count : feeds (x ∷ take n xs) ≡ 1 + feeds (take n xs) = feeds_cons x (take n xs) true t in
-      let size : length (lines (x ∷ xs)) ≡ suc (length (lines xs)) = rw t refl in
-      omega arith
-  by_test false t ih =
-      let count : feeds (x ∷ take n xs) ≡ 0 + feeds (take n xs) = feeds_cons x (take n xs) false t in
-      let size : length (lines (x ∷ xs)) ≡ length (onto_first x (lines xs)) = rw t refl in
-      omega (arith, length_onto x (lines xs) (omega arith))
+feeds_below zero (x ∷ xs) h = grind arith
+feeds_below (suc n) (x ∷ xs) h = grind (arith, feeds_below n xs, feeds_cons, length_onto)
 
 pub feeds_take : (n : ℕ) (xs : List ℕ) → feeds (take n xs) ≤ n
 feeds_take zero xs = omega arith
 feeds_take (suc n) [] = omega arith
-feeds_take (suc n) (x ∷ xs) = by_test (eqb x 10) refl (feeds_take n xs) where
-  by_test : (b : Bool) → eqb x 10 ≡ b → feeds (take n xs) ≤ n → feeds (x ∷ take n xs) ≤ suc n
-  by_test true t ih = let count : feeds (x ∷ take n xs) ≡ 1 + feeds (take n xs) = feeds_cons x (take n xs) true t in omega arith
-  by_test false t ih = let count : feeds (x ∷ take n xs) ≡ 0 + feeds (take n xs) = feeds_cons x (take n xs) false t in omega arith
+feeds_take (suc n) (x ∷ xs) = grind (arith, feeds_take n xs, feeds_cons)
 
 -- no line is empty but for its line feed
 pub length_lines : (xs : List ℕ) → length (lines xs) ≤ length xs
 length_lines [] = omega arith
-length_lines (x ∷ xs) = by_test (eqb x 10) refl (length_lines xs) where
-  onto : (ls : List (List ℕ)) → length (onto_first x ls) ≤ suc (length ls)
-  onto [] = omega arith
-  onto (l ∷ ls) = omega arith
-
-  one : (ys : List ℕ) (ls : List (List ℕ)) → length ls ≤ length ys → length (onto_first x ls) ≤ suc (length ys)
-  one ys ls h = omega (arith, onto ls)
-
-  by_test : (b : Bool) → eqb x 10 ≡ b → length (lines xs) ≤ length xs → length (lines (x ∷ xs)) ≤ suc (length xs)
-  by_test true t ih = rw t (omega arith)
-  by_test false t ih = rw t (one xs (lines xs) ih)
+length_lines (x ∷ xs) = grind (arith, length_lines xs)
 
 -- ---- the next line
 
 -- the first of the lines that are left stands after those that were read
 pub line_here : {X : Type 0} (count : ℕ) (ls : List X) (l : X) (rest : List X) → drop count ls ≡ l ∷ rest → (slice_get ls count ≡ Some l) × (drop (suc count) ls ≡ rest)
-line_here zero [] l rest e = absurd (let no : [] ≡ l ∷ rest = e in cc)
+line_here zero ls l rest e = grind arith
 line_here (suc count) [] l rest e = absurd (let no : [] ≡ l ∷ rest = e in cc)
-line_here zero (k ∷ ls) l rest e = let all : k ∷ ls ≡ l ∷ rest = e in (cc, cc)
 line_here (suc count) (k ∷ ls) l rest e = line_here count ls l rest e
 
 -- where none are left, there are no more lines than were read
@@ -146,23 +90,14 @@ no_lines (x ∷ xs) e = absurd (let some : feeds (take 0 (x ∷ xs)) < length (l
 
 -- a line without a fault is not past the limit, and says something
 pub judged_ok : {A : Type 0} (big : Option ℕ) (line : ℕ) (said : Option A) (x : A) → judged big line said ≡ Ok x → (is_line line big ≡ false) × (said ≡ Some x)
-judged_ok {A} big line said x e = by_test (is_line line big) said refl e where
-  by_test : (b : Bool) (o : Option A) → is_line line big ≡ b → cond {A = Result A ScriptFault} b (Err (record { line = line; kind = Big })) (ok_or o (record { line = line; kind = Script })) ≡ Ok x → (is_line line big ≡ false) × (o ≡ Some x)
-  by_test true o t e = absurd (let f : ScriptFault = record { line = line; kind = Big } in let no : ◌≡◌ {A = Result A ScriptFault} (Err f) (Ok x) = e in cc)
-  by_test false None t e = absurd (let f : ScriptFault = record { line = line; kind = Script } in let no : ◌≡◌ {A = Result A ScriptFault} (Err f) (Ok x) = e in cc)
-  by_test false (Some y) t e = (t, let same : ◌≡◌ {A = Result A ScriptFault} (Ok y) (Ok x) = e in cc)
+judged_ok {A} big line said x e = grind arith
 
 abbrev Fault : ℕ → ScriptFaultKind → ScriptFault
 Fault line kind = record { line = line; kind = kind }
 
 pub judged_err : {A : Type 0} (big : Option ℕ) (line : ℕ) (said : Option A) (f : ScriptFault) → judged big line said ≡ Err f
     → ((is_line line big ≡ true) × (f ≡ Fault line Big)) ⊎ ((is_line line big ≡ false) × (said ≡ None) × (f ≡ Fault line Script))
-judged_err {A} big line said f e = by_test (is_line line big) said refl e where
-  by_test : (b : Bool) (o : Option A) → is_line line big ≡ b → cond {A = Result A ScriptFault} b (Err (Fault line Big)) (ok_or o (Fault line Script)) ≡ Err f
-      → ((is_line line big ≡ true) × (f ≡ Fault line Big)) ⊎ ((is_line line big ≡ false) × (o ≡ None) × (f ≡ Fault line Script))
-  by_test true o t e = inl (t, let same : ◌≡◌ {A = Result A ScriptFault} (Err (Fault line Big)) (Err f) = e in let flip : Fault line Big ≡ f = cc in sym flip)
-  by_test false None t e = inr (t, refl, let same : ◌≡◌ {A = Result A ScriptFault} (Err (Fault line Script)) (Err f) = e in let flip : Fault line Script ≡ f = cc in sym flip)
-  by_test false (Some y) t e = absurd (let no : ◌≡◌ {A = Result A ScriptFault} (Ok y) (Err f) = e in cc)
+judged_err {A} big line said f e = grind arith
 
 pub is_big : (text : List ℕ) (big : Option ℕ) (before : ℕ) → IsBigLine text big → is_line (before + 1) big ≡ true → IsFaultAfter text before Big
 is_big text None before h t = absurd (let no : false ≡ true = t in cc)
@@ -170,11 +105,7 @@ is_big text (Some line) before h t = let same : line ≡ before + 1 = eqb-true l
 
 -- where the line with the first byte past the limit is another one, this one is not too big
 pub not_big : (text : List ℕ) (big : Option ℕ) (before : ℕ) → IsBigLine text big → is_line (before + 1) big ≡ false → IsFaultAfter text before Big → ⊥
-not_big text None before h t bad = let over : max_script < length text = bad.0 in omega (arith, h)
-not_big text (Some line) before h t bad =
-    let same : line ≡ before + 1 = omega (arith, h.1, bad.1) in
-    let no : eqb line (before + 1) ≡ true = eq-eqb line (before + 1) same in
-    let clash : false ≡ true = sym t ∙ no in cc
+not_big text big before h t bad = grind (arith, eq-eqb)
 
 -- none of no lines has a fault
 pub sound_none : (text : List ℕ) → AreSound text 0
@@ -227,24 +158,16 @@ after_more text left l after count next big said x is a split bigs e place =
 
 -- no text has more lines without a fault
 pub count_small : (text left : List ℕ) (count : ℕ) → IsAfter text count left → count ≤ 1048576
-count_small text left count a = by_size (cases_lt max_script (length text)) where
-  by_lines : (feeds (take max_script text) < count) ⊎ (count ≤ feeds (take max_script text)) → max_script < length text → count ≤ 1048576
-  by_lines (inl lower) over = absurd (a.sound (feeds (take max_script text)) Big lower (over, refl))
-  by_lines (inr upper) over = omega (arith, feeds_take max_script text)
-
-  by_size : (max_script < length text) ⊎ (length text ≤ max_script) → count ≤ 1048576
-  by_size (inl over) = by_lines (cases_lt (feeds (take max_script text)) count) over
-  by_size (inr within) = omega (arith, a.within, length_lines text)
+count_small text left count a = grind (arith, feeds_take max_script text, length_lines text, a.sound (feeds (take max_script text)) Big)
 
 -- a text without a fault is within the limit
 pub whole_within : (text : List ℕ) (count : ℕ) → IsAfter text count [] → length text ≤ max_script
-whole_within text count a = by_size (cases_lt max_script (length text)) where
-  by_size : (max_script < length text) ⊎ (length text ≤ max_script) → length text ≤ max_script
-  by_size (inl over) =
-      let all : length (lines text) ≤ count = line_past count (lines text) a.rest in
-      let line : feeds (take max_script text) < length (lines text) = feeds_below max_script text over in
-      absurd (a.sound (feeds (take max_script text)) Big (omega arith) (over, refl))
-  by_size (inr within) = within
+whole_within text count a = grind (
+  arith,
+  line_past count (lines text) a.rest,
+  feeds_below max_script text,
+  a.sound (feeds (take max_script text)) Big,
+)
 
 -- ---- the commands so far
 
@@ -259,13 +182,7 @@ range_more a (suc n) next is = ap (λ xs. a ∷ xs) (range_more (a + 1) n next (
 -- one more line with a command adds that command
 pub commands_more : (rest left l after : List ℕ) (commands : List Command) (c : Command) → AreCommands rest commands left → lines left ≡ l ∷ lines after
     → l ≡ command_line c.request → IsRequest c.request → AreCommands rest (commands ++ c ∷ []) after
-commands_more rest left l after commands c h split is fits =
-    let text = λ (d : Command). command_line d.request in
-    let more : map text (commands ++ c ∷ []) ≡ map text commands ++ text c ∷ [] = map-append text commands (c ∷ []) in
-    record {
-      said = h.said ∙ ap (λ ls. map text commands ++ ls) (split ∙ ap (λ k. k ∷ lines after) is) ∙ sym (append_assoc (map text commands) (text c ∷ []) (lines after)) ∙ ap (λ ls. ls ++ lines after) (sym more);
-      requests = all_push (λ d. IsRequest d.request) commands c h.requests fits;
-    }
+commands_more rest left l after commands c h split is fits = grind (arith, map-append, append_assoc, all_push)
 
 length_push : {X : Type 0} (xs : List X) (x : X) → length (xs ++ x ∷ []) ≡ suc (length xs)
 length_push [] x = refl
@@ -300,17 +217,13 @@ read_up_to text left line next is a = record { before = line; number = is; sound
 
 -- the fault of a line tells its number
 pub judged_line : {A : Type 0} (big : Option ℕ) (line : ℕ) (said : Option A) (f : ScriptFault) → judged big line said ≡ Err f → f.line ≡ line
-judged_line big line said f e = by_cases (judged_err big line said f e) where
-  by_cases : ((is_line line big ≡ true) × (f ≡ Fault line Big)) ⊎ ((is_line line big ≡ false) × (said ≡ None) × (f ≡ Fault line Script)) → f.line ≡ line
-  by_cases (inl h) = ap (λ (g : ScriptFault). g.line) h.1
-  by_cases (inr h) = ap (λ (g : ScriptFault). g.line) h.2
+judged_line big line said f e = grind (arith, judged_err big line said f e)
 
 -- ---- what a call left
 
 -- a push that was not refused left what it adds
 pub pushed : {T E X : Type 0} (r : Result T E) (new more old : X) → is_err r ≡ false → new ≡ cond (is_ok r) more old → new ≡ more
-pushed (Ok t) new more old told e = e
-pushed (Err t) new more old told e = absurd (let clash : true ≡ false = told in cc)
+pushed r new more old told e = grind arith
 
 -- where no line so high comes, the next number is one more
 pub next_line : (text left : List ℕ) (line next : ℕ) → IsAfter text line left → next ≡ min (line + 1) (2 ^ 32 - 1) → next ≡ line + 1

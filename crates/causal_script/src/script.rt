@@ -4,7 +4,7 @@ use causal_protocol::request::Request;
 use thiserror::Error;
 
 /// The kind of the processes of a run.
-#[derive(Clone, Copy, Debug, PartialEq, Eq)]
+#[derive(Clone, Copy)]
 pub enum Kind {
     Ring,
     Echo,
@@ -12,7 +12,7 @@ pub enum Kind {
 }
 
 /// A line of a script after its first, and what it asks for. Lines are counted from 1.
-#[derive(Clone, Copy, Debug, PartialEq, Eq)]
+#[derive(Clone, Copy)]
 pub struct Command {
     pub line: u32,
     pub request: Request,

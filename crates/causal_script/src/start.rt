@@ -6,7 +6,7 @@ use crate::script::Kind;
 use crate::words::{count, cut, number};
 
 /// What a first line says.
-#[derive(Clone, Copy, Debug, PartialEq, Eq)]
+#[derive(Clone, Copy)]
 pub(crate) struct Start {
     pub(crate) kind: Kind,
     pub(crate) n: u16,

@@ -1,5 +1,5 @@
 -- What a legal step appends, by number: as many entries as its reply tells, and as many stable ones as it has writers.
-use Rattle.std.proofs.Common.{◌≡◌, ◌≤◌, ◌+◌, ◌∙◌, sym, refl, ap, ℕ, zero, suc, List, [], ◌∷◌, length, take, drop, map, count_by, cond, length-take, arith}
+use Rattle.std.proofs.Common.{◌≡◌, ◌≤◌, ◌+◌, refl, ℕ, zero, suc, List, [], ◌∷◌, length, map, count_by, cond, length-take, arith}
 use Rattle.std.specs.Prelude.{replicate}
 use Rattle.std.proofs.lemmas.List.{length-map}
 use Rattle.std.proofs.lemmas.List.Sums.{sum_by-append}
@@ -8,14 +8,10 @@ use Rattle.causal_name.specs.declared.Det.{Det}
 use Rattle.causal_trace.specs.declared.entry.Entry.{Entry}
 use Rattle.causal_trace.specs.declared.entry.Entry.TheVariants.{Stable}
 use Rattle.causal_protocol.specs.declared.request.Request.{Request}
-use Rattle.causal_protocol.specs.declared.request.Request.TheVariants as Ask
 use Rattle.causal_protocol.specs.declared.request.Reply.{Reply}
-use Rattle.causal_protocol.specs.declared.request.Reply.TheVariants as Told
 use Rattle.causal_protocol.specs.declared.request.CoreFault.{CoreFault}
-use Rattle.causal_protocol.specs.declared.request.CoreFault.TheVariants as Why
 use Rattle.causal_protocol.specs.Run.{Run}
-use Rattle.causal_protocol.specs.Refusals.{unwritten, forgettable}
-use Rattle.causal_protocol.specs.Steps.{LegalStep, IsPart, AreSends, pushed, sends_of, forget_entries, writers_of}
+use Rattle.causal_protocol.specs.Steps.{LegalStep, IsPart, pushed, sends_of, forget_entries, writers_of}
 use Rattle.causal_protocol.specs.Runs.{RepliesTellEntries}
 use Rattle.causal_protocol.specs.Telling.{is_written, told_entries, one_for_some}
 
@@ -23,9 +19,6 @@ written-sends_of : (q : Pid) (ssn : ℕ) (tos : List Pid) → count_by is_writte
 unfolding sends_of
 written-sends_of q ssn [] = refl
 written-sends_of q ssn (to ∷ tos) = written-sends_of q (ssn + 1) tos
-
-written-sends : (n : ℕ) (q : Pid) (ssn number : ℕ) (es : List Entry) → AreSends n q ssn number es → count_by is_written es ≡ 0
-written-sends n q ssn number es sends = ap (count_by is_written) sends.sends ∙ written-sends_of q ssn _
 
 written-stable : (ds : List Det) → count_by is_written (map Stable ds) ≡ length (map Stable ds)
 written-stable [] = refl
@@ -39,64 +32,24 @@ length-writers : (p : Pid) (n : ℕ) → length (replicate n p) ≡ n
 length-writers p zero = refl
 length-writers p (suc n) = let rest = length-writers p n in omega (arith, rest)
 
-written-flush : (p : Pid) (ds : List Det) (es : List Entry) → es ≡ map Stable ds → count_by is_written es ≡ length (writers_of (Ask.Flush p) es)
-written-flush p ds es is = ap (count_by is_written) is ∙ (written-stable ds ∙ (ap length (sym is) ∙ sym (length-writers p (length es))))
-
 written-forget : (p : Pid) (ds : List Det) → count_by is_written (forget_entries p ds) ≡ 0
-written-forget p [] = refl
-written-forget p (d ∷ ds) = refl
+written-forget p ds = grind arith
 
 -- a step appends as many stable entries as it names writers
 pub written-step : (r : Run) (request : Request) (reply : Reply) (es : List Entry) → LegalStep r request reply es → count_by is_written es ≡ length (writers_of request es)
 unfolding LegalStep
-written-step r (Ask.Deliver q source ssn) (Told.Delivered d) es legal = ap (count_by is_written) legal.3 ∙ written-sends _ q _ d.sends (drop 1 es) legal.4
-written-step r (Ask.Deliver q source ssn) (Told.Refused fault) es legal = ap (count_by is_written) legal.1
-written-step r (Ask.Crash p) (Told.Crashed first) es legal = ap (count_by is_written) legal.2
-written-step r (Ask.Crash p) (Told.Refused fault) es legal = ap (count_by is_written) legal.1
-written-step r (Ask.Restart p) (Told.Restarted d) es legal = ap (count_by is_written) legal.3 ∙ written-sends _ p _ d.sends (drop 1 es) legal.4
-written-step r (Ask.Restart p) (Told.Refused fault) es legal = ap (count_by is_written) legal.1
-written-step r (Ask.Flush p) (Told.Flushed count) es legal = written-flush p (unwritten r p) es legal.2
-written-step r (Ask.Flush p) (Told.FlushRefused f) es legal = written-flush p (take f.done (unwritten r p)) es legal.2
-written-step r (Ask.Forget p) (Told.Forgotten count) es legal = ap (count_by is_written) legal.2 ∙ written-forget p (forgettable r p)
-written-step r (Ask.Forget p) (Told.Refused fault) es legal = ap (count_by is_written) legal.1
-written-step r request reply es legal = absurd legal
-
-length-first : (e : Entry) (es : List Entry) (number : ℕ) → es ≡ e ∷ drop 1 es → length (drop 1 es) ≡ number → length es ≡ 1 + number
-length-first e es number is count = let one : length es ≡ length (e ∷ drop 1 es) = ap length is in omega (arith, one, count)
+written-step r request reply es legal = grind (arith, written-sends_of, written-stable, length-writers, written-forget)
 
 IsPart-le : (fault : CoreFault) (done all : ℕ) → IsPart fault done all → done ≤ all
-IsPart-le Why.NoMemory done all part = part
-IsPart-le Why.StoreFault done all part = omega (arith, part)
-IsPart-le Why.NoProcess done all part = omega (arith, part)
-IsPart-le Why.Down done all part = omega (arith, part)
-IsPart-le Why.NotDown done all part = omega (arith, part)
-IsPart-le Why.OverFaults done all part = omega (arith, part)
-IsPart-le (Why.MustReplay m) done all part = omega (arith, part)
-IsPart-le Why.NotAvailable done all part = omega (arith, part)
-IsPart-le Why.AlreadyDelivered done all part = omega (arith, part)
-IsPart-le Why.Full done all part = omega (arith, part)
-
-length-part : (done : ℕ) (ds : List Det) → done ≤ length ds → length (map Stable (take done ds)) ≡ done
-length-part done ds le = omega (arith, length-map (take done ds) Stable, length-take done ds, le)
+IsPart-le fault done all part = grind arith
 
 length-forget : (p : Pid) (ds : List Det) → length (forget_entries p ds) ≡ one_for_some (length ds)
-length-forget p [] = refl
-length-forget p (d ∷ ds) = refl
+length-forget p ds = grind arith
 
 -- a reply tells how many entries the step appended
 pub told_entries-is : (r : Run) (request : Request) (reply : Reply) (es : List Entry) → LegalStep r request reply es → length es ≡ told_entries reply
 unfolding LegalStep
-told_entries-is r (Ask.Deliver q source ssn) (Told.Delivered d) es legal = length-first _ es d.sends legal.3 legal.4.count
-told_entries-is r (Ask.Deliver q source ssn) (Told.Refused fault) es legal = ap length legal.1
-told_entries-is r (Ask.Crash p) (Told.Crashed first) es legal = ap length legal.2
-told_entries-is r (Ask.Crash p) (Told.Refused fault) es legal = ap length legal.1
-told_entries-is r (Ask.Restart p) (Told.Restarted d) es legal = length-first _ es d.sends legal.3 legal.4.count
-told_entries-is r (Ask.Restart p) (Told.Refused fault) es legal = ap length legal.1
-told_entries-is r (Ask.Flush p) (Told.Flushed count) es legal = ap length legal.2 ∙ (length-map (unwritten r p) Stable ∙ sym legal.1)
-told_entries-is r (Ask.Flush p) (Told.FlushRefused f) es legal = ap length legal.2 ∙ length-part f.done (unwritten r p) (IsPart-le f.fault f.done (length (unwritten r p)) legal.1)
-told_entries-is r (Ask.Forget p) (Told.Forgotten count) es legal = ap length legal.2 ∙ (length-forget p (forgettable r p) ∙ ap one_for_some (sym legal.1))
-told_entries-is r (Ask.Forget p) (Told.Refused fault) es legal = ap length legal.1
-told_entries-is r request reply es legal = absurd legal
+told_entries-is r request reply es legal = grind (arith, length-map, length-take, IsPart-le, length-forget)
 
 -- a past grows by as many entries as are pushed
 pub length-pushed : (es past : List Entry) → length (pushed es past) ≡ length es + length past
@@ -105,8 +58,4 @@ length-pushed (e ∷ es) past = let rest = length-pushed es (e ∷ past) in omeg
 
 -- each reply tells by how many entries the run grew
 pub replies_tell_entries : RepliesTellEntries
-replies_tell_entries old new request reply step =
-    let more = told_entries-is old request reply step.appended step.legal in
-    let long = length-pushed step.appended old.recording.past in
-    let same : length new.recording.past ≡ length (pushed step.appended old.recording.past) = ap (λ (r : Run). length r.recording.past) step.grown in
-    omega (arith, same, long, more)
+replies_tell_entries old new request reply step = grind (arith, told_entries-is, length-pushed)

@@ -27,29 +27,11 @@ one_list : (cs ds : List Command) → map (λ c. command_line c.request) cs ≡ 
 one_list [] [] e n f g = refl
 one_list [] (d ∷ ds) e n f g = absurd (let no : [] ≡ command_line d.request ∷ map (λ (c : Command). command_line c.request) ds = e in cc)
 one_list (c ∷ cs) [] e n f g = absurd (let no : command_line c.request ∷ map (λ (c : Command). command_line c.request) cs ≡ [] = e in cc)
-one_list (c ∷ cs) (d ∷ ds) e n f g =
-    let all : command_line c.request ∷ map (λ (c : Command). command_line c.request) cs ≡ command_line d.request ∷ map (λ (c : Command). command_line c.request) ds = e in
-    let lines_are : c.line ∷ map (λ (c : Command). c.line) cs ≡ d.line ∷ map (λ (c : Command). c.line) ds = n in
-    let first : command_line c.request ≡ command_line d.request = cc in
-    let others : map (λ (c : Command). command_line c.request) cs ≡ map (λ (c : Command). command_line c.request) ds = cc in
-    let line : c.line ≡ d.line = cc in
-    let more : map (λ (c : Command). c.line) cs ≡ map (λ (c : Command). c.line) ds = cc in
-    let request : c.request ≡ d.request = same_Some _ _ (sym (request_back c.request f.0) ∙ ap request_of first ∙ request_back d.request g.0) in
-    let head : c ≡ d = λ i. record { line = line i; request = request i } in
-    let tail : cs ≡ ds = one_list cs ds others more f.1 g.1 in
-    cc
+one_list (c ∷ cs) (d ∷ ds) e n f g = grind (arith, same_Some, request_back c.request f.0, request_back d.request g.0, one_list cs ds)
 
 -- a text spells one plan
 pub one_plan : (text : List ℕ) (p q : Plan) → Spells text p → Spells text q → p ≡ q
-one_plan text p q a b =
-    let all : start_line p.start ∷ map (λ (c : Command). command_line c.request) p.commands ≡ start_line q.start ∷ map (λ (c : Command). command_line c.request) q.commands = sym a.said ∙ b.said in
-    let first : start_line p.start ≡ start_line q.start = cc in
-    let others : map (λ (c : Command). command_line c.request) p.commands ≡ map (λ (c : Command). command_line c.request) q.commands = cc in
-    let start : p.start ≡ q.start = same_Some _ _ (sym (start_back p.start a.plan.start) ∙ ap start_of first ∙ start_back q.start b.plan.start) in
-    let count : length p.commands ≡ length q.commands = sym (length_map (λ (c : Command). command_line c.request) p.commands) ∙ ap length others ∙ length_map (λ (c : Command). command_line c.request) q.commands in
-    let numbered : map (λ (c : Command). c.line) p.commands ≡ map (λ (c : Command). c.line) q.commands = a.plan.numbered ∙ ap (range_with_len 2) count ∙ sym b.plan.numbered in
-    let commands : p.commands ≡ q.commands = one_list p.commands q.commands others numbered a.plan.requests b.plan.requests in
-    λ i. record { start = start i; commands = commands i }
+one_plan text p q a b = grind (arith, same_Some, start_back p.start a.plan.start, start_back q.start b.plan.start, length_map, one_list)
 
 -- ---- one fault
 
@@ -57,12 +39,7 @@ one_plan text p q a b =
 pub one_fault : (text : List ℕ) (f g : ScriptFault) → IsFirstFault text f → IsFirstFault text g → f ≡ g
 one_fault text f g a b = by_place (cases_lt a.before b.before) (cases_lt b.before a.before) where
   kinds : (k l : ScriptFaultKind) → IsFaultAfter text a.before k → IsFaultAfter text a.before l → (k ≡ Script → IsFaultAfter text a.before Big → ⊥) → (l ≡ Script → IsFaultAfter text a.before Big → ⊥) → k ≡ l
-  kinds Big Big x y p q = refl
-  kinds Big Script x y p q = absurd (q refl x)
-  kinds Script Big x y p q = absurd (p refl y)
-  kinds Script Script x y p q = refl
-  kinds NoMemory l x y p q = absurd x
-  kinds k NoMemory x y p q = absurd y
+  kinds k l x y p q = grind arith
 
   same : b.before ≡ a.before → f ≡ g
   same e =
@@ -80,8 +57,7 @@ one_fault text f g a b = by_place (cases_lt a.before b.before) (cases_lt b.befor
 -- ---- never both
 
 relabelled : (a b : ℕ) (o : Option (List ℕ)) → IsInPlace (suc a) o → IsInPlace (suc b) o
-relabelled a b None h = h
-relabelled a b (Some l) h = h
+relabelled a b o h = grind arith
 
 commands_stand : (cs : List Command) (k : ℕ) → AllByRecursion (λ c. IsRequest c.request) cs → IsInPlace (suc k) (slice_get (map (λ c. command_line c.request) cs) k)
 commands_stand [] k h = tt
@@ -89,8 +65,7 @@ commands_stand (c ∷ cs) zero h = (c.request, h.0, refl)
 commands_stand (c ∷ cs) (suc k) h = relabelled k (suc k) (slice_get (map (λ (c : Command). command_line c.request) cs) k) (commands_stand cs k h.1)
 
 stands : (s : Start) (cs : List Command) (k : ℕ) → IsStart s → AllByRecursion (λ c. IsRequest c.request) cs → IsInPlace k (slice_get (start_line s ∷ map (λ c. command_line c.request) cs) k)
-stands s cs zero h all = (s, h, refl)
-stands s cs (suc k) h all = commands_stand cs k all
+stands s cs k h all = grind (arith, commands_stand)
 
 -- no text both spells a plan and has a first fault
 pub not_both : (text : List ℕ) (p : Plan) (f : ScriptFault) → Spells text p → IsFirstFault text f → ⊥
@@ -118,10 +93,7 @@ cases_big text = by_size (cases_lt max_script (length text)) where
 
 read_on : (text : List ℕ) (big : Option ℕ) (ls : List (List ℕ)) (k : ℕ) → IsBigLine text big → drop (suc k) (lines text) ≡ ls → suc k ≤ length (lines text) → AreSound text (suc k)
     → AreRead text ls (suc k) ⊎ ((f : ScriptFault) × IsFirstFault text f)
-read_on text big [] k bigs rest within sound =
-    let past : length (lines text) ≤ suc k = line_past (suc k) (lines text) rest in
-    let all : suc k ≡ length (lines text) = omega arith in
-    inl (record { commands = []; said = refl; requests = tt; numbered = refl; sound = subst (λ (n : ℕ). AreSound text n) all sound })
+read_on text big [] k bigs rest within sound = grind (arith, line_past (suc k) (lines text) rest)
 read_on text big (l ∷ ls) k bigs rest within sound = by_line (λ sounder. read_on text big ls (suc k) bigs here.1 inside sounder) (judged big (suc k + 1) (request_of l)) refl where
   here : (slice_get (lines text) (suc k) ≡ Some l) × (drop (suc (suc k)) (lines text) ≡ ls)
   here = line_here (suc k) (lines text) l ls rest
@@ -140,10 +112,7 @@ read_on text big (l ∷ ls) k bigs rest within sound = by_line (λ sounder. read
       })
 
   inside : suc (suc k) ≤ length (lines text)
-  inside = by_length (cases_lt (suc k) (length (lines text))) where
-    by_length : (suc k < length (lines text)) ⊎ (length (lines text) ≤ suc k) → suc (suc k) ≤ length (lines text)
-    by_length (inl lower) = omega arith
-    by_length (inr upper) = absurd (let no : l ∷ ls ≡ [] = sym rest ∙ drop_all (suc k) (lines text) upper in cc)
+  inside = grind (arith, drop_all (suc k) (lines text))
 
   by_line : (AreSound text (suc (suc k)) → AreRead text ls (suc (suc k)) ⊎ ((f : ScriptFault) × IsFirstFault text f)) → (r : Result Request ScriptFault) → judged big (suc k + 1) (request_of l) ≡ r → AreRead text (l ∷ ls) (suc k) ⊎ ((f : ScriptFault) × IsFirstFault text f)
   by_line again (Err f) e = inr (f, first_fault text l (suc k) big (request_of l) f bigs sound here.0 (λ none place. not_commanded l none place) e)
@@ -158,7 +127,7 @@ read_on text big (l ∷ ls) k bigs rest within sound = by_line (λ sounder. read
 whole : (text l : List ℕ) (ls : List (List ℕ)) (s : Start) → lines text ≡ l ∷ ls → IsStart s → l ≡ start_line s → AreRead text ls 1 → (p : Plan) × Spells text p
 whole text l ls s split fits is read =
     let said : lines text ≡ start_line s ∷ map (λ (c : Command). command_line c.request) read.commands = split ∙ ap (λ x. x ∷ ls) is ∙ ap (λ xs. start_line s ∷ xs) read.said in
-    let within : length text ≤ max_script = short (cases_lt max_script (length text)) in
+    let within : length text ≤ max_script = grind (arith, read.sound (feeds (take max_script text)) Big, feeds_below max_script text) in
     let count : length (lines text) ≡ suc (length read.commands) = ap length said ∙ ap suc (length_map (λ (c : Command). command_line c.request) read.commands) in (
       record { start = s; commands = read.commands },
       record {
@@ -166,10 +135,7 @@ whole text l ls s split fits is read =
         said = said;
         within = within;
       },
-    ) where
-      short : (max_script < length text) ⊎ (length text ≤ max_script) → length text ≤ max_script
-      short (inl over) = absurd (read.sound (feeds (take max_script text)) Big (feeds_below max_script text over) (over, refl))
-      short (inr within) = within
+    )
 
 -- each text spells a plan or has a first fault
 pub one_of_them : (text : List ℕ) → ((p : Plan) × Spells text p) ⊎ ((f : ScriptFault) × IsFirstFault text f)

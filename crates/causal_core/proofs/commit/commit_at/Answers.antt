@@ -1,4 +1,4 @@
-use Rattle.std.proofs.Common.{◌≡◌, ◌∙◌, ap, subst, Some, slice_get, slice_set, arith}
+use Rattle.std.proofs.Common.{◌≡◌, subst, Some, slice_get, arith}
 use Rattle.causal_core.specs.Inside.Facts.{FitsAt}
 use Rattle.causal_core.specs.Inside.Memories.{memory_at, memory_of, memories_in, room_at, room_of, rooms_in}
 use Rattle.causal_core.proofs.MemoriesFit.{all_fit_set}
@@ -21,28 +21,25 @@ commit-requires-clause-fit c =
     subst (FitsAt c.args.trace.now.recording.past c.args.q.0) (there c.args.cells.now.items c.args.q.0 c.in-Some.cell f) (c.requires.fit.each c.args.q.0 c.requires.process)
 
 pub commit-requires-clause-room : goal.commit-requires-clause-room
-commit-requires-clause-room c = omega (arith, ap (λ x. x.sent) (room (goal.at.commit-requires-clause-room c).In-Some), c.requires.room)
+commit-requires-clause-room c = grind (arith, room)
 
 pub commit-requires-clause-received : goal.commit-requires-clause-received
-commit-requires-clause-received c = omega (arith, ap (λ x. x.received) (room (goal.at.commit-requires-clause-received c).In-Some), c.requires.received)
+commit-requires-clause-received c = grind (arith, room)
 
 pub commit-requires-clause-insertions : goal.commit-requires-clause-insertions
-commit-requires-clause-insertions c = omega (arith, ap (λ x. x.log) (room (goal.at.commit-requires-clause-insertions c).In-Some), c.requires.insertions)
+commit-requires-clause-insertions c = grind (arith, room)
 
 pub commit-requires-clause-logged : goal.commit-requires-clause-logged
-commit-requires-clause-logged c = let m = memory (goal.at.commit-requires-clause-logged c).In-Some in rw m at c.requires.logged
+commit-requires-clause-logged c = grind (arith, memory)
 
 pub commit-requires-clause-next : goal.commit-requires-clause-next
-commit-requires-clause-next c = let m = memory (goal.at.commit-requires-clause-next c).In-Some in rw m at c.requires.next
+commit-requires-clause-next c = grind (arith, memory)
 
 pub returns-clause-recording : goal.returns-clause-recording
-returns-clause-recording c = rw (memory (goal.at.returns-clause-recording c).In-Some) c.commit.ensures.recording
+returns-clause-recording c = grind (arith, memory)
 
 pub returns-clause-memories : goal.returns-clause-memories
-returns-clause-memories c =
-    let f = found (goal.at.returns-clause-memories c).In-Some in
-    rw (c.from.ensures, memory (goal.at.returns-clause-memories c).In-Some)
-    (memories_put c.args.cells.now.items c.args.q.0 c.in-Some.cell f c.commit.new.cell ∙ ap (λ x. slice_set (memories_in c.args.cells.now.items) c.args.q.0 (Some x)) c.commit.ensures.memory)
+returns-clause-memories c = grind (arith, found, memory, memories_put)
 
 pub returns-clause-fit : goal.returns-clause-fit
 returns-clause-fit c =
@@ -51,6 +48,4 @@ returns-clause-fit c =
     (all_fit_set c.args.trace.now.recording.processes c.args.trace.now.recording.past c.commit.new.trace.recording.past (memories_in c.args.cells.now.items) c.args.q.0 (Some (memory_of c.commit.new.cell)) c.requires.process c.requires.fit c.commit.ensures.others c.commit.ensures.fit)
 
 pub returns-clause-bodies : goal.returns-clause-bodies
-returns-clause-bodies c =
-    let f = found (goal.at.returns-clause-bodies c).In-Some in
-    rw c.from.ensures (bodies_more c.args.cells.now.items c.args.q.0 c.in-Some.cell f c.commit.new.cell _ c.commit.ensures.bodies)
+returns-clause-bodies c = grind (arith, found, bodies_more)

@@ -1,16 +1,13 @@
-use Rattle.std.proofs.Common.{◌∙◌, ◌+◌, ◌||◌, drop, sym, ap, true, false, arith}
-use Rattle.causal_core.specs.Inside.Memories.{memories_in}
-use Rattle.causal_core.specs.Inside.Gathers.{is_logged}
+use Rattle.std.proofs.lemmas.Grind.{common_steps}
+use Rattle.std.proofs.Common.{arith}
 use Rattle.causal_core.proofs.RestartCounts.{logged_here, logged_end}
 use Rattle.causal_core.proofs.count.is_logged.Goals as goal
 
 pub returns-then-logs : goal.returns-then-logs
-returns-then-logs c =
-    logged_here c.args.cells.now c.loop-cell.cell-index _ c.loop-cell-test.true c.cell-item.is c.args.det true (sym c.if-logs.true ∙ c.logs.ensures) ∙ c.loop-cell.invariant
+returns-then-logs c = grind (arith, common_steps, logged_here)
 
 pub loop-cell-preserved : goal.loop-cell-preserved
-loop-cell-preserved c =
-    logged_here c.args.cells.now c.loop-cell.cell-index _ c.loop-cell-test.true c.cell-item.is c.args.det false (sym c.if-logs.false ∙ c.logs.ensures) ∙ c.loop-cell.invariant
+loop-cell-preserved c = grind (arith, common_steps, logged_here)
 
 pub returns : goal.returns
-returns c = sym (logged_end c.args.cells.now c.loop-cell.cell-index c.args.det (omega (arith, c.loop-cell-test.false))) ∙ c.loop-cell.invariant
+returns c = grind (arith, logged_end)

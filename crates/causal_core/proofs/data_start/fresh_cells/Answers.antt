@@ -3,22 +3,18 @@ use Rattle.std.specs.FinMap as fin
 use Rattle.std.specs.Option.{option_map, option_map_or}
 use Rattle.std.proofs.lemmas.List.{map-append, replicate-append-replicate}
 use Rattle.causal_protocol.specs.Memory.{fresh}
-use Rattle.causal_core.specs.Inside.Memories.{memory_of, memories_in, bodies_of, bodies_in, kept_of}
+use Rattle.causal_core.specs.Inside.Memories.{memory_of, memories_in, bodies_of, bodies_in}
 use Rattle.causal_core.proofs.data_start.fresh_cells.Goals as goal
 
 pub loop-i-init : goal.loop-i-init
 loop-i-init c = record { memories = ap memories_in c.new-cells.ensures.items; bodies = ap bodies_in c.new-cells.ensures.items }
 
 pub loop-i-preserved : goal.loop-i-preserved
-loop-i-preserved c =
-    let pushed = c.in_ok-push.ensures.items in
+loop-i-preserved c = let pushed = c.in_ok-push.ensures.items in
     let inv = c.loop-i.invariant in
     record {
       memories =
-          ap memories_in pushed
-          ∙ map-append (option_map memory_of) c.loop-i.cells.items _
-          ∙ (λ j. inv.memories j ++ Some (record { log = c.new-log.ensures j; sent = map kept_of (c.new-sent.ensures.items j); received = c.new-received.ensures.items j }) ∷ [])
-          ∙ replicate-append-replicate c.loop-i.i 1 (Some (fresh fin.empty));
+          grind (arith, map-append (option_map memory_of) c.loop-i.cells.items, replicate-append-replicate c.loop-i.i 1 (Some (fresh fin.empty)));
       bodies =
           ap bodies_in pushed
           ∙ map-append (λ cell. option_map_or bodies_of cell []) c.loop-i.cells.items _

@@ -25,18 +25,7 @@ loop-det-preserved g c =
     }
 
 pub loop-det-init : goal.loop-det-init
-loop-det-init g c = record {
-  run = refl;
-  done = refl;
-  up = c.requires.up;
-  logged = c.requires.logged;
-  filled = refl;
-  long = omega arith;
-  room = omega (arith, c.requires.room);
-  stored = c.requires.stored;
-  faults = omega arith;
-  bodies = refl;
-}
+loop-det-init g c = grind arith
 
 pub write_one-requires-clause-process : goal.write_one-requires-clause-process
 write_one-requires-clause-process g c = let same = ap (λ r. r.recording.processes) c.loop-det.invariant.run in omega (arith, same, c.requires.process)

@@ -1,9 +1,9 @@
+use Rattle.std.proofs.Common.{arith}
 use Rattle.causal_name.specs.Names.{message_of}
-use Rattle.causal_trace.specs.declared.entry.Entry.TheVariants as Entries
 use Rattle.causal_protocol.specs.Memory.{gained}
 use Rattle.causal_core.specs.Inside.Memories.{memory_of}
 use Rattle.causal_core.proofs.MemoriesFit.{fits_other}
-use Rattle.causal_core.proofs.RuntimeDelivery.{received_fits, delivery_apart}
+use Rattle.causal_core.proofs.RuntimeDelivery.{received_fits}
 use Rattle.causal_core.proofs.receive.receive.Goals as goal
 
 pub push_reserved-requires-clause-legal : goal.push_reserved-requires-clause-legal
@@ -15,9 +15,7 @@ returns-clause-fit c =
     (received_fits c.args.trace.now.recording.past c.args.q c.args.send c.args.own.rsn (message_of c.args.own) c.args.listed.items (gained c.args.carried.now c.args.own (memory_of c.args.cell.now).log) (memory_of c.args.cell.now) c.requires.sent c.requires.fit c.requires.logged)
 
 pub returns-clause-others : goal.returns-clause-others
-returns-clause-others c = λ p m apart was.
-    rw (c.push_reserved.ensures.recording, c.new.ensures)
-    (fits_other (Entries.Deliver c.args.q c.args.send c.args.own.rsn c.args.listed.items) c.args.trace.now.recording.past p (delivery_apart p c.args.q c.args.send c.args.own.rsn c.args.listed.items apart) m was)
+returns-clause-others c = grind (arith, fits_other)
 
 pub carry-requires : goal.carry-requires
 carry-requires c = rw c.grow.ensures.map c.requires.next

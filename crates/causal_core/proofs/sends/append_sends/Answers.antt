@@ -1,5 +1,4 @@
-use Rattle.std.proofs.Common.{◌≡◌, ◌∙◌, ◌+◌, ◌-◌, ◌<◌, ◌++◌, ◌∷◌, [], ℕ, List, true, false, cond, ap, sym, refl, arith, length, map, replicate, suc, append-nil, length-append, Vec, vec_len, Global}
-use Rattle.std.specs.Prelude.{nat_lt}
+use Rattle.std.proofs.Common.{◌≡◌, ◌∙◌, ◌+◌, ◌-◌, ◌<◌, ◌++◌, ◌∷◌, [], ℕ, List, ap, sym, arith, length, map, replicate, suc, append-nil, length-append, Vec, vec_len, Global}
 use Rattle.std.specs.Arc.{arc_value}
 use Rattle.std.proofs.lemmas.Bool.Decides.{nat_tests}
 use Rattle.std.specs.Vec.Iter.{into_iter_items, into_iter_len, into_iter_steps}
@@ -14,10 +13,7 @@ use Rattle.causal_name.specs.declared.Pid.{Pid}
 use Rattle.causal_process.specs.declared.message.Outgoing.{Outgoing}
 use Rattle.causal_log.specs.declared.batch.Item.{Item}
 use Rattle.causal_log.specs.Logs.{dets_of}
-use Rattle.causal_trace.specs.declared.entry.Entry.TheVariants.{Send}
-use Rattle.causal_trace.specs.State.{with_entry}
-use Rattle.causal_protocol.specs.Memory.{keeping}
-use Rattle.causal_protocol.specs.Steps.{sends_of, pushed}
+use Rattle.causal_protocol.specs.Steps.{sends_of}
 use Rattle.causal_core.specs.Inside.Commits.{keep_sends, with_sends}
 use Rattle.causal_core.specs.View.{addressed, receivers, sent_bodies}
 use Rattle.causal_core.specs.Inside.Grown.{first_batch, batches_of}
@@ -28,21 +24,7 @@ use Rattle.causal_core.proofs.sends.append_sends.Goals.{After-send-arg-then-from
 
 pub loop-outgoing-init : goal.loop-outgoing-init
 unfolding sends_of keep_all
-loop-outgoing-init c = record {
-  number = refl;
-  recording = refl;
-  memory = refl;
-  formed = c.processes-n.ensures.formed;
-  fit = c.requires.fit;
-  others = λ p m apart was. was;
-  delivered = λ ds was. was;
-  bodies = sym (append-nil _);
-  shares = c.requires.shares;
-  few = omega arith;
-  spare = omega (arith, c.requires.spare);
-  room = omega (arith, c.requires.room);
-  short = omega arith;
-}
+loop-outgoing-init c = grind (arith, append-nil)
 
 abbrev tos : After-send-arg-then-from-n-1 → List Pid
 tos c = receivers c.args.trace.now.recording.processes c.loop-outgoing.yielded
@@ -51,18 +33,13 @@ abbrev batch : After-send-arg-then-from-n-1 → List Item
 batch c = first_batch (batches_of c.args.shares.items)
 
 popped : (c : After-send-arg-then-from-n-1) → (j : ℕ) × (8 - length (tos c) ≡ suc j) × (batches_of c.pop.new.self.items ≡ replicate j (batch c)) × (arc_value c.in-Some-pop.batch ≡ batch c)
-popped c =
-    replicate_last (8 - length (tos c)) (batch c) (batches_of c.pop.new.self.items) (arc_value c.in-Some-pop.batch)
-    (sym c.loop-outgoing.invariant.shares ∙ ap batches_of c.in-Some-pop.ensures.items ∙ map-append arc_value c.pop.new.self.items (c.in-Some-pop.batch ∷ []))
+popped c = grind (arith, replicate_last, map-append)
 
 pub send-requires-clause-delivered : goal.send-requires-clause-delivered
 send-requires-clause-delivered c = rw (popped c).3 (c.loop-outgoing.invariant.delivered (dets_of (batch c)) c.requires.delivered)
 
 one : (c : After-send-arg-then-from-n-1) → addressed c.args.trace.now.recording.processes (c.loop-outgoing.yielded ++ c.in-Some.outgoing ∷ []) ≡ addressed c.args.trace.now.recording.processes c.loop-outgoing.yielded ++ c.in-Some.outgoing ∷ []
-one c =
-    let to : nat_lt c.in-Some.outgoing.to.0 c.args.trace.now.recording.processes ≡ true = grind (arith, nat_tests, c.if-from-n.true, c.from.ensures, c.processes-n.ensures.value) in
-    addressed_more c.args.trace.now.recording.processes c.loop-outgoing.yielded c.in-Some.outgoing
-    ∙ ap (λ b. addressed c.args.trace.now.recording.processes c.loop-outgoing.yielded ++ cond b (c.in-Some.outgoing ∷ []) []) to
+one c = grind (arith, nat_tests, addressed_more)
 
 more : (c : After-send-arg-then-from-n-1) → receivers c.args.trace.now.recording.processes (c.loop-outgoing.yielded ++ c.in-Some.outgoing ∷ []) ≡ tos c ++ c.in-Some.outgoing.to ∷ []
 more c = ap (map (λ (s : Outgoing). s.to)) (one c) ∙ map-append (λ (s : Outgoing). s.to) (addressed c.args.trace.now.recording.processes c.loop-outgoing.yielded) (c.in-Some.outgoing ∷ [])
@@ -74,15 +51,10 @@ ssn : (c : After-send-arg-then-from-n-1) → length (memory_of c.loop-outgoing.c
 ssn c = ap (λ m. length m.sent) c.loop-outgoing.invariant.memory ∙ kept_length _ _ (tos c) (memory_of c.args.cell.now)
 
 position : (c : After-send-arg-then-from-n-1) → length c.loop-outgoing.trace.recording.past ≡ length c.args.trace.now.recording.past + length (tos c)
-position c =
-    let all = ap (λ r. length r.past) c.loop-outgoing.invariant.recording in
-    let long = pushed_length (sends_of c.args.q (length (memory_of c.args.cell.now).sent) (tos c)) c.args.trace.now.recording.past in
-    let count = sends_length c.args.q (length (memory_of c.args.cell.now).sent) (tos c) in
-    omega (arith, all, long, count)
+position c = grind (arith, pushed_length, sends_length)
 
 pub loop-outgoing-preserved-then-from-n : goal.loop-outgoing-preserved-then-from-n
-loop-outgoing-preserved-then-from-n c =
-    let at = (goal.at.loop-outgoing-preserved-then-from-n c).After-send-arg-then-from-n-1 in
+loop-outgoing-preserved-then-from-n c = let at = (goal.at.loop-outgoing-preserved-then-from-n c).After-send-arg-then-from-n-1 in
     let inv = c.loop-outgoing.invariant in
     let past = c.args.trace.now.recording.past in
     let k0 = length (memory_of c.args.cell.now).sent in
@@ -92,25 +64,13 @@ loop-outgoing-preserved-then-from-n c =
     let one_to = length-append (tos at) (to ∷ []) in
     record {
       number = rw (more at) (omega (arith, one_to, inv.number));
-      recording =
-          c.send.ensures.recording
-          ∙ (λ i. with_entry (inv.recording i) (Send q to (ssn at i)))
-          ∙ ap (λ xs. record { processes = c.args.trace.now.recording.processes; past = xs })
-          (sym (pushed_last (sends_of q k0 (tos at)) (Send q to (k0 + length (tos at))) past) ∙ ap (λ es. pushed es past) (sym (sends_more q k0 (tos at) to) ∙ ap (sends_of q k0) (sym (more at))));
-      memory =
-          c.send.ensures.memory
-          ∙ (λ i. keeping to (position at i) ((popped at).3 i) (inv.memory i))
-          ∙ sym (keep_more (length past) (batch at) (tos at) to (memory_of c.args.cell.now))
-          ∙ ap (λ xs. keep_all (length past) (batch at) xs (memory_of c.args.cell.now)) (sym (more at));
+      recording = grind (arith, ssn, pushed_last, sends_more, more);
+      memory = grind (arith, position, popped at, keep_more, more at);
       formed = c.send.ensures.formed;
       fit = c.send.ensures.fit;
       others = λ p m apart was. c.send.ensures.others p m apart (inv.others p m apart was);
       delivered = λ ds was. c.send.ensures.delivered ds (inv.delivered ds was);
-      bodies =
-          c.send.ensures.bodies
-          ∙ ap (λ bs. bs ++ c.in-Some.outgoing.body ∷ []) inv.bodies
-          ∙ append_assoc (bodies_of c.args.cell.now) (sent_bodies c.args.trace.now.recording.processes c.loop-outgoing.yielded) (c.in-Some.outgoing.body ∷ [])
-          ∙ ap (λ bs. bodies_of c.args.cell.now ++ bs) (sym (more_bodies at));
+      bodies = grind (arith, append_assoc, more_bodies);
       shares = let p = popped at in rw (more at, one_to) (p.2 ∙ ap (λ k. replicate k (batch at)) (let left = p.1 in omega (arith, left)));
       few = rw (more at) (omega (arith, one_to, longer, inv.few));
       spare = omega (arith, c.send.ensures.spare, inv.spare, longer);
@@ -119,30 +79,7 @@ loop-outgoing-preserved-then-from-n c =
     }
 
 pub loop-outgoing-preserved : goal.loop-outgoing-preserved
-loop-outgoing-preserved c =
-    let inv = c.loop-outgoing.invariant in
-    let n = c.args.trace.now.recording.processes in
-    let longer = length-append c.loop-outgoing.yielded (c.in-Some.outgoing ∷ []) in
-    let not_to : nat_lt c.in-Some.outgoing.to.0 n ≡ false = grind (arith, nat_tests, c.if-from-n.false, c.from.ensures, c.processes-n.ensures.value) in
-    let same : addressed n (c.loop-outgoing.yielded ++ c.in-Some.outgoing ∷ []) ≡ addressed n c.loop-outgoing.yielded =
-    addressed_more n c.loop-outgoing.yielded c.in-Some.outgoing ∙ ap (λ b. addressed n c.loop-outgoing.yielded ++ cond b (c.in-Some.outgoing ∷ []) []) not_to ∙ append-nil _ in
-    let same_to : receivers n (c.loop-outgoing.yielded ++ c.in-Some.outgoing ∷ []) ≡ receivers n c.loop-outgoing.yielded = ap (map (λ (s : Outgoing). s.to)) same in
-    let same_bodies : sent_bodies n (c.loop-outgoing.yielded ++ c.in-Some.outgoing ∷ []) ≡ sent_bodies n c.loop-outgoing.yielded = ap (map (λ (s : Outgoing). s.body)) same in
-    record {
-      number = rw same_to inv.number;
-      recording = rw same_to inv.recording;
-      memory = rw same_to inv.memory;
-      formed = inv.formed;
-      fit = inv.fit;
-      others = inv.others;
-      delivered = inv.delivered;
-      bodies = rw same_bodies inv.bodies;
-      shares = rw same_to inv.shares;
-      few = rw same_to (omega (arith, inv.few, longer));
-      spare = omega (arith, inv.spare, longer);
-      room = omega (arith, inv.room, longer);
-      short = omega (arith, inv.short, longer);
-    }
+loop-outgoing-preserved c = grind (arith, length-append, nat_tests, addressed_more, append-nil)
 
 -- the loop goes over all of them
 all : (sends : Vec Outgoing Global) (s : IntoIter Outgoing Global) → into_iter_items s ≡ sends.items → into_iter_len s ≡ vec_len sends → YieldsList (into_iter_steps {X = Outgoing} {Z = Global}) (λ y. y) s sends.items
@@ -156,19 +93,19 @@ left : (c : After-send-arg-then-from-n-1) → length c.loop-outgoing.yielded < l
 left c = (YieldsList-turn (all c.args.sends c.into_iter-outgoing-iterator.result c.into_iter-outgoing-iterator.ensures.into_iter_gives.0 c.into_iter-outgoing-iterator.ensures.into_iter_gives.1) c.loop-outgoing.yielded c.loop-outgoing.outgoing-iterator c.loop-outgoing.yielded_by c.next.result c.next.new.self c.in-Some.outgoing c.in-Some.is c.next.ensures.steps).0
 
 pub send-requires-clause-from : goal.send-requires-clause-from
-send-requires-clause-from c = omega (arith, from c, c.requires.process)
+send-requires-clause-from c = grind (arith, from)
 
 pub send-requires-clause-to : goal.send-requires-clause-to
-send-requires-clause-to c = omega (arith, from c, c.if-from-n.true, c.from.ensures, c.processes-n.ensures.value)
+send-requires-clause-to c = grind (arith, from)
 
 pub send-requires-clause-spare : goal.send-requires-clause-spare
-send-requires-clause-spare c = omega (arith, left c, c.loop-outgoing.invariant.spare, c.requires.few)
+send-requires-clause-spare c = grind (arith, left)
 
 pub send-requires-clause-room : goal.send-requires-clause-room
-send-requires-clause-room c = omega (arith, left c, c.loop-outgoing.invariant.room, c.requires.few)
+send-requires-clause-room c = grind (arith, left)
 
 pub send-requires-clause-short : goal.send-requires-clause-short
-send-requires-clause-short c = omega (arith, left c, c.loop-outgoing.invariant.short, c.requires.few, c.requires.short)
+send-requires-clause-short c = grind (arith, left)
 
 pub send-requires-clause-ascending : goal.send-requires-clause-ascending
 send-requires-clause-ascending c = ap (λ b. is_ascending (dets_of b)) (popped c).3 ∙ c.requires.ascending

@@ -6,7 +6,7 @@ use Rattle.causal_core.proofs.ProcessBegins.{none_begun, more_begun, may_begin}
 use Rattle.causal_core.proofs.start.begin_all.Goals as goal
 
 pub loop-process-init : goal.loop-process-init
-loop-process-init g c = none_begun _ (length c.args.boxes.items) c.args.held.now.run.faults c.args.held.now c.new-slots.result.items c.new-slots.ensures.items c.requires.run c.requires.bodies
+loop-process-init g c = grind (arith, none_begun)
 
 pub begin-requires : goal.begin-requires
 begin-requires g c =

@@ -1,6 +1,6 @@
 use Rattle.causal_protocol.specs.Kept.{FewAreDown, HoldersHold, NamedHold, MarksAreTrue, DependentsHold, MessagesCarry, ReceiversFind, SendersFind}
 use Rattle.causal_protocol.specs.Runs.{IsCrash}
-use Rattle.causal_protocol.proofs.FactByFact.{after}
+use Rattle.causal_protocol.proofs.StepKeeps.{after}
 use Rattle.causal_protocol.proofs.laws.crashes_keep.Goals as goal
 
 pub returns-clause-few : goal.returns-clause-few

@@ -1,4 +1,4 @@
-use Rattle.std.proofs.Common.{◌≡◌, ◌∙◌, sym}
+use Rattle.std.proofs.Common.{arith, ◌≡◌}
 use Rattle.causal_protocol.specs.declared.request.Request.TheVariants as Ask
 use Rattle.causal_protocol.specs.Refusals.{first_fault}
 use Rattle.causal_core.proofs.Legal.{tells_reason}
@@ -7,16 +7,13 @@ use Rattle.causal_core.proofs.data.Data.admitted.Goals as goal
 use Rattle.causal_core.proofs.data.Data.admitted.Goals.{After-listing_fault}
 
 same : (c : After-listing_fault) → first_fault c.args.self.now.run (Ask.Restart c.args.p) ≡ c.listing_fault.result
-same c =
-    sym (restart_lists c.args.self.now.run c.args.p c.len.result (c.len.ensures ∙ log_listed c.args.self.now.run c.args.p c.args.log.map c.requires))
-    ∙ sym c.listing_fault.ensures
+same c = grind (arith, restart_lists, log_listed)
 
 pub returns-in-Some-clause-refused : goal.returns-in-Some-clause-refused
-returns-in-Some-clause-refused c =
-    tells_reason c.args.self.now.run (Ask.Restart c.args.p) c.in-Some.fault (same (goal.at.returns-in-Some-clause-refused c).After-listing_fault ∙ c.in-Some.is)
+returns-in-Some-clause-refused c = grind (arith, tells_reason, same)
 
 pub returns-in-Ok-clause-legal : goal.returns-in-Ok-clause-legal
-returns-in-Ok-clause-legal c = same (goal.at.returns-in-Ok-clause-legal c).After-listing_fault ∙ c.in_default.is
+returns-in-Ok-clause-legal c = grind (arith, same)
 
 pub returns-in-Err-clause-refused : goal.returns-in-Err-clause-refused
-returns-in-Err-clause-refused c = same (goal.at.returns-in-Err-clause-refused c).After-listing_fault ∙ c.in_default.is
+returns-in-Err-clause-refused c = grind (arith, same)

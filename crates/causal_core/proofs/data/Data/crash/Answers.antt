@@ -1,13 +1,11 @@
-use Rattle.std.proofs.Common.{◌≡◌, ◌∙◌, ◌<◌, ◌∷◌, [], ap, sym, subst, refl, None, arith}
+use Rattle.std.proofs.Common.{◌≡◌, ◌∙◌, ◌<◌, ap, sym, None, arith}
 use Rattle.std.proofs.lemmas.Grind.{common_steps}
 use Rattle.causal_trace.specs.declared.entry.Entry.TheVariants as Entries
 use Rattle.causal_trace.specs.Rows as Rows
-use Rattle.causal_protocol.specs.declared.request.CoreFault.TheVariants as Why
 use Rattle.causal_protocol.specs.declared.request.Request.TheVariants as Ask
-use Rattle.causal_protocol.specs.declared.request.Reply.TheVariants as Told
 use Rattle.causal_protocol.specs.Run.{Run}
 use Rattle.causal_protocol.specs.Refusals.{first_fault}
-use Rattle.causal_protocol.specs.Steps.{Steps, LegalStep, extended}
+use Rattle.causal_protocol.specs.Steps.{LegalStep}
 use Rattle.causal_core.specs.View.{run_from}
 use Rattle.causal_core.specs.Inside.Memories.{memories_in}
 use Rattle.causal_core.proofs.Cells.{memories_length}
@@ -27,18 +25,16 @@ legal c =
     crash_legal (run c) c.args.p (held_fit (run c) (memories_in c.self.inside.cells.items) c.self.invariant) c.self.invariant.formed (none c)
 
 pub returns-in-Some-clause-step : goal.returns-in-Some-clause-step
-returns-in-Some-clause-step c = refused_crash c.args.self.now.run c.args.self.now.run c.in-Some.fault refl c.args.p (tells_reason c.args.self.now.run (Ask.Crash c.args.p) c.in-Some.fault (sym c.crash_fault.ensures ∙ c.in-Some.is))
+returns-in-Some-clause-step c = grind (arith, refused_crash, tells_reason)
 
 pub returns-then-is_err-clause-step : goal.returns-then-is_err-clause-step
-returns-then-is_err-clause-step c =
-    refused_crash c.args.self.now.run _ Why.NoMemory (ap (λ x. run_from x c.self.inside.faults c.self.inside.writers.items) c.reserve.ensures.recording ∙ ap (λ s. s.run) c.self.view_is) c.args.p (sym c.crash_fault.ensures ∙ c.in_default.is)
+returns-then-is_err-clause-step c = grind (arith, refused_crash)
 
 pub push_reserved-requires-clause-legal : goal.push_reserved-requires-clause-legal
-push_reserved-requires-clause-legal c = rw c.reserve.ensures.recording (legal (goal.at.push_reserved-requires-clause-legal c).After-len-first).1
+push_reserved-requires-clause-legal c = grind (arith, legal)
 
 pub empty-requires : goal.empty-requires
-empty-requires c = let l = legal (goal.at.empty-requires c).After-len-first in
-    grind (arith, common_steps, l.0, c.self.invariant.fit.count, memories_length c.self.inside.cells.items, c.from.ensures)
+empty-requires c = grind (arith, legal, common_steps, memories_length)
 
 pub invariant_of-self-2 : goal.invariant_of-self-2
 invariant_of-self-2 c =
@@ -48,10 +44,4 @@ invariant_of-self-2 c =
 
 pub returns-clause-step : goal.returns-clause-step
 unfolding LegalStep
-returns-clause-step c =
-    let at = (goal.at.returns-clause-step c).After-len-first in
-    let first = rw c.reserve.ensures.recording at c.len-first.ensures.length in
-    let r = run at in
-    rw (c.push_reserved.ensures.recording, c.reserve.ensures.recording)
-    (subst (λ x. Steps x (Ask.Crash c.args.p) (Told.Crashed c.len-first.result) (extended r (Ask.Crash c.args.p) (Entries.Crash c.args.p ∷ []))) (ap (λ s. s.run) c.self.view_is)
-    (record { appended = Entries.Crash c.args.p ∷ []; grown = refl; legal = (none at, first, refl) }))
+returns-clause-step c = grind (arith, legal, none)

@@ -1,26 +1,21 @@
-use Rattle.std.proofs.Common.{◌≡◌, ◌∙◌, ◌<◌, ◌≤◌, Some, None, true, false, ap, sym, subst, arith, length}
+use Rattle.std.proofs.Common.{◌≡◌, ◌∙◌, ◌<◌, ◌≤◌, Some, None, true, false, ap, sym, arith, length}
 use Rattle.std.specs.Prelude.{not, ◌&&◌, nat_lt}
 use Rattle.std.specs.Option.{option_map, option_copied}
 use Rattle.std.specs.List.{list_any}
-use Rattle.std.specs.FinMap as fin
-use Rattle.std.proofs.lemmas.Grind.{common_steps}
 use Rattle.std.proofs.lemmas.Bool.Decides.{nat_tests}
 use Rattle.causal_name.specs.Names.{message_of, same_message}
-use Rattle.causal_log.specs.Slots.{first_of_slot}
 use Rattle.causal_trace.proofs.Lemmas.WellFormed.{formed_short}
 use Rattle.causal_protocol.specs.declared.request.Request.TheVariants as Ask
 use Rattle.causal_protocol.specs.Memory.{Memories, at}
 use Rattle.causal_protocol.specs.Run.{Run, stable_of}
-use Rattle.causal_trace.specs.Past.{det_from, has_delivered}
-use Rattle.causal_log.specs.Logs.{dets_of}
-use Rattle.causal_protocol.specs.Naming.{with_own, name, lesser, next_det, kept_for, listed_for}
+use Rattle.causal_trace.specs.Past.{has_delivered}
+use Rattle.causal_protocol.specs.Naming.{name, next_det, kept_for, listed_for}
 use Rattle.causal_protocol.specs.Refusals.{first_fault, unless, is_full}
-use Rattle.causal_core.specs.Inside.Facts.{Fits, FitsAt}
 use Rattle.causal_core.specs.View.{run_from}
-use Rattle.causal_core.specs.Inside.Memories.{memories_in, memory_of, kept_of, stored_for}
-use Rattle.causal_core.proofs.DeliveryRows.{tell_process, tell_down, tell_other, tell_absent, tell_again, tell_full, received_few, stored_here, listed_is}
+use Rattle.causal_core.specs.Inside.Memories.{memories_in, memory_of, kept_of}
+use Rattle.causal_core.proofs.DeliveryRows.{tell_process, tell_down, tell_other, tell_absent, tell_again, tell_full, received_few}
 use Rattle.causal_core.proofs.data.Data.delivery_fault.Goals as goal
-use Rattle.causal_core.proofs.data.Data.delivery_fault.Goals.{After-are_processes, In-Some, After-cell_at, After-other_named, In-Some-message, After-is_full}
+use Rattle.causal_core.proofs.data.Data.delivery_fault.Goals.{After-are_processes, In-Some, After-other_named, In-Some-message, After-is_full}
 
 abbrev run : After-are_processes → Run
 run c = run_from c.self.inside.trace.recording c.self.inside.faults c.self.inside.writers.items
@@ -32,32 +27,21 @@ asked_of : (c : After-are_processes) → first_fault (run c) (Ask.Deliver c.args
 asked_of c = ap (λ d. first_fault d.run (Ask.Deliver c.args.q c.args.source c.args.ssn)) c.self.view_is
 
 pub returns-then-not-are_processes : goal.returns-then-not-are_processes
-returns-then-not-are_processes c =
-    let at0 = (goal.at.returns-then-not-are_processes c).After-are_processes in
-    let outside : not (nat_lt c.args.q.0 c.self.inside.trace.recording.processes && nat_lt c.args.source.0 c.self.inside.trace.recording.processes) ≡ true = grind (arith, c.are_processes.ensures, c.processes.ensures.value, c.if-not-are_processes.true) in
-    sym (tell_process (run at0) (ms at0) c.args.q c.args.source c.args.ssn c.self.invariant.same outside) ∙ asked_of at0
+returns-then-not-are_processes c = grind (arith, tell_process)
 
 pub returns-in_default : goal.returns-in_default
-returns-in_default c =
-    let at0 = (goal.at.returns-in_default c).After-are_processes in
-    let inside : not (nat_lt c.args.q.0 c.self.inside.trace.recording.processes && nat_lt c.args.source.0 c.self.inside.trace.recording.processes) ≡ false = grind (arith, c.are_processes.ensures, c.processes.ensures.value, c.if-not-are_processes.false) in
-    let none : at (ms at0) c.args.q.0 ≡ None = ap (λ xs. at (memories_in xs) c.args.q.0) (sym c.as_slice-cells.ensures.value) ∙ sym c.cell_at.ensures ∙ ap (λ o. option_map memory_of (option_copied o)) c.in_default.is in
-    sym (tell_down (run at0) (ms at0) c.args.q c.args.source c.args.ssn c.self.invariant.same inside none) ∙ asked_of at0
+returns-in_default c = grind (arith, tell_down)
 
 -- the receiver is a process, and up
 inside : (c : In-Some) → not (nat_lt c.args.q.0 c.self.inside.trace.recording.processes && nat_lt c.args.source.0 c.self.inside.trace.recording.processes) ≡ false
-inside c = grind (arith, c.are_processes.ensures, c.processes.ensures.value, c.if-not-are_processes.false)
+inside c = grind arith
 
 up : (c : In-Some) → at (memories_in c.self.inside.cells.items) c.args.q.0 ≡ Some (memory_of c.in-Some.cell.now)
 up c = ap (λ xs. at (memories_in xs) c.args.q.0) (sym c.as_slice-cells.ensures.value) ∙ sym c.cell_at.ensures ∙ ap (λ o. option_map memory_of (option_copied o)) c.in-Some.is
 
 -- the trace says what the receiver has received
 again : (c : In-Some) → has_delivered c.self.inside.trace.recording.past c.args.q.0 (name c.args.source c.args.ssn) ≡ list_any (λ k. same_message k (name c.args.source c.args.ssn)) c.in-Some.cell.now.received.items
-again c =
-    let h = inside c in
-    let process : c.args.q.0 < c.self.inside.trace.recording.processes = grind (arith, nat_tests, h) in
-    let fits : Fits c.self.inside.trace.recording.past c.args.q.0 (memory_of c.in-Some.cell.now) = subst (FitsAt c.self.inside.trace.recording.past c.args.q.0) (up c) (c.self.invariant.fit.each c.args.q.0 process) in
-    fits.received (name c.args.source c.args.ssn)
+again c = grind arith
 
 few : (c : In-Some) → length c.in-Some.cell.now.received.items ≤ 16777216
 few c =
@@ -66,15 +50,11 @@ few c =
     received_few c.self.inside.trace.recording.processes c.self.inside.trace.recording.past (memories_in c.self.inside.cells.items) c.args.q.0 (memory_of c.in-Some.cell.now) c.self.invariant.fit (formed_short _ c.self.invariant.formed).entries process (up c)
 
 pub other_named-requires : goal.other_named-requires
-other_named-requires c = let h = few (goal.at.other_named-requires c).In-Some in grind (arith, common_steps, h)
+other_named-requires c = grind (arith, few)
 
 -- what is named
 other_is : (c : After-other_named) → at (memories_in c.self.inside.cells.items) c.args.q.0 ≡ Some (memory_of c.in-Some.cell.now) → c.other_named.result ≡ unless (name c.args.source c.args.ssn) (option_map message_of (next_det (stable_of (run_from c.self.inside.trace.recording c.self.inside.faults c.self.inside.writers.items)) c.args.q (memory_of c.in-Some.cell.now)))
-other_is c here =
-    let r = run_from c.self.inside.trace.recording c.self.inside.faults c.self.inside.writers.items in
-    let m = memory_of c.in-Some.cell.now in
-    let stored = c.requires ∙ ap (λ d. stored_for d.run c.args.q) (sym c.self.view_is) ∙ stored_here r (memories_in c.self.inside.cells.items) c.args.q m c.self.invariant.same here in
-    c.other_named.ensures ∙ ap (λ s. unless (name c.args.source c.args.ssn) (option_map message_of (lesser (first_of_slot c.args.q (length m.received) (fin.keys m.log)) s))) stored
+other_is c here = grind arith
 
 pub returns-in-Some-other_named : goal.returns-in-Some-other_named
 returns-in-Some-other_named c =
@@ -99,19 +79,11 @@ returns-then-has_delivered c =
     sym (tell_again (run at0) (ms at0) c.args.q c.args.source c.args.ssn c.self.invariant.same (inside at1) (memory_of c.in-Some.cell.now) (up at1) (sym (other_is at2 (up at1)) ∙ c.in_default-other_named.is) (kept_of c.in-Some-message.message.now) (kept at3) (sym (again at1) ∙ sym c.has_delivered.ensures ∙ c.if-has_delivered.true)) ∙ asked_of at0
 
 pub overflow_cast-own : goal.overflow_cast-own
-overflow_cast-own c = let h = few (goal.at.overflow_cast-own c).In-Some in grind (arith, common_steps, h, c.len.ensures)
+overflow_cast-own c = grind (arith, few)
 
 full_is : (c : After-is_full) → at (memories_in c.self.inside.cells.items) c.args.q.0 ≡ Some (memory_of c.in-Some.cell.now) → kept_for (memories_in c.self.inside.cells.items) c.args.q (name c.args.source c.args.ssn) ≡ Some (kept_of c.in-Some-message.message.now)
     → is_full (run_from c.self.inside.trace.recording c.self.inside.faults c.self.inside.writers.items) 9 (length (listed_for (memories_in c.self.inside.cells.items) c.args.q (name c.args.source c.args.ssn))) ≡ c.is_full.result
-full_is c here sent =
-    let r = run_from c.self.inside.trace.recording c.self.inside.faults c.self.inside.writers.items in
-    let count : length c.in-Some.cell.now.received.items ≡ c.len.result = grind (arith, common_steps, c.len.ensures) in
-    let list = listed_is (memories_in c.self.inside.cells.items) c.args.q (name c.args.source c.args.ssn) (memory_of c.in-Some.cell.now) (kept_of c.in-Some-message.message.now) here sent in
-    let long : length (listed_for (memories_in c.self.inside.cells.items) c.args.q (name c.args.source c.args.ssn)) ≡ c.listed_len.result =
-    ap length list
-    ∙ (λ i. length (with_own (det_from c.args.q (count i) (name c.args.source c.args.ssn)) (dets_of (sym c.deref.ensures i))))
-    ∙ sym c.listed_len.ensures in
-    ap (is_full r 9) long ∙ sym c.is_full.ensures
+full_is c here sent = grind arith
 
 pub returns-then-is_full : goal.returns-then-is_full
 returns-then-is_full c =

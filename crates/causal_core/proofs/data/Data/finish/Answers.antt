@@ -1,32 +1,28 @@
-use Rattle.std.proofs.Common.{◌≡◌, ◌∙◌, ◌+◌, ◌∷◌, Some, None, refl, ap, sym, subst, arith, length, replicate, vec_len}
-use Rattle.std.specs.Prelude.{is_some, ◌-◌, min, vec_capacity}
-use Rattle.std.specs.FinMap as fin
+use Rattle.std.proofs.Common.{◌≡◌, ◌∙◌, ◌∷◌, None, refl, ap, sym, subst, arith, length, vec_len}
+use Rattle.std.specs.Prelude.{◌-◌, min, vec_capacity}
 use Rattle.std.proofs.lemmas.Bool.Decides.{nat_tests}
-use Rattle.causal_name.specs.Names.{message_of, is_ascending}
-use Rattle.causal_log.specs.Logs.{chosen, dets_of}
+use Rattle.causal_name.specs.Names.{message_of}
+use Rattle.causal_log.specs.Logs.{chosen}
 use Rattle.causal_log.proofs.Lemmas.ChosenLemmas.{chosen_ascend}
 use Rattle.causal_trace.specs.declared.entry.Entry.TheVariants.{Deliver}
-use Rattle.causal_trace.specs.Past.{message_at, det_at, det_from}
-use Rattle.std.specs.Option.{option_map}
+use Rattle.causal_trace.specs.Past.{message_at}
 use Rattle.causal_core.proofs.Dets.{det_at-pushed, det_at-newest}
-use Rattle.causal_trace.specs.Rows as Rows
-use Rattle.causal_trace.specs.Rows.{are_delivered, IsWellFormed}
+use Rattle.causal_trace.specs.Rows.{IsWellFormed}
 use Rattle.causal_protocol.specs.declared.request.Request.TheVariants as Ask
 use Rattle.causal_protocol.specs.declared.request.Reply.TheVariants as Told
 use Rattle.causal_protocol.specs.Memory.{at, gained}
 use Rattle.causal_protocol.specs.Run.{memories_of}
 use Rattle.causal_protocol.specs.Naming.{name, next_ssn}
 use Rattle.causal_protocol.specs.Refusals.{first_fault}
-use Rattle.causal_protocol.specs.Steps.{LegalStep, Steps, delivery_of, pushed, sends_of}
+use Rattle.causal_protocol.specs.Steps.{LegalStep, Steps, delivery_of, sends_of}
 use Rattle.causal_core.specs.Inside.Facts.{AllFit}
-use Rattle.causal_core.specs.View.{DataState, sent_in, with_delivery, run_from, receivers}
+use Rattle.causal_core.specs.View.{DataState, sent_in, with_delivery, run_from, receivers, with_bodies}
 use Rattle.causal_core.specs.Inside.Grown.{IsGrown, carried_by, first_batch, batches_of}
-use Rattle.causal_core.specs.Inside.Memories.{HasRoom, memories_in, memory_at, log_at, bodies_in, rooms_in}
-use Rattle.causal_core.specs.View.{with_bodies}
+use Rattle.causal_core.specs.Inside.Memories.{memories_in, memory_at, bodies_in, rooms_in}
 use Rattle.causal_core.proofs.RuntimeSend.{are_sends, receivers_below, receivers_long, addressed_few}
 use Rattle.causal_core.proofs.Legal.{held_fit}
-use Rattle.causal_core.proofs.LegalDelivery.{MayDeliver, may_deliver, legal, sent_name, ssn_is}
-use Rattle.causal_core.proofs.DeliveryMemories.{memory_here, all_delivered, chosen_delivered, same_memories}
+use Rattle.causal_core.proofs.LegalDelivery.{MayDeliver, may_deliver, legal, sent_name}
+use Rattle.causal_core.proofs.DeliveryMemories.{all_delivered, chosen_delivered, same_memories}
 use Rattle.causal_core.proofs.data.Data.finish.Goals as goal
 use Rattle.causal_core.proofs.data.Data.finish.Goals.{After-len-first}
 
@@ -43,16 +39,10 @@ may : (c : After-len-first) → MayDeliver (state c).run c.args.q c.args.grown.o
 may c = may_deliver (state c).run c.args.q c.args.grown.own.source c.args.grown.own.ssn (held_fit (state c).run (memories_in c.self.inside.cells.items) c.self.invariant) (none c)
 
 pub commit_at-sends-requires-clause-up : goal.commit_at-sends-requires-clause-up
-commit_at-sends-requires-clause-up c =
-    let at0 = (goal.at.commit_at-sends-requires-clause-up c).After-len-first in
-    ap (λ xs. is_some (at xs c.args.q.0)) c.self.invariant.same ∙ ap is_some (may at0).memory_is
+commit_at-sends-requires-clause-up c = grind (arith, may ((goal.at.commit_at-sends-requires-clause-up c).After-len-first))
 
 pub commit_at-sends-requires-clause-legal : goal.commit_at-sends-requires-clause-legal
-commit_at-sends-requires-clause-legal c =
-    let at0 = (goal.at.commit_at-sends-requires-clause-legal c).After-len-first in
-    let g = grown at0 in
-    (λ i. Rows.first_fault c.self.inside.trace.recording.processes c.self.inside.trace.recording.past (Deliver c.args.q (g.send i) (g.own i).rsn (g.listed i)))
-    ∙ legal (state at0).run c.args.q c.args.grown.own.source c.args.grown.own.ssn (may at0)
+commit_at-sends-requires-clause-legal c = grind (arith, legal, may)
 
 pub commit_at-sends-requires-clause-sent : goal.commit_at-sends-requires-clause-sent
 commit_at-sends-requires-clause-sent c =
@@ -60,32 +50,16 @@ commit_at-sends-requires-clause-sent c =
     ap (message_at c.self.inside.trace.recording.past) (grown at0).send ∙ sent_name (state at0).run c.args.q c.args.grown.own.source c.args.grown.own.ssn (may at0)
 
 pub commit_at-sends-requires-clause-logged : goal.commit_at-sends-requires-clause-logged
-commit_at-sends-requires-clause-logged c =
-    let at0 = (goal.at.commit_at-sends-requires-clause-logged c).After-len-first in
-    let g = grown at0 in
-    let count = sym (ap length c.self.invariant.same) ∙ c.self.invariant.fit.count in
-    let same = c.self.invariant.same in
-    (λ i. are_delivered (Deliver c.args.q (g.send i) (g.own i).rsn (g.listed i) ∷ c.self.inside.trace.recording.past) (fin.keys (gained (g.carried i) (g.own i) (memory_at (same i) c.args.q.0).log)))
-    ∙ all_delivered (state at0).run c.args.q c.args.grown.own.source c.args.grown.own.ssn (may at0) count
+commit_at-sends-requires-clause-logged c = grind (arith, all_delivered, may)
 
 pub commit_at-sends-requires-clause-ascending : goal.commit_at-sends-requires-clause-ascending
-commit_at-sends-requires-clause-ascending c =
-    let at0 = (goal.at.commit_at-sends-requires-clause-ascending c).After-len-first in
-    ap (λ cs. is_ascending (dets_of (first_batch cs))) (grown at0).shares ∙ chosen_ascend c.self.inside.faults (gained (carried_by c.args.grown) c.args.grown.own (log_at (memories_of (state at0).run) c.args.q.0))
+commit_at-sends-requires-clause-ascending c = grind (arith, chosen_ascend)
 
 pub commit_at-sends-requires-clause-delivered : goal.commit_at-sends-requires-clause-delivered
-commit_at-sends-requires-clause-delivered c =
-    let at0 = (goal.at.commit_at-sends-requires-clause-delivered c).After-len-first in
-    let g = grown at0 in
-    let count = sym (ap length c.self.invariant.same) ∙ c.self.invariant.fit.count in
-    ap (λ cs. are_delivered (Deliver c.args.q c.args.grown.send c.args.grown.own.rsn c.args.grown.listed.items ∷ c.self.inside.trace.recording.past) (dets_of (first_batch cs))) g.shares
-    ∙ (λ i. are_delivered (Deliver c.args.q (g.send i) (g.own i).rsn (g.listed i) ∷ c.self.inside.trace.recording.past) (dets_of (chosen c.self.inside.faults (gained (g.carried i) (g.own i) (log_at (memories_of (state at0).run) c.args.q.0)))))
-    ∙ chosen_delivered (state at0).run c.args.q c.args.grown.own.source c.args.grown.own.ssn (may at0) count
+commit_at-sends-requires-clause-delivered c = grind (arith, chosen_delivered, may)
 
 pub commit_at-sends-requires-clause-next : goal.commit_at-sends-requires-clause-next
-commit_at-sends-requires-clause-next c =
-    let at0 = (goal.at.commit_at-sends-requires-clause-next c).After-len-first in
-    (grown at0).next ∙ ap (λ xs. chosen c.self.inside.faults (gained (carried_by c.args.grown) c.args.grown.own (memory_at xs c.args.q.0).log)) (sym c.self.invariant.same)
+commit_at-sends-requires-clause-next c = grind arith
 
 pub commit_at-sends-requires-clause-short : goal.commit_at-sends-requires-clause-short
 commit_at-sends-requires-clause-short c = let long = (may (goal.at.commit_at-sends-requires-clause-short c).After-len-first).long in grind (arith, nat_tests, long)
@@ -111,20 +85,7 @@ invariant_of-self c =
 
 -- what is recorded then
 new_run : (c : goal.After-commit_at-sends) → run_from c.commit_at-sends.new.trace.recording c.self.inside.faults c.self.inside.writers.items ≡ with_delivery (run_from c.self.inside.trace.recording c.self.inside.faults c.self.inside.writers.items) c.args.q (message_of c.args.grown.own) c.args.sends.items
-new_run c =
-    let at0 = (goal.at.returns-clause-run c).After-len-first in
-    let g = grown at0 in
-    let r = (state at0).run in
-    let n = c.self.inside.trace.recording.processes in
-    let source = c.args.grown.own.source in
-    let ssn = c.args.grown.own.ssn in
-    let tos = receivers n c.args.sends.items in
-    let d = may at0 in
-    let count = sym (ap length c.self.invariant.same) ∙ c.self.invariant.fit.count in
-    let num : length (memory_at (memories_in c.self.inside.cells.items) c.args.q.0).sent ≡ next_ssn (memories_of r) c.args.q =
-    ap (λ xs. length (memory_at xs c.args.q.0).sent) c.self.invariant.same ∙ ap (λ m. length m.sent) (memory_here r c.args.q source ssn d count) ∙ sym (ssn_is r c.args.q source ssn d) in
-    ap (λ x. run_from x c.self.inside.faults c.self.inside.writers.items) c.commit_at-sends.ensures.recording
-    ∙ (λ i. run_from (record { processes = n; past = pushed (sends_of c.args.q (num i) tos) (Deliver c.args.q (g.send i) (g.own i).rsn (g.listed i) ∷ c.self.inside.trace.recording.past) }) c.self.inside.faults c.self.inside.writers.items)
+new_run c = grind arith
 
 pub returns-clause-step : goal.returns-clause-step
 unfolding LegalStep
@@ -152,50 +113,36 @@ returns-clause-step c =
 
 pub returns-clause-det : goal.returns-clause-det
 returns-clause-det c =
-    let at0 = (goal.at.returns-clause-det c).After-len-first in
-    let g = grown at0 in
-    let r = (state at0).run in
-    let q = c.args.q in
-    let asked = message_of c.args.grown.own in
-    let past = c.self.inside.trace.recording.past in
-    let tos = receivers c.self.inside.trace.recording.processes c.args.sends.items in
-    let entry = Deliver q c.args.grown.send c.args.grown.own.rsn c.args.grown.listed.items in
-    let es = sends_of q (length (memory_at (memories_in c.self.inside.cells.items) q.0).sent) tos in
-    let sent : message_at past c.args.grown.send ≡ Some asked = ap (message_at past) g.send ∙ sent_name r q c.args.grown.own.source c.args.grown.own.ssn (may at0) in
-    ap (λ x. det_at x.past c.len-first.result) c.commit_at-sends.ensures.recording
-    ∙ ap (det_at (pushed es (entry ∷ past))) c.len-first.ensures.length
-    ∙ det_at-pushed es (entry ∷ past) (length past) (omega arith)
-    ∙ det_at-newest entry past
-    ∙ ap (option_map (det_from q c.args.grown.own.rsn)) sent
-    ∙ ap Some (λ i. record { source = c.args.grown.own.source; ssn = c.args.grown.own.ssn; dest = (sym g.own i).dest; rsn = c.args.grown.own.rsn })
+    grind (
+      arith,
+      grown ((goal.at.returns-clause-det c).After-len-first),
+      sent_name ((state ((goal.at.returns-clause-det c).After-len-first)).run) c.args.q c.args.grown.own.source c.args.grown.own.ssn
+          (may ((goal.at.returns-clause-det c).After-len-first)),
+      may ((goal.at.returns-clause-det c).After-len-first),
+      det_at-pushed,
+      det_at-newest (Deliver c.args.q c.args.grown.send c.args.grown.own.rsn c.args.grown.listed.items) c.self.inside.trace.recording.past,
+    )
 
 pub commit_at-sends-requires-clause-process : goal.commit_at-sends-requires-clause-process
 commit_at-sends-requires-clause-process c = (may (goal.at.commit_at-sends-requires-clause-process c).After-len-first).process
 
 pub commit_at-sends-requires-clause-shares : goal.commit_at-sends-requires-clause-shares
-commit_at-sends-requires-clause-shares c =
-    let shares = (grown (goal.at.commit_at-sends-requires-clause-shares c).After-len-first).shares in
-    shares ∙ ap (λ cs. replicate 8 (first_batch cs)) (sym shares)
-
-room : (c : After-len-first) → HasRoom c.args.q.0 (length (carried_by c.args.grown) + 1) (state c)
-room c = subst (HasRoom c.args.q.0 (length (carried_by c.args.grown) + 1)) (sym c.self.view_is) c.requires.room
+commit_at-sends-requires-clause-shares c = grind arith
 
 pub commit_at-sends-requires-clause-spare : goal.commit_at-sends-requires-clause-spare
-commit_at-sends-requires-clause-spare c = (room (goal.at.commit_at-sends-requires-clause-spare c).After-len-first).entries
+commit_at-sends-requires-clause-spare c = grind arith
 
 pub commit_at-sends-requires-clause-room : goal.commit_at-sends-requires-clause-room
-commit_at-sends-requires-clause-room c = (room (goal.at.commit_at-sends-requires-clause-room c).After-len-first).sent
+commit_at-sends-requires-clause-room c = grind arith
 
 pub commit_at-sends-requires-clause-received : goal.commit_at-sends-requires-clause-received
-commit_at-sends-requires-clause-received c = (room (goal.at.commit_at-sends-requires-clause-received c).After-len-first).received
+commit_at-sends-requires-clause-received c = grind arith
 
 pub commit_at-sends-requires-clause-insertions : goal.commit_at-sends-requires-clause-insertions
-commit_at-sends-requires-clause-insertions c = (room (goal.at.commit_at-sends-requires-clause-insertions c).After-len-first).log
+commit_at-sends-requires-clause-insertions c = grind arith
 
 pub returns-clause-run : goal.returns-clause-run
-returns-clause-run c =
-    new_run c
-    ∙ ap (λ s. with_delivery s.run c.args.q (message_of c.args.grown.own) c.args.sends.items) c.self.view_is
+returns-clause-run c = grind arith
 
 pub returns-clause-bodies : goal.returns-clause-bodies
 returns-clause-bodies c = c.commit_at-sends.ensures.bodies ∙ ap (λ s. with_bodies s.bodies c.args.q.0 (sent_in s.run c.args.sends.items)) c.self.view_is

@@ -2,7 +2,6 @@ use Rattle.std.proofs.Common.{List, ◌≡◌, ◌∙◌, ◌<◌, ◌∷◌, So
 use Rattle.std.specs.Prelude.{◌-◌, min, vec_capacity}
 use Rattle.std.proofs.lemmas.Grind.{common_steps}
 use Rattle.causal_name.specs.declared.Pid.{Pid}
-use Rattle.causal_name.specs.Names.{is_ascending}
 use Rattle.causal_log.specs.Logs.{LogMap, chosen, dets_of}
 use Rattle.causal_log.proofs.Lemmas.ChosenLemmas.{chosen_ascend}
 use Rattle.causal_trace.specs.declared.entry.Entry.TheVariants.{Restart}
@@ -16,7 +15,7 @@ use Rattle.causal_protocol.specs.Gathering.{gathered_log}
 use Rattle.causal_protocol.specs.Run.{Run, memories_of, stable_of}
 use Rattle.causal_protocol.specs.Refusals.{first_fault, gathered}
 use Rattle.causal_protocol.specs.Steps.{LegalStep, Steps, pushed, sends_of}
-use Rattle.causal_core.specs.Inside.Facts.{Fits, FitsAt, AllFit}
+use Rattle.causal_core.specs.Inside.Facts.{FitsAt, AllFit}
 use Rattle.causal_core.specs.Inside.Gathers.{IsGathered}
 use Rattle.causal_core.specs.View.{DataState, run_from, receivers}
 use Rattle.causal_core.specs.Inside.Grown.{first_batch}
@@ -57,10 +56,7 @@ delivered c = gathered_delivered c.self.inside.trace.recording.processes c.self.
 
 pub overflow_cast-count : goal.overflow_cast-count
 overflow_cast-count c =
-    let at = (goal.at.overflow_cast-count c).After-len-first in
-    let few = (may at).listed in
-    let long = ap length (made at).listed in
-    omega (arith, few, long, c.len-count.ensures)
+    grind (arith, may ((goal.at.overflow_cast-count c).After-len-first), made ((goal.at.overflow_cast-count c).After-len-first), c.len-count.ensures)
 
 pub push_reserved-requires-clause-legal : goal.push_reserved-requires-clause-legal
 push_reserved-requires-clause-legal c =
@@ -73,15 +69,15 @@ append_sends-sends-requires-clause-process c = rw c.push_reserved.ensures.record
 
 pub append_sends-sends-requires-clause-fit : goal.append_sends-sends-requires-clause-fit
 append_sends-sends-requires-clause-fit c =
-    let at = (goal.at.append_sends-sends-requires-clause-fit c).After-len-first in
-    subst (λ (x : Recording). Fits x.past c.args.p.0 (memory_of c.args.gathered.cell)) (sym c.push_reserved.ensures.recording)
-    (subst (λ m. Fits (Restart c.args.p c.new.result ∷ c.self.inside.trace.recording.past) c.args.p.0 m) (sym (made at).memory)
-    (restart_fits c.self.inside.trace.recording.past c.args.p c.new.result (log at) (delivered at)))
+    grind (
+      arith,
+      made ((goal.at.append_sends-sends-requires-clause-fit c).After-len-first),
+      restart_fits,
+      delivered ((goal.at.append_sends-sends-requires-clause-fit c).After-len-first),
+    )
 
 pub append_sends-sends-requires-clause-ascending : goal.append_sends-sends-requires-clause-ascending
-append_sends-sends-requires-clause-ascending c =
-    let at = (goal.at.append_sends-sends-requires-clause-ascending c).After-len-first in
-    ap (λ cs. is_ascending (dets_of (first_batch cs))) (made at).shares ∙ chosen_ascend c.self.inside.faults (log at)
+append_sends-sends-requires-clause-ascending c = grind (arith, made, chosen_ascend)
 
 pub append_sends-sends-requires-clause-delivered : goal.append_sends-sends-requires-clause-delivered
 append_sends-sends-requires-clause-delivered c =
@@ -113,17 +109,10 @@ recorded c = record { processes = c.self.inside.trace.recording.processes; past 
 
 -- what is recorded after it
 whole : (c : After-put) → c.append_sends-sends.new.trace.recording ≡ recorded c
-whole c =
-    let g = made (here c) in
-    let one : c.push_reserved.new.self.recording ≡ record { processes = c.self.inside.trace.recording.processes; past = Restart c.args.p (gathered (run (here c)) c.args.p) ∷ c.self.inside.trace.recording.past } =
-    c.push_reserved.ensures.recording
-    ∙ ap (λ l. record { processes = c.self.inside.trace.recording.processes; past = Restart c.args.p l ∷ c.self.inside.trace.recording.past }) (c.new.ensures ∙ g.listed) in
-    c.append_sends-sends.ensures.recording
-    ∙ (λ i. record { processes = (one i).processes; past = pushed (sends_of c.args.p (length (g.memory i).sent) (receivers (one i).processes c.args.sends.items)) (one i).past })
+whole c = grind arith
 
 pub invariant_of-self : goal.invariant_of-self
-invariant_of-self c =
-    let at = here c in
+invariant_of-self c = let at = here c in
     let g = made at in
     let r = run at in
     let d = may at in
@@ -144,14 +133,8 @@ invariant_of-self c =
     (λ q o apart was. c.append_sends-sends.ensures.others q o apart (subst (λ (x : Recording). FitsAt x.past q o) (sym one) (fits_other (Restart c.args.p c.new.result) past q (restart_apart q c.args.p c.new.result apart) o was)))
     c.append_sends-sends.ensures.fit in
     record {
-      same =
-          placed
-          ∙ (λ i. slice_set (held.same i) c.args.p.0 (Some (memory i)))
-          ∙ restart_memories r c.args.p (gathered r c.args.p) (tos c) inside
-          ∙ sym (ap (λ x. memories_of (run_from x c.self.inside.faults c.self.inside.writers.items)) (whole c));
-      fit =
-          subst (λ k. AllFit k next.past (memories_in c.put.new.cells.items)) (sym (ap (λ (x : Recording). x.processes) (whole c)))
-          (subst (AllFit n next.past) (sym placed) fits);
+      same = grind (arith, restart_memories, whole);
+      fit = grind (arith, whole);
       formed = c.append_sends-sends.ensures.formed;
     }
 

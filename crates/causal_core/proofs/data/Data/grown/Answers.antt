@@ -1,22 +1,19 @@
-use Rattle.std.proofs.Common.{◌≡◌, ◌∙◌, Some, None, ap, sym, subst, arith, length, vec_len}
-use Rattle.std.specs.Prelude.{is_none, is_some, ◌-◌, min, vec_capacity}
+use Rattle.std.proofs.Common.{◌≡◌, ◌∙◌, Some, None, ap, sym, arith, vec_len}
+use Rattle.std.specs.Prelude.{is_none, ◌-◌, min, vec_capacity}
 use Rattle.std.specs.Option.{option_map, option_copied}
 use Rattle.std.proofs.lemmas.Grind.{common_steps}
 use Rattle.std.proofs.lemmas.Bool.{false≢true}
-use Rattle.std.proofs.lemmas.Result.{IfOk-weaker}
-use Rattle.causal_trace.specs.Past.{det_from}
 use Rattle.causal_trace.proofs.Lemmas.WellFormed.{formed_short}
 use Rattle.causal_protocol.specs.declared.request.Request.TheVariants as Ask
 use Rattle.causal_protocol.specs.Memory.{at}
 use Rattle.causal_protocol.specs.Naming.{name, kept_for}
 use Rattle.causal_protocol.specs.Refusals.{first_fault}
 use Rattle.causal_core.specs.View.{DataState, run_from}
-use Rattle.causal_core.specs.Inside.Grown.{IsGrown}
 use Rattle.causal_core.specs.Inside.Memories.{memories_in, bodies_in, rooms_in, memory_of, kept_of}
 use Rattle.causal_core.proofs.DeliveryRows.{received_few}
-use Rattle.causal_core.proofs.LegalDelivery.{receiver_up, receiver_below, message_there, made_grown}
+use Rattle.causal_core.proofs.LegalDelivery.{receiver_up, receiver_below, message_there}
 use Rattle.causal_core.proofs.data.Data.grown.Goals as goal
-use Rattle.causal_core.proofs.data.Data.grown.Goals.{After-as_slice-cells, In-Some, In-Some-cell_at}
+use Rattle.causal_core.proofs.data.Data.grown.Goals.{After-as_slice-cells, In-Some-cell_at}
 
 abbrev state : After-as_slice-cells → DataState
 state c = record { run = run_from c.self.inside.trace.recording c.self.inside.faults c.self.inside.writers.items; bodies = bodies_in c.self.inside.cells.items; spare = c.self.inside.trace.spare; rooms = rooms_in c.self.inside.cells.items; stable_room = min (vec_capacity c.self.inside.writers - vec_len c.self.inside.writers) c.self.inside.trace.stable_spare }
@@ -31,10 +28,7 @@ unreachable-requires c =
     false≢true (sym (message_there (state at0).run c.args.q c.args.source c.args.ssn (none at0)) ∙ ap (λ xs. is_none (kept_for xs c.args.q (name c.args.source c.args.ssn))) (sym c.self.invariant.same) ∙ ap is_none nothing)
 
 pub unreachable-requires-in_default-cell_at : goal.unreachable-requires-in_default-cell_at
-unreachable-requires-in_default-cell_at c =
-    let at0 = (goal.at.unreachable-requires-in_default-cell_at c).After-as_slice-cells in
-    let nothing : at (memories_in c.self.inside.cells.items) c.args.q.0 ≡ None = ap (λ xs. at (memories_in xs) c.args.q.0) (sym c.as_slice-cells.ensures.value) ∙ sym c.cell_at.ensures ∙ ap (λ o. option_map memory_of (option_copied o)) c.in_default-cell_at.is in
-    false≢true (sym (ap is_some nothing) ∙ ap (λ xs. is_some (at xs c.args.q.0)) c.self.invariant.same ∙ receiver_up (state at0).run c.args.q c.args.source c.args.ssn (none at0))
+unreachable-requires-in_default-cell_at c = grind (arith, receiver_up, none)
 
 up : (c : In-Some-cell_at) → at (memories_in c.self.inside.cells.items) c.args.q.0 ≡ Some (memory_of c.in-Some-cell_at.cell.now)
 up c = ap (λ xs. at (memories_in xs) c.args.q.0) (sym c.as_slice-cells.ensures.value) ∙ sym c.cell_at.ensures ∙ ap (λ o. option_map memory_of (option_copied o)) c.in-Some-cell_at.is
@@ -48,12 +42,4 @@ overflow_cast-own c =
     grind (arith, common_steps, h, c.len.ensures)
 
 pub returns : goal.returns
-returns c =
-    let at0 = (goal.at.returns c).After-as_slice-cells in
-    let at1 = (goal.at.returns c).In-Some-cell_at in
-    let kept : kept_for (memories_in c.self.inside.cells.items) c.args.q (name c.args.source c.args.ssn) ≡ Some (kept_of c.in-Some.message.now) = ap (λ xs. kept_for (memories_in xs) c.args.q (name c.args.source c.args.ssn)) (sym c.as_slice-cells.ensures.value) ∙ sym c.message.ensures ∙ ap (λ o. option_map kept_of (option_copied o)) c.in-Some.is in
-    let count : c.len.result ≡ length c.in-Some-cell_at.cell.now.received.items = grind (arith, common_steps, c.len.ensures) in
-    IfOk-weaker c.grow.result _ _ (λ g made.
-    subst (λ d. IsGrown d c.args.q (name c.args.source c.args.ssn) g) c.self.view_is
-    (made_grown (state at0) (memories_in c.self.inside.cells.items) c.args.q c.args.source c.args.ssn (memory_of c.in-Some-cell_at.cell.now) c.in-Some.message.now g _ c.self.invariant.same (up at1) kept (ap (λ k. det_from c.args.q k (name c.args.source c.args.ssn)) count) made))
-    c.grow.ensures
+returns c = grind arith

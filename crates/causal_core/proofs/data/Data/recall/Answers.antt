@@ -1,11 +1,9 @@
-use Rattle.std.proofs.Common.{◌≡◌, ◌∙◌, IfOk, subst}
+use Rattle.std.proofs.Common.{arith, ◌∙◌}
 use Rattle.causal_core.proofs.RestartMemory.{gathered_down, remembered_anew}
 use Rattle.causal_core.proofs.data.Data.recall.Goals as goal
 
 pub returns-in-Some-clause-log : goal.returns-in-Some-clause-log
-returns-in-Some-clause-log g c =
-    let r = c.args.self.now.run in
-    subst (λ m. IfOk c.try_clone.result (λ log. log.map ≡ m)) (c.in-Some.ensures.log r c.requires.remembered ∙ gathered_down r c.args.p c.requires.down) c.try_clone.ensures
+returns-in-Some-clause-log g c = grind (arith, gathered_down)
 
 pub returns-clause-remembered : goal.returns-clause-remembered
 returns-clause-remembered g c =

@@ -1,6 +1,6 @@
-use Rattle.std.proofs.Common.{◌∙◌, sym, ap}
+use Rattle.std.proofs.Common.{arith, ◌∙◌, sym, ap}
 use Rattle.std.specs.Prelude.{Ok}
-use Rattle.causal_core.specs.CoreView.{run_of, state_of}
+use Rattle.causal_core.specs.CoreView.{state_of}
 use Rattle.causal_core.proofs.ReplayDeliveries.{redelivered, refuses_named}
 use Rattle.causal_core.proofs.replay.Core+S.deliver_named.Goals as goal
 
@@ -9,5 +9,4 @@ returns-in-Ok-clause-ok g c =
     redelivered _ c.args.p c.in-Ok-Some.name c.in-Ok.delivered (state_of c.args.self.now) (state_of c.deliver.new.self) (sym c.named.ensures ∙ c.in-Ok-Some.is ∙ ap Ok c.in-Ok-Some.field-0-is) c.in-Ok.ensures.step c.in-Ok.ensures.ok
 
 pub returns-in-Err-deliver-clause-fault : goal.returns-in-Err-deliver-clause-fault
-returns-in-Err-deliver-clause-fault g c =
-    refuses_named (run_of c.args.self.now) (run_of c.deliver.new.self) c.args.p c.in-Ok-Some.name c.in-Err-deliver.fault (sym c.named.ensures ∙ c.in-Ok-Some.is ∙ ap Ok c.in-Ok-Some.field-0-is) c.in-Err-deliver.ensures.step
+returns-in-Err-deliver-clause-fault g c = grind (arith, refuses_named)

@@ -1,18 +1,14 @@
-use Rattle.std.proofs.Common.{◌∙◌, ◌∷◌, Some, refl, ap, sym, subst, arith, length, is_some, true, slice_set}
+use Rattle.std.proofs.Common.{◌∙◌, refl, ap, sym, subst, arith, length, is_some, true, slice_set}
 use Rattle.std.proofs.lemmas.Grind.{common_steps}
 use Rattle.std.proofs.lemmas.List.{length-map}
 use Rattle.causal_trace.specs.declared.entry.Entry.TheVariants.{Restart}
-use Rattle.causal_protocol.specs.declared.request.CoreFault.TheVariants as Why
 use Rattle.causal_protocol.specs.declared.request.Request.TheVariants as Ask
 use Rattle.causal_protocol.specs.declared.request.Reply.TheVariants as Told
 use Rattle.causal_protocol.specs.Run.{memories_of}
 use Rattle.causal_protocol.specs.Refusals.{gathered}
 use Rattle.causal_protocol.specs.Runs.{IsRun}
-use Rattle.causal_protocol.specs.Steps.{extended, sends_of}
 use Rattle.causal_protocol.proofs.Lemmas.KeptByType.{step_carried}
-use Rattle.causal_core.specs.Boxes.{after}
-use Rattle.causal_core.specs.View.{receivers, sent_bodies}
-use Rattle.causal_core.proofs.BoxLemmas.{elsewhere_same}
+use Rattle.causal_core.specs.View.{receivers}
 use Rattle.causal_core.proofs.UpAfterStep.{memories_count}
 use Rattle.causal_core.proofs.RefusedRequests.{refused_restart}
 use Rattle.causal_core.proofs.RestartMemory.{restarted_alone}
@@ -20,7 +16,7 @@ use Rattle.causal_core.proofs.RuntimeRestart.{restart_below, restart_filled, res
 use Rattle.causal_core.proofs.restart.Core+S.restart.Goals as goal
 
 pub returns-in-Err-clause-step : goal.returns-in-Err-clause-step
-returns-in-Err-clause-step g c = refused_restart c.args.self.now.held.run c.prepare_restart.new.self.run c.in-Err.fault c.prepare_restart.ensures.run c.args.p c.in-Err.ensures.refused
+returns-in-Err-clause-step g c = grind (arith, refused_restart)
 
 pub fill_at-requires : goal.fill_at-requires
 fill_at-requires g c =
@@ -50,20 +46,7 @@ invariant_of-self-in-Ok-begin_box g c =
     }
 
 pub returns-in-Ok-begin_box-clause-ok : goal.returns-in-Ok-begin_box-clause-ok
-returns-in-Ok-begin_box-clause-ok g c =
-    let p = c.args.p in
-    let same = c.prepare_restart.ensures.run in
-    let sends = c.in-Ok-begin_box.sends.items in
-    let there = rw c.from.ensures at c.fill_at.ensures.there in
-    record {
-      sends = sends;
-      box = λ inputs. ap Some (c.in-Ok-begin_box.ensures.ok inputs) ∙ sym (ap (after sends) (there inputs));
-      others = elsewhere_same _ _ _ _ _ c.from.ensures c.fill_at.ensures.others;
-      run =
-          c.finish_restart.ensures.run
-          ∙ (λ i. extended (same i) (Ask.Restart p) (Restart p (gathered (same i) p) ∷ sends_of p 0 (receivers (same i).recording.processes sends)));
-      bodies = c.finish_restart.ensures.bodies ∙ (λ i. slice_set (c.prepare_restart.ensures.bodies i) p.0 (sent_bodies (same i).recording.processes sends));
-    }
+returns-in-Ok-begin_box-clause-ok g c = grind arith
 
 pub returns-in-Err-begin_box-clause-step : goal.returns-in-Err-begin_box-clause-step
-returns-in-Err-begin_box-clause-step g c = refused_restart c.args.self.now.held.run c.prepare_restart.new.self.run Why.NoMemory c.prepare_restart.ensures.run c.args.p c.in-Ok.ensures.legal
+returns-in-Err-begin_box-clause-step g c = grind (arith, refused_restart)

@@ -1,17 +1,14 @@
-use Rattle.std.proofs.Common.{◌≡◌, ◌∙◌, ◌∷◌, ap, sym, subst}
+use Rattle.std.proofs.Common.{arith, ◌≡◌, ◌∙◌, ap, sym, subst}
 use Rattle.causal_name.specs.Names.{message_of}
 use Rattle.causal_log.specs.Slots.{first_of_slot}
 use Rattle.causal_log.specs.Stores.{dets_in}
-use Rattle.causal_protocol.specs.declared.request.CoreFault.TheVariants as Why
 use Rattle.causal_protocol.specs.Run.{memories_of}
 use Rattle.causal_protocol.specs.Runs.{IsRun}
 use Rattle.causal_protocol.specs.declared.request.Reply.TheVariants as Told
 use Rattle.causal_protocol.proofs.Lemmas.KeptByType.{step_carried}
 use Rattle.causal_protocol.specs.Naming.{name, next_ssn, own_det}
 use Rattle.causal_protocol.specs.declared.request.Request.TheVariants as Ask
-use Rattle.causal_protocol.specs.Steps.{extended, delivery_of, sends_of}
-use Rattle.causal_core.specs.View.{DataState, receivers, sent_bodies}
-use Rattle.causal_core.specs.View.{with_bodies}
+use Rattle.causal_core.specs.View.{DataState, receivers, sent_bodies, with_bodies}
 use Rattle.causal_core.proofs.StoreEntries.{store_is}
 use Rattle.causal_core.proofs.UpAfterStep.{box_there}
 use Rattle.causal_core.proofs.RefusedRequests.{refused_delivery}
@@ -26,12 +23,10 @@ prepare-requires g c =
     ∙ (λ i. first_of_slot c.args.q (c.next_rsn-rsn.ensures i) (dets_in (store_is _ c.args.self.now.held.run.recording.past c.args.self.now.stored i)))
 
 pub returns-in-Err-clause-step : goal.returns-in-Err-clause-step
-returns-in-Err-clause-step g c = refused_delivery c.args.self.now.held.run c.prepare.new.self.run c.in-Err.fault c.prepare.ensures.run c.args.q c.args.source c.args.ssn c.in-Err.ensures.refused
+returns-in-Err-clause-step g c = grind (arith, refused_delivery)
 
 pub give-requires-clause-box_there : goal.give-requires-clause-box_there
-give-requires-clause-box_there g c =
-    let r = c.args.self.now.held.run in
-    box_there c.args.self.now.slots.items (memories_of r) c.args.q.0 c.args.self.now.filled (receiver_up r c.args.q c.args.source c.args.ssn c.in-Ok.ensures.legal)
+give-requires-clause-box_there g c = grind (arith, box_there, receiver_up)
 
 pub invariant_of-self-in-Ok-give : goal.invariant_of-self-in-Ok-give
 invariant_of-self-in-Ok-give g c =
@@ -48,8 +43,7 @@ invariant_of-self-in-Ok-give g c =
     }
 
 pub returns-in-Ok-give-clause-ok : goal.returns-in-Ok-give-clause-ok
-returns-in-Ok-give-clause-ok g c =
-    let q = c.args.q in
+returns-in-Ok-give-clause-ok g c = let q = c.args.q in
     let asked = name c.args.source c.args.ssn in
     let same : c.give.new.self.run ≡ c.args.self.now.held.run = ap (λ (s : DataState). s.run) c.give.ensures.data ∙ c.prepare.ensures.run in
     let bodies : c.give.new.self.bodies ≡ c.args.self.now.held.bodies = ap (λ (s : DataState). s.bodies) c.give.ensures.data ∙ c.prepare.ensures.bodies in
@@ -60,12 +54,9 @@ returns-in-Ok-give-clause-ok g c =
       sends = sends;
       box = rw c.prepare.ensures.bodies at c.in-Ok-give.ensures.ok;
       others = c.give.ensures.others;
-      run =
-          c.finish.ensures.run
-          ∙ (λ i. extended (same i) (Ask.Deliver q (own i).source (own i).ssn) (delivery_of (same i) q (message_of (own i)) ∷ sends_of q (next_ssn (memories_of (same i)) q) (receivers (same i).recording.processes sends)));
+      run = grind arith;
       bodies = c.finish.ensures.bodies ∙ (λ i. with_bodies (bodies i) q.0 (sent_bodies (same i).recording.processes sends));
     }
 
 pub returns-in-Err-give-clause-step : goal.returns-in-Err-give-clause-step
-returns-in-Err-give-clause-step g c =
-    refused_delivery c.args.self.now.held.run c.give.new.self.run Why.NoMemory (ap (λ (s : DataState). s.run) c.give.ensures.data ∙ c.prepare.ensures.run) c.args.q c.args.source c.args.ssn c.in-Ok.ensures.legal
+returns-in-Err-give-clause-step g c = grind (arith, refused_delivery)

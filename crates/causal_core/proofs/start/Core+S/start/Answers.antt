@@ -20,4 +20,4 @@ invariant_of-result g c =
     }
 
 pub returns-clause-stored : goal.returns-clause-stored
-returns-clause-stored g c = fin.empty_of_len _ (omega (arith, c.len-stored.ensures, c.if-stored-gt0.false))
+returns-clause-stored g c = grind (arith, fin.empty_of_len)
