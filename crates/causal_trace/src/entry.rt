@@ -1,15 +1,23 @@
 //! What a trace is made of.
-ghost use Rattle.std.specs.Prelude.{◌≡◌, length};
+ghost use Rattle.std.specs.Prelude.{◌≡◌, ◌∷◌, [], length};
 ghost use Rattle.causal_name.specs.Names.{is_ascending};
 
 use crate::scans;
 use causal_name::{Det, Pid};
+use std::alloc::AllocError;
 use std::marker::Model;
+use std::slice;
 
-/// A list of determinants, in the order in which an entry has them.
-#[derive(Clone, Drop)]
+/// A list of determinants, in the order in which an entry has them. A single one takes no memory of its own.
+#[derive(Drop)]
 pub struct Dets {
-    dets: Vec<Det>,
+    listed: Listed,
+}
+
+#[derive(Clone, Drop)]
+enum Listed {
+    One(Det),
+    List(Vec<Det>),
 }
 
 impl Model for Dets {
@@ -18,7 +26,18 @@ impl Model for Dets {
 
     ghost Value = { List Det };
 
-    ghost view = { λ a. a.dets.items };
+    ghost use Rattle.causal_trace.specs.Inside.Lists.{dets_in};
+
+    ghost view = { λ a. dets_in a.listed };
+}
+
+impl Clone for Dets {
+    ghost is_clone = { λ a b. b ≡ a };
+
+    fn clone(&self) -> Result<Dets, AllocError> {
+        let listed = self.listed.clone()?;
+        Ok(Dets { listed })
+    }
 }
 
 impl PartialEq for Dets {
@@ -33,7 +52,7 @@ impl PartialEq for Dets {
     ghost laws = { lists_per (partial_equiv_from_equiv same_det_equiv) };
 
     fn eq(&self, other: &Dets) -> bool {
-        self.dets == other.dets
+        self.as_slice() == other.as_slice()
     }
 }
 
@@ -49,21 +68,33 @@ impl Dets {
     pub fn new(dets: Vec<Det>) -> Dets
         ensures { result ≡ dets.items }
     {
-        Dets { dets }
+        let listed = Listed::List(dets);
+        Dets { listed }
+    }
+
+    /// The list of one determinant. It takes no memory.
+    pub fn one(det: Det) -> Dets
+        ensures { result ≡ det ∷ [] }
+    {
+        let listed = Listed::One(det);
+        Dets { listed }
     }
 
     /// The determinants in their order.
     pub fn as_slice(&self) -> &[Det]
         ensures { result.now ≡ self.now }
     {
-        self.dets.as_slice()
+        match &self.listed {
+            Listed::One(det) => slice::from_ref(det),
+            Listed::List(dets) => dets.as_slice(),
+        }
     }
 
     /// Whether each determinant comes before the next, by source, send number, receiver and place there.
     pub fn is_ascending(&self) -> bool
         ensures { result ≡ is_ascending self.now }
     {
-        scans::is_ascending(self.dets.as_slice())
+        scans::is_ascending(self.as_slice())
     }
 }
 
