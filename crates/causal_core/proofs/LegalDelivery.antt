@@ -117,7 +117,7 @@ unfolding rows
 listed_few r q source ssn none = grind arith
 
 -- and is no less than what the message carries
-pub carried_listed : (d : DataState) (q : Pid) (m : MsgName) (g : Grown) → IsGrown d q m g → length (carried_by g) ≤ length g.listed.items
+pub carried_listed : (d : DataState) (q : Pid) (m : MsgName) (g : Grown) → IsGrown d q m g → length (carried_by g) ≤ length g.listed
 carried_listed d q m g h = grind (arith, with_longer, length-map)
 
 module _ (r : Run) (q source : Pid) (ssn : ℕ) (d : MayDeliver r q source ssn) where

@@ -305,7 +305,7 @@ impl Data {
             return Err(CoreFault::NoMemory);
         };
         // What the message carries is listed, and the delivery's own determinant.
-        let logged = grown.listed.len() as u32 + 1;
+        let logged = grown.listed.as_slice().len() as u32 + 1;
         match self.make_room(q, logged) {
             Ok(()) => Ok(grown),
             Err(_) => Err(CoreFault::NoMemory),

@@ -1,6 +1,7 @@
 //! What a delivery puts in place once the box has stepped.
 use causal_log::Batch;
 use causal_name::Det;
+use causal_trace::entry::Dets;
 use std::sync::Arc;
 
 /// All that a delivery needs memory for, made before the box steps.
@@ -11,7 +12,7 @@ pub struct Grown {
     /// The position of the message's send entry.
     pub send: u32,
     /// What the deliver entry lists.
-    pub listed: Vec<Det>,
+    pub listed: Dets,
     /// What the message carries, which its sender still keeps.
     pub carried: Arc<Batch>,
     /// The batch that the next sends carry, which the log keeps.

@@ -5,6 +5,7 @@ ghost use Rattle.causal_protocol.specs.Naming.{with_own};
 
 use causal_log::{Batch, Item};
 use causal_name::{Det, NoMemory};
+use causal_trace::entry::Dets;
 use std::alloc::Global;
 
 /// How many determinants a batch has with one more, unless that is one of them.
@@ -21,19 +22,22 @@ pub(crate) fn listed_len(own: Det, batch: &Batch) -> usize
 
 /// The determinants of a batch, ascending, with one more in its place, unless that is one of them.
 #[tactic(auto, using(crate::proofs::Rules::of_listed))]
-pub(crate) fn listed(alloc: Global, own: Det, batch: &Batch) -> Result<Vec<Det>, NoMemory>
-    ensures { IfOk result (λ dets. dets.items ≡ with_own own (dets_of batch.now)) }
+pub(crate) fn listed(alloc: Global, own: Det, batch: &Batch) -> Result<Dets, NoMemory>
+    ensures { IfOk result (λ dets. dets ≡ with_own own (dets_of batch.now)) }
 {
     let items = batch.as_slice();
+    if items.is_empty() {
+        return Ok(Dets::one(own));
+    }
     let mut listed = Vec::with_capacity(alloc, items.len() + 1)?;
     let Some(place) = batch.place_for(own) else {
         list(&mut listed, items);
-        return Ok(listed);
+        return Ok(Dets::new(listed));
     };
     list(&mut listed, &items[..place]);
     listed.push_reserved(own);
     list(&mut listed, &items[place..]);
-    Ok(listed)
+    Ok(Dets::new(listed))
 }
 
 /// Lists the determinants of items, in room that there is.

@@ -25,23 +25,23 @@ pub(crate) fn receive(
     q: Pid,
     send: u32,
     own: Det,
-    listed: Vec<Det>,
+    listed: Dets,
     carried: &Batch,
     f: u16,
     next: Arc<Batch>,
 )
-    requires legal { MayCome trace.old.recording (Entries.Deliver q send own.rsn listed.items) }
+    requires legal { MayCome trace.old.recording (Entries.Deliver q send own.rsn listed) }
     requires sent { message_at trace.old.recording.past send ≡ Some (message_of own) }
     requires fit { Fits trace.old.recording.past q.0 (memory_of cell.old) }
     requires logged { IsLogDelivered trace.old.recording.past
-        (Entries.Deliver q send own.rsn listed.items)
+        (Entries.Deliver q send own.rsn listed)
         (gained carried.now own (memory_of cell.old).log) }
     requires next { arc_value next ≡ chosen f (gained carried.now own (memory_of cell.old).log) }
     requires spare { 1 ≤ trace.old.spare }
     requires room { 1 ≤ (room_of cell.old).received }
     requires insertions { length carried.now + 1 ≤ (room_of cell.old).log }
     ensures recording { trace.new.recording
-        ≡ with_entry trace.old.recording (Entries.Deliver q send own.rsn listed.items) }
+        ≡ with_entry trace.old.recording (Entries.Deliver q send own.rsn listed) }
     ensures memory { memory_of cell.new ≡ with_received carried.now own (memory_of cell.old) }
     ensures fit { Fits trace.new.recording.past q.0 (memory_of cell.new) }
     ensures others { OthersFit q.0 trace.old.recording.past trace.new.recording.past }
@@ -53,7 +53,7 @@ pub(crate) fn receive(
         to: q,
         send,
         rsn: own.rsn,
-        listed: Dets::new(listed),
+        listed,
     });
     cell.log.grow(carried, own, own.source, own.dest);
     cell.log.carry(f, next);

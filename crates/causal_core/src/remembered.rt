@@ -41,7 +41,7 @@ pub(crate) fn keep_for(last: &mut Option<Remembered>, p: Pid)
     ensures { (before after : Run) → IsRemembered before last.old →
         ChangesAlone p before after → IsRemembered after last.new }
 {
-    if remembered_by(last, p).is_none() {
+    if last.is_some() && remembered_by(last, p).is_none() {
         *last = None;
     }
 }

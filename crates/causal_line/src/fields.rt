@@ -88,6 +88,9 @@ pub fn det_of(value: &Value) -> Result<Det, TextKind>
 fn dets_of(alloc: Global, values: &[Value]) -> Result<Dets, TextKind>
     ensures { Gives result (dets_of (items_view values.now)) }
 {
+    if let [value] = values {
+        return Ok(Dets::one(det_of(value)?));
+    }
     let mut dets = Vec::with_capacity(alloc, values.len())?;
     for value in values {
         dets.push(det_of(value)?)?;

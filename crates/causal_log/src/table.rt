@@ -236,6 +236,9 @@ pub(crate) fn learn_items(entries: &mut Table, items: &[Item], from: Pid, me: Pi
         absorbed items.now from me (log_of entries.old.entries) }
     ensures spare { entries.old.spare ≤ entries.new.spare + length items.now }
 {
+    if items.is_empty() {
+        return;
+    }
     let both = Known::held_by_both(from, me);
     for item in items {
         learn(entries, item.det, item.told(&both));

@@ -67,7 +67,7 @@ asked_by q g = Ask.Deliver q g.own.source g.own.ssn
 
 -- the entry of a delivery to q; with it all that the sends carry was delivered
 abbrev pub entry_of : Pid → Grown → Entry
-entry_of q g = Deliver q g.send g.own.rsn g.listed.items
+entry_of q g = Deliver q g.send g.own.rsn g.listed
 
 abbrev pub IsBatchDelivered : List Entry → Pid → Grown → Type 0
 IsBatchDelivered past q g = are_delivered (entry_of q g ∷ past) (dets_of (next_batch g)) ≡ true

@@ -36,7 +36,7 @@ grown_log g log = gained (carried_by g) g.own log
 pub record IsGrown (d : DataState) (q : Pid) (name : MsgName) (g : Grown) : Type 0 where
   pub own : g.own ≡ own_det (memories_of d.run) q name
   pub send : g.send ≡ send_of (memories_of d.run) name
-  pub listed : g.listed.items ≡ listed_for (memories_of d.run) q name
+  pub listed : g.listed ≡ listed_for (memories_of d.run) q name
   pub carried : carried_by g ≡ batch_of (memories_of d.run) name
   pub next : arc_value g.next ≡ chosen d.run.faults (grown_log g (log_at (memories_of d.run) q.0))
   pub shares : batches_of g.shares.items ≡ replicate 8 (chosen d.run.faults (grown_log g (log_at (memories_of d.run) q.0)))
@@ -45,7 +45,7 @@ pub record IsGrown (d : DataState) (q : Pid) (name : MsgName) (g : Grown) : Type
 pub record IsMade (f : ℕ) (own : Det) (m : Memory) (message : Message) (g : Grown) : Type 0 where
   pub own_is : g.own ≡ own
   pub send : g.send ≡ message.send
-  pub listed : g.listed.items ≡ with_own own (dets_of (arc_value message.batch))
+  pub listed : g.listed ≡ with_own own (dets_of (arc_value message.batch))
   pub carried : carried_by g ≡ arc_value message.batch
   pub next : arc_value g.next ≡ chosen f (gained (arc_value message.batch) own m.log)
   pub shares : batches_of g.shares.items ≡ replicate 8 (chosen f (gained (arc_value message.batch) own m.log))

@@ -12,7 +12,7 @@ push_reserved-requires-clause-legal c = rw c.new.ensures c.requires.legal
 pub returns-clause-fit : goal.returns-clause-fit
 returns-clause-fit c =
     rw (c.push_reserved.ensures.recording, c.new.ensures, c.push_reserved-2.ensures.items, c.message.ensures, c.carry.ensures.map, c.grow.ensures.map)
-    (received_fits c.args.trace.now.recording.past c.args.q c.args.send c.args.own.rsn (message_of c.args.own) c.args.listed.items (gained c.args.carried.now c.args.own (memory_of c.args.cell.now).log) (memory_of c.args.cell.now) c.requires.sent c.requires.fit c.requires.logged)
+    (received_fits c.args.trace.now.recording.past c.args.q c.args.send c.args.own.rsn (message_of c.args.own) c.args.listed (gained c.args.carried.now c.args.own (memory_of c.args.cell.now).log) (memory_of c.args.cell.now) c.requires.sent c.requires.fit c.requires.logged)
 
 pub returns-clause-others : goal.returns-clause-others
 returns-clause-others c = grind (arith, fits_other)

@@ -78,7 +78,7 @@ invariant_of-self c =
     (record {
       same =
           c.commit_at-sends.ensures.memories
-          ∙ same_memories (state at0).run c.args.q c.args.grown.own.source c.args.grown.own.ssn (may at0) count (memories_in c.self.inside.cells.items) (gained (carried_by c.args.grown) c.args.grown.own (memory_at (memories_in c.self.inside.cells.items) c.args.q.0).log) (first_batch (batches_of c.args.grown.shares.items)) c.args.grown.own c.args.grown.send c.args.grown.listed.items tos same (λ i. gained (g.carried i) (g.own i) (memory_at (same i) c.args.q.0).log) (ap first_batch g.shares ∙ ap (λ xs. chosen c.self.inside.faults (gained (carried_by c.args.grown) c.args.grown.own (memory_at xs c.args.q.0).log)) (sym same)) g.own g.send g.listed;
+          ∙ same_memories (state at0).run c.args.q c.args.grown.own.source c.args.grown.own.ssn (may at0) count (memories_in c.self.inside.cells.items) (gained (carried_by c.args.grown) c.args.grown.own (memory_at (memories_in c.self.inside.cells.items) c.args.q.0).log) (first_batch (batches_of c.args.grown.shares.items)) c.args.grown.own c.args.grown.send c.args.grown.listed tos same (λ i. gained (g.carried i) (g.own i) (memory_at (same i) c.args.q.0).log) (ap first_batch g.shares ∙ ap (λ xs. chosen c.self.inside.faults (gained (carried_by c.args.grown) c.args.grown.own (memory_at xs c.args.q.0).log)) (sym same)) g.own g.send g.listed;
       fit = fit_new;
       formed = subst IsWellFormed new c.commit_at-sends.ensures.formed;
     })
@@ -120,7 +120,7 @@ returns-clause-det c =
           (may ((goal.at.returns-clause-det c).After-len-first)),
       may ((goal.at.returns-clause-det c).After-len-first),
       det_at-pushed,
-      det_at-newest (Deliver c.args.q c.args.grown.send c.args.grown.own.rsn c.args.grown.listed.items) c.self.inside.trace.recording.past,
+      det_at-newest (Deliver c.args.q c.args.grown.send c.args.grown.own.rsn c.args.grown.listed) c.self.inside.trace.recording.past,
     )
 
 pub commit_at-sends-requires-clause-process : goal.commit_at-sends-requires-clause-process
