@@ -1,4 +1,4 @@
-use Rattle.std.proofs.Common.{subst, arith}
+use Rattle.std.proofs.Common.{subst, arith, ap, length}
 use Rattle.causal_core.proofs.Legal.{tells_reason}
 use Rattle.std.proofs.lemmas.Grind.{common_steps}
 use Rattle.causal_protocol.specs.Naming.{name}
@@ -29,5 +29,5 @@ returns-in-Ok-make_room-clause-room c =
       entries = room.entries;
       sent = room.sent;
       received = room.received;
-      log = omega (arith, room.log, longer, c.len.ensures);
+      log = omega (arith, room.log, longer, ap length c.as_slice.ensures);
     }
