@@ -1,11 +1,10 @@
 -- A cell among others: what is read at its place, and what a write there changes.
-use Rattle.std.proofs.Common.{ℕ, suc, ◌≡◌, ◌<◌, true, List, [], ◌∷◌, ◌++◌, length, get_or, map, Option, Some, refl, sym, ap, ◌∙◌, arith, slice_get, slice_set}
+use Rattle.std.proofs.Common.{ℕ, suc, ◌≡◌, ◌<◌, true, List, [], ◌∷◌, ◌++◌, length, get_or, Option, Some, refl, sym, ap, ◌∙◌, arith, slice_get, slice_set}
 use Rattle.std.specs.Prelude.{is_some, unwrap_or}
 use Rattle.std.specs.Option.{option_map, option_map_or, option_and_then}
 use Rattle.std.proofs.lemmas.Option.{slice_get_read, slice_get-map, slice_get_within}
 use Rattle.causal_core.proofs.Lemmas.Slices.{slice_get-set_same}
 use Rattle.causal_core.specs.declared.cell.Cell.{Cell}
-use Rattle.causal_core.specs.declared.cell.Message.{Message}
 use Rattle.causal_name.specs.declared.Pid.{Pid}
 use Rattle.causal_protocol.specs.Memory.{Memory, Memories, at}
 use Rattle.causal_protocol.specs.Naming.{if_to, kept_for, name}
@@ -21,10 +20,6 @@ set_read (each ∷ others) i x h = grind (arith, set_read others)
 -- an element that is read
 pub read_at : {X : Type 0} (xs : List X) (i : ℕ) (x y : X) → i < length xs → x ≡ get_or xs i x → x ≡ y → slice_get xs i ≡ Some y
 read_at xs i x y h is same = slice_get_read xs (length xs) i x refl h is ∙ ap Some same
-
--- the body of a message that is read
-pub body_read : (kept : List Message) (ssn : ℕ) (m : Message) → ssn < length kept → m ≡ get_or kept ssn m → body_in (map (λ m. m.body) kept) ssn ≡ m.body
-body_read kept ssn m h is = grind (arith, slice_get-map, slice_get_read)
 
 -- there are as many memories as cells
 pub memories_length : (cells : List (Option Cell)) → length (memories_in cells) ≡ length cells

@@ -22,6 +22,7 @@ mod RestartMemory
 mod ReplayDeliveries
 mod RuntimeRestart
 mod RuntimeSend
+mod SentMessages
 mod RunAfterStep
 mod StoreEntries
 mod DeliveryRows

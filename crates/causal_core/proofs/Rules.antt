@@ -24,8 +24,6 @@ pub ruleset of_down = (none_in, down_there, none_told, one_in, one_out)
 
 pub ruleset of_knowing = (united_up, united_down, united_end)
 
-pub ruleset of_giving = (map-set_kept)
-
 pub ruleset of_listing = (drop_more, append_assoc, drop_all, append-nil)
 
 pub ruleset of_listed = (own_alone, own_kept, length-drop, take_all, append_assoc, own_put)

@@ -1,5 +1,5 @@
 -- A send of the runtime.
-use Rattle.std.proofs.Common.{ℕ, zero, suc, ◌≡◌, ◌≢◌, ◌+◌, ◌<◌, ◌≤◌, ◌⊎◌, true, false, cond, ◌==◌, List, [], ◌∷◌, ◌++◌, length, Option, Some, None, refl, ap, ◌∙◌, arith, slice_get, slice_set, length-append, replicate}
+use Rattle.std.proofs.Common.{ℕ, suc, ◌≡◌, ◌≢◌, ◌+◌, ◌<◌, ◌≤◌, ◌⊎◌, true, false, cond, ◌==◌, List, [], ◌∷◌, ◌++◌, length, Option, Some, None, refl, ap, ◌∙◌, arith, slice_get, slice_set, length-append}
 use Rattle.std.specs.Prelude.{nat_lt}
 use Rattle.std.specs.List.{list_all, filter_map}
 use Rattle.std.proofs.lemmas.List.{length-map}
@@ -96,20 +96,6 @@ receivers_long n sends = length-map (addressed n sends) (λ s. s.to)
 pub receivers_below : (n : ℕ) (sends : List Outgoing) → list_all (λ to. nat_lt to.0 n) (receivers n sends) ≡ true
 receivers_below n [] = refl
 receivers_below n (s ∷ ss) = grind (arith, receivers_below n ss)
-
--- the last of equal ones is one of them
-pub replicate_last : {X : Type 0} (k : ℕ) (b : X) (xs : List X) (x : X) → replicate k b ≡ xs ++ x ∷ [] → (j : ℕ) × (k ≡ suc j) × (xs ≡ replicate j b) × (x ≡ b)
-replicate_last zero b [] x h = absurd (let e : [] ≡ x ∷ [] = h in cc)
-replicate_last zero b (y ∷ ys) x h = absurd (let e : [] ≡ y ∷ (ys ++ x ∷ []) = h in cc)
-replicate_last (suc zero) b [] x h = (0, refl, refl, let e : b ∷ [] ≡ x ∷ [] = h in cc)
-replicate_last (suc zero) b (y ∷ []) x h = absurd (let e : b ∷ [] ≡ y ∷ x ∷ [] = h in cc)
-replicate_last (suc zero) b (y ∷ z ∷ ys) x h = absurd (let e : b ∷ [] ≡ y ∷ z ∷ (ys ++ x ∷ []) = h in cc)
-replicate_last (suc (suc k)) b [] x h = absurd (let e : b ∷ b ∷ replicate k b ≡ x ∷ [] = h in cc)
-replicate_last (suc (suc k)) b (y ∷ ys) x h =
-    let back : y ≡ b = let e : b ∷ b ∷ replicate k b ≡ y ∷ (ys ++ x ∷ []) = h in cc in
-    let tail : replicate (suc k) b ≡ ys ++ x ∷ [] = let e : b ∷ replicate (suc k) b ≡ y ∷ (ys ++ x ∷ []) = h in cc in
-    let rest = replicate_last (suc k) b ys x tail in
-    (suc rest.0, ap suc rest.1, (λ i. back i ∷ rest.2 i), rest.3)
 
 -- the message of one more send is kept last, with the entry that comes after theirs
 pub keep_more : (send : ℕ) (batch : List Item) (tos : List Pid) (to : Pid) (m : Memory) → keep_all send batch (tos ++ to ∷ []) m ≡ keeping to (send + length tos) batch (keep_all send batch tos m)

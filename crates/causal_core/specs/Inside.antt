@@ -9,5 +9,6 @@ pub mod Listings
 pub mod Memories
 pub mod Namings
 pub mod Remembers
+pub mod Sents
 pub mod Slots
 pub mod Stables

@@ -17,7 +17,7 @@ use Rattle.causal_protocol.specs.Refusals.{when, first_of, first_fault, gathered
 use Rattle.causal_protocol.specs.Naming.{next_det, next_ssn}
 use Rattle.causal_protocol.specs.Steps.{delivery_of, extended, reason_of, sends_of}
 
--- how many more messages, names of messages received, and determinants in the log fit with no memory
+-- how many more messages of the next step, names of messages received, and determinants in the log fit with no memory
 pub record Room : Type 0 where
   pub sent : ℕ
   pub received : ℕ

@@ -1,5 +1,5 @@
 //! A delivery and its sends, once the box has stepped.
-ghost use Rattle.std.specs.Prelude.{◌≡◌, ◌<◌, ◌≤◌, ◌+◌, ◌++◌, Some, true, length, replicate, OnOk, is_some};
+ghost use Rattle.std.specs.Prelude.{◌≡◌, ◌<◌, ◌≤◌, ◌+◌, ◌++◌, Some, true, length, OnOk, is_some};
 ghost use Rattle.causal_name.specs.Names.{message_of, is_ascending};
 ghost use Rattle.std.specs.Arc.{arc_value};
 ghost use Rattle.causal_log.specs.Logs.{chosen, dets_of};
@@ -13,17 +13,15 @@ ghost use Rattle.causal_core.specs.Inside.Memories.{memory_of, memories_in, memo
 ghost use Rattle.causal_core.specs.Inside.Memories.{room_of, rooms_in, room_at};
 ghost use Rattle.causal_core.specs.View.{receivers, sent_bodies, with_bodies};
 ghost use Rattle.causal_trace.specs.Limits.{max_entries};
-ghost use Rattle.causal_core.specs.Inside.Grown.{batches_of, carried_by, grown_log};
+ghost use Rattle.causal_core.specs.Inside.Grown.{carried_by, grown_log};
 
 use crate::cell::Cell;
 use crate::grown::Grown;
 use crate::receive::receive;
 use crate::sends::append_sends;
-use causal_log::Batch;
 use causal_name::{NoMemory, Pid};
 use causal_process::Outgoing;
 use causal_trace::trace::Trace;
-use std::sync::Arc;
 
 /// Records a delivery to process q and its sends. The answer is how many sends are recorded.
 pub(crate) fn commit(
@@ -33,7 +31,6 @@ pub(crate) fn commit(
     f: u16,
     grown: Grown,
     sends: Vec<Outgoing>,
-    left: &mut Vec<Arc<Batch>>,
 ) -> u32
     requires process { q.0 < trace.old.recording.processes }
     requires legal { MayCome trace.old.recording (entry_of q grown) }
@@ -43,7 +40,6 @@ pub(crate) fn commit(
         (grown_log grown (memory_of cell.old).log) }
     requires ascending { is_ascending (dets_of (next_batch grown)) ≡ true }
     requires delivered { IsBatchDelivered trace.old.recording.past q grown }
-    requires shares { batches_of grown.shares.items ≡ replicate 8 (next_batch grown) }
     requires next { arc_value grown.next ≡ chosen f (grown_log grown (memory_of cell.old).log) }
     requires few { length sends.items ≤ 8 }
     requires spare { 9 ≤ trace.old.spare }
@@ -68,10 +64,11 @@ pub(crate) fn commit(
         listed,
         carried,
         next,
-        shares,
+        share,
     } = grown;
     receive(trace, cell, q, send, own, listed, &*carried, f, next);
-    append_sends(trace, cell, q, sends, shares, left)
+    cell.sent.begin_step(share);
+    append_sends(trace, cell, q, sends)
 }
 
 /// The same, where the cell stands among the others.
@@ -82,7 +79,6 @@ pub(crate) fn commit_at(
     f: u16,
     grown: Grown,
     sends: Vec<Outgoing>,
-    left: &mut Vec<Arc<Batch>>,
 ) -> u32
     requires process { q.0 < trace.old.recording.processes }
     requires up { is_some (at (memories_in cells.old.items) q.0) ≡ true }
@@ -94,7 +90,6 @@ pub(crate) fn commit_at(
         (grown_log grown (memory_at (memories_in cells.old.items) q.0).log) }
     requires ascending { is_ascending (dets_of (next_batch grown)) ≡ true }
     requires delivered { IsBatchDelivered trace.old.recording.past q grown }
-    requires shares { batches_of grown.shares.items ≡ replicate 8 (next_batch grown) }
     requires next { arc_value grown.next
         ≡ chosen f (grown_log grown (memory_at (memories_in cells.old.items) q.0).log) }
     requires few { length sends.items ≤ 8 }
@@ -118,7 +113,7 @@ pub(crate) fn commit_at(
     let Some(cell) = &mut cells[usize::from(q.0)] else {
         unreachable!()
     };
-    commit(trace, cell, q, f, grown, sends, left)
+    commit(trace, cell, q, f, grown, sends)
 }
 
 /// Makes room for more than a delivery needs, once for determinants and once for messages, and not for as much in each process.

@@ -34,7 +34,7 @@ use crate::grown::Grown;
 use crate::insertion::listed_len;
 use crate::named::{named, other_named};
 use crate::search::{cell_at, count_down, message};
-use causal_log::{Batch, Log, Stable};
+use causal_log::{Log, Stable};
 use causal_name::{Det, MsgName, NoMemory, Pid};
 use causal_process::Outgoing;
 use causal_protocol::limits::{MAX_ENTRIES, MAX_LISTED};
@@ -43,8 +43,6 @@ use causal_trace::entry::Entry;
 use causal_trace::trace::Trace;
 use std::alloc::Global;
 use std::marker::Model;
-use std::mem;
-use std::sync::Arc;
 
 /// What is recorded, and what each process has in volatile memory.
 #[derive(Drop)]
@@ -53,8 +51,6 @@ pub struct Data {
     pub(crate) faults: u16,
     pub(crate) writers: Vec<Pid>,
     pub(crate) cells: Vec<Option<Cell>>,
-    /// What the last step left of its shares.
-    pub(crate) left: Vec<Arc<Batch>>,
 }
 
 impl Model for Data {
@@ -224,7 +220,7 @@ impl Data {
             dest: q,
             rsn: cell.received.len() as u32,
         };
-        if is_full(&self.trace, 9, listed_len(own, &*message.batch)) {
+        if is_full(&self.trace, 9, listed_len(own, &**message.batch)) {
             return Some(CoreFault::Full);
         }
         None
@@ -241,14 +237,7 @@ impl Data {
     }
 
     /// What a delivery puts in place.
-    fn grown(
-        &self,
-        alloc: Global,
-        q: Pid,
-        source: Pid,
-        ssn: u32,
-        left: Vec<Arc<Batch>>,
-    ) -> Result<Grown, NoMemory>
+    fn grown(&self, alloc: Global, q: Pid, source: Pid, ssn: u32) -> Result<Grown, NoMemory>
         requires { first_fault self.now.run (Ask.Deliver q source ssn) ≡ None }
         ensures { IfOk result (λ g. IsGrown self.now q (name source ssn) g) }
     {
@@ -265,7 +254,7 @@ impl Data {
             dest: q,
             rsn: cell.received.len() as u32,
         };
-        grow(alloc, self.faults, own, cell, message, left)
+        grow(alloc, self.faults, own, cell, message)
     }
 
     /// Room for a delivery to q that logs so many determinants, and for its sends.
@@ -300,8 +289,7 @@ impl Data {
         if let Some(fault) = self.delivery_fault(q, source, ssn, stored) {
             return Err(fault);
         }
-        let left = mem::replace(&mut self.left, Vec::new(alloc));
-        let Ok(grown) = self.grown(alloc, q, source, ssn, left) else {
+        let Ok(grown) = self.grown(alloc, q, source, ssn) else {
             return Err(CoreFault::NoMemory);
         };
         // What the message carries is listed, and the delivery's own determinant.
@@ -328,8 +316,7 @@ impl Data {
         let first = self.trace.len();
         let det = grown.own;
         let f = self.faults;
-        let left = &mut self.left;
-        let sends = commit_at(&mut self.trace, &mut self.cells, q, f, grown, sends, left);
+        let sends = commit_at(&mut self.trace, &mut self.cells, q, f, grown, sends);
         Delivered { first, det, sends }
     }
 

@@ -1,5 +1,5 @@
 //! A restart, as far as plain data goes.
-ghost use Rattle.std.specs.Prelude.{◌≡◌, ◌≤◌, ◌<◌, length, replicate, OnOk, IfOk, IfErr, None, Some, slice_set, vec_len, nat_le, unwrap_or, ◌||◌, is_some, false};
+ghost use Rattle.std.specs.Prelude.{◌≡◌, ◌≤◌, ◌<◌, length, OnOk, IfOk, IfErr, None, Some, slice_set, vec_len, nat_le, unwrap_or, ◌||◌, is_some, false};
 ghost use Rattle.std.specs.FinMap as fin;
 ghost use Rattle.causal_log.specs.Logs.{chosen};
 ghost use Rattle.causal_trace.specs.Past.{restarts};
@@ -12,7 +12,7 @@ ghost use Rattle.causal_protocol.specs.Steps.{Steps};
 ghost use Rattle.causal_core.specs.Inside.Stables.{IsStored};
 ghost use Rattle.causal_core.specs.Inside.Gathers.{listing_fault, IsGathered, IsGatheredFor};
 ghost use Rattle.causal_core.specs.View.{sent_in, with_restart, IsReason};
-ghost use Rattle.causal_core.specs.Inside.Grown.{batches_of};
+ghost use Rattle.std.specs.Arc.{arc_value};
 ghost use Rattle.causal_core.specs.Inside.Remembers.{IsRemembered};
 ghost use Rattle.causal_protocol.specs.Memory.{at};
 ghost use Rattle.causal_core.specs.Inside.Memories.{memory_of, bodies_of, memories_in, bodies_in};
@@ -22,7 +22,6 @@ use crate::count::count_gathered;
 use crate::data::{Data, is_full};
 use crate::fresh::fresh_cell;
 use crate::gathered::Gathered;
-use crate::grow::shares;
 use crate::remembered::{Remembered, remember, remembered_by};
 use crate::sends::append_sends;
 use causal_log::{Batch, Log, Stable};
@@ -46,46 +45,25 @@ pub(crate) fn put(cells: &mut Vec<Option<Cell>>, p: usize, cell: Cell)
     cells[p] = Some(cell);
 }
 
-/// Eight shares of what a log chooses for f failures, which the log keeps.
-fn kept_shares(alloc: Global, f: u16, log: &mut Log) -> Result<Vec<Arc<Batch>>, NoMemory>
+/// What a log chooses for f failures, which the log keeps.
+fn kept_batch(alloc: Global, f: u16, log: &mut Log) -> Result<Arc<Batch>, NoMemory>
     ensures map { log.new.map ≡ log.old.map }
-    ensures shares { IfOk result
-        (λ shares. batches_of shares.items ≡ replicate 8 (chosen f log.old.map)) }
+    ensures batch { IfOk result (λ batch. arc_value batch ≡ chosen f log.old.map) }
 {
-    let batch = log.choose(alloc, f)?;
-    let batch = Arc::new(alloc, batch)?;
-    let shares = shares(Vec::new(alloc), &batch)?;
+    let batch = Arc::new(alloc, log.choose(alloc, f)?)?;
+    let share = Arc::try_clone(&batch)?;
     log.carry(f, batch);
-    Ok(shares)
-}
-
-/// What a restart entry lists of a log, and eight shares of what the log chooses for f failures.
-fn listed_and_shares(
-    alloc: Global,
-    f: u16,
-    log: &mut Log,
-) -> Result<(Vec<Det>, Vec<Arc<Batch>>), NoMemory>
-    ensures map { log.new.map ≡ log.old.map }
-    ensures listed { IfOk result (λ made. made.0.items ≡ fin.keys log.old.map) }
-    ensures shares { IfOk result
-        (λ made. batches_of made.1.items ≡ replicate 8 (chosen f log.old.map)) }
-{
-    let listed = log.dets(alloc)?;
-    let shares = kept_shares(alloc, f, log)?;
-    Ok((listed, shares))
+    Ok(share)
 }
 
 /// What a process has that comes up with this log, and what its sends carry.
 pub(crate) fn gathered(alloc: Global, f: u16, mut log: Log) -> Result<Gathered, NoMemory>
     ensures { IfOk result (λ g. IsGathered f log.map g) }
 {
-    let (listed, shares) = listed_and_shares(alloc, f, &mut log)?;
-    let cell = fresh_cell(alloc, log)?;
-    Ok(Gathered {
-        listed,
-        shares,
-        cell,
-    })
+    let listed = log.dets(alloc)?;
+    let batch = kept_batch(alloc, f, &mut log)?;
+    let cell = fresh_cell(alloc, log, batch)?;
+    Ok(Gathered { listed, cell })
 }
 
 /// The reason that stands, or want of memory.
@@ -253,17 +231,13 @@ impl Data {
             ≡ slice_set self.old.bodies p.0 (sent_in self.old.run sends.items) }
     {
         let first = self.trace.len();
-        let Gathered {
-            listed,
-            shares,
-            mut cell,
-        } = gathered;
+        let Gathered { listed, mut cell } = gathered;
         let count = listed.len() as u32;
         self.trace.push_reserved(Entry::Restart {
             who: p,
             listed: Dets::new(listed),
         });
-        let sends = append_sends(&mut self.trace, &mut cell, p, sends, shares, &mut self.left);
+        let sends = append_sends(&mut self.trace, &mut cell, p, sends);
         put(&mut self.cells, usize::from(p.0), cell);
         Restarted {
             first,

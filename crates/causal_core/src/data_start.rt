@@ -13,6 +13,7 @@ use crate::data::Data;
 use crate::data_restart::{gathered, put};
 use crate::gathered::Gathered;
 use crate::sends::append_sends;
+use crate::sent::Sent;
 use causal_log::Log;
 use causal_name::{NoMemory, Pid};
 use causal_process::Outgoing;
@@ -28,7 +29,7 @@ fn fresh_cells(alloc: Global, n: u16) -> Result<Vec<Option<Cell>>, NoMemory>
     let mut cells = Vec::new(alloc);
     for i in 0..n {
         let log = Log::new(alloc);
-        let sent = Vec::new(alloc);
+        let sent = Sent::new(alloc);
         let received = Vec::new(alloc);
         cells.push(Some(Cell {
             log,
@@ -56,7 +57,6 @@ impl Data {
             faults: f,
             writers: Vec::new(alloc),
             cells,
-            left: Vec::new(alloc),
         })
     }
 
@@ -81,10 +81,9 @@ impl Data {
     {
         let Gathered {
             listed: _,
-            shares,
             mut cell,
         } = fresh;
-        let _number = append_sends(&mut self.trace, &mut cell, p, sends, shares, &mut self.left);
+        let _number = append_sends(&mut self.trace, &mut cell, p, sends);
         put(&mut self.cells, usize::from(p.0), cell);
     }
 }

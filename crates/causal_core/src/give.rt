@@ -1,5 +1,5 @@
 //! A kept message is given to a box, without a copy of its body.
-ghost use Rattle.std.specs.Prelude.{◌≡◌, ◌≤◌, ◌<◌, length, map, is_some, true, None, IfOk, OnErr, vec_len};
+ghost use Rattle.std.specs.Prelude.{◌≡◌, ◌≤◌, ◌<◌, length, map, is_some, true, None, IfOk, OnErr};
 ghost use Rattle.causal_process.specs.declared.message.Input.TheVariants.{Message as Given};
 ghost use Rattle.causal_protocol.specs.declared.request.Request.TheVariants as Ask;
 ghost use Rattle.causal_protocol.specs.Memory.{at};
@@ -13,6 +13,7 @@ ghost use Rattle.causal_core.specs.Inside.Memories.{memory_of, bodies_of, room_o
 use crate::boxes::step_at;
 use crate::cell::Cell;
 use crate::data::Data;
+use crate::sent::Sent;
 use causal_name::{NoMemory, Pid};
 use causal_process::{Body, Input, Outgoing, Process};
 use std::alloc::Global;
@@ -49,8 +50,31 @@ fn give_body(
     sends
 }
 
-/// The same of the message that a process keeps at a place.
-#[tactic(auto, using(crate::proofs::Cells::body_read, crate::proofs::Rules::of_giving))]
+impl Sent {
+    /// The same of the message that a process keeps at a place.
+    fn give(
+        &mut self,
+        slots: &mut Vec<Option<Box<dyn Process + Send>>>,
+        q: usize,
+        alloc: Global,
+        source: Pid,
+        ssn: usize,
+    ) -> Result<Vec<Outgoing>, NoMemory>
+        requires box_there { HasBox slots.old.items q }
+        requires kept { ssn < length self.old.kept }
+        ensures ok { IfOk result (λ sends. StepsAt answers q
+            (Given source (body_in self.old.bodies ssn)) sends.items slots.old.items slots.new.items) }
+        ensures few { IfOk result (λ sends. length sends.items ≤ 8) }
+        ensures others { SameElsewhere answers q slots.old.items slots.new.items }
+        ensures err { OnErr result (SameAnswers answers slots.old.items slots.new.items) }
+        ensures filled { map is_some slots.new.items ≡ map is_some slots.old.items }
+        ensures sent { self.new ≡ self.old }
+    {
+        give_body(slots, q, alloc, source, &mut self.messages[ssn].body)
+    }
+}
+
+/// The same, of the messages in a cell.
 fn give_kept(
     slots: &mut Vec<Option<Box<dyn Process + Send>>>,
     q: usize,
@@ -60,7 +84,7 @@ fn give_kept(
     ssn: usize,
 ) -> Result<Vec<Outgoing>, NoMemory>
     requires box_there { HasBox slots.old.items q }
-    requires kept { ssn < vec_len cell.old.sent }
+    requires kept { ssn < length cell.old.sent.kept }
     ensures ok { IfOk result
         (λ sends. StepsAt answers q (Given source (body_in (bodies_of cell.old) ssn))
         sends.items slots.old.items slots.new.items) }
@@ -72,7 +96,7 @@ fn give_kept(
     ensures bodies { bodies_of cell.new ≡ bodies_of cell.old }
     ensures room { room_of cell.new ≡ room_of cell.old }
 {
-    give_body(slots, q, alloc, source, &mut cell.sent[ssn].body)
+    cell.sent.give(slots, q, alloc, source, ssn)
 }
 
 /// The same of the message of that name, where its sender's cell stands among the others.

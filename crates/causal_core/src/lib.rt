@@ -61,6 +61,8 @@ pub mod runtime;
 mod search;
 /// The sends of a step.
 mod sends;
+/// The messages that a process has sent.
+pub mod sent;
 /// How a core begins.
 pub mod start;
 

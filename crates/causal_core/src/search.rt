@@ -3,9 +3,11 @@ ghost use Rattle.std.specs.Prelude.{◌≡◌, is_none, count_by};
 ghost use Rattle.std.specs.Option.{option_map, option_copied};
 ghost use Rattle.causal_protocol.specs.Memory.{at};
 ghost use Rattle.causal_protocol.specs.Naming.{kept_for, name};
-ghost use Rattle.causal_core.specs.Inside.Memories.{kept_of, memory_of, memories_in};
+ghost use Rattle.causal_core.specs.Inside.Memories.{memory_of, memories_in};
+ghost use Rattle.causal_core.specs.Inside.Sents.{kept_of};
 
-use crate::cell::{Cell, Message};
+use crate::cell::Cell;
+use crate::sent::Envelope;
 use causal_name::Pid;
 
 /// How many are down.
@@ -30,8 +32,13 @@ pub(crate) fn cell_at(cells: &[Option<Cell>], p: Pid) -> Option<&Cell>
 
 /// The message of that name that its sender keeps for q.
 #[tactic(auto, using(crate::proofs::Cells::kept_from))]
-pub(crate) fn message(cells: &[Option<Cell>], q: Pid, source: Pid, ssn: u32) -> Option<&Message>
-    ensures { option_map kept_of (option_copied result)
+pub(crate) fn message<'a>(
+    cells: &'a [Option<Cell>],
+    q: Pid,
+    source: Pid,
+    ssn: u32,
+) -> Option<Envelope<'a>>
+    ensures { option_map kept_of result
         ≡ kept_for (memories_in cells.now) q (name source ssn) }
 {
     let Some(sender) = cell_at(cells, source) else {

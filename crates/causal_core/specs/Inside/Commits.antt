@@ -2,8 +2,6 @@
 use Rattle.std.specs.Prelude.{◌≡◌, ◌≢◌, ◌+◌, ℕ, true, List, ◌∷◌, length, Option, Some, None, slice_set}
 use Rattle.std.specs.FinMap as fin
 use Rattle.std.specs.Arc.{arc_value}
-use Rattle.std.specs.declared.sync.Arc.{Arc}
-use Rattle.std.proofs.Common.{Global}
 use Rattle.causal_name.specs.declared.Pid.{Pid}
 use Rattle.causal_name.specs.declared.Det.{Det}
 use Rattle.causal_process.specs.declared.message.Outgoing.{Outgoing}
@@ -19,7 +17,7 @@ use Rattle.causal_protocol.specs.Memory.{Memory, Memories, keeping, with_receive
 use Rattle.causal_protocol.specs.Steps.{sends_of, pushed}
 use Rattle.causal_core.specs.declared.grown.Grown.{Grown}
 use Rattle.causal_core.specs.View.{receivers}
-use Rattle.causal_core.specs.Inside.Grown.{first_batch, batches_of, carried_by}
+use Rattle.causal_core.specs.Inside.Grown.{carried_by}
 use Rattle.causal_core.specs.Inside.Memories.{memory_at, keep_all}
 use Rattle.causal_core.specs.Inside.Facts.{FitsAt}
 
@@ -39,27 +37,23 @@ OthersFit q old new = (p : ℕ) (m : Option Memory) → p ≢ q → FitsAt old p
 abbrev pub StayDelivered : List Entry → List Entry → Type 0
 StayDelivered old new = (ds : List Det) → are_delivered old ds ≡ true → are_delivered new ds ≡ true
 
--- the batch that is shared
-abbrev pub shared_batch : List (Arc (List Item) Global) → List Item
-shared_batch shares = first_batch (batches_of shares)
-
 -- what the sends of the step carry
 abbrev pub next_batch : Grown → List Item
-next_batch g = shared_batch g.shares.items
+next_batch g = arc_value g.share
 
 -- with one more send of q, which has this, and q's memory with it
 abbrev pub with_send : Recording → Pid → Pid → Memory → Recording
 with_send r q to m = with_entry r (Send q to (length m.sent))
 
-abbrev pub keep_send : Recording → Pid → Arc (List Item) Global → Memory → Memory
-keep_send r to batch m = keeping to (length r.past) (arc_value batch) m
+abbrev pub keep_send : Recording → Pid → List Item → Memory → Memory
+keep_send r to batch m = keeping to (length r.past) batch m
 
 -- with those of q's sends that are to processes, and q's memory with them
 abbrev pub with_sends : Recording → Pid → List Outgoing → Memory → Recording
 with_sends r q sends m = record { processes = r.processes; past = pushed (sends_of q (length m.sent) (receivers r.processes sends)) r.past }
 
-abbrev pub keep_sends : Recording → List (Arc (List Item) Global) → List Outgoing → Memory → Memory
-keep_sends r shares sends m = keep_all (length r.past) (shared_batch shares) (receivers r.processes sends) m
+abbrev pub keep_sends : Recording → List Item → List Outgoing → Memory → Memory
+keep_sends r batch sends m = keep_all (length r.past) batch (receivers r.processes sends) m
 
 -- the request of a delivery to q of the message that this was made for
 abbrev pub asked_by : Pid → Grown → Request

@@ -1,5 +1,5 @@
 -- What a restart puts in place, and how what it lists is counted.
-use Rattle.std.specs.Prelude.{◌≡◌, ℕ, ◌≤◌, Bool, false, not, ◌||◌, nat_lt, nat_le, List, [], ◌∷◌, length, Option, count_by, replicate, is_some}
+use Rattle.std.specs.Prelude.{◌≡◌, ℕ, ◌≤◌, Bool, false, not, ◌||◌, nat_lt, nat_le, List, [], ◌∷◌, length, Option, count_by, is_some}
 use Rattle.std.specs.List.{list_any}
 use Rattle.std.specs.Option.{option_map_or}
 use Rattle.std.specs.FinMap as fin
@@ -16,8 +16,7 @@ use Rattle.causal_protocol.specs.declared.request.CoreFault.TheVariants as Why
 use Rattle.causal_protocol.specs.Gathering.{gathered_log, united_all, held_all, stable_all}
 use Rattle.causal_protocol.specs.Run.{Run, memories_of, stable_of}
 use Rattle.causal_core.specs.declared.gathered.Gathered.{Gathered}
-use Rattle.causal_core.specs.Inside.Grown.{batches_of}
-use Rattle.causal_core.specs.Inside.Memories.{memory_of, bodies_of, room_of}
+use Rattle.causal_core.specs.Inside.Memories.{memory_of, bodies_of}
 
 -- whether the log of one of these processes has it
 abbrev pub is_logged : Memories → Det → Bool
@@ -54,10 +53,10 @@ listing_fault r p listed =
 -- what a process puts in place that comes up with this log, for f failures
 pub record IsGathered (f : ℕ) (log : LogMap) (g : Gathered) : Type 0 where
   pub listed : g.listed.items ≡ fin.keys log
-  pub shares : batches_of g.shares.items ≡ replicate 8 (chosen f log)
+  pub batch : g.cell.sent.batch ≡ chosen f log
   pub memory : memory_of g.cell ≡ fresh log
   pub bodies : bodies_of g.cell ≡ []
-  pub room : 8 ≤ (room_of g.cell).sent
+  pub room : 8 ≤ g.cell.sent.spare
 
 -- what p puts in place when it comes up again
 abbrev pub IsGatheredFor : Run → Pid → Gathered → Type 0

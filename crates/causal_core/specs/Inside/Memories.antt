@@ -1,14 +1,12 @@
 -- What the cells hold: the memories of processes, the bodies that they keep, and their room.
 use Rattle.std.specs.Prelude.{◌-◌, ℕ, ◌+◌, ◌≤◌, List, [], ◌∷◌, map, Option, unwrap_or, slice_get, vec_capacity, vec_len}
 use Rattle.std.specs.Option.{option_map, option_map_or}
-use Rattle.std.specs.Arc.{arc_value}
 use Rattle.std.specs.FinMap as fin
 use Rattle.causal_name.specs.declared.Pid.{Pid}
 use Rattle.causal_log.specs.declared.batch.Item.{Item}
 use Rattle.causal_log.specs.Logs.{LogMap}
-use Rattle.causal_core.specs.declared.cell.Message.{Message}
 use Rattle.causal_core.specs.declared.cell.Cell.{Cell}
-use Rattle.causal_protocol.specs.Memory.{Kept, Memory, Memories, fresh, at, keeping}
+use Rattle.causal_protocol.specs.Memory.{Memory, Memories, fresh, at, keeping}
 use Rattle.causal_protocol.specs.Run.{Run, memories_of, stable_of}
 use Rattle.causal_log.specs.Slots.{first_of_slot}
 use Rattle.causal_log.specs.Stores.{dets_in}
@@ -16,18 +14,15 @@ use Rattle.causal_protocol.specs.Naming.{next_rsn}
 use Rattle.causal_name.specs.declared.Det.{Det}
 use Rattle.causal_core.specs.View.{DataState, Room}
 
-abbrev pub kept_of : Message → Kept
-kept_of m = record { to = m.to; send = m.send; batch = arc_value m.batch }
-
 abbrev pub memory_of : Cell → Memory
-memory_of c = record { log = c.log.map; sent = map kept_of c.sent.items; received = c.received.items }
+memory_of c = record { log = c.log.map; sent = c.sent.kept; received = c.received.items }
 
 abbrev pub memories_in : List (Option Cell) → Memories
 memories_in cells = map (option_map memory_of) cells
 
 -- the bodies of the messages that a process keeps, by ssn
 abbrev pub bodies_of : Cell → List (List ℕ)
-bodies_of c = map (λ (m : Message). m.body) c.sent.items
+bodies_of c = c.sent.bodies
 
 -- those of each process
 abbrev pub bodies_in : List (Option Cell) → List (List (List ℕ))
@@ -37,7 +32,7 @@ abbrev pub no_room : Room
 no_room = record { sent = 0; received = 0; log = 0 }
 
 abbrev pub room_of : Cell → Room
-room_of c = record { sent = vec_capacity c.sent - vec_len c.sent; received = vec_capacity c.received - vec_len c.received; log = c.log.spare }
+room_of c = record { sent = c.sent.next_spare; received = vec_capacity c.received - vec_len c.received; log = c.log.spare }
 
 abbrev pub rooms_in : List (Option Cell) → List Room
 rooms_in cells = map (λ c. option_map_or room_of c no_room) cells

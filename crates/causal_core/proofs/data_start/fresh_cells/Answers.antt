@@ -1,4 +1,4 @@
-use Rattle.std.proofs.Common.{◌∙◌, ◌++◌, ◌∷◌, [], Some, ap, arith, map, replicate}
+use Rattle.std.proofs.Common.{◌∙◌, ◌++◌, ◌∷◌, [], Some, ap, arith, replicate}
 use Rattle.std.specs.FinMap as fin
 use Rattle.std.specs.Option.{option_map, option_map_or}
 use Rattle.std.proofs.lemmas.List.{map-append, replicate-append-replicate}
@@ -18,7 +18,7 @@ loop-i-preserved c = let pushed = c.in_ok-push.ensures.items in
       bodies =
           ap bodies_in pushed
           ∙ map-append (λ cell. option_map_or bodies_of cell []) c.loop-i.cells.items _
-          ∙ (λ j. inv.bodies j ++ map (λ m. m.body) (c.new-sent.ensures.items j) ∷ [])
+          ∙ (λ j. inv.bodies j ++ c.new-sent.ensures.bodies j ∷ [])
           ∙ replicate-append-replicate c.loop-i.i 1 [];
     }
 

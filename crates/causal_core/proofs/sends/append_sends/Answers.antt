@@ -1,5 +1,4 @@
-use Rattle.std.proofs.Common.{◌≡◌, ◌∙◌, ◌+◌, ◌-◌, ◌<◌, ◌++◌, ◌∷◌, [], ℕ, List, ap, sym, arith, length, map, replicate, suc, append-nil, length-append, Vec, vec_len, Global}
-use Rattle.std.specs.Arc.{arc_value}
+use Rattle.std.proofs.Common.{◌≡◌, ◌∙◌, ◌+◌, ◌<◌, ◌++◌, ◌∷◌, [], List, ap, sym, arith, length, map, append-nil, length-append, Vec, vec_len, Global}
 use Rattle.std.proofs.lemmas.Bool.Decides.{nat_tests}
 use Rattle.std.specs.Vec.Iter.{into_iter_items, into_iter_len, into_iter_steps}
 use Rattle.std.specs.declared.vec.IntoIter.{IntoIter}
@@ -11,14 +10,12 @@ use Rattle.std.proofs.lemmas.List.{map-append, map-id, append_assoc}
 use Rattle.causal_name.specs.Names.{is_ascending}
 use Rattle.causal_name.specs.declared.Pid.{Pid}
 use Rattle.causal_process.specs.declared.message.Outgoing.{Outgoing}
-use Rattle.causal_log.specs.declared.batch.Item.{Item}
 use Rattle.causal_log.specs.Logs.{dets_of}
 use Rattle.causal_protocol.specs.Steps.{sends_of}
 use Rattle.causal_core.specs.Inside.Commits.{keep_sends, with_sends}
 use Rattle.causal_core.specs.View.{addressed, receivers, sent_bodies}
-use Rattle.causal_core.specs.Inside.Grown.{first_batch, batches_of}
 use Rattle.causal_core.specs.Inside.Memories.{memory_of, bodies_of, keep_all}
-use Rattle.causal_core.proofs.RuntimeSend.{addressed_more, replicate_last, keep_more, sends_more, kept_length, sends_length, pushed_last, pushed_length}
+use Rattle.causal_core.proofs.RuntimeSend.{addressed_more, keep_more, sends_more, kept_length, sends_length, pushed_last, pushed_length}
 use Rattle.causal_core.proofs.sends.append_sends.Goals as goal
 use Rattle.causal_core.proofs.sends.append_sends.Goals.{After-send-arg-then-from-n-1}
 
@@ -29,14 +26,8 @@ loop-outgoing-init c = grind (arith, append-nil)
 abbrev tos : After-send-arg-then-from-n-1 → List Pid
 tos c = receivers c.args.trace.now.recording.processes c.loop-outgoing.yielded
 
-abbrev batch : After-send-arg-then-from-n-1 → List Item
-batch c = first_batch (batches_of c.args.shares.items)
-
-popped : (c : After-send-arg-then-from-n-1) → (j : ℕ) × (8 - length (tos c) ≡ suc j) × (batches_of c.pop.new.self.items ≡ replicate j (batch c)) × (arc_value c.in-Some-pop.batch ≡ batch c)
-popped c = grind (arith, replicate_last, map-append)
-
 pub send-requires-clause-delivered : goal.send-requires-clause-delivered
-send-requires-clause-delivered c = rw (popped c).3 (c.loop-outgoing.invariant.delivered (dets_of (batch c)) c.requires.delivered)
+send-requires-clause-delivered c = rw c.loop-outgoing.invariant.batch (c.loop-outgoing.invariant.delivered (dets_of c.args.cell.now.sent.batch) c.requires.delivered)
 
 one : (c : After-send-arg-then-from-n-1) → addressed c.args.trace.now.recording.processes (c.loop-outgoing.yielded ++ c.in-Some.outgoing ∷ []) ≡ addressed c.args.trace.now.recording.processes c.loop-outgoing.yielded ++ c.in-Some.outgoing ∷ []
 one c = grind (arith, nat_tests, addressed_more)
@@ -65,13 +56,13 @@ loop-outgoing-preserved-then-from-n c = let at = (goal.at.loop-outgoing-preserve
     record {
       number = rw (more at) (omega (arith, one_to, inv.number));
       recording = grind (arith, ssn, pushed_last, sends_more, more);
-      memory = grind (arith, position, popped at, keep_more, more at);
+      memory = grind (arith, position, keep_more, more at);
       formed = c.send.ensures.formed;
       fit = c.send.ensures.fit;
       others = λ p m apart was. c.send.ensures.others p m apart (inv.others p m apart was);
       delivered = λ ds was. c.send.ensures.delivered ds (inv.delivered ds was);
       bodies = grind (arith, append_assoc, more_bodies);
-      shares = let p = popped at in rw (more at, one_to) (p.2 ∙ ap (λ k. replicate k (batch at)) (let left = p.1 in omega (arith, left)));
+      batch = c.send.ensures.batch ∙ inv.batch;
       few = rw (more at) (omega (arith, one_to, longer, inv.few));
       spare = omega (arith, c.send.ensures.spare, inv.spare, longer);
       room = omega (arith, c.send.ensures.room, inv.room, longer);
@@ -108,10 +99,10 @@ pub send-requires-clause-short : goal.send-requires-clause-short
 send-requires-clause-short c = grind (arith, left)
 
 pub send-requires-clause-ascending : goal.send-requires-clause-ascending
-send-requires-clause-ascending c = ap (λ b. is_ascending (dets_of b)) (popped c).3 ∙ c.requires.ascending
+send-requires-clause-ascending c = ap (λ b. is_ascending (dets_of b)) c.loop-outgoing.invariant.batch ∙ c.requires.ascending
 
 -- all have been sent
-done : (c : goal.After-drop-left) → c.loop-outgoing.yielded ≡ c.args.sends.items
+done : (c : goal.After-drop-outgoing-iterator) → c.loop-outgoing.yielded ≡ c.args.sends.items
 done c =
     sym (map-id c.loop-outgoing.yielded)
     ∙ (YieldsList-end (all c.args.sends c.into_iter-outgoing-iterator.result c.into_iter-outgoing-iterator.ensures.into_iter_gives.0 c.into_iter-outgoing-iterator.ensures.into_iter_gives.1) c.loop-outgoing.yielded c.loop-outgoing.outgoing-iterator c.loop-outgoing.yielded_by c.next.result c.next.new.self c.in-None.is c.next.ensures.steps).0
@@ -123,7 +114,7 @@ pub returns-clause-recording : goal.returns-clause-recording
 returns-clause-recording c = c.loop-outgoing.invariant.recording ∙ ap (λ xs. with_sends c.args.trace.now.recording c.args.q xs (memory_of c.args.cell.now)) (done c)
 
 pub returns-clause-memory : goal.returns-clause-memory
-returns-clause-memory c = c.loop-outgoing.invariant.memory ∙ ap (λ xs. keep_sends c.args.trace.now.recording c.args.shares.items xs (memory_of c.args.cell.now)) (done c)
+returns-clause-memory c = c.loop-outgoing.invariant.memory ∙ ap (λ xs. keep_sends c.args.trace.now.recording c.args.cell.now.sent.batch xs (memory_of c.args.cell.now)) (done c)
 
 pub returns-clause-bodies : goal.returns-clause-bodies
 returns-clause-bodies c = c.loop-outgoing.invariant.bodies ∙ ap (λ xs. bodies_of c.args.cell.now ++ sent_bodies c.args.trace.now.recording.processes xs) (done c)

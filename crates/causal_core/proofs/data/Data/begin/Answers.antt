@@ -2,7 +2,6 @@ use Rattle.std.proofs.Common.{arith, List, ◌≡◌, Some, sym, subst}
 use Rattle.std.specs.FinMap as fin
 use Rattle.causal_name.specs.declared.Pid.{Pid}
 use Rattle.causal_log.proofs.Lemmas.ChosenLemmas.{chosen_ascend}
-use Rattle.causal_protocol.specs.Memory.{fresh}
 use Rattle.causal_protocol.specs.Run.{Run}
 use Rattle.causal_protocol.specs.Steps.{pushed, sends_of}
 use Rattle.causal_core.specs.Inside.Begins.{MayBegin}

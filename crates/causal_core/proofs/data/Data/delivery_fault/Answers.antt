@@ -12,7 +12,8 @@ use Rattle.causal_trace.specs.Past.{has_delivered}
 use Rattle.causal_protocol.specs.Naming.{name, next_det, kept_for, listed_for}
 use Rattle.causal_protocol.specs.Refusals.{first_fault, unless, is_full}
 use Rattle.causal_core.specs.View.{run_from}
-use Rattle.causal_core.specs.Inside.Memories.{memories_in, memory_of, kept_of}
+use Rattle.causal_core.specs.Inside.Memories.{memories_in, memory_of}
+use Rattle.causal_core.specs.Inside.Sents.{kept_of}
 use Rattle.causal_core.proofs.DeliveryRows.{tell_process, tell_down, tell_other, tell_absent, tell_again, tell_full, received_few}
 use Rattle.causal_core.proofs.data.Data.delivery_fault.Goals as goal
 use Rattle.causal_core.proofs.data.Data.delivery_fault.Goals.{After-are_processes, In-Some, After-other_named, In-Some-message, After-is_full}
@@ -66,22 +67,22 @@ pub returns-in_default-message : goal.returns-in_default-message
 returns-in_default-message c =
     let at0 = (goal.at.returns-in_default-message c).After-are_processes in let at1 = (goal.at.returns-in_default-message c).In-Some in
     let at2 = (goal.at.returns-in_default-message c).After-other_named in
-    let absent : kept_for (ms at0) c.args.q (name c.args.source c.args.ssn) ≡ None = ap (λ xs. kept_for (memories_in xs) c.args.q (name c.args.source c.args.ssn)) (sym c.as_slice-cells.ensures.value) ∙ sym c.message.ensures ∙ ap (λ o. option_map kept_of (option_copied o)) c.in_default-message.is in
+    let absent : kept_for (ms at0) c.args.q (name c.args.source c.args.ssn) ≡ None = ap (λ xs. kept_for (memories_in xs) c.args.q (name c.args.source c.args.ssn)) (sym c.as_slice-cells.ensures.value) ∙ sym c.message.ensures ∙ ap (option_map kept_of) c.in_default-message.is in
     sym (tell_absent (run at0) (ms at0) c.args.q c.args.source c.args.ssn c.self.invariant.same (inside at1) (memory_of c.in-Some.cell.now) (up at1) (sym (other_is at2 (up at1)) ∙ c.in_default-other_named.is) absent) ∙ asked_of at0
 
-kept : (c : In-Some-message) → kept_for (memories_in c.self.inside.cells.items) c.args.q (name c.args.source c.args.ssn) ≡ Some (kept_of c.in-Some-message.message.now)
-kept c = ap (λ xs. kept_for (memories_in xs) c.args.q (name c.args.source c.args.ssn)) (sym c.as_slice-cells.ensures.value) ∙ sym c.message.ensures ∙ ap (λ o. option_map kept_of (option_copied o)) c.in-Some-message.is
+kept : (c : In-Some-message) → kept_for (memories_in c.self.inside.cells.items) c.args.q (name c.args.source c.args.ssn) ≡ Some (kept_of c.in-Some-message.message)
+kept c = ap (λ xs. kept_for (memories_in xs) c.args.q (name c.args.source c.args.ssn)) (sym c.as_slice-cells.ensures.value) ∙ sym c.message.ensures ∙ ap (option_map kept_of) c.in-Some-message.is
 
 pub returns-then-has_delivered : goal.returns-then-has_delivered
 returns-then-has_delivered c =
     let at0 = (goal.at.returns-then-has_delivered c).After-are_processes in let at1 = (goal.at.returns-then-has_delivered c).In-Some in
     let at2 = (goal.at.returns-then-has_delivered c).After-other_named in let at3 = (goal.at.returns-then-has_delivered c).In-Some-message in
-    sym (tell_again (run at0) (ms at0) c.args.q c.args.source c.args.ssn c.self.invariant.same (inside at1) (memory_of c.in-Some.cell.now) (up at1) (sym (other_is at2 (up at1)) ∙ c.in_default-other_named.is) (kept_of c.in-Some-message.message.now) (kept at3) (sym (again at1) ∙ sym c.has_delivered.ensures ∙ c.if-has_delivered.true)) ∙ asked_of at0
+    sym (tell_again (run at0) (ms at0) c.args.q c.args.source c.args.ssn c.self.invariant.same (inside at1) (memory_of c.in-Some.cell.now) (up at1) (sym (other_is at2 (up at1)) ∙ c.in_default-other_named.is) (kept_of c.in-Some-message.message) (kept at3) (sym (again at1) ∙ sym c.has_delivered.ensures ∙ c.if-has_delivered.true)) ∙ asked_of at0
 
 pub overflow_cast-own : goal.overflow_cast-own
 overflow_cast-own c = grind (arith, few)
 
-full_is : (c : After-is_full) → at (memories_in c.self.inside.cells.items) c.args.q.0 ≡ Some (memory_of c.in-Some.cell.now) → kept_for (memories_in c.self.inside.cells.items) c.args.q (name c.args.source c.args.ssn) ≡ Some (kept_of c.in-Some-message.message.now)
+full_is : (c : After-is_full) → at (memories_in c.self.inside.cells.items) c.args.q.0 ≡ Some (memory_of c.in-Some.cell.now) → kept_for (memories_in c.self.inside.cells.items) c.args.q (name c.args.source c.args.ssn) ≡ Some (kept_of c.in-Some-message.message)
     → is_full (run_from c.self.inside.trace.recording c.self.inside.faults c.self.inside.writers.items) 9 (length (listed_for (memories_in c.self.inside.cells.items) c.args.q (name c.args.source c.args.ssn))) ≡ c.is_full.result
 full_is c here sent = grind arith
 
@@ -90,11 +91,11 @@ returns-then-is_full c =
     let at0 = (goal.at.returns-then-is_full c).After-are_processes in let at1 = (goal.at.returns-then-is_full c).In-Some in
     let at2 = (goal.at.returns-then-is_full c).After-other_named in let at3 = (goal.at.returns-then-is_full c).In-Some-message in
     let at4 = (goal.at.returns-then-is_full c).After-is_full in
-    sym (tell_full (run at0) (ms at0) c.args.q c.args.source c.args.ssn c.self.invariant.same (inside at1) (memory_of c.in-Some.cell.now) (up at1) (sym (other_is at2 (up at1)) ∙ c.in_default-other_named.is) (kept_of c.in-Some-message.message.now) (kept at3) (sym (again at1) ∙ sym c.has_delivered.ensures ∙ c.if-has_delivered.false) true (full_is at4 (up at1) (kept at3) ∙ c.if-is_full.true)) ∙ asked_of at0
+    sym (tell_full (run at0) (ms at0) c.args.q c.args.source c.args.ssn c.self.invariant.same (inside at1) (memory_of c.in-Some.cell.now) (up at1) (sym (other_is at2 (up at1)) ∙ c.in_default-other_named.is) (kept_of c.in-Some-message.message) (kept at3) (sym (again at1) ∙ sym c.has_delivered.ensures ∙ c.if-has_delivered.false) true (full_is at4 (up at1) (kept at3) ∙ c.if-is_full.true)) ∙ asked_of at0
 
 pub returns : goal.returns
 returns c =
     let at0 = (goal.at.returns c).After-are_processes in let at1 = (goal.at.returns c).In-Some in
     let at2 = (goal.at.returns c).After-other_named in let at3 = (goal.at.returns c).In-Some-message in
     let at4 = (goal.at.returns c).After-is_full in
-    sym (tell_full (run at0) (ms at0) c.args.q c.args.source c.args.ssn c.self.invariant.same (inside at1) (memory_of c.in-Some.cell.now) (up at1) (sym (other_is at2 (up at1)) ∙ c.in_default-other_named.is) (kept_of c.in-Some-message.message.now) (kept at3) (sym (again at1) ∙ sym c.has_delivered.ensures ∙ c.if-has_delivered.false) false (full_is at4 (up at1) (kept at3) ∙ c.if-is_full.false)) ∙ asked_of at0
+    sym (tell_full (run at0) (ms at0) c.args.q c.args.source c.args.ssn c.self.invariant.same (inside at1) (memory_of c.in-Some.cell.now) (up at1) (sym (other_is at2 (up at1)) ∙ c.in_default-other_named.is) (kept_of c.in-Some-message.message) (kept at3) (sym (again at1) ∙ sym c.has_delivered.ensures ∙ c.if-has_delivered.false) false (full_is at4 (up at1) (kept at3) ∙ c.if-is_full.false)) ∙ asked_of at0

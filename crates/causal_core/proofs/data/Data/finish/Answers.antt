@@ -1,4 +1,5 @@
 use Rattle.std.proofs.Common.{◌≡◌, ◌∙◌, ◌∷◌, None, refl, ap, sym, subst, arith, length, vec_len}
+use Rattle.std.specs.Arc.{arc_value}
 use Rattle.std.specs.Prelude.{◌-◌, min, vec_capacity}
 use Rattle.std.proofs.lemmas.Bool.Decides.{nat_tests}
 use Rattle.causal_name.specs.Names.{message_of}
@@ -10,14 +11,14 @@ use Rattle.causal_core.proofs.Dets.{det_at-pushed, det_at-newest}
 use Rattle.causal_trace.specs.Rows.{IsWellFormed}
 use Rattle.causal_protocol.specs.declared.request.Request.TheVariants as Ask
 use Rattle.causal_protocol.specs.declared.request.Reply.TheVariants as Told
-use Rattle.causal_protocol.specs.Memory.{at, gained}
+use Rattle.causal_protocol.specs.Memory.{gained}
 use Rattle.causal_protocol.specs.Run.{memories_of}
 use Rattle.causal_protocol.specs.Naming.{name, next_ssn}
 use Rattle.causal_protocol.specs.Refusals.{first_fault}
 use Rattle.causal_protocol.specs.Steps.{LegalStep, Steps, delivery_of, sends_of}
 use Rattle.causal_core.specs.Inside.Facts.{AllFit}
 use Rattle.causal_core.specs.View.{DataState, sent_in, with_delivery, run_from, receivers, with_bodies}
-use Rattle.causal_core.specs.Inside.Grown.{IsGrown, carried_by, first_batch, batches_of}
+use Rattle.causal_core.specs.Inside.Grown.{IsGrown, carried_by}
 use Rattle.causal_core.specs.Inside.Memories.{memories_in, memory_at, bodies_in, rooms_in}
 use Rattle.causal_core.proofs.RuntimeSend.{are_sends, receivers_below, receivers_long, addressed_few}
 use Rattle.causal_core.proofs.Legal.{held_fit}
@@ -78,7 +79,7 @@ invariant_of-self c =
     (record {
       same =
           c.commit_at-sends.ensures.memories
-          ∙ same_memories (state at0).run c.args.q c.args.grown.own.source c.args.grown.own.ssn (may at0) count (memories_in c.self.inside.cells.items) (gained (carried_by c.args.grown) c.args.grown.own (memory_at (memories_in c.self.inside.cells.items) c.args.q.0).log) (first_batch (batches_of c.args.grown.shares.items)) c.args.grown.own c.args.grown.send c.args.grown.listed tos same (λ i. gained (g.carried i) (g.own i) (memory_at (same i) c.args.q.0).log) (ap first_batch g.shares ∙ ap (λ xs. chosen c.self.inside.faults (gained (carried_by c.args.grown) c.args.grown.own (memory_at xs c.args.q.0).log)) (sym same)) g.own g.send g.listed;
+          ∙ same_memories (state at0).run c.args.q c.args.grown.own.source c.args.grown.own.ssn (may at0) count (memories_in c.self.inside.cells.items) (gained (carried_by c.args.grown) c.args.grown.own (memory_at (memories_in c.self.inside.cells.items) c.args.q.0).log) (arc_value c.args.grown.share) c.args.grown.own c.args.grown.send c.args.grown.listed tos same (λ i. gained (g.carried i) (g.own i) (memory_at (same i) c.args.q.0).log) (g.share ∙ ap (λ xs. chosen c.self.inside.faults (gained (carried_by c.args.grown) c.args.grown.own (memory_at xs c.args.q.0).log)) (sym same)) g.own g.send g.listed;
       fit = fit_new;
       formed = subst IsWellFormed new c.commit_at-sends.ensures.formed;
     })
@@ -125,9 +126,6 @@ returns-clause-det c =
 
 pub commit_at-sends-requires-clause-process : goal.commit_at-sends-requires-clause-process
 commit_at-sends-requires-clause-process c = (may (goal.at.commit_at-sends-requires-clause-process c).After-len-first).process
-
-pub commit_at-sends-requires-clause-shares : goal.commit_at-sends-requires-clause-shares
-commit_at-sends-requires-clause-shares c = grind arith
 
 pub commit_at-sends-requires-clause-spare : goal.commit_at-sends-requires-clause-spare
 commit_at-sends-requires-clause-spare c = grind arith

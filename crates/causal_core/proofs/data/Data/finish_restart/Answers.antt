@@ -18,7 +18,6 @@ use Rattle.causal_protocol.specs.Steps.{LegalStep, Steps, pushed, sends_of}
 use Rattle.causal_core.specs.Inside.Facts.{FitsAt, AllFit}
 use Rattle.causal_core.specs.Inside.Gathers.{IsGathered}
 use Rattle.causal_core.specs.View.{DataState, run_from, receivers}
-use Rattle.causal_core.specs.Inside.Grown.{first_batch}
 use Rattle.causal_core.specs.Inside.Memories.{memory_of, memories_in, bodies_in, rooms_in, keep_all}
 use Rattle.causal_core.proofs.MemoriesFit.{fits_other, all_fit_set, delivered_more}
 use Rattle.causal_core.proofs.RuntimeSend.{are_sends, receivers_below, receivers_long, addressed_few}
@@ -69,12 +68,8 @@ append_sends-sends-requires-clause-process c = rw c.push_reserved.ensures.record
 
 pub append_sends-sends-requires-clause-fit : goal.append_sends-sends-requires-clause-fit
 append_sends-sends-requires-clause-fit c =
-    grind (
-      arith,
-      made ((goal.at.append_sends-sends-requires-clause-fit c).After-len-first),
-      restart_fits,
-      delivered ((goal.at.append_sends-sends-requires-clause-fit c).After-len-first),
-    )
+    let at = (goal.at.append_sends-sends-requires-clause-fit c).After-len-first in
+    rw (c.push_reserved.ensures.recording, (made at).memory) (restart_fits c.self.inside.trace.recording.past c.args.p c.new.result (log at) (delivered at))
 
 pub append_sends-sends-requires-clause-ascending : goal.append_sends-sends-requires-clause-ascending
 append_sends-sends-requires-clause-ascending c = grind (arith, made, chosen_ascend)
@@ -83,7 +78,7 @@ pub append_sends-sends-requires-clause-delivered : goal.append_sends-sends-requi
 append_sends-sends-requires-clause-delivered c =
     let at = (goal.at.append_sends-sends-requires-clause-delivered c).After-len-first in
     let past = c.self.inside.trace.recording.past in
-    (λ i. are_delivered (c.push_reserved.ensures.recording i).past (dets_of (first_batch ((made at).shares i))))
+    (λ i. are_delivered (c.push_reserved.ensures.recording i).past (dets_of ((made at).batch i)))
     ∙ delivered_more (Restart c.args.p c.new.result) past _ (chosen_all (is_delivered past) c.self.inside.faults (log at) (delivered at))
 
 pub append_sends-sends-requires-clause-short : goal.append_sends-sends-requires-clause-short
@@ -127,7 +122,7 @@ invariant_of-self c = let at = here c in
     let one = c.push_reserved.ensures.recording in
     let memory : memory_of c.append_sends-sends.new.cell ≡ keep_all (length (Restart c.args.p (gathered r c.args.p) ∷ past)) (chosen c.self.inside.faults (log at)) (tos c) (fresh (log at)) =
     c.append_sends-sends.ensures.memory
-    ∙ (λ i. keep_all (length (one i).past) (first_batch (g.shares i)) (receivers (one i).processes c.args.sends.items) (g.memory i)) in
+    ∙ (λ i. keep_all (length (one i).past) (g.batch i) (receivers (one i).processes c.args.sends.items) (g.memory i)) in
     let fits : AllFit n next.past (slice_set (memories_in c.self.inside.cells.items) c.args.p.0 (Some (memory_of c.append_sends-sends.new.cell))) =
     all_fit_set n past next.past (memories_in c.self.inside.cells.items) c.args.p.0 (Some (memory_of c.append_sends-sends.new.cell)) d.process held.fit
     (λ q o apart was. c.append_sends-sends.ensures.others q o apart (subst (λ (x : Recording). FitsAt x.past q o) (sym one) (fits_other (Restart c.args.p c.new.result) past q (restart_apart q c.args.p c.new.result apart) o was)))

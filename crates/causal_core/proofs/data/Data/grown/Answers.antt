@@ -9,7 +9,8 @@ use Rattle.causal_protocol.specs.Memory.{at}
 use Rattle.causal_protocol.specs.Naming.{name, kept_for}
 use Rattle.causal_protocol.specs.Refusals.{first_fault}
 use Rattle.causal_core.specs.View.{DataState, run_from}
-use Rattle.causal_core.specs.Inside.Memories.{memories_in, bodies_in, rooms_in, memory_of, kept_of}
+use Rattle.causal_core.specs.Inside.Memories.{memories_in, bodies_in, rooms_in, memory_of}
+use Rattle.causal_core.specs.Inside.Sents.{kept_of}
 use Rattle.causal_core.proofs.DeliveryRows.{received_few}
 use Rattle.causal_core.proofs.LegalDelivery.{receiver_up, receiver_below, message_there}
 use Rattle.causal_core.proofs.data.Data.grown.Goals as goal
@@ -24,7 +25,7 @@ none c = ap (λ s. first_fault s.run (Ask.Deliver c.args.q c.args.source c.args.
 pub unreachable-requires : goal.unreachable-requires
 unreachable-requires c =
     let at0 = (goal.at.unreachable-requires c).After-as_slice-cells in
-    let nothing : kept_for (memories_in c.self.inside.cells.items) c.args.q (name c.args.source c.args.ssn) ≡ None = ap (λ xs. kept_for (memories_in xs) c.args.q (name c.args.source c.args.ssn)) (sym c.as_slice-cells.ensures.value) ∙ sym c.message.ensures ∙ ap (λ o. option_map kept_of (option_copied o)) c.in_default.is in
+    let nothing : kept_for (memories_in c.self.inside.cells.items) c.args.q (name c.args.source c.args.ssn) ≡ None = ap (λ xs. kept_for (memories_in xs) c.args.q (name c.args.source c.args.ssn)) (sym c.as_slice-cells.ensures.value) ∙ sym c.message.ensures ∙ ap (option_map kept_of) c.in_default.is in
     false≢true (sym (message_there (state at0).run c.args.q c.args.source c.args.ssn (none at0)) ∙ ap (λ xs. is_none (kept_for xs c.args.q (name c.args.source c.args.ssn))) (sym c.self.invariant.same) ∙ ap is_none nothing)
 
 pub unreachable-requires-in_default-cell_at : goal.unreachable-requires-in_default-cell_at

@@ -1,8 +1,7 @@
-use Rattle.std.proofs.Common.{subst, arith, ap, length}
+use Rattle.std.proofs.Common.{arith, ap, length}
 use Rattle.causal_core.proofs.Legal.{tells_reason}
 use Rattle.std.proofs.lemmas.Grind.{common_steps}
 use Rattle.causal_protocol.specs.Naming.{name}
-use Rattle.causal_core.specs.Inside.Grown.{IsGrown}
 use Rattle.causal_core.proofs.LegalDelivery.{receiver_up, listed_few, carried_listed}
 use Rattle.causal_core.proofs.data.Data.prepare.Goals as goal
 
@@ -24,7 +23,7 @@ returns-in-Ok-make_room-clause-grown c = grind arith
 pub returns-in-Ok-make_room-clause-room : goal.returns-in-Ok-make_room-clause-room
 returns-in-Ok-make_room-clause-room c =
     let room = c.in-Ok-make_room.ensures.ok in
-    let longer = carried_listed c.args.self.now c.args.q (name c.args.source c.args.ssn) c.in-Ok.grown (subst (λ s. IsGrown s c.args.q (name c.args.source c.args.ssn) c.in-Ok.grown) c.self.view_is c.in-Ok.ensures) in
+    let longer = carried_listed c.args.self.now c.args.q (name c.args.source c.args.ssn) c.in-Ok.grown c.in-Ok.ensures in
     record {
       entries = room.entries;
       sent = room.sent;
