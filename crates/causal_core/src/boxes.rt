@@ -22,12 +22,10 @@ fn step_slot(
     ensures err { OnErr result (AnswersAlike (box_answers answers) slot.old slot.new) }
     ensures kept { is_some slot.new ≡ is_some slot.old }
 {
-    let Some(mut process) = slot.take() else {
+    let Some(process) = slot else {
         unreachable!()
     };
-    let sends = process.step(alloc, input);
-    *slot = Some(process);
-    sends
+    process.step(alloc, input)
 }
 
 /// Gives a box its beginning.
