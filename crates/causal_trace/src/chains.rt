@@ -9,7 +9,7 @@ use std::alloc::Global;
 use std::marker::Model;
 
 /// For how many messages and receipts room is made at once, since each list of heads is asked for it.
-const AT_ONCE: usize = 512;
+const AT_ONCE: usize = 128;
 
 /// A delivery of a message: by whom, in which of its lanes, and as which of the lane's deliveries.
 #[derive(Clone, Copy)]
