@@ -1,6 +1,9 @@
 //! Where the entries of a log stand, numbered from 1: a head leads to the newest entry of its slots, and each entry to the next
 //! older one of its head. The number 0 is none.
+#![tactic(auto, using(crate::proofs::Rules::of_index))]
+
 ghost use Rattle.std.specs.Prelude.{◌≡◌, ◌&&◌, true, ◌<◌, ◌≤◌, ◌+◌, ◌^◌, ◌++◌, ◌∷◌, [], false, Some, IfSome, IsNone, OnOk, length, slice_get, vec_len, vec_capacity, List};
+ghost use Rattle.std.specs.Map.{keys_of};
 ghost use Rattle.std.specs.List.{list_any};
 ghost use Rattle.causal_name.specs.declared.Det.{Det};
 ghost use Rattle.std.specs.Option.{option_map_or};
@@ -9,6 +12,7 @@ ghost use Rattle.causal_log.specs.Slots.{is_of_slot};
 ghost use Rattle.causal_log.specs.Inside.Indexes.{head_of, newest_of, IsIndexOf};
 ghost use Rattle.causal_log.specs.Inside.Ranks.{IsLeastOfSlot};
 
+use crate::known::Known;
 use causal_name::{Det, NoMemory, Pid, Slot};
 
 /// The fewest heads of an index whose heads were crowded.
@@ -54,34 +58,36 @@ impl Index {
         self.heads[head_of(self.heads.len(), self.turn, slot)]
     }
 
-    pub(crate) fn search(&self, dets: &[Det], det: Det) -> Option<usize>
-        requires { IsIndexOf dets.now self.now }
-        ensures found { IfSome result (λ place. slice_get dets.now place ≡ Some det) }
-        ensures within { IfSome result (λ place. place < length dets.now) }
-        ensures absent { IsNone result → list_any (same_det det) dets.now ≡ false }
+    /// The place of a determinant's entry, and what is known of it.
+    pub(crate) fn search(&self, entries: &[(Det, Known)], det: Det) -> Option<(usize, Known)>
+        requires { IsIndexOf (keys_of entries.now) self.now }
+        ensures place { IfSome result (λ found. slice_get entries.now found.0 ≡ Some (det, found.1)) }
+        ensures within { IfSome result (λ found. found.0 < length entries.now) }
+        ensures absent { IsNone result → list_any (same_det det) (keys_of entries.now) ≡ false }
     {
         let older = self.older.as_slice();
         let mut number = self.newest(det.slot());
         while number > 0 {
             let place = number as usize - 1;
-            if dets[place] == det {
-                return Some(place);
+            let (other, known) = entries[place];
+            if other == det {
+                return Some((place, known));
             }
             number = older[place];
         }
         None
     }
 
-    pub(crate) fn least_of_slot(&self, dets: &[Det], slot: Slot) -> Option<Det>
-        requires { IsIndexOf dets.now self.now }
-        ensures { IsLeastOfSlot slot.dest slot.rsn dets.now result }
+    pub(crate) fn least_of_slot(&self, entries: &[(Det, Known)], slot: Slot) -> Option<Det>
+        requires { IsIndexOf (keys_of entries.now) self.now }
+        ensures { IsLeastOfSlot slot.dest slot.rsn (keys_of entries.now) result }
     {
         let older = self.older.as_slice();
         let mut least = None;
         let mut number = self.newest(slot);
         while number > 0 {
             let place = number as usize - 1;
-            let det = dets[place];
+            let det = entries[place].0;
             if is_lesser(&det, slot.dest, slot.rsn, least) {
                 least = Some(det);
             }
@@ -106,29 +112,29 @@ impl Index {
         self.heads[head] = self.older.len() as u32;
     }
 
-    /// Leads heads to some determinants anew, in room that there is.
-    pub(crate) fn lead(&mut self, dets: &[Det])
-        requires some { 0 < length dets.now → 0 < vec_len self.old.heads }
-        requires few { length dets.now < 2 ^ 32 }
-        requires room { length dets.now ≤ vec_capacity self.old.older }
-        ensures index { IsIndexOf dets.now self.new }
+    /// Leads heads to some entries anew, in room that there is.
+    pub(crate) fn lead(&mut self, entries: &[(Det, Known)])
+        requires some { 0 < length entries.now → 0 < vec_len self.old.heads }
+        requires few { length entries.now < 2 ^ 32 }
+        requires room { length entries.now ≤ vec_capacity self.old.older }
+        ensures index { IsIndexOf (keys_of entries.now) self.new }
         ensures len { vec_len self.new.heads ≡ vec_len self.old.heads }
         ensures capacity { vec_capacity self.old.older ≤ vec_capacity self.new.older }
     {
         self.older.clear();
         self.heads.fill(0);
-        for det in dets {
+        for (det, _) in entries {
             self.link(det.slot());
         }
     }
 
     /// Makes a power of two of heads, so many at least, where there are fewer or they are crowded: then in the next turn.
-    pub(crate) fn widen(&mut self, dets: &[Det], least: usize) -> Result<(), NoMemory>
-        requires index { IsIndexOf dets.now self.old }
-        requires few { length dets.now < 2 ^ 32 }
-        requires fewer { length dets.now ≤ least }
-        requires room { length dets.now ≤ vec_capacity self.old.older }
-        ensures index { IsIndexOf dets.now self.new }
+    pub(crate) fn widen(&mut self, entries: &[(Det, Known)], least: usize) -> Result<(), NoMemory>
+        requires index { IsIndexOf (keys_of entries.now) self.old }
+        requires few { length entries.now < 2 ^ 32 }
+        requires fewer { length entries.now ≤ least }
+        requires room { length entries.now ≤ vec_capacity self.old.older }
+        ensures index { IsIndexOf (keys_of entries.now) self.new }
         ensures ok { OnOk result (least ≤ vec_len self.new.heads) }
         ensures len { vec_len self.old.heads ≤ vec_len self.new.heads }
         ensures capacity { vec_capacity self.old.older ≤ vec_capacity self.new.older }
@@ -146,7 +152,7 @@ impl Index {
         if is_crowded {
             self.turn = self.turn.wrapping_add(TURN);
         }
-        self.lead(dets);
+        self.lead(entries);
         Ok(())
     }
 }
