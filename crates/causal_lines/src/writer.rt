@@ -31,7 +31,8 @@ fn push_numbers(out: &mut String, numbers: &[u32], end: &str) -> Result<(), Allo
         (string_bytes out.new ≡ string_bytes out.old ++ numbers_text numbers.now end.now) }
 {
     for number in numbers {
-        write!(out, ",{number}")?;
+        out.push_str(",")?;
+        write!(out, "{number}")?;
     }
     out.push_str(end)
 }
@@ -41,7 +42,9 @@ fn push_named(out: &mut String, name: &str, numbers: &[u32], end: &str) -> Resul
     ensures { OnOk result
         (string_bytes out.new ≡ string_bytes out.old ++ named_text name.now numbers.now end.now) }
 {
-    write!(out, "[\"{name}\"")?;
+    out.push_str("[\"")?;
+    out.push_str(name)?;
+    out.push_str("\"")?;
     push_numbers(out, numbers, end)
 }
 
@@ -49,7 +52,8 @@ fn push_det(out: &mut String, det: &Det) -> Result<(), AllocError>
     ensures { OnOk result (string_bytes out.new ≡ string_bytes out.old ++ det_text det.now) }
 {
     let Pid(source) = det.source;
-    write!(out, "[{source}")?;
+    out.push_str("[")?;
+    write!(out, "{source}")?;
     push_numbers(out, &[det.ssn, u32::from(det.dest.0), det.rsn], "]")
 }
 

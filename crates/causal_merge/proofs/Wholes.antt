@@ -20,23 +20,6 @@ use Rattle.causal_merge.proofs.Prefixes.{reading-length}
 pub few_of : (g : Gathered) (said : List Line) (run : Run) → Gathers g said → g.run ≡ Some run → IsProcessCount run.processes
 few_of g said run h is = subst (λ (o : Option Run). IfSome o (λ r. IsProcessCount r.processes)) is h.few
 
-pub whole_of : (g : Gathered) (said : List Line) (run : Run) → Gathers g said → g.run ≡ Some run → ((p : ℕ) → p < run.processes → slice_index_or g.headed p false ≡ true) → IsWhole said run
-whole_of g said run h is set =
-    let few = few_of g said run h is in
-    record {
-      first = sym h.run ∙ is;
-      headed = λ p less. (let most = few.1 in sym (h.headed p (omega (arith, less, most))) ∙ set p less);
-    }
-
-pub lacks_one : (g : Gathered) (said : List Line) (run : Run) (p : ℕ) → Gathers g said → g.run ≡ Some run → p < run.processes → slice_index_or g.headed p false ≡ false → LacksHeader said
-lacks_one g said run p h is less unset =
-    let few = few_of g said run h is in
-    let most = few.1 in
-    inr (record { run = run; first = sym h.run ∙ is; process = p; within = less; missing = sym (h.headed p (omega (arith, less, most))) ∙ unset })
-
-pub lacks_all : (g : Gathered) (said : List Line) → Gathers g said → g.run ≡ None → LacksHeader said
-lacks_all g said h is = inl (sym h.run ∙ is)
-
 -- recordings with all headers, whose ordered events make a past, merge into that trace
 pub merges : (most : ℕ) (text : List ℕ) (g : Gathered) (run : Run) (order : List Placed) (r : Recording) → HasRead most g (reverse (lines text)) → ((said : List Line) → Gathers g said → IsWhole said run) → IsMergedOrder g.events.items order
     → r.processes ≡ run.processes → merged most run.processes (reverse order) ≡ Ok r.past → MergesWithin most text r g.torn.items

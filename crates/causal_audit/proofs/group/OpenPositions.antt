@@ -9,12 +9,6 @@ zero = record { position = 0; until = 0 }
 abbrev pub position : OpenDelivery → ℕ
 position delivery = delivery.position
 
--- what holds of the positions holds of each delivery's
-pub of_positions : (P : ℕ → Type 0) (opened : List OpenDelivery) → All P (positions_of opened) → All (λ delivery. P delivery.position) opened
-of_positions P [] all = All-nil (λ delivery. P (position delivery))
-of_positions P (delivery ∷ opened) all =
-    All-cons (λ w. P (position w)) delivery opened (All-head P delivery.position (positions_of opened) all) (of_positions P opened (All-tail P delivery.position (positions_of opened) all))
-
 -- what holds of a list holds of its first part
 pub all_left : {A : Type 0} (P : A → Type 0) (xs ys : List A) → All P (xs ++ ys) → All P xs
 all_left P [] ys all = All-nil P

@@ -120,16 +120,3 @@ is_subset_members n s t a b m k = (
   λ h p below passes. sym (k.member p below) ∙ is_subset-contains nat_cmp_total s t h p (m.member p below ∙ passes),
   λ h. contains-is_subset nat_cmp_total s t (λ p in_s. k.member p (m.process p in_s) ∙ h p (m.process p in_s) (sym (m.member p (m.process p in_s)) ∙ in_s)),
 )
-
--- the numbers below n that pass a test show it
-pub numbers_below_members : (n : ℕ) (a : ℕ → Bool) → HasMembers n (numbers_below n a) a
-numbers_below_members n a = record {
-  process = λ p h. (below_and_passing p n (a p) (sym (contains-numbers_below n a p) ∙ h)).0;
-  member = λ p below. contains-numbers_below n a p ∙ inside p n (a p) below;
-}
-  where
-    below_and_passing : (q m : ℕ) (b : Bool) → (nat_lt q m && b) ≡ true → (q < m) × (b ≡ true)
-    below_and_passing q m b h = (grind (arith, nat_tests), grind (arith, nat_tests))
-
-    inside : (q m : ℕ) (b : Bool) → q < m → (nat_lt q m && b) ≡ b
-    inside q m b h = grind (arith, nat_tests)

@@ -57,13 +57,3 @@ len_le (suc n) s t e h =
 -- a part has no more members
 pub len-is_subset : (s t : FinSet nat_cmp) → is_subset s t ≡ true → len s ≤ len t
 len-is_subset s t h = len_le (len s) s t refl h
-
--- of two tests the one holds and the other does not
-both_parts : (b c : Bool) → (b && not c) ≡ true → (b ≡ true) × (c ≡ false)
-both_parts true true h = absurd (true≢false (sym h))
-both_parts true false h = (refl, refl)
-both_parts false c h = absurd (true≢false (sym h))
-
--- a member of a difference is in the one and not in the other
-pub difference_member : (s t : FinSet nat_cmp) (p : ℕ) → contains (difference s t) p ≡ true → (contains s p ≡ true) × (contains t p ≡ false)
-difference_member s t p h = both_parts (contains s p) (contains t p) (sym (contains-difference nat_cmp_total s t p) ∙ h)
