@@ -1,5 +1,6 @@
 //! What a process knows of a determinant.
-ghost use Rattle.std.specs.Prelude.{◌≡◌};
+ghost use Rattle.std.specs.Prelude.{◌≡◌, ◌&&◌, not};
+ghost use Rattle.std.specs.FinSet as set;
 ghost use Rattle.causal_log.specs.Knowledge.{nothing_known, held_by, joined, as_stable, told, is_carried};
 ghost use Rattle.causal_log.specs.Inside.Carried.{both_hold};
 
@@ -56,6 +57,13 @@ impl Known {
             holders: self.holders,
             stable: true,
         }
+    }
+
+    /// Whether this tells nothing new of it.
+    pub(crate) fn has(&self, heard: &Known) -> bool
+        ensures { result ≡ (not heard.now.stable && set.is_subset heard.now.holders self.now.holders) }
+    {
+        !heard.stable && heard.holders.is_subset(self.holders)
     }
 
     pub(crate) fn is_carried(&self, f: u16) -> bool

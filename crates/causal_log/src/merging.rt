@@ -179,7 +179,8 @@ fn merged(alloc: Global, kept: &[Item], delivery: &Delivery<'_>) -> Result<Vec<I
     ensures { IfOk result (λ out. out.items ≡ chosen delivery.now.f (heard_of delivery.now)) }
 {
     let items = delivery.items;
-    let most = kept.len().saturating_add(items.len());
+    let more = if delivery.may_carry() { items.len() } else { 0 };
+    let most = kept.len().saturating_add(more);
     let mut out = Vec::with_capacity(alloc, most.saturating_add(1))?;
     if kept.is_empty() && !delivery.may_carry() {
         return Ok(out);

@@ -21,7 +21,7 @@ use causal_name::{Det, NoMemory, Pid, Slot};
 use std::alloc::Global;
 use std::marker::Model;
 
-/// Entries, with the heads that lead to them, of which there are no fewer than there is room for entries.
+/// Entries, with the heads that lead to them, of which there are twice as many as there is room for entries, or more.
 #[derive(Drop)]
 pub(crate) struct Table {
     entries: Vec<(Det, Known)>,
@@ -131,7 +131,7 @@ impl Table {
         let count = self.entries.capacity().min(u32::MAX as usize);
         let room = count - self.entries.len();
         self.index.older.reserve(room)?;
-        self.index.widen(self.entries.as_slice(), count)?;
+        self.index.widen(self.entries.as_slice(), 2 * count)?;
         self.room = room;
         Ok(())
     }
@@ -187,6 +187,8 @@ pub(crate) fn learn(entries: &mut Table, det: Det, heard: Known)
     ensures spare { entries.old.spare ≤ entries.new.spare + 1 }
 {
     match entries.find(det) {
+        // what is known already is not written: what is written goes all the way to memory
+        Some((_, known)) if known.has(&heard) => {}
         Some((place, _)) => entries.join(place, heard),
         None => entries.add(det, heard),
     }
