@@ -13,11 +13,11 @@ use Rattle.causal_log.proofs.Lemmas.ChosenLemmas.{chosen_ascend}
 use Rattle.causal_log.proofs.Lemmas.LogLists.{keys_logged, stable_ascends, stable_listed, unstable_ascends, unstable_listed, stable_and_unstable, unmarked_keys, get_marked, get_unmarked}
 use Rattle.causal_log.proofs.Lemmas.MessageItems.{carried_dets, carried_holders, left_out}
 use Rattle.causal_log.proofs.Lemmas.StoreSets.{count_list, listed, none_stored, set_push, sorted_list, stored, with_member, has_there, some_of}
-use Rattle.causal_log.proofs.MergeLemmas.{drop_ascends, named_at, next_after, part_and_rest, part_passed, unnamed_at}
+use Rattle.causal_log.proofs.MergeLemmas.{drop_ascends, named_at, next_after, part_and_rest, part_passed}
 use Rattle.causal_log.proofs.PlaceLemmas.{same_counted, same_learned, same_length, same_members}
 use Rattle.causal_log.proofs.TableLemmas.{none_distinct}
 
-pub ruleset of_batch = (named_at, unnamed_at, next_after, drop_ascends)
+pub ruleset of_batch = (named_at, next_after, drop_ascends)
 
 pub ruleset of_index = (length-keys_of)
 

@@ -138,6 +138,7 @@ pub(crate) fn next_of(kept: &[Item], place: usize, det: Det) -> Option<Item>
 }
 
 /// Whether one of ascending items is of a determinant.
+#[tactic(auto, using(crate::proofs::Rules::of_batch, crate::proofs::MergeLemmas::unnamed_at))]
 pub(crate) fn name(items: &[Item], det: Det) -> bool
     requires { is_ascending (dets_of items.now) ≡ true }
     ensures { result ≡ names_det det items.now }

@@ -21,11 +21,12 @@ const FEWEST_IF_CROWDED: usize = 4096;
 /// How far a turn is from the one before: far enough that what shared a head is spread over many.
 const TURN: u8 = 37;
 
-/// How many heads lie between the first ones of two receivers: an odd number, so that these fall on all of them.
-const APART: usize = 40_503;
+/// How far the first head of a receiver is from that of the next one: an odd number, so that these fall on all heads, and so few
+/// that who goes through the receivers in order goes through memory in order.
+const APART: usize = 19;
 
-/// The number of a slot's head, where the number of heads is a power of two. Eight slots of a receiver have heads beside each
-/// other, and the next eight come after a step that no other receiver makes in this turn: so those of two receivers meet now
+/// The number of a slot's head, where the number of heads is a power of two. Sixteen slots of a receiver have heads beside each
+/// other, and the next sixteen come after a step that no other receiver makes in this turn: so those of two receivers meet now
 /// and then, and not one after the other.
 #[tactic(auto, using(std::proofs::lemmas::Nat::and_le_r), unfolding(crate::specs::Inside::Indexes::head_of))]
 fn head_of(heads: usize, turn: u8, slot: Slot) -> usize
@@ -35,8 +36,8 @@ fn head_of(heads: usize, turn: u8, slot: Slot) -> usize
 {
     let dest = usize::from(slot.dest.0);
     let rsn = slot.rsn as usize;
-    let step = 8 * (2 * (dest + usize::from(turn)) + 1);
-    (rsn / 8 * step + rsn % 8 + dest * APART) & (heads - 1)
+    let step = 16 * (2 * (dest + usize::from(turn)) + 1);
+    (rsn / 16 * step + rsn % 16 + dest * APART) & (heads - 1)
 }
 
 /// Heads, a power of two of them, and of each entry the number of the next older one.
