@@ -5,7 +5,7 @@ use Rattle.std.proofs.lemmas.Map.Entries.{length-keys_of}
 use Rattle.std.proofs.lemmas.Result.{IfOk-weaker}
 use Rattle.std.specs.FinMap as fin
 use Rattle.causal_log.proofs.EntryLemmas.{own_entries}
-use Rattle.causal_log.proofs.IndexLemmas.{no_index, least_first}
+use Rattle.causal_log.proofs.IndexLemmas.{no_index, none_least, least_first}
 use Rattle.causal_log.proofs.KnownLemmas.{joined_nothing, told_both, told_out}
 use Rattle.causal_log.proofs.Lemmas.KnowledgeGrows.{absorbed_logged, absorbed_holders, absorbed_stable, absorbed_size, get_learned, size_one, united_logged, united_holders, united_stable, united_size}
 use Rattle.causal_log.proofs.Lemmas.Ascents.{map_ascends}
@@ -31,4 +31,4 @@ pub ruleset of_merging = (chosen_ascend, append_assoc, part_and_rest, part_passe
 
 pub ruleset of_store = (sorted_list, count_list, some_of, has_there, with_member, set_push, length-keys_of)
 
-pub ruleset of_table = (IfOk-weaker, own_entries, joined_nothing, drop_more, told_both, length_push, length-keys_of, none_distinct, no_index)
+pub ruleset of_table = (IfOk-weaker, own_entries, joined_nothing, drop_more, told_both, length_push, length-keys_of, none_distinct, no_index, none_least)

@@ -50,7 +50,7 @@ pub(crate) struct Index {
 }
 
 impl Index {
-    fn newest(&self, slot: Slot) -> u32
+    pub(crate) fn newest(&self, slot: Slot) -> u32
         ensures { result ≡ newest_of self.now.heads.items self.now.turn slot }
     {
         if self.heads.is_empty() {
@@ -79,6 +79,8 @@ impl Index {
         None
     }
 
+    /// Most slots have no head that leads anywhere, so that is asked in place, and this alone is called.
+    #[inline(never)]
     pub(crate) fn least_of_slot(&self, entries: &[(Det, Known)], slot: Slot) -> Option<Det>
         requires { IsIndexOf (keys_of entries.now) self.now }
         ensures { IsLeastOfSlot slot.dest slot.rsn (keys_of entries.now) result }

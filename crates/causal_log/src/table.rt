@@ -84,9 +84,13 @@ impl Table {
         self.find(det).is_some_and(|(_, known)| !known.stable)
     }
 
+    #[inline]
     pub(crate) fn least_of(&self, slot: Slot) -> Option<Det>
         ensures { IsLeastOfSlot slot.dest slot.rsn (keys_of self.now.entries) result }
     {
+        if self.index.newest(slot) == 0 {
+            return None;
+        }
         self.index.least_of_slot(self.entries.as_slice(), slot)
     }
 
