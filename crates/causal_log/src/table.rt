@@ -21,6 +21,10 @@ use causal_name::{Det, NoMemory, Pid, Slot};
 use std::alloc::Global;
 use std::marker::Model;
 
+/// From how many entries on a log takes heads for what it needs, and not for all that it has room for: so they are not led anew
+/// where the entries move, which would make one delivery long.
+const LARGE: usize = 4096;
+
 /// Entries, with the heads that lead to them, of which there are twice as many as there is room for entries, or more.
 #[derive(Drop)]
 pub(crate) struct Table {
@@ -132,11 +136,12 @@ impl Table {
             return Err(NoMemory);
         }
         self.entries.reserve(more)?;
+        let len = self.entries.len();
         let count = self.entries.capacity().min(u32::MAX as usize);
-        let room = count - self.entries.len();
-        self.index.older.reserve(room)?;
-        self.index.widen(self.entries.as_slice(), 2 * count)?;
-        self.room = room;
+        self.index.older.reserve(count - len)?;
+        let heads = if count < LARGE { 2 * count } else { 2 * (len + more) };
+        self.index.widen(self.entries.as_slice(), heads)?;
+        self.room = count.min(self.index.heads.len() / 2) - len;
         Ok(())
     }
 
