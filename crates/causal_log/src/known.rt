@@ -1,6 +1,5 @@
 //! What a process knows of a determinant.
-ghost use Rattle.std.specs.Prelude.{◌≡◌, ◌&&◌, not};
-ghost use Rattle.std.specs.FinSet as set;
+ghost use Rattle.std.specs.Prelude.{◌≡◌};
 ghost use Rattle.causal_log.specs.Knowledge.{nothing_known, held_by, joined, as_stable, told, is_carried};
 ghost use Rattle.causal_log.specs.Inside.Carried.{both_hold};
 
@@ -57,13 +56,6 @@ impl Known {
             holders: self.holders,
             stable: true,
         }
-    }
-
-    /// Whether this tells nothing new of it.
-    pub(crate) fn has(&self, heard: &Known) -> bool
-        ensures { result ≡ (not heard.now.stable && set.is_subset heard.now.holders self.now.holders) }
-    {
-        !heard.stable && heard.holders.is_subset(self.holders)
     }
 
     pub(crate) fn is_carried(&self, f: u16) -> bool

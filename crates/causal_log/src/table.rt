@@ -196,8 +196,6 @@ pub(crate) fn learn(entries: &mut Table, det: Det, heard: Known)
     ensures spare { entries.old.spare ≤ entries.new.spare + 1 }
 {
     match entries.find(det) {
-        // what is known already is not written: what is written goes all the way to memory
-        Some((_, known)) if known.has(&heard) => {}
         Some((place, _)) => entries.join(place, heard),
         None => entries.add(det, heard),
     }
