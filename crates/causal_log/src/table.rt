@@ -21,8 +21,7 @@ use causal_name::{Det, NoMemory, Pid, Slot};
 use std::alloc::Global;
 use std::marker::Model;
 
-/// From how many entries on a log takes heads for what it needs, and not for all that it has room for: so they are not led anew
-/// where the entries move, which would make one delivery long.
+/// From how many entries on a log's heads are led anew some time after its entries have moved, so that no delivery waits for both.
 const LARGE: usize = 4096;
 
 /// Entries, with the heads that lead to them, of which there are twice as many as there is room for entries, or more.
@@ -139,9 +138,11 @@ impl Table {
         let len = self.entries.len();
         let count = self.entries.capacity().min(u32::MAX as usize);
         self.index.older.reserve(count - len)?;
-        let heads = if count < LARGE { 2 * count } else { 2 * (len + more) };
+        let three_quarters = count / 4 * 3;
+        let is_early = count >= LARGE && len + more <= three_quarters;
+        let (end, heads) = if is_early { (three_quarters, count) } else { (count, 2 * count) };
         self.index.widen(self.entries.as_slice(), heads)?;
-        self.room = count.min(self.index.heads.len() / 2) - len;
+        self.room = end - len;
         Ok(())
     }
 
