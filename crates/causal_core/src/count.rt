@@ -47,9 +47,9 @@ fn count_new<S: Stable>(cells: &[Option<Cell>], store: &S, log: &Log) -> usize
     ensures value { result ≡ count_new (S.contents store.now) (memories_in cells.now) log.now.map }
     ensures few { result < 2 ^ 32 }
 {
-    let dets = log.unordered();
+    let entries = log.unordered();
     let mut count = 0;
-    for det in dets {
+    for (det, _) in entries {
         if is_new(cells, store, *det) {
             count += 1;
         }

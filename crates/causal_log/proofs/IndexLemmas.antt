@@ -7,7 +7,8 @@ use Rattle.std.specs.List.{list_any}
 use Rattle.causal_name.specs.declared.Det.{Det}
 use Rattle.causal_name.specs.Names.{same_det, slot_of, is_before, is_ascending}
 use Rattle.causal_name.proofs.Lemmas.DetOrder.{same_is, same_itself}
-use Rattle.causal_log.specs.Inside.Indexes.{head_of, newest_of, Leads, IsLed, IsIndex}
+use Rattle.causal_log.specs.declared.index.Index.{Index}
+use Rattle.causal_log.specs.Inside.Indexes.{head_of, newest_of, Leads, IsLed, IsIndex, IsIndexOf}
 use Rattle.std.proofs.lemmas.Bool.Decides.{nat_tests}
 use Rattle.std.proofs.lemmas.List.Folds.{list_any_at}
 use Rattle.std.specs.Option.{option_map_or}
@@ -191,6 +192,12 @@ module _ (dest : Pid) (rsn : ℕ) (ds : List Det) (older : List ℕ) (i : ℕ) (
 pub all_passed : (dest : Pid) (rsn : ℕ) (ds : List Det) (older : List ℕ) (least : Option Det) → HasPassed dest rsn ds older 0 least → IsLeastOfSlot dest rsn ds least
 all_passed dest rsn ds older None has = grind (arith, false_from_ne_true, stands)
 all_passed dest rsn ds older (Some d) has = grind (arith, stands)
+
+-- where the head of a slot leads nowhere, none of them fills it
+pub none_least : (dets : List Det) (index : Index) (slot : Slot) → IsIndexOf dets index → newest_of index.heads.items index.turn slot ≡ 0 → IsLeastOfSlot slot.dest slot.rsn dets None
+none_least dets index slot is none =
+    all_passed slot.dest slot.rsn dets index.older.items None
+    (subst (λ at. HasPassed slot.dest slot.rsn dets index.older.items at None) none (none_passed index.turn dets index.heads.items index.older.items slot is))
 
 -- the least of some determinants is the first in an ascending list of them
 pub least_first : (dest : Pid) (rsn : ℕ) (dets ds : List Det) (o : Option Det) → is_ascending ds ≡ true → ((q : Det) → list_any (same_det q) dets ≡ list_any (same_det q) ds)

@@ -336,6 +336,15 @@ drop_ascends xs n h = grind (arith, back, dets_append (take n xs) (drop n xs), t
 pub named_at : (xs : List Item) (n : ℕ) (x : Item) (det : Det) → slice_get xs n ≡ Some x → x.det ≡ det → names_det det xs ≡ true
 named_at xs n x det there same = grind (arith, take-append-drop n xs, drop_got xs n x there, list_any-append, or_right, same_itself det)
 
+-- one that comes after all items before a place and before all from it on is not
+pub unnamed_at : (xs : List Item) (n : ℕ) (det : Det) → is_ascending (dets_of (take n xs) ++ det ∷ []) ≡ true → is_ascending (det ∷ dets_of (drop n xs)) ≡ true → names_det det xs ≡ false
+unnamed_at xs n det before after =
+    sym (any_map (λ item. item.det) (same_det det) (λ item. same_det det item.det) (λ item. refl) xs)
+    ∙ ap (λ ys. list_any (same_det det) (dets_of ys)) (sym (take-append-drop n xs))
+    ∙ ap (list_any (same_det det)) (dets_append (take n xs) (drop n xs))
+    ∙ list_any-append (same_det det) (dets_of (take n xs)) (dets_of (drop n xs))
+    ∙ or_from (list_any (same_det det) (dets_of (take n xs))) (list_any (same_det det) (dets_of (drop n xs))) (none_front (dets_of (take n xs)) det before) (none_back det (dets_of (drop n xs)) after)
+
 -- what is put in where one was taken out stands between what came before it and after it
 pub in_its_place : (f : ℕ) (det : Det) (known : Known) (xs : List Item) (n : ℕ) → n ≤ length xs
     → with_carried f det known (take n (take n xs ++ drop (suc n) xs)) ++ drop n (take n xs ++ drop (suc n) xs) ≡ with_carried f det known (take n xs) ++ drop (n + 1) xs

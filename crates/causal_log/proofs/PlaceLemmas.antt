@@ -127,14 +127,20 @@ abbrev pub with_known : LogMap → Option Det → Option (Det × Known)
 with_known log None = None
 with_known log (Some d) = option_map (λ known. (d, known)) (fin.get log d)
 
+-- as many determinants pass a test as there are entries whose determinants do
+count_keys : (P : Det → Bool) (es : List (Det × Known)) → length (filter P (keys_of es)) ≡ length (filter (λ e. P e.0) es)
+count_keys P [] = refl
+count_keys P (e ∷ es) = grind (arith, count_keys P es)
+
 module _ (es : List (Det × Known)) (distinct : IsDistinct same_det (keys_of es)) where
   abbrev keys : List Det
   keys = keys_of (in_order es)
 
-  rank_order : (i : ℕ) (d : Det) → slice_get keys i ≡ Some d → length (filter (λ x. is_before x d) (keys_of es)) ≡ i
+  rank_order : (i : ℕ) (d : Det) → slice_get keys i ≡ Some d → length (filter (λ x. is_before x.0 d) es) ≡ i
   rank_order i d at =
       grind (
         arith,
+        count_keys (λ x. is_before x d) es,
         length-filter (λ x. is_before x d) (keys_of es),
         same_counted es distinct (λ x. is_before x d),
         length-filter (λ x. is_before x d) keys,
@@ -142,22 +148,22 @@ module _ (es : List (Det × Known)) (distinct : IsDistinct same_det (keys_of es)
       )
 
   -- the determinant that so many come before is the one at that place of the map
-  ranked_key : (n : ℕ) → find (λ d. has_rank (keys_of es) n d) (keys_of es) ≡ slice_get keys n
-  ranked_key n = by (find (λ d. has_rank (keys_of es) n d) (keys_of es)) refl (slice_get keys n) refl
+  ranked_key : (n : ℕ) → find (λ d. has_rank es n d) (keys_of es) ≡ slice_get keys n
+  ranked_key n = by (find (λ d. has_rank es n d) (keys_of es)) refl (slice_get keys n) refl
     where
-      by : (o : Option Det) → find (λ d. has_rank (keys_of es) n d) (keys_of es) ≡ o → (r : Option Det) → slice_get keys n ≡ r → o ≡ r
+      by : (o : Option Det) → find (λ d. has_rank es n d) (keys_of es) ≡ o → (r : Option Det) → slice_get keys n ≡ r → o ≡ r
       by None none None at = refl
       by None none (Some d) at =
           let there = same_members es d ∙ any_passes_from_place (same_det d) keys n d at (same_itself d) in
-          absurd (true≢false (sym (same_number (length (filter (λ x. is_before x d) (keys_of es))) n (rank_order n d at)) ∙ none_fits (λ x. has_rank (keys_of es) n x) (keys_of es) d none there))
+          absurd (true≢false (sym (same_number (length (filter (λ x. is_before x.0 d) es)) n (rank_order n d at)) ∙ none_fits (λ x. has_rank es n x) (keys_of es) d none there))
       by (Some d) found r at =
-          let two = first_fits (λ x. has_rank (keys_of es) n x) (keys_of es) d found in
+          let two = first_fits (λ x. has_rank es n x) (keys_of es) d found in
           let there = stands d keys (sym (same_members es d) ∙ two.1) in
-          let place = sym (rank_order there.0 d there.1) ∙ number_is (length (filter (λ x. is_before x d) (keys_of es))) n two.0 in
+          let place = sym (rank_order there.0 d there.1) ∙ number_is (length (filter (λ x. is_before x.0 d) es)) n two.0 in
           sym there.1 ∙ ap (slice_get keys) place ∙ at
 
   -- with what is known of it, it is the entry there
-  pub ranked_entry : (n : ℕ) → with_known (fin.from_entries es) (find (λ d. has_rank (keys_of es) n d) (keys_of es)) ≡ slice_get (in_order es) n
+  pub ranked_entry : (n : ℕ) → with_known (fin.from_entries es) (find (λ d. has_rank es n d) (keys_of es)) ≡ slice_get (in_order es) n
   ranked_entry n = ap (with_known (fin.from_entries es)) (ranked_key n ∙ slice_get-map (λ e. e.0) (in_order es) n) ∙ by (slice_get (in_order es) n) refl
     where
       by : (o : Option (Det × Known)) → slice_get (in_order es) n ≡ o → with_known (fin.from_entries es) (option_map (λ e. e.0) o) ≡ o

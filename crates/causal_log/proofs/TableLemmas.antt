@@ -1,9 +1,8 @@
 -- What a look-up finds after an entry was added, or the value of one was changed.
 use Rattle.std.proofs.Common.{ℕ, zero, suc, ◌≡◌, ◌∙◌, ◌+◌, ◌<◌, Bool, true, false, cond, get_or, List, [], ◌∷◌, ◌++◌, take, Some, None, is_some, unwrap_or, slice_get, set, length, true≢false, refl, sym, ap, subst, arith}
-use Rattle.std.proofs.lemmas.List.{get_or-map, map-append, take_more}
+use Rattle.std.proofs.lemmas.List.{map-append, map_more}
 use Rattle.std.proofs.lemmas.List.Edits.{insert_end}
 use Rattle.std.proofs.lemmas.Map.{lookup-insert, none_passes_from_lookup}
-use Rattle.std.proofs.lemmas.Map.Entries.{length-keys_of}
 use Rattle.std.proofs.lemmas.Map.Made.{is_some-lookup}
 use Rattle.std.proofs.lemmas.Option.{get_or_from_slice_get}
 use Rattle.std.specs.List.{AllByRecursion, IsDistinct, list_any}
@@ -50,13 +49,7 @@ module _ {V : Type 0} where
   pub lookup_missing : (es : List (Det × V)) (d : Det) → list_any (same_det d) (keys_of es) ≡ false → lookup (same_det d) es ≡ None
   lookup_missing es d h = grind (arith, is_some-lookup (same_det d) es)
 
-  -- what is read at the place of a determinant is its entry
-  pub read_entry : (es : List (Det × V)) (i : ℕ) (d : Det) (x : Det × V) → slice_get (keys_of es) i ≡ Some d → x ≡ get_or es i x → slice_get es i ≡ Some (d, x.1)
-  read_entry [] i d x at read = absurd (true≢false (sym (ap is_some at)))
-  read_entry (e ∷ es) zero d x at read = grind arith
-  read_entry (e ∷ es) (suc i) d x at read = read_entry es i d x at read
-
-  -- and its determinant, written back beside another value, leaves the keys
+  -- the determinant that is read at a place, written back beside another value, leaves the keys
   pub keys_read : (es : List (Det × V)) (i : ℕ) (x : Det × V) (v : V) → x ≡ get_or es i x → keys_of (set es i (x.0, v)) ≡ keys_of es
   keys_read [] i x v read = refl
   keys_read (e ∷ es) zero x v read = ap (λ y. y.0 ∷ keys_of es) read
@@ -71,20 +64,9 @@ pub none_distinct : IsDistinct same_det []
 unfolding IsDistinct
 none_distinct = tt
 
-module _ {V : Type 0} (es : List (Det × V)) (i : ℕ) (x : Det × V) (low : i < length es) (read : x ≡ get_or es i x) where
-  key : get_or (keys_of es) i x.0 ≡ x.0
-  key = get_or-map (λ e. e.0) es i x x.0 low ∙ ap (λ y. y.0) (sym read)
-
-  within : i < length (keys_of es)
-  within = subst (λ n. i < n) (sym (length-keys_of es)) low
-
-  -- the first i + 1 determinants are the first i and that of the entry at i
-  pub take_key : take (i + 1) (keys_of es) ≡ take i (keys_of es) ++ x.0 ∷ []
-  take_key = take_more (keys_of es) i x.0 within ∙ ap (λ d. take i (keys_of es) ++ d ∷ []) key
-
--- an index of the first i determinants, and one more of the slot of the next one, is an index of one further
-pub one_further : (ds : List Det) (i : ℕ) (z : Det) (slot : Slot) (index more : Index) → i < length ds → slot ≡ slot_of (get_or ds i z)
-    → ((d : Det) → slot_of d ≡ slot → (es : List Det) → IsIndexOf es index → IsIndexOf (es ++ d ∷ []) more)
-    → IsIndexOf (take i ds) index → IsIndexOf (take (i + 1) ds) more
-one_further ds i z slot index more low is adds known =
-    subst (λ es. IsIndexOf es more) (sym (take_more ds i z low)) (adds (get_or ds i z) (sym is) (take i ds) known)
+-- an index of the first i entries, and one more of the slot of the next one, is an index of one further
+pub one_further : {V : Type 0} (es : List (Det × V)) (i : ℕ) (x : Det × V) (slot : Slot) (index more : Index) → i < length es → x ≡ get_or es i x → slot ≡ slot_of x.0
+    → ((d : Det) → slot_of d ≡ slot → (ds : List Det) → IsIndexOf ds index → IsIndexOf (ds ++ d ∷ []) more)
+    → IsIndexOf (keys_of (take i es)) index → IsIndexOf (keys_of (take (i + 1) es)) more
+one_further es i x slot index more low read is adds known =
+    subst (λ ds. IsIndexOf ds more) (sym (map_more (λ e. e.0) es i x low ∙ ap (λ y. keys_of (take i es) ++ y.0 ∷ []) (sym read))) (adds x.0 (sym is) (keys_of (take i es)) known)

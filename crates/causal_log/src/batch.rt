@@ -136,3 +136,12 @@ pub(crate) fn next_of(kept: &[Item], place: usize, det: Det) -> Option<Item>
     let item = *kept.get(place)?;
     if item.det == det { Some(item) } else { None }
 }
+
+/// Whether one of ascending items is of a determinant.
+#[tactic(auto, using(crate::proofs::Rules::of_batch, crate::proofs::MergeLemmas::unnamed_at))]
+pub(crate) fn name(items: &[Item], det: Det) -> bool
+    requires { is_ascending (dets_of items.now) ≡ true }
+    ensures { result ≡ names_det det items.now }
+{
+    next_of(items, place_of(items, det), det).is_some()
+}

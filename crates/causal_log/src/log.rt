@@ -2,6 +2,7 @@
 #![tactic(auto, using(crate::proofs::Rules::of_log))]
 
 ghost use Rattle.std.specs.Prelude.{◌≡◌, ◌↔◌, ◌<◌, ◌≤◌, ◌+◌, ◌^◌, IsTrue, IsSome, IsOk, true, IfOk, OnOk, OnErr, length, slice_get};
+ghost use Rattle.std.specs.Map.{keys_of};
 ghost use Rattle.std.specs.FinMap as fin;
 ghost use Rattle.std.specs.Arc.{arc_value};
 ghost use Rattle.std.specs.Option.{option_map};
@@ -86,7 +87,7 @@ impl Log {
         if self.sorted {
             return self.entries.entries().get(i as usize).copied();
         }
-        let det = ranked(self.entries.dets(), i)?;
+        let det = ranked(self.entries.entries(), i)?;
         self.known(det).map(|known| (det, known))
     }
 
@@ -101,12 +102,13 @@ impl Log {
         dets(alloc, sorted.as_slice())
     }
 
-    /// The determinants, each once, in no order that is promised. It takes neither memory nor time.
-    pub fn unordered(&self) -> &[Det]
-        ensures counted { HaveSame result.now (fin.keys self.now.map) }
+    /// The entries, one of each determinant, in no order that is promised. It takes neither memory nor time.
+    pub fn unordered(&self) -> &[(Det, Known)]
+        ensures entries { log_of result.now ≡ self.now.map }
+        ensures counted { HaveSame (keys_of result.now) (fin.keys self.now.map) }
         ensures few { length result.now < 2 ^ 32 }
     {
-        self.entries.dets()
+        self.entries.entries()
     }
 
     /// A copy. Its only error is want of memory.

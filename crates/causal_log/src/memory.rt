@@ -6,7 +6,7 @@ ghost use Rattle.std.specs.FinMap as fin;
 
 use crate::known::Known;
 use crate::stable::{PutFault, Stable};
-use crate::table::Table;
+use crate::table::{Table, dets};
 use causal_name::{Det, NoMemory, Slot};
 use std::alloc::Global;
 use std::marker::Model;
@@ -64,11 +64,11 @@ impl Stable for MemStable {
     }
 
     fn len(&self) -> u64 {
-        self.members.dets().len() as u64
+        self.members.entries().len() as u64
     }
 
     fn all(&self, alloc: Global) -> Result<Vec<Det>, NoMemory> {
-        let mut dets = Vec::from_slice(alloc, self.members.dets())?;
+        let mut dets = dets(alloc, self.members.entries())?;
         dets.sort()?;
         Ok(dets)
     }

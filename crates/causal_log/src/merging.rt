@@ -11,11 +11,11 @@ ghost use Rattle.causal_name.specs.declared.Det.{Det};
 ghost use Rattle.causal_name.specs.Names.{is_ascending, is_before, same_det};
 ghost use Rattle.causal_log.specs.declared.batch.Item.{Item};
 ghost use Rattle.causal_log.specs.Knowledge.{told, is_carried};
-ghost use Rattle.causal_log.specs.Logs.{LogMap, log_of, chosen, dets_of, names_det, EndBefore};
+ghost use Rattle.causal_log.specs.Logs.{LogMap, log_of, chosen, dets_of, EndBefore};
 ghost use Rattle.causal_log.specs.Inside.Carried.{both_hold, with_carried, HearsNext};
 ghost use Rattle.causal_log.specs.Inside.Merges.{IsPassed, are_known_to_hold, source_of, heard_of, taken};
 
-use crate::batch::{Batch, Item, next_of, place_of};
+use crate::batch::{Batch, Item, name, next_of, place_of};
 use crate::known::{Known, told};
 use crate::table::Table;
 use causal_holders::Holders;
@@ -125,12 +125,6 @@ fn carry(out: &mut Vec<Item>, det: Det, known: Known, f: u16) -> Result<(), NoMe
     Ok(())
 }
 
-fn name(items: &[Item], det: Det) -> bool
-    ensures { result ≡ names_det det items.now }
-{
-    items.iter().any(|item| det == item.det)
-}
-
 fn is_logged(entries: &Table, det: Det) -> bool
     ensures { result ≡ is_some (fin.get (log_of entries.now.entries) det) }
 {
@@ -179,7 +173,8 @@ fn merged(alloc: Global, kept: &[Item], delivery: &Delivery<'_>) -> Result<Vec<I
     ensures { IfOk result (λ out. out.items ≡ chosen delivery.now.f (heard_of delivery.now)) }
 {
     let items = delivery.items;
-    let most = kept.len().saturating_add(items.len());
+    let more = if delivery.may_carry() { items.len() } else { 0 };
+    let most = kept.len().saturating_add(more);
     let mut out = Vec::with_capacity(alloc, most.saturating_add(1))?;
     if kept.is_empty() && !delivery.may_carry() {
         return Ok(out);
@@ -215,7 +210,8 @@ fn carry_at(
 
 /// Takes the own determinant in too, which its receiver alone holds.
 fn take_own(out: &mut Vec<Item>, delivery: &Delivery<'_>) -> Result<(), NoMemory>
-    requires { out.old.items ≡ chosen delivery.now.f (heard_of delivery.now) }
+    requires heard { out.old.items ≡ chosen delivery.now.f (heard_of delivery.now) }
+    requires ascending { is_ascending (dets_of delivery.now.items.now) ≡ true }
     ensures { OnOk result (out.new.items ≡ chosen delivery.now.f (taken delivery.now)) }
 {
     let det = delivery.own;

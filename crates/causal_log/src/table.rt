@@ -12,7 +12,6 @@ ghost use Rattle.causal_log.specs.declared.known.Known.{Known};
 ghost use Rattle.causal_log.specs.Knowledge.{joined, is_carried};
 ghost use Rattle.causal_log.specs.Logs.{log_of, item_of, chosen, learned, absorbed, learned_all};
 ghost use Rattle.causal_log.specs.Inside.Carried.{is_open};
-ghost use Rattle.causal_log.specs.Inside.Indexes.{IsIndexOf};
 ghost use Rattle.causal_log.specs.Inside.Ranks.{IsLeastOfSlot, has_rank};
 
 use crate::batch::Item;
@@ -22,12 +21,13 @@ use causal_name::{Det, NoMemory, Pid, Slot};
 use std::alloc::Global;
 use std::marker::Model;
 
-/// Entries, with the heads that lead to them, of which there are no fewer than there is room for entries.
+/// From how many entries on a log's heads are led anew some time after its entries have moved, so that no delivery waits for both.
+const LARGE: usize = 4096;
+
+/// Entries, with the heads that lead to them, of which there are twice as many as there is room for entries, or more.
 #[derive(Drop)]
 pub(crate) struct Table {
     entries: Vec<(Det, Known)>,
-    /// The determinants of the entries.
-    dets: Vec<Det>,
     index: Index,
     /// For how many more there is room.
     room: usize,
@@ -44,7 +44,7 @@ impl Model for Table {
 
     ghost view = { λ t. record { entries = t.entries.items; spare = t.room } };
 
-    ghost invariant = { λ t. IsTable t.dets.items (keys_of t.entries.items) t.index t.room (vec_capacity t.dets) (vec_capacity t.entries) };
+    ghost invariant = { λ t. IsTable (keys_of t.entries.items) t.index t.room (vec_capacity t.entries) };
 }
 
 impl Table {
@@ -53,7 +53,6 @@ impl Table {
     {
         Table {
             entries: Vec::new(alloc),
-            dets: Vec::new(alloc),
             index: Index {
                 heads: Vec::new(alloc),
                 older: Vec::new(alloc),
@@ -71,14 +70,6 @@ impl Table {
         self.entries.as_slice()
     }
 
-    pub(crate) fn dets(&self) -> &[Det]
-        ensures dets { result.now ≡ keys_of self.now.entries }
-        ensures distinct { IsDistinct same_det (keys_of self.now.entries) }
-        ensures few { length self.now.entries < 2 ^ 32 }
-    {
-        self.dets.as_slice()
-    }
-
     /// The place of a determinant's entry, and what is known of it.
     pub(crate) fn find(&self, det: Det) -> Option<(usize, Known)>
         ensures known { option_map (λ found. found.1) result ≡
@@ -87,8 +78,7 @@ impl Table {
             Some (det, found.1)) }
         ensures within { IfSome result (λ found. found.0 < length self.now.entries) }
     {
-        let place = self.index.search(self.dets.as_slice(), det)?;
-        Some((place, self.entries[place].1))
+        self.index.search(self.entries.as_slice(), det)
     }
 
     pub(crate) fn is_open(&self, det: Det) -> bool
@@ -97,10 +87,14 @@ impl Table {
         self.find(det).is_some_and(|(_, known)| !known.stable)
     }
 
+    #[inline]
     pub(crate) fn least_of(&self, slot: Slot) -> Option<Det>
         ensures { IsLeastOfSlot slot.dest slot.rsn (keys_of self.now.entries) result }
     {
-        self.index.least_of_slot(self.dets.as_slice(), slot)
+        if self.index.newest(slot) == 0 {
+            return None;
+        }
+        self.index.least_of_slot(self.entries.as_slice(), slot)
     }
 
     pub(crate) fn join(&mut self, place: usize, heard: Known)
@@ -123,7 +117,6 @@ impl Table {
         ensures spare { self.old.spare ≡ self.new.spare + 1 }
     {
         self.index.link(det.slot());
-        self.dets.push_reserved(det);
         self.entries.push_reserved((det, known));
         self.room -= 1;
     }
@@ -141,13 +134,15 @@ impl Table {
         if more > u32::MAX as usize - self.entries.len() {
             return Err(NoMemory);
         }
-        self.dets.reserve(more)?;
-        let room = self.dets.capacity().min(u32::MAX as usize) - self.dets.len();
-        self.entries.reserve(room)?;
-        self.index.older.reserve(room)?;
-        let count = self.dets.capacity();
-        self.index.widen(self.dets.as_slice(), count)?;
-        self.room = room;
+        self.entries.reserve(more)?;
+        let len = self.entries.len();
+        let count = self.entries.capacity().min(u32::MAX as usize);
+        self.index.older.reserve(count - len)?;
+        let three_quarters = count / 4 * 3;
+        let is_early = count >= LARGE && len + more <= three_quarters;
+        let (end, heads) = if is_early { (three_quarters, count) } else { (count, 2 * count) };
+        self.index.widen(self.entries.as_slice(), heads)?;
+        self.room = end - len;
         Ok(())
     }
 
@@ -158,7 +153,6 @@ impl Table {
         let alloc = *self.entries.allocator();
         Ok(Table {
             entries: Vec::from_slice(alloc, self.entries.as_slice())?,
-            dets: Vec::from_slice(alloc, self.dets.as_slice())?,
             index: Index {
                 heads: Vec::from_slice(alloc, self.index.heads.as_slice())?,
                 older: Vec::from_slice(alloc, self.index.older.as_slice())?,
@@ -180,8 +174,7 @@ impl Table {
                 ensures { result ≡ not entry.now.1.stable }
             { !entry.1.stable },
         );
-        let entries = self.entries.as_slice();
-        list(entries, &mut self.dets, &mut self.index);
+        self.index.lead(self.entries.as_slice());
         (before - self.entries.len()) as u32
     }
 
@@ -192,29 +185,9 @@ impl Table {
         ensures err { OnErr result (self.new.entries ≡ self.old.entries) }
     {
         sort(&mut self.entries)?;
-        let entries = self.entries.as_slice();
-        list(entries, &mut self.dets, &mut self.index);
+        self.index.lead(self.entries.as_slice());
         Ok(())
     }
-}
-
-/// Lists the determinants of some entries anew, and leads heads to them, in room that there is.
-fn list(entries: &[(Det, Known)], dets: &mut Vec<Det>, index: &mut Index)
-    requires some { 0 < length entries.now → 0 < vec_len index.old.heads }
-    requires few { length entries.now < 2 ^ 32 }
-    requires dets_room { length entries.now ≤ vec_capacity dets.old }
-    requires room { length entries.now ≤ vec_capacity index.old.older }
-    ensures dets { dets.new.items ≡ keys_of entries.now }
-    ensures index { IsIndexOf dets.new.items index.new }
-    ensures len { vec_len index.new.heads ≡ vec_len index.old.heads }
-    ensures dets_capacity { vec_capacity dets.old ≤ vec_capacity dets.new }
-    ensures capacity { vec_capacity index.old.older ≤ vec_capacity index.new.older }
-{
-    dets.clear();
-    for (det, _) in entries {
-        dets.push_reserved(*det);
-    }
-    index.lead(dets.as_slice());
 }
 
 /// Learns something of one determinant. It takes no memory: where the determinant is not logged, there is room.
@@ -340,18 +313,18 @@ pub(crate) fn sort(entries: &mut Vec<(Det, Known)>) -> Result<(), NoMemory>
     Ok(())
 }
 
-fn rank(dets: &[Det], det: &Det) -> usize
-    ensures { result ≡ length (filter (λ d. is_before d det.now) dets.now) }
+fn rank(entries: &[(Det, Known)], det: &Det) -> usize
+    ensures { result ≡ length (filter (λ e. is_before e.0 det.now) entries.now) }
 {
-    dets.iter().filter(|each| each.comes_before(det)).count()
+    entries.iter().filter(|(each, _)| each.comes_before(det)).count()
 }
 
 /// The determinant that so many come before.
-pub(crate) fn ranked(dets: &[Det], place: u32) -> Option<Det>
-    ensures { result ≡ find (λ d. has_rank dets.now place d) dets.now }
+pub(crate) fn ranked(entries: &[(Det, Known)], place: u32) -> Option<Det>
+    ensures { result ≡ find (λ d. has_rank entries.now place d) (keys_of entries.now) }
 {
-    for det in dets {
-        if rank(dets, det) == place as usize {
+    for (det, _) in entries {
+        if rank(entries, det) == place as usize {
             return Some(*det);
         }
     }

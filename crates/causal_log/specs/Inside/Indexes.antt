@@ -6,11 +6,11 @@ use Rattle.causal_name.specs.declared.Slot.{Slot}
 use Rattle.causal_name.specs.Names.{slot_of}
 use Rattle.causal_log.specs.declared.index.Index.{Index}
 
--- the head of a slot, of so many heads: eight slots of a receiver have heads beside each other, and each receiver has a step of
--- its own to the next eight, another one in each turn
+-- the head of a slot, of so many heads: sixteen slots of a receiver have heads beside each other, and each receiver has a step of
+-- its own to the next sixteen, another one in each turn
 unfoldable pub head_of : ℕ → ℕ → Slot → ℕ
 head_of heads turn slot =
-    bit_and (slot.rsn / 8 * (8 * (2 * (slot.dest.0 + turn) + 1)) + slot.rsn % 8 + slot.dest.0 * 40503) (heads - 1)
+    bit_and (slot.rsn / 16 * (16 * (2 * (slot.dest.0 + turn) + 1)) + slot.rsn % 16 + slot.dest.0 * 19) (heads - 1)
 
 -- the number of the newest entry that the head of a slot leads to
 abbrev pub newest_of : List ℕ → ℕ → Slot → ℕ

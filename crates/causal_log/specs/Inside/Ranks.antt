@@ -4,6 +4,7 @@ use Rattle.std.specs.List.{list_any}
 use Rattle.causal_name.specs.declared.Det.{Det}
 use Rattle.causal_name.specs.declared.Pid.{Pid}
 use Rattle.causal_name.specs.Names.{same_det, is_before}
+use Rattle.causal_log.specs.declared.known.Known.{Known}
 use Rattle.causal_log.specs.Slots.{is_of_slot}
 
 -- whether a determinant is one of some
@@ -17,6 +18,6 @@ IsLeastOfSlot dest rsn dets (Some d) =
     (is_of_slot dest rsn d ≡ true) × IsAmong d dets
     × ((q : Det) → IsAmong q dets → is_of_slot dest rsn q ≡ true → (d ≡ q) ⊎ (is_before d q ≡ true))
 
--- whether so many of some determinants come before one
-abbrev pub has_rank : List Det → ℕ → Det → Bool
-has_rank dets n det = length (filter (λ d. is_before d det) dets) == n
+-- whether the determinants of so many entries come before one
+abbrev pub has_rank : List (Det × Known) → ℕ → Det → Bool
+has_rank entries n det = length (filter (λ e. is_before e.0 det) entries) == n

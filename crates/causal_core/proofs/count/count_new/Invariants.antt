@@ -6,6 +6,6 @@ use Rattle.causal_core.proofs.count.count_new.Given as goal
 
 abbrev pub invariant-loop-det : goal.invariant-loop-det
 invariant-loop-det g l = record {
-  value : l.count ≡ count_by (λ d. not (has (g.S.Stable.contents l.store) d || is_logged (memories_in l.cells) d)) (take l.det-index l.dets);
+  value : l.count ≡ count_by (λ e. not (has (g.S.Stable.contents l.store) e.0 || is_logged (memories_in l.cells) e.0)) (take l.det-index l.entries);
   few : l.count ≤ l.det-index;
 }

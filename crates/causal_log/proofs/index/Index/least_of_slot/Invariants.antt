@@ -1,11 +1,12 @@
 use Rattle.std.proofs.Common.{◌≤◌, length}
+use Rattle.std.specs.Map.{keys_of}
 use Rattle.causal_log.proofs.IndexLemmas.{HasPassed}
 use Rattle.causal_log.proofs.index.Index.least_of_slot.Given as goal
 
 abbrev pub invariant-loop-number : goal.invariant-loop-number
 invariant-loop-number l = record {
-  inside : l.number ≤ length l.dets;
-  passed : HasPassed l.slot.dest l.slot.rsn l.dets l.self.older.items l.number l.least;
+  inside : l.number ≤ length l.entries;
+  passed : HasPassed l.slot.dest l.slot.rsn (keys_of l.entries) l.self.older.items l.number l.least;
 }
 
 -- each entry leads to an older one

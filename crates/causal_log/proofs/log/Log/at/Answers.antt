@@ -15,15 +15,15 @@ use Rattle.causal_log.proofs.PlaceLemmas.{ranked_entry, with_known}
 use Rattle.causal_log.proofs.log.Log.at.Goals as goal
 
 -- what the rank finds, with what is known of it
-shown : (es : List (Det × Known)) → IsDistinct same_det (keys_of es) → (i : ℕ) (ds : List Det) → ds ≡ keys_of es → (o : Option Det) → o ≡ find (λ d. has_rank ds i d) ds
+shown : (es fs : List (Det × Known)) → IsDistinct same_det (keys_of es) → (i : ℕ) → fs ≡ es → (o : Option Det) → o ≡ find (λ d. has_rank fs i d) (keys_of fs)
     → with_known (log_of es) o ≡ slice_get (fin.entries (log_of es)) i
-shown es distinct i ds are o is = ap (with_known (log_of es)) (is ∙ (λ j. find (λ d. has_rank (are j) i d) (are j))) ∙ ranked_entry es distinct i
+shown es fs distinct i are o is = ap (with_known (log_of es)) (is ∙ (λ j. find (λ d. has_rank (are j) i d) (keys_of (are j)))) ∙ ranked_entry es distinct i
 
 pub returns : goal.returns
-returns c = grind (arith, shown c.self.inside.entries.entries c.dets.ensures.distinct c.args.i c.dets.result.now c.dets.ensures.dets c.ranked.result c.ranked.ensures)
+returns c = grind (arith, shown c.self.inside.entries.entries c.entries-2.result.now c.entries-2.ensures.distinct c.args.i c.entries-2.ensures.entries c.ranked.result c.ranked.ensures)
 
 pub returns-in_err-det : goal.returns-in_err-det
-returns-in_err-det c = grind (arith, shown c.self.inside.entries.entries c.dets.ensures.distinct c.args.i c.dets.result.now c.dets.ensures.dets c.ranked.result c.ranked.ensures)
+returns-in_err-det c = grind (arith, shown c.self.inside.entries.entries c.entries-2.result.now c.entries-2.ensures.distinct c.args.i c.entries-2.ensures.entries c.ranked.result c.ranked.ensures)
 
 -- what a reference to an element leads to
 got : {X : Type 0} (xs : List X) (i : ℕ) (r : Option (Bor X)) → IsItemAt xs i r → option_copied r ≡ slice_get xs i

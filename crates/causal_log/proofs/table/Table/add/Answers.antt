@@ -1,9 +1,9 @@
-use Rattle.std.proofs.Common.{◌≡◌, ◌∙◌, ◌++◌, ◌∷◌, [], None, is_some, length, ap, sym, subst, arith}
+use Rattle.std.proofs.Common.{◌≡◌, ◌∙◌, None, is_some, length, ap, sym, subst, arith}
 use Rattle.std.proofs.lemmas.List.{length_push}
 use Rattle.std.proofs.lemmas.Map.Keys.{IsDistinct-push}
 use Rattle.std.proofs.lemmas.Map.Made.{is_some-lookup}
 use Rattle.std.specs.FinMap as fin
-use Rattle.std.specs.List.{IsDistinct, list_any}
+use Rattle.std.specs.List.{IsDistinct}
 use Rattle.std.specs.Map.{lookup, keys_of}
 use Rattle.causal_name.specs.Names.{same_det}
 use Rattle.causal_log.specs.Logs.{log_of}
@@ -14,22 +14,18 @@ use Rattle.causal_log.proofs.table.Table.add.Goals as goal
 
 pub invariant_of-self : goal.invariant_of-self
 invariant_of-self c =
-    let before = c.self.inside in
-    let es = before.entries.items in
-    let dets = c.push_reserved.ensures.items in
-    let len = ap length dets ∙ length_push before.dets.items c.args.det in
+    let es = c.self.inside.entries.items in
+    let dets = ap keys_of c.push_reserved.ensures.items ∙ keys_push es c.args.det c.args.known in
+    let len = ap length dets ∙ length_push (keys_of es) c.args.det in
     let room = ap (λ t. t.spare) c.self.view_is in
     let none : lookup (same_det c.args.det) es ≡ None = sym (get_log es c.args.det) ∙ ap (λ t. fin.get (log_of t.entries) c.args.det) c.self.view_is ∙ c.requires.new in
     record {
-      keys = dets ∙ ap (λ ds. ds ++ c.args.det ∷ []) c.self.invariant.keys ∙ sym (ap keys_of c.push_reserved-2.ensures.items ∙ keys_push es c.args.det c.args.known);
       distinct =
           subst (IsDistinct same_det) (sym dets)
-          (IsDistinct-push det_equiv before.dets.items c.args.det c.self.invariant.distinct
-          (ap (list_any (same_det c.args.det)) c.self.invariant.keys ∙ sym (is_some-lookup (same_det c.args.det) es) ∙ ap is_some none));
-      indexed = subst (λ ds. IsIndexOf ds c.link.new.self) (sym dets) (c.link.ensures.index c.args.det (sym c.slot.ensures) before.dets.items c.self.invariant.indexed);
+          (IsDistinct-push det_equiv (keys_of es) c.args.det c.self.invariant.distinct (sym (is_some-lookup (same_det c.args.det) es) ∙ ap is_some none));
+      indexed = subst (λ ds. IsIndexOf ds c.link.new.self) (sym dets) (c.link.ensures.index c.args.det (sym c.slot.ensures) (keys_of es) c.self.invariant.indexed);
       few = omega (arith, len, room, c.requires.room, c.self.invariant.few);
-      dets_fit = omega (arith, len, room, c.requires.room, c.self.invariant.dets_fit, c.push_reserved.ensures.capacity);
-      entries_fit = omega (arith, len, room, c.requires.room, c.self.invariant.entries_fit, c.push_reserved-2.ensures.capacity);
+      entries_fit = omega (arith, len, room, c.requires.room, c.self.invariant.entries_fit, c.push_reserved.ensures.capacity);
       older_fit = omega (arith, len, room, c.requires.room, c.self.invariant.older_fit, c.link.ensures.capacity);
       heads_fit = omega (arith, len, room, c.requires.room, c.self.invariant.heads_fit, c.link.ensures.len);
     }
