@@ -125,7 +125,10 @@ fn stagger(cell: &mut Cell, q: Pid) -> Result<(), NoMemory>
     let room = 13 + (u32::from(q.0) * 7 + 5) % 16;
     match cell.received.len() {
         4 => cell.log.reserve(room),
-        8 => Ok(cell.sent.reserve_exact(room as usize)?),
+        8 => {
+            cell.received.reserve_exact(room as usize)?;
+            Ok(cell.sent.reserve_exact(room as usize)?)
+        }
         _ => Ok(()),
     }
 }

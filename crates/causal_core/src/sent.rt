@@ -120,6 +120,7 @@ impl Sent {
         ensures bodies { self.new.bodies ≡ self.old.bodies }
     {
         self.messages.reserve_exact(more)?;
+        self.batches.reserve_exact(more)?;
         Ok(())
     }
 
