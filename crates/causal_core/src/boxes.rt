@@ -22,9 +22,7 @@ fn step_slot(
     ensures err { OnErr result (AnswersAlike (box_answers answers) slot.old slot.new) }
     ensures kept { is_some slot.new ≡ is_some slot.old }
 {
-    let Some(process) = slot else {
-        unreachable!()
-    };
+    let Some(process) = slot else { unreachable!() };
     process.step(alloc, input)
 }
 

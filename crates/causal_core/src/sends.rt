@@ -23,7 +23,8 @@ pub(crate) fn append_sends(trace: &mut Trace, cell: &mut Cell, q: Pid, sends: Ve
     requires fit { Fits trace.old.recording.past q.0 (memory_of cell.old) }
     requires few { length sends.items ≤ 8 }
     requires ascending { is_ascending (dets_of cell.old.sent.batch) ≡ true }
-    requires delivered { are_delivered trace.old.recording.past (dets_of cell.old.sent.batch) ≡ true }
+    requires delivered { are_delivered trace.old.recording.past
+        (dets_of cell.old.sent.batch) ≡ true }
     requires spare { 8 ≤ trace.old.spare }
     requires room { 8 ≤ cell.old.sent.spare }
     requires short { length trace.old.recording.past + 8 ≤ max_entries }
@@ -58,7 +59,8 @@ fn send(trace: &mut Trace, cell: &mut Cell, q: Pid, outgoing: Outgoing)
     requires room { 1 ≤ cell.old.sent.spare }
     requires short { length trace.old.recording.past < max_entries }
     requires ascending { is_ascending (dets_of cell.old.sent.batch) ≡ true }
-    requires delivered { are_delivered trace.old.recording.past (dets_of cell.old.sent.batch) ≡ true }
+    requires delivered { are_delivered trace.old.recording.past
+        (dets_of cell.old.sent.batch) ≡ true }
     ensures recording { trace.new.recording
         ≡ with_send trace.old.recording q outgoing.to (memory_of cell.old) }
     ensures formed { IsWellFormed trace.new.recording }

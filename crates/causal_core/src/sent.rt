@@ -157,7 +157,8 @@ impl Sent {
     /// One more message of the present step, in room that there is.
     pub(crate) fn push(&mut self, to: Pid, send: u32, body: Body)
         requires { 1 ≤ self.old.spare }
-        ensures kept { self.new.kept ≡ self.old.kept ++ record { to = to; send = send; batch = self.old.batch } ∷ [] }
+        ensures kept { self.new.kept
+            ≡ self.old.kept ++ record { to = to; send = send; batch = self.old.batch } ∷ [] }
         ensures bodies { self.new.bodies ≡ self.old.bodies ++ body ∷ [] }
         ensures batch { self.new.batch ≡ self.old.batch }
         ensures spare { self.old.spare ≤ self.new.spare + 1 }

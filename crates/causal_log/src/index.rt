@@ -62,7 +62,8 @@ impl Index {
     /// The place of a determinant's entry, and what is known of it.
     pub(crate) fn search(&self, entries: &[(Det, Known)], det: Det) -> Option<(usize, Known)>
         requires { IsIndexOf (keys_of entries.now) self.now }
-        ensures place { IfSome result (λ found. slice_get entries.now found.0 ≡ Some (det, found.1)) }
+        ensures place { IfSome result
+            (λ found. slice_get entries.now found.0 ≡ Some (det, found.1)) }
         ensures within { IfSome result (λ found. found.0 < length entries.now) }
         ensures absent { IsNone result → list_any (same_det det) (keys_of entries.now) ≡ false }
     {

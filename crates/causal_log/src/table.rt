@@ -140,7 +140,11 @@ impl Table {
         self.index.older.reserve(count - len)?;
         let three_quarters = count / 4 * 3;
         let is_early = count >= LARGE && len + more <= three_quarters;
-        let (end, heads) = if is_early { (three_quarters, count) } else { (count, 2 * count) };
+        let (end, heads) = if is_early {
+            (three_quarters, count)
+        } else {
+            (count, 2 * count)
+        };
         self.index.widen(self.entries.as_slice(), heads)?;
         self.room = end - len;
         Ok(())
@@ -316,7 +320,10 @@ pub(crate) fn sort(entries: &mut Vec<(Det, Known)>) -> Result<(), NoMemory>
 fn rank(entries: &[(Det, Known)], det: &Det) -> usize
     ensures { result ≡ length (filter (λ e. is_before e.0 det.now) entries.now) }
 {
-    entries.iter().filter(|(each, _)| each.comes_before(det)).count()
+    entries
+        .iter()
+        .filter(|(each, _)| each.comes_before(det))
+        .count()
 }
 
 /// The determinant that so many come before.
