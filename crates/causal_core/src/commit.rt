@@ -116,7 +116,7 @@ pub(crate) fn commit_at(
     commit(trace, cell, q, f, grown, sends)
 }
 
-/// Makes room for more than a delivery needs, once for determinants and once for messages, and not for as much in each process.
+/// Makes room for more than a delivery needs, once for determinants and once for the rest, and not for as much in each process.
 /// Rooms double from then on, and not all at once, even where all processes have delivered as much.
 fn stagger(cell: &mut Cell, q: Pid) -> Result<(), NoMemory>
     ensures memory { memory_of cell.new ≡ memory_of cell.old }

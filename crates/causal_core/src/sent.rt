@@ -114,7 +114,7 @@ impl Sent {
         Ok(())
     }
 
-    /// Room for just so many more messages.
+    /// Room for just so many more messages, each in a step of its own.
     pub(crate) fn reserve_exact(&mut self, more: usize) -> Result<(), NoMemory>
         ensures kept { self.new.kept ≡ self.old.kept }
         ensures bodies { self.new.bodies ≡ self.old.bodies }

@@ -21,7 +21,7 @@ const FEWEST_IF_CROWDED: usize = 4096;
 /// How far a turn is from the one before: far enough that what shared a head is spread over many.
 const TURN: u8 = 37;
 
-/// How far the first head of a receiver is from that of the next one: an odd number, so that these fall on all heads, and so few
+/// How far the first head of a receiver is from that of the next one: an odd number, so that these fall on all heads, and so small
 /// that who goes through the receivers in order goes through memory in order.
 const APART: usize = 19;
 

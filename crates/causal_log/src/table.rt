@@ -24,7 +24,7 @@ use std::marker::Model;
 /// From how many entries on a log's heads are led anew some time after its entries have moved, so that no delivery waits for both.
 const LARGE: usize = 4096;
 
-/// Entries, with the heads that lead to them, of which there are twice as many as there is room for entries, or more.
+/// Entries, with the heads that lead to them, of which there are no fewer than there is room for entries, and mostly twice as many.
 #[derive(Drop)]
 pub(crate) struct Table {
     entries: Vec<(Det, Known)>,
