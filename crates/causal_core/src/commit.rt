@@ -126,7 +126,7 @@ fn stagger(cell: &mut Cell, q: Pid) -> Result<(), NoMemory>
     match cell.received.len() {
         4 => cell.log.reserve(room),
         8 => {
-            cell.received.reserve_exact(room as usize)?;
+            cell.received.reserve_exact(room as usize + 8)?;
             Ok(cell.sent.reserve_exact(room as usize)?)
         }
         _ => Ok(()),

@@ -138,10 +138,10 @@ impl Table {
         let len = self.entries.len();
         let count = self.entries.capacity().min(u32::MAX as usize);
         self.index.older.reserve(count - len)?;
-        let three_quarters = count / 4 * 3;
-        let is_early = count >= LARGE && len + more <= three_quarters;
+        let most = count / 8 * 7;
+        let is_early = count >= LARGE && len + more <= most;
         let (end, heads) = if is_early {
-            (three_quarters, count)
+            (most, count)
         } else {
             (count, 2 * count)
         };
