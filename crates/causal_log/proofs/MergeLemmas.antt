@@ -2,7 +2,7 @@
 use Rattle.std.proofs.Common.{ℕ, zero, suc, ◌+◌, ◌-◌, ◌<◌, length, take, drop, get_or, slice_get, IfSome, ◌≡◌, ◌∙◌, ◌≤◌, ◌||◌, Bool, true, false, cond, not, nat_cmp, List, [], ◌∷◌, ◌++◌, map, filter, Option, Some, None, is_some, unwrap_or, true≢false, refl, sym, ap, subst, arith, ◌&&◌}
 use Rattle.std.proofs.lemmas.Bool.{and_from, or_from, or_right, false_from_ne_true}
 use Rattle.std.proofs.lemmas.Bool.Decides.{nat_tests}
-use Rattle.std.proofs.lemmas.List.{append-nil, append_assoc, drop-drop, drop_more, get_or-drop, length-drop, length-take-le, map-append, take-append-drop, take_all}
+use Rattle.std.proofs.lemmas.List.{append-nil, append_assoc, drop-drop, drop_more, get_or-drop, length-drop, length-take-le, map-append, take-append-drop, take_all, drop_all}
 use Rattle.std.proofs.lemmas.Option.{slice_get-get_or}
 use Rattle.std.proofs.Math.Seq.{drop-append_seam, take-append_seam, take-suc}
 use Rattle.std.proofs.lemmas.List.Folds.{list_any-append}
@@ -22,13 +22,13 @@ use Rattle.causal_log.specs.declared.batch.Item.{Item}
 use Rattle.causal_log.specs.Knowledge.{nothing_known, joined, is_carried, told, as_stable}
 use Rattle.causal_log.specs.Logs.{LogMap, known_of, learned, absorbed, item_of, chosen, dets_of, names_det, marked}
 use Rattle.causal_log.specs.Inside.Carried.{known_of_item, with_carried, HearsNext, is_open, open_in, as_marked, Carries}
-use Rattle.causal_log.specs.Inside.Merges.{HasMerged, are_known_to_hold}
+use Rattle.causal_log.specs.Inside.Merges.{AreApart, HasMerged, are_known_to_hold}
 use Rattle.causal_log.proofs.EntryLemmas.{below, get_log, same_log, own_entries, not_itself}
 use Rattle.causal_log.proofs.TableLemmas.{lookup_missing}
-use Rattle.causal_log.proofs.Lemmas.Ascents.{ascending_tail, ascending_skip, first_before, filter_ascends}
+use Rattle.causal_log.proofs.Lemmas.Ascents.{before_trans, ascending_tail, ascending_skip, first_before, filter_ascends}
 use Rattle.causal_log.proofs.Lemmas.ChosenLemmas.{chosen_ascend, dets_of_items}
 use Rattle.causal_log.proofs.Lemmas.KnowledgeGrows.{get_learned}
-use Rattle.causal_log.proofs.Lemmas.Searches.{any_map, before_apart, both, find_kept, kept_if, shown, same_turned}
+use Rattle.causal_log.proofs.Lemmas.Searches.{any_map, before_apart, both, or_nothing, find_kept, kept_if, shown, same_turned}
 use Rattle.std.proofs.lemmas.Map.Entries.{lookup-filter-keys}
 use Rattle.std.specs.Arc.{arc_value}
 use Rattle.causal_log.specs.declared.log.Carried.{Carried}
@@ -261,11 +261,18 @@ module _ (f : ℕ) (log : LogMap) (det : Det) (heard : Known) (out rest : List I
   pub comes_in : is_some (fin.get log det) ≡ false → with_carried f det (joined nothing_known heard) out ++ rest ≡ chosen f (learned log det heard)
   comes_in new = becomes (joined nothing_known heard) (grind arith)
 
--- where messages carry nothing, they carry nothing once items are taken in that tell of nothing that they carry on
-pub none_carried : (f : ℕ) (from me : Pid) (items : List Item) (log : LogMap) → ((item : Item) → is_carried f (told from me item).1 ≡ false) → [] ≡ chosen f log → [] ≡ chosen f (absorbed items from me log)
-none_carried f from me [] log never is = is
-none_carried f from me (x ∷ xs) log never is =
-    none_carried f from me xs (learned log x.det (told from me x).1) never (still_out f log x.det (told from me x).1 [] [] is refl refl (never x))
+-- what is heard of determinants that messages do not carry, and of which they would carry none, changes nothing
+pub apart_carried : (f : ℕ) (from me : Pid) (kept items : List Item) (log : LogMap) → ((item : Item) → is_carried f (told from me item).1 ≡ false) → AreApart items kept → kept ≡ chosen f log → kept ≡ chosen f (absorbed items from me log)
+apart_carried f from me kept [] log never apart is = is
+apart_carried f from me kept (x ∷ xs) log never apart is =
+    let none : lookup (same_det x.det) (entries_of kept) ≡ None =
+    none_found x.det kept (apart x.det (ap (λ b. b || list_any (same_det x.det) (dets_of xs)) (same_itself x.det))) in
+    apart_carried f from me kept xs (learned log x.det (told from me x).1) never
+    (λ d there. apart d (or_right (same_det d x.det) (list_any (same_det d) (dets_of xs)) there))
+    (heard_now f log x.det (told from me x).1 [] kept is refl kept
+    (ap (λ ks. is_ascending (dets_of ks)) is ∙ chosen_ascend f log)
+    (none ∙ sym (ap (λ b. cond b (Some (joined (known_of log x.det) (told from me x).1)) None) (heard_out f (known_of log x.det) (told from me x).1 (never x))))
+    (λ q other. refl))
 
 -- the items from a place on begin with the one that stands there
 pub drop_got : (xs : List Item) (i : ℕ) (x : Item) → slice_get xs i ≡ Some x → drop i xs ≡ x ∷ drop (i + 1) xs
@@ -328,9 +335,64 @@ rest_ascends f log out rest is = back (dets_of out) (dets_of rest) (sym (ap is_a
 pub cut_rest : (xs : List Item) (n : ℕ) → take (length xs - n) (drop n xs) ≡ drop n xs
 cut_rest xs n = let len = length-drop n xs in take_all (length xs - n) (drop n xs) (omega (arith, len))
 
+-- none of an ascending list comes before its first
+not_sooner : (x : Det) (xs : List Det) (d : Det) → is_ascending (x ∷ xs) ≡ true → list_any (same_det d) (x ∷ xs) ≡ true → is_before d x ≡ true → ⊥
+not_sooner x xs d h there low = by (same_det d x) refl there
+  where
+    by : (b : Bool) → same_det d x ≡ b → (b || list_any (same_det d) xs) ≡ true → ⊥
+    by true is h2 = true≢false (sym low ∙ ap (λ y. is_before y x) (same_is d x is) ∙ not_itself x)
+    by false is h2 = true≢false (sym (before_trans d x d low (first_before x xs d h h2)) ∙ not_itself d)
+
+-- all that stand before the last of an ascending list come before it
+ends_before : (xs : List Det) (e d : Det) → is_ascending (xs ++ e ∷ []) ≡ true → list_any (same_det d) xs ≡ true → is_before d e ≡ true
+ends_before [] e d h there = absurd (true≢false (sym there))
+ends_before (x ∷ xs) e d h there = by (same_det d x) refl there (ends_before xs e d (ascending_tail x (xs ++ e ∷ []) h))
+  where
+    last : list_any (same_det e) (xs ++ e ∷ []) ≡ true
+    last = list_any-append (same_det e) xs (e ∷ []) ∙ or_right (list_any (same_det e) xs) (same_det e e || false) (ap (λ b. b || false) (same_itself e))
+
+    by : (b : Bool) → same_det d x ≡ b → (b || list_any (same_det d) xs) ≡ true → (list_any (same_det d) xs ≡ true → is_before d e ≡ true) → is_before d e ≡ true
+    by true is h2 later = ap (λ y. is_before y e) (same_is d x is) ∙ first_before x (xs ++ e ∷ []) e h last
+    by false is h2 later = later h2
+
+-- none of an ascending list comes after its last
+none_after_last : (xs : List Det) (e d : Det) → is_ascending (xs ++ e ∷ []) ≡ true → list_any (same_det d) (xs ++ e ∷ []) ≡ true → is_before e d ≡ true → ⊥
+none_after_last xs e d h there low = by (list_any (same_det d) xs) refl (sym (list_any-append (same_det d) xs (e ∷ [])) ∙ there)
+  where
+    by : (b : Bool) → list_any (same_det d) xs ≡ b → (b || (same_det d e || false)) ≡ true → ⊥
+    by true is h2 = true≢false (sym (before_trans d e d (ends_before xs e d h is) low) ∙ not_itself d)
+    by false is h2 = true≢false (sym low ∙ ap (is_before e) (same_is d e (or_nothing (same_det d e) ∙ h2)) ∙ not_itself e)
+
 -- the items from a place on ascend
 pub drop_ascends : (xs : List Item) (n : ℕ) → is_ascending (dets_of xs) ≡ true → is_ascending (dets_of (drop n xs)) ≡ true
 drop_ascends xs n h = grind (arith, back, dets_append (take n xs) (drop n xs), take-append-drop n xs)
+
+-- the last item of a list ends it
+ends_with : (xs : List Item) (x : Item) → slice_get xs (length xs - 1) ≡ Some x → dets_of (take (length xs - 1) xs) ++ x.det ∷ [] ≡ dets_of xs
+ends_with xs x there =
+    let last = length xs - 1 in
+    let within = got_within xs last x there in
+    sym (dets_append (take last xs) (x ∷ []))
+    ∙ ap (λ ys. dets_of (take last xs ++ x ∷ ys)) (sym (drop_all (last + 1) xs (omega (arith, within))))
+    ∙ ap (λ ys. dets_of (take last xs ++ ys)) (sym (drop_got xs last x there))
+    ∙ ap (λ ys. dets_of ys) (take-append-drop last xs)
+
+-- items that come after all items before a place, and before the one that stands there, are none of them
+pub apart_between : (items kept : List Item) (first last : Item) (place : ℕ) → is_ascending (dets_of items) ≡ true → is_ascending (dets_of kept) ≡ true → slice_get items 0 ≡ Some first → slice_get items (length items - 1) ≡ Some last
+    → is_ascending (dets_of (take place kept) ++ first.det ∷ []) ≡ true → is_ascending (last.det ∷ dets_of (drop place kept)) ≡ true → AreApart items kept
+apart_between items kept first last place ascend kept_ascend begins ends before after d there =
+    sym (ap (λ ys. list_any (same_det d) (dets_of ys)) (take-append-drop place kept))
+    ∙ ap (list_any (same_det d)) (dets_append (take place kept) (drop place kept))
+    ∙ list_any-append (same_det d) (dets_of (take place kept)) (dets_of (drop place kept))
+    ∙ or_from (list_any (same_det d) (dets_of (take place kept))) (list_any (same_det d) (dets_of (drop place kept)))
+    (false_from_ne_true (list_any (same_det d) (dets_of (take place kept))) (λ is. not_sooner first.det (dets_of (drop 1 items)) d
+    (ap (λ ys. is_ascending (dets_of ys)) (sym (drop_got items 0 first begins)) ∙ ascend)
+    (ap (λ ys. list_any (same_det d) (dets_of ys)) (sym (drop_got items 0 first begins)) ∙ there)
+    (ends_before (dets_of (take place kept)) first.det d before is)))
+    (false_from_ne_true (list_any (same_det d) (dets_of (drop place kept))) (λ is. none_after_last (dets_of (take (length items - 1) items)) last.det d
+    (ap is_ascending (ends_with items last ends) ∙ ascend)
+    (ap (list_any (same_det d)) (ends_with items last ends) ∙ there)
+    (first_before last.det (dets_of (drop place kept)) d after is)))
 
 -- a determinant that an item names is named
 pub named_at : (xs : List Item) (n : ℕ) (x : Item) (det : Det) → slice_get xs n ≡ Some x → x.det ≡ det → names_det det xs ≡ true

@@ -96,14 +96,6 @@ impl Batch {
             None => Some(place),
         }
     }
-
-    /// A copy, for who has to hand the batch out of its keeping. Its only error is want of memory.
-    pub fn try_clone(&self) -> Result<Batch, NoMemory>
-        ensures { IfOk result (λ copy. copy ≡ self.now) }
-    {
-        let items = self.items.clone()?;
-        Ok(Batch { items })
-    }
 }
 
 /// The place of the first of ascending items that does not come before a determinant.

@@ -5,18 +5,16 @@ ghost use Rattle.std.specs.Prelude.{◌≡◌, ◌↔◌, ◌<◌, ◌≤◌, �
 ghost use Rattle.std.specs.Map.{keys_of};
 ghost use Rattle.std.specs.FinMap as fin;
 ghost use Rattle.std.specs.Arc.{arc_value};
-ghost use Rattle.std.specs.Option.{option_map};
 ghost use Rattle.causal_name.specs.Names.{is_ascending};
 ghost use Rattle.causal_log.specs.Knowledge.{held_by, stable_and_held_by};
 ghost use Rattle.causal_log.specs.Logs.{log_of, learned, dets_of, absorbed, grown, united, marked, stable_in, unstable_in, unmarked, chosen, named, HaveSame};
-ghost use Rattle.causal_log.specs.Inside.Carried.{as_marked, open_in, still_carried};
+ghost use Rattle.causal_log.specs.Inside.Carried.{open_in, still_carried};
 
 use crate::batch::{Batch, Item};
 use crate::known::Known;
 use crate::merging::{Delivery, next_batch};
 use crate::table::{
-    Table, carried, chosen, dets, in_order, learn, learn_entries, learn_items, ranked, stable_dets,
-    unstable_dets, unstable_len,
+    Table, carried, chosen, dets, in_order, learn, learn_entries, learn_items, ranked, unstable_len,
 };
 use causal_name::{Det, MsgName, NoMemory, Pid, Slot};
 use std::alloc::Global;
@@ -180,11 +178,7 @@ impl Log {
             f,
         };
         match &self.carried {
-            Some(kept) if kept.f == f && !kept.is_marked => next_batch(
-                alloc,
-                &kept.batch,
-                &delivery,
-            ),
+            Some(now) if now.f == f && !now.is_marked => next_batch(alloc, &now.batch, &delivery),
             _ => {
                 let batch = Arc::new(alloc, self.choose(alloc, f)?)?;
                 next_batch(alloc, &batch, &delivery)
@@ -197,7 +191,8 @@ impl Log {
         ensures { IfOk result (λ dets. dets.items ≡ stable_in self.now.map) }
     {
         let sorted = in_order(alloc, self.entries.entries())?;
-        stable_dets(alloc, sorted.as_slice())
+        let stable = sorted.iter().filter(|(_, known)| known.stable);
+        Ok(stable.map(|(det, _)| *det).collect(alloc)?)
     }
 
     /// The determinants that are not known to be stable, ascending. Its only error is want of memory.
@@ -205,7 +200,8 @@ impl Log {
         ensures { IfOk result (λ dets. dets.items ≡ unstable_in self.now.map) }
     {
         let sorted = in_order(alloc, self.entries.entries())?;
-        unstable_dets(alloc, sorted.as_slice())
+        let unstable = sorted.iter().filter(|(_, known)| !known.stable);
+        Ok(unstable.map(|(det, _)| *det).collect(alloc)?)
     }
 
     /// How many determinants are known to be stable. Takes no memory.
@@ -282,9 +278,8 @@ impl Log {
         self.learn(det, Known::held(me))
     }
 
-    /// Adds a determinant that process `me` has read from stable storage: that it holds the determinant and that it is
-    /// stable become known. The only error is want of memory, which comes for a determinant that is not logged yet and for
-    /// which no room was made.
+    /// Adds a determinant that process `me` has read from stable storage: that it holds it, and that it is stable, become
+    /// known. The only error is want of memory, as of `add_own`.
     pub fn add_stable(&mut self, det: Det, me: Pid) -> Result<(), NoMemory>
         ensures ok { OnOk result
             (self.new.map ≡ learned self.old.map det (stable_and_held_by me)) }
@@ -320,10 +315,8 @@ impl Log {
         ensures map { self.new.map ≡ grown carried.now own from me self.old.map }
         ensures spare { self.old.spare ≤ self.new.spare + (length carried.now + 1) }
     {
-        let items = carried.as_slice();
-        let held = Known::held(me);
-        learn_items(&mut self.entries, items, from, me);
-        learn(&mut self.entries, own, held);
+        learn_items(&mut self.entries, carried.as_slice(), from, me);
+        learn(&mut self.entries, own, Known::held(me));
         self.sorted = false;
         self.carried = None;
     }
@@ -354,7 +347,9 @@ impl Log {
             return false;
         };
         self.entries.join(place, Known::nothing().marked());
-        mark(&mut self.carried);
+        if let Some(carried) = &mut self.carried {
+            carried.is_marked = true;
+        }
         true
     }
 
@@ -397,12 +392,4 @@ fn open_of(alloc: Global, items: &[Item], entries: &Table) -> Result<Vec<Item>, 
 {
     let kept = items.iter().filter(|item| entries.is_open(item.det));
     Ok(kept.copied().collect(alloc)?)
-}
-
-fn mark(kept: &mut Option<Carried>)
-    ensures { kept.new ≡ option_map as_marked kept.old }
-{
-    if let Some(carried) = kept {
-        carried.is_marked = true;
-    }
 }

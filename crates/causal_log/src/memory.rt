@@ -52,9 +52,7 @@ impl Stable for MemStable {
         if self.members.find(det).is_some() {
             return Ok(());
         }
-        if self.members.reserve(1).is_err() {
-            return Err(PutFault::NoMemory);
-        }
+        self.members.reserve(1).map_err(|_| PutFault::NoMemory)?;
         self.members.add(det, Known::nothing());
         Ok(())
     }

@@ -13,7 +13,7 @@ ghost use Rattle.causal_log.specs.declared.batch.Item.{Item};
 ghost use Rattle.causal_log.specs.Knowledge.{told, is_carried};
 ghost use Rattle.causal_log.specs.Logs.{LogMap, log_of, chosen, dets_of, EndBefore};
 ghost use Rattle.causal_log.specs.Inside.Carried.{both_hold, with_carried, HearsNext};
-ghost use Rattle.causal_log.specs.Inside.Merges.{IsPassed, are_known_to_hold, source_of, heard_of, taken};
+ghost use Rattle.causal_log.specs.Inside.Merges.{AreApart, IsPassed, are_known_to_hold, source_of, heard_of, taken};
 
 use crate::batch::{Batch, Item, name, next_of, place_of};
 use crate::known::{Known, told};
@@ -125,12 +125,6 @@ fn carry(out: &mut Vec<Item>, det: Det, known: Known, f: u16) -> Result<(), NoMe
     Ok(())
 }
 
-fn is_logged(entries: &Table, det: Det) -> bool
-    ensures { result ≡ is_some (fin.get (log_of entries.now.entries) det) }
-{
-    entries.find(det).is_some()
-}
-
 /// Passes on the determinant of an item: the next one of what is kept, or one that was not logged. Of another one messages carry
 /// nothing from then on either.
 fn meet(
@@ -153,17 +147,31 @@ fn meet(
     ensures before { OnOk result
         ((d : Det) → is_before item.now.det d ≡ true → EndBefore out.new.items d) }
 {
+    let heard = item.told(both);
     if let Some(next) = next_of(kept, place, item.det) {
-        let heard = item.told(both);
         carry(out, item.det, next.known().joined(heard), delivery.f)?;
         return Ok(place + 1);
     }
-    if !delivery.may_carry() || is_logged(delivery.entries, item.det) {
+    if !heard.is_carried(delivery.f) || delivery.entries.find(item.det).is_some() {
         return Ok(place);
     }
-    let heard = item.told(both);
     carry(out, item.det, heard, delivery.f)?;
     Ok(place)
+}
+
+/// Whether these items are seen to stand between two neighbours of what messages carry: then these carry none of them.
+fn are_apart(kept: &[Item], items: &[Item]) -> bool
+    requires kept { is_ascending (dets_of kept.now) ≡ true }
+    requires ascending { is_ascending (dets_of items.now) ≡ true }
+    ensures { result ≡ true → AreApart items.now kept.now }
+{
+    let (Some(first), Some(last)) = (items.first(), items.last()) else {
+        return true;
+    };
+    match kept.get(place_of(kept, first.det)) {
+        Some(next) => last.det.comes_before(&next.det),
+        None => true,
+    }
 }
 
 /// What messages carry once the items are taken in.
@@ -176,7 +184,8 @@ fn merged(alloc: Global, kept: &[Item], delivery: &Delivery<'_>) -> Result<Vec<I
     let more = if delivery.may_carry() { items.len() } else { 0 };
     let most = kept.len().saturating_add(more);
     let mut out = Vec::with_capacity(alloc, most.saturating_add(1))?;
-    if kept.is_empty() && !delivery.may_carry() {
+    if !delivery.may_carry() && are_apart(kept, items) {
+        out.extend_from_slice(kept)?;
         return Ok(out);
     }
     let both = Known::held_by_both(delivery.from, delivery.me);
@@ -222,7 +231,7 @@ fn take_own(out: &mut Vec<Item>, delivery: &Delivery<'_>) -> Result<(), NoMemory
         out.remove(place);
         return carry_at(out, place, det, item.known().joined(held), delivery.f);
     }
-    if is_logged(delivery.entries, det) || name(delivery.items, det) {
+    if delivery.entries.find(det).is_some() || name(delivery.items, det) {
         return Ok(());
     }
     carry_at(out, place, det, held, delivery.f)

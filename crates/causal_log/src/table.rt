@@ -81,6 +81,19 @@ impl Table {
         self.index.search(self.entries.as_slice(), det)
     }
 
+    /// What is known of a determinant whose entry stands at this place.
+    fn known_at(&self, place: usize, det: Det) -> Option<Known>
+        ensures known { IfSome result (λ known. fin.get (log_of self.now.entries) det ≡ Some known) }
+        ensures place { IfSome result (λ known. slice_get self.now.entries place ≡ Some (det, known)) }
+        ensures within { IfSome result (λ known. place < length self.now.entries) }
+    {
+        if place >= self.entries.len() {
+            return None;
+        }
+        let (other, known) = self.entries[place];
+        if other == det { Some(known) } else { None }
+    }
+
     pub(crate) fn is_open(&self, det: Det) -> bool
         ensures { result ≡ is_open (log_of self.now.entries) det }
     {
@@ -97,8 +110,10 @@ impl Table {
         self.index.least_of_slot(self.entries.as_slice(), slot)
     }
 
-    pub(crate) fn join(&mut self, place: usize, heard: Known)
+    /// Joins what is heard to an entry, and tells its place.
+    pub(crate) fn join(&mut self, place: usize, heard: Known) -> usize
         requires { place < length self.old.entries }
+        ensures place { result ≡ place }
         ensures put { (det : Det) (was : Known) →
             slice_get self.old.entries place ≡ Some (det, was) →
             log_of self.new.entries ≡ fin.insert (log_of self.old.entries) det (joined was heard) }
@@ -106,19 +121,22 @@ impl Table {
         ensures spare { self.new.spare ≡ self.old.spare }
     {
         self.entries[place].1 = self.entries[place].1.joined(heard);
+        place
     }
 
-    /// Adds an entry behind the others, in room made before.
-    pub(crate) fn add(&mut self, det: Det, known: Known)
+    /// Adds an entry behind the others, in room made before, and tells its place.
+    pub(crate) fn add(&mut self, det: Det, known: Known) -> usize
         requires room { 1 ≤ self.old.spare }
         requires new { fin.get (log_of self.old.entries) det ≡ None }
         ensures put { log_of self.new.entries ≡ fin.insert (log_of self.old.entries) det known }
         ensures keys { keys_of self.new.entries ≡ keys_of self.old.entries ++ det ∷ [] }
         ensures spare { self.old.spare ≡ self.new.spare + 1 }
+        ensures place { result ≡ length self.old.entries }
     {
         self.index.link(det.slot());
         self.entries.push_reserved((det, known));
         self.room -= 1;
+        self.entries.len() - 1
     }
 
     pub(crate) fn reserve(&mut self, more: usize) -> Result<(), NoMemory>
@@ -194,8 +212,9 @@ impl Table {
     }
 }
 
-/// Learns something of one determinant. It takes no memory: where the determinant is not logged, there is room.
-pub(crate) fn learn(entries: &mut Table, det: Det, heard: Known)
+/// Learns something of one determinant, in room that there is where it is not logged, and tells where its entry stands.
+#[inline(never)]
+pub(crate) fn learn(entries: &mut Table, det: Det, heard: Known) -> usize
     requires room { fin.get (log_of entries.old.entries) det ≡ None → 1 ≤ entries.old.spare }
     ensures learned { log_of entries.new.entries ≡ learned (log_of entries.old.entries) det heard }
     ensures spare { entries.old.spare ≤ entries.new.spare + 1 }
@@ -206,7 +225,8 @@ pub(crate) fn learn(entries: &mut Table, det: Det, heard: Known)
     }
 }
 
-/// Learns what the items of a message from one process tell another, in room made before.
+/// Learns what the items of a message from one process tell another, in room made before. Mostly the entries of a list came in
+/// as its determinants do, and stand as far from each other: so each is guessed from the two before it.
 pub(crate) fn learn_items(entries: &mut Table, items: &[Item], from: Pid, me: Pid)
     requires room { length items.now ≤ entries.old.spare }
     ensures learned { log_of entries.new.entries ≡
@@ -217,8 +237,15 @@ pub(crate) fn learn_items(entries: &mut Table, items: &[Item], from: Pid, me: Pi
         return;
     }
     let both = Known::held_by_both(from, me);
+    let (mut last, mut place): (usize, usize) = (0, 0);
     for item in items {
-        learn(entries, item.det, item.told(&both));
+        let guess = place.wrapping_mul(2).wrapping_sub(last);
+        last = place;
+        let heard = item.told(&both);
+        place = match entries.known_at(guess, item.det) {
+            Some(_) => entries.join(guess, heard),
+            None => learn(entries, item.det, heard),
+        };
     }
 }
 
@@ -237,22 +264,6 @@ pub(crate) fn dets(alloc: Global, entries: &[(Det, Known)]) -> Result<Vec<Det>, 
     ensures { IfOk result (λ dets. dets.items ≡ keys_of entries.now) }
 {
     Ok(entries.iter().map(|(det, _)| *det).collect(alloc)?)
-}
-
-pub(crate) fn stable_dets(alloc: Global, entries: &[(Det, Known)]) -> Result<Vec<Det>, NoMemory>
-    ensures { IfOk result (λ dets. dets.items ≡
-        map (λ e. e.0) (filter (λ e. e.1.stable) entries.now)) }
-{
-    let stable = entries.iter().filter(|(_, known)| known.stable);
-    Ok(stable.map(|(det, _)| *det).collect(alloc)?)
-}
-
-pub(crate) fn unstable_dets(alloc: Global, entries: &[(Det, Known)]) -> Result<Vec<Det>, NoMemory>
-    ensures { IfOk result (λ dets. dets.items ≡
-        map (λ e. e.0) (filter (λ e. not e.1.stable) entries.now)) }
-{
-    let unstable = entries.iter().filter(|(_, known)| !known.stable);
-    Ok(unstable.map(|(det, _)| *det).collect(alloc)?)
 }
 
 pub(crate) fn unstable_len(entries: &[(Det, Known)]) -> u32

@@ -1,7 +1,7 @@
 //! Each call once, on values worked out by hand: logs and the batches that they choose, and the store in memory.
 use crate::runtime::{Fields, det, name};
 use causal_holders::Holders;
-use causal_log::{Batch, Item, Known, Log, MemStable, Stable};
+use causal_log::{Item, Known, Log, MemStable, Stable};
 use causal_name::{Det, Pid, Slot};
 use std::alloc::Global;
 
@@ -72,19 +72,9 @@ fn tells(alloc: Global, log: &mut Log) -> bool {
         && chooses(alloc, log, 1, &[item(FIRST, &[1]), item(RIVAL, &[1])])
 }
 
-/// Whether a batch has a copy, and process 2 takes it in as process 1 tells it.
-fn takes_in(log: &mut Log, batch: &Batch) -> bool {
-    match batch.try_clone() {
-        Ok(copy) => {
-            copy.as_slice() == batch.as_slice() && log.absorb(batch, Pid(1), Pid(2)).is_ok()
-        }
-        Err(_) => false,
-    }
-}
-
 fn hears(alloc: Global, log: &mut Log, teller: &Log) -> bool {
     match teller.choose(alloc, 1) {
-        Ok(batch) => takes_in(log, &batch),
+        Ok(batch) => log.absorb(&batch, Pid(1), Pid(2)).is_ok(),
         Err(_) => false,
     }
 }

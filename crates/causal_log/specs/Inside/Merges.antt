@@ -30,6 +30,10 @@ are_known_to_hold log det holders = option_map_or (λ known. set.is_subset holde
 abbrev pub IsPassed : List Item → ℕ → Det → Type 0
 IsPassed items place det = IfSome (slice_get items place) (λ item. is_before item.det det ≡ false)
 
+-- no determinant is among both
+abbrev pub AreApart : List Item → List Item → Type 0
+AreApart items kept = (d : Det) → list_any (same_det d) (dets_of items) ≡ true → list_any (same_det d) (dets_of kept) ≡ false
+
 -- a log of which messages carry what was passed on and what is kept, from which the rest of the items leads to what all lead
 -- to, and which has as before what the rest names; what was passed on comes before what the rest names
 pub record HasMerged (f : ℕ) (items rest : List Item) (from me : Pid) (source : LogMap) (out kept : List Item) : Type 0 where

@@ -2,12 +2,12 @@ use Rattle.std.proofs.Common.{arith, ◌≡◌, ◌∙◌, ◌+◌, ◌++◌, dr
 use Rattle.causal_name.specs.declared.Pid.{Pid}
 use Rattle.causal_log.specs.declared.known.Known.{Known}
 use Rattle.causal_log.specs.declared.batch.Item.{Item}
-use Rattle.causal_log.specs.Knowledge.{joined, told}
+use Rattle.causal_log.specs.Knowledge.{is_carried, joined, told}
 use Rattle.causal_log.specs.Logs.{dets_of}
 use Rattle.causal_log.specs.Inside.Carried.{with_carried, known_of_item, both_hold}
 use Rattle.causal_log.proofs.KnownLemmas.{joined_nothing, told_both}
 use Rattle.causal_log.proofs.MergeLemmas.{drop_got, met, before_later, raise, still_out, logged_out, comes_in, next_after, rest_ascends}
-use Rattle.causal_log.proofs.merging.meet.Goals.{then-not-may_carry-via-then-not-may_carry, then-not-may_carry-via-else-not-may_carry+then-is_logged}
+use Rattle.causal_log.proofs.merging.meet.Goals.{then-not-is_carried-via-then-not-is_carried, then-not-is_carried-via-else-not-is_carried+then-is_some}
 use Rattle.causal_log.proofs.merging.meet.Goals as goal
 
 heard_is : (from me : Pid) (item : Item) (heard both : Known) → heard ≡ joined (known_of_item item) both → both ≡ both_hold from me → heard ≡ (told from me item).1
@@ -28,23 +28,23 @@ returns-in-Some-clause-heard c = λ log logged was.
 pub returns-in-Some-clause-before : goal.returns-in-Some-clause-before
 returns-in-Some-clause-before c = grind (arith, before_later)
 
-pub returns-then-not-may_carry-clause-heard : goal.returns-then-not-may_carry-clause-heard
-returns-then-not-may_carry-clause-heard c = λ log logged was.
+pub returns-then-not-is_carried-clause-heard : goal.returns-then-not-is_carried-clause-heard
+returns-then-not-is_carried-clause-heard c = λ log logged was.
     let d = c.args.delivery.now in
     let det = c.args.item.now.det in
     let heard = (told d.from d.me c.args.item.now).1 in
     let out = c.args.out.now.items in
     let rest = drop c.args.place c.args.kept.now in
     let after = next_after c.args.kept.now c.args.place det (rest_ascends d.f log out rest was) c.requires.next (c.next_of.ensures.other (ap is_some c.in_default.is)) in
-    elim c.then-not-may_carry.branch [
-      | then-not-may_carry-via-then-not-may_carry w ↦
-          still_out d.f log det heard out rest was c.requires.before after (c.may_carry.ensures w.if-not-may_carry.true c.args.item.now)
-      | then-not-may_carry-via-else-not-may_carry+then-is_logged w ↦
-          logged_out d.f log det heard out rest was c.requires.before after (logged ∙ sym w.is_logged.ensures ∙ w.if-is_logged.true)
+    elim c.then-not-is_carried.branch [
+      | then-not-is_carried-via-then-not-is_carried w ↦
+          still_out d.f log det heard out rest was c.requires.before after (sym (ap (is_carried d.f) (heard_is d.from d.me c.args.item.now _ c.args.both.now c.told-heard.ensures c.requires.both)) ∙ sym c.is_carried.ensures ∙ w.if-not-is_carried.true)
+      | then-not-is_carried-via-else-not-is_carried+then-is_some w ↦
+          logged_out d.f log det heard out rest was c.requires.before after (logged ∙ grind arith)
     ]
 
-pub returns-then-not-may_carry-clause-before : goal.returns-then-not-may_carry-clause-before
-returns-then-not-may_carry-clause-before c = λ d low. raise (dets_of c.args.out.now.items) c.args.item.now.det d c.requires.before low
+pub returns-then-not-is_carried-clause-before : goal.returns-then-not-is_carried-clause-before
+returns-then-not-is_carried-clause-before c = λ d low. raise (dets_of c.args.out.now.items) c.args.item.now.det d c.requires.before low
 
 pub returns-clause-heard : goal.returns-clause-heard
 returns-clause-heard c = λ log logged was.
@@ -55,8 +55,8 @@ returns-clause-heard c = λ log logged was.
     let rest = drop c.args.place c.args.kept.now in
     let after = next_after c.args.kept.now c.args.place det (rest_ascends d.f log out rest was) c.requires.next (c.next_of.ensures.other (ap is_some c.in_default.is)) in
     ap (λ xs. xs ++ rest) c.in_ok-carry-2.ensures
-    ∙ ap (λ k. with_carried d.f det k out ++ rest) (heard_is d.from d.me c.args.item.now _ c.args.both.now c.told-heard-2.ensures c.requires.both ∙ sym (joined_nothing heard))
-    ∙ comes_in d.f log det heard out rest was c.requires.before after (logged ∙ sym c.is_logged.ensures ∙ c.if-is_logged.false)
+    ∙ ap (λ k. with_carried d.f det k out ++ rest) (heard_is d.from d.me c.args.item.now _ c.args.both.now c.told-heard.ensures c.requires.both ∙ sym (joined_nothing heard))
+    ∙ comes_in d.f log det heard out rest was c.requires.before after (logged ∙ grind arith)
 
 pub returns-clause-before : goal.returns-clause-before
 returns-clause-before c = grind (arith, before_later)

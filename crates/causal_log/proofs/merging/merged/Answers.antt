@@ -1,12 +1,11 @@
 use Rattle.std.proofs.Common.{◌≡◌, ◌∙◌, ◌+◌, ◌∷◌, true, drop, ap, sym, subst, arith}
-use Rattle.std.proofs.lemmas.Bool.{eqb-true}
-use Rattle.std.proofs.lemmas.List.{drop_more, drop_all, nil_from_length}
+use Rattle.std.proofs.lemmas.List.{drop_more, drop_all}
 use Rattle.causal_name.specs.Names.{is_ascending}
 use Rattle.causal_log.specs.Logs.{dets_of}
 use Rattle.causal_log.specs.Inside.Merges.{HasMerged, source_of}
 use Rattle.causal_log.proofs.Lemmas.Ascents.{ascending_tail}
 use Rattle.causal_log.proofs.Lemmas.ChosenLemmas.{chosen_ascend}
-use Rattle.causal_log.proofs.MergeLemmas.{cut_rest, none_carried, merged_none, merged_all, merged_next}
+use Rattle.causal_log.proofs.MergeLemmas.{cut_rest, apart_carried, merged_none, merged_all, merged_next}
 use Rattle.causal_log.proofs.merging.merged.Goals as goal
 
 pub loop-item-init : goal.loop-item-init
@@ -56,5 +55,8 @@ loop-item-preserved c =
 pub returns : goal.returns
 returns c = grind (arith, cut_rest, merged_all, drop_all)
 
-pub returns-then-not-may_carry : goal.returns-then-not-may_carry
-returns-then-not-may_carry c = grind (arith, nil_from_length, eqb-true, none_carried)
+pub returns-then-are_apart : goal.returns-then-are_apart
+returns-then-are_apart c = grind (arith, apart_carried)
+
+pub are_apart-requires : goal.are_apart-requires
+are_apart-requires c = grind (arith, chosen_ascend)

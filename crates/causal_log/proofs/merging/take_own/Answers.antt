@@ -6,7 +6,7 @@ use Rattle.causal_log.proofs.Lemmas.KnowledgeGrows.{absorbed_logged}
 use Rattle.causal_log.proofs.Lemmas.ChosenLemmas.{chosen_ascend}
 use Rattle.causal_log.proofs.KnownLemmas.{joined_nothing}
 use Rattle.causal_log.proofs.MergeLemmas.{got_within, in_its_place, own_met, own_out, own_in}
-use Rattle.causal_log.proofs.merging.take_own.Goals.{then-is_logged-via-then-is_logged, then-is_logged-via-else-is_logged+then-name}
+use Rattle.causal_log.proofs.merging.take_own.Goals.{then-is_some-via-then-is_some, then-is_some-via-else-is_some+then-name}
 use Rattle.causal_log.proofs.merging.take_own.Goals as goal
 
 pub place_of-place-requires : goal.place_of-place-requires
@@ -18,8 +18,8 @@ remove-requires c = grind (arith, got_within)
 pub returns-in-Some : goal.returns-in-Some
 returns-in-Some c = grind (arith, in_its_place, own_met)
 
-pub returns-then-is_logged : goal.returns-then-is_logged
-returns-then-is_logged c = grind (arith, or_left, or_right, own_out, absorbed_logged)
+pub returns-then-is_some : goal.returns-then-is_some
+returns-then-is_some c = grind (arith, or_left, or_right, own_out, absorbed_logged)
 
 pub returns : goal.returns
 returns c = grind (arith, joined_nothing, own_in c.args.delivery.now.f (heard_of c.args.delivery.now) c.args.delivery.now.own (held_by c.args.delivery.now.me) c.as_slice-items.result.now c.place_of-place.result, absorbed_logged)
