@@ -10,14 +10,17 @@ import subprocess
 import sys
 
 import run_scripts
+import runtime_log
 from generate import MAX_ENTRIES
 from timed import HERE, INPUTS, LIMIT, TURNS, Measured, measure_in_turn, once, ratio_in_turn, target_line
 
 PROGRAM = os.path.join(HERE, "out", "runtime_bench")
+YARDSTICK = os.path.join(HERE, "out", "runtime_cores")
 VALGRIND = shutil.which("valgrind")
 COUNTING = [VALGRIND, "--tool=cachegrind", "--cache-sim=no", "--cachegrind-out-file=/dev/null"]
 # It counts an instruction that repeats once for each byte, so memory is set and copied without them.
 PLAIN = ":".join(f"glibc.cpu.x86_rep_{each}_threshold=1073741824" for each in ("stosb", "movsb"))
+LARGE_PAGES = {"GLIBC_TUNABLES": "glibc.malloc.hugetlb=1"}
 RUNS = 5  # how often a core delivers, unless that takes long
 KINDS = ("ring", "echo", "tally")
 SIZES = (2, 64, 256)
@@ -83,21 +86,22 @@ def tables(text):
     return found
 
 
-def figures(words):
-    """The figures of one run of the program; none where it failed or was stopped."""
+def figures(words, given=None, program=PROGRAM):
+    """The figures of one run of a program, given these variables too; none where it failed or was stopped."""
     try:
-        done = subprocess.run([PROGRAM, *map(str, words)], stdin=subprocess.DEVNULL, capture_output=True, text=True, timeout=LIMIT)
+        done = subprocess.run([program, *map(str, words)], stdin=subprocess.DEVNULL, capture_output=True, text=True, timeout=LIMIT,
+                              env={**os.environ, **(given or {})})
     except subprocess.TimeoutExpired:
         return None
     return [int(word) for word in done.stdout.split()] if done.returncode == 0 else None
 
 
-def delivered(words):
+def delivered(words, given=None):
     """How many entries, deliveries and listed determinants a core had, and the nanoseconds of the making of the text and of each
     thousand of deliveries, each the least of some runs."""
     runs, spent = [], 0
     while len(runs) < RUNS and spent < 1e9:
-        told = figures(words)
+        told = figures(words, given)
         if told is None:
             return None
         runs.append(told)
@@ -106,16 +110,33 @@ def delivered(words):
     return *runs[0][:3], writing, thousands
 
 
+def build_yardstick():
+    text = os.path.join(HERE, "runtime_cores.rs")
+    if not runtime_log.is_built(YARDSTICK, [text]):
+        subprocess.run(["rustc", "-O", "--edition", "2021", "-o", YARDSTICK, text], capture_output=True, check=True)
+
+
+def plainly(words):
+    """How many deliveries plain Rust makes, how many determinants these list, and the nanoseconds of the least of some runs."""
+    runs = [figures(words, program=YARDSTICK) for _ in range(RUNS)]
+    if None in runs:
+        return None
+    return *runs[0][:2], sum(min(times) for times in zip(*(told[2:] for told in runs)))
+
+
 def measure_cores(given):
+    build_yardstick()
     part = Part(
         "A core whose processes send a message for each that they get: round a ring, to and fro between pairs, and between "
         "process 0 and the others. What is on its way is delivered in the order in which it was sent, until the trace is "
         f"full or {given.core_seconds} s have gone by. For *f* = 0 each delivery lists its own determinant alone, so that the "
         "trace is full of entries, and all thousands of deliveries have as much to do. For more faults lists grow until "
         f"1,048,576 determinants are listed. Each thousand is told at the least of {RUNS} runs, and so is the making of the text of the "
-        "trace after them (*text*). *a listed one* is a determinant that a delivery lists.",
+        "trace after them (*text*). *a listed one* is a determinant that a delivery lists. *ns in large pages* is the same where the C "
+        "library asks the system for pages of 2 MB: lists and batches stay, so that new memory is much of what they take. *plain* are the "
+        "same deliveries, lists and batches over `BTreeMap` in plain Rust, by `rustc -O`.",
         ["kind", "n", "f", "entries", "listed", "ended", "µs each", "ns a listed one", "text ns a listed one", "deliveries / text",
-         "fastest thousand ms", "slowest ms", "slowest / fastest"],
+         "ns in large pages", "plain ns", "deliveries / plain", "fastest thousand ms", "slowest ms", "slowest / fastest"],
         3,
         "µs each",
     )
@@ -136,18 +157,33 @@ def measure_core(given, part, kind, n, f):
     entries, deliveries, listed, writing, thousands = told
     nanos = sum(thousands)
     ended = "time" if nanos > given.core_seconds * 1e9 else "entries" if entries > MAX_ENTRIES - 9 else "listed"
-    row = f"`{kind}` of {n} for {f}"
-    compared = ["", "", ""]
-    if f == 0:
-        whole = thousands[: deliveries // 1000]
-        fastest, slowest = min(whole), max(whole)
-        compared = [f"{fastest / 1e6:.2f}", f"{slowest / 1e6:.2f}", f"{slowest / fastest:.2f}"]
-        part.aim("f = 0: the slowest thousand deliveries / the fastest", 2.0, row, slowest / fastest)
-    else:
-        part.aim("long lists: ns for each listed determinant", 60.0, row, nanos / listed)
-        part.aim("long lists: the deliveries / the making of the text", 3.0, row, nanos / writing)
+    cells = pace(part, kind, n, told) if f == 0 else long_lists(given, part, kind, n, f, told)
     part.row(kind, n, f, f"{entries:,}", f"{listed:,}", ended, f"{nanos / deliveries / 1e3:.2f}", f"{nanos / listed:.0f}",
-             f"{writing / listed:.0f}", f"{nanos / writing:.2f}", *compared)
+             f"{writing / listed:.0f}", f"{nanos / writing:.2f}", *cells)
+
+
+def pace(part, kind, n, told):
+    """The last cells of a run whose deliveries have all as much to do."""
+    _, deliveries, _, _, thousands = told
+    whole = thousands[: deliveries // 1000]
+    fastest, slowest = min(whole), max(whole)
+    part.aim("f = 0: the slowest thousand deliveries / the fastest", 2.0, f"`{kind}` of {n} for 0", slowest / fastest)
+    return "", "", "", f"{fastest / 1e6:.2f}", f"{slowest / 1e6:.2f}", f"{slowest / fastest:.2f}"
+
+
+def long_lists(given, part, kind, n, f, told):
+    """The last cells of a run whose lists grow."""
+    _, deliveries, listed, writing, thousands = told
+    nanos, row = sum(thousands), f"`{kind}` of {n} for {f}"
+    part.aim("long lists: ns for each listed determinant", 60.0, row, nanos / listed)
+    part.aim("long lists: the deliveries / the making of the text", 3.0, row, nanos / writing)
+    large = delivered(["core", kind, n, f, given.core_seconds], LARGE_PAGES)
+    plain = plainly([kind, n, f])
+    if plain is None or plain[:2] != (deliveries, listed):
+        part.wrong.append(f"core {kind} {n} {f}: plain Rust does not list the same")
+        return "", "", "", "", "", ""
+    part.aim("long lists: the deliveries / the same in plain Rust", 1.0, row, nanos / plain[2])
+    return f"{sum(large[-1]) / listed:.0f}", f"{plain[2] / listed:.0f}", f"{nanos / plain[2]:.2f}", "", "", ""
 
 
 def measure_seats(given):
