@@ -21,7 +21,7 @@ COUNTING = [VALGRIND, "--tool=cachegrind", "--cache-sim=no", "--cachegrind-out-f
 # It counts an instruction that repeats once for each byte, so memory is set and copied without them.
 PLAIN = ":".join(f"glibc.cpu.x86_rep_{each}_threshold=1073741824" for each in ("stosb", "movsb"))
 LARGE_PAGES = {"GLIBC_TUNABLES": "glibc.malloc.hugetlb=1"}
-RUNS = 5  # how often a core delivers, unless that takes long
+RUNS = 15  # how often a core delivers
 KINDS = ("ring", "echo", "tally")
 SIZES = (2, 64, 256)
 FAULTS = (0, 1, 2, 8, "n")
@@ -96,32 +96,32 @@ def figures(words, given=None, program=PROGRAM):
     return [int(word) for word in done.stdout.split()] if done.returncode == 0 else None
 
 
-def delivered(words, given=None):
+def least(runs):
+    """The least of each figure of some runs; none where one has none."""
+    return None if None in runs else [min(each) for each in zip(*runs)]
+
+
+def delivered(words):
     """How many entries, deliveries and listed determinants a core had, and the nanoseconds of the making of the text and of each
     thousand of deliveries, each the least of some runs."""
-    runs, spent = [], 0
-    while len(runs) < RUNS and spent < 1e9:
-        told = figures(words, given)
-        if told is None:
-            return None
-        runs.append(told)
-        spent += sum(told[3:])
-    writing, *thousands = (min(times) for times in zip(*(told[3:] for told in runs)))
-    return *runs[0][:3], writing, thousands
+    told = least([figures(words) for _ in range(RUNS)])
+    return told and (*told[:4], told[4:])
+
+
+def delivered_in_turn(words):
+    """The same of a core, of a core in large pages, and of plain Rust, which tells neither entries nor the making of the text: one run of
+    each after the other, so that a quick moment of the machine is one of all."""
+    turns = [(figures(words), figures(words, LARGE_PAGES), figures(words[1:4], program=YARDSTICK)) for _ in range(RUNS)]
+    core, large, plain = map(least, zip(*turns))
+    if None in (core, large, plain):
+        return None
+    return (*core[:4], core[4:]), sum(large[4:]), (*plain[:2], sum(plain[2:]))
 
 
 def build_yardstick():
     text = os.path.join(HERE, "runtime_cores.rs")
     if not runtime_log.is_built(YARDSTICK, [text]):
         subprocess.run(["rustc", "-O", "--edition", "2021", "-o", YARDSTICK, text], capture_output=True, check=True)
-
-
-def plainly(words):
-    """How many deliveries plain Rust makes, how many determinants these list, and the nanoseconds of the least of some runs."""
-    runs = [figures(words, program=YARDSTICK) for _ in range(RUNS)]
-    if None in runs:
-        return None
-    return *runs[0][:2], sum(min(times) for times in zip(*(told[2:] for told in runs)))
 
 
 def measure_cores(given):
@@ -150,14 +150,15 @@ def measure_cores(given):
 
 
 def measure_core(given, part, kind, n, f):
-    told = delivered(["core", kind, n, f, given.core_seconds])
+    words = ["core", kind, n, f, given.core_seconds]
+    told = delivered(words) if f == 0 else delivered_in_turn(words)
     if told is None:
         part.wrong.append(f"core {kind} {n} {f}: no figures")
         return
-    entries, deliveries, listed, writing, thousands = told
+    figured, cells = (told, pace(part, kind, n, told)) if f == 0 else (told[0], long_lists(part, kind, n, f, *told))
+    entries, deliveries, listed, writing, thousands = figured
     nanos = sum(thousands)
     ended = "time" if nanos > given.core_seconds * 1e9 else "entries" if entries > MAX_ENTRIES - 9 else "listed"
-    cells = pace(part, kind, n, told) if f == 0 else long_lists(given, part, kind, n, f, told)
     part.row(kind, n, f, f"{entries:,}", f"{listed:,}", ended, f"{nanos / deliveries / 1e3:.2f}", f"{nanos / listed:.0f}",
              f"{writing / listed:.0f}", f"{nanos / writing:.2f}", *cells)
 
@@ -171,19 +172,16 @@ def pace(part, kind, n, told):
     return "", "", "", f"{fastest / 1e6:.2f}", f"{slowest / 1e6:.2f}", f"{slowest / fastest:.2f}"
 
 
-def long_lists(given, part, kind, n, f, told):
+def long_lists(part, kind, n, f, told, large, plain):
     """The last cells of a run whose lists grow."""
     _, deliveries, listed, writing, thousands = told
     nanos, row = sum(thousands), f"`{kind}` of {n} for {f}"
+    if plain[:2] != (deliveries, listed):
+        part.wrong.append(f"core {kind} {n} {f}: plain Rust does not list the same")
     part.aim("long lists: ns for each listed determinant", 60.0, row, nanos / listed)
     part.aim("long lists: the deliveries / the making of the text", 3.0, row, nanos / writing)
-    large = delivered(["core", kind, n, f, given.core_seconds], LARGE_PAGES)
-    plain = plainly([kind, n, f])
-    if plain is None or plain[:2] != (deliveries, listed):
-        part.wrong.append(f"core {kind} {n} {f}: plain Rust does not list the same")
-        return "", "", "", "", "", ""
     part.aim("long lists: the deliveries / the same in plain Rust", 1.0, row, nanos / plain[2])
-    return f"{sum(large[-1]) / listed:.0f}", f"{plain[2] / listed:.0f}", f"{nanos / plain[2]:.2f}", "", "", ""
+    return f"{large / listed:.0f}", f"{plain[2] / listed:.0f}", f"{nanos / plain[2]:.2f}", "", "", ""
 
 
 def measure_seats(given):
