@@ -125,7 +125,6 @@ def build_yardstick():
 
 
 def measure_cores(given):
-    build_yardstick()
     part = Part(
         "A core whose processes send a message for each that they get: round a ring, to and fro between pairs, and between "
         "process 0 and the others. What is on its way is delivered in the order in which it was sent, until the trace is "
@@ -337,6 +336,10 @@ def measure_runtime(given, before):
     which scripts and calls are divided; `before` is the section that is compared with."""
     if not os.path.exists(PROGRAM):
         return "The program over the runtime was not built; see bench/out/runtime_bench.log.", ["no program"]
+    try:
+        build_yardstick()
+    except (OSError, subprocess.CalledProcessError) as fault:
+        return f"Not measured: {fault}.", ["the deliveries in plain Rust were not built"]
     os.makedirs(INPUTS, exist_ok=True)
     parts = [tell(given) for tell in PARTS]
     wrong = [line for part in parts for line in part.wrong]
