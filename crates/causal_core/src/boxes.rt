@@ -2,9 +2,8 @@
 ghost use Rattle.std.specs.Prelude.{◌≡◌, ◌≤◌, ◌<◌, length, map, is_some, slice_set, true, false, IfOk, OnErr, vec_len};
 ghost use Rattle.causal_process.specs.declared.message.Input.TheVariants.{Begin};
 ghost use Rattle.causal_core.specs.Boxes.{box_answers, AnswersAlike, HoldsBox, HoldsNone};
-ghost use Rattle.causal_core.specs.Inside.Slots.{HasBox};
-ghost use Rattle.causal_core.specs.Boxes.{SameAnswers, SameElsewhere, StepsAt};
-ghost use Rattle.causal_core.specs.Inside.Slots.{BoxSteps, SlotSteps};
+ghost use Rattle.causal_core.specs.Boxes.{SameElsewhere};
+ghost use Rattle.causal_core.specs.Inside.Slots.{HasBox, BoxSteps, IsGiven, SlotSteps};
 
 use causal_name::NoMemory;
 use causal_process::{Input, Outgoing, Process};
@@ -46,12 +45,7 @@ pub(crate) fn step_at(
     input: &Input,
 ) -> Result<Vec<Outgoing>, NoMemory>
     requires { HasBox slots.old.items q }
-    ensures ok { IfOk result
-        (λ sends. StepsAt answers q input.now sends.items slots.old.items slots.new.items) }
-    ensures few { IfOk result (λ sends. length sends.items ≤ 8) }
-    ensures others { SameElsewhere answers q slots.old.items slots.new.items }
-    ensures err { OnErr result (SameAnswers answers slots.old.items slots.new.items) }
-    ensures filled { map is_some slots.new.items ≡ map is_some slots.old.items }
+    ensures { IsGiven answers q input.now result slots.old.items slots.new.items }
 {
     step_slot(&mut slots[q], alloc, input)
 }

@@ -1,12 +1,11 @@
 //! A kept message is given to a box, without a copy of its body.
-ghost use Rattle.std.specs.Prelude.{◌≡◌, ◌≤◌, ◌<◌, length, map, is_some, true, None, IfOk, OnErr};
+ghost use Rattle.std.specs.Prelude.{◌≡◌, ◌<◌, length, is_some, true, None};
 ghost use Rattle.causal_process.specs.declared.message.Input.TheVariants.{Message as Given};
 ghost use Rattle.causal_protocol.specs.declared.request.Request.TheVariants as Ask;
 ghost use Rattle.causal_protocol.specs.Memory.{at};
 ghost use Rattle.causal_protocol.specs.Naming.{name};
 ghost use Rattle.causal_protocol.specs.Refusals.{first_fault};
-ghost use Rattle.causal_core.specs.Boxes.{SameAnswers, SameElsewhere, StepsAt};
-ghost use Rattle.causal_core.specs.Inside.Slots.{HasBox};
+ghost use Rattle.causal_core.specs.Inside.Slots.{HasBox, IsGiven};
 ghost use Rattle.causal_core.specs.View.{body_at, body_in};
 ghost use Rattle.causal_core.specs.Inside.Memories.{memory_of, bodies_of, room_of, memories_in, memory_at, bodies_in, rooms_in};
 
@@ -29,12 +28,7 @@ fn give_body(
     body: &mut Body,
 ) -> Result<Vec<Outgoing>, NoMemory>
     requires { HasBox slots.old.items q }
-    ensures ok { IfOk result (λ sends. StepsAt answers q (Given source body.old)
-        sends.items slots.old.items slots.new.items) }
-    ensures few { IfOk result (λ sends. length sends.items ≤ 8) }
-    ensures others { SameElsewhere answers q slots.old.items slots.new.items }
-    ensures err { OnErr result (SameAnswers answers slots.old.items slots.new.items) }
-    ensures filled { map is_some slots.new.items ≡ map is_some slots.old.items }
+    ensures given { IsGiven answers q (Given source body.old) result slots.old.items slots.new.items }
     ensures body { body.new ≡ body.old }
 {
     let lent = mem::replace(body, Body::empty(alloc));
@@ -62,12 +56,8 @@ impl Sent {
     ) -> Result<Vec<Outgoing>, NoMemory>
         requires box_there { HasBox slots.old.items q }
         requires kept { ssn < length self.old.kept }
-        ensures ok { IfOk result (λ sends. StepsAt answers q
-            (Given source (body_in self.old.bodies ssn)) sends.items slots.old.items slots.new.items) }
-        ensures few { IfOk result (λ sends. length sends.items ≤ 8) }
-        ensures others { SameElsewhere answers q slots.old.items slots.new.items }
-        ensures err { OnErr result (SameAnswers answers slots.old.items slots.new.items) }
-        ensures filled { map is_some slots.new.items ≡ map is_some slots.old.items }
+        ensures given { IsGiven answers q (Given source (body_in self.old.bodies ssn)) result
+            slots.old.items slots.new.items }
         ensures sent { self.new ≡ self.old }
     {
         give_body(slots, q, alloc, source, &mut self.messages[ssn].body)
@@ -85,13 +75,8 @@ fn give_kept(
 ) -> Result<Vec<Outgoing>, NoMemory>
     requires box_there { HasBox slots.old.items q }
     requires kept { ssn < length cell.old.sent.kept }
-    ensures ok { IfOk result
-        (λ sends. StepsAt answers q (Given source (body_in (bodies_of cell.old) ssn))
-        sends.items slots.old.items slots.new.items) }
-    ensures few { IfOk result (λ sends. length sends.items ≤ 8) }
-    ensures others { SameElsewhere answers q slots.old.items slots.new.items }
-    ensures err { OnErr result (SameAnswers answers slots.old.items slots.new.items) }
-    ensures filled { map is_some slots.new.items ≡ map is_some slots.old.items }
+    ensures given { IsGiven answers q (Given source (body_in (bodies_of cell.old) ssn)) result
+        slots.old.items slots.new.items }
     ensures memory { memory_of cell.new ≡ memory_of cell.old }
     ensures bodies { bodies_of cell.new ≡ bodies_of cell.old }
     ensures room { room_of cell.new ≡ room_of cell.old }
@@ -111,13 +96,9 @@ pub(crate) fn give_at(
     requires box_there { HasBox slots.old.items q }
     requires up { is_some (at (memories_in cells.old.items) source.0) ≡ true }
     requires kept { ssn < length (memory_at (memories_in cells.old.items) source.0).sent }
-    ensures ok { IfOk result (λ sends. StepsAt answers q
-        (Given source (body_at (bodies_in cells.old.items) (name source ssn)))
-        sends.items slots.old.items slots.new.items) }
-    ensures few { IfOk result (λ sends. length sends.items ≤ 8) }
-    ensures others { SameElsewhere answers q slots.old.items slots.new.items }
-    ensures err { OnErr result (SameAnswers answers slots.old.items slots.new.items) }
-    ensures filled { map is_some slots.new.items ≡ map is_some slots.old.items }
+    ensures given { IsGiven answers q
+        (Given source (body_at (bodies_in cells.old.items) (name source ssn))) result
+        slots.old.items slots.new.items }
     ensures memories { memories_in cells.new.items ≡ memories_in cells.old.items }
     ensures bodies { bodies_in cells.new.items ≡ bodies_in cells.old.items }
     ensures rooms { rooms_in cells.new.items ≡ rooms_in cells.old.items }
@@ -140,13 +121,8 @@ impl Data {
     ) -> Result<Vec<Outgoing>, NoMemory>
         requires box_there { HasBox slots.old.items q.0 }
         requires legal { first_fault self.old.run (Ask.Deliver q source ssn) ≡ None }
-        ensures ok { IfOk result (λ sends. StepsAt answers q.0
-            (Given source (body_at self.old.bodies (name source ssn)))
-            sends.items slots.old.items slots.new.items) }
-        ensures few { IfOk result (λ sends. length sends.items ≤ 8) }
-        ensures others { SameElsewhere answers q.0 slots.old.items slots.new.items }
-        ensures err { OnErr result (SameAnswers answers slots.old.items slots.new.items) }
-        ensures filled { map is_some slots.new.items ≡ map is_some slots.old.items }
+        ensures given { IsGiven answers q.0 (Given source (body_at self.old.bodies (name source ssn)))
+            result slots.old.items slots.new.items }
         ensures data { self.new ≡ self.old }
     {
         give_at(slots, usize::from(q.0), alloc, &mut self.cells, source, ssn)

@@ -125,16 +125,17 @@ without (x ∷ y ∷ xs) d ys h = grind (arith, without (y ∷ xs) d ys, both, a
 pub raise : (xs : List Det) (d e : Det) → is_ascending (xs ++ d ∷ []) ≡ true → is_before d e ≡ true → is_ascending (xs ++ e ∷ []) ≡ true
 raise xs d e h low = without xs d (e ∷ []) (glue xs d (e ∷ []) h (and_from (is_before d e) true low refl))
 
+-- the last of a list is one of it
+last_there : (xs : List Det) (d : Det) → list_any (same_det d) (xs ++ d ∷ []) ≡ true
+last_there xs d = list_any-append (same_det d) xs (d ∷ []) ∙ or_right (list_any (same_det d) xs) (same_det d d || false) (ap (λ b. b || false) (same_itself d))
+
 -- a determinant is none of those that all come before it, nor of those that all come after it
 none_front : (xs : List Det) (d : Det) → is_ascending (xs ++ d ∷ []) ≡ true → list_any (same_det d) xs ≡ false
 none_front [] d h = refl
 none_front (x ∷ xs) d h = or_from (same_det d x) (list_any (same_det d) xs) (false_from_ne_true (same_det d x) first) (none_front xs d (ascending_tail x (xs ++ d ∷ []) h))
   where
-    last : list_any (same_det d) (xs ++ d ∷ []) ≡ true
-    last = list_any-append (same_det d) xs (d ∷ []) ∙ or_right (list_any (same_det d) xs) (same_det d d || false) (ap (λ b. b || false) (same_itself d))
-
     first : same_det d x ≡ true → ⊥
-    first is = true≢false (sym (first_before x (xs ++ d ∷ []) d h last) ∙ ap (is_before x) (same_is d x is) ∙ not_itself x)
+    first is = true≢false (sym (first_before x (xs ++ d ∷ []) d h (last_there xs d)) ∙ ap (is_before x) (same_is d x is) ∙ not_itself x)
 
 none_back : (d : Det) (ys : List Det) → is_ascending (d ∷ ys) ≡ true → list_any (same_det d) ys ≡ false
 none_back d ys h = false_from_ne_true (list_any (same_det d) ys) (λ there. true≢false (sym (first_before d ys d h there) ∙ not_itself d))
@@ -348,11 +349,8 @@ ends_before : (xs : List Det) (e d : Det) → is_ascending (xs ++ e ∷ []) ≡ 
 ends_before [] e d h there = absurd (true≢false (sym there))
 ends_before (x ∷ xs) e d h there = by (same_det d x) refl there (ends_before xs e d (ascending_tail x (xs ++ e ∷ []) h))
   where
-    last : list_any (same_det e) (xs ++ e ∷ []) ≡ true
-    last = list_any-append (same_det e) xs (e ∷ []) ∙ or_right (list_any (same_det e) xs) (same_det e e || false) (ap (λ b. b || false) (same_itself e))
-
     by : (b : Bool) → same_det d x ≡ b → (b || list_any (same_det d) xs) ≡ true → (list_any (same_det d) xs ≡ true → is_before d e ≡ true) → is_before d e ≡ true
-    by true is h2 later = ap (λ y. is_before y e) (same_is d x is) ∙ first_before x (xs ++ e ∷ []) e h last
+    by true is h2 later = ap (λ y. is_before y e) (same_is d x is) ∙ first_before x (xs ++ e ∷ []) e h (last_there xs e)
     by false is h2 later = later h2
 
 -- none of an ascending list comes after its last
@@ -378,9 +376,9 @@ ends_with xs x there =
     ∙ ap (λ ys. dets_of ys) (take-append-drop last xs)
 
 -- items that come after all items before a place, and before the one that stands there, are none of them
-pub apart_between : (items kept : List Item) (first last : Item) (place : ℕ) → is_ascending (dets_of items) ≡ true → is_ascending (dets_of kept) ≡ true → slice_get items 0 ≡ Some first → slice_get items (length items - 1) ≡ Some last
+pub apart_between : (items kept : List Item) (first last : Item) (place : ℕ) → is_ascending (dets_of items) ≡ true → slice_get items 0 ≡ Some first → slice_get items (length items - 1) ≡ Some last
     → is_ascending (dets_of (take place kept) ++ first.det ∷ []) ≡ true → is_ascending (last.det ∷ dets_of (drop place kept)) ≡ true → AreApart items kept
-apart_between items kept first last place ascend kept_ascend begins ends before after d there =
+apart_between items kept first last place ascend begins ends before after d there =
     sym (ap (λ ys. list_any (same_det d) (dets_of ys)) (take-append-drop place kept))
     ∙ ap (list_any (same_det d)) (dets_append (take place kept) (drop place kept))
     ∙ list_any-append (same_det d) (dets_of (take place kept)) (dets_of (drop place kept))

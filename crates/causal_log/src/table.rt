@@ -10,7 +10,7 @@ ghost use Rattle.causal_name.specs.declared.Det.{Det};
 ghost use Rattle.causal_name.specs.Names.{same_det, is_ascending, is_before};
 ghost use Rattle.causal_log.specs.declared.known.Known.{Known};
 ghost use Rattle.causal_log.specs.Knowledge.{joined, is_carried};
-ghost use Rattle.causal_log.specs.Logs.{log_of, item_of, chosen, learned, absorbed, learned_all};
+ghost use Rattle.causal_log.specs.Logs.{log_of, item_of, chosen, learned, IsLogged, absorbed, learned_all};
 ghost use Rattle.causal_log.specs.Inside.Carried.{is_open};
 ghost use Rattle.causal_log.specs.Inside.Ranks.{IsLeastOfSlot, has_rank};
 
@@ -83,8 +83,9 @@ impl Table {
 
     /// What is known of a determinant whose entry stands at this place.
     fn known_at(&self, place: usize, det: Det) -> Option<Known>
-        ensures known { IfSome result (λ known. fin.get (log_of self.now.entries) det ≡ Some known) }
-        ensures place { IfSome result (λ known. slice_get self.now.entries place ≡ Some (det, known)) }
+        ensures known { IfSome result (IsLogged (log_of self.now.entries) det) }
+        ensures place { IfSome result
+            (λ known. slice_get self.now.entries place ≡ Some (det, known)) }
         ensures within { IfSome result (λ known. place < length self.now.entries) }
     {
         if place >= self.entries.len() {

@@ -6,10 +6,10 @@ use Rattle.causal_core.proofs.give.give_at.Goals.{In-Some}
 found : (g : _) (c : In-Some g) → slice_get c.args.cells.now.items c.args.source.0 ≡ Some (Some c.in-Some.cell)
 found g c = lent_at c.args.cells.now.items c.args.source.0 c.from.result c.index_mut.result.now c.in-Some.cell c.requires.up c.from.ensures c.index_mut.ensures.value c.in-Some.is
 
-pub returns-clause-ok : goal.returns-clause-ok
-returns-clause-ok g c =
-    let f = found g (goal.at.returns-clause-ok g c).In-Some in
-    rw (body_there c.args.cells.now.items c.args.source.0 c.in-Some.cell f c.args.ssn) c.give_kept.ensures.ok
+pub returns-clause-given : goal.returns-clause-given
+returns-clause-given g c =
+    let f = found g (goal.at.returns-clause-given g c).In-Some in
+    rw (body_there c.args.cells.now.items c.args.source.0 c.in-Some.cell f c.args.ssn) c.give_kept.ensures.given
 
 pub returns-clause-memories : goal.returns-clause-memories
 returns-clause-memories g c =

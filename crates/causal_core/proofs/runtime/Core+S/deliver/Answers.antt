@@ -36,7 +36,7 @@ invariant_of-self-in-Ok-give g c =
     let own = c.in-Ok.grown.own in
     let tos = receivers mid.recording.processes c.in-Ok-give.sends.items in
     record {
-      filled = c.give.ensures.filled ∙ c.args.self.now.filled ∙ sym (delivery_filled r mid c.finish.new.self.run c.args.q own.source own.ssn (message_of own) (next_ssn (memories_of mid) c.args.q) tos same c.finish.ensures.run);
+      filled = c.give.ensures.given.filled ∙ c.args.self.now.filled ∙ sym (delivery_filled r mid c.finish.new.self.run c.args.q own.source own.ssn (message_of own) (next_ssn (memories_of mid) c.args.q) tos same c.finish.ensures.run);
       stored = λ d. c.args.self.now.stored d ∙ sym (delivery_stable r mid c.finish.new.self.run c.args.q own.source own.ssn (message_of own) (next_ssn (memories_of mid) c.args.q) tos same c.finish.ensures.run d);
       remembered = c.keep_for.ensures r c.finish.new.self.run c.args.self.now.remembered (delivery_alone r mid c.finish.new.self.run c.args.q own.source own.ssn (message_of own) (next_ssn (memories_of mid) c.args.q) tos same c.finish.ensures.run);
       kept = step_carried mid c.finish.new.self.run (Ask.Deliver c.args.q own.source own.ssn) (Told.Delivered c.finish.result) c.finish.ensures.step (subst (λ x. ∥ IsRun x ∥₁) (sym same) c.args.self.now.kept);
@@ -52,8 +52,8 @@ returns-in-Ok-give-clause-ok g c = let q = c.args.q in
     let sends = c.in-Ok-give.sends.items in
     record {
       sends = sends;
-      box = rw c.prepare.ensures.bodies at c.in-Ok-give.ensures.ok;
-      others = c.give.ensures.others;
+      box = rw c.prepare.ensures.bodies at c.in-Ok-give.ensures.given.ok;
+      others = c.give.ensures.given.others;
       run = grind arith;
       bodies = c.finish.ensures.bodies ∙ (λ i. with_bodies (bodies i) q.0 (sent_bodies (same i).recording.processes sends));
     }
