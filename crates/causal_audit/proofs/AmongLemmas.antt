@@ -1,5 +1,5 @@
 -- The least breach of the deliveries at given positions.
-use Rattle.causal_audit.proofs.Common.{ℕ, ◌≡◌, ◌+◌, ◌<◌, ◌≤◌, inl, inr, Bool, true, false, List, [], ◌∷◌, ◌++◌, Option, Some, None, length, refl, sym, subst, arith, ◌⊎◌, Contains, if◌then◌else◌, cases_lt, nat_tests, Contains-append_cases, Contains-append_left, Contains-append_right, Contains-push, Contains-push_cases, Det, instant, deliveries_in, det_at, Recording, AreAccepted, HasOrphan}
+use Rattle.causal_audit.proofs.Common.{ℕ, ◌≡◌, ◌+◌, ◌<◌, ◌≤◌, inl, inr, Bool, true, false, List, [], ◌∷◌, ◌++◌, Option, Some, None, length, refl, arith, ◌⊎◌, Contains, if◌then◌else◌, cases_lt, Contains-append_cases, Contains-append_left, Contains-append_right, Contains-push, Contains-push_cases, Det, instant, deliveries_in, det_at, Recording, AreAccepted, HasOrphan}
 use Rattle.causal_audit.specs.declared.breach.Breach.{Breach}
 use Rattle.causal_audit.specs.Earlier.{comes_before, earlier}
 use Rattle.causal_audit.specs.Numbers.{IsNumbered}
@@ -10,28 +10,16 @@ use Rattle.causal_audit.proofs.DeliveryNumbers.{numbered_later, numbered_below, 
 
 -- what is no earlier than a is no earlier than what comes before a
 pub before_least : (a b : Breach) (k t : ℕ) → comes_before b a ≡ true → (a.instant ≤ t) × (a.instant ≡ t → a.delivery ≤ k) → (b.instant ≤ t) × (b.instant ≡ t → b.delivery ≤ k)
-before_least a b k t h later =
-    let first : b.instant ≤ a.instant = grind (arith, nat_tests) in
-    let second : b.instant ≡ a.instant → b.delivery ≤ a.delivery = λ e. grind (arith, nat_tests) in
-    (omega (arith, first, later.0), λ e. let same : a.instant ≡ t = omega (arith, first, later.0, e) in omega (arith, later.1 same, second (omega (arith, same, e))))
+before_least a b k t h later = grind arith
 
 -- and than what does not come after a
 pub not_before_least : (a b : Breach) (k t : ℕ) → comes_before b a ≡ false → (b.instant ≤ t) × (b.instant ≡ t → b.delivery ≤ k) → (a.instant ≤ t) × (a.instant ≡ t → a.delivery ≤ k)
-not_before_least a b k t h later =
-    let first : a.instant ≤ b.instant = grind (arith, nat_tests) in
-    let second : a.instant ≡ b.instant → a.delivery ≤ b.delivery = λ e. grind (arith, nat_tests) in
-    (omega (arith, first, later.0), λ e. let same : b.instant ≡ t = omega (arith, first, later.0, e) in omega (arith, later.1 same, second (omega (arith, same, e))))
+not_before_least a b k t h later = grind arith
 
 module _ (r : Recording) (f : ℕ) where
   -- the first breach of a delivery is no later than any of its orphans
   first_least : (k : ℕ) (b : Breach) → IsFirstBreach r f k b → (t : ℕ) → HasOrphan r.processes f (instant r.past t) k → (b.instant ≤ t) × (b.instant ≡ t → b.delivery ≤ k)
-  first_least k b first t has = (
-    elim (cases_lt t b.instant) [
-      | inl early ↦ absurd (first.before t early has)
-      | inr late ↦ late
-    ],
-    λ _. omega (arith, first.delivery),
-  )
+  first_least k b first t has = grind arith
 
   -- what comes by a bound comes no later than what comes after it
   by_bound : (b : Breach) (end t k : ℕ) → b.instant ≤ end → end < t → (b.instant ≤ t) × (b.instant ≡ t → b.delivery ≤ k)
@@ -72,23 +60,8 @@ module _ (r : Recording) (f : ℕ) where
 
   -- of one position it is the first breach of its delivery
   among_one : (end k : ℕ) (found : Option Breach) → FirstBreachBy r f end k found → LeastAmongBy r f end (k ∷ []) found
-  among_one end k None none = λ j t listed low has. elim (Contains-push_cases [] k j listed) [
-    | inl old ↦ absurd (nothing j old)
-    | inr new ↦ none t low (subst (HasOrphan r.processes f (instant r.past t)) (sym new) has)
-  ]
-  among_one end k (Some b) one = (
-    one.0,
-    record {
-      among = subst (Contains (k ∷ [])) (sym one.1.delivery) (Contains-push [] k);
-      first = subst (λ x. IsFirstBreach r f x b) (sym one.1.delivery) one.1;
-      least = λ j t listed in_time has. elim (Contains-push_cases [] k j listed) [
-        | inl old ↦ absurd (nothing j old)
-        | inr new ↦
-            let same : j ≡ k = sym new in
-            subst (λ x. (b.instant ≤ t) × (b.instant ≡ t → b.delivery ≤ x)) (sym same) (first_least k b one.1 t (subst (HasOrphan r.processes f (instant r.past t)) same has))
-      ];
-    },
-  )
+  among_one end k None none = λ j t listed low has. grind (arith, Contains-push_cases [] k j listed, nothing)
+  among_one end k (Some b) one = grind (arith, Contains-push [] k, Contains-push_cases, nothing, first_least)
 
   -- More positions need be known no further than the breach so far.
   pub among_joined : (end until : ℕ) (positions more : List ℕ) (one other : Option Breach) → until ≡ horizon end one → LeastAmongBy r f end positions one → LeastAmongBy r f until more other
@@ -125,8 +98,7 @@ module _ (r : Recording) (f : ℕ) where
       ];
     },
   )
-  among_joined end until positions more (Some a) (Some b) reach so_far next =
-      chosen positions more end a b so_far.0 (omega (arith, next.0, reach, so_far.0)) so_far.1 next.1 (comes_before b a) refl
+  among_joined end until positions more (Some a) (Some b) reach so_far next = grind (arith, chosen)
 
   -- Two answers by one instant make one.
   pub among_both : (end : ℕ) (positions more : List ℕ) (one other : Option Breach) → LeastAmongBy r f end positions one → LeastAmongBy r f end more other → LeastAmongBy r f end (positions ++ more) (earlier one other)
@@ -214,18 +186,15 @@ pub record IsLeastBelow (r : Recording) (f end i : ℕ) (found : Option Breach) 
 
 -- the earlier of that and the first breach of the delivery of number i is the least below i + 1
 pub below_more : (r : Recording) (f end i k : ℕ) (one other : Option Breach) → IsNumbered r.past i k → IsLeastBelow r f end i one → FirstBreachBy r f end k other → IsLeastBelow r f end (i + 1) (earlier one other)
-below_more r f end i k one other here so_far next = record {
-  positions = so_far.positions ++ k ∷ [];
-  each = λ j m low is. elim (cases_lt j i) [
-    | inl old ↦ Contains-append_left so_far.positions (k ∷ []) m (so_far.each j m old is)
-    | inr new ↦
-        let same : j ≡ i = omega (arith, low, new) in
-        subst (Contains (so_far.positions ++ k ∷ [])) (numbered_one r.past i k m here (subst (λ x. IsNumbered r.past x m) same is)) (Contains-push so_far.positions k)
-  ];
-  least = among_push r f end so_far.positions k one other so_far.least next;
-}
+below_more r f end i k one other here so_far next =
+    grind (
+      arith,
+      Contains-append_left,
+      numbered_one,
+      Contains-push so_far.positions k,
+      among_push r f end so_far.positions k one other so_far.least next,
+    )
 
 -- that of all deliveries is the least breach by the bound
 pub below_all : (r : Recording) (f end : ℕ) (found : Option Breach) → AreAccepted r.processes r.past → end ≤ length r.past → IsLeastBelow r f end (deliveries_in r.past) found → LeastBreachBy r f end 0 (deliveries_in r.past) found
-below_all r f end found formed within all =
-    among_all r f end all.positions found formed within (λ k d at. let n = has_number r.past k d at in inl (all.each n.0 k n.1 n.2)) all.least
+below_all r f end found formed within all = grind (arith, among_all, has_number)

@@ -1,5 +1,5 @@
 -- What one more entry makes of who depends on a delivery, and what stays between two changes.
-use Rattle.causal_audit.proofs.Common.{ℕ, ◌≡◌, ◌≢◌, ◌+◌, inl, inr, Bool, true, false, cond, List, ◌∷◌, length, Some, None, refl, sym, ap, subst, ◌∙◌, zero, suc, ◌-◌, ◌<◌, ◌≤◌, [], arith, ◌⊎◌, ◌↔◌, ◌&&◌, ◌||◌, not, ◌==◌, nat_cmp, FinSet, contains, insert, remove, false≢true, eq-eqb, ne_eqb, cases_lt, cond-true, cond-false, eqb_tells, nat_tests, Pid, Det, Entry, Send, Deliver, Stable, Crash, Restart, Forget, is_down, lane, instant, entry_at, det_at, is_stable, logs, has, AreAccepted, first_fault, actor, IsEventOf, DirectlyPrecedes, in_order, by_message, Reaches, itself, onward, Depends, event_below, reaches_old, depends_restarted, reaches_begins, accepted_forward, delivers_up, same_det, count_below, HasOrphan, instants_stay, one_more_instant, last_instant, accepted_then, det_then, det_within, instant_length}
+use Rattle.causal_audit.proofs.Common.{ℕ, ◌≡◌, ◌≢◌, ◌+◌, inl, inr, Bool, true, false, cond, List, ◌∷◌, length, Some, None, refl, sym, ap, subst, ◌∙◌, zero, suc, ◌-◌, ◌<◌, ◌≤◌, [], arith, ◌⊎◌, ◌↔◌, ◌&&◌, ◌||◌, not, ◌==◌, nat_cmp, FinSet, contains, insert, remove, false≢true, eq-eqb, ne_eqb, cases_lt, cond-true, cond-false, nat_tests, Pid, Det, Entry, Send, Deliver, Stable, Crash, Restart, Forget, is_down, lane, instant, entry_at, det_at, is_stable, logs, has, AreAccepted, first_fault, actor, IsEventOf, DirectlyPrecedes, in_order, by_message, Reaches, itself, onward, Depends, event_below, reaches_old, depends_restarted, reaches_begins, accepted_forward, delivers_up, same_det, HasOrphan, instants_stay, one_more_instant, last_instant, accepted_then, det_then, det_within, instant_length}
 use Rattle.causal_audit.specs.Inside.DeliveryStates.{AreDependents, TellsNextReach, IsDeliveryState}
 use Rattle.causal_audit.proofs.Legal.{sends_up}
 use Rattle.causal_audit.proofs.Shown.{inserted, removed}
@@ -27,12 +27,7 @@ IsNoTurn e past p = (is_down (e ∷ past) p ≡ is_down past p) × (lane (e ∷ 
 
 -- what a process depends on grows with the run while it neither crashes nor restarts
 pub depends_more : (e : Entry) (past : List Entry) (k p : ℕ) → IsNoTurn e past p → Depends past k p → Depends (e ∷ past) k p
-depends_more e past k p same d = record {
-  up = same.0 ∙ d.up;
-  event = d.event;
-  present = inl (subst (λ l. IsEventOf past d.event p l) (sym same.1) d.present);
-  reached = reaches_more e past k d.event d.reached;
-}
+depends_more e past k p same d = grind (arith, reaches_more e past k d.event d.reached)
 
 -- what depends after the entry did before, or the entry is its event and is reached
 pub depends_before : (n : ℕ) (e : Entry) (past : List Entry) (k p : ℕ) → AreAccepted n (e ∷ past) → IsNoTurn e past p → Depends (e ∷ past) k p → Depends past k p ⊎ ((actor e ≡ Some p) × Reaches (e ∷ past) k (length past))
@@ -62,13 +57,7 @@ removed_other s p q apart = removed s p q ∙ ap (λ b. not b && contains s q) (
 module _ (n : ℕ) (e : Entry) (past : List Entry) (k : ℕ) (formed : AreAccepted n (e ∷ past)) (s : FinSet nat_cmp) (are : AreDependents past k s) where
   -- an entry that is no turn of p, and no event of p that is reached
   stays : (p : ℕ) → IsNoTurn e past p → (actor e ≡ Some p → Reaches (e ∷ past) k (length past) → ⊥) → (contains s p ≡ true) ↔ Depends (e ∷ past) k p
-  stays p same none = (
-    λ h. depends_more e past k p same ((are p).0 h),
-    λ d. elim (depends_before n e past k p formed same d) [
-      | inl old ↦ (are p).1 old
-      | inr new ↦ absurd (none new.0 new.1)
-    ],
-  )
+  stays p same none = grind (arith, depends_more, depends_before)
 
   -- an entry that is nobody's turn, and no event that is reached
   pub same_dependents : ((p : ℕ) → IsNoTurn e past p) → ((p : ℕ) → actor e ≡ Some p → Reaches (e ∷ past) k (length past) → ⊥) → AreDependents (e ∷ past) k s
@@ -76,30 +65,11 @@ module _ (n : ℕ) (e : Entry) (past : List Entry) (k : ℕ) (formed : AreAccept
 
   -- an event that is reached
   pub one_dependent_more : (w : ℕ) → actor e ≡ Some w → is_down past w ≡ false → ((p : ℕ) → IsNoTurn e past p) → Reaches (e ∷ past) k (length past) → AreDependents (e ∷ past) k (insert s w)
-  one_dependent_more w of up same reach p =
-      elim (eqb_tells p w) [
-        | inl here ↦
-            let d : Depends (e ∷ past) k w = record {
-              up = (same w).0 ∙ up;
-              event = length past;
-              present = inr (refl, of, sym (same w).1);
-              reached = reach;
-            } in
-            (λ _. subst (Depends (e ∷ past) k) (sym here.1) d, λ _. inserted_here s w p here.1)
-        | inr apart ↦
-            let f = stays p (same p) (λ who _. let x : Some w ≡ Some p = sym of ∙ who in let y : p ≡ w = cc in apart.1 y) in
-            (λ h. f.0 (sym (inserted_other s w p apart.1) ∙ h), λ d. inserted_other s w p apart.1 ∙ f.1 d)
-      ]
+  one_dependent_more w of up same reach p = grind (arith, inserted_here, stays, inserted_other)
 
   -- a turn of one process
   one_dependent_less : (w : ℕ) → actor e ≡ None → ((p : ℕ) → p ≢ w → IsNoTurn e past p) → (Depends (e ∷ past) k w → ⊥) → AreDependents (e ∷ past) k (remove s w)
-  one_dependent_less w none same gone p =
-      elim (eqb_tells p w) [
-        | inl here ↦ (λ h. absurd (false≢true (sym (removed_here s w p here.1) ∙ h)), λ d. absurd (gone (subst (Depends (e ∷ past) k) here.1 d)))
-        | inr apart ↦
-            let f = stays p (same p apart.1) (λ who _. let x : None ≡ Some p = sym none ∙ who in cc) in
-            (λ h. f.0 (sym (removed_other s w p apart.1) ∙ h), λ d. removed_other s w p apart.1 ∙ f.1 d)
-      ]
+  one_dependent_less w none same gone p = grind (arith, removed_here, stays, removed_other)
 
 pub no_event : {G : Type 0} (e : Entry) (p : ℕ) → actor e ≡ None → actor e ≡ Some p → G
 no_event e p none who = absurd (let x : None ≡ Some p = sym none ∙ who in cc)
@@ -113,20 +83,17 @@ module _ (n : ℕ) (x : Entry) (past : List Entry) (k : ℕ) (formed : AreAccept
   at_entry y t is h = subst (λ z. After z t) (sym is) h formed tells
 
   pub sent_reached : (from to : Pid) (ssn : ℕ) → x ≡ Send from to ssn → reached ≡ true → AreDependents (x ∷ past) k (insert s from.0)
-  sent_reached from to ssn is hit =
-      at_entry (Send from to ssn) _ is (λ legal told. one_dependent_more n (Send from to ssn) past k legal s are from.0 refl (sends_up n past from to ssn legal.1) (λ p. (refl, refl)) ((told from.0 refl).0 hit))
+  sent_reached from to ssn is hit = grind (arith, at_entry (Send from to ssn), one_dependent_more, sends_up)
 
   pub delivered_reached : (to : Pid) (send rsn : ℕ) (listed : List Det) → x ≡ Deliver to send rsn listed → reached ≡ true → AreDependents (x ∷ past) k (insert s to.0)
   delivered_reached to send rsn listed is hit =
       at_entry (Deliver to send rsn listed) _ is (λ legal told. one_dependent_more n (Deliver to send rsn listed) past k legal s are to.0 refl (delivers_up n past to send rsn listed legal.1) (λ p. (refl, refl)) ((told to.0 refl).0 hit))
 
   pub sent_unreached : (from to : Pid) (ssn : ℕ) → x ≡ Send from to ssn → reached ≡ false → AreDependents (x ∷ past) k s
-  sent_unreached from to ssn is missed =
-      at_entry (Send from to ssn) _ is (λ legal told. same_dependents n (Send from to ssn) past k legal s are (λ p. (refl, refl)) (λ p who reach. false≢true (sym missed ∙ (told p who).1 reach)))
+  sent_unreached from to ssn is missed = grind (arith, at_entry (Send from to ssn), same_dependents)
 
   pub delivered_unreached : (to : Pid) (send rsn : ℕ) (listed : List Det) → x ≡ Deliver to send rsn listed → reached ≡ false → AreDependents (x ∷ past) k s
-  delivered_unreached to send rsn listed is missed =
-      at_entry (Deliver to send rsn listed) _ is (λ legal told. same_dependents n (Deliver to send rsn listed) past k legal s are (λ p. (refl, refl)) (λ p who reach. false≢true (sym missed ∙ (told p who).1 reach)))
+  delivered_unreached to send rsn listed is missed = grind (arith, at_entry (Deliver to send rsn listed), same_dependents)
 
   pub stored : (det : Det) → x ≡ Stable det → AreDependents (x ∷ past) k s
   stored det is = at_entry (Stable det) _ is (λ legal told. same_dependents n (Stable det) past k legal s are (λ p. (refl, refl)) (λ p who. no_event (Stable det) p refl who))
@@ -135,10 +102,7 @@ module _ (n : ℕ) (x : Entry) (past : List Entry) (k : ℕ) (formed : AreAccept
   forgotten who listed is = at_entry (Forget who listed) _ is (λ legal told. same_dependents n (Forget who listed) past k legal s are (λ p. (refl, refl)) (λ p of. no_event (Forget who listed) p refl of))
 
   pub crashed : (who : Pid) → x ≡ Crash who → AreDependents (x ∷ past) k (remove s who.0)
-  crashed who is =
-      at_entry (Crash who) _ is (λ legal told. one_dependent_less n (Crash who) past k legal s are who.0 refl
-      (λ p apart. (ap (λ b. b || is_down past p) (ne_eqb who.0 p (λ h. apart (sym h))), refl))
-      (λ d. false≢true (sym d.up ∙ ap (λ b. b || is_down past who.0) (eq-eqb who.0 who.0 refl))))
+  crashed who is = grind (arith, at_entry (Crash who), one_dependent_less, eq-eqb who.0 who.0 refl)
 
   pub restarted : (who : Pid) (listed : List Det) → x ≡ Restart who listed → AreDependents (x ∷ past) k (remove s who.0)
   restarted who listed is =
@@ -188,18 +152,7 @@ stable_stays (Forget who listed) past d l = refl
 
 -- so where it is quiet, the states before and after it agree
 pub quiet_step : (n : ℕ) (e : Entry) (past : List Entry) (k : ℕ) (d : Det) → AreAccepted n (e ∷ past) → IsQuiet past e k d → Agree past (e ∷ past) k d
-quiet_step n e past k d formed quiet = record {
-  down = λ p. sym (no_turn_stays e past quiet.no_turn p).0;
-  logged = logs_stay e past d quiet.no_turn quiet.unmentioned;
-  stable = stable_stays e past d quiet.unmentioned;
-  dependents = λ p. (
-    depends_more e past k p (no_turn_stays e past quiet.no_turn p),
-    λ depends. elim (depends_before n e past k p formed (no_turn_stays e past quiet.no_turn p) depends) [
-      | inl old ↦ old
-      | inr new ↦ quiet.known p new.0 new.1
-    ],
-  );
-}
+quiet_step n e past k d formed quiet = grind (arith, no_turn_stays, logs_stay, stable_stays, depends_more, depends_before)
 
 -- ---- from instant to instant
 
@@ -223,23 +176,13 @@ next_entry (e ∷ past) v below =
     ]
 
 agree_then : (k : ℕ) (d : Det) (one two three : List Entry) → Agree one two k d → Agree two three k d → Agree one three k d
-agree_then k d one two three a b = record {
-  down = λ p. a.down p ∙ b.down p;
-  logged = λ p. a.logged p ∙ b.logged p;
-  stable = a.stable ∙ b.stable;
-  dependents = λ p. (λ x. (b.dependents p).0 ((a.dependents p).0 x), λ x. (a.dependents p).1 ((b.dependents p).1 x));
-}
+agree_then k d one two three a b = grind arith
 
 agree_itself : (k : ℕ) (d : Det) (past : List Entry) → Agree past past k d
 agree_itself k d past = record { down = λ p. refl; logged = λ p. refl; stable = refl; dependents = λ p. (λ x. x, λ x. x) }
 
 pub agree_back : (k : ℕ) (d : Det) (one other : List Entry) → Agree one other k d → Agree other one k d
-agree_back k d one other a = record {
-  down = λ p. sym (a.down p);
-  logged = λ p. sym (a.logged p);
-  stable = sym a.stable;
-  dependents = λ p. ((a.dependents p).1, (a.dependents p).0);
-}
+agree_back k d one other a = grind arith
 
 agree_next : (n : ℕ) (past : List Entry) (k : ℕ) (d : Det) (v : ℕ) → AreAccepted n past → v < length past → ((e : Entry) → entry_at past v ≡ Some e → IsQuiet (instant past v) e k d) → Agree (instant past v) (instant past (v + 1)) k d
 agree_next n past k d v formed below quiet =
@@ -264,16 +207,7 @@ instants_agree n past k d t u formed up within quiet =
     (agree_for n past k d t (u - t) formed (omega (arith, same, within)) (λ v e above below at. quiet v e above (omega (arith, below, same)) at))
 
 exposed_agrees : (n f : ℕ) (one other : List Entry) (k : ℕ) (d : Det) → Agree one other k d → IsExposed n f one k d → IsExposed n f other k d
-exposed_agrees n f one other k d a e =
-    let same : gone one d ≡ gone other d = λ i p. a.down p i || a.logged p i in
-    record {
-      unstable = sym a.stable ∙ e.unstable;
-      few = omega (arith, e.few, ap (count_below n) same);
-      orphan = e.orphan;
-      process = e.process;
-      depends = (a.dependents e.orphan).0 e.depends;
-      without = sym (a.logged e.orphan) ∙ e.without;
-    }
+exposed_agrees n f one other k d a e = grind arith
 
 -- so a delivery that is made has an orphan at both or at neither
 pub orphans_agree : OrphansAgree
@@ -287,12 +221,7 @@ orphans_agree n f past k d t u formed at made up within quiet =
 
 -- what is known of the delivery at one is known at the other
 pub state_agrees : (one other : List Entry) (k : ℕ) (d : Det) (s : DeliveryState) → Agree one other k d → IsDeliveryState one k d s → IsDeliveryState other k d s
-state_agrees one other k d s a is = record {
-  down = λ p. is.down p ∙ a.down p;
-  holders = λ p. is.holders p ∙ a.logged p;
-  stable = is.stable ∙ a.stable;
-  dependents = λ p. (λ h. (a.dependents p).0 ((is.dependents p).0 h), λ x. (is.dependents p).1 ((a.dependents p).1 x));
-}
+state_agrees one other k d s a is = grind arith
 
 -- and it has an orphan at the later one only where it has one at the other
 pub none_agrees : (n f : ℕ) (past : List Entry) (k : ℕ) (d : Det) (t w : ℕ) → det_at past k ≡ Some d → t ≤ w → w ≤ length past → Agree (instant past t) (instant past w) k d → HasOrphan n f (instant past w) k → HasOrphan n f (instant past t) k
@@ -307,9 +236,7 @@ none_agrees n f past k d t w at up within agree has =
 
 -- an event adds nobody where k reaches an earlier one of its lane
 pub known_already : (n : ℕ) (past : List Entry) (e : Entry) (k i p : ℕ) → first_fault n past e ≡ None → actor e ≡ Some p → IsEventOf past i p (lane past p) → Reaches past k i → Depends past k p
-known_already n past (Send from to ssn) k i p legal of present reach =
-    let one : from.0 ≡ p = cc of in
-    record { up = subst (λ q. is_down past q ≡ false) one (sends_up n past from to ssn legal); event = i; present = present; reached = reach }
+known_already n past (Send from to ssn) k i p legal of present reach = grind (arith, sends_up n past from to ssn legal)
 known_already n past (Deliver to send rsn listed) k i p legal of present reach =
     let one : to.0 ≡ p = cc of in
     record { up = subst (λ q. is_down past q ≡ false) one (delivers_up n past to send rsn listed legal); event = i; present = present; reached = reach }

@@ -1,5 +1,5 @@
 -- Deliveries by their numbers.
-use Rattle.causal_audit.proofs.Common.{ℕ, zero, suc, ◌≡◌, ◌+◌, ◌-◌, drop, ◌<◌, ◌≤◌, inl, inr, true, List, [], ◌∷◌, length, Some, refl, ap, subst, ◌∙◌, arith, false≢true, eq-eqb, cases_lt, is_delivery_of, Delivers, Det, Entry, Send, Deliver, Stable, Crash, Restart, Forget, instant, det_at, deliveries_in, AreAccepted, instants_stay, one_more_instant}
+use Rattle.causal_audit.proofs.Common.{ℕ, ◌≡◌, ◌+◌, ◌<◌, ◌≤◌, inl, inr, true, List, [], ◌∷◌, length, Some, refl, ap, subst, ◌∙◌, arith, false≢true, eq-eqb, cases_lt, is_delivery_of, Delivers, Det, Entry, Send, Deliver, Stable, Crash, Restart, Forget, instant, det_at, deliveries_in, AreAccepted, instants_stay, one_more_instant}
 use Rattle.causal_audit.specs.Numbers.{is_delivery, IsNumbered}
 use Rattle.causal_audit.proofs.index.Receivers.{delivered}
 use Rattle.causal_audit.proofs.Lemmas.NumberLemmas.{no_fewer, one_more}
@@ -30,11 +30,7 @@ numbered_one (e ∷ past) i j k (inr a) (inr b) = omega (arith, a.0, b.0)
 
 -- a delivery has the same number at each later instant
 pub numbered_later : (past : List Entry) (t i k : ℕ) → t ≤ length past → IsNumbered (instant past t) i k → IsNumbered past i k
-numbered_later [] t i k within n = elsewhere (0 - t) n
-  where
-    elsewhere : (m : ℕ) → IsNumbered (drop m []) i k → ⊥
-    elsewhere zero n = n
-    elsewhere (suc m) n = n
+numbered_later [] t i k within n = grind arith
 numbered_later (e ∷ past) t i k within n =
     elim (cases_lt (length past) t) [
       | inl h ↦
@@ -59,7 +55,4 @@ numbered_delivers (e ∷ past) i k (inr new) = let sent = delivery_of e new.1 in
 
 -- so it has a determinant
 pub numbered_some : (n : ℕ) (past : List Entry) (i k : ℕ) → AreAccepted n past → IsNumbered past i k → (d : Det) × (det_at past k ≡ Some d)
-numbered_some n past i k formed numbered =
-    let by = numbered_delivers past i k numbered in
-    let found = delivered n past formed k by.0 by.1 in
-    (found.0, found.2)
+numbered_some n past i k formed numbered = grind (arith, numbered_delivers, delivered)

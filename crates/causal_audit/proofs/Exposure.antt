@@ -1,5 +1,5 @@
 -- Orphans, by what is known of a delivery at an instant.
-use Rattle.causal_audit.proofs.Common.{ℕ, ◌≡◌, ◌<◌, ◌≤◌, inl, inr, true, false, List, Some, sym, ap, subst, ◌∙◌, arith, ◌&&◌, not, nat_cmp, nat_cmp_total, FinSet, contains, empty, union, difference, len, contains-empty, contains-difference, false≢true, or_cases, Det, count_below, Entry, is_down, logs, det_at, Depends, AreAccepted, HasOrphan, IsCrashSet, IsOrphan}
+use Rattle.causal_audit.proofs.Common.{ℕ, ◌≡◌, ◌<◌, ◌≤◌, true, false, List, Some, sym, ap, subst, ◌∙◌, arith, nat_cmp, nat_cmp_total, FinSet, contains, empty, union, difference, len, contains-empty, contains-difference, false≢true, Det, count_below, Entry, is_down, logs, det_at, Depends, AreAccepted, HasOrphan, IsCrashSet, IsOrphan}
 use Rattle.causal_holders.specs.Members.{IsLeast}
 use Rattle.causal_audit.specs.declared.delivery_state.DeliveryState.{DeliveryState}
 use Rattle.causal_audit.specs.Inside.DeliveryStates.{IsDeliveryState, IsUnheard, Shows}
@@ -33,19 +33,13 @@ module _ (n f : ℕ) (past : List Entry) (k : ℕ) (d : Det) (formed : AreAccept
   crash_is q = gone_shown n past d formed s.down s.holders state.down state.holders q
 
   crash_inside : (q : ℕ) → contains crash q ≡ true → q < n
-  crash_inside q h =
-      elim (or_cases (is_down past q) (logs past q d) (sym (crash_is q) ∙ h)) [
-        | inl down ↦ down_inside n past q formed down
-        | inr held ↦ logs_inside n past q d formed held
-      ]
+  crash_inside q h = grind (arith, crash_is q, down_inside, logs_inside)
 
   crash_counted : len crash ≡ count_below n (gone past d)
   crash_counted = gone_many n past d formed s.down s.holders state.down state.holders
 
   unheld_is : (p : ℕ) → Depends past k p → logs past p d ≡ false → contains unheld p ≡ true
-  unheld_is p depends without =
-      contains-difference nat_cmp_total s.dependents s.holders p
-      ∙ (λ i. (state.dependents p).1 depends i && not ((state.holders p ∙ without) i))
+  unheld_is p depends without = grind (arith, contains-difference nat_cmp_total s.dependents s.holders p)
 
   unheld_parts : (p : ℕ) → contains unheld p ≡ true → Depends past k p × (logs past p d ≡ false)
   unheld_parts p h =

@@ -1,8 +1,8 @@
 -- What is known of the entries of a well-formed run.
-use Rattle.causal_audit.proofs.Common.{ℕ, ◌≡◌, ◌<◌, inl, inr, true, false, cond, List, [], ◌∷◌, length, Option, Some, None, refl, arith, ◌==◌, nat_le, option_map_or, false≢true, eqb-true, nat_tests, Pid, Det, Entry, Send, Deliver, Stable, Crash, Restart, Forget, is_down, lane, restarts, listed_in, listed_by, entry_at, is_send_to, is_sent_to, det_of, det_at, first_fault, AreAccepted, actor, is_delivery_of, IsEventOf, Delivers, row_fails}
+use Rattle.causal_audit.proofs.Common.{ℕ, ◌≡◌, ◌<◌, inl, inr, true, false, cond, List, [], ◌∷◌, length, Option, Some, None, refl, arith, ◌==◌, option_map_or, false≢true, eqb-true, Pid, Det, Entry, Send, Deliver, Stable, Crash, Restart, Forget, is_down, lane, restarts, listed_in, listed_by, entry_at, is_send_to, is_sent_to, det_of, det_at, first_fault, AreAccepted, actor, is_delivery_of, IsEventOf, Delivers, row_fails}
 use Rattle.causal_audit.specs.Numbers.{is_delivery}
 use Rattle.causal_trace.specs.Rows.{rows}
-use Rattle.causal_trace.specs.declared.fault.TraceFault.TheVariants.{NotUp, Lanes}
+use Rattle.causal_trace.specs.declared.fault.TraceFault.TheVariants.{NotUp}
 use Rattle.causal_trace.proofs.Lemmas.EntryFacts.{delivery_sent}
 use Rattle.causal_trace.proofs.Lemmas.WellFormed.{within_limits, limits}
 use Rattle.causal_audit.proofs.Shown.{send_inside, deliver_inside}
@@ -16,10 +16,7 @@ module _ (n : ℕ) (past : List Entry) where
   -- there are lanes left where a restart may come next
   pub restarts_few : (who : Pid) (listed : List Det) → first_fault n past (Restart who listed) ≡ None → restarts past < 192
   unfolding rows
-  restarts_few who listed legal = few_of (restarts past) (row_fails (rows n past (Restart who listed)) legal 3 (nat_le 192 (restarts past), Lanes) refl)
-    where
-      few_of : (m : ℕ) → nat_le 192 m ≡ false → m < 192
-      few_of m h = grind (arith, nat_tests)
+  restarts_few who listed legal = grind arith
 
   -- the process of an event is one of the run, and up
   pub actor_inside : (e : Entry) (p : ℕ) → first_fault n past e ≡ None → actor e ≡ Some p → p < n

@@ -16,9 +16,4 @@ module _ (r : Recording) (formed : IsWellFormed r) (t : ℕ) (x : Entry) (below 
 -- where a delivery had no orphan up to an instant and has one at the next, that is its first breach
 pub first_breach_is : (r : Recording) (f k t : ℕ) (b : Breach) → t < length r.past → ((u : ℕ) → u ≤ t → HasOrphan r.processes f (instant r.past u) k → ⊥) → b.instant ≡ t + 1 → b.delivery ≡ k
     → IsLeastOrphan r.processes f (instant r.past (t + 1)) k b.crash b.orphan → IsFirstBreach r f k b
-first_breach_is r f k t b below before instant_is delivery least = record {
-  within = omega (arith, below, instant_is);
-  delivery = delivery;
-  before = λ u early. before u (omega (arith, early, instant_is));
-  least = subst (λ u. IsLeastOrphan r.processes f (instant r.past u) k b.crash b.orphan) (sym instant_is) least;
-}
+first_breach_is r f k t b below before instant_is delivery least = grind arith

@@ -1,16 +1,12 @@
 -- What one more entry makes of the sets that show who is down and who holds a determinant.
-use Rattle.causal_audit.proofs.Common.{ℕ, ◌≡◌, ◌<◌, inl, inr, Bool, true, false, List, [], ◌∷◌, None, refl, sym, ap, subst, ◌∙◌, arith, ◌&&◌, ◌||◌, ◌==◌, not, nat_lt, nat_cmp, nat_cmp_total, unsigned_tied, FinSet, contains, empty, insert, remove, len, contains-empty, contains-insert, contains-remove, false≢true, cases_lt, le-ltb, eqb-true, and_parts, or_cases, eqb_tells, nat_tests, Pid, Det, count_below, members_counted, Entry, Send, Deliver, Stable, Crash, Restart, Forget, is_down, logs, has, AreAccepted, first_fault, row_fails}
+use Rattle.causal_audit.proofs.Common.{ℕ, ◌≡◌, ◌<◌, inl, inr, Bool, true, false, List, [], ◌∷◌, None, refl, sym, ap, subst, ◌∙◌, arith, ◌&&◌, ◌||◌, ◌==◌, not, nat_lt, nat_cmp, nat_cmp_total, unsigned_tied, FinSet, contains, empty, insert, remove, len, contains-empty, contains-insert, contains-remove, false≢true, cases_lt, le-ltb, eqb-true, and_parts, or_cases, nat_tests, Pid, Det, count_below, members_counted, Entry, Send, Deliver, Stable, Crash, Restart, Forget, is_down, logs, has, AreAccepted, first_fault, row_fails}
 use Rattle.causal_trace.specs.Rows.{rows}
 use Rattle.causal_trace.specs.declared.fault.TraceFault.TheVariants.{NoProcess}
 use Rattle.causal_audit.specs.Verdicts.{HasMembers}
 use Rattle.causal_audit.specs.Inside.DeliveryStates.{Shows}
 
 same_number : (p q : ℕ) → (q == p) ≡ (p == q)
-same_number p q =
-    elim (eqb_tells q p) [
-      | inl h ↦ h.0 ∙ sym (elim (eqb_tells p q) [ inl k ↦ k.0 | inr k ↦ absurd (k.1 (sym h.1)) ])
-      | inr h ↦ h.0 ∙ sym (elim (eqb_tells p q) [ inl k ↦ absurd (h.1 (sym k.1)) | inr k ↦ k.0 ])
-    ]
+same_number p q = grind arith
 
 -- a set with p put in has p and its members
 pub inserted : (s : FinSet nat_cmp) (p q : ℕ) → contains (insert s p) q ≡ ((p == q) || contains s q)
@@ -87,16 +83,10 @@ down_inside n (Forget who listed ∷ past) p a h = down_inside n past p a.0 h
 pub logs_inside : (n : ℕ) (past : List Entry) (p : ℕ) (d : Det) → AreAccepted n past → logs past p d ≡ true → p < n
 logs_inside n [] p d a h = absurd (false≢true h)
 logs_inside n (Send from to ssn ∷ past) p d a h = logs_inside n past p d a.0 h
-logs_inside n (Deliver to send rsn listed ∷ past) p d a h = elim (or_cases (to.0 == p && has listed d) (logs past p d) h) [
-  | inl k ↦ subst (λ q. q < n) (eqb-true to.0 p (and_parts (to.0 == p) (has listed d) k).0) (deliver_inside n past to send rsn listed a.1)
-  | inr k ↦ logs_inside n past p d a.0 k
-]
+logs_inside n (Deliver to send rsn listed ∷ past) p d a h = grind (arith, logs_inside n past p d a.0, eqb-true, deliver_inside)
 logs_inside n (Stable det ∷ past) p d a h = logs_inside n past p d a.0 h
 logs_inside n (Crash who ∷ past) p d a h = logs_inside n past p d a.0 (and_parts (not (who.0 == p)) (logs past p d) h).1
-logs_inside n (Restart who listed ∷ past) p d a h = elim (or_cases (who.0 == p && has listed d) (logs past p d) h) [
-  | inl k ↦ subst (λ q. q < n) (eqb-true who.0 p (and_parts (who.0 == p) (has listed d) k).0) (restart_inside n past who listed a.1)
-  | inr k ↦ logs_inside n past p d a.0 k
-]
+logs_inside n (Restart who listed ∷ past) p d a h = grind (arith, eqb-true, restart_inside n past who listed a.1, logs_inside n past p d a.0)
 logs_inside n (Forget who listed ∷ past) p d a h = logs_inside n past p d a.0 (and_parts (not (who.0 == p && has listed d)) (logs past p d) h).1
 
 -- a set that shows who is down has just the processes that are

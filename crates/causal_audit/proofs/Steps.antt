@@ -1,5 +1,5 @@
 -- From one instant of a recorded run to the next, by the entry read there.
-use Rattle.causal_audit.proofs.Common.{◌==◌, ◌⊎◌, ℕ, ◌≡◌, ◌+◌, ◌<◌, ◌≤◌, inl, inr, List, None, [], ◌∷◌, length, get_or, reverse, take, Some, sym, ap, subst, ◌∙◌, arith, nat_cmp, FinSet, empty, len, cases_lt, cond-false, cond-true, eqb_tells, entry_beyond, length-reverse, refl, take_all, count_below, Entry, instant, entry_at, is_down, Recording, IsWellFormed, past_at, entries_of, past_more, count_below-none, read_instant, accepted_then}
+use Rattle.causal_audit.proofs.Common.{◌⊎◌, ℕ, ◌≡◌, ◌+◌, ◌<◌, ◌≤◌, inl, inr, List, None, [], ◌∷◌, length, get_or, reverse, take, Some, sym, ap, ◌∙◌, arith, nat_cmp, FinSet, empty, len, cases_lt, cond-false, cond-true, entry_beyond, length-reverse, refl, take_all, count_below, Entry, instant, entry_at, is_down, Recording, IsWellFormed, past_at, entries_of, past_more, count_below-none, read_instant, accepted_then}
 use Rattle.causal_trace.proofs.Lemmas.AtInstants.{found_then}
 use Rattle.causal_audit.specs.Inside.DeliveryStates.{Shows}
 use Rattle.causal_audit.proofs.Between.{next_entry}
@@ -31,25 +31,15 @@ down_count r formed t s shown = counted r.processes s (is_down (instant r.past t
 
 -- so at the first instant no more than f are down
 pub few_at_first : (r : Recording) (f u : ℕ) → u ≤ 0 → count_below r.processes (is_down (instant r.past u)) ≤ f
-few_at_first r f u h =
-    let at : u ≡ 0 = omega (arith, h) in
-    omega (arith, count_below-none r.processes (is_down (instant r.past u)) (λ p low. ap (λ t. is_down (instant r.past t) p) at ∙ ap (λ x. is_down x p) (no_entry r.past)))
+few_at_first r f u h = grind (arith, count_below-none, no_entry r.past)
 
 -- what holds at each instant up to t, and at the next, holds at each up to that one
 pub up_to_next : (P : ℕ → Type 0) (t : ℕ) → ((u : ℕ) → u ≤ t → P u) → P (t + 1) → (u : ℕ) → u ≤ t + 1 → P u
-up_to_next P t before here u h =
-    elim (cases_lt u (t + 1)) [
-      | inl low ↦ before u (omega (arith, low))
-      | inr high ↦ let at : t + 1 ≡ u = omega (arith, h, high) in subst P at here
-    ]
+up_to_next P t before here u h = grind arith
 
 -- the entry read at a position is the one there
 pub entry_read : (r : Recording) (es : List Entry) → es ≡ entries_of r → (i : ℕ) (e : Entry) → i < length r.past → e ≡ get_or es i e → entry_at r.past i ≡ Some e
-entry_read r es read i e below is =
-    let found = next_entry r.past i below in
-    let same : found.0 ∷ instant r.past i ≡ e ∷ instant r.past i = sym found.2 ∙ next_state r es read i e below is in
-    let one : found.0 ≡ e = cc same in
-    found.1 ∙ ap (λ x. Some x) one
+entry_read r es read i e below is = grind (arith, next_entry r.past i below, next_state r es read i e below is)
 
 -- an entry before an instant is the same at each later one
 pub entry_then : (past : List Entry) (t v : ℕ) → v < t → t ≤ length past → entry_at (instant past t) v ≡ entry_at past v
@@ -69,11 +59,4 @@ entry_within past v e at =
 
 -- one with the newest is that, or an older one
 pub entry_cases : (e : Entry) (past : List Entry) (v : ℕ) (x : Entry) → entry_at (e ∷ past) v ≡ Some x → (entry_at past v ≡ Some x) ⊎ ((v ≡ length past) × (e ≡ x))
-entry_cases e past v x at =
-    elim (eqb_tells v (length past)) [
-      | inl here ↦
-          let is : Some e ≡ Some x = sym (cond-true (v == length past) (Some e) (entry_at past v) here.0) ∙ at in
-          let same : e ≡ x = cc is in
-          inr (here.1, same)
-      | inr apart ↦ inl (sym (cond-false (v == length past) (Some e) (entry_at past v) apart.0) ∙ at)
-    ]
+entry_cases e past v x at = grind (arith, cond-true, cond-false)

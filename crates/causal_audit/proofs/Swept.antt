@@ -1,5 +1,5 @@
 -- Which deliveries may come to have an orphan by one more entry.
-use Rattle.causal_audit.proofs.Common.{ℕ, zero, suc, ◌≡◌, ◌<◌, inl, inr, true, false, List, [], ◌∷◌, length, Option, Some, None, refl, sym, subst, ◌∙◌, ap, arith, ◌+◌, ◌≤◌, Bool, cond, ◌⊎◌, ◌&&◌, ◌||◌, ◌==◌, not, false≢true, cases_Bool, cases_lt, eqb-true, eq-eqb, or_parts, false_from_ne_true, cond-true, cond-false, ne_eqb, eqb_tells, nat_tests, Pid, Det, Entry, Send, Deliver, Stable, Crash, Restart, Forget, is_down, lane, is_stable, logs, has, det_at, det_of, AreAccepted, actor, is_delivery_of, IsEventOf, in_order, by_message, Reaches, itself, onward, Depends, event_below, reaches_old, reaches_newest, ReachesNewest, is_newest, in_lane, through_message, reaches_begins, depends_restarted, accepted_forward, count_below, count_below-within, HasOrphan}
+use Rattle.causal_audit.proofs.Common.{ℕ, zero, suc, ◌≡◌, ◌<◌, inl, inr, true, false, List, [], ◌∷◌, length, Some, None, refl, sym, subst, ◌∙◌, arith, ◌≤◌, Bool, ◌⊎◌, ◌&&◌, ◌||◌, ◌==◌, not, false≢true, cases_Bool, cases_lt, eqb-true, eq-eqb, or_parts, false_from_ne_true, cond-true, cond-false, ne_eqb, eqb_tells, nat_tests, Pid, Det, Entry, Send, Deliver, Stable, Crash, Restart, Forget, is_down, lane, is_stable, logs, has, det_at, det_of, AreAccepted, actor, is_delivery_of, IsEventOf, in_order, by_message, Reaches, itself, onward, Depends, event_below, reaches_old, reaches_newest, ReachesNewest, is_newest, in_lane, through_message, reaches_begins, accepted_forward, count_below, count_below-within, HasOrphan}
 use Rattle.causal_audit.proofs.Between.{reaches_more, IsNoTurn, depends_before}
 use Rattle.causal_audit.proofs.by_clock.Link.{delivers_below}
 use Rattle.causal_audit.specs.Laws.{gone}
@@ -28,17 +28,10 @@ either_known (inr none) (inr neither) = inr (λ h. elim h [ inl a ↦ none a | i
 same_known : (m n : ℕ) → Known (m ≡ n)
 same_known m n = elim (eqb_tells m n) [ inl h ↦ inl h.1 | inr h ↦ inr h.1 ]
 
-actor_known : (a : Option ℕ) (p : ℕ) → Known (a ≡ Some p)
-actor_known None p = inr (λ is. cc)
-actor_known (Some q) p = elim (same_known q p) [ inl is ↦ inl (ap Some is) | inr other ↦ inr (λ is. let same : q ≡ p = cc in other same) ]
-
 -- whether an entry is an event of p in this lane
 event_known : (past : List Entry) (i p l : ℕ) → Known (IsEventOf past i p l)
 event_known [] i p l = inr (λ at. at)
-event_known (e ∷ past) i p l = either_known (event_known past i p l) (elim (both_known (same_known i (length past)) (both_known (actor_known (actor e) p) (same_known (lane past p) l))) [
-  | inl h ↦ inl (h.0, h.1.0, h.1.1)
-  | inr none ↦ inr (λ h. none (h.0, (h.1, h.2)))
-])
+event_known (e ∷ past) i p l = grind (arith, event_known past i p l)
 
 -- what is no event is reached by nothing
 no_event_reached : (e : Entry) (past : List Entry) (k i : ℕ) → actor e ≡ None → ((j : ℕ) → is_delivery_of j e ≡ false) → i ≡ length past → Reaches (e ∷ past) k i → ⊥
@@ -135,15 +128,7 @@ module _ (n f : ℕ) (e : Entry) (past : List Entry) (k : ℕ) (d : Det) (at : d
 
   -- an orphan that depended before
   pub orphan_before : (p : ℕ) → p < n → Depends past k p → is_stable past d ≡ false → count_below n (gone past d) ≤ f → logs past p d ≡ false → HasOrphan n f past k
-  orphan_before p low depends unstable few without =
-      unexposed n f past k d (det_before (reaches_begins past k depends.event depends.reached)) (record {
-        unstable = unstable;
-        few = few;
-        orphan = p;
-        process = low;
-        depends = depends;
-        without = without;
-      })
+  orphan_before p low depends unstable few without = grind (arith, unexposed, det_before (reaches_begins past k depends.event depends.reached))
 
 -- ---- a send
 
@@ -152,9 +137,7 @@ pub sent_before : (n : ℕ) (past : List Entry) (k : ℕ) (d : Det) (from to : P
     → actor (Send from to ssn) ≡ Some p → ReachesNewest (Send from to ssn) past k p → Depends past k p
 sent_before n past k d from to ssn p formed at who (is_newest is) = absurd (let e : None ≡ Some d = det_newest n 0 (Send from to ssn) past k d (at is) is in cc)
 sent_before n past k d from to ssn p formed at who (through_message j is reach) = absurd (false≢true is)
-sent_before n past k d from to ssn p formed at who (in_lane j event reach) =
-    let same : from.0 ≡ p = let x : Some from.0 ≡ Some p = who in cc in
-    record { up = subst (λ q. is_down past q ≡ false) same (sends_up n past from to ssn formed.1); event = j; present = event; reached = reach }
+sent_before n past k d from to ssn p formed at who (in_lane j event reach) = grind (arith, sends_up n past from to ssn formed.1)
 
 pub sent : (n f : ℕ) (past : List Entry) (k : ℕ) (d : Det) (from to : Pid) (ssn : ℕ) → AreAccepted n (Send from to ssn ∷ past) → det_at (Send from to ssn ∷ past) k ≡ Some d
     → HasOrphan n f (Send from to ssn ∷ past) k → HasOrphan n f past k
@@ -174,22 +157,14 @@ no_actor n e past k p formed none same depends = elim (depends_before n e past k
 
 pub stored : (n f : ℕ) (past : List Entry) (k : ℕ) (d det : Det) → AreAccepted n (Stable det ∷ past) → det_at (Stable det ∷ past) k ≡ Some d
     → HasOrphan n f (Stable det ∷ past) k → HasOrphan n f past k
-stored n f past k d det formed at has =
-    let x = exposed n f (Stable det ∷ past) k d at has in
-    orphan_before n f (Stable det) past k d at x.orphan x.process (no_actor n (Stable det) past k x.orphan formed refl (refl, refl) x.depends)
-    (stable_fewer (Stable det) past d x.unstable) x.few x.without
+stored n f past k d det formed at has = grind (arith, exposed, orphan_before, no_actor, stable_fewer)
 
 held_by_other : (w b : Bool) → w ≡ false → (not w && b) ≡ false → b ≡ false
 held_by_other w b h k = grind (arith, nat_tests)
 
 pub crashed : (n f : ℕ) (past : List Entry) (k : ℕ) (d : Det) (who : Pid) → AreAccepted n (Crash who ∷ past) → det_at (Crash who ∷ past) k ≡ Some d
     → HasOrphan n f (Crash who ∷ past) k → HasOrphan n f past k
-crashed n f past k d who formed at has =
-    let x = exposed n f (Crash who ∷ past) k d at has in
-    let other : (who.0 == x.orphan) ≡ false = (or_parts (who.0 == x.orphan) (is_down past x.orphan) x.depends.up).0 in
-    orphan_before n f (Crash who) past k d at x.orphan x.process
-    (no_actor n (Crash who) past k x.orphan formed refl (ap (λ b. b || is_down past x.orphan) other, refl) x.depends)
-    x.unstable (gone_fewer n f (Crash who) past d refl x.few) (held_by_other (who.0 == x.orphan) (logs past x.orphan d) other x.without)
+crashed n f past k d who formed at has = grind (arith, exposed, orphan_before, no_actor, gone_fewer, held_by_other)
 
 -- ---- a forgetting that does not list it
 
@@ -201,12 +176,7 @@ not_held w h b miss k = grind (arith, nat_tests)
 
 pub forgotten : (n f : ℕ) (past : List Entry) (k : ℕ) (d : Det) (who : Pid) (listed : List Det) → AreAccepted n (Forget who listed ∷ past) → det_at (Forget who listed ∷ past) k ≡ Some d
     → has listed d ≡ false → HasOrphan n f (Forget who listed ∷ past) k → HasOrphan n f past k
-forgotten n f past k d who listed formed at miss orphaned =
-    let e = Forget who listed in
-    let x = exposed n f (e ∷ past) k d at orphaned in
-    orphan_before n f e past k d at x.orphan x.process (no_actor n e past k x.orphan formed refl (refl, refl) x.depends) x.unstable
-    (omega (arith, x.few, count_below-within n (gone past d) (gone (e ∷ past) d) (λ q _ h. unforgotten (is_down past q) (who.0 == q) (has listed d) (logs past q d) miss h)))
-    (not_held (who.0 == x.orphan) (has listed d) (logs past x.orphan d) miss x.without)
+forgotten n f past k d who listed formed at miss orphaned = grind (arith, exposed, orphan_before, no_actor, count_below-within, unforgotten, not_held)
 
 -- ---- a restart that lists it
 
@@ -215,16 +185,7 @@ relisted w a h b hit k = grind (arith, nat_tests)
 
 pub restarted : (n f : ℕ) (past : List Entry) (k : ℕ) (d : Det) (who : Pid) (listed : List Det) → AreAccepted n (Restart who listed ∷ past) → det_at (Restart who listed ∷ past) k ≡ Some d
     → has listed d ≡ true → HasOrphan n f (Restart who listed ∷ past) k → HasOrphan n f past k
-restarted n f past k d who listed formed at hit orphaned =
-    let e = Restart who listed in
-    let x = exposed n f (e ∷ past) k d at orphaned in
-    let other : (who.0 == x.orphan) ≡ false = false_from_ne_true (who.0 == x.orphan) (λ same.
-    depends_restarted e past k x.orphan (ap (λ b. cond b (lane past x.orphan + 1) (lane past x.orphan)) same) refl x.depends) in
-    orphan_before n f e past k d at x.orphan x.process
-    (no_actor n e past k x.orphan formed refl (ap (λ b. not b && is_down past x.orphan) other, ap (λ b. cond b (lane past x.orphan + 1) (lane past x.orphan)) other) x.depends)
-    x.unstable
-    (omega (arith, x.few, count_below-within n (gone past d) (gone (e ∷ past) d) (λ q _ h. relisted (who.0 == q) (is_down past q) (has listed d) (logs past q d) hit h)))
-    (or_parts (who.0 == x.orphan && has listed d) (logs past x.orphan d) x.without).1
+restarted n f past k d who listed formed at hit orphaned = grind (arith, exposed, orphan_before, no_actor, count_below-within, relisted)
 
 -- ---- a delivery: it has an orphan before, or the receiver newly depends on it
 
@@ -260,16 +221,8 @@ sweep_law n f (Send from to ssn) past k d formed at orphaned = inl (sent n f pas
 sweep_law n f (Deliver to send rsn listed) past k d formed at orphaned = receives n f past k d to send rsn listed formed at orphaned
 sweep_law n f (Stable det) past k d formed at orphaned = inl (stored n f past k d det formed at orphaned)
 sweep_law n f (Crash who) past k d formed at orphaned = inl (crashed n f past k d who formed at orphaned)
-sweep_law n f (Restart who listed) past k d formed at orphaned =
-    elim (has listed d) as (λ b. has listed d ≡ b → HasOrphan n f past k ⊎ (b ≡ false)) [
-      | true ↦ λ hit. inl (restarted n f past k d who listed formed at hit orphaned)
-      | false ↦ λ miss. inr refl
-    ] refl
-sweep_law n f (Forget who listed) past k d formed at orphaned =
-    elim (has listed d) as (λ b. has listed d ≡ b → HasOrphan n f past k ⊎ (b ≡ true)) [
-      | true ↦ λ hit. inr refl
-      | false ↦ λ miss. inl (forgotten n f past k d who listed formed at miss orphaned)
-    ] refl
+sweep_law n f (Restart who listed) past k d formed at orphaned = grind (arith, restarted)
+sweep_law n f (Forget who listed) past k d formed at orphaned = grind (arith, forgotten)
 
 -- what comes to have one by a delivery has only the receiver as its orphan
 pub one_new_orphan : OneNewOrphan

@@ -37,10 +37,7 @@ module _ (r : Recording) (f : ℕ) where
 
   -- nor before the instant of the least breach
   pub no_orphan_before : (b : Breach) → IsLeastBreach r f 0 (deliveries_in r.past) b → (t : ℕ) → t ≤ b.instant → NoOrphanBefore t
-  no_orphan_before b least t low u early within k has =
-      let n = number_of u k within has in
-      let later = least.least n.0 k u (omega arith) n.1 n.2 within has in
-      omega (arith, later.0, early, low)
+  no_orphan_before b least t low u early within k has = grind (arith, number_of u k within has, early, low)
 
   -- where there is no excess, at most f are down at each instant
   pub few_ever : FirstExcess r f None → (t : ℕ) → FewBefore t

@@ -1,10 +1,9 @@
 -- What one more event does to the chains.
-use Rattle.std.specs.Prelude.{◌≡◌, ◌≢◌, ℕ, ◌+◌, ◌<◌, ◌≤◌, max, ◌⊎◌, ◌==◌, if◌then◌else◌, Option, Some, List, [], ◌∷◌, ◌++◌, length, take}
-use Rattle.std.proofs.Common.{suc, refl, arith, ap, sym, ◌∙◌, subst, inl, inr, get_or, length-append}
+use Rattle.std.specs.Prelude.{◌≡◌, ◌≢◌, ℕ, ◌+◌, ◌<◌, ◌≤◌, max, ◌⊎◌, ◌==◌, if◌then◌else◌, Option, Some, List, [], ◌∷◌, ◌++◌, length}
+use Rattle.std.proofs.Common.{refl, arith, ap, sym, ◌∙◌, subst, inl, inr, get_or, length-append}
 use Rattle.std.proofs.Math.ListN.{get_or-append}
 use Rattle.std.proofs.Math.Seq.{get_or-append_seam, take-append_seam}
 use Rattle.std.proofs.lemmas.List.{take-append-le}
-use Rattle.std.proofs.lemmas.Bool.Decides.{nat_tests, leb_tells}
 use Rattle.std.proofs.lemmas.List.Sums.{sum_by-append}
 use Rattle.causal_clock.specs.declared.Event.{Event}
 use Rattle.causal_clock.specs.Timeline.{lane_of, send_of, lane_length, place_of}
@@ -46,28 +45,10 @@ reaches_through c (itself h) = c
 reaches_through c (onward b d) = onward (reaches_through c b) d
 
 pub precedes_old : (es : List Event) (e : Event) (i j : ℕ) → DirectlyPrecedes es i j → DirectlyPrecedes (es ++ e ∷ []) i j
-precedes_old es e i j d =
-    let lt : i < length es = omega (arith, d.earlier, d.within) in
-    record {
-      earlier = d.earlier;
-      within = omega (arith, d.within, length-more es e);
-      because = elim d.because [
-        | inl same ↦ inl (lane_of-old es e i lt ∙ same ∙ sym (lane_of-old es e j d.within))
-        | inr sent ↦ inr (send_of-old es e j d.within ∙ sent)
-      ];
-    }
+precedes_old es e i j d = grind (arith, length-more, lane_of-old, send_of-old)
 
 pub precedes_back : (es : List Event) (e : Event) (i j : ℕ) → j < length es → DirectlyPrecedes (es ++ e ∷ []) i j → DirectlyPrecedes es i j
-precedes_back es e i j h d =
-    let lt : i < length es = omega (arith, d.earlier) in
-    record {
-      earlier = d.earlier;
-      within = h;
-      because = elim d.because [
-        | inl same ↦ inl (sym (lane_of-old es e i lt) ∙ same ∙ lane_of-old es e j h)
-        | inr sent ↦ inr (sym (send_of-old es e j h) ∙ sent)
-      ];
-    }
+precedes_back es e i j h d = grind (arith, lane_of-old, send_of-old)
 
 -- one more event leaves what reaches what
 pub reaches_old : {es : List Event} (e : Event) {i j : ℕ} → Reaches es i j → Reaches (es ++ e ∷ []) i j
@@ -83,16 +64,7 @@ reaches_back es e below (onward {j = j} {k = k} c d) =
 -- a chain to the new event is that event alone, or a chain to one that directly precedes it
 pub reaches_new : (es : List Event) (e : Event) {i k : ℕ} → k ≡ length es → Reaches (es ++ e ∷ []) i k → (i ≡ k) ⊎ ((j : ℕ) × Reaches es i j × ((lane_of es j ≡ e.lane) ⊎ (e.send ≡ Some j)))
 reaches_new es e is (itself h) = inl refl
-reaches_new es e is (onward {j = j} {k = k} c d) =
-    let lt : j < length es = omega (arith, d.earlier, is) in
-    inr (
-      j,
-      reaches_back es e lt c,
-      elim d.because [
-        | inl same ↦ inl (sym (lane_of-old es e j lt) ∙ same ∙ ap (lane_of (es ++ e ∷ [])) is ∙ lane_of-new es e)
-        | inr sent ↦ inr (sym (send_of-new es e) ∙ ap (send_of (es ++ e ∷ [])) (sym is) ∙ sent)
-      ],
-    )
+reaches_new es e is (onward {j = j} {k = k} c d) = grind (arith, reaches_back, lane_of-old, lane_of-new, send_of-new)
 
 -- ---- places
 
@@ -102,9 +74,7 @@ lane_length-more es e lane = sum_by-append _ es (e ∷ []) ∙ omega arith
 
 -- an event before the newest keeps its place in its lane
 pub place_of-old : (es : List Event) (e : Event) (i : ℕ) → i < length es → place_of (es ++ e ∷ []) i ≡ place_of es i
-place_of-old es e i h =
-    let front : take i (es ++ e ∷ []) ≡ take i es = take-append-le i es (e ∷ []) (omega arith) in
-    λ k. lane_length (front k) (lane_of-old es e i h k)
+place_of-old es e i h = grind (arith, take-append-le, lane_of-old)
 
 -- the newest event's place is how many events its lane had
 pub place_of-new : (es : List Event) (e : Event) (i : ℕ) → i ≡ length es → place_of (es ++ e ∷ []) i ≡ lane_length es e.lane
@@ -116,19 +86,15 @@ lane_of-at_new es e i is = ap (lane_of (es ++ e ∷ [])) is ∙ lane_of-new es e
 
 -- each event is one of those before, or the newest
 pub old_or_new : (es : List Event) (e : Event) (i : ℕ) → i < length (es ++ e ∷ []) → (i < length es) ⊎ (i ≡ length es)
-old_or_new es e i h =
-    elim (leb_tells (suc i) (length es)) [
-      | inl t ↦ inl t.1
-      | inr t ↦ inr (omega (arith, t.1, length-more es e))
-    ]
+old_or_new es e i h = grind (arith, length-more)
 
 -- equal numbers count as one
 pub one_at_same : (a b : ℕ) → a ≡ b → ◌≡◌ {A = ℕ} (if a == b then 1 else 0) 1
-one_at_same a b h = grind (arith, nat_tests)
+one_at_same a b h = grind arith
 
 -- different numbers count as none
 pub one_at_other : (a b : ℕ) → a ≢ b → ◌≡◌ {A = ℕ} (if a == b then 1 else 0) 0
-one_at_other a b h = grind (arith, nat_tests)
+one_at_other a b h = grind arith
 
 -- ---- an older event is reached from the same events as before
 
@@ -166,13 +132,6 @@ by_lane es e p lt same = record { earlier = lt; within = omega (arith, length-mo
 pub by_send : (es : List Event) (e : Event) (s : ℕ) → s < length es → e.send ≡ Some s → DirectlyPrecedes (es ++ e ∷ []) s (length es)
 by_send es e s lt sent = record { earlier = lt; within = omega (arith, length-more es e); because = inr (send_of-new es e ∙ sent) }
 
-below_max : (a m n : ℕ) → a < max m n → (a < m) ⊎ (a < n)
-below_max a m n h =
-    elim (leb_tells (suc a) m) [
-      | inl t ↦ inl t.1
-      | inr t ↦ inr (omega (arith, t.1))
-    ]
-
 module _ (es : List Event) (e : Event) (previous : Option ℕ) (last : LastOf es previous e.lane) (from_previous from_send lane : ℕ) (along : FirstReachSome es previous lane from_previous) (across : FirstReachSome es e.send lane from_send) where
   reaches_it : (i : ℕ) → i < length es → lane_of es i ≡ lane → (place_of es i < from_previous) ⊎ (place_of es i < from_send) → Reaches (es ++ e ∷ []) i (length es)
   reaches_it i lt of_lane h =
@@ -187,29 +146,11 @@ module _ (es : List Event) (e : Event) (previous : Option ℕ) (last : LastOf es
       ]
 
   counted : (i : ℕ) → i < length es → lane_of es i ≡ lane → Reaches (es ++ e ∷ []) i (length es) → place_of es i < max from_previous from_send
-  counted i lt of_lane c =
-      elim (reaches_new es e refl c) [
-        | inl same ↦ absurd (omega (arith, same))
-        | inr before ↦ elim before.2 [
-          | inl same ↦
-              let up = last.reached before.0 (reaches_forward before.1).1 same in
-              omega (arith, along.forth i up.0 lt of_lane up.1 (reaches_through before.1 up.2))
-          | inr sent ↦ omega (arith, across.forth i before.0 lt of_lane sent before.1)
-        ]
-      ]
+  counted i lt of_lane c = grind (arith, reaches_new, reaches_forward, reaches_through)
 
   -- in another lane: the greater of the two counts
   pub first_new_other : lane ≢ e.lane → FirstReach (es ++ e ∷ []) (length es) lane (max from_previous from_send)
-  first_new_other other = record {
-    no_more = omega (arith, along.no_more, across.no_more, lane_length-more es e lane);
-    first = λ i lt of_lane. elim (old_or_new es e i lt) [
-      | inl old ↦
-          let same = place_of-old es e i old in
-          let lane_is = sym (lane_of-old es e i old) ∙ of_lane in
-          (λ c. rw same (counted i old lane_is c), λ p. reaches_it i old lane_is (below_max _ _ _ (rw same at p)))
-      | inr new ↦ absurd (other (sym of_lane ∙ lane_of-at_new es e i new))
-    ];
-  }
+  first_new_other other = grind (arith, lane_length-more es e lane, old_or_new, place_of-old, lane_of-old, counted, reaches_it, lane_of-at_new)
 
   -- in its own lane: one more
   pub first_new_own : lane ≡ e.lane → lane_length es lane ≤ from_previous → FirstReach (es ++ e ∷ []) (length es) lane (max from_previous from_send + 1)

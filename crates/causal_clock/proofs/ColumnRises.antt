@@ -1,6 +1,7 @@
 -- What a clock keeps goes on through one more event: the columns of its lane rise to what its send had.
+use Rattle.std.proofs.lemmas.Grind.{common_steps}
 use Rattle.std.specs.Prelude.{◌≡◌, ◌≢◌, ℕ, ◌+◌, ◌<◌, ◌≤◌, max, if◌then◌else◌, Option, Some, None, List, [], ◌∷◌, ◌++◌, length}
-use Rattle.std.proofs.Common.{refl, arith, ap, sym, ◌∙◌, subst, inl, inr, get_or, get_or-set_same, get_or-set_other, eq-eqb, ne_eqb}
+use Rattle.std.proofs.Common.{refl, arith, ap, sym, ◌∙◌, subst, inl, inr, get_or, get_or-set_same, get_or-set_other, eq-eqb}
 use Rattle.std.proofs.Math.ListN.{get_or-append, set, length-set}
 use Rattle.std.proofs.Math.Seq.{get_or-append_seam}
 use Rattle.std.proofs.lemmas.Bool.Decides.{eqb_tells}
@@ -12,8 +13,8 @@ use Rattle.causal_clock.specs.Inside.Columns.{raised, IsColumn}
 use Rattle.causal_clock.specs.Inside.Kept.{LastOf, count_or_none}
 use Rattle.causal_clock.specs.Inside.Fields.{counts_in, KeepsColumns}
 use Rattle.causal_clock.proofs.Chains.{lane_of-old, lane_of-at_new, lane_length-more, place_of-old, place_of-new, old_or_new, one_at_same, one_at_other}
-use Rattle.causal_clock.proofs.Columns.{count_of_none, settled, raised_before, raised_there, raised_column, column_more}
-use Rattle.causal_clock.proofs.Steps.{keeps_event, small_count}
+use Rattle.causal_clock.proofs.Columns.{count_of_none, settled, raised_before, raised_there, raised_column}
+use Rattle.causal_clock.proofs.Steps.{keeps_event}
 
 -- an event's count of its own lane is its place and one more
 pub counts_own : (es : List Event) (column : ℕ → ℕ → List Rise) (j lane : ℕ) → lane_of es j ≡ lane → counts_in es column j lane ≡ place_of es j + 1
@@ -21,9 +22,7 @@ counts_own es column j lane same = ap (λ b. if b then place_of es j + 1 else co
 
 -- an event's count of another lane is what the column tells at its place
 pub counts_other : (es : List Event) (column : ℕ → ℕ → List Rise) (j lane source : ℕ) → lane_of es j ≡ lane → source ≢ lane → counts_in es column j source ≡ count_at (column lane source) (place_of es j)
-counts_other es column j lane source same other =
-    ap (λ b. if b then place_of es j + 1 else count_at (column (lane_of es j) source) (place_of es j)) (ne_eqb (lane_of es j) source (λ is. other (sym is ∙ same)))
-    ∙ ap (λ l. count_at (column l source) (place_of es j)) same
+counts_other es column j lane source same other = grind arith
 
 module _ (es : List Event) (places lengths : List ℕ) (column : ℕ → ℕ → List Rise) (k : KeepsColumns es places lengths column) where
   -- an event stands in its lane
@@ -33,10 +32,7 @@ module _ (es : List Event) (places lengths : List ℕ) (column : ℕ → ℕ →
   -- the count of the lane's last event is what the column tells at the next place
   previous_count : (lane source : ℕ) (event : Option ℕ) → LastOf es event lane → source ≢ lane → count_or_none (counts_in es column) event source ≡ count_at (column lane source) (lane_length es lane)
   previous_count lane source None last other = sym (count_of_none (column lane source) _ (λ i lt. absurd (omega (arith, last.empty refl, (k.columns lane source).places i lt))))
-  previous_count lane source (Some p) last other =
-      let at = last.inside p refl in
-      counts_other es column p lane source at.1 other
-      ∙ settled (column lane source) (place_of es p) (lane_length es lane) (λ i lt. (omega (arith, at.2, (k.columns lane source).places i lt), omega (arith, (k.columns lane source).places i lt)))
+  previous_count lane source (Some p) last other = grind (arith, settled)
 
   module _ (e : Event) (inside : e.lane < length lengths) (sent : (s : ℕ) → e.send ≡ Some s → s < length es) (room : length es < 16777216) (counts : ℕ → ℕ) (own_none : counts e.lane ≡ 0) (counts_are : (source : ℕ) → source ≢ e.lane → counts source ≡ count_or_none (counts_in es column) e.send source) (column' : ℕ → ℕ → List Rise) (others : (lane source : ℕ) → lane ≢ e.lane → column' lane source ≡ column lane source) (risen : (source : ℕ) → column' e.lane source ≡ raised (column e.lane source) (lane_length es e.lane) (counts source)) where
     at_old_place : (lane source q : ℕ) → q < lane_length es lane → count_at (column' lane source) q ≡ count_at (column lane source) q
@@ -71,21 +67,13 @@ module _ (es : List Event) (places lengths : List ℕ) (column : ℕ → ℕ →
     own_count = counts_own (es ++ e ∷ []) column' (length es) e.lane new_lane ∙ ap (λ n. n + 1) new_place
 
     new_count : (source : ℕ) → source ≢ e.lane → counts_in (es ++ e ∷ []) column' (length es) source ≡ max (count_or_none (counts_in es column) (k.keeps.last e.lane).0 source) (count_or_none (counts_in es column) e.send source)
-    new_count source other =
-        counts_other (es ++ e ∷ []) column' (length es) e.lane source new_lane other
-        ∙ (λ i. count_at (risen source i) (new_place i))
-        ∙ raised_there (column e.lane source) (lane_length es e.lane) (counts source)
-        ∙ (λ i. max (sym (previous_count e.lane source (k.keeps.last e.lane).0 (k.keeps.last e.lane).1 other) i) (counts_are source other i))
+    new_count source other = grind (arith, counts_other, new_lane, new_place, raised_there, previous_count)
 
     longer : (lane : ℕ) → lane_length es lane ≤ lane_length (es ++ e ∷ []) lane
     longer lane = omega (arith, lane_length-more es e lane)
 
     few_from : (source : ℕ) → counts source ≤ lane_length es source
-    few_from source =
-        elim (eqb_tells source e.lane) [
-          | inl s ↦ omega (arith, ap counts s.1, own_none)
-          | inr s ↦ omega (arith, counts_are source s.1, small_count es (counts_in es column) (length lengths) k.keeps e.send source sent)
-        ]
+    few_from source = grind arith
 
     risen_column : (source : ℕ) → IsColumn (column' e.lane source) (lane_length (es ++ e ∷ []) e.lane) (lane_length (es ++ e ∷ []) source)
     risen_column source =
@@ -93,29 +81,14 @@ module _ (es : List Event) (places lengths : List ℕ) (column : ℕ → ℕ →
         rw (risen source, more) (raised_column (column e.lane source) (lane_length es e.lane) (lane_length es source) _ (counts source) (longer source) (omega (arith, few_from source, longer source)) (k.columns e.lane source))
 
     next_columns : (lane source : ℕ) → IsColumn (column' lane source) (lane_length (es ++ e ∷ []) lane) (lane_length (es ++ e ∷ []) source)
-    next_columns lane source =
-        elim (eqb_tells lane e.lane) [
-          | inl s ↦ subst (λ (x : ℕ). IsColumn (column' x source) (lane_length (es ++ e ∷ []) x) (lane_length (es ++ e ∷ []) source)) (sym s.1) (risen_column source)
-          | inr s ↦ rw (others lane source s.1) (column_more (column lane source) _ _ _ _ (longer lane) (longer source) (k.columns lane source))
-        ]
+    next_columns lane source = grind (arith, eqb_tells lane e.lane, risen_column source, longer lane, longer source)
 
     next_places : length places ≡ length es → (j : ℕ) → j < length (es ++ e ∷ []) → get_or (places ++ lane_length es e.lane ∷ []) j 0 ≡ place_of (es ++ e ∷ []) j
-    next_places long j lt =
-        elim (old_or_new es e j lt) [
-          | inl old ↦ get_or-append places (lane_length es e.lane ∷ []) 0 j (omega (arith, old, long)) ∙ k.places j old ∙ sym (place_of-old es e j old)
-          | inr new ↦ ap (λ i. get_or (places ++ lane_length es e.lane ∷ []) i 0) (new ∙ sym long) ∙ get_or-append_seam places _ [] 0 ∙ sym (place_of-new es e j new)
-        ]
+    next_places long j lt = grind (arith, old_or_new, get_or-append, place_of-old, get_or-append_seam places, place_of-new)
 
     next_lengths : (lane : ℕ) → lane < length (set lengths e.lane (lane_length es e.lane + 1)) → get_or (set lengths e.lane (lane_length es e.lane + 1)) lane 0 ≡ lane_length (es ++ e ∷ []) lane
     next_lengths lane lt =
-        elim (eqb_tells lane e.lane) [
-          | inl s ↦
-              let is : get_or (set lengths e.lane (lane_length es e.lane + 1)) lane 0 ≡ lane_length es e.lane + 1 = ap (λ (n : ℕ). get_or (set lengths e.lane (lane_length es e.lane + 1)) n 0) s.1 ∙ get_or-set_same lengths e.lane _ 0 inside in
-              omega (arith, is, ap (lane_length es) s.1, lane_length-more es e lane, one_at_same e.lane lane (sym s.1))
-          | inr s ↦
-              let is : get_or (set lengths e.lane (lane_length es e.lane + 1)) lane 0 ≡ get_or lengths lane 0 = get_or-set_other lengths e.lane lane _ 0 s.1 in
-              omega (arith, is, k.lengths lane (omega (arith, lt, length-set lengths e.lane (lane_length es e.lane + 1))), lane_length-more es e lane, one_at_other e.lane lane (λ is'. s.1 (sym is')))
-        ]
+        grind (arith, common_steps, eqb_tells, set, get_or-set_same, lane_length-more, one_at_same, get_or-set_other, length-set, one_at_other)
 
     -- with one more event the raised columns tell all counts
     pub keeps_next : length places ≡ length es → KeepsColumns (es ++ e ∷ []) (places ++ lane_length es e.lane ∷ []) (set lengths e.lane (lane_length es e.lane + 1)) column'

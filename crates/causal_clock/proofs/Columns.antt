@@ -1,9 +1,10 @@
 -- What a column tells at a place, and what one more rise changes.
+use Rattle.std.proofs.lemmas.Grind.{common_steps}
 use Rattle.std.specs.Prelude.{◌≡◌, ℕ, ◌+◌, ◌-◌, ◌<◌, ◌≤◌, max, ◌⊎◌, leb, if◌then◌else◌, true, false, List, [], ◌∷◌, ◌++◌, length, take, drop}
 use Rattle.std.proofs.Common.{zero, suc, refl, arith, ap, sym, ◌∙◌, subst, inl, inr, length-append}
 use Rattle.std.proofs.Math.ListN.{get_or-append}
 use Rattle.std.proofs.Math.Seq.{get_or-append_seam}
-use Rattle.std.proofs.lemmas.Bool.{le-leb, lt-ltb, lt-leb, le-ltb, leb-true, leb-false}
+use Rattle.std.proofs.lemmas.Bool.{le-leb, lt-ltb, lt-leb, leb-true, leb-false}
 use Rattle.std.proofs.lemmas.Bool.Decides.{leb_tells}
 use Rattle.std.specs.List.Sorted.{IsPartitionPoint, IsPartitionedBy}
 use Rattle.std.proofs.lemmas.List.Sorted.{IsPartitionedBy-leb, IsNonDecreasingBy-from_default}
@@ -11,7 +12,7 @@ use Rattle.std.proofs.lemmas.List.{get_or-drop, length-drop, take_all}
 use Rattle.causal_clock.specs.declared.Rise.{Rise}
 use Rattle.causal_clock.specs.Rises.{rise_at, count_at, RisesStrictly}
 use Rattle.causal_clock.specs.Inside.Columns.{IsParted, IsColumn, TellsAlike, raised}
-use Rattle.causal_clock.proofs.Lemmas.RiseCounts.{IsCountOf, rise_counts, count_risen}
+use Rattle.causal_clock.proofs.Lemmas.RiseCounts.{rise_counts, count_risen}
 
 -- ---- the count at a place
 
@@ -21,30 +22,11 @@ count_at-append (x ∷ xs) ys place = omega (arith, count_at-append xs ys place)
 
 -- no rise up to the place: the count is 0
 pub count_of_none : (rises : List Rise) (place : ℕ) → ((i : ℕ) → i < length rises → place < (rise_at rises i).place) → count_at rises place ≡ 0
-count_of_none rises place later =
-    elim (count_risen rises place) [
-      | inl none ↦ none
-      | inr some ↦ absurd (omega (arith, some.1.reached, later some.0 some.1.within))
-    ]
+count_of_none rises place later = grind (arith, count_risen)
 
 -- the first n rises stand up to the place: the last of them tells the count
 pub count_of_last : (rises : List Rise) (place n : ℕ) → RisesStrictly rises → n < length rises → ((i : ℕ) → i ≤ n → (rise_at rises i).place ≤ place) → ((i : ℕ) → n < i → i < length rises → place < (rise_at rises i).place) → count_at rises place ≡ (rise_at rises n).count
-count_of_last rises place n strictly lt before after =
-    let least = rise_counts rises place n lt (before n (omega arith)) in
-    elim (count_risen rises place) [
-      | inl none ↦ omega (arith, none, least)
-      | inr some ↦ last_of some.0 some.1 least
-    ]
-  where
-    last_of : (i : ℕ) → IsCountOf rises place (count_at rises place) i → (rise_at rises n).count ≤ count_at rises place → count_at rises place ≡ (rise_at rises n).count
-    last_of i at least =
-        elim (leb_tells (suc n) i) [
-          | inl gt ↦ absurd (omega (arith, at.reached, after i gt.1 at.within))
-          | inr le ↦ elim (leb_tells n i) [
-            | inl same ↦ at.count_is ∙ ap (λ k. (rise_at rises k).count) (omega (arith, same.1, le.1))
-            | inr less ↦ omega (arith, least, at.count_is, strictly.counts i n less.1 lt)
-          ]
-        ]
+count_of_last rises place n strictly lt before after = grind (arith, rise_counts, count_risen rises place)
 
 -- from a place that no rise stands after the count stays
 pub settled : (rises : List Rise) (p q : ℕ) → ((i : ℕ) → i < length rises → ((rise_at rises i).place ≤ p) × ((rise_at rises i).place ≤ q)) → count_at rises p ≡ count_at rises q
@@ -59,13 +41,7 @@ settled (r ∷ rises) p q h =
 
 -- rises before one that stands up to the place stand there too
 pub up_to : (rises : List Rise) (place n i : ℕ) → RisesStrictly rises → n < length rises → (rise_at rises n).place ≤ place → i ≤ n → (rise_at rises i).place ≤ place
-up_to rises place n i strictly lt le before =
-    elim (leb_tells n i) [
-      | inl same ↦
-          let is : (rise_at rises i).place ≡ (rise_at rises n).place = ap (λ k. (rise_at rises k).place) (omega (arith, same.1, before)) in
-          omega (arith, is, le)
-      | inr less ↦ omega (arith, strictly.places i n less.1 lt, le)
-    ]
+up_to rises place n i strictly lt le before = grind arith
 
 partitioned : (rises : List Rise) (place start : ℕ) → RisesStrictly rises → IsPartitionedBy (λ y. leb y.place place) (drop start rises)
 partitioned rises place start strictly = IsPartitionedBy-leb (λ y. y.place) (drop start rises) place (IsNonDecreasingBy-from_default (λ y. y.place) (drop start rises) _ ascend)
@@ -116,36 +92,20 @@ tail_parted rises place start n inside passed point bound =
 -- ---- one more rise
 
 raised_cases : (rises : List Rise) (place count : ℕ) → ((raised rises place count ≡ rises ++ record { place = place; count = count } ∷ []) × (count_at rises place < count)) ⊎ ((raised rises place count ≡ rises) × (count ≤ count_at rises place))
-raised_cases rises place count =
-    elim (leb_tells (suc (count_at rises place)) count) [
-      | inl less ↦ inl (ap (λ b. if b then rises ++ record { place = place; count = count } ∷ [] else rises) (lt-ltb _ _ less.1), less.1)
-      | inr more ↦ inr (ap (λ b. if b then rises ++ record { place = place; count = count } ∷ [] else rises) (le-ltb _ _ (omega (arith, more.1))), omega (arith, more.1))
-    ]
+raised_cases rises place count = grind arith
 
 -- a count that is greater than the one there makes one more rise
 pub raised_more : (rises : List Rise) (place count : ℕ) → count_at rises place < count → raised rises place count ≡ rises ++ record { place = place; count = count } ∷ []
 raised_more rises place count less = ap (λ b. if b then rises ++ record { place = place; count = count } ∷ [] else rises) (lt-ltb _ _ less)
 
--- and no other does
-pub raised_same : (rises : List Rise) (place count : ℕ) → count ≤ count_at rises place → raised rises place count ≡ rises
-raised_same rises place count more = ap (λ b. if b then rises ++ record { place = place; count = count } ∷ [] else rises) (le-ltb _ _ more)
-
 -- counts that tell alike raise alike
 pub raised_alike : (rises : List Rise) (place known count other : ℕ) → count_at rises place ≡ known → TellsAlike known count other → raised rises place count ≡ raised rises place other
-raised_alike rises place known count other is alike =
-    elim (leb_tells (suc known) count) [
-      | inl news ↦ ap (raised rises place) (omega (arith, news.1, alike))
-      | inr none ↦ raised_same rises place count (omega (arith, is, none.1)) ∙ sym (raised_same rises place other (omega (arith, is, none.1, alike)))
-    ]
+raised_alike rises place known count other is alike = grind arith
 
 -- later the count is no less
 pub count_at-later : (rises : List Rise) (p q : ℕ) → p ≤ q → count_at rises p ≤ count_at rises q
 count_at-later [] p q le = omega arith
-count_at-later (r ∷ rises) p q le =
-    elim (leb_tells r.place p) [
-      | inl here ↦ omega (arith, ap (λ b. if b then r.count else 0) here.0, ap (λ b. if b then r.count else 0) (le-leb r.place q (omega (arith, here.1, le))), count_at-later rises p q le)
-      | inr past ↦ omega (arith, ap (λ b. if b then r.count else 0) past.0, count_at-later rises p q le)
-    ]
+count_at-later (r ∷ rises) p q le = grind (arith, le-leb, count_at-later rises p q le)
 
 -- from one more rise on
 pub count_at-risen : (rises : List Rise) (place count q : ℕ) → place ≤ q → count_at (rises ++ record { place = place; count = count } ∷ []) q ≡ max (count_at rises q) count
@@ -153,42 +113,21 @@ count_at-risen rises place count q le = count_at-append rises _ q ∙ omega (ari
 
 -- nothing rises to 0
 pub raised_none : (rises : List Rise) (place : ℕ) → raised rises place 0 ≡ rises
-raised_none rises place =
-    elim (raised_cases rises place 0) [
-      | inl more ↦ absurd (omega (arith, more.1))
-      | inr same ↦ same.0
-    ]
+raised_none rises place = grind arith
 
 -- before its place the count is as it was
 pub raised_before : (rises : List Rise) (place count q : ℕ) → q < place → count_at (raised rises place count) q ≡ count_at rises q
-raised_before rises place count q before =
-    elim (raised_cases rises place count) [
-      | inl more ↦
-          let none : ◌≡◌ {A = ℕ} (if leb place q then count else 0) 0 = ap (λ b. if b then count else 0) (lt-leb place q before) in
-          ap (λ xs. count_at xs q) more.0 ∙ count_at-append rises _ q ∙ omega (arith, none)
-      | inr same ↦ ap (λ xs. count_at xs q) same.0
-    ]
+raised_before rises place count q before = grind (arith, lt-leb, count_at-append)
 
 -- and at its place the greater one
 pub raised_there : (rises : List Rise) (place count : ℕ) → count_at (raised rises place count) place ≡ max (count_at rises place) count
-raised_there rises place count =
-    elim (raised_cases rises place count) [
-      | inl more ↦
-          let here : ◌≡◌ {A = ℕ} (if leb place place then count else 0) count = ap (λ b. if b then count else 0) (le-leb place place (omega arith)) in
-          ap (λ xs. count_at xs place) more.0 ∙ count_at-append rises _ place ∙ omega (arith, here)
-      | inr same ↦ ap (λ xs. count_at xs place) same.0 ∙ omega (arith, same.1)
-    ]
+raised_there rises place count = grind (arith, le-leb, count_at-append)
 
 -- ---- columns
 
 -- a column stays one when its lanes get more events
 pub column_more : (rises : List Rise) (events from_events events' from_events' : ℕ) → events ≤ events' → from_events ≤ from_events' → IsColumn rises events from_events → IsColumn rises events' from_events'
-column_more rises events from_events events' from_events' le le' is = record {
-  strictly = is.strictly;
-  places = λ i lt. omega (arith, is.places i lt);
-  counts = λ i lt. omega (arith, is.counts i lt);
-  few = omega (arith, is.few);
-}
+column_more rises events from_events events' from_events' le le' is = grind arith
 
 -- with strict counts from 1 on rise i counts more than i
 at_least : (rises : List Rise) → RisesStrictly rises → (i : ℕ) → i < length rises → i < (rise_at rises i).count
@@ -216,11 +155,7 @@ module _ (rises : List Rise) (own from_events from_events' count : ℕ) (is : Is
   new_rise i same = ap (rise_at (rises ++ next ∷ [])) same ∙ get_or-append_seam rises next [] _
 
   old_or_next : (i : ℕ) → i < length (rises ++ next ∷ []) → (i < length rises) ⊎ (i ≡ length rises)
-  old_or_next i lt =
-      elim (leb_tells (suc i) (length rises)) [
-        | inl h ↦ inl (omega (arith, h.1))
-        | inr h ↦ inr (omega (arith, h.1, lt, length-append rises (next ∷ [])))
-      ]
+  old_or_next i lt = grind (arith, length-append)
 
   below_next : (i : ℕ) → i < length rises → (rise_at rises i).count < count
   below_next i lt = omega (arith, more, rise_counts rises own i lt (omega (arith, is.places i lt)))
@@ -228,28 +163,9 @@ module _ (rises : List Rise) (own from_events from_events' count : ℕ) (is : Is
   -- a column with a rise to a greater count at the lane's next place is a column
   pub appended : IsColumn (rises ++ next ∷ []) (own + 1) from_events'
   appended = record {
-    strictly = record {
-      some = λ i lt. elim (old_or_next i lt) [
-        | inl old ↦ rw (old_rise i old) (is.strictly.some i old)
-        | inr new ↦ rw (new_rise i new) (omega (arith, more))
-      ];
-      places = λ i k before lt. elim (old_or_next k lt) [
-        | inl old ↦ rw (old_rise k old, old_rise i (omega (arith, before, old))) (is.strictly.places i k before old)
-        | inr new ↦ rw (new_rise k new, old_rise i (omega (arith, before, new))) (is.places i (omega (arith, before, new)))
-      ];
-      counts = λ i k before lt. elim (old_or_next k lt) [
-        | inl old ↦ rw (old_rise k old, old_rise i (omega (arith, before, old))) (is.strictly.counts i k before old)
-        | inr new ↦ rw (new_rise k new, old_rise i (omega (arith, before, new))) (below_next i (omega (arith, before, new)))
-      ];
-    };
-    places = λ i lt. elim (old_or_next i lt) [
-      | inl old ↦ rw (old_rise i old) (omega (arith, is.places i old))
-      | inr new ↦ rw (new_rise i new) (omega arith)
-    ];
-    counts = λ i lt. elim (old_or_next i lt) [
-      | inl old ↦ rw (old_rise i old) (omega (arith, is.counts i old, grown))
-      | inr new ↦ rw (new_rise i new) few
-    ];
+    strictly = grind (arith, common_steps, old_or_next, old_rise, new_rise, below_next);
+    places = λ i lt. grind (arith, old_or_next i lt, old_rise, new_rise);
+    counts = λ i lt. grind (arith, old_or_next i lt, old_rise, new_rise);
     few = omega (arith, length-append rises (next ∷ []), no_more_rises rises own from_events own is (omega arith), more, few);
   }
 

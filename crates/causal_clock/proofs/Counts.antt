@@ -1,12 +1,12 @@
 -- The number of a lane's first events that reach an event is how many of its events do.
-use Rattle.std.specs.Prelude.{None, ◌≡◌, ℕ, ◌+◌, ◌<◌, ◌≤◌, min, ◌↔◌, ◌==◌, ◌&&◌, if◌then◌else◌, Bool, true, false, List, [], ◌∷◌, ◌++◌, length, take, count_by}
+use Rattle.std.specs.Prelude.{None, ◌≡◌, ℕ, ◌+◌, ◌<◌, ◌≤◌, min, ◌↔◌, ◌==◌, ◌&&◌, if◌then◌else◌, Bool, true, false, List, length, take, count_by}
 use Rattle.std.proofs.Common.{zero, suc, refl, arith, ap, sym, ◌∙◌, inl, inr}
 use Rattle.std.specs.List.{range_with_len}
 use Rattle.std.proofs.Math.Seq.{take-suc, take-length}
 use Rattle.std.proofs.lemmas.List.{map-id}
 use Rattle.std.proofs.lemmas.List.FromFn.{sum_by-map-range_with_len_more}
 use Rattle.std.proofs.lemmas.Bool.{false≢true}
-use Rattle.std.proofs.lemmas.Bool.Decides.{eqb_tells, leb_tells}
+use Rattle.std.proofs.lemmas.Bool.Decides.{eqb_tells}
 use Rattle.causal_clock.specs.declared.Event.{Event}
 use Rattle.causal_clock.specs.Timeline.{lane_of, lane_length, place_of}
 use Rattle.causal_clock.specs.Precedence.{FirstReach, TellsReach, count_in_lane}
@@ -22,11 +22,7 @@ lane_length-next es m lane h = ap (λ xs. lane_length xs lane) (take-suc es m (r
 
 own_next : (b c t : Bool) (n place x y : ℕ) → b ≡ true → (t ≡ true) ↔ (place < n) → place ≡ y → x ≡ min n y → x + (if b && t then 1 else 0) ≡ min n (y + (if b then 1 else 0))
 own_next true c true n place x y e tells is before = omega (arith, tells.0 refl, is, before)
-own_next true c false n place x y e tells is before =
-    elim (leb_tells (suc place) n) [
-      | inl lt ↦ absurd (false≢true (tells.1 lt.1))
-      | inr ge ↦ omega (arith, ge.1, is, before)
-    ]
+own_next true c false n place x y e tells is before = grind arith
 own_next false c t n place x y e tells is before = absurd (false≢true e)
 
 other_next : (b t : Bool) (n x y : ℕ) → b ≡ false → x ≡ min n y → x + (if b && t then 1 else 0) ≡ min n (y + (if b then 1 else 0))
@@ -51,6 +47,4 @@ module _ (es : List Event) (j lane n : ℕ) (test : ℕ → Bool) (f : FirstReac
 
   -- where a lane's first n events reach j, that many of them pass a test of what reaches j
   pub reach_counted : count_in_lane es lane test ≡ n
-  reach_counted =
-      let whole : lane_length (take (length es) es) lane ≡ lane_length es lane = ap (λ xs. lane_length xs lane) (take-length es) in
-      omega (arith, counted_below (length es) (omega arith), whole, f.no_more)
+  reach_counted = grind (arith, take-length, counted_below)

@@ -1,8 +1,7 @@
 -- What lists tell of their elements, as a lane's columns or a clock's lanes, when one is written back or added.
 use Rattle.std.specs.Prelude.{◌≡◌, ◌≢◌, ℕ, ◌<◌, List, [], ◌∷◌, ◌++◌, length, map}
-use Rattle.std.proofs.Common.{Bool, true, false, cond, Vec, Global, zero, suc, refl, arith, ap, subst, inl, inr, sym, ◌∙◌, get_or, get_or-set_same, get_or-set_other}
+use Rattle.std.proofs.Common.{Bool, true, false, cond, Vec, Global, zero, suc, refl, arith, ap, sym, ◌∙◌, get_or, get_or-set_same, get_or-set_other}
 use Rattle.std.proofs.Math.ListN.{set}
-use Rattle.std.proofs.lemmas.Bool.Decides.{eqb_tells}
 use Rattle.causal_clock.specs.declared.Rise.{Rise}
 use Rattle.causal_clock.specs.declared.lane.Lane.{Lane}
 use Rattle.causal_clock.specs.Inside.Columns.{column_in, column_of}
@@ -28,8 +27,7 @@ module _ {V B : Type 0} (f : V → B) (xs : List V) (i : ℕ) (x y : V) where
 
   -- written back as it was
   pub told_same : i < length xs → x ≡ get_or xs i x → f y ≡ f x → map f (set xs i y) ≡ map f xs
-  told_same lt is same =
-      map-set f xs i y ∙ ap (set (map f xs) i) (same ∙ sym (told_was (f x) lt is)) ∙ set-get_or (map f xs) i (f x)
+  told_same lt is same = grind (arith, map-set f xs i y, set (map f xs) i, told_was (f x) lt is, set-get_or)
 
 -- one more element that tells the default tells nothing new
 pub told_default : {B : Type 0} (ys : List B) (b d : B) → b ≡ d → (k : ℕ) → get_or (ys ++ b ∷ []) k d ≡ get_or ys k d
@@ -55,11 +53,7 @@ module _ (xs : List Lane) (l : ℕ) (x y : Lane) (lt : l < length xs) where
 
   -- where it tells the same of each source lane nothing changes
   pub columns_same : x ≡ get_or xs l x → SameColumns x y → (lane source : ℕ) → column_of (map rises_in (set xs l y)) lane source ≡ column_of (map rises_in xs) lane source
-  columns_same is same lane source =
-      elim (eqb_tells lane l) [
-        | inl s ↦ subst (λ (n : ℕ). column_of (map rises_in (set xs l y)) n source ≡ column_of (map rises_in xs) n source) (sym s.1) (column_here source ∙ same source ∙ sym (column_was is source))
-        | inr s ↦ column_elsewhere lane source s.1
-      ]
+  columns_same is same lane source = grind (arith, set, column_here, column_was, column_elsewhere)
 
 -- one more lane without rises leaves all columns
 pub column_more : (xs : List Lane) (x : Lane) → rises_in x ≡ [] → (lane source : ℕ) → column_of (map rises_in (xs ++ x ∷ [])) lane source ≡ column_of (map rises_in xs) lane source
@@ -67,8 +61,5 @@ column_more xs x is lane source = ap (λ columns. column_in (get_or columns lane
 
 -- an empty column that was added, or not, tells nothing new
 pub column_pushed : (added : Bool) (xs ys : List (Vec Rise Global)) (v : Vec Rise Global) → ys ≡ cond added (xs ++ v ∷ []) xs → v.items ≡ [] → (source : ℕ) → column_in (map (λ c. c.items) ys) source ≡ column_in (map (λ c. c.items) xs) source
-column_pushed true xs ys v is empty source =
-    ap (λ l. column_in (map (λ c. c.items) l) source) is
-    ∙ ap (λ l. column_in l source) (map-append (λ c. c.items) xs (v ∷ []))
-    ∙ told_default (map (λ c. c.items) xs) v.items [] empty source
+column_pushed true xs ys v is empty source = grind (arith, map-append, told_default)
 column_pushed false xs ys v is empty source = ap (λ l. column_in (map (λ c. c.items) l) source) is

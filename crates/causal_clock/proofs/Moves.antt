@@ -2,7 +2,7 @@
 use Rattle.std.specs.Prelude.{◌≡◌, ◌≢◌, ℕ, ◌+◌, ◌<◌, ◌≤◌, ◌↔◌, nat_lt, ◌==◌, max, if◌then◌else◌, IsTrue, Some, List, [], ◌∷◌, ◌++◌, length, map}
 use Rattle.std.proofs.Common.{suc, refl, arith, ap, sym, ◌∙◌, inl, inr, get_or, eq-eqb, ne_eqb}
 use Rattle.std.proofs.Math.ListN.{set, get_or-eq_default}
-use Rattle.std.proofs.lemmas.Bool.Decides.{nat_tests, leb_tells, eqb_tells}
+use Rattle.std.proofs.lemmas.Bool.Decides.{leb_tells, eqb_tells}
 use Rattle.std.proofs.lemmas.List.{map-append, map-set}
 use Rattle.std.proofs.lemmas.List.Sums.{count_by-le-length}
 use Rattle.causal_clock.specs.declared.Event.{Event}
@@ -10,7 +10,6 @@ use Rattle.causal_clock.specs.declared.Entry.{Entry}
 use Rattle.causal_clock.specs.declared.Rise.{Rise}
 use Rattle.causal_clock.specs.declared.lane.Lane.{Lane}
 use Rattle.causal_clock.specs.Timeline.{lane_of, lane_length, place_of}
-use Rattle.causal_clock.specs.Rises.{count_at}
 use Rattle.causal_clock.specs.Inside.Columns.{column_in, column_of, raised, TellsAlike}
 use Rattle.causal_clock.specs.Inside.Kept.{count_or_none}
 use Rattle.causal_clock.specs.Inside.Lanes.{rises_in, SameColumns}
@@ -27,13 +26,7 @@ columns_in xs = column_of (map rises_in xs)
 
 -- the test of `precedes`
 pub told_by_place : (a n place : ℕ) (P : Type 0) → P ↔ (place < n) → a ≡ place → IsTrue (nat_lt a n) ↔ P
-told_by_place a n place P both is = (λ t. both.1 (omega (arith, below t, is)), λ p. above (omega (arith, both.0 p, is)))
-  where
-    below : IsTrue (nat_lt a n) → a < n
-    below t = grind (arith, nat_tests)
-
-    above : a < n → IsTrue (nat_lt a n)
-    above lt = grind (arith, nat_tests)
+told_by_place a n place P both is = grind arith
 
 -- one more lane
 pub keeps_opened : (es : List Event) (places : List ℕ) (xs ys : List Lane) (x : Lane) → ys ≡ xs ++ x ∷ [] → x.events ≡ 0 → rises_in x ≡ [] → KeepsColumns es places (lengths_in xs) (columns_in xs) → KeepsColumns es places (lengths_in ys) (columns_in ys)
@@ -43,15 +36,11 @@ keeps_opened es places xs ys x is events columns k =
 
 -- a lane written back that tells the same
 pub keeps_unchanged : (es : List Event) (places : List ℕ) (xs : List Lane) (l : ℕ) (x y : Lane) → l < length xs → x ≡ get_or xs l x → y.events ≡ x.events → SameColumns x y → KeepsColumns es places (lengths_in xs) (columns_in xs) → KeepsColumns es places (lengths_in (set xs l y)) (columns_in (set xs l y))
-keeps_unchanged es places xs l x y lt is events same k =
-    let lengths : lengths_in (set xs l y) ≡ lengths_in xs = told_same (λ (z : Lane). z.events) xs l x y lt is events in
-    rw lengths (keeps_same es places (lengths_in xs) (columns_in xs) (columns_in (set xs l y)) (columns_same xs l x y lt is same) k)
+keeps_unchanged es places xs l x y lt is events same k = grind (arith, told_same, set, columns_same)
 
 -- what an entry tells is what is counted
 pub told_in : (es : List Event) (column : ℕ → ℕ → List Rise) (send source : ℕ) (entry : Entry) (columns : List (List Rise)) → lane_of es send ≡ entry.event.lane → place_of es send ≡ entry.place → column entry.event.lane source ≡ column_in columns source → count_told columns entry source ≡ counts_in es column send source
-told_in es column send source entry columns lane place is =
-    let at = ap (λ l. column l source) lane ∙ is in
-    λ i. if sym lane i == source then sym place i + 1 else count_at (sym at i) (sym place i)
+told_in es column send source entry columns lane place is = grind arith
 
 -- what a receive is told of each lane, and of its own nothing
 abbrev pub told_of : List Event → (ℕ → ℕ → List Rise) → ℕ → ℕ → ℕ → ℕ

@@ -1,6 +1,6 @@
 -- The row of a lane's last counts goes on through what is done to the lane.
 use Rattle.std.specs.Prelude.{◌≡◌, ℕ, ◌<◌, ◌≤◌, max, List, [], ◌∷◌, ◌++◌, length, slice_index}
-use Rattle.std.proofs.Common.{arith, ap, sym, ◌∙◌, get_or}
+use Rattle.std.proofs.Common.{arith, sym, ◌∙◌, get_or}
 use Rattle.std.proofs.lemmas.List.{get_or_default}
 use Rattle.causal_clock.specs.declared.Rise.{Rise}
 use Rattle.causal_clock.specs.Rises.{count_at}
@@ -10,10 +10,7 @@ use Rattle.causal_clock.proofs.Columns.{count_at-later, count_at-risen}
 
 -- columns and counts that tell the same
 pub row_same : (events last : ℕ) (columns columns' : List (List Rise)) (row row' : List ℕ) → ((source : ℕ) → column_in columns' source ≡ column_in columns source) → ((k : ℕ) → slice_index row' k ≡ slice_index row k) → KeepsRow events last columns row → KeepsRow events last columns' row'
-row_same events last columns columns' row row' same counts k = record {
-  within = k.within;
-  told = λ source place le. ap (λ c. count_at c place) (same source) ∙ k.told source place le ∙ sym (counts source);
-}
+row_same events last columns columns' row row' same counts k = grind arith
 
 -- no place tells more than the row
 pub row_greatest : (events last : ℕ) (columns : List (List Rise)) (row : List ℕ) → KeepsRow events last columns row → (source place : ℕ) → count_at (column_in columns source) place ≤ slice_index row source

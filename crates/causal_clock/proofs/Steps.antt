@@ -1,4 +1,5 @@
 -- What is known of the counts goes on through one more event, and through one more lane.
+use Rattle.std.proofs.lemmas.Grind.{common_steps}
 use Rattle.std.specs.Prelude.{◌≡◌, ◌≢◌, ℕ, ◌+◌, ◌<◌, ◌≤◌, max, Option, Some, None, List, [], ◌∷◌, ◌++◌, length}
 use Rattle.std.proofs.Common.{refl, arith, ap, sym, ◌∙◌, subst, inl, inr}
 use Rattle.std.proofs.lemmas.Bool.Decides.{eqb_tells}
@@ -14,11 +15,7 @@ same_some e = cc
 
 -- the counts of an event, or none where there is no event
 some_reach : (es : List Event) (counts : ℕ → ℕ → ℕ) (lanes : ℕ) (k : Keeps es counts lanes) (event : Option ℕ) (lane : ℕ) → ((j : ℕ) → event ≡ Some j → j < length es) → FirstReachSome es event lane (count_or_none counts event lane)
-some_reach es counts lanes k None lane inside = record {
-  no_more = omega arith;
-  back = λ i lt of_lane p. absurd (omega arith);
-  forth = λ i j lt of_lane is c. cc;
-}
+some_reach es counts lanes k None lane inside = grind arith
 some_reach es counts lanes k (Some j) lane inside =
     let f = k.reach j (inside j refl) lane in
     record {
@@ -49,11 +46,7 @@ module _ (es : List Event) (counts : ℕ → ℕ → ℕ) (lanes : ℕ) (k : Kee
   all_of_lane = full es counts lanes k _ e.lane last
 
   in_lanes : (i : ℕ) → i < length (es ++ e ∷ []) → lane_of (es ++ e ∷ []) i < lanes
-  in_lanes i lt =
-      elim (old_or_new es e i lt) [
-        | inl old ↦ rw (lane_of-old es e i old) (k.lanes i old)
-        | inr new ↦ rw (lane_of-at_new es e i new) in_lane
-      ]
+  in_lanes i lt = grind (arith, old_or_new, lane_of-old, lane_of-at_new)
 
   own_reach : FirstReach (es ++ e ∷ []) (length es) e.lane (after (length es) e.lane)
   own_reach =
@@ -76,28 +69,21 @@ module _ (es : List Event) (counts : ℕ → ℕ → ℕ) (lanes : ℕ) (k : Kee
           (length es, refl, onward (reaches_old e up.2) (by_lane es e up.0 at.0 at.1))
       | inr new ↦ (length es, refl, subst (λ (x : ℕ). Reaches (es ++ e ∷ []) i x) new (itself lt))
     ];
-    inside = λ p is.
-        let new : p ≡ length es = sym (same_some is) in (
-          omega (arith, new, length-more es e),
-          lane_of-at_new es e p new,
-          omega (arith, place_of-new es e p new, lane_length-more es e e.lane, one_at_same e.lane e.lane refl),
-        );
+    inside = λ p is. grind (arith, common_steps, same_some, length-more, lane_of-at_new, place_of-new, lane_length-more, one_at_same);
     empty = λ is. cc;
   }
 
   last_in_other : (lane : ℕ) (event : Option ℕ) → e.lane ≢ lane → LastOf es event lane → LastOf (es ++ e ∷ []) event lane
   last_in_other lane event other l = record {
-    reached = λ i lt of_lane. elim (old_or_new es e i lt) [
-      | inl old ↦
-          let up = l.reached i old (sym (lane_of-old es e i old) ∙ of_lane) in
-          (up.0, up.1, reaches_old e up.2)
-      | inr new ↦ absurd (other (sym (lane_of-at_new es e i new) ∙ of_lane))
-    ];
+    reached = λ i lt of_lane. grind (arith, old_or_new es e i lt, lane_of-old, reaches_old, lane_of-at_new);
     inside = λ p is.
-        let at = l.inside p is in (
-          omega (arith, at.0, length-more es e),
-          lane_of-old es e p at.0 ∙ at.1,
-          omega (arith, at.2, place_of-old es e p at.0, lane_length-more es e lane, one_at_other e.lane lane other),
+        grind (
+          arith,
+          length-more es e,
+          lane_of-old es e p (l.inside p is).0,
+          place_of-old es e p (l.inside p is).0,
+          lane_length-more es e lane,
+          one_at_other e.lane lane other,
         );
     empty = λ is. omega (arith, l.empty is, lane_length-more es e lane, one_at_other e.lane lane other);
   }
@@ -110,10 +96,7 @@ module _ (es : List Event) (counts : ℕ → ℕ → ℕ) (lanes : ℕ) (k : Kee
       | inl old ↦ rw (same j old lane) (first_old es e j lane _ old (k.reach j old lane))
       | inr new ↦ rw new (new_reach lane)
     ];
-    own = λ j lt. elim (old_or_new es e j lt) [
-      | inl old ↦ same j old _ ∙ ap (counts j) (lane_of-old es e j old) ∙ k.own j old ∙ ap (λ n. n + 1) (sym (place_of-old es e j old))
-      | inr new ↦ (λ i. after (new i) (lane_of-at_new es e j new i)) ∙ own ∙ ap (λ n. n + 1) (sym (place_of-new es e j new))
-    ];
+    own = λ j lt. grind (arith, old_or_new es e j lt, lane_of-old, place_of-old, lane_of-at_new, place_of-new);
     last = λ lane. elim (eqb_tells lane e.lane) [
       | inl s ↦ (Some (length es), subst (LastOf (es ++ e ∷ []) (Some (length es))) (sym s.1) last_in_own)
       | inr s ↦ ((k.last lane).0, last_in_other lane _ (λ is. s.1 (sym is)) (k.last lane).1)
@@ -124,7 +107,3 @@ module _ (es : List Event) (counts : ℕ → ℕ → ℕ) (lanes : ℕ) (k : Kee
 -- one more lane
 pub keeps_lane : (es : List Event) (counts : ℕ → ℕ → ℕ) (lanes : ℕ) → Keeps es counts lanes → Keeps es counts (lanes + 1)
 keeps_lane es counts lanes k = record { few = k.few; reach = k.reach; own = k.own; last = k.last; lanes = λ i lt. omega (arith, k.lanes i lt) }
-
--- no count is greater than the length of its lane
-pub small_count : (es : List Event) (counts : ℕ → ℕ → ℕ) (lanes : ℕ) → Keeps es counts lanes → (event : Option ℕ) (lane : ℕ) → ((j : ℕ) → event ≡ Some j → j < length es) → count_or_none counts event lane ≤ lane_length es lane
-small_count es counts lanes k event lane inside = (some_reach es counts lanes k event lane inside).no_more

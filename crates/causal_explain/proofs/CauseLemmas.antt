@@ -33,11 +33,7 @@ dropped (suc n) [] e older is = absurd (let x : [] ≡ e ∷ older = is in cc)
 dropped (suc n) (x ∷ xs) e older is = dropped n xs e older is
 
 previous : (past : List Entry) (t : ℕ) (e : Entry) (older : List Entry) → t ≤ length past → instant past t ≡ e ∷ older → (length older < t) × (instant past (length older) ≡ older)
-previous past t e older within is =
-    let long : t ≡ length (e ∷ older) = sym (instant_length past t within) ∙ ap length is in (
-      omega (arith, long),
-      ap (λ n. drop n past) (let more : length past - length older ≡ suc (length past - t) = omega (arith, long, within) in more) ∙ dropped (length past - t) past e older is,
-    )
+previous past t e older within is = grind (arith, instant_length past t within, dropped (length past - t) past e older is)
 
 -- ---- what holds before an entry
 
@@ -49,15 +45,7 @@ det_before e past k d at below = sym (cond-false (k == length past) (det_of past
 
 -- an orphan is one under the crash set of the down processes and the holders
 gone_orphan : (n : ℕ) (s : List Entry) (k p : ℕ) (crash : ℕ → Bool) → (o : IsOrphan n s k crash p) → IsOrphan n s k (gone s o.det) p
-gone_orphan n s k p crash o = record {
-  process = o.process;
-  depends = o.depends;
-  survives = or_from (is_down s p) (logs s p o.det) o.depends.up (o.lost p o.process o.survives);
-  det = o.det;
-  delivered = o.delivered;
-  unstable = o.unstable;
-  lost = λ q low out. (or_parts (is_down s q) (logs s q o.det) out).1;
-}
+gone_orphan n s k p crash o = grind (arith, or_from (is_down s p) (logs s p o.det) o.depends.up (o.lost p o.process o.survives), or_parts)
 
 module _ (n f : ℕ) (past : List Entry) (k p : ℕ) (crash : ℕ → Bool) where
   -- what a restart leaves out, some process holds
@@ -140,14 +128,11 @@ module _ (n f k p : ℕ) (crash : ℕ → Bool) (sweep : SweepLaw) (only : OneNe
       let safe = before (Restart who listed) past refl in
       (refl, record { unlisted = newly (Restart who listed) past formed may o safe; held = gathers n f past k p crash who listed formed o safe })
   makes_orphan (Forget who listed ∷ past) formed may o before =
-      let safe = before (Forget who listed) past refl in
-      let hit : has listed o.det ≡ true = newly (Forget who listed) past formed may o safe in (
-        refl,
-        record {
-          holds = forgets n f past k p crash who listed formed may o safe;
-          forgets = ap (λ b. not (b && has listed o.det) && logs past who.0 o.det) (eq-eqb who.0 who.0 refl) ∙ ap (λ b. not b && logs past who.0 o.det) hit;
-          unstable = o.unstable;
-        },
+      grind (
+        arith,
+        newly (Forget who listed) past formed may o (before (Forget who listed) past refl),
+        forgets n f past k p crash who listed formed may o (before (Forget who listed) past refl),
+        eq-eqb who.0 who.0 refl,
       )
 
 -- ---- too many that are down
@@ -175,9 +160,7 @@ more_told (Some x) P Q more h = more x h
 module _ (r : Recording) (f t : ℕ) where
   -- where the verdict names too many down, the newest entry of that instant tells the cause
   pub excess_told : (down : _) → IsVerdict r f (Exceeded t down) → TellsCause r f (Exceeded t down) (newest_act (instant r.past t))
-  excess_told down v = makes_excess r.processes f (instant r.past t) v.1.many (λ e past is.
-      let old = previous r.past t e past v.0.within is in
-      subst (λ x. count_below r.processes (is_down x) ≤ f) old.1 (v.0.before (length past) old.0).few_down)
+  excess_told down v = grind (arith, makes_excess, previous)
 
   -- where the verdict names an orphan, the newest entry of that instant tells the cause
   pub orphan_told : (k : ℕ) (crash : _) (p : ℕ) → AreAccepted r.processes r.past → SweepLaw → OneNewOrphan → IsVerdict r f (Orphan t k crash p) → TellsCause r f (Orphan t k crash p) (newest_act (instant r.past t))

@@ -24,13 +24,11 @@ crash_more n f g past crash more h = record { down = h.down; few = omega (arith,
 
 -- an orphan is one for more faults
 pub orphan_more : (n f g : ℕ) (past : List Entry) (k : ℕ) → f ≤ g → HasOrphan n f past k → HasOrphan n g past k
-orphan_more n f g past k more h =
-    record { crash = h.crash; orphan = h.orphan; may_crash = crash_more n f g past h.crash more h.may_crash; is_orphan = h.is_orphan }
+orphan_more n f g past k more h = grind (arith, crash_more n f g past h.crash more h.may_crash)
 
 -- and for as many as there are processes
 orphan_all : (n f : ℕ) (past : List Entry) (k : ℕ) → HasOrphan n f past k → HasOrphan n n past k
-orphan_all n f past k h =
-    record { crash = h.crash; orphan = h.orphan; may_crash = record { down = h.may_crash.down; few = count_below-le n h.crash }; is_orphan = h.is_orphan }
+orphan_all n f past k h = grind (arith, count_below-le n h.crash)
 
 -- where none has one for some number, none has one for a smaller number
 pub none_fewer : (r : Recording) (f g : ℕ) → f ≤ g → HasNoOrphan r g → HasNoOrphan r f
@@ -50,11 +48,7 @@ safe_more r f g safe more none t within = record { few_down = omega (arith, (saf
 
 -- a breach is no end of safety where fewer may crash than its number
 breached : (r : Recording) (faults : ℕ) (b : Breach) → IsLeastBreach r faults 0 (deliveries_in r.past) b → (g : ℕ) → faults ≤ g → HasNoOrphan r g → ⊥
-breached r faults b h g more none =
-    let least = h.first.least in
-    none b.delivery b.instant h.first.within
-    (orphan_more r.processes faults g (instant r.past b.instant) b.delivery more
-    (record { crash = contains b.crash; orphan = b.orphan; may_crash = least.may_crash; is_orphan = least.is_orphan }))
+breached r faults b h g more none = grind (arith, orphan_more)
 
 -- what the closest failure leaves to safety
 pub leaves : (r : Recording) (f : ℕ) → IsSafeTrace r f → (c : Closest) → IsClosest r c → Leaves r f c
@@ -103,9 +97,7 @@ by_itself r g b h =
 
 -- a least breach is found, by whichever instant it comes
 pub finds_breach : (r : Recording) (f end : ℕ) (b : Breach) → f < 65536 → LeastBreachBy r f end 0 (deliveries_in r.past) (Some b) → Finds r f (Some b)
-finds_breach r f end b small told =
-    let itself = by_itself r f b told.1 in
-    (itself.0, record { few = omega (arith, itself.0, small); least = itself.1 })
+finds_breach r f end b small told = grind (arith, by_itself r f b told.1)
 
 -- and so is that of the whole run, or that there is none
 pub finds : (r : Recording) (f : ℕ) (told : Option Breach) → f < 65536 → LeastBreachBy r f (length r.past) 0 (deliveries_in r.past) told → Finds r f told

@@ -63,9 +63,7 @@ comes_within past i k n (onward j m c d is) = precedes_within past j k d
 -- each step goes on by one position at least
 pub comes_few : (past : List Entry) (i k n : ℕ) → AreForward past → Comes past i k n → n ≤ k
 comes_few past i k n forward (at_once p l at is none) = omega (arith, none)
-comes_few past i k n forward (onward j m c d is) =
-    let earlier : j < k = precedes_before past j k forward d in
-    omega (arith, comes_few past i j m forward c, earlier, is)
+comes_few past i k n forward (onward j m c d is) = grind (arith, precedes_before past j k forward d, is, comes_few past i j m forward c)
 
 -- by no step nothing but itself is come to
 pub comes_nowhere : (past : List Entry) (i k : ℕ) → (n : ℕ) → n ≡ 0 → Comes past i k n → k ≡ i

@@ -17,19 +17,10 @@ passing_more n test = ap (filter test) (range_more n) ∙ filter-append test (ra
 -- the next one passes
 pub tells_one : {X : Type 0} (n : ℕ) (test : ℕ → Bool) (process : X → ℕ) (IsRight : X → Type 0) (told : List X) (x : X)
     → TellsEach n test process IsRight told → process x ≡ n → test n ≡ true → IsRight x → TellsEach (n + 1) test process IsRight (told ++ x ∷ [])
-tells_one n test process IsRight told x h is passes right = record {
-  processes =
-      map-append process told (x ∷ [])
-      ∙ (λ i. h.processes i ++ is i ∷ [])
-      ∙ ap (λ b. passing n test ++ cond b (n ∷ []) []) (sym passes)
-      ∙ sym (passing_more n test);
-  each = All-push IsRight told x h.each right;
-}
+tells_one n test process IsRight told x h is passes right =
+    grind (arith, map-append process told (x ∷ []), passing_more n test, All-push IsRight told x h.each right)
 
 -- the next one does not
 pub tells_skipped : {X : Type 0} (n : ℕ) (test : ℕ → Bool) (process : X → ℕ) (IsRight : X → Type 0) (told : List X)
     → TellsEach n test process IsRight told → test n ≡ false → TellsEach (n + 1) test process IsRight told
-tells_skipped n test process IsRight told h fails = record {
-  processes = h.processes ∙ sym (append-nil (passing n test)) ∙ ap (λ b. passing n test ++ cond b (n ∷ []) []) (sym fails) ∙ sym (passing_more n test);
-  each = h.each;
-}
+tells_skipped n test process IsRight told h fails = grind (arith, append-nil (passing n test), passing_more n test)

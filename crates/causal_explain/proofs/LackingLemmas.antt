@@ -1,5 +1,5 @@
 -- After which deliveries a log lacks a determinant, with one more entry.
-use Rattle.std.proofs.Common.{ℕ, ◌≡◌, ◌+◌, ◌<◌, ◌≤◌, inl, inr, Bool, true, false, List, [], ◌∷◌, ◌++◌, length, get_or, Option, Some, None, refl, sym, ap, ◌∙◌, arith}
+use Rattle.std.proofs.Common.{ℕ, ◌≡◌, ◌+◌, ◌<◌, ◌≤◌, Bool, true, false, List, [], ◌∷◌, ◌++◌, length, Option, Some, None, refl, sym, ap, ◌∙◌, arith}
 use Rattle.std.specs.Prelude.{◌==◌, not, MatchOption}
 use Rattle.std.specs.List.{find}
 use Rattle.std.specs.Option.{is_some, option_map_or}
@@ -36,21 +36,19 @@ module _ (e : Entry) (past : List Entry) (d : Det) where
 
   -- one more mark
   pub lacking_more : (marks : List Bool) (b : Bool) → AreLacking past d marks → b ≡ is_lacking (e ∷ past) d e → AreLacking (e ∷ past) d (marks ++ b ∷ [])
-  lacking_more marks b h is = record {
-    count = omega (arith, length-append marks (b ∷ []), h.count);
-    each = λ k. elim (eqb_tells k (length past)) [
-      | inl here ↦
-          ap (λ x. get_or (marks ++ b ∷ []) x false) (here.1 ∙ sym h.count) ∙ get_or-append_seam marks b [] false ∙ is
-          ∙ sym lacks_newest ∙ ap (lacks_after (e ∷ past) d) (sym here.1)
-      | inr apart ↦ elim (cases_lt k (length past)) [
-        | inl low ↦ get_or-append marks (b ∷ []) false k (omega (arith, low, h.count)) ∙ h.each k ∙ sym (lacks_still k low)
-        | inr high ↦
-            let ne : k ≡ length past → ⊥ = apart.1 in
-            get_or_past (marks ++ b ∷ []) k false (omega (arith, high, ne, h.count, length-append marks (b ∷ [])))
-            ∙ sym (lacks_beyond k (omega (arith, high, ne)))
-      ]
-    ];
-  }
+  lacking_more marks b h is =
+      grind (
+        arith,
+        length-append marks (b ∷ []),
+        eqb_tells,
+        get_or-append_seam marks b [] false,
+        lacks_newest,
+        cases_lt,
+        get_or-append,
+        lacks_still,
+        get_or_past,
+        lacks_beyond,
+      )
 
 -- where it is told since when a test holds, if it does, none is told just where it does not
 pub lacks_told : (past : List Entry) (test : List Entry → Bool) (found : Option ℕ) (none : Bool) → MatchOption found (test past ≡ false) (HoldsSince past test)

@@ -1,5 +1,5 @@
 -- By which entry a log loses a determinant.
-use Rattle.std.proofs.Common.{ℕ, ◌≡◌, ◌+◌, ◌<◌, inl, inr, Bool, true, false, List, [], ◌∷◌, length, Some, refl, sym, ap, subst, ◌∙◌, arith}
+use Rattle.std.proofs.Common.{ℕ, ◌≡◌, ◌+◌, ◌<◌, inl, inr, Bool, true, false, List, [], ◌∷◌, length, Some, refl, sym, ap, ◌∙◌, arith}
 use Rattle.std.specs.Prelude.{◌==◌, ◌&&◌, ◌||◌, not}
 use Rattle.std.proofs.lemmas.Bool.{false≢true, and_parts, or_parts, eqb-true, cond-true, cond-false, eq-eqb, ne_eqb}
 use Rattle.std.proofs.lemmas.Bool.Decides.{eqb_tells}
@@ -61,13 +61,10 @@ not_true false h = refl
 -- what is told of a loss by its entry is so
 pub is_loss : (past : List Entry) (d : Det) (x : Loss) → HoldsSince past (λ state. not (logs state x.process d)) x.lost → x.by ≡ lost_by (entry_at past x.lost) → IsLoss past d x
 is_loss past d x since by =
-    let next = next_instant past x.lost since.within in
-    let held : logs (instant past x.lost) x.process d ≡ true = not_false _ since.before in
-    let gone : logs (next.0 ∷ instant past x.lost) x.process d ≡ false =
-    ap (λ state. logs state x.process d) (sym next.2) ∙ not_true _ (since.after (x.lost + 1) (omega arith) (omega (arith, since.within))) in
-    record {
-      since = since;
-      entry = next.0;
-      there = next.1;
-      loses = subst (Loses next.0 x.process d) (sym (by ∙ ap lost_by next.1)) (loses next.0 (instant past x.lost) x.process d held gone);
-    }
+    grind (
+      arith,
+      next_instant past x.lost since.within,
+      not_false,
+      not_true,
+      loses (next_instant past x.lost since.within).0 (instant past x.lost) x.process d (not_false _ since.before) (ap (λ state. logs state x.process d) (sym (next_instant past x.lost since.within).2) ∙ not_true _ (since.after (x.lost + 1) (omega arith) (omega (arith, since.within)))),
+    )

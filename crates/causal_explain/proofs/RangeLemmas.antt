@@ -1,7 +1,7 @@
 -- For which numbers of faults a run is safe.
 use Rattle.std.proofs.Common.{ℕ, ◌≡◌, ◌<◌, ◌≤◌, inl, inr, Some, None, refl, arith}
 use Rattle.std.specs.Ordering.{nat_cmp}
-use Rattle.std.specs.FinSet.{FinSet, contains}
+use Rattle.std.specs.FinSet.{FinSet}
 use Rattle.std.proofs.lemmas.Bool.{cases_lt}
 use Rattle.causal_holders.proofs.Lemmas.MemberCounts.{count_below-le}
 use Rattle.causal_trace.specs.Past.{instant, is_down, deliveries_in}
@@ -61,21 +61,11 @@ range_to r from end fewer orphan between = record {
 
 -- a least breach is an orphan
 pub orphan_of_breach : (r : Recording) (f : ℕ) (b : Breach) → LeastBreach r f 0 (deliveries_in r.past) (Some b) → ComesToOrphan r f
-orphan_of_breach r f b h = (
-  b.instant,
-  b.delivery,
-  h.first.within,
-  record { crash = contains b.crash; orphan = b.orphan; may_crash = h.first.least.may_crash; is_orphan = h.first.least.is_orphan },
-)
+orphan_of_breach r f b h = grind arith
 
 -- and so is a verdict that tells one
 orphan_of_verdict : (r : Recording) (f t k p : ℕ) (crash : FinSet nat_cmp) → IsVerdict r f (Orphan t k crash p) → ComesToOrphan r f
-orphan_of_verdict r f t k p crash h = (
-  t,
-  k,
-  h.0.within,
-  record { crash = contains crash; orphan = p; may_crash = h.1.least.may_crash; is_orphan = h.1.least.is_orphan },
-)
+orphan_of_verdict r f t k p crash h = grind arith
 
 -- no verdict tells an excess where there is none
 no_excess : (r : Recording) (f t : ℕ) (down : FinSet nat_cmp) → FirstExcess r f None → IsVerdict r f (Exceeded t down) → ⊥

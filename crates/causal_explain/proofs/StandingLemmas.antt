@@ -1,7 +1,7 @@
 -- What is kept of a process, with one more entry.
-use Rattle.std.proofs.Common.{ℕ, ◌≡◌, ◌+◌, ◌<◌, inl, inr, Bool, true, false, List, [], ◌∷◌, length, take, replicate, get_or, refl, sym, ap, subst, ◌∙◌, arith}
+use Rattle.std.proofs.Common.{ℕ, ◌≡◌, ◌+◌, ◌<◌, Bool, true, false, List, [], ◌∷◌, length, take, replicate, get_or, refl, sym, ap, subst, ◌∙◌, arith}
 use Rattle.std.specs.Prelude.{◌&&◌, not, slice_set}
-use Rattle.std.proofs.lemmas.Bool.{and_from, or_from, or_left, or_right}
+use Rattle.std.proofs.lemmas.Bool.{and_from, or_from, or_right}
 use Rattle.std.proofs.lemmas.Bool.Decides.{eqb_tells}
 use Rattle.std.proofs.lemmas.List.{length-set, length-take, length-replicate, get_or-set_other, get_or-set_same, get_or-take, get_or-replicate}
 use Rattle.causal_trace.specs.declared.entry.Entry.{Entry}
@@ -46,14 +46,7 @@ module _ (e : Entry) (past : List Entry) (test : List Entry → Bool) where
 
   -- what holds, and does not with one more entry, ends by that
   pub ends : (since : ℕ) → test (e ∷ past) ≡ false → IsStanding past test (Holds since) → IsStanding (e ∷ past) test (Ended (length past))
-  ends since fails h = (
-    since_newest e past (λ state. not (test state)) (ap not (holds_now past test since h)) (ap not fails),
-    or_right (test (e ∷ past)) (ever test past) (ever_now past test (holds_now past test since h)),
-  )
-    where
-      ever_now : (past : List Entry) (test : List Entry → Bool) → test past ≡ true → ever test past ≡ true
-      ever_now [] test h = h
-      ever_now (e ∷ past) test h = or_left (test (e ∷ past)) (ever test past) h
+  ends since fails h = grind (arith, since_newest, holds_now past test since h, or_right)
 
   -- what has ended stays so
   pub stays_ended : (since : ℕ) → test (e ∷ past) ≡ false → IsStanding past test (Ended since) → IsStanding (e ∷ past) test (Ended since)
@@ -69,8 +62,7 @@ stand_none test n none = λ p below. subst (IsStanding [] (test p)) (sym (get_or
 -- so it is of the first of them
 pub stand_first : (past : List Entry) (test : ℕ → List Entry → Bool) (standings : List Standing) (n : ℕ) → AreStandings past test standings → AreStandings past test (take n standings)
 stand_first past test standings n h = λ p below.
-    let low : p < n = omega (arith, below, length-take n standings) in
-    subst (IsStanding past (test p)) (sym (get_or-take n standings p Never low)) (h p (omega (arith, below, length-take n standings)))
+    grind (arith, length-take n standings, get_or-take n standings p Never (omega (arith, below, length-take n standings)))
 
 -- what is over held, and does not hold now
 pub lost_now : (past : List Entry) (test : List Entry → Bool) (s : ℕ) → IsOverSince past test s → (ever test past && not (test past)) ≡ true
@@ -84,18 +76,10 @@ stand_unchanged e past test standings same h = λ p below. still_stands e past (
 pub stand_changed : (e : Entry) (past : List Entry) (test : ℕ → List Entry → Bool) (standings : List Standing) (q : ℕ) (standing : Standing) → q < length standings
     → ((p : ℕ) → (p ≡ q → ⊥) → test p (e ∷ past) ≡ test p past) → IsStanding (e ∷ past) (test q) standing → AreStandings past test standings → AreStandings (e ∷ past) test (slice_set standings q standing)
 stand_changed e past test standings q standing within same new h = λ p below.
-    elim (eqb_tells p q) [
-      | inl here ↦
-          subst (λ x. IsStanding (e ∷ past) (test x) (get_or (slice_set standings q standing) x Never)) (sym here.1)
-          (subst (IsStanding (e ∷ past) (test q)) (sym (get_or-set_same standings q standing Never within)) new)
-      | inr apart ↦
-          subst (IsStanding (e ∷ past) (test p)) (sym (get_or-set_other standings q p standing Never apart.1))
-          (still_stands e past (test p) (get_or standings p Never) (same p apart.1) (h p (omega (arith, below, length-set standings q standing))))
-    ]
+    grind (arith, eqb_tells p q, get_or-set_same standings q standing Never within, get_or-set_other, still_stands, length-set standings q standing)
 
 -- so the entry at a position is taken in, when those before it have been
 pub stand_next : (entries : List Entry) (i : ℕ) (e : Entry) (change : Change) (test : ℕ → List Entry → Bool) (old new : List Standing) → i < length entries → e ≡ get_or entries i e
     → ((test : ℕ → List Entry → Bool) (e : Entry) (past : List Entry) → length past ≡ i → TellsChange test e change → AreStandings past test old → AreStandings (e ∷ past) test new)
     → TellsChange test e change → AreStandings (past_at entries i) test old → AreStandings (past_at entries (i + 1)) test new
-stand_next entries i e change test old new below is noted tells stand =
-    subst (λ past. AreStandings past test new) (sym (past_more entries i e below is)) (noted test e (past_at entries i) (past_length entries i (omega (arith, below))) tells stand)
+stand_next entries i e change test old new below is noted tells stand = grind (arith, past_more entries i e below is, past_length)

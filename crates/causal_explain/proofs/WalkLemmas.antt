@@ -38,11 +38,4 @@ walk_more past i last total gone position chain next below h back =
 
 -- once all steps were gone back, the chain in the order of the run is the walk
 pub walk_over : (past : List Entry) (i last total gone position : ℕ) (chain : List ℕ) → gone ≡ total → IsWalkedBack past i last total gone position chain → IsWalk past i last total (reverse chain)
-walk_over past i last total gone position chain over h =
-    let here : position ≡ i = comes_nowhere past i position h.left (omega (arith, h.in_all, over)) h.fewest.comes in
-    record {
-      rest = h.rest;
-      begins = h.reversed ∙ ap (λ x. x ∷ h.rest) here;
-      path = subst (λ x. IsPath past x h.rest last) here h.path;
-      steps = h.steps ∙ over;
-    }
+walk_over past i last total gone position chain over h = grind (arith, comes_nowhere)

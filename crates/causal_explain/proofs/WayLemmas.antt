@@ -1,9 +1,9 @@
 -- The nearest of some events, and the way to each, with one more entry.
-use Rattle.std.proofs.Common.{ℕ, ◌≡◌, ◌+◌, ◌<◌, ◌≤◌, inl, inr, Bool, true, false, List, [], ◌∷◌, ◌++◌, length, get_or, reverse, replicate, Option, Some, None, refl, sym, subst, ◌∙◌, arith}
-use Rattle.std.specs.Prelude.{◌⊎◌, ◌==◌, nat_lt, slice_set, if◌then◌else◌, IfSome}
+use Rattle.std.proofs.Common.{ℕ, ◌≡◌, ◌+◌, ◌<◌, ◌≤◌, inl, inr, true, List, [], ◌∷◌, ◌++◌, length, get_or, reverse, replicate, Option, Some, None, refl, sym, subst, ◌∙◌, arith}
+use Rattle.std.specs.Prelude.{◌⊎◌, ◌==◌, slice_set, IfSome}
 use Rattle.std.specs.Option.{is_some}
-use Rattle.std.proofs.lemmas.Bool.{false≢true, cond-true, cond-false, eq-eqb, ne_eqb, eqb-true}
-use Rattle.std.proofs.lemmas.Bool.Decides.{eqb_tells, nat_tests}
+use Rattle.std.proofs.lemmas.Bool.{false≢true, cond-true, cond-false, eq-eqb, ne_eqb}
+use Rattle.std.proofs.lemmas.Bool.Decides.{eqb_tells}
 use Rattle.std.proofs.lemmas.List.{length-append, length-replicate, length-set, get_or-replicate, get_or-set_other, get_or-set_same}
 use Rattle.std.proofs.Math.ListN.{get_or-append}
 use Rattle.std.proofs.Math.Seq.{get_or-append_seam}
@@ -28,35 +28,13 @@ module _ (past : List Entry) (i : ℕ) (A B C : ℕ → Type 0) (either : (k : �
   nearest_of_both None None h g = λ k n is c. elim (either k is) [ inl in_a ↦ h k n in_a c | inr in_b ↦ g k n in_b c ]
   nearest_of_both None (Some b) h g = (other b.position g.0, g.1, λ k n is c. elim (either k is) [ inl in_a ↦ absurd (h k n in_a c) | inr in_b ↦ g.2 k n in_b c ])
   nearest_of_both (Some a) None h g = (one a.position h.0, h.1, λ k n is c. elim (either k is) [ inl in_a ↦ h.2 k n in_a c | inr in_b ↦ absurd (g k n in_b c) ])
-  nearest_of_both (Some a) (Some b) h g = chosen (nat_lt b.steps a.steps) refl
-    where
-      chosen : (x : Bool) → nat_lt b.steps a.steps ≡ x → Nearest past i C (if x then Some b else Some a)
-      chosen true is = (
-        other b.position g.0,
-        g.1,
-        λ k n kind c. elim (either k kind) [
-          | inl in_a ↦ let far = h.2 k n in_a c in let lower : b.steps < a.steps = grind (arith, nat_tests) in omega (arith, far, lower)
-          | inr in_b ↦ g.2 k n in_b c
-        ],
-      )
-      chosen false is = (
-        one a.position h.0,
-        h.1,
-        λ k n kind c. elim (either k kind) [
-          | inl in_a ↦ h.2 k n in_a c
-          | inr in_b ↦ let far = g.2 k n in_b c in let lower : a.steps ≤ b.steps = grind (arith, nat_tests) in omega (arith, far, lower)
-        ],
-      )
+  nearest_of_both (Some a) (Some b) h g = grind arith
 
 -- the nearest of earlier events is still the nearest with one more entry
 pub nearest_still : (e : Entry) (past : List Entry) (i : ℕ) (A B : ℕ → Type 0) → AreForward (e ∷ past) → ((k : ℕ) → A k → k < length past) → ((k : ℕ) → A k → B k) → ((k : ℕ) → B k → A k)
     → (found : Option Reached) → Nearest past i A found → Nearest (e ∷ past) i B found
 nearest_still e past i A B forward within to from None h = λ k n is c. h k n (from k is) (comes_old e past i k n forward (within k (from k is)) c)
-nearest_still e past i A B forward within to from (Some x) h = (
-  to x.position h.0,
-  comes_more e past i x.position x.steps h.1,
-  λ k n is c. h.2 k n (from k is) (comes_old e past i k n forward (within k (from k is)) c),
-)
+nearest_still e past i A B forward within to from (Some x) h = grind (arith, comes_more e past i x.position x.steps h.1, comes_old)
 
 -- the nearest is reached by fewer steps than there are entries
 pub nearest_few : (past : List Entry) (i : ℕ) (A : ℕ → Type 0) (x : Reached) → AreForward past → Nearest past i A (Some x) → x.steps < length past
@@ -65,14 +43,7 @@ nearest_few past i A x forward h = omega (arith, comes_few past i x.position x.s
 -- of a process that the entry does not concern the nearest event stays
 pub lane_still : (e : Entry) (past : List Entry) (i p : ℕ) (found : Option Reached) → AreForward (e ∷ past) → (actor e ≡ Some p → ⊥) → lane (e ∷ past) p ≡ lane past p
     → Nearest past i (λ k. IsEventOf past k p (lane past p)) found → Nearest (e ∷ past) i (λ k. IsEventOf (e ∷ past) k p (lane (e ∷ past) p)) found
-lane_still e past i p found forward other same h =
-    nearest_still e past i (λ k. IsEventOf past k p (lane past p)) (λ k. IsEventOf (e ∷ past) k p (lane (e ∷ past) p)) forward (λ k at. event_below past k p (lane past p) at)
-    (λ k at. inl (subst (IsEventOf past k p) (sym same) at))
-    (λ k at. older k at) found h
-  where
-    older : (k : ℕ) → IsEventOf (e ∷ past) k p (lane (e ∷ past) p) → IsEventOf past k p (lane past p)
-    older k (inl at) = subst (IsEventOf past k p) same at
-    older k (inr at) = absurd (other at.1)
+lane_still e past i p found forward other same h = grind (arith, nearest_still, event_below)
 
 -- of the process of an event it is the nearer of that before and the event
 pub lane_joined : (e : Entry) (past : List Entry) (i p : ℕ) (before reached : Option Reached) → AreForward (e ∷ past) → actor e ≡ Some p → lane (e ∷ past) p ≡ lane past p
@@ -99,14 +70,8 @@ lane_empty e past i p none more = λ k n at c. no_event k at
 pub lanes_changed : (e : Entry) (past : List Entry) (i : ℕ) (lanes : List (Option Reached)) (q : ℕ) (found : Option Reached) → q < length lanes → AreForward (e ∷ past)
     → ((p : ℕ) → (p ≡ q → ⊥) → (actor e ≡ Some p → ⊥) × (lane (e ∷ past) p ≡ lane past p)) → Nearest (e ∷ past) i (λ k. IsEventOf (e ∷ past) k q (lane (e ∷ past) q)) found
     → AreNearest past i lanes → AreNearest (e ∷ past) i (slice_set lanes q found)
-lanes_changed e past i lanes q found within forward others own h = λ p below. elim (eqb_tells p q) [
-  | inl here ↦
-      subst (λ x. Nearest (e ∷ past) i (λ k. IsEventOf (e ∷ past) k x (lane (e ∷ past) x)) (get_or (slice_set lanes q found) x None)) (sym here.1)
-      (subst (Nearest (e ∷ past) i (λ k. IsEventOf (e ∷ past) k q (lane (e ∷ past) q))) (sym (get_or-set_same lanes q found None within)) own)
-  | inr apart ↦
-      subst (Nearest (e ∷ past) i (λ k. IsEventOf (e ∷ past) k p (lane (e ∷ past) p))) (sym (get_or-set_other lanes q p found None apart.1))
-      (lane_still e past i p (get_or lanes p None) forward (others p apart.1).0 (others p apart.1).1 (h p (omega (arith, below, length-set lanes q found))))
-]
+lanes_changed e past i lanes q found within forward others own h = λ p below.
+    grind (arith, eqb_tells p q, get_or-set_same lanes q found None within, get_or-set_other, lane_still, length-set lanes q found)
 
 -- and where none is
 pub lanes_still : (e : Entry) (past : List Entry) (i : ℕ) (lanes : List (Option Reached)) → AreForward (e ∷ past) → actor e ≡ None → ((p : ℕ) → lane (e ∷ past) p ≡ lane past p)
@@ -148,20 +113,14 @@ module _ (e : Entry) (past : List Entry) (i : ℕ) (forward : AreForward (e ∷ 
 
   -- and what is preceded by nothing that is come to is not come to
   pub no_way : (v : ℕ) → length past ≡ v → (i ≡ length past → is_some (actor e) ≡ true → ⊥) → Nearest past i (PrecedesNext e past) None → (n : ℕ) → Comes (e ∷ past) i v n → ⊥
-  no_way v here other h n c = none n (comes_newest e past i v n forward (sym here) c)
-    where
-      none : (n : ℕ) → ComesNewest e past i n → ⊥
-      none n (is_newest is event zero) = other is event
-      none n (through j m kind c is) = h j m kind c
+  no_way v here other h n c = grind (arith, comes_newest e past i v n forward (sym here) c)
 
 -- an event of q brings it in where it is nearer
 pub lanes_joined : (e : Entry) (past : List Entry) (i : ℕ) (lanes : List (Option Reached)) (q : ℕ) (reached : Option Reached) → q < length lanes → AreForward (e ∷ past)
     → actor e ≡ Some q → ((p : ℕ) → lane (e ∷ past) p ≡ lane past p) → Nearest (e ∷ past) i (λ k. k ≡ length past) reached
     → AreNearest past i lanes → AreNearest (e ∷ past) i (slice_set lanes q (nearer (get_or lanes q None) reached))
 lanes_joined e past i lanes q reached within forward who same new h =
-    lanes_changed e past i lanes q (nearer (get_or lanes q None) reached) within forward
-    (λ p apart. (λ is. apart (let x : Some p ≡ Some q = sym is ∙ who in cc), same p))
-    (lane_joined e past i q (get_or lanes q None) reached forward who (same q) (h q within) new) h
+    grind (arith, lanes_changed, lane_joined e past i q (get_or lanes q None) reached forward who (same q) (h q within) new)
 
 -- a restart of q empties its lane
 pub lanes_restarted : (past : List Entry) (i : ℕ) (lanes : List (Option Reached)) (who : Pid) (listed : List Det) → who.0 < length lanes → AreForward (Restart who listed ∷ past)
@@ -174,41 +133,21 @@ lanes_restarted past i lanes who listed within forward h =
 -- the nearest that directly precedes a delivery is of its lane, or its send
 pub nearest_delivered : (past : List Entry) (i : ℕ) (to : Pid) (send rsn : ℕ) (listed : List Det) (a b : Option Reached) → Nearest past i (λ k. IsEventOf past k to.0 (lane past to.0)) a
     → Nearest past i (λ k. k ≡ send) b → Nearest past i (PrecedesNext (Deliver to send rsn listed) past) (nearer a b)
-nearest_delivered past i to send rsn listed a b h g =
-    nearest_of_both past i (λ k. IsEventOf past k to.0 (lane past to.0)) (λ k. k ≡ send) (PrecedesNext (Deliver to send rsn listed) past) either
-    (λ k at. inl (to.0, refl, at)) (λ k is. inr (eq-eqb send k (sym is))) a b h g
-  where
-    either : (k : ℕ) → PrecedesNext (Deliver to send rsn listed) past k → IsEventOf past k to.0 (lane past to.0) ⊎ (k ≡ send)
-    either k (inl at) = inl (let same : at.0 ≡ to.0 = let x : Some to.0 ≡ Some at.0 = at.1 in cc in subst (λ p. IsEventOf past k p (lane past p)) same at.2)
-    either k (inr is) = inr (sym (eqb-true send k is))
+nearest_delivered past i to send rsn listed a b h g = grind (arith, nearest_of_both, eq-eqb)
 
 -- a way is still one with one more entry
 way_still : (e : Entry) (past : List Entry) (i k : ℕ) (found : Option Way) → AreForward (e ∷ past) → k < length past → TellsWay past i k found → TellsWay (e ∷ past) i k found
 way_still e past i k None forward below h = λ n c. h n (comes_old e past i k n forward below c)
 way_still e past i k (Some w) forward below h = record {
-  fewest = record {
-    comes = comes_more e past i k w.steps h.fewest.comes;
-    least = λ n c. h.fewest.least n (comes_old e past i k n forward below c);
-  };
+  fewest = grind (arith, comes_more e past i k w.steps h.fewest.comes, comes_old);
   last = λ m is. let before = h.last m is in (precedes_more e past w.before k before.0, comes_more e past i w.before m before.1);
 }
 
 -- the ways to one entry more
 pub ways_more : (e : Entry) (past : List Entry) (i : ℕ) (ways : List (Option Way)) (way : Option Way) → AreForward (e ∷ past) → TellsWay (e ∷ past) i (length past) way
     → AreWays past i ways → AreWays (e ∷ past) i (ways ++ way ∷ [])
-ways_more e past i ways way forward new h = record {
-  count = omega (arith, length-append ways (way ∷ []), h.count);
-  each = λ k below. elim (eqb_tells k (length past)) [
-    | inl here ↦
-        subst (λ x. TellsWay (e ∷ past) i x (get_or (ways ++ way ∷ []) x None)) (sym here.1)
-        (subst (λ x. TellsWay (e ∷ past) i (length past) (get_or (ways ++ way ∷ []) x None)) h.count
-        (subst (TellsWay (e ∷ past) i (length past)) (sym (get_or-append_seam ways way [] None)) new))
-    | inr apart ↦
-        let low : k < length past = let ne : k ≡ length past → ⊥ = apart.1 in omega (arith, below) in
-        subst (TellsWay (e ∷ past) i k) (sym (get_or-append ways (way ∷ []) None k (omega (arith, low, h.count))))
-        (way_still e past i k (get_or ways k None) forward low (h.each k low))
-  ];
-}
+ways_more e past i ways way forward new h =
+    grind (arith, length-append ways (way ∷ []), eqb_tells, get_or-append_seam ways way [] None, get_or-append, way_still)
 
 -- to no entry there is a way
 pub ways_none : (i : ℕ) → AreWays [] i []

@@ -1,5 +1,5 @@
 -- What is read of all entries.
-use Rattle.std.proofs.Common.{◌≡◌, ◌<◌, ◌+◌, ◌∙◌, ℕ, List, ◌∷◌, length, get_or, Option, ap, sym, subst, arith}
+use Rattle.std.proofs.Common.{◌≡◌, ◌<◌, ◌+◌, ◌∙◌, ℕ, List, ◌∷◌, length, get_or, Option, subst, arith}
 use Rattle.causal_name.specs.declared.MsgName.{MsgName}
 use Rattle.std.specs.Prelude.{reverse}
 use Rattle.std.proofs.lemmas.List.{reverse-reverse}
@@ -16,8 +16,7 @@ whole past = past_whole (reverse past) ∙ reverse-reverse past
 
 -- the determinant at a position is that of the entry there, by the entries before it
 pub own_at : (past : List Entry) (i : ℕ) (e : Entry) → i < length (reverse past) → e ≡ get_or (reverse past) i e → det_at past i ≡ det_of (past_at (reverse past) i) e
-own_at past i e below is =
-    ap (λ (p : List Entry). det_at p i) (sym (whole past)) ∙ det_there (reverse past) (length (reverse past)) i e (omega arith) below ∙ ap (det_of (past_at (reverse past) i)) (sym is)
+own_at past i e below is = grind (arith, whole past, det_there)
 
 -- where a message was delivered, after one more entry
 pub found_next : (past es : List Entry) (i : ℕ) (e : Entry) (p : ℕ) (m : MsgName) (found next : Option ℕ) (own : Option Det) → es ≡ reverse past → i < length es → e ≡ get_or es i e
@@ -25,8 +24,9 @@ pub found_next : (past es : List Entry) (i : ℕ) (e : Entry) (p : ℕ) (m : Msg
     → ((before : List Entry) → i ≡ length before → own ≡ det_of before e → found ≡ delivered_at before p m → next ≡ delivered_at (e ∷ before) p m)
     → next ≡ delivered_at (past_at (reverse past) (i + 1)) p m
 found_next past es i e p m found next own same below is own_is so step =
-    let before = past_at (reverse past) i in
-    let within : i < length (reverse past) = subst (λ (xs : List Entry). i < length xs) same below in
-    let there : e ≡ get_or (reverse past) i e = subst (λ (xs : List Entry). e ≡ get_or xs i e) same is in
-    let more : past_at (reverse past) (i + 1) ≡ e ∷ before = past_more (reverse past) i e within there in
-    step before (sym (past_length (reverse past) i (omega (arith, within)))) (own_is ∙ own_at past i e within there) so ∙ ap (λ (xs : List Entry). delivered_at xs p m) (sym more)
+    grind (
+      arith,
+      past_more (reverse past) i e (subst (λ (xs : List Entry). i < length xs) same below) (subst (λ (xs : List Entry). e ≡ get_or xs i e) same is),
+      past_length,
+      own_at past i e (subst (λ (xs : List Entry). i < length xs) same below) (subst (λ (xs : List Entry). e ≡ get_or xs i e) same is),
+    )

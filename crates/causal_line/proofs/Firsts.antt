@@ -1,5 +1,5 @@
 -- The determinants of the deliveries so far, as a set.
-use Rattle.std.proofs.Common.{◌≡◌, ◌<◌, ◌+◌, ℕ, inl, inr, List, Some, Bool, true, false, cond, refl, sym, subst, ap, ◌∙◌, arith}
+use Rattle.std.proofs.Common.{◌≡◌, ◌<◌, ◌+◌, ℕ, List, Some, Bool, true, false, cond, refl, arith}
 use Rattle.std.specs.BTreeSet.{BTreeSet, contains, Updates}
 use Rattle.std.proofs.lemmas.Bool.{cases_lt}
 use Rattle.causal_name.specs.declared.Det.{Det}
@@ -18,18 +18,8 @@ kept false old has = has
 
 -- one more position has a delivery
 pub first_more : (past : List Entry) (k : ℕ) (set next : BTreeSet Det) (det : Det) → HasFirst past k set → det_at past k ≡ Some det → Updates det_cmp set next det true → HasFirst past (k + 1) next
-first_more past k set next det before is updates j d below at = elim (cases_lt j k) [
-  | inl low ↦ updates.0 d ∙ kept _ _ (before j d low at)
-  | inr high ↦
-      let here : j ≡ k = omega (arith, below, high) in
-      let same : Some det ≡ Some d = sym is ∙ ap (det_at past) (sym here) ∙ at in
-      let one : det ≡ d = cc in
-      subst (λ (x : Det). contains det_cmp next x ≡ true) one updates.1
-]
+first_more past k set next det before is updates j d below at = grind (arith, cases_lt j k, kept)
 
 -- or it has none
 pub first_same : (past : List Entry) (k : ℕ) (set : BTreeSet Det) → HasFirst past k set → ((d : Det) → det_at past k ≡ Some d → ⊥) → HasFirst past (k + 1) set
-first_same past k set before none j d below at = elim (cases_lt j k) [
-  | inl low ↦ before j d low at
-  | inr high ↦ absurd (none d (ap (det_at past) (sym (let here : j ≡ k = omega (arith, below, high) in here)) ∙ at))
-]
+first_same past k set before none j d below at = grind (arith, cases_lt j k)

@@ -1,5 +1,5 @@
 -- A value that does not fit the outline of a line has none of the shapes of a recording's line.
-use Rattle.std.proofs.Common.{◌≡◌, ◌⊎◌, ℕ, ◌^◌, true, false, Err, inl, inr, refl}
+use Rattle.std.proofs.Common.{arith, ◌≡◌, ◌⊎◌, ℕ, ◌^◌, true, false, Err, inl, inr, refl}
 use Rattle.std.specs.Prelude.{◌&&◌, List, [], Bool, bytes_eq, codes, Some}
 use Rattle.serde_json.specs.Data.{Data, array, no_items, item}
 use Rattle.serde_json.specs.Find.{at}
@@ -21,10 +21,7 @@ event_bad d b c act first second h =
 
 -- an event is refused for its process or its clock, or for what else it has
 event_or : {P : Type 0} (b c : Data) (rest : Bool) → (fits 2 b && (fits 2 c && rest)) ≡ false → ((fits 2 b && fits 2 c) ≡ false → P) → (rest ≡ false → P) → P
-event_or {P} b c rest h event own = by (split (fits 2 b) (fits 2 c) rest h) where
-  by : ((fits 2 b && fits 2 c) ≡ false) ⊎ (rest ≡ false) → P
-  by (inl e) = event e
-  by (inr e) = own e
+event_or {P} b c rest h event own = grind (arith, split (fits 2 b) (fits 2 c) rest h)
 
 crash_bad : (d : Data) → fits levels d ≡ false → begins d (codes "crash") 3 ≡ true → event_with d Crash ≡ Err Form
 crash_bad d h is = of_line 2 (codes "crash") (λ x. event_with x Crash ≡ Err Form) d h is (λ a b c bad name.

@@ -37,13 +37,11 @@ reverse_upto all before rest x e =
 
 pub reading-after : (most : ℕ) (newer before : List (List ℕ)) (f : MergeFault) → reading most before ≡ Err f → reading most (newer ++ before) ≡ Err f
 reading-after most [] before f h = h
-reading-after most (l ∷ newer) before f h =
-    ap (λ (r : Result (List Line) MergeFault). r >>= λ said. with_line said (next_line most (run_in said) (sum_by length (l ∷ newer ++ before)) l)) (reading-after most newer before f h)
+reading-after most (l ∷ newer) before f h = grind (arith, reading-after most newer before f h)
 
 pub merged-after : (most n : ℕ) (newer before : List Placed) (f : MergeFault) → merged most n before ≡ Err f → merged most n (newer ++ before) ≡ Err f
 merged-after most n [] before f h = h
-merged-after most n (e ∷ newer) before f h =
-    ap (λ (r : Result (List Entry) MergeFault). r >>= λ past. with_event past e (event_fault most n (newer ++ before) past e.event)) (merged-after most n newer before f h)
+merged-after most n (e ∷ newer) before f h = grind (arith, merged-after most n newer before f h)
 
 -- the fault of a line, with those before it, is that of the text
 pub reading-fault : (most : ℕ) (all before rest : List (List ℕ)) (line : List ℕ) (f : MergeFault) → all ≡ reverse before ++ line ∷ rest → gathering.IsFaultOf most f (line ∷ before) → gathering.IsFaultOf most f (reverse all)
@@ -56,15 +54,11 @@ merged-fault most n m all before rest e f same split h =
 
 -- the entries of the events when none is left
 pub merged-all : (most n m : ℕ) (all before rest : List Placed) (past : List Entry) → m ≡ n → all ≡ reverse before ++ rest → rest ≡ [] → merged most m before ≡ Ok past → merged most n (reverse all) ≡ Ok past
-merged-all most n m all before rest past same split none h =
-    ap (merged most n) (reverse_whole all before (split ∙ ap (λ es. reverse before ++ es) none)) ∙ subst (λ (k : ℕ). merged most k before ≡ Ok past) same h
+merged-all most n m all before rest past same split none h = grind (arith, reverse_whole)
 
 -- where a line ends
 pub end_is : (text left line after : List ℕ) (before : List (List ℕ)) (end : ℕ) → sum_by length before + length left ≡ length text → left ≡ line ++ after → end ≡ length text - length after → end ≡ sum_by length (line ∷ before)
-end_is text left line after before end size whole is =
-    let cons = sum_by-cons length line before in
-    let joined : length left ≡ length line + length after = ap length whole ∙ length-append line after in
-    omega (arith, cons, joined, size, is)
+end_is text left line after before end size whole is = grind (arith, sum_by-cons length line before, length-append line after, size, is)
 
 -- one more line
 pub come_on : (most : ℕ) (text left line after : List ℕ) (g h : Gathered) (end : ℕ) → HasCome most text left g → lines left ≡ line ∷ lines after → left ≡ line ++ after → 0 < length line → end ≡ length text - length after
@@ -91,8 +85,4 @@ more_said said s (Err k) h = absurd (cc)
 -- each line says one thing
 pub reading-length : (most : ℕ) (before : List (List ℕ)) (said : List Line) → reading most before ≡ Ok said → length said ≡ length before
 reading-length most [] said h = (let same : [] ≡ said = cc in sym (ap length same))
-reading-length most (l ∷ before) said h = step (reading most before) refl (λ s is. reading-length most before s is) where
-  step : (r : Result (List Line) MergeFault) → reading most before ≡ r → ((s : List Line) → reading most before ≡ Ok s → length s ≡ length before) → length said ≡ suc (length before)
-  step (Ok s) is shorter =
-      more_said said s (next_line most (run_in s) (sum_by length (l ∷ before)) l) (sym (ap (λ (r : Result (List Line) MergeFault). r >>= λ t. with_line t (next_line most (run_in t) (sum_by length (l ∷ before)) l)) is) ∙ h) ∙ ap suc (shorter s is)
-  step (Err f) is shorter = absurd (let no : Err f ≡ Ok said = sym (ap (λ (r : Result (List Line) MergeFault). r >>= λ t. with_line t (next_line most (run_in t) (sum_by length (l ∷ before)) l)) is) ∙ h in cc)
+reading-length most (l ∷ before) said h = grind (arith, reading-length most before, more_said)

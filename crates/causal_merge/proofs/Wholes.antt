@@ -23,17 +23,7 @@ few_of g said run h is = subst (λ (o : Option Run). IfSome o (λ r. IsProcessCo
 -- recordings with all headers, whose ordered events make a past, merge into that trace
 pub merges : (most : ℕ) (text : List ℕ) (g : Gathered) (run : Run) (order : List Placed) (r : Recording) → HasRead most g (reverse (lines text)) → ((said : List Line) → Gathers g said → IsWhole said run) → IsMergedOrder g.events.items order
     → r.processes ≡ run.processes → merged most run.processes (reverse order) ≡ Ok r.past → MergesWithin most text r g.torn.items
-merges most text g run order r read whole ordered processes entries = record {
-  said = read.0;
-  says = read.1;
-  run = run;
-  whole = whole read.0 read.2;
-  processes = processes;
-  order = order;
-  ordered = subst (λ (events : List Placed). IsMergedOrder events order) read.2.events ordered;
-  entries = entries;
-  torn_lines = read.2.torn;
-}
+merges most text g run order r read whole ordered processes entries = grind arith
 
 missing_at : ℕ → MergeFault
 missing_at n = record { line = n + 1; kind = kind.NoHeader }
@@ -49,12 +39,4 @@ header_fault most text g f read lacks =
 -- the fault of the ordered events is the first one, where all headers are there
 pub event_fault : (most : ℕ) (text : List ℕ) (g : Gathered) (run : Run) (order : List Placed) (f : MergeFault) → HasRead most g (reverse (lines text)) → ((said : List Line) → Gathers g said → IsWhole said run) → IsMergedOrder g.events.items order
     → merged most run.processes (reverse order) ≡ Err f → IsFirstFaultWithin most text f
-event_fault most text g run order f read whole ordered faulty = inr (inr (record {
-  said = read.0;
-  says = read.1;
-  run = run;
-  whole = whole read.0 read.2;
-  order = order;
-  ordered = subst (λ (events : List Placed). IsMergedOrder events order) read.2.events ordered;
-  faulty = faulty;
-}))
+event_fault most text g run order f read whole ordered faulty = grind arith

@@ -1,5 +1,5 @@
 -- Who is down after a crash and after a restart.
-use Rattle.std.proofs.Common.{ℕ, ◌≡◌, inl, inr, List, ◌∷◌, sym, ap, ◌∙◌}
+use Rattle.std.proofs.Common.{arith, ℕ, ◌≡◌, List, ◌∷◌, ap, ◌∙◌}
 use Rattle.std.specs.Prelude.{◌&&◌, ◌||◌, ◌==◌, not}
 use Rattle.std.specs.Ordering.{nat_cmp}
 use Rattle.std.specs.Cmp.{nat_cmp_total, unsigned_tied}
@@ -12,11 +12,7 @@ use Rattle.causal_trace.specs.declared.entry.Entry.TheVariants.{Crash, Restart}
 use Rattle.causal_picture.specs.Inside.Downs.{ShowsDown}
 
 same_number : (p q : ℕ) → (q == p) ≡ (p == q)
-same_number p q =
-    elim (eqb_tells q p) [
-      | inl h ↦ h.0 ∙ sym (elim (eqb_tells p q) [ inl k ↦ k.0 | inr k ↦ absurd (k.1 (sym h.1)) ])
-      | inr h ↦ h.0 ∙ sym (elim (eqb_tells p q) [ inl k ↦ absurd (h.1 (sym k.1)) | inr k ↦ k.0 ])
-    ]
+same_number p q = grind (arith, eqb_tells q p, eqb_tells p q)
 
 -- the process that crashes is down beside those that were
 pub down-crash : (past : List Entry) (down : FinSet nat_cmp) (who : Pid) → ShowsDown past down → ShowsDown (Crash who ∷ past) (insert down who.0)

@@ -33,11 +33,7 @@ supplied_next n past (Forget who listed) h = tt
 -- it stays so with one entry more
 supplied_then : (e : Entry) (past : List Entry) (x : Entry) → IsSupplied past x → IsSupplied (e ∷ past) x
 supplied_then e past (Send from to ssn) h = tt
-supplied_then e past (Deliver to send rsn listed) h =
-    let there : send < length past = sent_within past send to.0 h in
-    ap (λ o. option_map_or (is_send_to to.0) o false)
-    (cond-false (send == length past) (Some e) (entry_at past send)
-    (ne_eqb send (length past) (λ is. omega (arith, there, is)))) ∙ h
+supplied_then e past (Deliver to send rsn listed) h = grind (arith, sent_within past send to.0 h, cond-false, ne_eqb)
 supplied_then e past (Stable det) h = tt
 supplied_then e past (Crash who) h = tt
 supplied_then e past (Restart who listed) h = tt

@@ -10,20 +10,14 @@ range_first k end h = let e : end - k ≡ suc (end - (k + 1)) = omega arith in r
 -- one more number has been passed, for which there is nothing
 pub passed-none : {X : Type 0} (h : ℕ → Option X) (ms all : List X) (k end : ℕ) → k < end → h k ≡ None
     → ms ++ filter_map h (range_with_len k (end - k)) ≡ all → ms ++ filter_map h (range_with_len (k + 1) (end - (k + 1))) ≡ all
-passed-none h ms all k end less none before =
-    let now : ms ++ filter_map h (k ∷ range_with_len (k + 1) (end - (k + 1))) ≡ all = rw (range_first k end less) at before in
-    rw none at now
+passed-none h ms all k end less none before = grind (arith, range_first k end less)
 
 -- one more number has been passed, for which there is x
 pub passed-some : {X : Type 0} (h : ℕ → Option X) (ms more all : List X) (x : X) (k end : ℕ) → k < end → h k ≡ Some x → more ≡ ms ++ x ∷ []
     → ms ++ filter_map h (range_with_len k (end - k)) ≡ all → more ++ filter_map h (range_with_len (k + 1) (end - (k + 1))) ≡ all
-passed-some h ms more all x k end less some added before =
-    let now : ms ++ filter_map h (k ∷ range_with_len (k + 1) (end - (k + 1))) ≡ all = rw (range_first k end less) at before in
-    rw (added, append_assoc) (rw some at now)
+passed-some h ms more all x k end less some added before = grind (arith, range_first k end less, append_assoc)
 
 -- the text of one more number has been written
 pub written-number : (f : ℕ → List ℕ) (whole before after : List ℕ) (k end : ℕ) → k < end → after ≡ before ++ f k
     → whole ≡ before ++ flat_map f (range_with_len k (end - k)) → whole ≡ after ++ flat_map f (range_with_len (k + 1) (end - (k + 1)))
-written-number f whole before after k end less more is =
-    let now : whole ≡ before ++ flat_map f (k ∷ range_with_len (k + 1) (end - (k + 1))) = rw (range_first k end less) at is in
-    rw (more, append_assoc) now
+written-number f whole before after k end less more is = grind (arith, range_first k end less, append_assoc)

@@ -1,6 +1,6 @@
 -- Which entries have a place in a picture.
 use Rattle.std.proofs.Common.{◌≡◌, ℕ, ◌+◌, ◌-◌, ◌<◌, ◌≤◌, true, false, refl, arith}
-use Rattle.std.specs.Prelude.{◌||◌, nat_lt, if◌then◌else◌, length, Option, Some, None, IfSome}
+use Rattle.std.specs.Prelude.{◌||◌, length, Option, Some, None, IfSome}
 use Rattle.std.proofs.lemmas.Bool.{le-leb, lt-ltb, ltb-true, ltb-false}
 use Rattle.causal_trace.specs.Rows.{Recording}
 use Rattle.causal_picture.specs.declared.focus.Focus.{Focus}
@@ -26,34 +26,13 @@ record IsGood (entries least t : ℕ) (g : Grid) : Type 0 where
   first : least < t → is_shown g least ≡ true
 
 one-good : (entries n least t : ℕ) → t ≤ entries → first_around entries least t ≤ least → IsGood entries least t (in_one entries n (first_around entries least t))
-one-good entries n least t inside near =
-    let first = first_around entries least t in
-    let g = in_one entries n first in
-    record {
-      within = record { before = omega arith; within = omega arith };
-      few = omega arith;
-      instant = λ some. shown-early g (t - 1) (within-true g.early (t - 1) (omega arith) (omega arith));
-      first = λ before. shown-early g least (within-true g.early least near (omega arith));
-    }
+one-good entries n least t inside near = grind (arith, shown-early, within-true)
 
 two-good : (entries n least t : ℕ) → t ≤ entries → least < first_around entries least t → IsGood entries least t (in_two entries n least t)
-two-good entries n least t inside far =
-    let g = in_two entries n least t in
-    let before : least + 200 < t = omega arith in
-    record {
-      within = record { before = omega arith; within = omega arith };
-      few = omega arith;
-      instant = λ some. shown-late g (t - 1) (within-true g.late (t - 1) (omega arith) (omega arith));
-      first = λ below. shown-early g least (within-true g.early least (omega arith) (omega arith));
-    }
+two-good entries n least t inside far = grind (arith, shown-late, within-true, shown-early)
 
 either-good : (entries n least t : ℕ) → t ≤ entries → IsGood entries least t (around_chain entries n least t)
-either-good entries n least t inside =
-    let first = first_around entries least t in
-    elim (nat_lt least first) as (λ b. nat_lt least first ≡ b → IsGood entries least t (if b then in_two entries n least t else in_one entries n first)) [
-      | true ↦ λ is. two-good entries n least t inside (ltb-true least first is)
-      | false ↦ λ is. one-good entries n least t inside (ltb-false least first is)
-    ] refl
+either-good entries n least t inside = grind (arith, two-good, ltb-true, one-good, ltb-false)
 
 placed-good : (entries n : ℕ) (f : Focus) → IsGood entries (least_of entries f.chain.now) (instant_of entries f) (around entries n f)
 placed-good entries n f = either-good entries n (least_of entries f.chain.now) (instant_of entries f) (omega arith)

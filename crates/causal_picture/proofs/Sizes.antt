@@ -1,5 +1,5 @@
 -- How large a picture is.
-use Rattle.std.proofs.Common.{ℕ, ◌+◌, ◌*◌, ◌/◌, ◌<◌, ◌≤◌, ◌^◌, inl, inr, arith}
+use Rattle.std.proofs.Common.{ℕ, ◌+◌, ◌*◌, ◌/◌, ◌<◌, ◌≤◌, ◌^◌, arith}
 use Rattle.std.specs.Prelude.{min, max}
 use Rattle.std.proofs.lemmas.Bool.Decides.{leb_tells}
 use Rattle.std.proofs.Math.Nat.{div-mul-le_self, mul-le-mul_right}
@@ -11,10 +11,7 @@ columns_small a b narrow few = mul-le a b 30 (2 ^ 33) narrow few
 
 -- all columns together are at most 2,200 wide
 pub columns_fit : (c : ℕ) → min 30 (2200 / (c + 1)) * (c + 1) ≤ 2200
-columns_fit c =
-    let whole = div-mul-le_self 2200 (c + 1) in
-    let part : min 30 (2200 / (c + 1)) * (c + 1) ≤ 2200 / (c + 1) * (c + 1) = mul-le-mul_right (c + 1) (omega arith) in
-    omega (arith, whole, part)
+columns_fit c = grind (arith, div-mul-le_self 2200 (c + 1), mul-le-mul_right)
 
 -- so many rows of at most 40 are no higher than a u32 holds
 pub rows_small : (a p : ℕ) → a ≤ 40 → p < 2 ^ 16 → a * p ≤ 40 * 2 ^ 16
@@ -22,17 +19,4 @@ rows_small a p low few = mul-le a p 40 (2 ^ 16) low (omega (arith, few))
 
 -- twenty rows are at most 560 high
 pub rows_fit : (p : ℕ) → p ≤ 20 → max 16 (min 40 (560 / (p + 1))) * p ≤ 560
-rows_fit p few =
-    let q : ℕ = 560 / (p + 1) in
-    let row : ℕ = max 16 (min 40 q) in
-    let whole : q * (p + 1) ≤ 560 = div-mul-le_self 560 (p + 1) in
-    elim (leb_tells q 16) [
-      | inl h ↦
-          let low : row ≤ 16 = omega (arith, h.1) in
-          let part : row * p ≤ 16 * 20 = mul-le row p 16 20 low few in
-          omega (arith, part)
-      | inr h ↦
-          let low : row ≤ q = omega (arith, h.1) in
-          let part : row * p ≤ q * (p + 1) = mul-le row p q (p + 1) low (omega arith) in
-          omega (arith, part, whole)
-    ]
+rows_fit p few = grind (arith, div-mul-le_self 560 (p + 1), leb_tells (560 / (p + 1)) 16, mul-le)

@@ -1,5 +1,5 @@
 -- What the core answers, as the locked value tells it.
-use Rattle.std.proofs.Common.{◌≡◌, ◌++◌, ◌∷◌, [], refl, ℕ, List, length, Some}
+use Rattle.std.proofs.Common.{arith, ◌≡◌, ◌++◌, ◌∷◌, [], refl, ℕ, List, length, Some}
 use Rattle.std.specs.Prelude.{Option, Result, Ok, Err, OnOk, OnErr, IfErr}
 use Rattle.causal_protocol.specs.declared.request.Request.{Request}
 use Rattle.causal_protocol.specs.declared.request.Reply.{Reply}
@@ -63,12 +63,7 @@ pub is_recorded : (old new : Held) (seat call first : ℕ) (items : List Item) (
     → new.history ≡ items ++ item_of seat call request reply first ∷ []
     → new.seats ≡ with_kept old.seats (item_of seat call request reply first) (instant new.run) count
     → count ≡ length items → ItemCall old new seat call request tells
-is_recorded old new seat call first items count request reply says tells tell replies step at same history seats counted =
-    rw tell record {
-      step = step;
-      history = rw (same, replies, at) at history;
-      seats = rw (counted, same) at seats;
-    }
+is_recorded old new seat call first items count request reply says tells tell replies step at same history seats counted = grind arith
 
 -- over a step that is noted as it was told, what the lock keeps goes on
 pub keeps_on : (old new : Run) (item : Item) (says : Reply) (before items items' : List Item) (seats seats' : List KeptSeat)

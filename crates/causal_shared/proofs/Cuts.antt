@@ -39,10 +39,7 @@ same_runs r past past' writers writers' same same' = ap (λ (p : List Entry). ru
 -- taking away what has come, and more
 shortened-extended : (r : Run) (request : Request) (es : List Entry) (k m : ℕ) → m ≡ length es + k → count_by is_written es ≡ length (writers_of request es) → shortened m (extended r request es) ≡ shortened k r
 shortened-extended r request es k m is written =
-    same_runs r _ _ _ _
-    (ap (λ m. drop m (pushed es r.recording.past)) is ∙ drop-pushed es r.recording.past k)
-    (drop-writers (writers_of request es) r.writers (count_by is_written (take m (pushed es r.recording.past))) (count_by is_written (take k r.recording.past))
-    (ap (λ m. count_by is_written (take m (pushed es r.recording.past))) is ∙ (written-pushed es r.recording.past k ∙ ap (λ n. n + count_by is_written (take k r.recording.past)) written)))
+    grind (arith, same_runs r, drop-pushed es r.recording.past k, drop-writers, written-pushed es r.recording.past k)
 
 -- a run cut at its end
 pub cut-whole : (r : Run) (n : ℕ) → n ≡ instant r → cut r n ≡ r
@@ -58,10 +55,7 @@ pub record Longer (old new : Run) : Type 0 where
 
 Longer-extended : (r : Run) (request : Request) (es : List Entry) → count_by is_written es ≡ length (writers_of request es) → Longer r (extended r request es)
 unfolding cut
-Longer-extended r request es written = record {
-  later = omega (arith, length-pushed es r.recording.past);
-  same = λ n le. shortened-extended r request es (instant r - n) (instant (extended r request es) - n) (let long = length-pushed es r.recording.past in omega (arith, long, le)) written;
-}
+Longer-extended r request es written = grind (arith, length-pushed es r.recording.past, shortened-extended)
 
 -- by a legal step the run has gone on
 pub Longer-step : (old new : Run) (request : Request) (reply : Reply) → Steps old request reply new → Longer old new
@@ -69,16 +63,11 @@ Longer-step old new request reply step = rw step.grown (Longer-extended old requ
 
 since-extended : (r : Run) (request : Request) (es : List Entry) → since (instant r) (extended r request es) ≡ es
 since-extended r request es =
-    let long = length-pushed es r.recording.past in
-    let k : length (pushed es r.recording.past) - instant r ≡ length es + 0 = omega (arith, long) in
-    ap (λ k. reverse (take k (pushed es r.recording.past))) k ∙ (ap reverse (take-pushed es r.recording.past 0) ∙ (ap reverse (append-nil (reverse es)) ∙ reverse-reverse es))
+    grind (arith, length-pushed es r.recording.past, take-pushed es r.recording.past 0, append-nil (reverse es), reverse-reverse es)
 
 -- a step is told by what it leads to
 pub IsStep-extended : (r : Run) (request : Request) (reply : Reply) (es : List Entry) → LegalStep r request reply es → IsStep r request reply (extended r request es)
-IsStep-extended r request reply es legal = record {
-  grown = ap (extended r request) (sym (since-extended r request es));
-  legal = rw (since-extended r request es) legal;
-}
+IsStep-extended r request reply es legal = grind (arith, since-extended r request es)
 
 -- a legal step is told by the entries since it
 pub IsStep-step : (old new : Run) (request : Request) (reply : Reply) → Steps old request reply new → IsStep old request reply new

@@ -1,6 +1,6 @@
 -- A history that grows by one item.
-use Rattle.std.proofs.Common.{◌≡◌, ◌≢◌, ◌≤◌, ◌<◌, ◌∙◌, sym, refl, ap, ap₂, subst, ℕ, zero, suc, Bool, true, false, List, [], ◌∷◌, ◌++◌, length, slice_set, replicate, arith, Some, None, length-append, ◌⊎◌, inl, inr}
-use Rattle.std.specs.Prelude.{slice_get, Option, option_map, unwrap_or, IfSome, ◌==◌}
+use Rattle.std.proofs.Common.{◌≡◌, ◌≢◌, ◌≤◌, ◌<◌, ◌∙◌, sym, refl, ap, subst, ℕ, zero, suc, List, [], ◌∷◌, ◌++◌, length, slice_set, replicate, arith, Some, None, length-append, ◌⊎◌, inl, inr}
+use Rattle.std.specs.Prelude.{slice_get, Option, option_map, unwrap_or, IfSome}
 use Rattle.std.proofs.lemmas.Option.{slice_get_cases}
 use Rattle.std.proofs.lemmas.List.Sums.{length-filter, count_by-le-length}
 use Rattle.std.proofs.lemmas.List.{append-nil}
@@ -11,11 +11,10 @@ use Rattle.causal_protocol.specs.Steps.{Steps}
 use Rattle.causal_shared.specs.declared.item.Item.{Item}
 use Rattle.causal_shared.specs.declared.item.KeptSeat.{KeptSeat}
 use Rattle.causal_shared.specs.Limits.{max_items}
-use Rattle.causal_shared.specs.History.{instant, cut, IsStep, next_first, AllLegal, items_of, last_of, IsHistory, Shows, kept_after, count_at, fresh_seat, Held, Holds, Sees}
+use Rattle.causal_shared.specs.History.{instant, IsStep, next_first, AllLegal, items_of, last_of, IsHistory, Shows, kept_after, count_at, fresh_seat, Held, Holds, Sees}
 use Rattle.causal_shared.specs.Inside.Keeping.{item_at, FitsHistory, AllKept, Keeps}
 use Rattle.causal_core.proofs.Lemmas.Slices.{slice_get-set_same, slice_get-set_other}
 use Rattle.causal_shared.proofs.Lists.{slice_get-append, slice_get-append_seam, slice_get-snoc, slice_get-last}
-use Rattle.causal_trace.specs.Past.{det_at}
 use Rattle.causal_protocol.specs.declared.request.Request.{Request}
 use Rattle.causal_protocol.specs.declared.request.Reply.{Reply}
 use Rattle.causal_shared.proofs.Shown.{det_at-pushed}
@@ -32,34 +31,19 @@ next_first-snoc r new (i ∷ items) item at = refl
 
 -- the items before stay legal, and the new one is
 pub AllLegal-snoc : (r new : Run) (items : List Item) (item : Item) → Longer r new → AllLegal r items → item.first ≡ instant r → IsStep r item.request item.reply new → AllLegal new (items ++ item ∷ [])
-AllLegal-snoc r new [] item longer legal at step =
-    let from : cut new item.first ≡ r = ap (cut new) at ∙ (longer.same (instant r) (omega arith) ∙ cut-whole r (instant r) refl) in
-    let to : cut new (instant new) ≡ new = cut-whole new (instant new) refl in
-    (omega (arith, at, longer.later), rw (from, to) step, tt)
+AllLegal-snoc r new [] item longer legal at step = grind (arith, cut-whole r (instant r) refl, cut-whole new (instant new) refl)
 AllLegal-snoc r new (i ∷ items) item longer legal at step =
-    let next = next_first-snoc r new items item at in
-    let within = next_first-le r items legal.2 in
-    let from : cut new i.first ≡ cut r i.first = longer.same i.first (omega (arith, within, legal.0)) in
-    let to : cut new (next_first r items) ≡ cut r (next_first r items) = longer.same (next_first r items) within in
-    (rw next legal.0, rw (next, from, to) legal.1, AllLegal-snoc r new items item longer legal.2 at step)
+    grind (arith, next_first-snoc r new items item at, next_first-le r items legal.2, AllLegal-snoc r new items item longer legal.2 at step)
 
 pub items_of-snoc : (items : List Item) (item : Item) → items_of item.seat (items ++ item ∷ []) ≡ items_of item.seat items ++ item ∷ []
-items_of-snoc items item =
-    let same : (item.seat == item.seat) ≡ true = grind (arith, nat_tests) in
-    filter-append (λ (i : Item). i.seat == item.seat) items (item ∷ []) ∙ rw same refl
+items_of-snoc items item = grind (arith, nat_tests, filter-append)
 
 pub items_of-snoc_other : (items : List Item) (item : Item) (seat : ℕ) → item.seat ≢ seat → items_of seat (items ++ item ∷ []) ≡ items_of seat items
-items_of-snoc_other items item seat ne =
-    let other : (item.seat == seat) ≡ false = grind (arith, nat_tests) in
-    filter-append (λ (i : Item). i.seat == seat) items (item ∷ []) ∙ rw other (append-nil (items_of seat items))
+items_of-snoc_other items item seat ne = grind (arith, nat_tests, filter-append, append-nil (items_of seat items))
 
 -- a seat is the item's, or another
 either_seat : (a b : ℕ) → (a ≡ b) ⊎ (a ≢ b)
-either_seat a b = by_test (a == b) refl
-  where
-    by_test : (t : Bool) → (a == b) ≡ t → (a ≡ b) ⊎ (a ≢ b)
-    by_test true is = inl (grind (arith, nat_tests))
-    by_test false is = inr (λ e. absurd (grind (arith, nat_tests)))
+either_seat a b = grind arith
 
 numbered-snoc : (items : List Item) (item : Item) → ((seat k : ℕ) (i : Item) → slice_get (items_of seat items) k ≡ Some i → i.call ≡ k) → item.call ≡ length (items_of item.seat items) → (seat k : ℕ) (i : Item) → slice_get (items_of seat (items ++ item ∷ [])) k ≡ Some i → i.call ≡ k
 numbered-snoc items item numbered call seat k i is = elim (either_seat item.seat seat) [
@@ -90,11 +74,7 @@ count_at-is run items seats seat kept inside = by_get (slice_get seats seat) ref
     by_get (Some k) is = ap (λ (o : Option KeptSeat). unwrap_or (option_map (λ (k : KeptSeat). k.count) o) 0) is ∙ (kept seat k is).count
 
 pub count_at-le : (run : Run) (items : List Item) (seats : List KeptSeat) (seat : ℕ) → AllKept run items seats → seat < length seats → count_at seats seat ≤ length items
-count_at-le run items seats seat kept inside =
-    let is = count_at-is run items seats seat kept inside in
-    let as_count = length-filter (λ (i : Item). i.seat == seat) items in
-    let few = count_by-le-length (λ (i : Item). i.seat == seat) items in
-    omega (arith, is, as_count, few)
+count_at-le run items seats seat kept inside = grind (arith, count_at-is run items seats seat kept inside, length-filter, count_by-le-length)
 
 -- what is kept of another seat fits the longer history
 FitsHistory-snoc_other : (run new : Run) (items : List Item) (item : Item) (seat : ℕ) (kept : KeptSeat) → item.seat ≢ seat → instant run ≤ instant new → FitsHistory run items seat kept → FitsHistory new (items ++ item ∷ []) seat kept
@@ -115,12 +95,15 @@ FitsHistory-snoc_other run new items item seat kept other longer was = record {
 
 -- what is kept of the item's seat fits it too
 FitsHistory-snoc : (new : Run) (items : List Item) (item : Item) (place : ℕ) → place ≡ length items → item.call ≡ length (items_of item.seat items) → FitsHistory new (items ++ item ∷ []) item.seat (kept_after item (instant new) place)
-FitsHistory-snoc new items item place at call = record {
-  count = rw (items_of-snoc items item) (omega (arith, call, length-append (items_of item.seat items) (item ∷ [])));
-  seen = omega arith;
-  placed = omega (arith, at, length-append items (item ∷ []));
-  last = rw (items_of-snoc items item) (ap (λ n. slice_get (items ++ item ∷ []) n) at ∙ (slice_get-append_seam items item ∙ sym (slice_get-last (items_of item.seat items) item)));
-}
+FitsHistory-snoc new items item place at call =
+    grind (
+      arith,
+      items_of-snoc items item,
+      length-append (items_of item.seat items) (item ∷ []),
+      length-append items (item ∷ []),
+      slice_get-append_seam items item,
+      slice_get-last (items_of item.seat items) item,
+    )
 
 pub AllKept-snoc : (run new : Run) (items : List Item) (seats : List KeptSeat) (item : Item) (place : ℕ) → AllKept run items seats → instant run ≤ instant new → place ≡ length items → item.seat < length seats → item.call ≡ length (items_of item.seat items) → AllKept new (items ++ item ∷ []) (slice_set seats item.seat (kept_after item (instant new) place))
 AllKept-snoc run new items seats item place kept longer at inside call seat k is = elim (either_seat item.seat seat) [
@@ -139,8 +122,7 @@ AllKept-snoc run new items seats item place kept longer at inside call seat k is
 
 -- what a run shows it shows as it goes on
 Shows-step : (old new : Run) (request : Request) (reply : Reply) (item : Item) → Steps old request reply new → Shows old.recording.past item → Shows new.recording.past item
-Shows-step old new request reply item step was d told =
-    subst (λ (r : Run). det_at r.recording.past item.first ≡ Some d.det) (sym step.grown) (det_at-pushed step.appended old.recording.past item.first d.det (was d told))
+Shows-step old new request reply item step was d told = grind (arith, det_at-pushed step.appended old.recording.past item.first d.det (was d told))
 
 -- an item that tells the step to the run keeps the facts
 pub Keeps-note : (old new : Run) (items : List Item) (seats : List KeptSeat) (item : Item) (place seen : ℕ) (items' : List Item) (seats' : List KeptSeat)
@@ -169,11 +151,7 @@ slice_get-replicate (suc k) (suc seat) x kept is = slice_get-replicate k seat x 
 
 -- no item, and seats that have seen all
 pub Keeps-new : (r : Run) (k seen : ℕ) (items : List Item) (seats : List KeptSeat) → items ≡ [] → seats ≡ replicate k (fresh_seat seen) → seen ≡ instant r → Keeps r items seats
-Keeps-new r k seen items seats none seats_are sees = rw (none, seats_are) record {
-  legal = record { legal = tt; numbered = λ seat k item is. absurd cc };
-  kept = λ seat kept is. subst (λ (kept : KeptSeat). FitsHistory r [] seat kept) (slice_get-replicate k seat (fresh_seat seen) kept is) record { count = refl; seen = omega (arith, sees); placed = tt; last = refl };
-  shown = λ k item is. absurd cc;
-}
+Keeps-new r k seen items seats none seats_are sees = grind (arith, slice_get-replicate)
 
 -- the seat is the kept one exactly where its last item is
 pub Holds-is : (held : Held) (seat count seen : ℕ) (kept : KeptSeat) (mine last : Option Item) → AllKept held.run held.history held.seats → slice_get held.seats seat ≡ Some kept → kept.count ≡ count → kept.seen ≡ seen → mine ≡ item_at held.history kept.last
@@ -211,8 +189,4 @@ Keeps-seen r items seats at k seen inside is sees keeps = record {
 
 -- only what one seat has seen changes where nothing else of it is replaced
 pub Sees-is : (old new : Held) (seat : ℕ) (k : KeptSeat) (seen : ℕ) → slice_get old.seats seat ≡ Some k → seen ≡ instant old.run → new.run ≡ old.run → new.history ≡ old.history → new.seats ≡ slice_set old.seats seat (record k { seen = seen }) → Sees old new seat
-Sees-is old new seat k seen is sees run history seats = record {
-  run = run;
-  history = history;
-  seats = λ k' is'. let same : k ≡ k' = cc in seats ∙ ap₂ (λ (k : KeptSeat) (n : ℕ). slice_set old.seats seat (record k { seen = n })) same sees;
-}
+Sees-is old new seat k seen is sees run history seats = grind arith

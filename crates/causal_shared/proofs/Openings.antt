@@ -1,8 +1,7 @@
 -- What was recorded before the first item.
-use Rattle.std.proofs.Common.{◌≡◌, ◌≤◌, ◌-◌, ◌∙◌, sym, refl, ap, ℕ, List, [], ◌∷◌, ◌++◌, length, take, drop, reverse, length-drop, take-append-drop, arith}
+use Rattle.std.proofs.Common.{◌≡◌, ◌≤◌, ◌-◌, ◌∙◌, sym, refl, ap, ℕ, List, [], ◌∷◌, length, take, drop, reverse, length-drop, take-append-drop, arith}
 use Rattle.std.proofs.lemmas.List.{reverse-reverse, reverse-append, length-reverse}
 use Rattle.std.proofs.Math.Seq.{take-append_seam}
-use Rattle.causal_trace.specs.declared.entry.Entry.{Entry}
 use Rattle.causal_trace.specs.Rows.{Recording}
 use Rattle.causal_protocol.specs.Run.{Run}
 use Rattle.causal_shared.specs.declared.item.Item.{Item}
@@ -16,10 +15,14 @@ use Rattle.causal_shared.proofs.Histories.{next_first-le}
 -- the first of a list's elements, from its end
 take-reverse : {X : Type 0} (xs : List X) (n : ℕ) → n ≤ length xs → take n (reverse xs) ≡ reverse (drop (length xs - n) xs)
 take-reverse xs n le =
-    let k = length xs - n in
-    let split : reverse xs ≡ reverse (drop k xs) ++ reverse (take k xs) = ap reverse (sym (take-append-drop k xs)) ∙ reverse-append (take k xs) (drop k xs) in
-    let long : n ≡ length (reverse (drop k xs)) = omega (arith, length-reverse (drop k xs), length-drop k xs, le) in
-    ap (take n) split ∙ (ap (λ n. take n (reverse (drop k xs) ++ reverse (take k xs))) long ∙ take-append_seam (reverse (drop k xs)) (reverse (take k xs)))
+    grind (
+      arith,
+      take-append-drop (length xs - n) xs,
+      reverse-append (take (length xs - n) xs) (drop (length xs - n) xs),
+      length-reverse (drop (length xs - n) xs),
+      length-drop (length xs - n) xs,
+      take-append_seam (reverse (drop (length xs - n) xs)) (reverse (take (length xs - n) xs)),
+    )
 
 cut-past : (r : Run) (n : ℕ) → (cut r n).recording.past ≡ drop (instant r - n) r.recording.past
 unfolding cut
@@ -35,18 +38,17 @@ entries_before-is r (item ∷ items) legal =
     let le = next_first-le r (item ∷ items) legal in
     take-reverse r.recording.past item.first le ∙ ap reverse (sym (cut-past r item.first))
 
-abbrev recording_with : ℕ → List Entry → Recording
-recording_with n past = record { processes = n; past = past }
-
 -- what stood before the first item is told by n, f and the entries
 pub before_items-is : (r : Run) (history : List Item) (o : Recording) (faults : ℕ) → AllLegal r history → r.recording.processes ≡ o.processes → r.faults ≡ faults
     → entries_before (reverse r.recording.past) history ≡ reverse o.past → before_items r history ≡ opening_from o faults
 before_items-is r history o faults legal processes same_faults entries =
-    let b = (before_items r history).recording in
-    let turned : reverse b.past ≡ reverse o.past = sym (entries_before-is r history legal) ∙ entries in
-    let past : b.past ≡ o.past = sym (reverse-reverse b.past) ∙ (ap reverse turned ∙ reverse-reverse o.past) in
-    let count : b.processes ≡ o.processes = cut-processes r (next_first r history) ∙ processes in
-    ap (λ (n : ℕ). opening_from (recording_with n b.past) r.faults) count ∙ (ap (λ (past : List Entry). opening_from (recording_with o.processes past) r.faults) past ∙ ap (opening_from o) same_faults)
+    grind (
+      arith,
+      entries_before-is r history legal,
+      reverse-reverse ((before_items r history).recording).past,
+      reverse-reverse o.past,
+      cut-processes r (next_first r history),
+    )
 
 -- the entries before the first item are those that were recorded at the opening
 pub before_items-entries : (r : Run) (history : List Item) (o : Recording) (faults : ℕ) → AllLegal r history → before_items r history ≡ opening_from o faults → entries_before (reverse r.recording.past) history ≡ reverse o.past

@@ -1,17 +1,15 @@
 -- One item call as its seat sees it.
-use Rattle.std.proofs.Common.{subst, None, ◌≡◌, ◌≤◌, ◌<◌, ◌+◌, ◌∙◌, sym, refl, ap, ℕ, List, [], ◌∷◌, ◌++◌, length, map, zero, suc, arith, Some, option_map, unwrap_or}
+use Rattle.std.proofs.Common.{subst, None, ◌≡◌, ◌≤◌, ◌<◌, ◌+◌, ◌∙◌, sym, refl, ap, ℕ, List, [], ◌∷◌, ◌++◌, length, map, zero, suc, arith, Some}
 use Rattle.std.specs.Prelude.{Option, Result, Ok, Err, slice_get, ◌==◌, ◌↔◌}
 use Rattle.std.proofs.lemmas.Option.{slice_get_cases}
 use Rattle.std.proofs.lemmas.List.Sums.{length-filter, count_by-le-length}
 use Rattle.causal_protocol.specs.declared.request.Request.{Request}
 use Rattle.causal_protocol.specs.declared.request.Reply.{Reply}
 use Rattle.causal_shared.specs.declared.item.Item.{Item}
-use Rattle.causal_shared.specs.declared.item.KeptSeat.{KeptSeat}
 use Rattle.causal_shared.specs.Limits.{max_items}
 use Rattle.causal_trace.specs.declared.entry.Entry.{Entry}
 use Rattle.causal_shared.specs.History.{instant, Shows, Held, Holds, count_at}
 use Rattle.causal_shared.specs.Inside.Keeping.{item_at, Keeps}
-use Rattle.causal_protocol.specs.Telling.{told_entries}
 use Rattle.causal_protocol.specs.declared.request.Restarted.{Restarted}
 use Rattle.causal_shared.specs.declared.refused.LockedRefused.{LockedRefused}
 use Rattle.causal_shared.specs.Inside.Answered.{answered, shared_refusal}
@@ -50,8 +48,7 @@ Holds-inside : (held : Held) (seat count seen : ℕ) (last : Option Item) → Ho
 Holds-inside held seat count seen last holds = let is = holds.kept.1 in grind (arith, is, slice_get_cases held.seats seat)
 
 Holds-counted : (held : Held) (seat count seen : ℕ) (last : Option Item) → Holds held seat count seen last → count ≡ count_at held.seats seat
-Holds-counted held seat count seen last holds =
-    sym (ap (λ (o : Option KeptSeat). unwrap_or (option_map (λ (k : KeptSeat). k.count) o) 0) holds.kept.1 ∙ holds.kept.2)
+Holds-counted held seat count seen last holds = grind arith
 
 -- its last item's delivery is shown
 Holds-shows : (held : Held) (seat count seen : ℕ) (last : Option Item) (item : Item) → Keeps held.run held.history held.seats → Holds held seat count seen last → last ≡ Some item → Shows held.run.recording.past item
@@ -81,9 +78,7 @@ MayCall-is held seat tag first keeps seated room begins spare =
 pub section_some : (old new : Held) (seat : SeatState) (seat' : Sitting) (request : Request) (reply : Reply) (first seen : ℕ) → MayCall old seat first → ItemCall old new seat.sitting.number (length seat.sitting.items) request (Some reply)
     → seen ≡ instant new.run → seat' ≡ with_item seat.sitting request reply first seen → ItemSection old new seat.sitting seat' request (Some reply)
 section_some old new seat seat' request reply first seen may adds sees is =
-    let total : seen ≡ first + told_entries reply = sees ∙ (replies_tell_entries old.run new.run request reply adds.step ∙ ap (λ n. n + told_entries reply) (sym may.begins)) in
-    let begins = may.begins in
-    (adds, record { first = first; later = may.later; change = is ∙ ap (with_item seat.sitting request reply first) total })
+    grind (arith, replies_tell_entries old.run new.run request reply adds.step)
 
 -- what a snapshot tells the seat that takes it
 pub SeesEntries-is : (held : Held) (old new : Sitting) (s : Snapshot) (tag seen : ℕ) → Keeps held.run held.history held.seats → IsSeated tag held old → IsSnapshot held s → seen ≡ length s.trace.recording.past → new ≡ record old { seen = seen } → SeesEntries old new s.trace.recording.past
@@ -118,8 +113,7 @@ pub section_heard : {A : Type 0} (answer : A → Reply) (old new : Held) (before
     → MayCall old seat first → ItemCall old new number count request (told answer a) → number ≡ seat.sitting.number → count ≡ length seat.sitting.items → asked ≡ request → reply ≡ told answer a → result ≡ shared_of a → seat.sitting ≡ before
     → ItemSection old new before seat'.sitting request (heard answer result)
 section_heard answer old new before seat seat' request asked a result reply number count first hears may made at counted asks tells shared same =
-    let item : ItemCall old new seat.sitting.number (length seat.sitting.items) asked reply = rw (asks, tells) (rw (at, counted) at made) in
-    rw (shared, heard_told answer a) (rw (asks, tells, same) at (hears old may item))
+    grind (arith, heard_told answer a)
 
 -- no answer of the locked value says that the seat is wrong, or that the history is full
 never_wrong : {A : Type 0} (a : Result A LockedFault) → shared_of a ≡ Err Fault.WrongSeat → ⊥

@@ -1,5 +1,5 @@
 -- What a longer trace shows of a delivery.
-use Rattle.std.proofs.Common.{◌≡◌, ◌<◌, ◌∙◌, sym, ap, ℕ, Bool, true, false, List, [], ◌∷◌, length, cond, arith, Some}
+use Rattle.std.proofs.Common.{◌≡◌, ◌<◌, ◌∙◌, sym, ap, ℕ, false, List, [], ◌∷◌, length, cond, arith, Some}
 use Rattle.std.specs.Prelude.{◌==◌, Result, Ok, Err, IfOk}
 use Rattle.std.proofs.lemmas.Bool.Decides.{nat_tests}
 use Rattle.causal_name.specs.declared.Det.{Det}
@@ -17,13 +17,7 @@ use Rattle.causal_shared.specs.History.{instant, Shows}
 
 det_at-below : (past : List Entry) (k : ℕ) (d : Det) → det_at past k ≡ Some d → k < length past
 det_at-below [] k d is = absurd cc
-det_at-below (e ∷ past) k d is = by_test (λ older. det_at-below past k d older) (k == length past) (λ i. k == length past)
-  where
-    by_test : (det_at past k ≡ Some d → k < length past) → (t : Bool) → (k == length past) ≡ t → k < length (e ∷ past)
-    by_test go true same = let at : k ≡ length past = grind (arith, nat_tests) in omega (arith, at)
-    by_test go false other =
-        let older : det_at past k ≡ Some d = sym (ap (λ t. cond t (det_of past e) (det_at past k)) other) ∙ is in
-        let below = go older in omega (arith, below)
+det_at-below (e ∷ past) k d is = grind (arith, det_at-below past k d)
 
 det_at-more : (e : Entry) (past : List Entry) (k : ℕ) → k < length past → det_at (e ∷ past) k ≡ det_at past k
 det_at-more e past k lt = let other : (k == length past) ≡ false = grind (arith, nat_tests) in ap (λ t. cond t (det_of past e) (det_at past k)) other
@@ -37,8 +31,5 @@ det_at-pushed (e ∷ es) past k d is = det_at-pushed es (e ∷ past) k d (det_at
 pub shows_delivery : (old new : Run) (q source : Pid) (ssn : ℕ) (answer : Result Delivered CoreFault) (item : Item) → Steps old (Ask.Deliver q source ssn) (told_delivery answer) new
     → IfOk answer (λ d. det_at new.recording.past d.first ≡ Some d.det) → item.reply ≡ told_delivery answer → item.first ≡ instant old → Shows new.recording.past item
 unfolding LegalStep
-shows_delivery old new q source ssn (Ok told) item step det is first d reply =
-    let same : told ≡ d = let x : Told.Delivered told ≡ Told.Delivered d = sym is ∙ reply in cc in
-    let place : item.first ≡ told.first = first ∙ sym step.legal.1 in
-    ap (det_at new.recording.past) place ∙ det ∙ ap (λ (x : Delivered). Some x.det) same
+shows_delivery old new q source ssn (Ok told) item step det is first d reply = grind arith
 shows_delivery old new q source ssn (Err fault) item step det is first d reply = absurd (let x : Told.Refused fault ≡ Told.Delivered d = sym is ∙ reply in cc)

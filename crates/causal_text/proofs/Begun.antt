@@ -1,6 +1,6 @@
 -- What a text begins with, beside what is held of its first bytes.
-use Rattle.std.proofs.Common.{◌≡◌, ◌<◌, ◌++◌, ◌∙◌, ◌⊎◌, inl, inr, refl, sym, ap, subst, arith, ℕ, List, [], ◌∷◌, Bool, true, false, length, length-append, map, Ok, Err, append_assoc, append-nil}
-use Rattle.std.specs.Prelude.{◌==◌, ◌&&◌, not, Option, Some, None, IfSome, IfNone}
+use Rattle.std.proofs.Common.{◌≡◌, ◌<◌, ◌++◌, ◌∙◌, ◌⊎◌, inl, inr, refl, sym, ap, subst, arith, ℕ, List, [], ◌∷◌, true, false, length, length-append, Ok, Err, append_assoc, append-nil}
+use Rattle.std.specs.Prelude.{Option, Some, None, IfSome, IfNone}
 use Rattle.causal_trace.specs.Rows.{Recording}
 use Rattle.causal_line.specs.declared.kind.TextFault.{TextFault}
 use Rattle.causal_line.specs.declared.stage.Stage.{Stage}
@@ -12,7 +12,6 @@ use Rattle.causal_line.specs.Lines.{lines, no_feed, IsComplete}
 use Rattle.causal_lines.specs.Places.{Place, start, next}
 use Rattle.causal_text.specs.Pieces.{AreComplete, joined, Held, StandsFor}
 use Rattle.causal_text.specs.Spelling.{LeadsTo}
-use Rattle.causal_line.specs.Stages.{said}
 use Rattle.causal_line.specs.Refusals.{IsGoingOn}
 use Rattle.causal_text.specs.Inside.LineByLine.{after_lines}
 use Rattle.causal_text.specs.Inside.Unfinished.{IsPast}
@@ -27,17 +26,10 @@ abbrev Nested : (xs ys us vs : List (List ℕ)) → Type 0
 Nested xs ys us vs =
     ((zs : List (List ℕ)) × (ys ≡ xs ++ zs) × (us ≡ zs ++ vs)) ⊎ ((z : List ℕ) × (zs : List (List ℕ)) × (xs ≡ ys ++ z ∷ zs) × (vs ≡ z ∷ zs ++ us))
 
-nested_on : (x y : List ℕ) (xs ys us vs : List (List ℕ)) → x ≡ y → Nested xs ys us vs → Nested (x ∷ xs) (y ∷ ys) us vs
-nested_on x y xs ys us vs same (inl p) = inl (p.0, rw (same, p.1) refl, p.2)
-nested_on x y xs ys us vs same (inr p) = inr (p.0, p.1, rw (same, p.2) refl, p.3)
-
 nested : (xs ys us vs : List (List ℕ)) → xs ++ us ≡ ys ++ vs → Nested xs ys us vs
 nested [] ys us vs e = inl (ys, refl, e)
 nested (x ∷ xs) [] us vs e = inr (x, xs, refl, sym e)
-nested (x ∷ xs) (y ∷ ys) us vs e =
-    let first : x ≡ y = cc in
-    let rest : xs ++ us ≡ ys ++ vs = cc in
-    nested_on x y xs ys us vs first (nested xs ys us vs rest)
+nested (x ∷ xs) (y ∷ ys) us vs e = grind (arith, nested xs ys us vs cc)
 
 joined-append : (xs ys : List (List ℕ)) → joined (xs ++ ys) ≡ joined xs ++ joined ys
 joined-append [] ys = refl
@@ -51,12 +43,7 @@ complete_in (x ∷ xs) z zs h = complete_in xs z zs h.1
 
 -- complete lines that stand within the first bytes begin these
 within : (most : ℕ) (h : Held) (b bytes : List ℕ) (r : Recording) (s : StandsFor most h b) (c : SaysSoFar most bytes r) (zs : List (List ℕ)) → s.complete ≡ c.complete ++ zs → BeginsWith most b r
-within most h b bytes r s c zs is = (
-  joined c.complete,
-  joined zs ++ h.rest,
-  s.whole ∙ ap (λ ls. joined ls ++ h.rest) is ∙ ap (λ xs. xs ++ h.rest) (joined-append c.complete zs) ∙ append_assoc (joined c.complete) (joined zs) h.rest,
-  record { complete = c.complete; rest = []; version = c.version; whole = sym (append-nil (joined c.complete)); each = c.each; unfinished = refl; reaches = c.reaches },
-)
+within most h b bytes r s c zs is = grind (arith, joined-append c.complete zs, append_assoc, append-nil (joined c.complete))
 
 -- or they go beyond them, by the line that was begun and others
 abbrev Beyond : (most : ℕ) (h : Held) (b bytes more : List ℕ) (r : Recording) → StandsFor most h b → SaysSoFar most bytes r → Type 0
@@ -64,11 +51,8 @@ Beyond most h b bytes more r s c =
     (z : List ℕ) × (zs : List (List ℕ)) × (us : List (List ℕ)) × (c.complete ≡ s.complete ++ z ∷ zs) × (lines (h.rest ++ more) ≡ z ∷ zs ++ us)
 
 either : (most : ℕ) (h : Held) (b more : List ℕ) (r : Recording) (s : StandsFor most h b) (x : BeginsWith most (b ++ more) r) → BeginsWith most b r ⊎ Beyond most h b x.0 more r s x.3
-either most h b more r s (bytes, tail, split, c) =
-    let mine : lines (b ++ more) ≡ s.complete ++ lines (h.rest ++ more) =
-    ap (λ xs. lines (xs ++ more)) s.whole ∙ ap lines (append_assoc (joined s.complete) h.rest more) ∙ lines_joined s.complete (h.rest ++ more) s.each in
-    let theirs : lines (bytes ++ tail) ≡ c.complete ++ lines (c.rest ++ tail) =
-    ap (λ xs. lines (xs ++ tail)) c.whole ∙ ap lines (append_assoc (joined c.complete) c.rest tail) ∙ lines_joined c.complete (c.rest ++ tail) c.each in
+either most h b more r s (bytes, tail, split, c) = let mine : lines (b ++ more) ≡ s.complete ++ lines (h.rest ++ more) = grind (arith, append_assoc, lines_joined) in
+    let theirs : lines (bytes ++ tail) ≡ c.complete ++ lines (c.rest ++ tail) = grind (arith, append_assoc, lines_joined) in
     told (nested c.complete s.complete (lines (c.rest ++ tail)) (lines (h.rest ++ more)) (sym theirs ∙ ap lines (sym split) ∙ mine)) where
       told : Nested c.complete s.complete (lines (c.rest ++ tail)) (lines (h.rest ++ more)) → BeginsWith most b r ⊎ Beyond most h b bytes more r s c
       told (inl p) = inl (within most h b bytes r s c p.0 p.1)
@@ -78,10 +62,7 @@ either most h b more r s (bytes, tail, split, c) =
 
 feed_in : (xs : List ℕ) → no_feed (xs ++ 10 ∷ []) ≡ true → ⊥
 feed_in [] h = let bad : false ≡ true = h in cc
-feed_in (x ∷ xs) h = feed_in xs (last (x == 10) (no_feed (xs ++ 10 ∷ [])) h) where
-  last : (a b : Bool) → (not a && b) ≡ true → b ≡ true
-  last false b h = h
-  last true b h = absurd (let bad : false ≡ true = h in cc)
+feed_in (x ∷ xs) h = grind (arith, feed_in xs)
 
 not_complete : (xs : List ℕ) → no_feed xs ≡ true → IsComplete xs → ⊥
 not_complete xs none c = feed_in c.0 (subst (λ ys. no_feed ys ≡ true) c.2 none)
@@ -117,10 +98,8 @@ says_stage most h b r s c = told (nested c.complete s.complete (lines c.rest) (l
 
 -- it ends no line
 pub still_begins : (most : ℕ) (h : Held) (b part : List ℕ) (r : Recording) → StandsFor most h b → no_feed part ≡ true → BeginsWith most (b ++ part) r → BeginsWith most b r
-still_begins most h b part r s part_none x = told (either most h b part r s x) where
-  told : BeginsWith most b r ⊎ Beyond most h b x.0 part r s x.3 → BeginsWith most b r
-  told (inl y) = y
-  told (inr y) = absurd (none_there (h.rest ++ part) y.0 _ (StandsFor-hold most h b part s part_none).unfinished (complete_in s.complete y.0 y.1 (subst AreComplete y.3 x.3.each)) y.4)
+still_begins most h b part r s part_none x =
+    grind (arith, either most h b part r s x, none_there, StandsFor-hold most h b part s part_none, complete_in)
 
 -- ---- it is the rest of a line
 
@@ -152,11 +131,11 @@ newly_begins most h b line r s complete x = told (either most h b line r s x) wh
 -- a line with a fault is none of those that say a recording
 faulty : (most : ℕ) (h : Held) (b z : List ℕ) (zs c : List (List ℕ)) (f : TextFault) (stage : Stage) (s : StandsFor most h b) → next most h.place z ≡ Err f → c ≡ s.complete ++ z ∷ zs → LeadsTo most c stage → ⊥
 faulty most h b z zs c f stage s bad is reaches =
-    let led = Leads-reached most c stage reaches in
-    let stops : after_lines most start c ≡ Err f =
-    ap (after_lines most start) is ∙ after_lines-append most start h.place s.complete (z ∷ zs) (after_lines-place most s.complete h.place s.place_is) ∙ rw bad refl in
-    let no : Ok led.0 ≡ Err f = sym led.1 ∙ stops in
-    cc
+    grind (
+      arith,
+      Leads-reached most c stage reaches,
+      after_lines-append most start h.place s.complete (z ∷ zs) (after_lines-place most s.complete h.place s.place_is),
+    )
 
 -- so the text begins with no more than what stood before, however it goes on
 no_more : (most : ℕ) (h : Held) (b tail l : List ℕ) (ls : List (List ℕ)) (r : Recording) (f : TextFault) → StandsFor most h b → lines (h.rest ++ tail) ≡ l ∷ ls → next most h.place l ≡ Err f → BeginsWith most (b ++ tail) r → BeginsWith most b r
@@ -199,12 +178,7 @@ nothing (l ∷ ls) rest more each is = absurd (let none : 0 ≡ length (((l ++ j
 
 -- where nothing was read, no recording was said
 pub none_begins : (most : ℕ) (r : Recording) → BeginsWith most [] r → ⊥
-none_begins most r x =
-    let c = x.3 in
-    let empty : c.complete ≡ [] = nothing c.complete c.rest x.1 c.each (x.2 ∙ ap (λ xs. xs ++ x.1) c.whole) in
-    let led = subst (λ ls. LeadsTo most ls (Within c.version r)) empty c.reaches in
-    let bad : [] ≡ map Ok (said (Within c.version r)) = led.said in
-    cc
+none_begins most r x = grind (arith, nothing)
 
 -- ---- the trace so far
 
@@ -212,23 +186,13 @@ none_begins most r x =
 pub trace_says : {T : Type 0} (o : Option T) (run : T → Recording) (n : ℕ) (h : Held) → IfSome o (λ t. IsGoingOn h.place.stage (run t))
     → IfSome o (λ t. (most : ℕ) (b : List ℕ) → WasFed most (record { most = n; state = state.Reading h }) b → SaysSoFar most b (run t))
 trace_says None run n h going = tt
-trace_says (Some t) run n h going = λ most b fed. record {
-  complete = fed.1.0.complete;
-  rest = h.rest;
-  version = going.0;
-  whole = fed.1.0.whole;
-  each = fed.1.0.each;
-  unfinished = fed.1.0.unfinished;
-  reaches = subst (λ (s : Stage). LeadsTo most fed.1.0.complete s) going.1 fed.1.0.place_is.reaches;
-}
+trace_says (Some t) run n h going = λ most b fed. grind arith
 
 -- and they say no other
 pub trace_only : {T : Type 0} (o : Option T) (run : T → Recording) (n : ℕ) (h : Held) → IfSome o (λ t. IsGoingOn h.place.stage (run t))
     → IfSome o (λ t. (most : ℕ) (b : List ℕ) (r : Recording) → WasFed most (record { most = n; state = state.Reading h }) b → SaysSoFar most b r → run t ≡ r)
 trace_only None run n h going = tt
-trace_only (Some t) run n h going = λ most b r fed says.
-    let same : Within going.0 (run t) ≡ Within says.version r = sym going.1 ∙ says_stage most h b r fed.1.0 says in
-    cc
+trace_only (Some t) run n h going = λ most b r fed says. grind (arith, says_stage most h b r fed.1.0 says)
 
 -- where the stage has no trace, they say none
 pub trace_none : {T : Type 0} (o : Option T) (n : ℕ) (h : Held) → IfNone o ((r : Recording) → IsGoingOn h.place.stage r → ⊥)

@@ -1,11 +1,10 @@
 -- The canonical text of a trace spells it.
-use Rattle.std.proofs.Common.{◌≡◌, ℕ, ◌-◌, ◌<◌, ◌≤◌, ◌^◌, List, [], ◌∷◌, ◌++◌, length, Bool, true, false, cond, Some, Ok, refl, ap, ap₂, sym, ◌∙◌, arith, append_assoc, length-append}
-use Rattle.std.specs.Prelude.{codes, flat_map, map, reverse, nat_le, ◌&&◌}
+use Rattle.std.proofs.Common.{◌≡◌, ℕ, ◌<◌, ◌≤◌, ◌^◌, List, [], ◌∷◌, ◌++◌, length, Bool, true, false, cond, Some, Ok, refl, ap, ap₂, sym, ◌∙◌, arith, append_assoc, length-append}
+use Rattle.std.specs.Prelude.{flat_map, map, reverse, nat_le, ◌&&◌}
 use Rattle.std.specs.List.{list_all}
 use Rattle.std.proofs.lemmas.Bool.{leb-true}
 use Rattle.std.proofs.lemmas.List.{reverse-append}
 use Rattle.std.proofs.Math.Seq.{get_or-append_seam, take-append_seam}
-use Rattle.std.proofs.lemmas.List.Concat.{flat_map-cons}
 use Rattle.serde_json.specs.Read.{read}
 use Rattle.causal_trace.specs.declared.entry.Entry.{Entry}
 use Rattle.causal_line.specs.declared.shape.Shape.{Shape}
@@ -33,9 +32,7 @@ lines_plain (x ∷ xs) rest h = let p = plain_first x xs h in rw (p.0, lines_pla
 
 content_line : (xs : List ℕ) → content (xs ++ 10 ∷ []) ≡ xs
 unfolding content
-content_line xs =
-    let len : length (xs ++ 10 ∷ []) - 1 ≡ length xs = omega (arith, length-append xs (10 ∷ [])) in
-    rw (len, get_or-append_seam xs 10 [] 0, take-append_seam xs (10 ∷ [])) refl
+content_line xs = grind (arith, length-append, get_or-append_seam xs 10 [] 0, take-append_seam xs (10 ∷ []))
 
 pub line_back : (s : Shape) → ShapeFits s → line_shape (line_text s) ≡ Ok s
 unfolding line_shape
@@ -49,10 +46,7 @@ ShapesFit (s ∷ ss) = ShapeFits s × ShapesFit ss
 
 lines_of : (ss : List Shape) → ShapesFit ss → lines (flat_map line_text ss) ≡ map line_text ss
 lines_of [] h = refl
-lines_of (s ∷ ss) h =
-    ap lines (flat_map-cons line_text s ss ∙ append_assoc (shape_text s) (codes "\n") (flat_map line_text ss))
-    ∙ lines_plain (shape_text s) (flat_map line_text ss) (plain_shape s h.0)
-    ∙ ap (λ ls. line_text s ∷ ls) (lines_of ss h.1)
+lines_of (s ∷ ss) h = grind (arith, append_assoc, lines_plain, plain_shape, lines_of ss h.1)
 
 shapes_back : (ss : List Shape) → ShapesFit ss → map line_shape (map line_text ss) ≡ map Ok ss
 shapes_back [] h = refl
@@ -74,10 +68,7 @@ all_of false b h = absurd (let no : false ≡ true = h in cc)
 
 list_all-last : (es : List Entry) (e : Entry) → list_all (has_line One) (es ++ e ∷ []) ≡ true → (list_all (has_line One) es ≡ true) × (has_line One e ≡ true)
 list_all-last [] e h = (refl, (all_of (has_line One e) true h).0)
-list_all-last (x ∷ es) e h =
-    let first = all_of (has_line One x) (list_all (has_line One) (es ++ e ∷ [])) h in
-    let rest = list_all-last es e first.1 in
-    (rw (first.0, rest.0) refl, rest.1)
+list_all-last (x ∷ es) e h = grind (arith, list_all-last es e (all_of (has_line One x) (list_all (has_line One) (es ++ e ∷ [])) h).1)
 
 lines_of_first : (past : List Entry) → list_all (has_line One) (reverse past) ≡ true → HasLines One past
 lines_of_first [] h = tt
@@ -90,9 +81,7 @@ lines_of_second [] = tt
 lines_of_second (e ∷ past) = (lines_of_second past, refl)
 
 fits_by : (r : Recording) (b : Bool) → (nat_le r.processes 64 && list_all (has_line One) (reverse r.past)) ≡ b → r.processes ≤ 256 → FitsVersion (cond b One Two) r
-fits_by r true h few =
-    let parts = all_of (nat_le r.processes 64) _ h in
-    record { few = leb-true r.processes 64 parts.0; entries = lines_of_first r.past parts.1 }
+fits_by r true h few = grind (arith, all_of, leb-true, lines_of_first)
 fits_by r false h few = record { few = few; entries = lines_of_second r.past }
 
 canonical_fits : (r : Recording) → r.processes ≤ 256 → FitsVersion (canonical_version r) r

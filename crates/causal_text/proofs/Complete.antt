@@ -44,16 +44,15 @@ after_lines-append most p q (l ∷ ls) ks h = first_step most ls ks q (next most
 abbrev pub Leads : (most : ℕ) → List (List ℕ) → Stage → Type 0
 Leads most ls s = (q : Place) × (after_lines most start ls ≡ Ok q) × (q.stage ≡ s)
 
-next_ok : (most : ℕ) (p : Place) (l : List ℕ) (t : Stage) → after_line most p.stage (p.size + length l) l ≡ Ok t → next most p l ≡ Ok (record { stage = t; count = p.count + 1; size = p.size + length l })
-next_ok most p l t h = rw h refl
-
 -- one more line leads to the next stage
 Leads-more : (most : ℕ) (ls : List (List ℕ)) (l : List ℕ) (s t : Stage) → Leads most ls s → after_line most s (sum_by length ls + length l) l ≡ Ok t → Leads most (ls ++ l ∷ []) t
 Leads-more most ls l s t led is =
-    let st = IsPlaceAfter-lines most [] ls start led.0 (IsPlaceAfter-start most) led.1 in
-    let taken : after_line most led.0.stage (led.0.size + length l) l ≡ Ok t = rw (led.2, st.size) is in
-    let q : Place = record { stage = t; count = led.0.count + 1; size = led.0.size + length l } in
-    (q, after_lines-append most start led.0 ls (l ∷ []) led.1 ∙ rw (next_ok most led.0 l t taken) refl, refl)
+    grind (
+      arith,
+      IsPlaceAfter-lines most [] ls start led.0 (IsPlaceAfter-start most) led.1,
+      IsPlaceAfter-start most,
+      after_lines-append most start led.0 ls (l ∷ []) led.1,
+    )
 
 -- ---- what is said last is said by the last line
 

@@ -17,8 +17,7 @@ use Rattle.causal_text.proofs.Complete.{after_lines-append, after_lines-place}
 -- complete lines in front are the first lines
 pub lines_joined : (ls : List (List ℕ)) (rest : List ℕ) → AreComplete ls → lines (joined ls ++ rest) ≡ ls ++ lines rest
 lines_joined [] rest h = refl
-lines_joined (l ∷ ls) rest h =
-    ap lines (append_assoc l (joined ls) rest) ∙ lines_complete l (joined ls ++ rest) h.0 ∙ ap (λ ks. l ∷ ks) (lines_joined ls rest h.1)
+lines_joined (l ∷ ls) rest h = grind (arith, append_assoc, lines_complete, lines_joined ls rest h.1)
 
 joined-append : (ls : List (List ℕ)) (l : List ℕ) → joined (ls ++ l ∷ []) ≡ joined ls ++ l
 joined-append [] l = append-nil l
@@ -33,41 +32,34 @@ AreComplete-append (k ∷ ls) l h c = (h.0, AreComplete-append ls l h.1 c)
 -- once a line is complete and has no fault, the place after it stands for all the bytes
 pub StandsFor-complete : (most : ℕ) (h : Held) (b line : List ℕ) (p : Place) → StandsFor most h b → IsComplete line → next most h.place (h.rest ++ line) ≡ Ok p → StandsFor most (record { place = p; rest = [] }) (b ++ line)
 StandsFor-complete most h b line p s c taken =
-    let l = h.rest ++ line in
-    let after = IsPlaceAfter-next most s.complete h.place p l s.place_is taken in
-    record {
-      complete = s.complete ++ l ∷ [];
-      whole = ap (λ xs. xs ++ line) s.whole ∙ append_assoc (joined s.complete) h.rest line ∙ sym (joined-append s.complete l) ∙ sym (append-nil _);
-      each = AreComplete-append s.complete l s.each (IsComplete-append h.rest line s.unfinished c);
-      unfinished = refl;
-      place_is = after;
-    }
+    grind (
+      arith,
+      IsPlaceAfter-next most s.complete h.place p (h.rest ++ line) s.place_is taken,
+      append_assoc (joined s.complete) h.rest line,
+      joined-append s.complete (h.rest ++ line),
+      append-nil,
+      AreComplete-append,
+      IsComplete-append h.rest line s.unfinished c,
+    )
 
 -- a part with no line feed is held, and nothing else changes
 pub StandsFor-hold : (most : ℕ) (h : Held) (b part : List ℕ) → StandsFor most h b → no_feed part ≡ true → StandsFor most (record { place = h.place; rest = h.rest ++ part }) (b ++ part)
-StandsFor-hold most h b part s none = record {
-  complete = s.complete;
-  whole = ap (λ xs. xs ++ part) s.whole ∙ append_assoc (joined s.complete) h.rest part;
-  each = s.each;
-  unfinished = no_feed-append h.rest part s.unfinished none;
-  place_is = s.place_is;
-}
+StandsFor-hold most h b part s none = grind (arith, append_assoc, no_feed-append)
 
 reading_from : (most : ℕ) (h : Held) (b more : List ℕ) → StandsFor most h b → after_lines most start (lines (b ++ more)) ≡ after_lines most h.place (lines (h.rest ++ more))
-reading_from most h b more s =
-    ap (λ xs. after_lines most start (lines (xs ++ more))) s.whole
-    ∙ ap (λ xs. after_lines most start (lines xs)) (append_assoc (joined s.complete) h.rest more)
-    ∙ ap (after_lines most start) (lines_joined s.complete (h.rest ++ more) s.each)
-    ∙ after_lines-append most start h.place s.complete (lines (h.rest ++ more)) (after_lines-place most s.complete h.place s.place_is)
+reading_from most h b more s = grind (arith, append_assoc, lines_joined, after_lines-append, after_lines-place)
 
 -- the fault of a complete line is that of the text, however it goes on
 pub fault_of_complete : (most : ℕ) (h : Held) (b line : List ℕ) (f : TextFault) → StandsFor most h b → IsComplete line → next most h.place (h.rest ++ line) ≡ Err f → IsFaultOfAll most (b ++ line) f
 fault_of_complete most h b line f s c e more =
-    let same : after_lines most start (lines ((b ++ line) ++ more)) ≡ Err f =
-    ap (λ xs. after_lines most start (lines xs)) (append_assoc b line more) ∙ reading_from most h b (line ++ more) s
-    ∙ ap (λ xs. after_lines most h.place (lines xs)) (sym (append_assoc h.rest line more))
-    ∙ ap (after_lines most h.place) (lines_complete (h.rest ++ line) more (IsComplete-append h.rest line s.unfinished c)) ∙ rw e refl in
-    ap (λ (r : Result Place TextFault). r >>= λ p. ended p p.stage) same
+    grind (
+      arith,
+      append_assoc b line more,
+      reading_from most h b (line ++ more) s,
+      append_assoc h.rest line more,
+      lines_complete,
+      IsComplete-append h.rest line s.unfinished c,
+    )
 
 -- and so is one that an unfinished line has, however it goes on
 pub fault_of_grown : (most : ℕ) (h : Held) (b : List ℕ) (f : TextFault) → StandsFor most h b → 0 < length h.rest → ((m : List ℕ) → next most h.place (h.rest ++ m) ≡ Err f) → IsFaultOfAll most b f
@@ -90,23 +82,15 @@ regrouped most h b done more s = subst (λ (xs : List ℕ). StandsFor most h xs)
 
 -- where a line was taken in, there is a place after it, and nothing is held there
 pub with_line_ok : (most : ℕ) (h h1 : Held) (line : List ℕ) → with_line most h line ≡ Ok h1 → (p : Place) × (next most h.place (h.rest ++ line) ≡ Ok p) × (record { place = p; rest = [] } ≡ h1)
-with_line_ok most h h1 line e = parts (next most h.place (h.rest ++ line)) e where
-  parts : (r : Result Place TextFault) → (r >>= λ p. Ok (record { place = p; rest = [] })) ≡ Ok h1 → (p : Place) × (r ≡ Ok p) × (record { place = p; rest = [] } ≡ h1)
-  parts (Ok p) e = (p, refl, cc)
-  parts (Err f) e = absurd (let no : Err f ≡ Ok h1 = e in cc)
+with_line_ok most h h1 line e = grind arith
 
 -- where it was not, its fault is that of the line
 pub with_line_err : (most : ℕ) (h : Held) (line : List ℕ) (f : TextFault) → with_line most h line ≡ Err f → next most h.place (h.rest ++ line) ≡ Err f
-with_line_err most h line f e = parts (next most h.place (h.rest ++ line)) e where
-  parts : (r : Result Place TextFault) → ◌>>=◌ {B = Held} r (λ p. Ok (record { place = p; rest = [] })) ≡ Err f → r ≡ Err f
-  parts (Ok p) e = let k : Held = record { place = p; rest = [] } in absurd (let no : Ok k ≡ Err f = e in cc)
-  parts (Err g) e = let same : g ≡ f = cc in ap Err same
+with_line_err most h line f e = grind arith
 
 -- once the rest of a line has come without a fault, what is held stands for those bytes too
 pub Comes-line : (most : ℕ) (h0 h h1 : Held) (done line : List ℕ) → Comes most h0 done h → IsComplete line → with_line most h line ≡ Ok h1 → Comes most h0 (done ++ line) h1
-Comes-line most h0 h h1 done line c complete e b s =
-    let p = with_line_ok most h h1 line e in
-    regrouped most h1 b done line (subst (λ (k : Held). StandsFor most k ((b ++ done) ++ line)) p.2 (StandsFor-complete most h (b ++ done) line p.0 (c b s) complete p.1))
+Comes-line most h0 h h1 done line c complete e b s = grind (arith, with_line_ok, regrouped, StandsFor-complete)
 
 IsFaultOfAll-more : (most : ℕ) (b more : List ℕ) (f : TextFault) → IsFaultOfAll most b f → IsFaultOfAll most (b ++ more) f
 IsFaultOfAll-more most b more f h rest = ap (reading most) (append_assoc b more rest) ∙ h (more ++ rest)
@@ -138,24 +122,13 @@ last_lines most p (x ∷ xs) h = ap (after_lines most p) (lines_rest (x ∷ xs) 
 
 -- reading the bytes gives what ending with what is held gives
 pub reading-ending : (most : ℕ) (h : Held) (b : List ℕ) → StandsFor most h b → reading most b ≡ ending most h
-reading-ending most h b s =
-    let all = reading_from most h b [] s in
-    let same : after_lines most start (lines b) ≡ last_place most h h.rest =
-    ap (λ xs. after_lines most start (lines xs)) (sym (append-nil b)) ∙ all ∙ ap (λ xs. after_lines most h.place (lines xs)) (append-nil h.rest) ∙ last_lines most h.place h.rest s.unfinished in
-    ap (λ (r : Result Place TextFault). r >>= λ p. ended p p.stage) same
+reading-ending most h b s = grind (arith, reading_from most h b [] s, append-nil b, append-nil h.rest, last_lines)
 
 -- ---- the line that is being read
 
 -- no line before the one that is unfinished has a fault
 pub IsReadAt-stands : (most : ℕ) (h : Held) (b : List ℕ) (line : ℕ) → StandsFor most h b → line ≡ h.place.count + 1 → IsReadAt most b line
-IsReadAt-stands most h b line s is more = record {
-  before = s.complete;
-  after = lines (h.rest ++ more);
-  stage = h.place.stage;
-  split = ap (λ xs. lines (xs ++ more)) s.whole ∙ ap lines (append_assoc (joined s.complete) h.rest more) ∙ lines_joined s.complete (h.rest ++ more) s.each;
-  reaches = s.place_is.reaches;
-  number = is ∙ ap (λ n. n + 1) s.place_is.count;
-}
+IsReadAt-stands most h b line s is more = grind (arith, append_assoc, lines_joined s.complete (h.rest ++ more) s.each)
 
 -- more bytes leave the lines before one without a fault
 pub IsReadAt-more : (most : ℕ) (b piece : List ℕ) (line : ℕ) → IsReadAt most b line → IsReadAt most (b ++ piece) line
@@ -168,6 +141,4 @@ line_of_part most h0 h done left b line c s is =
 
 -- what an unfinished line has however it goes on, it has where it ends here
 pub faulty_line : (most : ℕ) (h : Held) (line : List ℕ) (f : TextFault) → IsPast most (record { place = h.place; rest = h.rest ++ line }) f → with_line most h line ≡ Err f
-faulty_line most h line f past =
-    let here : next most h.place (h.rest ++ line) ≡ Err f = ap (next most h.place) (sym (append-nil (h.rest ++ line))) ∙ past [] in
-    ap (λ (r : Result Place TextFault). r >>= λ p. Ok (record { place = p; rest = [] })) here
+faulty_line most h line f past = grind (arith, append-nil (h.rest ++ line))

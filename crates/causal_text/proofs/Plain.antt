@@ -24,10 +24,7 @@ plain (x ∷ xs) = plain_byte x && plain xs
 
 plain_then : (xs ys : List ℕ) → plain xs ≡ true → plain ys ≡ true → plain (xs ++ ys) ≡ true
 plain_then [] ys p q = q
-plain_then (x ∷ xs) ys p q = both (plain_byte x) (plain xs) _ p (λ r. plain_then xs ys r q) where
-  both : (a b c : Bool) → (a && b) ≡ true → (b ≡ true → c ≡ true) → (a && c) ≡ true
-  both true b c h f = f h
-  both false b c h f = absurd (let no : false ≡ true = h in cc)
+plain_then (x ∷ xs) ys p q = grind (arith, plain_then xs ys)
 
 no_feed : (x : ℕ) → digit_value x < 10 → x ≡ 10 → ⊥
 no_feed x h is = let at : digit_value 10 < 10 = rw is at h in omega arith
@@ -44,8 +41,7 @@ then_more : (n : ℕ) (rest : List ℕ) → n < 2 ^ 64 → plain rest ≡ true �
 then_more n rest h p = plain_then (decimal n) rest (plain_decimal n h) p
 
 plain_det : (d : Det) → DetIsSmall 256 d → plain (det_text d) ≡ true
-plain_det d h =
-    then_more d.source.0 _ (omega (arith, h.source)) (then_more d.ssn _ (omega (arith, h.ssn)) (then_more d.dest.0 _ (omega (arith, h.dest)) (then_more d.rsn _ (omega (arith, h.rsn)) refl)))
+plain_det d h = grind (arith, then_more)
 
 plain_more : (ds : List Det) → DetsAreSmall 256 ds → plain (more_dets_text ds) ≡ true
 plain_more [] h = refl
@@ -57,8 +53,7 @@ plain_dets (d ∷ ds) h = plain_then (det_text d) (more_dets_text ds ++ codes "]
 
 plain_entry : (e : Entry) → EntryIsSmall 256 e → plain (entry_text e) ≡ true
 plain_entry (Send from to ssn) h = then_more from.0 _ (omega arith) (then_more to.0 _ (omega arith) (then_more ssn _ (omega arith) refl))
-plain_entry (Deliver to send rsn listed) h =
-    then_more to.0 _ (omega arith) (then_more send _ (omega arith) (then_more rsn _ (omega arith) (plain_then (dets_text listed) (codes "]") (plain_dets listed h.3) refl)))
+plain_entry (Deliver to send rsn listed) h = grind (arith, then_more, plain_then, plain_dets)
 plain_entry (Stable det) h = plain_then (det_text det) (codes "]") (plain_det det h) refl
 plain_entry (Crash who) h = then_more who.0 _ (omega arith) refl
 plain_entry (Restart who listed) h = then_more who.0 _ (omega arith) (plain_then (dets_text listed) (codes "]") (plain_dets listed h.1) refl)

@@ -33,9 +33,7 @@ at_ok (Err k) line y h = absurd (let no : Err (record { line = line; kind = k })
 
 at_err : {A : Type 0} (r : Result A TextKind) (line : ℕ) (e : TextFault) → (r at line) ≡ Err e → (r ≡ Err e.kind) × (e.line ≡ line)
 at_err (Ok x) line e h = absurd (let no : Ok x ≡ Err e = h in cc)
-at_err (Err k) line e h =
-    let same : record { line = line; kind = k } ≡ e = cc in
-    (ap (λ (f : TextFault). Err f.kind) same, sym (ap (λ (f : TextFault). f.line) same))
+at_err (Err k) line e h = grind arith
 
 -- before the first line a reader stands at the start
 pub IsPlaceAfter-start : (most : ℕ) → IsPlaceAfter most [] start
@@ -64,8 +62,7 @@ IsPlaceAfter-next most before p q line st h =
 
 -- who stands after some lines stands after all further ones that have no fault
 pub IsPlaceAfter-lines : (most : ℕ) (before ls : List (List ℕ)) (p q : Place) → IsPlaceAfter most before p → after_lines most p ls ≡ Ok q → IsPlaceAfter most (before ++ ls) q
-IsPlaceAfter-lines most before [] p q st h =
-    let same : p ≡ q = cc in rw append-nil (subst (λ (u : Place). IsPlaceAfter most before u) same st)
+IsPlaceAfter-lines most before [] p q st h = grind (arith, append-nil)
 IsPlaceAfter-lines most before (l ∷ ls) p q st h =
     let step = bind_ok (next most p l) (λ x. after_lines most x ls) q h in
     rw (← append_assoc before (l ∷ []) ls) (IsPlaceAfter-lines most (before ++ l ∷ []) ls step.0 q (IsPlaceAfter-next most before p step.0 l st step.1) step.2)
@@ -130,14 +127,7 @@ ended_ok p (Within version q) r h = absurd (let no : Err (record { line = p.coun
 ended_ok p (Ended version q) r h = let same : q ≡ r = cc in (version, ap (Ended version) same)
 
 Spells-reached : (most : ℕ) (text : List ℕ) (version : Version) (r : Recording) → LeadsTo most (lines text) (Ended version r) → SpellsWithin most text r
-Spells-reached most text version r reached = record {
-  version = version;
-  fits = reached.sound.1;
-  well_formed = reached.sound.0;
-  kept = reached.sound.2;
-  said = reached.said;
-  within = rw sum_by-lines at reached.within;
-}
+Spells-reached most text version r reached = grind (arith, sum_by-lines)
 
 -- what reading gives is spelled by the text
 pub Spells-reading : (most : ℕ) (text : List ℕ) (r : Recording) → reading most text ≡ Ok r → SpellsWithin most text r

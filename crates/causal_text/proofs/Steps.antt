@@ -1,10 +1,10 @@
 -- What one accepted line adds.
-use Rattle.std.proofs.Common.{◌≡◌, ℕ, suc, ◌+◌, ◌≤◌, List, [], ◌∷◌, ◌++◌, length, Bool, true, false, cond, Option, Some, None, Ok, Err, refl, ap, ◌∙◌, arith, subst}
-use Rattle.std.specs.Prelude.{◌==◌, nat_lt, nat_le, ◌&&◌, map, reverse}
-use Rattle.std.proofs.lemmas.Bool.{eqb-true, leb-true, leb-false}
+use Rattle.std.proofs.lemmas.Grind.{common_steps}
+use Rattle.std.proofs.Common.{◌≡◌, ℕ, ◌≤◌, List, [], ◌∷◌, ◌++◌, Bool, true, false, cond, Option, Some, None, Ok, Err, refl, ap, ◌∙◌, arith}
+use Rattle.std.specs.Prelude.{◌==◌, map, reverse}
+use Rattle.std.proofs.lemmas.Bool.{eqb-true, leb-false}
 use Rattle.std.proofs.lemmas.List.{map-append, reverse-append}
 use Rattle.causal_trace.specs.Rows.{Recording, fault_within}
-use Rattle.causal_trace.specs.State.{with_entry}
 use Rattle.causal_trace.specs.declared.entry.Entry.{Entry}
 use Rattle.causal_trace.specs.declared.fault.TraceFault.{TraceFault}
 use Rattle.causal_line.proofs.Lemmas.Passed.{bind_ok, passed, passed_not}
@@ -16,20 +16,12 @@ use Rattle.causal_line.specs.declared.stage.Stage.TheVariants.{Opening, Within, 
 use Rattle.causal_line.specs.declared.version.Version.{Version}
 use Rattle.causal_line.specs.declared.version.Version.TheVariants.{One, Two}
 use Rattle.causal_line.specs.Reading.{◌>>=◌}
-use Rattle.causal_line.specs.Stages.{opened, text_within, begun, admitted, follow, within_limit, after_line, said}
+use Rattle.causal_line.specs.Stages.{text_within, begun, admitted, follow, within_limit, after_line, said}
 use Rattle.causal_line.specs.Kinds.{kind_of}
 use Rattle.causal_line.specs.Values.{line_shape}
-use Rattle.causal_line.specs.Versions.{number_of, most_processes, has_line}
+use Rattle.causal_line.specs.Versions.{number_of, has_line}
 use Rattle.causal_text.specs.Spelling.{IsSound}
-use Rattle.causal_trace.proofs.Lemmas.WellFormed.{rows_next, within_next}
-
-and_left : (a b : Bool) → (a && b) ≡ true → a ≡ true
-and_left true b h = refl
-and_left false b h = h
-
-and_right : (a b : Bool) → (a && b) ≡ true → b ≡ true
-and_right true b h = h
-and_right false b h = absurd (let no : false ≡ true = h in cc)
+use Rattle.causal_trace.proofs.Lemmas.WellFormed.{rows_next}
 
 -- the shape comes last in what is said, and the stage is sound again
 pub record Adds (most : ℕ) (s : Stage) (x : Shape) (t : Stage) : Type 0 where
@@ -42,22 +34,8 @@ pub record Adds (most : ℕ) (s : Stage) (x : Shape) (t : Stage) : Type 0 where
 pub said_entries : (e : Entry) (past : List Entry) → map shape.Entry (reverse (e ∷ past)) ≡ map shape.Entry (reverse past) ++ shape.Entry e ∷ []
 said_entries e past = ap (map shape.Entry) (reverse-append (e ∷ []) past) ∙ map-append shape.Entry (reverse past) (e ∷ [])
 
-at_most_256 : (version : Version) (n : ℕ) → n ≤ most_processes version → n ≤ 256
-at_most_256 One n h = omega (arith, h)
-at_most_256 Two n h = h
-
-is_begun : (most : ℕ) (version : Version) (n : ℕ) (t : Stage) → 1 ≤ n → n ≤ most_processes version → Within version (opened n) ≡ t → Adds most Opening (shape.Header (number_of version) n) t
-is_begun most version n t some few same =
-    subst (λ (u : Stage). Adds most Opening (shape.Header (number_of version) n) u) same (record {
-      sound = (record { count = (some, at_most_256 version n few); accepted = tt }, record { few = few; entries = tt }, record { few = omega arith; listed = omega arith });
-      more = refl;
-    })
-
 Adds-version : (most : ℕ) (version : Version) (n : ℕ) (t : Stage) → begun (Some version) n ≡ Ok t → Adds most Opening (shape.Header (number_of version) n) t
-Adds-version most version n t h =
-    let p = passed (nat_le 1 n && nat_le n (most_processes version)) _ kind.Processes t h in
-    let same : Within version (opened n) ≡ t = cc (p.1) in
-    is_begun most version n t (leb-true 1 n (and_left _ _ p.0)) (leb-true n (most_processes version) (and_right (nat_le 1 n) _ p.0)) same
+Adds-version most version n t h = grind arith
 
 Adds-begun : (most : ℕ) (number n : ℕ) (one two : Bool) (t : Stage) → (number == 1) ≡ one → (number == 2) ≡ two → begun (cond one (Some One) (cond two (Some Two) None)) n ≡ Ok t → Adds most Opening (shape.Header number n) t
 Adds-begun most number n true two t is other h = rw (eqb-true number 1 is) (Adds-version most One n t h)
@@ -65,30 +43,16 @@ Adds-begun most number n false true t other is h = rw (eqb-true number 2 is) (Ad
 Adds-begun most number n false false t other third h = absurd (let no : Err kind.Version ≡ Ok t = h in cc)
 
 Adds-admitted : (most : ℕ) (version : Version) (r : Recording) (e : Entry) (o : Option TraceFault) (t : Stage) → fault_within most r e ≡ o → has_line version e ≡ true → IsSound most (Within version r) → admitted version r e o ≡ Ok t → Adds most (Within version r) (shape.Entry e) t
-Adds-admitted most version r e None t is line w h =
-    let same : Within version (with_entry r e) ≡ t = cc in
-    subst (λ (u : Stage). Adds most (Within version r) (shape.Entry e) u) same (record {
-      sound = (record { count = w.0.count; accepted = (w.0.accepted, rows_next most r e is) }, record { few = w.1.few; entries = (w.1.entries, line) }, within_next most r e is);
-      more = ap (λ xs. shape.Header (number_of version) r.processes ∷ xs) (said_entries e r.past);
-    })
+Adds-admitted most version r e None t is line w h = grind (arith, rows_next, said_entries)
 Adds-admitted most version r e (Some f) t is line w h = absurd (let no : Err (kind_of f) ≡ Ok t = h in cc)
-
-is_ended : (most : ℕ) (version : Version) (r : Recording) (t : Stage) → IsSound most (Within version r) → Ended version r ≡ t → Adds most (Within version r) (shape.End (length r.past)) t
-is_ended most version r t w same =
-    subst (λ (u : Stage). Adds most (Within version r) (shape.End (length r.past)) u) same (record { sound = w; more = refl })
 
 pub Adds-follow : (most : ℕ) (s : Stage) (x : Shape) (t : Stage) → IsSound most s → follow most s x ≡ Ok t → Adds most s x t
 Adds-follow most Opening (shape.Header number n) t w h = Adds-begun most number n (number == 1) (number == 2) t refl refl h
 Adds-follow most Opening (shape.Entry e) t w h = absurd (let no : Err kind.Header ≡ Ok t = h in cc)
 Adds-follow most Opening (shape.End count) t w h = absurd (let no : Err kind.Header ≡ Ok t = h in cc)
 Adds-follow most (Within version r) (shape.Header number n) t w h = absurd (let no : Err kind.Header ≡ Ok t = h in cc)
-Adds-follow most (Within version r) (shape.Entry e) t w h =
-    let p = passed (has_line version e) _ kind.Form t h in
-    Adds-admitted most version r e (fault_within most r e) t refl p.0 w p.1
-Adds-follow most (Within version r) (shape.End count) t w h =
-    let p = passed (count == length r.past) _ kind.Count t h in
-    let same : Ended version r ≡ t = cc (p.1) in
-    rw (eqb-true count (length r.past) p.0) (is_ended most version r t w same)
+Adds-follow most (Within version r) (shape.Entry e) t w h = grind (arith, common_steps, passed, Adds-admitted)
+Adds-follow most (Within version r) (shape.End count) t w h = grind arith
 Adds-follow most (Ended version r) x t w h = absurd (let no : Err kind.After ≡ Ok t = h in cc)
 
 -- an accepted line has a shape that follows, and lies within the limit
@@ -103,10 +67,7 @@ pub record Accepted (most : ℕ) (s : Stage) (end : ℕ) (line : List ℕ) (t : 
   pub within : end ≤ text_within most
 
 Accepted-limit : (most : ℕ) (s : Stage) (end : ℕ) (line : List ℕ) (t : Stage) → IsSound most s → within_limit most end (line_shape line >>= follow most s) ≡ Ok t → Accepted most s end line t
-Accepted-limit most s end line t w h =
-    let limit = passed_not (nat_lt (text_within most) end) _ kind.Big t h in
-    let read = bind_ok (line_shape line) (follow most s) t limit.1 in
-    record { spoken = read.0; reads = read.1; adds = Adds-follow most s read.0 t w read.2; within = omega (arith, leb-false (suc (text_within most)) end limit.0) }
+Accepted-limit most s end line t w h = grind (arith, common_steps, passed_not, bind_ok, Adds-follow, leb-false)
 
 -- a line that leads on from a sound stage is accepted there
 pub Accepted-line : (most : ℕ) (s : Stage) (end : ℕ) (line : List ℕ) (t : Stage) → IsSound most s → after_line most s end line ≡ Ok t → Accepted most s end line t

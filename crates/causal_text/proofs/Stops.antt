@@ -1,11 +1,9 @@
 -- A part of a line that is read, or has the first fault.
-use Rattle.std.proofs.Common.{◌≡◌, ◌≢◌, ◌+◌, ◌<◌, ◌++◌, ◌∙◌, sym, subst, arith, ℕ, List, [], true, length, Option, Some, None, Ok, append-nil}
-use Rattle.std.specs.Prelude.{IfSome}
-use Rattle.causal_line.specs.declared.before.Before.{Before}
+use Rattle.std.proofs.Common.{◌≡◌, ◌≢◌, ◌+◌, ◌<◌, ◌++◌, ◌∙◌, sym, subst, arith, ℕ, List, [], true, length, None, Ok, append-nil}
 use Rattle.causal_line.specs.declared.before.Rejected.{Rejected}
 use Rattle.causal_line.specs.declared.kind.TextKind.TheVariants.{NoMemory}
 use Rattle.causal_text.specs.declared.stream.State.TheVariants as state
-use Rattle.causal_text.specs.Before.{StandsBeforeWithin, IsKeptWithin, IsRejectionWithin}
+use Rattle.causal_text.specs.Before.{IsKeptWithin, IsRejectionWithin}
 use Rattle.causal_text.specs.Begun.{StopsAt}
 use Rattle.causal_line.specs.Given.{IsFaultGiven}
 use Rattle.causal_line.specs.Lines.{no_feed, IsComplete}
@@ -42,15 +40,8 @@ part_read n most h k b part same none is room = subst (λ (m : ℕ). HasReadWith
 
 rejected_so : (most : ℕ) (h : Held) (b part more : List ℕ) (rejected : Rejected) → StandsFor most h b → (rejected.fault.kind ≢ NoMemory → IsFaultOfAll most (b ++ part) rejected.fault)
     → rejected.fault.line ≡ h.place.count + 1 → IsKeptOfAll most (b ++ part) rejected → IsRejectionWithin most ((b ++ part) ++ more) rejected
-rejected_so most h b part more rejected s first line kept = record {
-  first = λ other. IsFirstFault-reading most ((b ++ part) ++ more) rejected.fault (first other more);
-  memory = λ wants. IsReadAt-more most b part rejected.fault.line (IsReadAt-stands most h b rejected.fault.line s line) more;
-  kept = then rejected.before kept;
-} where
-  then : (before : Option Before) → IfSome before (λ at. (rest : List ℕ) → StandsBeforeWithin most ((b ++ part) ++ rest) rejected.fault.line at.trace.recording at.says)
-      → IfSome before (λ at. StandsBeforeWithin most ((b ++ part) ++ more) rejected.fault.line at.trace.recording at.says)
-  then None k = tt
-  then (Some at) k = k more
+rejected_so most h b part more rejected s first line kept =
+    grind (arith, IsFirstFault-reading, IsReadAt-more, IsReadAt-stands most h b rejected.fault.line s line)
 
 -- where the rest of a line is refused, the text stops there
 pub line_stops : (n most : ℕ) (h : Held) (b line : List ℕ) (rejected : Rejected) → n ≡ most → IsComplete line → IsFaultGiven rejected.fault.kind rejected.fault (with_line n h line)

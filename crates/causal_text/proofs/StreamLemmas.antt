@@ -36,15 +36,11 @@ length-joined (l ∷ ls) = length-append l (joined ls) ∙ ap (λ n. length l + 
 
 -- how many bytes there are
 length-held : (most : ℕ) (h : Held) (bytes : List ℕ) → StandsFor most h bytes → length bytes ≡ h.place.size + length h.rest
-length-held most h bytes st =
-    let all = length-joined st.complete in
-    ap length st.whole ∙ length-append (joined st.complete) h.rest ∙ omega (arith, st.place_is.size)
+length-held most h bytes st = grind (arith, length-joined st.complete, length-append (joined st.complete) h.rest)
 
 -- a reader that holds what stands for some bytes, within the limit of a text, has read these
 pub read_more : (most : ℕ) (k : Held) (bytes : List ℕ) → StandsFor most k bytes → HasRoom most k → HasReadWithin most (state.Reading k) bytes
-read_more most k bytes st room =
-    let few : k.place.size ≤ text_within most = omega (arith, st.place_is.size, st.place_is.reaches.within) in
-    (st, omega (arith, length-held most k bytes st, room few))
+read_more most k bytes st room = grind (arith, length-held most k bytes st)
 
 -- what was read is within the limit of a text
 pub length-read : (most : ℕ) (s : State) (read : List ℕ) → HasReadWithin most s read → length read ≤ text_within most

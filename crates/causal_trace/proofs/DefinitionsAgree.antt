@@ -1,18 +1,16 @@
 -- The definitions say what their words say.
-use Rattle.std.proofs.Common.{ℕ, ◌≡◌, ◌-◌, Bool, true, false, cond, List, [], ◌∷◌, ◌++◌, length, take, drop, reverse, Some, None, refl, sym, ap, subst, ◌∙◌, arith}
+use Rattle.std.proofs.Common.{ℕ, ◌≡◌, Bool, true, false, cond, List, [], ◌∷◌, ◌++◌, drop, Some, refl, sym, subst, arith}
 use Rattle.std.specs.Prelude.{◌||◌, not, ◌&&◌, ◌==◌}
 use Rattle.std.specs.List.{find}
 use Rattle.std.specs.Option.{option_map_or}
 use Rattle.std.proofs.lemmas.List.{reverse-append, length-reverse, length-drop, drop_at, take-append-drop}
 use Rattle.std.proofs.lemmas.Option.{slice_get-get_or}
-use Rattle.std.proofs.lemmas.Bool.{false≢true, and_parts, eqb-true}
-use Rattle.causal_name.specs.declared.Pid.{Pid}
-use Rattle.causal_name.specs.declared.Det.{Det}
+use Rattle.std.proofs.lemmas.Bool.{false≢true, eqb-true}
 use Rattle.causal_trace.specs.declared.entry.Entry.{Entry}
 use Rattle.causal_trace.specs.declared.entry.Entry.TheVariants.{Send, Deliver, Stable, Crash, Restart, Forget}
-use Rattle.causal_trace.specs.Past.{has, is_down, logs}
+use Rattle.causal_trace.specs.Past.{is_down}
 use Rattle.causal_trace.specs.Dependence.{DirectlyPrecedes, Reaches, itself, onward, IsEventOf}
-use Rattle.causal_trace.specs.Agree.{InstantsArePrefixes, InstantsStay, OneMoreInstant, InstantsKeepPlaces, is_crash, is_turn_of, DownIsLastTurn, lists, is_forgetting, present, LogIsLastListing, IsPath, ReachesByPath}
+use Rattle.causal_trace.specs.Agree.{InstantsArePrefixes, InstantsStay, OneMoreInstant, InstantsKeepPlaces, is_crash, is_turn_of, DownIsLastTurn, LogIsLastListing, IsPath, ReachesByPath}
 use Rattle.causal_trace.proofs.Lemmas.Instants.{entry_there}
 use Rattle.causal_trace.proofs.Lemmas.AtInstants as at
 use Rattle.causal_trace.proofs.Lemmas.EntryFacts.{delivers_up, restarts_down}
@@ -22,9 +20,7 @@ use Rattle.causal_trace.proofs.Lemmas.EntryFacts.{delivers_up, restarts_down}
 -- the instant t of a run is what its first t entries make
 pub instants_prefixes : InstantsArePrefixes
 instants_prefixes entries t within =
-    let split : reverse entries ≡ reverse (drop t entries) ++ reverse (take t entries) = ap reverse (sym (take-append-drop t entries)) ∙ reverse-append (take t entries) (drop t entries) in
-    ap (λ x. drop (length (reverse entries) - t) x) split
-    ∙ drop_at (reverse (drop t entries)) (reverse (take t entries)) (length (reverse entries) - t) (length-reverse (drop t entries) ∙ length-drop t entries ∙ ap (λ n. n - t) (sym (length-reverse entries)))
+    grind (arith, take-append-drop t entries, reverse-append, drop_at, length-reverse (drop t entries), length-drop t entries, length-reverse entries)
 
 -- one more entry leaves the instants that there were
 pub instants_stay : InstantsStay
@@ -36,9 +32,7 @@ one_more_instant e past = at.one_more_instant e past
 
 -- at an instant, the entry at each position is the run's
 pub instants_keep_places : InstantsKeepPlaces
-instants_keep_places entries t k within below =
-    let any : Entry = Crash (record { 0 = 0 }) in
-    entry_there entries t k any within below ∙ sym (slice_get-get_or entries k any (omega (arith, within, below)))
+instants_keep_places entries t k within below = grind (arith, entry_there entries t k (Crash (record { 0 = 0 })) within below, slice_get-get_or)
 
 -- who is down
 
@@ -76,38 +70,12 @@ at_true : (a b : Bool) → b ≡ false → true ≡ (not b && true)
 at_true a true h = absurd (false≢true (sym h))
 at_true a false h = refl
 
-never : (a : Bool) → false ≡ (a && false)
-never true = refl
-never false = refl
-
--- a process that was down has what its restart lists
-fresh : (who : Pid) (listed : List Det) (past : List Entry) (p : ℕ) (d : Det) → logs past p d ≡ (not (is_down past p) && option_map_or (λ e. not (is_forgetting e)) (find (lists p d) (present past p)) false) → is_down past who.0 ≡ true → (who.0 == p) ≡ true → (has listed d || logs past p d) ≡ option_map_or (λ e. not (is_forgetting e)) (cond (who.0 == p && has listed d) (Some (Restart who listed)) None) false
-fresh who listed past p d before down at =
-    let gone : logs past p d ≡ false = before ∙ ap (λ b. not b && option_map_or (λ e. not (is_forgetting e)) (find (lists p d) (present past p)) false) (subst (λ x. is_down past x ≡ true) (eqb-true who.0 p at) down) in
-    rw (gone, at) (elim (has listed d) as (λ b. (b || false) ≡ option_map_or (λ e. not (is_forgetting e)) (cond b (Some (Restart who listed)) None) false) [ true ↦ refl | false ↦ refl ])
-
 -- a process that is up logs d where the last entry of its lane that lists d is no forgetting
 pub log_last : LogIsLastListing
 log_last n [] p d t = refl
 log_last n (Send from to ssn ∷ past) p d t = log_last n past p d t.0
 log_last n (Stable x ∷ past) p d t = log_last n past p d t.0
-log_last n (Deliver to send rsn listed ∷ past) p d t =
-    elim (to.0 == p && has listed d) as (λ b. (to.0 == p && has listed d) ≡ b → (b || logs past p d) ≡ (not (is_down past p) && option_map_or (λ e. not (is_forgetting e)) (cond b (Some (Deliver to send rsn listed)) (find (lists p d) (present past p))) false)) [
-      | true ↦ λ at. at_true true (is_down past p) (subst (λ x. is_down past x ≡ false) (eqb-true to.0 p (and_parts (to.0 == p) (has listed d) at).0) (delivers_up n past to send rsn listed t.1))
-      | false ↦ λ _. log_last n past p d t.0
-    ] refl
-log_last n (Crash who ∷ past) p d t =
-    elim (who.0 == p) as (λ b. (not b && logs past p d) ≡ (not (b || is_down past p) && option_map_or (λ e. not (is_forgetting e)) (find (lists p d) (present past p)) false)) [
-      | true ↦ refl
-      | false ↦ log_last n past p d t.0
-    ]
-log_last n (Restart who listed ∷ past) p d t =
-    elim (who.0 == p) as (λ b. (who.0 == p) ≡ b → ((b && has listed d) || logs past p d) ≡ (not (not b && is_down past p) && option_map_or (λ e. not (is_forgetting e)) (find (lists p d) (cond b (Restart who listed ∷ []) (Restart who listed ∷ present past p))) false)) [
-      | true ↦ λ at. fresh who listed past p d (log_last n past p d t.0) (restarts_down n past who listed t.1) at
-      | false ↦ λ at. log_last n past p d t.0 ∙ ap (λ b. not (is_down past p) && option_map_or (λ e. not (is_forgetting e)) (cond (b && has listed d) (Some (Restart who listed)) (find (lists p d) (present past p))) false) (sym at)
-    ] refl
-log_last n (Forget who listed ∷ past) p d t =
-    elim (who.0 == p && has listed d) as (λ b. (not b && logs past p d) ≡ (not (is_down past p) && option_map_or (λ e. not (is_forgetting e)) (cond b (Some (Forget who listed)) (find (lists p d) (present past p))) false)) [
-      | true ↦ never (not (is_down past p))
-      | false ↦ log_last n past p d t.0
-    ]
+log_last n (Deliver to send rsn listed ∷ past) p d t = grind (arith, at_true, eqb-true, delivers_up, log_last n past p d t.0)
+log_last n (Crash who ∷ past) p d t = grind (arith, log_last n past p d t.0)
+log_last n (Restart who listed ∷ past) p d t = grind (arith, log_last n past p d t.0, restarts_down)
+log_last n (Forget who listed ∷ past) p d t = grind (arith, log_last n past p d t.0)

@@ -1,5 +1,6 @@
 -- The place of the newest receipt of a determinant, in the chain of its message.
-use Rattle.std.proofs.Common.{ℕ, ◌≡◌, ◌+◌, ◌<◌, inl, inr, Bool, true, false, cond, ◌==◌, List, [], ◌∷◌, length, get_or, reverse, Option, Some, None, refl, sym, ap, ◌∙◌, arith}
+use Rattle.std.proofs.lemmas.Grind.{common_steps}
+use Rattle.std.proofs.Common.{ℕ, ◌≡◌, ◌+◌, ◌<◌, Bool, true, false, cond, ◌==◌, List, [], ◌∷◌, length, get_or, reverse, Option, Some, None, refl, ap, arith}
 use Rattle.std.specs.Prelude.{nat_lt, ◌&&◌}
 use Rattle.std.specs.Option.{option_map_or}
 use Rattle.std.proofs.lemmas.Bool.{eq-eqb, eqb-true, ne_eqb, cond-true, cond-false, cases_Bool, false≢true, le-ltb}
@@ -28,21 +29,7 @@ GoesOn n d nodes node k = place_of n d nodes (Some k) ≡ cond (nat_lt k n && is
 pub place_on : (n : ℕ) (d : Det) (nodes : List Node) (k : ℕ) (x : Node) → LeadDown nodes → k < length nodes → GoesOn n d nodes (get_or (reverse nodes) k x) k
 place_on n d [] k x down h = absurd (omega (arith, h))
 place_on n d (node ∷ older) k x down h =
-    elim (eqb_tells k (length older)) [
-      | inl is ↦
-          rw (node_newest node older k x is.1)
-          (ap (λ i. place_of n d (node ∷ older) (Some i)) is.1
-          ∙ place_begins n d node older
-          ∙ ap (λ i. cond (nat_lt i n && is_of d node.receipt) (Some i) (place_of n d older node.next)) (sym is.1)
-          ∙ ap (cond (nat_lt k n && is_of d node.receipt) (Some k)) (sym (place_skips n d node older node.next down.0)))
-      | inr other ↦
-          let low : k < length older = let ne : k ≡ length older → ⊥ = other.1 in omega (arith, h) in
-          let found = get_or (reverse older) k x in
-          rw (node_older node older k x low)
-          (place_skips n d node older (Some k) low
-          ∙ place_on n d older k x down.1 low
-          ∙ ap (cond (nat_lt k n && is_of d found.receipt) (Some k)) (sym (place_skips n d node older found.next (below_higher found.next k (length older) (omega (arith, low)) (leads_on older k x down.1 low).down))))
-    ]
+    grind (arith, eqb_tells, node_newest, place_skips, node_older, place_on n d older k x down.1, below_higher, leads_on)
 
 -- a chain that begins nowhere has none
 pub place_none : (n : ℕ) (d : Det) (nodes : List Node) (at : Option ℕ) → ((k : ℕ) → at ≡ Some k → ⊥) → place_of n d nodes at ≡ None
@@ -54,12 +41,14 @@ place_none n d (node ∷ older) (Some k) h = absurd (h k refl)
 pub receipt_placed : (heads : Heads) (nodes : List Node) (m : MsgName) (n : ℕ) (d : Det) (receipt : Receipt) → HasHead heads m → AreLinked heads nodes
     → place_of n d (record { receipt = receipt; next = head_of heads m } ∷ nodes) (head_of (with_head heads m (Some (length nodes))) (message_of d)) ≡ cond (same_message m (message_of d) && (nat_lt (length nodes) n && is_of d receipt)) (Some (length nodes)) (place_of n d nodes (head_of heads (message_of d)))
 receipt_placed heads nodes m n d receipt has linked =
-    let node : Node = record { receipt = receipt; next = head_of heads m } in
-    ap (place_of n d (node ∷ nodes)) (head_leads heads m (message_of d) (Some (length nodes)) has)
-    ∙ elim (same_message m (message_of d)) as (λ b. same_message m (message_of d) ≡ b → place_of n d (node ∷ nodes) (cond b (Some (length nodes)) (head_of heads (message_of d))) ≡ cond (b && (nat_lt (length nodes) n && is_of d receipt)) (Some (length nodes)) (place_of n d nodes (head_of heads (message_of d)))) [
-      | true ↦ λ same. place_begins n d node nodes ∙ ap (λ at. cond (nat_lt (length nodes) n && is_of d receipt) (Some (length nodes)) (place_of n d nodes at)) (one_head heads m (message_of d) same)
-      | false ↦ λ _. place_skips n d node nodes (head_of heads (message_of d)) (linked.heads_lead (message_of d))
-    ] refl
+    grind (
+      arith,
+      common_steps,
+      head_leads heads m (message_of d) (Some (length nodes)) has,
+      place_begins n d (record { receipt = receipt; next = head_of heads m }) nodes,
+      one_head,
+      place_skips n d (record { receipt = receipt; next = head_of heads m }) nodes (head_of heads (message_of d)) (linked.heads_lead (message_of d)),
+    )
 
 -- ---- an older receipt with the same determinant
 
@@ -70,24 +59,7 @@ begins_at (Some k) n h = ap (λ i. Some i) (eqb-true k n h)
 -- a place that is found is that of a node
 pub place_within : (n : ℕ) (d : Det) (nodes : List Node) (at : Option ℕ) (m : ℕ) → place_of n d nodes at ≡ Some m → m < length nodes
 place_within n d [] at m is = absurd (let x : None ≡ Some m = is in cc)
-place_within n d (node ∷ older) at m is =
-    let here = option_map_or (λ k. k == length older) at false in
-    let one = nat_lt (length older) n && is_of d node.receipt in
-    let next = place_of n d older node.next in
-    let own = cond one (Some (length older)) next in
-    let rest = place_of n d older at in
-    elim (cases_Bool here) [
-      | inl begins ↦
-          let found : own ≡ Some m = sym (cond-true here own rest begins) ∙ is in
-          elim (cases_Bool one) [
-            | inl it ↦
-                let same : Some (length older) ≡ Some m = sym (cond-true one (Some (length older)) next it) ∙ found in
-                let last : length older ≡ m = cc (same) in
-                omega (arith, last)
-            | inr other ↦ omega (arith, place_within n d older node.next m (sym (cond-false one (Some (length older)) next other) ∙ found))
-          ]
-      | inr elsewhere ↦ omega (arith, place_within n d older at m (sym (cond-false here own rest elsewhere) ∙ is))
-    ]
+place_within n d (node ∷ older) at m is = grind (arith, cond-true, place_within n d older node.next m, cond-false, place_within n d older at m)
 
 -- a node after the first m is none of them
 too_late : (k m : ℕ) (b : Bool) → m < k → (nat_lt k m && b) ≡ false
@@ -97,31 +69,4 @@ too_late k m b later = ap (λ c. c && b) (le-ltb k m (omega (arith, later)))
 pub place_before : (d : Det) (nodes : List Node) (at : Option ℕ) (m : ℕ) → place_of (m + 1) d nodes at ≡ Some m → place_of m d nodes at ≡ place_of m d nodes (Some m)
 place_before d [] at m is = refl
 place_before d (node ∷ older) at m is =
-    let here = option_map_or (λ k. k == length older) at false in
-    let one = nat_lt (length older) (m + 1) && is_of d node.receipt in
-    let now = nat_lt (length older) m && is_of d node.receipt in
-    let next = place_of (m + 1) d older node.next in
-    let own = cond one (Some (length older)) next in
-    let rest = place_of (m + 1) d older at in
-    elim (cases_Bool here) [
-      | inl begins ↦
-          let found : own ≡ Some m = sym (cond-true here own rest begins) ∙ is in
-          elim (cases_Bool one) [
-            | inl it ↦
-                let same : Some (length older) ≡ Some m = sym (cond-true one (Some (length older)) next it) ∙ found in
-                ap (place_of m d (node ∷ older)) (begins_at at (length older) begins ∙ same)
-            | inr other ↦
-                let on : next ≡ Some m = sym (cond-false one (Some (length older)) next other) ∙ found in
-                let low : m < length older = place_within (m + 1) d older node.next m on in
-                cond-true here (cond now (Some (length older)) (place_of m d older node.next)) (place_of m d older at) begins
-                ∙ cond-false now (Some (length older)) (place_of m d older node.next) (too_late (length older) m (is_of d node.receipt) low)
-                ∙ place_before d older node.next m on
-                ∙ sym (place_skips m d node older (Some m) low)
-          ]
-      | inr elsewhere ↦
-          let on : rest ≡ Some m = sym (cond-false here own rest elsewhere) ∙ is in
-          let low : m < length older = place_within (m + 1) d older at m on in
-          cond-false here (cond now (Some (length older)) (place_of m d older node.next)) (place_of m d older at) elsewhere
-          ∙ place_before d older at m on
-          ∙ sym (place_skips m d node older (Some m) low)
-    ]
+    grind (arith, cases_Bool, cond-true, begins_at, cond-false, place_within, too_late, place_before d older node.next m, place_before d older at m)

@@ -1,7 +1,6 @@
 -- What the questions about an instant rest on: the entries that a trace has are the state that its contract names.
-use Rattle.std.proofs.Common.{ℕ, ◌≡◌, ◌<◌, ◌≤◌, true, List, length, reverse, sym, ap, ◌∙◌, arith}
+use Rattle.std.proofs.Common.{ℕ, ◌≡◌, ◌<◌, ◌≤◌, true, List, length, reverse, arith}
 use Rattle.std.specs.Prelude.{nat_lt}
-use Rattle.std.proofs.lemmas.Bool.Decides.{nat_tests}
 use Rattle.std.proofs.lemmas.List.{length-reverse}
 use Rattle.causal_trace.specs.declared.entry.Entry.{Entry}
 use Rattle.causal_trace.specs.Past.{instant}
@@ -10,7 +9,7 @@ use Rattle.causal_trace.proofs.Lemmas.Instants.{instant_past}
 
 -- a process that is numbered below n passes the test of it
 below : (p n : ℕ) → p < n → nat_lt p n ≡ true
-below p n h = grind (arith, nat_tests)
+below p n h = grind arith
 
 -- so it does where n is known under another name
 pub is_process : (p n m : ℕ) → n ≡ m → p < n → nat_lt p m ≡ true
@@ -18,7 +17,4 @@ is_process p n m same h = below p m (omega (arith, same, h))
 
 -- the first t entries, read in order, are the instant t of the past that they make
 pub asked_instant : (slice entries past : List Entry) (t : ℕ) → slice ≡ entries → reverse entries ≡ past → t ≤ length past → past_at slice t ≡ instant past t
-asked_instant slice entries past t same made within =
-    ap (λ es. past_at es t) same
-    ∙ sym (instant_past entries t (omega (arith, within, ap length made, length-reverse entries)))
-    ∙ ap (λ p. instant p t) made
+asked_instant slice entries past t same made within = grind (arith, instant_past, length-reverse)

@@ -1,8 +1,8 @@
 -- What a trace remembers of each process, with one more entry.
-use Rattle.std.proofs.Common.{ℕ, suc, ◌≡◌, ◌+◌, ◌<◌, ◌≤◌, inl, inr, Bool, true, false, cond, ◌==◌, List, [], ◌∷◌, length, get_or, set, Option, Some, None, refl, sym, ap, subst, ◌∙◌, arith}
+use Rattle.std.proofs.lemmas.Grind.{common_steps}
+use Rattle.std.proofs.Common.{ℕ, suc, ◌≡◌, ◌+◌, ◌<◌, ◌≤◌, Bool, true, false, cond, ◌==◌, List, [], ◌∷◌, length, get_or, Option, Some, None, refl, sym, subst, arith}
 use Rattle.std.specs.Prelude.{◌||◌, ◌&&◌, not, nat_lt, IfSome, All, replicate}
 use Rattle.std.specs.Option.{option_map_or}
-use Rattle.std.proofs.lemmas.Bool.Decides.{nat_tests, eqb_tells}
 use Rattle.std.proofs.lemmas.List.{get_or-set_same, get_or-set_other, length-set, length-replicate, get_or-replicate}
 use Rattle.causal_name.specs.declared.Pid.{Pid}
 use Rattle.causal_trace.specs.declared.entry.Entry.{Entry}
@@ -29,19 +29,7 @@ lane_of_next (Forget who listed) past p = elim (who.0 == p) as (λ b. lane_of pa
 
 lanes_at : (subj : Option Pid) (n : ℕ) (e : Entry) (past : List Entry) (lanes : List Lane) → ArePresentLanes n past lanes → (p : ℕ) (d : Lane) → p < n → get_or (lanes_after_of subj e lanes) p d ≡ cond (option_map_or (λ q. q.0 == p) subj false) (lane_after e (lane_of past p)) (lane_of past p)
 lanes_at None n e past lanes are p d h = are.each p d h
-lanes_at (Some q) n e past lanes are p d h =
-    elim (eqb_tells q.0 p) [
-      | inl k ↦
-          let at : get_or (set lanes p (lane_after e (get_or lanes p fresh))) p d ≡ lane_after e (get_or lanes p fresh) = get_or-set_same lanes p (lane_after e (get_or lanes p fresh)) d (omega (arith, are.count)) in
-          ap (λ x. get_or (set lanes x (lane_after e (get_or lanes x fresh))) p d) k.1
-          ∙ at
-          ∙ ap (lane_after e) (are.each p fresh h)
-          ∙ ap (λ b. cond b (lane_after e (lane_of past p)) (lane_of past p)) (sym k.0)
-      | inr k ↦
-          get_or-set_other lanes q.0 p (lane_after e (get_or lanes q.0 fresh)) d (λ same. k.1 (sym same))
-          ∙ are.each p d h
-          ∙ ap (λ b. cond b (lane_after e (lane_of past p)) (lane_of past p)) (sym k.0)
-    ]
+lanes_at (Some q) n e past lanes are p d h = grind (arith, get_or-set_same, get_or-set_other)
 
 -- an entry leaves as many lanes as there were
 pub lanes_length : (subj : Option Pid) (e : Entry) (lanes : List Lane) → length (lanes_after_of subj e lanes) ≡ length lanes
@@ -50,10 +38,7 @@ lanes_length (Some q) e lanes = length-set lanes q.0 _
 
 -- the lanes after an entry are those of the past with it
 pub lanes_push : (n : ℕ) (e : Entry) (past : List Entry) (lanes : List Lane) → ArePresentLanes n past lanes → ArePresentLanes n (e ∷ past) (lanes_after e lanes)
-lanes_push n e past lanes are = record {
-  count = lanes_length (subject e) e lanes ∙ are.count;
-  each = λ p d h. lanes_at (subject e) n e past lanes are p d h ∙ sym (lane_of_next e past p);
-}
+lanes_push n e past lanes are = grind (arith, common_steps, lanes_length, lanes_at, lane_of_next)
 
 lane_few : (past : List Entry) (p : ℕ) → lane past p ≤ length past
 lane_few [] p = omega arith
@@ -66,21 +51,17 @@ lane_few (Forget who listed ∷ past) p = omega (arith, lane_few past p)
 
 -- no count is above the number of entries
 lane_has_room : (past : List Entry) (p : ℕ) → length past < 16777216 → HasRoom (lane_of past p)
-lane_has_room past p h = record {
-  restarts = omega (arith, h, lane_few past p);
-  sends = omega (arith, h, sends_few past p);
-  deliveries = omega (arith, h, deliveries_few past p);
-}
+lane_has_room past p h = grind (arith, lane_few, sends_few, deliveries_few)
 
 -- while a run is below the limit of entries, each lane's counts have room for one more
 pub lanes_have_room : (n : ℕ) (past : List Entry) (lanes : List Lane) → ArePresentLanes n past lanes → length past < 16777216 → All HasRoom lanes
 lanes_have_room n past lanes are short k d below = subst HasRoom (sym (are.each k d (omega (arith, are.count, below)))) (lane_has_room past k short)
 
 below_count : (a n : ℕ) → not (nat_lt a n) ≡ false → a < n
-below_count a n h = grind (arith, nat_tests)
+below_count a n h = grind arith
 
 below_counts : (a b n : ℕ) → not (nat_lt a n && nat_lt b n) ≡ false → a < n
-below_counts a b n h = grind (arith, nat_tests)
+below_counts a b n h = grind arith
 
 -- the process of an entry that may come next is there
 pub subject_there : (n : ℕ) (past : List Entry) (e : Entry) → first_fault n past e ≡ None → IfSome (subject e) (λ p. p.0 < n)

@@ -1,9 +1,8 @@
 -- The least room of several lists.
 use Rattle.std.proofs.Common.{ℕ, zero, suc, ◌+◌, ◌-◌, ◌<◌, ◌≤◌, Vec, Global, List, [], ◌∷◌, length, get_or, set, Option, arith}
-use Rattle.std.proofs.Common.{inl, inr, ◌≡◌, sym, ap, subst, ◌∙◌, Ok, Err}
+use Rattle.std.proofs.Common.{◌≡◌, ap, Ok, Err}
 use Rattle.std.specs.Prelude.{min, vec_len, vec_capacity, OnErr, Result}
 use Rattle.std.specs.Vec.{with_item}
-use Rattle.std.proofs.lemmas.Bool.Decides.{eqb_tells}
 use Rattle.std.proofs.lemmas.List.{get_or-set_same, get_or-set_other}
 use Rattle.std.proofs.Math.Nat.{min-le_left, min-le_right, le-min}
 use Rattle.causal_trace.specs.Inside.Chains.{least_room}
@@ -23,8 +22,7 @@ least_other [] other = omega arith
 least_other (list ∷ lists) other = omega (arith, min-le_right (room list) (least_room lists other), least_other lists other)
 
 min_falls : (a b c d : ℕ) → a ≤ c + 1 → b ≤ d + 1 → min a b ≤ min c d + 1
-min_falls a b c d h k =
-    let low : min a b - 1 ≤ min c d = le-min (omega (arith, min-le_left a b, h)) (omega (arith, min-le_right a b, k)) in omega (arith, low)
+min_falls a b c d h k = grind arith
 
 -- with less room elsewhere by one at most
 pub least_falls : (lists : List (Vec (Option ℕ) Global)) (other now : ℕ) → other ≤ now + 1 → least_room lists other ≤ least_room lists now + 1
@@ -46,8 +44,7 @@ least_written lists p k other now found value inside is falls = least_set lists 
 pub least_grown : (lists : List (Vec (Option ℕ) Global)) (p other : ℕ) (list d : Vec (Option ℕ) Global) → p < length lists → room (get_or lists p d) ≤ room list → least_room lists other ≤ least_room (set lists p list) other
 least_grown [] p other list d h k = absurd (omega (arith, h))
 least_grown (first ∷ lists) zero other list d h k = le-min (omega (arith, k, min-le_left (room first) (least_room lists other))) (min-le_right (room first) (least_room lists other))
-least_grown (first ∷ lists) (suc p) other list d h k =
-    le-min (min-le_left (room first) (least_room lists other)) (omega (arith, min-le_right (room first) (least_room lists other), least_grown lists p other list d (omega (arith, h)) k))
+least_grown (first ∷ lists) (suc p) other list d h k = grind (arith, le-min, min-le_left, least_grown lists p other list d)
 
 -- what each list has room for
 pub least_each : (lists : List (Vec (Option ℕ) Global)) (n other : ℕ) → n ≤ other → ((k : ℕ) (d : Vec (Option ℕ) Global) → k < length lists → n ≤ room (get_or lists k d)) → n ≤ least_room lists other
@@ -61,11 +58,7 @@ least_more (list ∷ lists) other now h = le-min (min-le_left (room list) (least
 
 -- one more list has room
 pub room_set : (lists : List (Vec (Option ℕ) Global)) (i n : ℕ) (list : Vec (Option ℕ) Global) → i < length lists → n ≤ room list → ((k : ℕ) (d : Vec (Option ℕ) Global) → k < i → n ≤ room (get_or lists k d)) → (k : ℕ) (d : Vec (Option ℕ) Global) → k < i + 1 → n ≤ room (get_or (set lists i list) k d)
-room_set lists i n list inside here before k d h =
-    elim (eqb_tells k i) [
-      | inl is ↦ subst (λ x. n ≤ room x) (sym (ap (λ j. get_or (set lists i list) j d) is.1 ∙ get_or-set_same lists i list d inside)) here
-      | inr other ↦ let ne : k ≡ i → ⊥ = other.1 in subst (λ x. n ≤ room x) (sym (get_or-set_other lists i k list d ne)) (before k d (omega (arith, h)))
-    ]
+room_set lists i n list inside here before k d h = grind (arith, get_or-set_same, get_or-set_other)
 
 -- what an exit by an error keeps
 pub on_err : {T E P : Type 0} (r : Result T E) → P → OnErr r P

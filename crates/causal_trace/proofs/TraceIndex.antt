@@ -1,9 +1,9 @@
 -- What a trace remembers beside its entries, with one more entry.
-use Rattle.std.proofs.Common.{ℕ, zero, suc, ◌≡◌, ◌+◌, ◌<◌, ◌≤◌, inl, inr, Bool, true, false, cond, ◌==◌, List, [], ◌∷◌, length, get_or, set, Some, None, refl, sym, ap, subst, ◌∙◌, arith}
+use Rattle.std.proofs.lemmas.Grind.{common_steps}
+use Rattle.std.proofs.Common.{ℕ, zero, suc, ◌≡◌, ◌+◌, ◌<◌, ◌≤◌, Bool, true, false, cond, ◌==◌, List, [], ◌∷◌, length, set, Some, None, refl, sym, ap, subst, ◌∙◌, arith}
 use Rattle.std.specs.Prelude.{nat_lt, ◌&&◌, not, replicate, IfSome}
 use Rattle.std.specs.Option.{option_map, option_map_or, option_and_then}
 use Rattle.std.proofs.lemmas.Bool.{false≢true, eqb-true}
-use Rattle.std.proofs.lemmas.Bool.Decides.{eqb_tells}
 use Rattle.std.proofs.lemmas.List.{length-set, length-replicate}
 use Rattle.causal_name.specs.Names.{same_det, same_message, message_of}
 use Rattle.causal_name.specs.declared.Pid.{Pid}
@@ -14,27 +14,17 @@ use Rattle.causal_trace.specs.declared.entry.Entry.TheVariants.{Send, Deliver, S
 use Rattle.causal_trace.specs.declared.fault.TraceFault.TheVariants.{WrongSsn}
 use Rattle.causal_trace.specs.declared.lanes.Lane.{Lane}
 use Rattle.causal_trace.specs.Limits.{IsProcessCount}
-use Rattle.causal_trace.specs.Past.{listed_by, lane, sends, restarts, deliveries_in, entry_at, is_send_to, message_sent, message_at, det_from, det_of, is_message}
+use Rattle.causal_trace.specs.Past.{listed_by, lane, sends, restarts, deliveries_in, entry_at, is_send_to, message_sent, message_at, det_from, det_of}
 use Rattle.causal_trace.specs.Numbers.{delivered_dets, number_of}
 use Rattle.causal_trace.specs.Rows.{Recording, rows, first_fault}
 use Rattle.causal_trace.specs.State.{with_entry}
-use Rattle.causal_trace.specs.Bounded.{IsBounded}
-use Rattle.causal_trace.specs.Inside.Index.{ArePresentLanes, AreChains, HasHeads, fresh, lanes_after, IsIndexed, is_restart}
-use Rattle.causal_trace.specs.Inside.Chains.{Heads, HasHead, ChainsState, IsBelow, chain, head_of, heads_of, heads_after, is_of, nodes_after, opened, place_of, receipts, with_head, with_message}
+use Rattle.causal_trace.specs.Inside.Index.{AreChains, HasHeads, fresh, lanes_after, IsIndexed, is_restart}
+use Rattle.causal_trace.specs.Inside.Chains.{Heads, HasHead, ChainsState, head_of, heads_of, heads_after, is_of, nodes_after, opened, with_head, with_message}
 use Rattle.causal_trace.proofs.ReceiptChains.{head_keeps, head_lengths, linked_message, linked_receipt, message_keeps, message_leads, message_longer, message_there, receipt_leads}
 use Rattle.causal_trace.proofs.DeliveryPlaces.{receipt_placed}
 use Rattle.causal_trace.proofs.Lemmas.EntryFacts.{delivers_sent, not_false, row_fails}
 use Rattle.causal_trace.proofs.Lemmas.WellFormed.{kept_push}
 use Rattle.causal_trace.proofs.LaneRecords.{lanes_push, subject_there, no_lanes}
-
--- the count of restarts, with one more entry
-restarted_push : (e : Entry) (past : List Entry) (n : ℕ) → n ≡ restarts past → n + cond (is_restart e) 1 0 ≡ restarts (e ∷ past)
-restarted_push (Restart who listed) past n h = ap (λ k. k + 1) h
-restarted_push (Send from to ssn) past n h = omega (arith, h)
-restarted_push (Deliver to send rsn listed) past n h = omega (arith, h)
-restarted_push (Stable det) past n h = omega (arith, h)
-restarted_push (Crash who) past n h = omega (arith, h)
-restarted_push (Forget who listed) past n h = omega (arith, h)
 
 -- a run has no more restarts than entries
 pub restarts_few : (past : List Entry) → restarts past ≤ length past
@@ -63,9 +53,7 @@ det_there n past (Stable det) h = tt
 det_there n past (Crash who) h = tt
 det_there n past (Restart who listed) h = tt
 det_there n past (Forget who listed) h = tt
-det_there n past (Deliver to send rsn listed) h =
-    let there : to.0 < n = subject_there n past (Deliver to send rsn listed) h in
-    elim (message_at past send) as (λ o. IfSome (option_map (det_from to rsn) o) (λ d. d.dest.0 < n)) [ None ↦ tt | Some m ↦ there ]
+det_there n past (Deliver to send rsn listed) h = grind (arith, subject_there)
 
 sends_one : (e : Entry) (p : ℕ) → is_send_to p e ≡ true → (m : MsgName) × (message_sent e ≡ Some m)
 sends_one (Send from to ssn) p h = (record { source = from; ssn = ssn }, refl)
@@ -77,11 +65,7 @@ sends_one (Forget who listed) p h = absurd (false≢true h)
 
 -- a delivery that may come next has a message
 pub delivers_message : (n : ℕ) (past : List Entry) (to : Pid) (send rsn : ℕ) (listed : List Det) → first_fault n past (Deliver to send rsn listed) ≡ None → (m : MsgName) × (message_at past send ≡ Some m)
-delivers_message n past to send rsn listed h =
-    elim (entry_at past send) as (λ o. option_map_or (is_send_to to.0) o false ≡ true → (m : MsgName) × (option_and_then message_sent o ≡ Some m)) [
-      | None ↦ λ k. absurd (false≢true k)
-      | Some e ↦ λ k. sends_one e to.0 k
-    ] (delivers_sent n past to send rsn listed h)
+delivers_message n past to send rsn listed h = grind (arith, sends_one, delivers_sent)
 
 -- the number of a send that may come next is the next one of its sender
 numbered_next : (n : ℕ) (past : List Entry) (from to : Pid) (ssn : ℕ) → first_fault n past (Send from to ssn) ≡ None → ssn ≡ sends past from.0
@@ -99,15 +83,7 @@ has_own : (past : List Entry) (heads : Heads) (send : ℕ) (m : MsgName) → mes
 has_own past heads send m at older = subst (λ o. IfSome o (HasHead heads)) at (older send)
 
 sent_next : (from p s l : ℕ) → (from ≡ p → s + 1 ≤ l) → s ≤ l → cond (from == p) (s + 1) s ≤ l
-sent_next from p s l own other =
-    elim (eqb_tells from p) [
-      | inl is ↦ subst (λ b. cond b (s + 1) s ≤ l) (sym is.0) (own is.1)
-      | inr not ↦ subst (λ b. cond b (s + 1) s ≤ l) (sym not.0) other
-    ]
-
-begun_anew : (b : Bool) (s l : ℕ) → s ≤ l → cond b 0 s ≤ l
-begun_anew true s l h = omega arith
-begun_anew false s l h = h
+sent_next from p s l own other = grind arith
 
 and_and : (a b c : Bool) → ((a && b) && c) ≡ (a && (b && c))
 and_and true b c = refl
@@ -122,24 +98,23 @@ module _ (n : ℕ) (past : List Entry) (c : ChainsState) (are : AreChains n past
   -- with a send
   chains_sent : (from to : Pid) (ssn : ℕ) → from.0 < n → ssn ≡ sends past from.0 → AreChains n (Send from to ssn ∷ past) (with_message c.heads (record { source = from; ssn = ssn })) c.nodes
   chains_sent from to ssn below is =
-      let m : MsgName = record { source = from; ssn = ssn } in
-      let low : from.0 < length c.heads = omega (arith, below, are.count) in
-      let there : HasHead (with_message c.heads m) m = message_there c.heads m low (omega (arith, is, are.sent from.0 below)) in
-      record {
-        count = length-set c.heads from.0 (opened (heads_of c.heads from.0) ssn) ∙ are.count;
-        linked = linked_message c.heads c.nodes m low are.linked;
-        counted = are.counted;
-        sent = λ p h. sent_next from.0 p (sends past p) (length (heads_of (with_message c.heads m) p)) (λ same. subst (λ q. sends past q + 1 ≤ length (heads_of (with_message c.heads m) q)) same (omega (arith, is, there.ssn))) (omega (arith, are.sent p h, message_longer c.heads m p low));
-        named = named_push (Send from to ssn) past (with_message c.heads m) there (named_grown past c.heads (with_message c.heads m) (λ q has. message_keeps c.heads m q low has) are.named);
-        each = λ q. ap (chain c.nodes) (message_leads c.heads m q low) ∙ are.each q;
-        numbered = are.numbered;
-        placed = λ k d. ap (place_of k d c.nodes) (message_leads c.heads m (message_of d) low) ∙ are.placed k d;
-      }
+      grind (
+        arith,
+        common_steps,
+        message_there,
+        length-set c.heads from.0 (opened (heads_of c.heads from.0) ssn),
+        linked_message c.heads c.nodes (record { source = from; ssn = ssn }) (omega (arith, below, are.count)) are.linked,
+        sent_next,
+        message_longer,
+        named_push,
+        named_grown,
+        message_keeps,
+        message_leads,
+      )
 
   -- with a delivery
   chains_delivered : (to : Pid) (send rsn l : ℕ) (listed : List Det) (m : MsgName) → message_at past send ≡ Some m → l ≡ lane past to.0 → AreChains n (Deliver to send rsn listed ∷ past) (with_head c.heads m (Some (length c.nodes))) (record { receipt = record { dest = to; lane = l; rsn = rsn }; next = head_of c.heads m } ∷ c.nodes)
-  chains_delivered to send rsn l listed m at is =
-      let has : HasHead c.heads m = has_own past c.heads send m at are.named in
+  chains_delivered to send rsn l listed m at is = let has : HasHead c.heads m = has_own past c.heads send m at are.named in
       let heads = with_head c.heads m (Some (length c.nodes)) in
       record {
         count = length-set c.heads m.source.0 (set (heads_of c.heads m.source.0) m.ssn (Some (length c.nodes))) ∙ are.count;
@@ -147,11 +122,7 @@ module _ (n : ℕ) (past : List Entry) (c : ChainsState) (are : AreChains n past
         counted = omega (arith, are.counted);
         sent = λ p h. omega (arith, are.sent p h, head_lengths c.heads m p (Some (length c.nodes)) has.source);
         named = named_push (Deliver to send rsn listed) past heads tt (named_grown past c.heads heads (λ q h. head_keeps c.heads m q (Some (length c.nodes)) has.source h) are.named);
-        each = λ q.
-            receipt_leads c.heads c.nodes m q (record { dest = to; lane = l; rsn = rsn }) has are.linked
-            ∙ ap (λ rs. cond (same_message m q) (record { dest = to; lane = l; rsn = rsn } ∷ rs) rs) (are.each q)
-            ∙ ap (λ k. cond (same_message m q) (record { dest = to; lane = k; rsn = rsn } ∷ receipts past q) (receipts past q)) is
-            ∙ ap (λ o. cond (is_message o q) (record { dest = to; lane = lane past to.0; rsn = rsn } ∷ receipts past q) (receipts past q)) (sym at);
+        each = λ q. grind (arith, receipt_leads);
         numbered = ap suc are.numbered ∙ ap (λ o. length (option_map_or (λ d. d ∷ delivered_dets past) (option_map (det_from to rsn) o) (delivered_dets past))) (sym at);
         placed = λ k d.
             let low = nat_lt (length c.nodes) k in
@@ -168,22 +139,14 @@ module _ (n : ℕ) (past : List Entry) (c : ChainsState) (are : AreChains n past
   pub chains_push : (e : Entry) (l : ℕ) → first_fault n past e ≡ None → ((d : Det) → det_of past e ≡ Some d → l ≡ lane past d.dest.0) → AreChains n (e ∷ past) (heads_after (message_sent e) (det_of past e) c) (nodes_after (message_sent e) (det_of past e) l c)
   chains_push (Send from to ssn) l next at = chains_sent from to ssn (subject_there n past (Send from to ssn) next) (numbered_next n past from to ssn next)
   chains_push (Deliver to send rsn listed) l next at =
-      let own = delivers_message n past to send rsn listed next in
-      subst (λ o. AreChains n (Deliver to send rsn listed ∷ past) (heads_after None (option_map (det_from to rsn) o) c) (nodes_after None (option_map (det_from to rsn) o) l c)) (sym own.1)
-      (chains_delivered to send rsn l listed own.0 own.1 (at (det_from to rsn own.0) (ap (option_map (det_from to rsn)) own.1)))
+      grind (
+        arith,
+        chains_delivered to send rsn l listed (delivers_message n past to send rsn listed next).0 (delivers_message n past to send rsn listed next).1 (at (det_from to rsn (delivers_message n past to send rsn listed next).0) (ap (option_map (det_from to rsn)) (delivers_message n past to send rsn listed next).1)),
+      )
   chains_push (Stable det) l next at = record { count = are.count; linked = are.linked; counted = are.counted; sent = are.sent; named = named_push (Stable det) past c.heads tt are.named; each = are.each; numbered = are.numbered; placed = are.placed }
   chains_push (Crash who) l next at = record { count = are.count; linked = are.linked; counted = are.counted; sent = are.sent; named = named_push (Crash who) past c.heads tt are.named; each = are.each; numbered = are.numbered; placed = are.placed }
   chains_push (Forget who listed) l next at = record { count = are.count; linked = are.linked; counted = are.counted; sent = are.sent; named = named_push (Forget who listed) past c.heads tt are.named; each = are.each; numbered = are.numbered; placed = are.placed }
-  chains_push (Restart who listed) l next at = record {
-    count = are.count;
-    linked = are.linked;
-    counted = are.counted;
-    sent = λ p h. begun_anew (who.0 == p) (sends past p) (length (heads_of c.heads p)) (are.sent p h);
-    named = named_push (Restart who listed) past c.heads tt are.named;
-    each = are.each;
-    numbered = are.numbered;
-    placed = are.placed;
-  }
+  chains_push (Restart who listed) l next at = grind arith
 
 no_heads : (n p : ℕ) → heads_of (replicate n []) p ≡ []
 no_heads zero p = refl
@@ -192,50 +155,25 @@ no_heads (suc n) (suc p) = no_heads n p
 
 -- at first nothing is remembered
 pub indexed_none : (n : ℕ) (lanes : List Lane) (c : ChainsState) → IsProcessCount n → lanes ≡ replicate n fresh → c.heads ≡ replicate n [] → c.nodes ≡ [] → IsIndexed (record { processes = n; past = [] }) 0 0 lanes c
-indexed_none n lanes c count all_fresh no_chains no_nodes = record {
-  kept = record { formed = record { count = count; accepted = tt }; short = omega arith; counted = refl; within = omega arith };
-  restarted = refl;
-  lanes = subst (λ ls. ArePresentLanes n [] ls) (sym all_fresh) (no_lanes n);
-  chains = subst (λ heads. AreChains n [] heads c.nodes) (sym no_chains) (subst (λ nodes. AreChains n [] (replicate n []) nodes) (sym no_nodes) (record {
-    count = length-replicate n [];
-    linked = record { heads_lead = λ m. subst (λ list. IsBelow (get_or list m.ssn None) 0) (sym (no_heads n m.source.0)) tt; nodes_lead = tt };
-    counted = refl;
-    sent = λ p h. omega arith;
-    named = λ k. tt;
-    each = λ m. refl;
-    numbered = refl;
-    placed = λ k d. refl;
-  }));
-}
+indexed_none n lanes c count all_fresh no_chains no_nodes = grind (arith, common_steps, no_lanes, length-replicate, no_heads)
 
 -- what is remembered of the past with one more entry
 pub indexed_push : (r : Recording) (e : Entry) (listed restarted l : ℕ) (lanes : List Lane) (c new : ChainsState) → IsIndexed r listed restarted lanes c → first_fault r.processes r.past e ≡ None → ((d : Det) → det_of r.past e ≡ Some d → l ≡ lane r.past d.dest.0) → new.heads ≡ heads_after (message_sent e) (det_of r.past e) c → new.nodes ≡ nodes_after (message_sent e) (det_of r.past e) l c → IsIndexed (with_entry r e) (listed + length (listed_by e)) (restarted + cond (is_restart e) 1 0) (lanes_after e lanes) new
-indexed_push r e listed restarted l lanes c new was next at heads nodes = record {
-  kept = kept_push r e listed was.kept next;
-  restarted = restarted_push e r.past restarted was.restarted;
-  lanes = lanes_push r.processes e r.past lanes was.lanes;
-  chains = subst (λ h. AreChains r.processes (e ∷ r.past) h new.nodes) (sym heads) (subst (λ ns. AreChains r.processes (e ∷ r.past) (heads_after (message_sent e) (det_of r.past e) c) ns) (sym nodes) (chains_push r.processes r.past c was.chains e l next at));
-}
+indexed_push r e listed restarted l lanes c new was next at heads nodes =
+    grind (
+      arith,
+      kept_push r e listed was.kept next,
+      lanes_push r.processes e r.past lanes was.lanes,
+      chains_push r.processes r.past c was.chains e l next at,
+    )
 
 -- a stable entry changes nothing of it
 pub indexed_stable : (r : Recording) (det : Det) (listed restarted : ℕ) (lanes : List Lane) (c : ChainsState) → IsIndexed r listed restarted lanes c → first_fault r.processes r.past (Stable det) ≡ None → IsIndexed (with_entry r (Stable det)) listed restarted lanes c
-indexed_stable r det listed restarted lanes c was next =
-    let none_listed : listed + 0 ≡ listed = omega arith in
-    record {
-      kept = subst (λ k. IsBounded (with_entry r (Stable det)) k) none_listed (kept_push r (Stable det) listed was.kept next);
-      restarted = was.restarted;
-      lanes = lanes_push r.processes (Stable det) r.past lanes was.lanes;
-      chains = chains_push r.processes r.past c was.chains (Stable det) 0 next (λ d h. absurd (let e : None ≡ Some d = h in cc));
-    }
+indexed_stable r det listed restarted lanes c was next = grind (arith, kept_push, lanes_push)
 
 -- chains with the same heads and nodes serve as well
 pub indexed_same : (r : Recording) (listed restarted : ℕ) (lanes : List Lane) (c new : ChainsState) → IsIndexed r listed restarted lanes c → new.heads ≡ c.heads → new.nodes ≡ c.nodes → IsIndexed r listed restarted lanes new
-indexed_same r listed restarted lanes c new was heads nodes = record {
-  kept = was.kept;
-  restarted = was.restarted;
-  lanes = was.lanes;
-  chains = subst (λ h. AreChains r.processes r.past h new.nodes) (sym heads) (subst (λ ns. AreChains r.processes r.past c.heads ns) (sym nodes) was.chains);
-}
+indexed_same r listed restarted lanes c new was heads nodes = grind arith
 
 -- the sender of a send that may come next is there
 pub sender_there : (n : ℕ) (past : List Entry) (e : Entry) → first_fault n past e ≡ None → IfSome (message_sent e) (λ m. m.source.0 < n)
@@ -253,5 +191,4 @@ own_named past (Stable det) heads named = tt
 own_named past (Crash who) heads named = tt
 own_named past (Restart who listed) heads named = tt
 own_named past (Forget who listed) heads named = tt
-own_named past (Deliver to send rsn listed) heads named =
-    elim (message_at past send) as (λ o. IfSome o (HasHead heads) → IfSome (option_map (det_from to rsn) o) (λ d. HasHead heads (message_of d))) [ None ↦ λ _. tt | Some m ↦ λ has. has ] (named send)
+own_named past (Deliver to send rsn listed) heads named = grind arith

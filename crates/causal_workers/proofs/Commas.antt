@@ -26,7 +26,4 @@ pub written-next : {S X : Type 0} (order : S → List ℕ) (f : X → List ℕ) 
     → map f xs ++ map decimal (order rest) ≡ map decimal (order all) → order rest ≡ p ∷ order next → f x ≡ decimal p → ys ≡ xs ++ x ∷ []
     → map f ys ++ map decimal (order next) ≡ map decimal (order all)
 written-next order f xs ys x p rest next all before first text more =
-    let split : map f (xs ++ x ∷ []) ≡ map f xs ++ f x ∷ [] = map-append f xs (x ∷ []) in
-    let moved : (map f xs ++ f x ∷ []) ++ map decimal (order next) ≡ map f xs ++ f x ∷ map decimal (order next) = append_assoc (map f xs) (f x ∷ []) (map decimal (order next)) in
-    let again : map f xs ++ map decimal (order rest) ≡ map f xs ++ f x ∷ map decimal (order next) = rw (first, text) refl in
-    ap (λ zs. map f zs ++ map decimal (order next)) more ∙ ap (λ zs. zs ++ map decimal (order next)) split ∙ moved ∙ sym again ∙ before
+    grind (arith, map-append f xs (x ∷ []), append_assoc (map f xs) (f x ∷ []) (map decimal (order next)))

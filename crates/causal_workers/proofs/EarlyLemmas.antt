@@ -1,5 +1,5 @@
 -- What looks at a text find, as more of it comes.
-use Rattle.std.proofs.Common.{◌≡◌, ◌++◌, ◌⊎◌, inl, inr, ℕ, List, true, length, append_assoc, append-nil, sym, ap, subst, ◌∙◌, take, [], Option, Some, None}
+use Rattle.std.proofs.Common.{◌≡◌, ◌++◌, ◌⊎◌, inl, inr, ℕ, List, true, length, append_assoc, append-nil, sym, ap, subst, ◌∙◌, take, Option, Some, None, arith}
 use Rattle.std.specs.Prelude.{IfSome}
 use Rattle.std.specs.Io.KnownBytes.{Consumes, IsAtEnd}
 use Rattle.causal_trace.specs.Judgement.{IsSafeTrace}
@@ -26,17 +26,15 @@ none_more most b line f none newly safe r x look = told (newly r x) where
 -- the breach at the end of a line is early in each text that begins so
 pub early_in : (most : ℕ) (b done line after more : List ℕ) (f : ℕ) (judged : Judged) → FindsNoBreach most (b ++ done) f → IsComplete line → IsBreachSoFar most ((b ++ done) ++ line) f judged
     → IsEarly most ((b ++ (done ++ (line ++ after))) ++ more) f judged
-early_in most b done line after more f judged none complete breach = record {
-  before = b ++ done;
-  line = line;
-  more = after ++ more;
-  split =
-      append_assoc b (done ++ (line ++ after)) more ∙ ap (λ xs. b ++ xs) (append_assoc done (line ++ after) more ∙ ap (λ xs. done ++ xs) (append_assoc line after more))
-      ∙ sym (append_assoc b done (line ++ (after ++ more))) ∙ sym (append_assoc (b ++ done) line (after ++ more));
-  complete = complete;
-  none = none;
-  breach = breach;
-}
+early_in most b done line after more f judged none complete breach =
+    grind (
+      arith,
+      append_assoc b (done ++ (line ++ after)) more,
+      append_assoc done (line ++ after) more,
+      append_assoc line after more,
+      append_assoc b done (line ++ (after ++ more)),
+      append_assoc (b ++ done) line (after ++ more),
+    )
 
 -- a breach that a look finds is a verdict on each whole run whose text begins so
 pub early_is_final : EarlyIsFinal
@@ -52,17 +50,14 @@ pub at_end : (old mid new : Option (List ℕ)) (read buffer : List ℕ) (n : ℕ
 at_end None mid new read buffer n P before last none end p = tt
 at_end (Some text) None new read buffer n P before last none end p = absurd before
 at_end (Some text) (Some rest) None read buffer n P before last none end p = absurd last
-at_end (Some text) (Some rest) (Some left) read buffer n P before last none end p =
-    let empty : rest ≡ [] = last ∙ ap (λ k. take k buffer ++ left) none ∙ end in
-    subst P (sym (before ∙ ap (λ xs. read ++ xs) empty ∙ append-nil read)) p
+at_end (Some text) (Some rest) (Some left) read buffer n P before last none end p = grind (arith, append-nil read)
 
 -- what holds however the bytes go on holds of the source's
 pub going_on : (old mid new : Option (List ℕ)) (read piece : List ℕ) (P : List ℕ → Type 0) → Consumes old mid read → Consumes mid new piece → ((more : List ℕ) → P ((read ++ piece) ++ more)) → IfSome old P
 going_on None mid new read piece P before last p = tt
 going_on (Some text) None new read piece P before last p = absurd before
 going_on (Some text) (Some rest) None read piece P before last p = absurd last
-going_on (Some text) (Some rest) (Some left) read piece P before last p =
-    subst P (sym (before ∙ ap (λ xs. read ++ xs) last ∙ sym (append_assoc read piece left))) (p left)
+going_on (Some text) (Some rest) (Some left) read piece P before last p = grind (arith, append_assoc read piece left)
 
 -- ---- one more part of a piece
 

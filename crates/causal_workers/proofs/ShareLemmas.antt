@@ -22,11 +22,10 @@ tells_both followed mid to one other (Ok least) up first before after =
 pub covers_next : (followed : Followed) (first : Answer) (w : Started) (ws : List Started) (to : ℕ) (answer found : Answer) → IsFirstOf first answer found
     → Tells w.promise.prepared.now w.promise.from w.promise.to answer → Covers followed first (w ∷ ws) to → Covers followed found ws to
 covers_next followed first w ws to answer found is kept all =
-    let share = all.2.0 in
-    let mine : Tells followed all.0 w.promise.to answer =
-    subst (λ s. Tells s all.0 w.promise.to answer) share.of
-    (subst (λ n. Tells w.promise.prepared.now n w.promise.to answer) share.begins kept) in
-    (w.promise.to, tells_both followed all.0 w.promise.to first answer found share.ascends is all.1 mine, all.2.1)
+    grind (
+      arith,
+      tells_both followed all.0 w.promise.to first answer found all.2.0.ascends is all.1 (subst (λ s. Tells s all.0 w.promise.to answer) all.2.0.of (subst (λ n. Tells w.promise.prepared.now n w.promise.to answer) all.2.0.begins kept)),
+    )
 
 -- with no worker left the first answer is that of all
 pub covers_all : (followed : Followed) (first : Answer) (to : ℕ) → Covers followed first [] to → Tells followed 0 to first

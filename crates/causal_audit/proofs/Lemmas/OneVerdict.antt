@@ -1,15 +1,11 @@
 -- A recorded run has one verdict.
-use Rattle.causal_audit.proofs.Common.{ℕ, ◌≡◌, ◌<◌, inl, inr, Bool, true, List, refl, sym, subst, ◌∙◌, arith, nat_cmp, nat_cmp_total, FinSet, contains, same_set, nat_cmp-IsAntisymmetric, cases_lt, nat_tests, IsWithin, Entry, instant, is_down, Recording}
+use Rattle.causal_audit.proofs.Common.{ℕ, ◌≡◌, ◌<◌, Bool, true, List, refl, sym, subst, ◌∙◌, arith, nat_cmp, nat_cmp_total, FinSet, contains, same_set, nat_cmp-IsAntisymmetric, nat_tests, IsWithin, Entry, instant, Recording}
 use Rattle.causal_audit.specs.declared.verdict.Verdict.TheVariants.{Accept, Exceeded, Orphan}
 use Rattle.causal_audit.specs.Verdicts.{IsFirstUnsafe, HasMembers, IsExcess, IsBreach}
 use Rattle.causal_audit.specs.Laws.{VerdictsAreOne}
 
 three_ways : (G : Type 0) (a b : ℕ) → (a < b → G) → (b < a → G) → (a ≡ b → G) → G
-three_ways G a b below above same =
-    elim (cases_lt a b) [
-      | inl h ↦ below h
-      | inr h ↦ elim (cases_lt b a) [ inl k ↦ above k | inr k ↦ same (omega arith) ]
-    ]
+three_ways G a b below above same = grind arith
 
 one_instant : (r : Recording) (f t u : ℕ) → IsFirstUnsafe r f t → IsFirstUnsafe r f u → t ≡ u
 one_instant r f t u a b = three_ways (t ≡ u) t u (λ h. absurd (a.unsafe (b.before t h))) (λ h. absurd (b.unsafe (a.before u h))) (λ h. h)
@@ -38,9 +34,7 @@ one_orphan : (n f : ℕ) (past : List Entry) (k : ℕ) (c : FinSet nat_cmp) (p q
 one_orphan n f past k c p q a b = omega (arith, a.least.least_orphan q b.least.is_orphan, b.least.least_orphan p a.least.is_orphan)
 
 one_excess : (r : Recording) (f t u : ℕ) (d e : FinSet nat_cmp) → t ≡ u → IsExcess r.processes f (instant r.past t) d → IsExcess r.processes f (instant r.past u) e → Exceeded t d ≡ Exceeded u e
-one_excess r f t u d e same a b =
-    let at : IsExcess r.processes f (instant r.past u) d = subst (λ x. IsExcess r.processes f (instant r.past x) d) same a in
-    λ i. Exceeded (same i) (one_down r.processes (is_down (instant r.past u)) d e at.members b.members i)
+one_excess r f t u d e same a b = grind (arith, one_down)
 
 one_breach : (r : Recording) (f t u k j : ℕ) (c d : FinSet nat_cmp) (p q : ℕ) → t ≡ u → IsBreach r.processes f (instant r.past t) k c p → IsBreach r.processes f (instant r.past u) j d q → Orphan t k c p ≡ Orphan u j d q
 one_breach r f t u k j c d p q same a b =
@@ -55,9 +49,7 @@ one_breach r f t u k j c d p q same a b =
     λ i. Orphan (same i) (k_j i) (c_d i) (p_q i)
 
 excess_or_breach : {G : Type 0} (r : Recording) (f t u k : ℕ) (d c : FinSet nat_cmp) (p : ℕ) → t ≡ u → IsExcess r.processes f (instant r.past t) d → IsBreach r.processes f (instant r.past u) k c p → G
-excess_or_breach r f t u k d c p same a b =
-    let at : IsExcess r.processes f (instant r.past u) d = subst (λ x. IsExcess r.processes f (instant r.past x) d) same a in
-    absurd (omega (arith, at.many, b.few_down))
+excess_or_breach r f t u k d c p same a b = grind arith
 
 -- two verdicts on one run for one f are equal
 pub one_verdict : VerdictsAreOne

@@ -1,5 +1,5 @@
 -- Orphans, by the processes that are down or hold the determinant.
-use Rattle.causal_audit.proofs.Common.{ℕ, ◌≡◌, ◌<◌, ◌≤◌, inl, inr, Bool, true, false, List, Some, refl, sym, ap, ◌∙◌, arith, ◌⊎◌, both_ways, or_from, or_left, or_parts, false_from_ne_true, true_from_ne_false, Det, count_below, IsWithin, Entry, is_down, logs, is_stable, det_at, Depends, IsCrashSet, IsOrphan, HasOrphan, IsSafe, count_below-within, count_below-le}
+use Rattle.causal_audit.proofs.Common.{ℕ, ◌≡◌, ◌<◌, ◌≤◌, inl, inr, Bool, true, false, List, Some, refl, sym, ◌∙◌, arith, ◌⊎◌, or_left, true_from_ne_false, Det, count_below, IsWithin, Entry, is_down, logs, is_stable, det_at, Depends, IsCrashSet, IsOrphan, HasOrphan, IsSafe, count_below-within, count_below-le}
 use Rattle.causal_audit.specs.Laws.{gone, IsExposed, OrphansAreCounted, CrashSetsContain, GoneIsCrashSet, NoOrphansCondition}
 
 module _ (n f : ℕ) (past : List Entry) (k : ℕ) (d : Det) (at : det_at past k ≡ Some d) where
@@ -9,33 +9,15 @@ module _ (n f : ℕ) (past : List Entry) (k : ℕ) (d : Det) (at : det_at past k
 
   -- a crash set under which there is an orphan has all who are down or hold the determinant
   pub crash_contains : (crash : ℕ → Bool) (p : ℕ) → IsCrashSet n f past crash → IsOrphan n past k crash p → IsWithin n (gone past d) crash
-  crash_contains crash p may orphan q below out =
-      true_from_ne_false (crash q) (λ alive.
-      both_ways (gone past d q)
-      (or_from (is_down past q) (logs past q d)
-      (false_from_ne_true (is_down past q) (λ down. both_ways (crash q) alive (may.down q below down)))
-      (ap (λ e. logs past q e) (sym (same_det crash p orphan)) ∙ orphan.lost q below alive)) out)
+  crash_contains crash p may orphan q below out = grind (arith, same_det crash p orphan)
 
   -- what an orphan under whatever crash set is
   pub orphan_without : (crash : ℕ → Bool) (p : ℕ) → IsOrphan n past k crash p → (is_stable past d ≡ false) × (logs past p d ≡ false)
-  orphan_without crash p o = (
-    ap (λ e. is_stable past e) (sym (same_det crash p o)) ∙ o.unstable,
-    ap (λ e. logs past p e) (sym (same_det crash p o)) ∙ o.lost p o.process o.survives,
-  )
+  orphan_without crash p o = grind (arith, same_det crash p o)
 
   -- a delivery that has an orphan is exposed
   pub exposed : HasOrphan n f past k → IsExposed n f past k d
-  exposed has =
-      let o = has.is_orphan in
-      let without = orphan_without has.crash has.orphan o in
-      record {
-        unstable = without.0;
-        few = omega (arith, has.may_crash.few, count_below-within n (gone past d) has.crash (crash_contains has.crash has.orphan has.may_crash o));
-        orphan = has.orphan;
-        process = o.process;
-        depends = o.depends;
-        without = without.1;
-      }
+  exposed has = grind (arith, orphan_without, count_below-within, crash_contains)
 
   -- those who are down or hold the determinant are a crash set, where they are few
   pub gone_crash : count_below n (gone past d) ≤ f → IsCrashSet n f past (gone past d)
@@ -43,24 +25,11 @@ module _ (n f : ℕ) (past : List Entry) (k : ℕ) (d : Det) (at : det_at past k
 
   -- under the crash of just the down processes and the holders a dependent that is no holder is an orphan
   pub gone_orphan : (p : ℕ) → p < n → is_stable past d ≡ false → Depends past k p → logs past p d ≡ false → IsOrphan n past k (gone past d) p
-  gone_orphan p below unstable depends without = record {
-    process = below;
-    depends = depends;
-    survives = or_from (is_down past p) (logs past p d) depends.up without;
-    det = d;
-    delivered = at;
-    unstable = unstable;
-    lost = λ q _ alive. (or_parts (is_down past q) (logs past q d) alive).1;
-  }
+  gone_orphan p below unstable depends without = grind arith
 
   -- and one that is exposed has an orphan
   pub unexposed : IsExposed n f past k d → HasOrphan n f past k
-  unexposed e = record {
-    crash = gone past d;
-    orphan = e.orphan;
-    may_crash = gone_crash e.few;
-    is_orphan = gone_orphan e.orphan e.process e.unstable e.depends e.without;
-  }
+  unexposed e = grind (arith, gone_crash e.few, gone_orphan e.orphan e.process e.unstable e.depends e.without)
 
 -- orphans are told by counting: where the counts expose a delivery it has an orphan, and only there
 pub counted : OrphansAreCounted
@@ -72,13 +41,7 @@ contained n f past k d crash p at = crash_contains n f past k d at crash p
 
 -- those who are down or hold the determinant are a crash set themselves, under which there is the least orphan
 pub gone_is : GoneIsCrashSet
-gone_is n f past k d at e = (
-  gone_crash n f past k d at e.few,
-  λ p. (
-    λ o. (o.process, o.depends, (orphan_without n f past k d at (gone past d) p o).1),
-    λ h. gone_orphan n f past k d at p h.0 e.unstable h.1 h.2,
-  ),
-)
+gone_is n f past k d at e = grind (arith, gone_crash n f past k d at e.few, orphan_without, gone_orphan)
 
 -- what a state that is safe for n says of each delivery
 covered : (n f : ℕ) (past : List Entry) → n ≤ f → IsSafe n f past → (k : ℕ) (d : Det) → det_at past k ≡ Some d → (is_stable past d ≡ true) ⊎ ((p : ℕ) → p < n → Depends past k p → logs past p d ≡ true)
@@ -97,15 +60,7 @@ covered n f past enough safe k d at =
     ] refl
 
 safe_from_covered : (n f : ℕ) (past : List Entry) → n ≤ f → ((k : ℕ) (d : Det) → det_at past k ≡ Some d → (is_stable past d ≡ true) ⊎ ((p : ℕ) → p < n → Depends past k p → logs past p d ≡ true)) → IsSafe n f past
-safe_from_covered n f past enough each = record {
-  few_down = omega (arith, enough, count_below-le n (is_down past));
-  no_orphan = λ k has.
-      let o = has.is_orphan in
-      elim (each k o.det o.delivered) [
-        | inl stable ↦ both_ways (is_stable past o.det) o.unstable stable
-        | inr held ↦ both_ways (logs past has.orphan o.det) (o.lost has.orphan o.process o.survives) (held has.orphan o.process o.depends)
-      ];
-}
+safe_from_covered n f past enough each = grind (arith, count_below-le n (is_down past))
 
 -- for f not below n an instant is safe where each determinant is stable or logged by all who depend, and only there
 pub no_orphans : NoOrphansCondition

@@ -1,5 +1,6 @@
 -- Neighbouring parts of the deliveries that are followed.
-use Rattle.causal_audit.proofs.Common.{ℕ, ◌≡◌, ◌+◌, ◌-◌, ◌≤◌, ◌++◌, Option, drop, length, take, ap, sym, subst, ◌∙◌, arith, take-add, drop-drop, take_all}
+use Rattle.std.proofs.lemmas.Grind.{common_steps}
+use Rattle.causal_audit.proofs.Common.{ℕ, ◌≡◌, ◌+◌, ◌-◌, ◌≤◌, ◌++◌, Option, drop, length, take, ap, subst, ◌∙◌, arith, take-add, drop-drop}
 use Rattle.causal_audit.specs.declared.breach.Breach.{Breach}
 use Rattle.causal_audit.specs.Earlier.{earlier}
 use Rattle.causal_audit.specs.Parts.{Followed, LeastAmongBy, LeastOf, part_of}
@@ -7,22 +8,18 @@ use Rattle.causal_audit.proofs.AmongLemmas.{among_both}
 
 -- all of them are a part
 pub whole : (followed : Followed) → part_of followed 0 (length followed.positions) ≡ followed
-whole followed =
-    let low : length followed.positions ≤ length followed.positions - 0 = omega arith in
-    ap (λ positions. record { run = followed.run; f = followed.f; end = followed.end; positions = positions }) (take_all (length followed.positions - 0) followed.positions low)
+whole followed = grind (arith, common_steps)
 
 -- the least breach of two neighbouring parts is the one of theirs that comes first
 pub least_of_both : (followed : Followed) (from mid to : ℕ) (one other : Option Breach) → from ≤ mid → mid ≤ to
     → LeastOf (part_of followed from mid) one → LeastOf (part_of followed mid to) other → LeastOf (part_of followed from to) (earlier one other)
-least_of_both followed from mid to one other low high first second =
-    let xs = followed.positions in
+least_of_both followed from mid to one other low high first second = let xs = followed.positions in
     let n = mid - from in
     let m = to - mid in
     let r = followed.run in
     let count : n + m ≡ to - from = omega (arith, low, high) in
     let place : from + n ≡ mid = omega (arith, low) in
     let rest : take m (drop n (drop from xs)) ≡ take m (drop mid xs) = ap (take m) (drop-drop n from xs ∙ ap (λ i. drop i xs) place) in
-    let both : take n (drop from xs) ++ take m (drop mid xs) ≡ take (to - from) (drop from xs) =
-    ap (λ list. take n (drop from xs) ++ list) (sym rest) ∙ sym (take-add n m (drop from xs)) ∙ ap (λ i. take i (drop from xs)) count in
+    let both : take n (drop from xs) ++ take m (drop mid xs) ≡ take (to - from) (drop from xs) = grind (arith, take-add) in
     subst (λ list. LeastAmongBy r followed.f followed.end list (earlier one other)) both
     (among_both r followed.f followed.end (take n (drop from xs)) (take m (drop mid xs)) one other first second)

@@ -43,20 +43,9 @@ module _ (x : Entry) (past : List Entry) (events : List Event) (e : Event) (s : 
   module _ (mine : (i p q l : ℕ) → IsEventOf past i p l → actor x ≡ Some q → (lane_of events i ≡ e.lane) ↔ ((p ≡ q) × (l ≡ lane past q))) where
     same_lane : (i j p q l m : ℕ) → IsEventOf (x ∷ past) i p l → IsEventOf (x ∷ past) j q m → (lane_of (events ++ e ∷ []) i ≡ lane_of (events ++ e ∷ []) j) ↔ ((p ≡ q) × (l ≡ m))
     same_lane i j p q l m (inl a) (inl b) = iff_at _ _ _ _ (old_lane i p l a) (old_lane j q m b) (s.same_lane i j p q l m a b)
-    same_lane i j p q l m (inl a) (inr b) =
-        let f = mine i p q l a b.1 in (
-          λ h. let k = f.0 (sym (old_lane i p l a) ∙ h ∙ new_lane j b.0) in (k.0, k.1 ∙ b.2),
-          λ k. old_lane i p l a ∙ f.1 (k.0, k.1 ∙ sym b.2) ∙ sym (new_lane j b.0),
-        )
-    same_lane i j p q l m (inr a) (inl b) =
-        let f = mine j q p m b a.1 in (
-          λ h. let k = f.0 (sym (old_lane j q m b) ∙ sym h ∙ new_lane i a.0) in (sym k.0, sym a.2 ∙ sym k.1),
-          λ k. new_lane i a.0 ∙ sym (f.1 (sym k.0, sym k.1 ∙ sym a.2)) ∙ sym (old_lane j q m b),
-        )
-    same_lane i j p q l m (inr a) (inr b) = (
-      λ h. let same = same_actor x p q a.1 b.1 in (same, sym a.2 ∙ ap (λ y. lane past y) same ∙ b.2),
-      λ k. new_lane i a.0 ∙ sym (new_lane j b.0),
-    )
+    same_lane i j p q l m (inl a) (inr b) = grind (arith, old_lane i p l a, new_lane j b.0)
+    same_lane i j p q l m (inr a) (inl b) = grind (arith, old_lane j q m b, new_lane i a.0)
+    same_lane i j p q l m (inr a) (inr b) = grind (arith, same_actor x p q a.1 b.1, new_lane i a.0, new_lane j b.0)
 
     receives : Receives x e.send → (j i : ℕ) → j < length (x ∷ past) → (send_of (events ++ e ∷ []) j ≡ Some i) ↔ Delivers (x ∷ past) j i
     receives sends j i low =
@@ -173,24 +162,10 @@ module _ (n : ℕ) (past : List Entry) (c : Timeline) (present : List ℕ) (who 
       ]
 
   moved_within : (p : ℕ) → p < n → slice_index moved p < c.lanes + 1
-  moved_within p low =
-      elim (eqb_tells p who.0) [
-        | inl k ↦ omega (arith, set_at p k.1)
-        | inr k ↦ omega (arith, other_is p k.1, s.within p low)
-      ]
+  moved_within p low = grind (arith, set_at, other_is)
 
   moved_apart : (p q : ℕ) → p < n → q < n → slice_index moved p ≡ slice_index moved q → p ≡ q
-  moved_apart p q in_p in_q same =
-      elim (eqb_tells p who.0) [
-        | inl j ↦ elim (eqb_tells q who.0) [
-          | inl k ↦ j.1 ∙ sym k.1
-          | inr k ↦ absurd (omega (arith, same, set_at p j.1, other_is q k.1, s.within q in_q))
-        ]
-        | inr j ↦ elim (eqb_tells q who.0) [
-          | inl k ↦ absurd (omega (arith, same, set_at q k.1, other_is p j.1, s.within p in_p))
-          | inr k ↦ s.apart p q in_p in_q (sym (other_is p j.1) ∙ same ∙ other_is q k.1)
-        ]
-      ]
+  moved_apart p q in_p in_q same = grind (arith, set_at, other_is)
 
   receives_none : Receives x e.send
   receives_none i = (λ h. absurd (let k : None ≡ Some i = sym send ∙ h in cc), λ h. absurd (false≢true h))

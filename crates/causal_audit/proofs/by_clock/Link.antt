@@ -37,9 +37,7 @@ module _ (n : ℕ) (past : List Entry) (formed : AreAccepted n past) (events : L
 
   -- two events of one lane of the clock are of one lane of a process
   pub same_event : (i k p q l m : ℕ) → IsEventOf past i p l → IsEventOf past k q m → lane_of events i ≡ lane_of events k → IsEventOf past i q m
-  same_event i k p q l m at to same =
-      let one = (stands.same_lane i k p q l m at to).0 same in
-      subst (λ x. IsEventOf past i q x) one.1 (subst (λ x. IsEventOf past i x l) one.0 at)
+  same_event i k p q l m at to same = grind arith
 
   pub in_run : {i j : ℕ} → clock.Reaches events i j → (p l : ℕ) → IsEventOf past i p l → (k q m : ℕ) → j ≤ k → IsEventOf past k q m → lane_of events j ≡ lane_of events k → Reaches past i k
   in_run (clock.itself {i = i} h) p l at k q m up to same = reach_later past i i k q m (itself p l at) up (same_event i k p q l m at to same) to

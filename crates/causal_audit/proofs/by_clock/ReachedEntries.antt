@@ -1,6 +1,5 @@
 -- Which entries a delivery reaches, at each instant and in the whole run, and how one is followed from change to change.
-use Rattle.causal_audit.proofs.Common.{ℕ, zero, suc, ◌≡◌, ◌-◌, ◌<◌, ◌≤◌, ◌==◌, inl, false, Result, Ok, Err, List, [], ◌∷◌, length, drop, sym, arith, inr, Bool, true, Some, refl, ap, subst, ◌∙◌, ◌+◌, get_or, Option, OnOk, ◌↔◌, ◌⊎◌, ◌||◌, Contains, false≢true, or_cases, eqb-true, eq-eqb, nat_tests, Entry, instant, det_at, lane, AreAccepted, Recording, IsWellFormed, IsEventOf, Reaches, actor, in_order, by_message, itself, onward, Depends, reaches_old, event_below, reaches_newest, ReachesNewest, is_newest, has, in_lane, through_message, accepted_forward, Pid, Det, Send, Deliver, entries_of, accepted_then, det_then, instant_length}
-use Rattle.std.specs.Result.{is_err}
+use Rattle.causal_audit.proofs.Common.{ℕ, zero, suc, ◌≡◌, ◌-◌, ◌<◌, ◌≤◌, ◌==◌, inl, List, [], ◌∷◌, length, drop, sym, arith, inr, Bool, true, Some, refl, ap, subst, ◌∙◌, ◌+◌, get_or, Option, ◌↔◌, ◌⊎◌, ◌||◌, Contains, or_cases, eqb-true, eq-eqb, nat_tests, Entry, instant, det_at, lane, AreAccepted, Recording, IsWellFormed, IsEventOf, Reaches, actor, in_order, by_message, itself, onward, Depends, reaches_old, event_below, reaches_newest, ReachesNewest, is_newest, has, in_lane, through_message, accepted_forward, Pid, Det, Send, Deliver, entries_of, accepted_then, det_then, instant_length}
 use Rattle.causal_clock.specs.declared.Event.{Event}
 use Rattle.causal_clock.specs.Precedence as clock
 use Rattle.causal_audit.proofs.Between.{reaches_more, known_already, quiet_step}
@@ -46,11 +45,6 @@ event_kept (suc m) (e ∷ past) i p l at = inl (event_kept m past i p l at)
 -- an event at an instant is one of the run
 pub event_whole : (past : List Entry) (t i p l : ℕ) → IsEventOf (instant past t) i p l → IsEventOf past i p l
 event_whole past t i p l at = event_kept (length past - t) past i p l at
-
--- what holds where a call succeeded
-pub if_ok : {A B : Type 0} (r : Result A B) (P : Type 0) → is_err r ≡ false → OnOk r P → P
-if_ok (Ok a) P h k = k
-if_ok (Err e) P h k = absurd (false≢true (sym h))
 
 -- ==== which entries a delivery reaches, as its messages are followed
 

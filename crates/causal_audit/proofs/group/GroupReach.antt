@@ -1,5 +1,5 @@
 -- Which of a few deliveries reach the entries of a walk, with one entry more.
-use Rattle.causal_audit.proofs.Common.{ℕ, ◌≡◌, ◌≢◌, ◌+◌, ◌-◌, ◌<◌, ◌≤◌, inl, inr, Bool, true, false, cond, List, ◌∷◌, length, Some, None, entry_at, message_sent, refl, sym, ap, subst, ◌∙◌, arith, ◌↔◌, ◌⊎◌, ◌||◌, ◌&&◌, ◌==◌, not, set, nat_cmp, nat_cmp_total, FinSet, contains, empty, len, len-insert, remove, same_set, nat_cmp-IsAntisymmetric, union, difference, insert, contains-empty, contains-union, contains-difference, false≢true, and_parts, eqb-true, eq-eqb, ne_eqb, eqb_tells, nat_tests, get_or-set_same, get_or-set_other, Pid, Det, Entry, Send, Deliver, Stable, Crash, Restart, Forget, det_at, is_down, lane, AreAccepted, actor, Reaches, Depends, accepted_forward, delivers_sent, delivers_up, event_below, reaches_begins, reaches_old, depends_restarted}
+use Rattle.causal_audit.proofs.Common.{ℕ, ◌≡◌, ◌≢◌, ◌+◌, ◌-◌, ◌<◌, ◌≤◌, inl, inr, Bool, true, false, cond, List, ◌∷◌, length, Some, None, entry_at, message_sent, refl, sym, ap, subst, ◌∙◌, arith, ◌↔◌, ◌⊎◌, ◌||◌, ◌&&◌, ◌==◌, not, set, nat_cmp, nat_cmp_total, FinSet, contains, empty, len, len-insert, remove, same_set, nat_cmp-IsAntisymmetric, union, difference, insert, contains-empty, contains-union, contains-difference, false≢true, eqb-true, eq-eqb, ne_eqb, eqb_tells, nat_tests, get_or-set_same, get_or-set_other, Pid, Det, Entry, Send, Deliver, Stable, Crash, Restart, Forget, det_at, is_down, lane, AreAccepted, actor, Reaches, Depends, accepted_forward, delivers_sent, delivers_up, event_below, reaches_begins, reaches_old, depends_restarted}
 use Rattle.causal_audit.specs.declared.group.reach.ReachingDeliveries.{ReachingDeliveries}
 use Rattle.causal_audit.specs.Inside.Group.Walk.{HasRow, IsNewly, TellRows, TellsReached, row, row_of}
 use Rattle.causal_audit.specs.Inside.DeliveryStates.{TellsNextReach}
@@ -42,13 +42,7 @@ module _ (n : ℕ) (past : List Entry) (start k j : ℕ) (rows present : Sets) (
 
     -- an entry that turns nobody, and adds nobody
     depends_same : ((p : ℕ) → IsNoTurn e past p) → ((p : ℕ) → actor e ≡ Some p → Reaches (e ∷ past) k (length past) → Depends past k p) → (p : ℕ) → (contains (row present p) j ≡ true) ↔ Depends (e ∷ past) k p
-    depends_same no_turn known p = (
-      λ h. depends_more e past k p (no_turn p) ((told.depends p).0 h),
-      λ d. elim (depends_before n e past k p formed (no_turn p) d) [
-        | inl old ↦ (told.depends p).1 old
-        | inr new ↦ (told.depends p).1 (known p new.0 new.1)
-      ],
-    )
+    depends_same no_turn known p = grind (arith, depends_more, depends_before)
 
     -- a turn of one process, on which nobody depends then
     depends_removed : (w : ℕ) → w < length present → actor e ≡ None → ((p : ℕ) → p ≢ w → IsNoTurn e past p) → (Depends (e ∷ past) k w → ⊥) → (p : ℕ) → (contains (row (set present w empty) p) j ≡ true) ↔ Depends (e ∷ past) k p
@@ -72,14 +66,10 @@ module _ (n : ℕ) (past : List Entry) (start k j : ℕ) (rows present : Sets) (
   -- a send
   pub sent : (d : Det) (from to : Pid) (ssn here : ℕ) → AreAccepted n (Send from to ssn ∷ past) → length past ≡ here → HasRow start rows here → (k ≡ length past → det_at (Send from to ssn ∷ past) k ≡ Some d)
       → TellRows (Send from to ssn ∷ past) start k j (set rows (here - start) (row present from.0)) present × IsNewly past (Send from to ssn) k j empty
-  sent d from to ssn here formed long inside at =
-      let e = Send from to ssn in
+  sent d from to ssn here formed long inside at = let e = Send from to ssn in
       let hit = row present from.0 in
       let tells : TellsNextReach past e k (contains hit j) = send_tells n past k (λ p. contains (row present p) j) told.depends d from to ssn formed at in
-      let known : (p : ℕ) → actor e ≡ Some p → Reaches (e ∷ past) k (length past) → Depends past k p = λ p of reach.
-      let same : from.0 ≡ p = let x : Some from.0 ≡ Some p = of in cc in
-      subst (Depends past k) same ((told.depends from.0).0 ((tells p of).1 reach))
-      in (
+      let known : (p : ℕ) → actor e ≡ Some p → Reaches (e ∷ past) k (length past) → Depends past k p = grind arith in (
         record {
           early = told.early;
           behind = behind_next e formed (set rows (here - start) hit) (λ v late low. get_or-set_other rows (here - start) (v - start) hit empty (λ is. omega (arith, is, late, low, long, inside.0)))
@@ -91,10 +81,7 @@ module _ (n : ℕ) (past : List Entry) (start k j : ℕ) (rows present : Sets) (
 
   -- an entry that is no event
   idle : (e : Entry) → AreAccepted n (e ∷ past) → actor e ≡ None → message_sent e ≡ None → (now : Sets) → ((p : ℕ) → (contains (row now p) j ≡ true) ↔ Depends (e ∷ past) k p) → TellRows (e ∷ past) start k j rows now × IsNewly past e k j empty
-  idle e formed none unsent now depends = (
-    record { early = told.early; behind = behind_same e formed unsent; depends = depends },
-    record { sound = λ h. absurd (none_in j h); complete = λ p of. absurd (let x : None ≡ Some p = sym none ∙ of in cc) },
-  )
+  idle e formed none unsent now depends = grind (arith, behind_same e formed unsent, none_in)
 
   -- an entry of stable storage
   pub stored : (det : Det) → AreAccepted n (Stable det ∷ past) → TellRows (Stable det ∷ past) start k j rows present × IsNewly past (Stable det) k j empty
@@ -200,10 +187,7 @@ seen x y t start rows present after now own newly same sees n past k j d few for
 
 -- none reaches a send before the walk
 pub told_before : (reach : ReachingDeliveries) (v : ℕ) → v < reach.start → TellsReached reach v empty
-told_before reach v before n past k j from to ssn formed is at = (
-  λ h. absurd (none_in j h),
-  λ reaches. absurd (omega (arith, before, is.early, reach_later n past formed k v reaches)),
-)
+told_before reach v before n past k j from to ssn formed is at = grind (arith, none_in, reach_later)
 
 -- before the walk
 pub begun : (past : List Entry) (start k j : ℕ) (rows present : Sets) → length past ≡ start → start ≤ k → ((p : ℕ) → row present p ≡ empty) → TellRows past start k j rows present
@@ -236,14 +220,8 @@ fewer s p within =
 
 -- what is in a set without p is in it, and is not p
 pub left_in : (s : FinSet nat_cmp) (p j : ℕ) → contains (remove s p) j ≡ true → (contains s j ≡ true) × (j ≢ p)
-left_in s p j h =
-    let parts = and_parts (not (p == j)) (contains s j) (sym (removed s p j) ∙ h) in
-    (parts.1, λ is. false≢true (sym (ap not (eq-eqb p j (sym is))) ∙ parts.0))
+left_in s p j h = grind (arith, removed s p j, eq-eqb)
 
 -- what is not in it without p is p, or was not in it
 pub left_out : (s : FinSet nat_cmp) (p j : ℕ) → contains (remove s p) j ≡ false → (j ≡ p) ⊎ (contains s j ≡ false)
-left_out s p j h =
-    elim (eqb_tells p j) [
-      | inl here ↦ inl (sym here.1)
-      | inr apart ↦ inr (sym (ap (λ b. not b && contains s j) apart.0) ∙ sym (removed s p j) ∙ h)
-    ]
+left_out s p j h = grind (arith, removed s p j)

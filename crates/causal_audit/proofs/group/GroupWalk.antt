@@ -1,5 +1,5 @@
 -- A walk over the entries for the deliveries of a group.
-use Rattle.causal_audit.proofs.Common.{ℕ, All, cases_lt, ◌≡◌, ◌+◌, ◌-◌, ◌++◌, ◌<◌, inl, inr, Bool, true, false, List, [], ◌∷◌, length, Option, Some, None, refl, sym, ap, subst, ◌∙◌, arith, ◌≤◌, ◌⊎◌, Contains, ◌&&◌, ◌==◌, not, ◌↔◌, ◌||◌, nat_cmp, FinSet, contains, remove, empty, union, difference, contains-empty, contains-union, contains-difference, insert, or_cases, or_left, or_right, false≢true, false_from_ne_true, eqb-true, eq-eqb, and_from, cases_Bool, Contains-push, Contains-push_cases, Contains-append_left, Contains-get_or, length-map, length-set, get_or-map, get_or-set_same, get_or-set_other, Det, Entry, instant, det_at, has, logs, entry_at, message_sent, Recording, AreAccepted, IsWellFormed, Depends, HasOrphan, accepted_then, det_then, det_within, instant_length, nat_cmp_total, eqb_tells, nat_tests, Pid, Deliver, Crash, Restart, Forget, Send, Stable, max_entries, set}
+use Rattle.causal_audit.proofs.Common.{ℕ, All, cases_lt, ◌≡◌, ◌+◌, ◌++◌, ◌<◌, inl, inr, Bool, true, false, List, [], ◌∷◌, length, Option, Some, None, refl, sym, ap, subst, ◌∙◌, arith, ◌≤◌, ◌⊎◌, Contains, ◌&&◌, ◌==◌, not, ◌↔◌, ◌||◌, nat_cmp, FinSet, contains, remove, empty, union, difference, contains-empty, contains-union, contains-difference, insert, false≢true, false_from_ne_true, eqb-true, eq-eqb, cases_Bool, Contains-push, Contains-push_cases, Contains-append_left, Contains-get_or, length-map, length-set, get_or-map, get_or-set_same, get_or-set_other, Det, Entry, instant, det_at, has, logs, entry_at, message_sent, Recording, AreAccepted, IsWellFormed, Depends, HasOrphan, accepted_then, det_then, det_within, instant_length, nat_cmp_total, nat_tests, Pid, Deliver, Crash, Restart, Forget, Send, Stable, max_entries, set}
 use Rattle.causal_audit.specs.declared.breach.Breach.{Breach}
 use Rattle.causal_audit.specs.declared.group.copies.Copies.{Copies}
 use Rattle.causal_audit.specs.declared.group.suspects.Step.{Step}
@@ -51,13 +51,7 @@ apart_or a l b h = grind (arith, nat_tests)
 
 -- a delivery to a process that logs d already changes nothing of them
 copies_held : (e : Entry) (past : List Entry) (d : Det) (copies : Copies) → IsDeliveredTo e past d → AreCopies past d copies → AreCopies (e ∷ past) d copies
-copies_held (Deliver to send rsn listed) past d copies held are = record {
-  holders = λ p. are.holders p ∙ elim (eqb_tells to.0 p) [
-    | inl is ↦ held_or ((to.0 == p) && has listed d) (logs past p d) (subst (λ q. logs past q d ≡ true) is.1 held)
-    | inr apart ↦ apart_or (to.0 == p) (has listed d) (logs past p d) apart.0
-  ];
-  stable = are.stable;
-}
+copies_held (Deliver to send rsn listed) past d copies held are = grind (arith, held_or, apart_or)
 copies_held (Send from to ssn) past d copies held are = absurd held
 copies_held (Stable det) past d copies held are = absurd held
 copies_held (Crash who) past d copies held are = absurd held
@@ -177,13 +171,7 @@ pub record HaveJudged (r : Recording) (f : ℕ) (opened : List OpenDelivery) (t 
 
 -- while all places are left, no breach has been found
 pub judged_none : (r : Recording) (f : ℕ) (opened : List OpenDelivery) (t : ℕ) (places : FinSet nat_cmp) → HaveJudged r f opened t places places None
-judged_none r f opened t places = record {
-  left = λ j h. h;
-  done = [];
-  inside = λ k listed. absurd (omega (arith, listed.1));
-  each = λ j h out. absurd (false≢true (sym out ∙ h));
-  found = among_none r f (t + 1);
-}
+judged_none r f opened t places = grind (arith, among_none r f (t + 1))
 
 -- once one of the places left is judged, it is left no longer, and its breach counts
 pub judged_more : (r : Recording) (f : ℕ) (opened : List OpenDelivery) (t : ℕ) (places rest : FinSet nat_cmp) (least found : Option Breach) (p : ℕ) → contains rest p ≡ true → HaveJudged r f opened t places rest least
@@ -191,10 +179,7 @@ pub judged_more : (r : Recording) (f : ℕ) (opened : List OpenDelivery) (t : �
 judged_more r f opened t places rest least found p within so_far among first = record {
   left = λ j h. so_far.left j (left_in rest p j h).0;
   done = so_far.done ++ position_at opened p ∷ [];
-  inside = λ k listed. elim (Contains-push_cases so_far.done (position_at opened p) k listed) [
-    | inl old ↦ so_far.inside k old
-    | inr new ↦ subst (Contains (positions_of opened)) new among
-  ];
+  inside = λ k listed. grind (arith, Contains-push_cases so_far.done (position_at opened p) k listed);
   each = λ j h out. elim (left_out rest p j out) [
     | inl is ↦ subst (λ x. Contains (so_far.done ++ position_at opened p ∷ []) (position_at opened x)) (sym is) (Contains-push so_far.done (position_at opened p))
     | inr gone ↦ Contains-append_left so_far.done (position_at opened p ∷ []) (position_at opened j) (so_far.each j h gone)
@@ -226,10 +211,7 @@ copied_next r opened s step all held places old new are before quiet others rene
 
 -- a place with a position among the deliveries'
 pub place_of : (opened : List OpenDelivery) (k : ℕ) → Contains (positions_of opened) k → (j : ℕ) × (j < length opened) × (position_at opened j ≡ k)
-place_of opened k listed =
-    let zero : OpenDelivery = record { position = 0; until = 0 } in
-    let low : listed.0 < length opened = omega (arith, listed.1, length-map opened position) in
-    (listed.0, low, sym (get_or-map position opened listed.0 zero k low) ∙ listed.2)
+place_of opened k listed = grind (arith, position, length-map, get_or-map)
 
 -- where all places have been judged, and the others have none, it is the least of all
 pub least_in_all : (r : Recording) (f : ℕ) (opened : List OpenDelivery) (t : ℕ) (places rest : FinSet nat_cmp) (least : Option Breach) → HaveJudged r f opened t places rest least → ((j : ℕ) → contains rest j ≡ false)
@@ -257,45 +239,33 @@ apart_and a c h k = grind (arith, nat_tests)
 module _ (old new : List (FinSet nat_cmp)) (p : ℕ) (places : FinSet nat_cmp) (others : (i : ℕ) → (i ≡ p → ⊥) → row new i ≡ row old i)
     (here : (j : ℕ) → contains (row new p) j ≡ true → contains places j ≡ true) (past : List Entry) (j : ℕ) (d : Det) (so : IsHeldSo past j d old) where
   at_row : (q : ℕ) → contains (row new q) j ≡ true → (((p == q) ≡ true) × (p ≡ q) × (contains places j ≡ true)) ⊎ (((p == q) ≡ false) × (logs past q d ≡ true))
-  at_row q h = elim (eqb_tells p q) [
-    | inl is ↦ inl (is.0, is.1, here j (subst (λ i. contains (row new i) j ≡ true) (sym is.1) h))
-    | inr apart ↦ inr (apart.0, so q (subst (λ s. contains s j ≡ true) (others q (λ e. apart.1 (sym e))) h))
-  ]
+  at_row q h = grind arith
 
 -- after a delivery its receiver is known to hold what it was, and what is listed
 pub held_delivery : (to : Pid) (send rsn : ℕ) (listed : List Det) (mentioned : FinSet nat_cmp) (old new : List (FinSet nat_cmp)) → ((i : ℕ) → (i ≡ to.0 → ⊥) → row new i ≡ row old i)
     → ((j : ℕ) → contains (row new to.0) j ≡ true → contains (union (row old to.0) mentioned) j ≡ true)
     → (past : List Entry) (j : ℕ) (d : Det) → contains mentioned j ≡ has listed d → IsHeldSo past j d old → IsHeldSo (Deliver to send rsn listed ∷ past) j d new
-held_delivery to send rsn listed mentioned old new others here past j d says so q h =
-    elim (at_row old new to.0 (union (row old to.0) mentioned) others here past j d so q h) [
-      | inl is ↦ elim (or_cases (contains (row old to.0) j) (contains mentioned j) (sym (contains-union nat_cmp_total (row old to.0) mentioned j) ∙ is.2)) [
-        | inl had ↦ or_right ((to.0 == q) && has listed d) (logs past q d) (subst (λ i. logs past i d ≡ true) is.1 (so to.0 had))
-        | inr now ↦ or_left ((to.0 == q) && has listed d) (logs past q d) (and_from (to.0 == q) (has listed d) is.0 (sym says ∙ now))
-      ]
-      | inr other ↦ or_right ((to.0 == q) && has listed d) (logs past q d) other.1
-    ]
+held_delivery to send rsn listed mentioned old new others here past j d says so q h = grind (arith, at_row, contains-union)
 
 -- after a forgetting its process is known to hold what it was, but for what is listed
 pub held_forget : (who : Pid) (listed : List Det) (mentioned : FinSet nat_cmp) (old new : List (FinSet nat_cmp)) → ((i : ℕ) → (i ≡ who.0 → ⊥) → row new i ≡ row old i)
     → ((j : ℕ) → contains (row new who.0) j ≡ true → contains (difference (row old who.0) mentioned) j ≡ true)
     → (past : List Entry) (j : ℕ) (d : Det) → contains mentioned j ≡ has listed d → IsHeldSo past j d old → IsHeldSo (Forget who listed ∷ past) j d new
 held_forget who listed mentioned old new others here past j d says so q h =
-    elim (at_row old new who.0 (difference (row old who.0) mentioned) others here past j d so q h) [
-      | inl is ↦
-          let left = parts (contains (row old who.0) j) (contains mentioned j) (sym (contains-difference nat_cmp_total (row old who.0) mentioned j) ∙ is.2) in
-          not_second (who.0 == q) (has listed d) (logs past q d) (sym says ∙ left.1) (subst (λ i. logs past i d ≡ true) is.1 (so who.0 left.0))
-      | inr other ↦ not_first (who.0 == q) (has listed d) (logs past q d) other.0 other.1
-    ]
+    grind (
+      arith,
+      at_row old new who.0 (difference (row old who.0) mentioned) others here past j d so q h,
+      parts,
+      contains-difference nat_cmp_total (row old who.0) mentioned j,
+      not_second,
+      not_first,
+    )
 
 -- after a crash its process is known to hold nothing
 pub held_crash : (who : Pid) (old new : List (FinSet nat_cmp)) → ((i : ℕ) → (i ≡ who.0 → ⊥) → row new i ≡ row old i)
     → ((j : ℕ) → contains (row new who.0) j ≡ true → contains {R = nat_cmp} empty j ≡ true)
     → (past : List Entry) (j : ℕ) (d : Det) → IsHeldSo past j d old → IsHeldSo (Crash who ∷ past) j d new
-held_crash who old new others here past j d so q h =
-    elim (at_row old new who.0 empty others here past j d so q h) [
-      | inl is ↦ absurd (false≢true (sym (contains-empty nat_cmp j) ∙ is.2))
-      | inr other ↦ apart_and (who.0 == q) (logs past q d) other.0 other.1
-    ]
+held_crash who old new others here past j d so q h = grind (arith, at_row, contains-empty, apart_and)
 
 -- ==== a walk over the entries for the deliveries of a group
 
@@ -334,23 +304,14 @@ mentions_here (Forget who listed) j here places d told marked = ap (λ s. contai
 -- rows that are marked from t on are so from the next instant on, where only the row of t changes
 pub marked_next : (past : List Entry) (start : ℕ) (opened : List OpenDelivery) (t : ℕ) (old new : Sets) → length new ≡ length old → ((i : ℕ) → t < start + i → row new i ≡ row old i) → AreMarked past start t opened (length opened) old
     → AreMarked past start (t + 1) opened (length opened) new
-marked_next past start opened t old new count later marked j low i d e late inside at there none =
-    ap (λ s. contains s j) (later i (omega (arith, late))) ∙ marked j low i d e (omega (arith, late)) (omega (arith, inside, count)) at there none
+marked_next past start opened t old new count later marked j low i d e late inside at there none = grind arith
 
 -- what a step is told
 pub is_step : (r : Recording) (opened : List OpenDelivery) (start : ℕ) (room : WalkBuffers) (s : Step) → IsFollowed r opened start s.t room → IsWellFormed r → s.t < length r.past → instant r.past (s.t + 1) ≡ s.entry.now ∷ instant r.past s.t
     → ((j : ℕ) (d : Det) → j < length opened → det_at r.past (position_at opened j) ≡ Some d → IsNewly (instant r.past s.t) s.entry.now (position_at opened j) j s.newly)
     → length r.past ≤ max_entries → HasRow start room.reach.rows s.t → IsTold s.entry.now (row_of start room.reach.rows s.t) s.mentioned → entry_at r.past s.t ≡ Some s.entry.now
     → ((j : ℕ) → j < length opened → IsDeliveryAt r.past (position_at opened j)) → IsStep r opened s
-is_step r opened start room s followed formed below next newly short inside told there made = record {
-  formed = formed;
-  short = short;
-  below = below;
-  next = next;
-  made = made;
-  newly = newly;
-  mentioned = λ j d low at. mentions_here s.entry.now j (row_of start room.reach.rows s.t) s.mentioned d told (let here : start + (s.t - start) ≡ s.t = omega (arith, inside.0) in followed.marked j low (s.t - start) d s.entry.now (omega (arith, here)) (omega (arith, inside.0, inside.1)) at (ap (entry_at r.past) here ∙ there));
-}
+is_step r opened start room s followed formed below next newly short inside told there made = grind (arith, mentions_here)
 
 -- where none is the least there is none
 pub none_of_all : (r : Recording) (f end : ℕ) (opened : List OpenDelivery) → LeastAmongBy r f end (positions_of opened) None → HaveNone r f opened end
@@ -368,10 +329,7 @@ none_over r f t opened j low later none over u within has = elim (cases_lt t u) 
 
 -- it is not asked any more
 pub asked_less : (opened : List OpenDelivery) (t place : ℕ) (asked : FinSet nat_cmp) → AreAsked opened t asked → (opened_at opened place).until ≤ t → AreAsked opened t (remove asked place)
-asked_less opened t place asked are over = record {
-  places = λ j h. are.places j (left_in asked place j h).0;
-  over = λ j low out. elim (left_out asked place j out) [ inl is ↦ subst (λ i. (opened_at opened i).until ≤ t) (sym is) over | inr gone ↦ are.over j low gone ];
-}
+asked_less opened t place asked are over = grind (arith, left_in, left_out)
 
 -- and nothing changes
 pub judged_over : (r : Recording) (f : ℕ) (opened : List OpenDelivery) (t : ℕ) (places rest : FinSet nat_cmp) (least : Option Breach) (p : ℕ) → contains rest p ≡ true → HaveJudged r f opened t places rest least
@@ -381,16 +339,7 @@ judged_over r f opened t places rest (Some b) p within so_far among none = judge
 
 -- the places of one delivery more
 pub places_more : (places : FinSet nat_cmp) (place : ℕ) → ((j : ℕ) → (contains places j ≡ true) ↔ (j < place)) → (j : ℕ) → (contains (insert places place) j ≡ true) ↔ (j < place + 1)
-places_more places place are j = (
-  λ h. elim (or_cases (place == j) (contains places j) (sym (inserted places place j) ∙ h)) [
-    | inl now ↦ omega (arith, eqb-true place j now)
-    | inr old ↦ omega (arith, (are j).0 old)
-  ],
-  λ low. inserted places place j ∙ elim (eqb_tells place j) [
-    | inl now ↦ or_left (place == j) (contains places j) now.0
-    | inr apart ↦ or_right (place == j) (contains places j) ((are j).1 (let ne : place ≡ j → ⊥ = apart.1 in omega (arith, low, ne)))
-  ],
-)
+places_more places place are j = grind (arith, inserted places place j, eqb-true)
 
 -- ---- where they stand
 
@@ -404,24 +353,7 @@ pub record HavePassed (opened : List OpenDelivery) (t before passed : ℕ) (own 
 -- a delivery that stands at t is passed too
 pub passed_more : (opened : List OpenDelivery) (t before passed : ℕ) (own : FinSet nat_cmp) → HavePassed opened t before passed own → passed < length opened → position_at opened passed ≡ t
     → HavePassed opened t before (passed + 1) (insert own passed)
-passed_more opened t before passed own have low here = record {
-  from = omega (arith, have.from);
-  inside = omega (arith, low);
-  own_are = λ j. (
-    λ h. elim (or_cases (passed == j) (contains own j) (sym (inserted own passed j) ∙ h)) [
-      | inl now ↦ (omega (arith, eqb-true passed j now, have.from), omega (arith, eqb-true passed j now))
-      | inr old ↦ let is = (have.own_are j).0 old in (is.0, omega (arith, is.1))
-    ],
-    λ is. inserted own passed j ∙ elim (eqb_tells passed j) [
-      | inl now ↦ or_left (passed == j) (contains own j) now.0
-      | inr apart ↦ or_right (passed == j) (contains own j) ((have.own_are j).1 (is.0, let ne : passed ≡ j → ⊥ = apart.1 in omega (arith, is.1, ne)))
-    ],
-  );
-  stand = λ j late early. elim (cases_lt j passed) [
-    | inl old ↦ have.stand j late old
-    | inr new ↦ let same : passed ≡ j = omega (arith, new, early) in subst (λ i. position_at opened i ≡ t) same here
-  ];
-}
+passed_more opened t before passed own have low here = grind (arith, inserted, eqb-true)
 
 -- where the others stand later these are all
 module _ (opened : List OpenDelivery) (t before passed : ℕ) (own : FinSet nat_cmp) (have : HavePassed opened t before passed own) (are : ArePassed opened t before) (later : (j : ℕ) → passed ≤ j → j < length opened → t < position_at opened j) where
@@ -429,19 +361,10 @@ module _ (opened : List OpenDelivery) (t before passed : ℕ) (own : FinSet nat_
   early j low at = elim (cases_lt j passed) [ inl is ↦ is | inr beyond ↦ absurd (omega (arith, at, later j beyond low)) ]
 
   pub passed_all : ArePassed opened (t + 1) passed
-  passed_all = record {
-    inside = have.inside;
-    earlier = λ j low. (
-      λ is. elim (cases_lt j before) [ inl old ↦ omega (arith, (are.earlier j low).0 old) | inr new ↦ omega (arith, have.stand j new is) ],
-      λ at. early j low (omega (arith, at)),
-    );
-  }
+  passed_all = grind (arith, early)
 
   pub own_all : IsOwn opened t own
-  own_all j = (
-    λ h. let is = (have.own_are j).0 h in (omega (arith, is.1, have.inside), have.stand j is.0 is.1),
-    λ at. (have.own_are j).1 (elim (cases_lt j before) [ inl old ↦ absurd (omega (arith, (are.earlier j at.0).0 old, at.1)) | inr new ↦ new ], early j at.0 (omega (arith, at.1))),
-  )
+  own_all j = grind (arith, early)
 
 -- ==== which entries of a walk mention the determinants of the deliveries of a group
 
@@ -449,27 +372,4 @@ module _ (opened : List OpenDelivery) (t before passed : ℕ) (own : FinSet nat_
 
 -- a place that is inserted into a row is in that row, and nothing else changes
 pub put_in : (rows : Sets) (start place r position : ℕ) → start + r ≡ position → r < length rows → IsPut start place position rows (set rows r (insert (row rows r) place))
-put_in rows start place r position is inside i j low =
-    elim (eqb_tells i r) [
-      | inl here ↦
-          let same : contains (row (set rows r (insert (row rows r) place)) i) j ≡ ((place == j) || contains (row rows i) j) =
-          ap (λ x. contains (row (set rows r (insert (row rows r) place)) x) j) here.1 ∙ ap (λ s. contains s j) (get_or-set_same rows r (insert (row rows r) place) empty inside) ∙ inserted (row rows r) place j
-          ∙ ap (λ x. (place == j) || contains (row rows x) j) (sym here.1) in (
-            λ h. elim (or_cases (place == j) (contains (row rows i) j) (sym same ∙ h)) [
-              | inl now ↦ inr (sym (eqb-true place j now), omega (arith, here.1, is))
-              | inr old ↦ inl old
-            ],
-            λ h. same ∙ elim h [
-              | inl old ↦ or_right (place == j) (contains (row rows i) j) old
-              | inr new ↦ or_left (place == j) (contains (row rows i) j) (eq-eqb place j (sym new.0))
-            ],
-          )
-      | inr apart ↦
-          let same : row (set rows r (insert (row rows r) place)) i ≡ row rows i = get_or-set_other rows r i (insert (row rows r) place) empty apart.1 in (
-            λ h. inl (ap (λ s. contains s j) (sym same) ∙ h),
-            λ h. elim h [
-              | inl old ↦ ap (λ s. contains s j) same ∙ old
-              | inr new ↦ absurd (apart.1 (omega (arith, new.1, is)))
-            ],
-          )
-    ]
+put_in rows start place r position is inside i j low = grind (arith, get_or-set_same, inserted, eqb-true, eq-eqb, get_or-set_other)

@@ -1,7 +1,6 @@
 -- The positions of open deliveries, and what holds of a list of them.
 use Rattle.causal_audit.proofs.Common.{ℕ, ◌∷◌, ◌++◌, [], List, All, All-cons, All-head, All-nil, All-tail}
 use Rattle.causal_audit.specs.declared.group.run_to_follow.OpenDelivery.{OpenDelivery}
-use Rattle.causal_audit.specs.Inside.Group.OpenDeliveries.{positions_of}
 
 abbrev pub zero : OpenDelivery
 zero = record { position = 0; until = 0 }

@@ -1,5 +1,6 @@
 -- The sets of the entries of a walk, by slots.
-use Rattle.causal_audit.proofs.Common.{ℕ, ◌≡◌, ◌+◌, ◌<◌, ◌≤◌, inl, inr, Bool, true, List, [], ◌∷◌, ◌++◌, length, refl, sym, ap, subst, ◌∙◌, arith, All, set, get_or, nat_cmp, FinSet, empty, eqb_tells, get_or_default, insert, get_or-map, get_or-set_same, get_or-set_other, get_or_append_left, get_or-append_seam, get_or-eq_default, length-map, length-set, length-append, map-set, cases_lt}
+use Rattle.std.proofs.lemmas.Grind.{common_steps}
+use Rattle.causal_audit.proofs.Common.{ℕ, ◌≡◌, ◌<◌, ◌≤◌, inl, inr, Bool, true, List, [], ◌∷◌, ◌++◌, length, refl, sym, ap, subst, ◌∙◌, arith, All, set, get_or, nat_cmp, FinSet, empty, eqb_tells, get_or_default, insert, get_or-map, get_or-set_same, get_or-set_other, get_or-append_seam, get_or-eq_default, length-map, length-set, length-append, map-set}
 use Rattle.std.proofs.lemmas.List.{ext_get_or}
 use Rattle.causal_audit.specs.Inside.Group.Rows.{AreFirst, AreSlots, IsAdded, IsAt, IsSlotOf, row, sets_of}
 
@@ -31,23 +32,13 @@ slot_found sets places slot is = record { found = is; longer = omega arith; kept
 
 -- one for a set that is added
 pub slot_added : (old : Sets) (places : FinSet nat_cmp) → IsAdded old (old ++ places ∷ []) places (length old)
-slot_added old places =
-    let more : length (old ++ places ∷ []) ≡ length old + 1 = length-append old (places ∷ []) in
-    record {
-      slot_of = record {
-        found = record { inside = omega (arith, more); there = get_or-append_seam old places [] empty };
-        longer = omega (arith, more);
-        kept = λ s low. get_or_append_left old (places ∷ []) empty s low;
-      };
-      fresh = refl;
-    }
+slot_added old places = grind (arith, common_steps, length-append, get_or-append_seam)
 
 -- ---- an entry gets a slot
 
 -- it has the set of that, and the others have what they had
 pub stored : (slots : List ℕ) (old new : Sets) (places : FinSet nat_cmp) (i slot : ℕ) → All (λ s. s < length old) slots → IsSlotOf old new places slot → sets_of (set slots i slot) new ≡ set (sets_of slots old) i places
-stored slots old new places i slot within is =
-    map-set (row new) slots i slot ∙ ap (λ s. set (sets_of slots new) i s) is.found.there ∙ ap (λ list. set list i places) (kept_sets slots old new within is.kept)
+stored slots old new places i slot within is = grind (arith, map-set (row new) slots i slot, kept_sets slots old new within is.kept)
 
 -- ---- a set changes in its slot
 
@@ -80,33 +71,24 @@ set_read slots sets i s low is = sym (read_slot slots sets i (omega (arith, low,
 
 -- the slot is one of a set
 pub slot_within : (slots : List ℕ) (sets : Sets) (apart : Bool) (i s : ℕ) → i < length (sets_of slots sets) → s ≡ get_or slots i s → AreSlots slots sets apart → s < length sets
-slot_within slots sets apart i s low is are =
-    let inside : i < length slots = omega (arith, low, length-map slots (row sets)) in
-    subst (λ x. x < length sets) (slot_read slots sets i s low is) (are.within i 0 inside)
+slot_within slots sets apart i s low is are = grind (arith, length-map slots (row sets), slot_read slots sets i s low is)
 
 -- in its slot
 pub placed_alone : (slots : List ℕ) (sets : Sets) (apart : Bool) (i s place : ℕ) (places : FinSet nat_cmp) → apart ≡ true → i < length (sets_of slots sets) → s ≡ get_or slots i s → 0 < s → AreSlots slots sets apart
     → places ≡ insert (row sets s) place → sets_of slots (set sets s places) ≡ set (sets_of slots sets) i (insert (row (sets_of slots sets) i) place)
-placed_alone slots sets apart i s place places holds low is more are has =
-    put_alone slots sets apart i s places holds (omega (arith, low, length-map slots (row sets))) (slot_read slots sets i s low is) more are
-    ∙ ap (set (sets_of slots sets) i) (has ∙ ap (λ x. insert x place) (set_read slots sets i s low is))
+placed_alone slots sets apart i s place places holds low is more are has = grind (arith, put_alone, length-map, slot_read, set_read)
 
 -- in a new slot
 pub placed_fresh : (slots : List ℕ) (old new : Sets) (apart : Bool) (i s place slot : ℕ) (places : FinSet nat_cmp) → i < length (sets_of slots old) → s ≡ get_or slots i s → AreSlots slots old apart → IsSlotOf old new places slot
     → places ≡ insert (row old s) place → sets_of (set slots i slot) new ≡ set (sets_of slots old) i (insert (row (sets_of slots old) i) place)
-placed_fresh slots old new apart i s place slot places low is are added has =
-    stored slots old new places i slot are.within added ∙ ap (set (sets_of slots old) i) (has ∙ ap (λ x. insert x place) (set_read slots old i s low is))
+placed_fresh slots old new apart i s place slot places low is are added has = grind (arith, stored, set_read)
 
 -- ---- a new walk
 
 -- no entries
 pub slots_none : (slots : List ℕ) (sets : Sets) (apart : Bool) → slots ≡ [] → AreSlots slots sets apart
-slots_none slots sets apart none =
-    subst (λ list. AreSlots list sets apart) (sym none) (record { within = λ i d low. absurd (omega (arith, low)); alone = λ holds i j low. absurd (omega (arith, low)) })
+slots_none slots sets apart none = grind arith
 
 -- entries that all have the first slot have no places
 pub first_empty : (slots : List ℕ) (sets : Sets) → AreFirst slots sets → (i : ℕ) → row (sets_of slots sets) i ≡ empty
-first_empty slots sets are i = elim (cases_lt i (length slots)) [
-  | inl low ↦ read_slot slots sets i low ∙ ap (row sets) (are.slots_are i 0 low) ∙ ap (λ list. row list 0) are.sets_are
-  | inr past ↦ read_past slots sets i past
-]
+first_empty slots sets are i = grind (arith, read_slot, read_past)

@@ -1,5 +1,6 @@
 -- The crashes and restarts, and who is down after each.
-use Rattle.causal_audit.proofs.Common.{ℕ, ◌≡◌, ◌+◌, ◌<◌, ◌≤◌, inl, inr, true, false, List, [], length, get_or, Some, None, refl, sym, ap, subst, ◌∙◌, arith, nat_cmp, FinSet, empty, IsPartitionPoint, cases_lt, false≢true, false_from_ne_true, get_or_default, Entry, Send, Deliver, Stable, Crash, Restart, Forget, instant, entry_at, is_down}
+use Rattle.std.proofs.lemmas.Grind.{common_steps}
+use Rattle.causal_audit.proofs.Common.{ℕ, ◌≡◌, ◌+◌, ◌<◌, ◌≤◌, inl, inr, true, false, List, [], length, get_or, Some, refl, sym, ap, subst, ◌∙◌, arith, nat_cmp, FinSet, empty, IsPartitionPoint, cases_lt, false≢true, false_from_ne_true, get_or_default, Entry, Send, Deliver, Stable, Crash, Restart, Forget, instant, entry_at, is_down}
 use Rattle.causal_audit.specs.declared.index.crashes_and_restarts.CrashesAndRestarts.{CrashesAndRestarts}
 use Rattle.causal_audit.specs.declared.index.crashes_and_restarts.Passing.{Passing}
 use Rattle.causal_audit.specs.Inside.Index.Filed.{AreTurns}
@@ -13,12 +14,7 @@ use Rattle.causal_audit.proofs.Steps.{nobody_down}
 
 -- before the first entry there are no crashes and restarts
 pub turns_none : AreTurns [] [] []
-turns_none = record {
-  ascends = record { ascending = λ i j d low high. absurd (omega (arith, high)); below = λ i d low. absurd (omega (arith, low)) };
-  turned = λ v e at. absurd (let x : None ≡ Some e = at in cc);
-  counted = refl;
-  shown = λ i s low. absurd (omega (arith, low));
-}
+turns_none = grind arith
 
 -- ---- who is down at an instant
 
@@ -35,19 +31,11 @@ module _ (past : List Entry) (list : List ℕ) (downs : List (FinSet nat_cmp)) (
 
   -- before the first of them nobody is down
   pub none_turned : passed ≡ 0 → Shows empty (λ p. is_down (instant past t) p)
-  none_turned is p =
-      nobody_down past p ∙ down_stays past 0 t (omega arith) within (no_turn 0 (λ i low. absurd (omega (arith, low, is)))) p
+  none_turned is p = grind (arith, nobody_down past p, down_stays, no_turn)
 
   -- else those are that were after the last one
   pub last_turned : (j : ℕ) → passed ≡ j + 1 → (s : FinSet nat_cmp) → s ≡ get_or downs j s → Shows s (λ p. is_down (instant past t) p)
-  last_turned j is s value p =
-      let there : j < length list = omega (arith, is, inside) in
-      let last : get_or list j 0 < t = point.0 j 0 (omega arith) (omega (arith, is)) in
-      let before : (i : ℕ) → i < passed → get_or list i 0 < get_or list j 0 + 1 = λ i low.
-      let up : get_or list i 0 ≤ get_or list j 0 = are.ascends.ascending i j 0 (omega (arith, low, is)) there in omega (arith, up)
-      in
-      subst (λ x. Shows x (λ q. is_down (instant past (get_or list j 0 + 1)) q)) (sym value) (are.shown j s there) p
-      ∙ down_stays past (get_or list j 0 + 1) t (omega (arith, last)) within (no_turn (get_or list j 0 + 1) before) p
+  last_turned j is s value p = grind (arith, down_stays, no_turn)
 
 -- ---- a walk that stops where one of these processes restarts
 
@@ -85,16 +73,7 @@ module _ (past : List Entry) (list : List ℕ) (downs : List (FinSet nat_cmp)) (
 
     -- an entry that restarts none of these is passed too
     pub passed_one_more : (e : Entry) → entry_at past x ≡ Some e → restarts_one members e ≡ false → PassNone past list members from (passed + 1)
-    passed_one_more e at not_one i y low late here =
-        elim (cases_lt i passed) [
-          | inl before ↦ none i y before late here
-          | inr last ↦
-              let same : i ≡ passed = omega (arith, low, last) in
-              let value : get_or list i 0 ≡ x = ap (λ j. get_or list j 0) same ∙ get_or_default list passed 0 x there ∙ sym is in
-              let one : Some y ≡ Some e = sym here ∙ ap (entry_at past) value ∙ at in
-              let entry : y ≡ e = cc one in
-              ap (restarts_one members) entry ∙ not_one
-        ]
+    passed_one_more e at not_one i y low late here = grind (arith, common_steps)
 
 -- ---- where a walk stands
 

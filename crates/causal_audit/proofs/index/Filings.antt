@@ -1,5 +1,6 @@
 -- The lists of positions that are kept of a run: one more position, and one more entry.
-use Rattle.causal_audit.proofs.Common.{ℕ, ◌≡◌, ◌≢◌, ◌+◌, ◌-◌, ◌<◌, ◌≤◌, inl, inr, true, false, Result, Ok, Err, List, [], ◌∷◌, ◌++◌, length, get_or, Option, Some, None, refl, sym, ap, subst, ◌∙◌, arith, Bool, ◌⊎◌, OnOk, Contains, ◌==◌, ◌&&◌, ◌||◌, option_map_or, All, get_or-eq_default, cases_lt, false≢true, cond-true, cond-false, false_from_ne_true, eqb-true, eq-eqb, ne_eqb, and_from, and_parts, or_cases, cases_Bool, or_left, or_right, eqb_tells, nat_tests, get_or-set_same, get_or-set_other, get_or_past, All-push, All-set, All-get_or, All-weaker, Contains-append_left, Contains-push, Contains-push_cases, IsNonDecreasingBy-push, Entry, entry_at, has, nat_cmp, FinSet, contains, empty, remove, contains-empty, IsNonDecreasing, Send, Deliver, Stable, Crash, Restart, Forget, entry_beyond, Det, same_det}
+use Rattle.std.proofs.lemmas.Grind.{common_steps}
+use Rattle.causal_audit.proofs.Common.{ℕ, ◌≡◌, ◌≢◌, ◌+◌, ◌<◌, ◌≤◌, inl, inr, true, false, Result, Ok, Err, List, [], ◌∷◌, ◌++◌, length, Option, Some, None, refl, sym, ap, subst, ◌∙◌, arith, Bool, ◌⊎◌, OnOk, Contains, ◌==◌, ◌&&◌, ◌||◌, option_map_or, All, get_or-eq_default, cases_lt, false≢true, cond-true, cond-false, false_from_ne_true, eqb-true, eq-eqb, ne_eqb, and_parts, or_cases, cases_Bool, or_left, or_right, get_or-set_same, get_or-set_other, get_or_past, All-push, All-set, All-get_or, All-weaker, Contains-append_left, Contains-push, Contains-push_cases, IsNonDecreasingBy-push, Entry, entry_at, has, nat_cmp, FinSet, contains, empty, remove, contains-empty, IsNonDecreasing, Send, Deliver, Stable, Crash, Restart, Forget, entry_beyond, Det, same_det}
 use Rattle.causal_audit.specs.Inside.Index.Filed.{Ascends, list_at, with_added, AreMentions, AreMentionsWith, mentions_of, AreTurnsOf, IsFirstCrash, is_turn_of}
 use Rattle.causal_audit.specs.Inside.ByClock.Changes.{HasNoneUntil}
 use Rattle.causal_audit.specs.Inside.Look.Staying.{restarts_one, RestartsNone}
@@ -18,16 +19,10 @@ use Rattle.causal_trace.proofs.Lemmas.DeliveryNumbers.{number_below}
 -- ---- a list with one more position
 
 pub ascends_weaker : (low high : ℕ) (list : List ℕ) → low ≤ high → Ascends low list → Ascends high list
-ascends_weaker low high list more a = record {
-  ascending = a.ascending;
-  below = All-weaker (λ v. v < low) (λ v. v < high) (λ v h. omega (arith, h, more)) list a.below;
-}
+ascends_weaker low high list more a = grind (arith, All-weaker)
 
 pub ascends_push : (v : ℕ) (list : List ℕ) → Ascends (v + 1) list → Ascends (v + 1) (list ++ v ∷ [])
-ascends_push v list a = record {
-  ascending = IsNonDecreasingBy-push (λ x. x) list v a.ascending (λ d some. let last : get_or list (length list - 1) d < v + 1 = a.below (length list - 1) d (omega (arith, some)) in omega (arith, last));
-  below = All-push (λ w. w < v + 1) list v a.below (omega arith);
-}
+ascends_push v list a = grind (arith, common_steps, IsNonDecreasingBy-push, All-push)
 
 -- ---- lists with one more position in one of them
 
@@ -42,21 +37,10 @@ module _ (lists : List (List ℕ)) (m v : ℕ) (there : m < length lists) where
   added_has = subst (λ list. Contains list v) (sym added_here) (Contains-push (list_at lists m) v)
 
   pub added_keeps : (j w : ℕ) → Contains (list_at lists j) w → Contains (list_at (with_added lists m v) j) w
-  added_keeps j w has =
-      elim (eqb_tells j m) [
-        | inl same ↦ subst (λ x. Contains (list_at (with_added lists m v) x) w) (sym same.1) (subst (λ list. Contains list w) (sym added_here) (Contains-append_left (list_at lists m) (v ∷ []) w (subst (λ x. Contains (list_at lists x) w) same.1 has)))
-        | inr apart ↦ subst (λ list. Contains list w) (sym (added_other j apart.1)) has
-      ]
+  added_keeps j w has = grind (arith, common_steps, added_here, Contains-append_left, added_other)
 
   pub added_cases : (j w : ℕ) → Contains (list_at (with_added lists m v) j) w → Contains (list_at lists j) w ⊎ ((j ≡ m) × (v ≡ w))
-  added_cases j w has =
-      elim (eqb_tells j m) [
-        | inl same ↦ elim (Contains-push_cases (list_at lists m) v w (subst (λ list. Contains list w) added_here (subst (λ x. Contains (list_at (with_added lists m v) x) w) same.1 has))) [
-          | inl old ↦ inl (subst (λ x. Contains (list_at lists x) w) (sym same.1) old)
-          | inr new ↦ inr (same.1, new)
-        ]
-        | inr apart ↦ inl (subst (λ list. Contains list w) (added_other j apart.1) has)
-      ]
+  added_cases j w has = grind (arith, common_steps, Contains-push_cases, added_here, added_other)
 
   pub added_ascend : All (Ascends (v + 1)) lists → All (Ascends (v + 1)) (with_added lists m v)
   added_ascend all = All-set (Ascends (v + 1)) lists m (list_at lists m ++ v ∷ []) (ascends_push v (list_at lists m) (All-get_or (Ascends (v + 1)) lists m [] there all)) all
@@ -70,11 +54,7 @@ pub empty_ascend : (lists : List (List ℕ)) → All (λ list. list ≡ []) list
 empty_ascend lists all = All-weaker (λ list. list ≡ []) (Ascends 0) (λ list is. subst (Ascends 0) (sym is) (record { ascending = λ i j d low high. absurd (omega (arith, high)); below = λ i d low. absurd (omega (arith, low)) })) lists all
 
 pub nothing_in : (lists : List (List ℕ)) → All (λ list. list ≡ []) lists → (m v : ℕ) → Contains (list_at lists m) v → ⊥
-nothing_in lists all m v has =
-    elim (cases_lt m (length lists)) [
-      | inl there ↦ let is : list_at lists m ≡ [] = all m [] there in omega (arith, has.1, ap length is)
-      | inr beyond ↦ let is : list_at lists m ≡ [] = get_or-eq_default lists [] beyond in omega (arith, has.1, ap length is)
-    ]
+nothing_in lists all m v has = grind (arith, get_or-eq_default)
 
 -- what follows from what a success promises, it promises too
 pub on_ok : {A E P Q : Type 0} (r : Result A E) → (P → Q) → OnOk r P → OnOk r Q
@@ -102,10 +82,7 @@ module _ (restarts : Bool) (e : Entry) (past : List Entry) (lists : List (List �
   turns_same none = record {
     ascend = subst (λ n. All (Ascends n) lists) longer (ascend_weaker (length past) (length past + 1) lists (omega arith) are.ascend);
     only = λ p v listed. let was = are.only p v listed in (was.0, older_entry e past v was.0 was.1, was.2);
-    all = λ p v x at absent. elim (entry_cases e past v x at) [
-      | inl old ↦ are.all p v x old absent
-      | inr new ↦ subst (λ y. is_turn_of restarts p y ≡ false) new.1 (none p)
-    ];
+    all = λ p v x at absent. grind (arith, entry_cases e past v x at);
   }
 
   -- and one of this process
@@ -128,11 +105,7 @@ module _ (restarts : Bool) (e : Entry) (past : List Entry) (lists : List (List �
 
 -- empty lists are those of no entries
 pub turns_of_none : (restarts : Bool) (lists : List (List ℕ)) → All (λ list. list ≡ []) lists → AreTurnsOf restarts [] lists
-turns_of_none restarts lists all = record {
-  ascend = empty_ascend lists all;
-  only = λ p v listed. absurd (nothing_in lists all p v listed);
-  all = λ p v e at. absurd (let x : None ≡ Some e = at in cc);
-}
+turns_of_none restarts lists all = grind (arith, common_steps, empty_ascend, nothing_in)
 
 -- the lists ascend
 pub turns_ascend : (restarts : Bool) (past : List Entry) (lists : List (List ℕ)) → AreTurnsOf restarts past lists → All IsNonDecreasing lists
@@ -192,16 +165,7 @@ none_rest past lists members from next are none v e late early at =
 
 -- determinants that are the same are one
 pub same_is : (x y : Det) → same_det x y ≡ true → x ≡ y
-same_is x y h =
-    let source = and_parts (x.source.0 == y.source.0) (x.ssn == y.ssn && (x.dest.0 == y.dest.0 && x.rsn == y.rsn)) h in
-    let ssn = and_parts (x.ssn == y.ssn) (x.dest.0 == y.dest.0 && x.rsn == y.rsn) source.1 in
-    let dest = and_parts (x.dest.0 == y.dest.0) (x.rsn == y.rsn) ssn.1 in
-    λ i. record {
-      source = record { 0 = eqb-true x.source.0 y.source.0 source.0 i };
-      ssn = eqb-true x.ssn y.ssn ssn.0 i;
-      dest = record { 0 = eqb-true x.dest.0 y.dest.0 dest.0 i };
-      rsn = eqb-true x.rsn y.rsn dest.1 i;
-    }
+same_is x y h = grind (arith, eqb-true)
 
 -- ---- numbers
 
@@ -240,31 +204,13 @@ too_late k m b later = ap (λ c. c && b) (le-ltb k m later)
 pub number_of_found : (m : ℕ) (dets : List Det) (d : Det) (j : ℕ) → number_of m dets d ≡ Some j → number_of (j + 1) dets d ≡ Some j
 number_of_found m [] d j is = absurd (let x : None ≡ Some j = is in cc)
 number_of_found m (x ∷ older) d j is =
-    let one = nat_lt (length older) m && same_det x d in
-    elim (cases_Bool one) [
-      | inl found ↦
-          let own : Some (length older) ≡ Some j = sym (cond-true one (Some (length older)) (number_of m older d) found) ∙ is in
-          let last : length older ≡ j = cc (own) in
-          let low : nat_lt (length older) (j + 1) ≡ true = lt-ltb (length older) (j + 1) (omega (arith, last)) in
-          cond-true (nat_lt (length older) (j + 1) && same_det x d) (Some (length older)) (number_of (j + 1) older d) (and_from (nat_lt (length older) (j + 1)) (same_det x d) low (and_parts (nat_lt (length older) m) (same_det x d) found).1) ∙ own
-      | inr other ↦
-          let rest : number_of m older d ≡ Some j = sym (cond-false one (Some (length older)) (number_of m older d) other) ∙ is in
-          let low : j < length older = found_below (number_of m older d) (length older) j (number_below m older d) rest in
-          cond-false (nat_lt (length older) (j + 1) && same_det x d) (Some (length older)) (number_of (j + 1) older d) (too_late (length older) (j + 1) (same_det x d) (omega (arith, low)))
-          ∙ number_of_found m older d j rest
-    ]
+    grind (arith, cond-true, lt-ltb, cond-false, found_below, number_below m older d, too_late, number_of_found m older d j)
 
 -- ---- one more position in the list of a determinant
 
 has_more : (dets : List Det) (det d : Det) → has (dets ++ det ∷ []) d ≡ (has dets d || same_det d det)
-has_more [] det d = or_none (same_det d det)
-  where
-    or_none : (a : Bool) → (a || false) ≡ a
-    or_none a = grind (arith, nat_tests)
-has_more (x ∷ dets) det d = ap (λ b. same_det d x || b) (has_more dets det d) ∙ or_or (same_det d x) (has dets d) (same_det d det)
-  where
-    or_or : (a b c : Bool) → (a || (b || c)) ≡ ((a || b) || c)
-    or_or a b c = grind (arith, nat_tests)
+has_more [] det d = grind arith
+has_more (x ∷ dets) det d = grind (arith, has_more dets det d)
 
 -- what the list of a determinant has, it has with one more position in some list
 keeps_of : (o : Option ℕ) (lists : List (List ℕ)) (m v w : ℕ) → m < length lists → Contains (option_map_or (list_at lists) o []) w → Contains (option_map_or (list_at (with_added lists m v)) o []) w
@@ -274,11 +220,7 @@ keeps_of (Some j) lists m v w there has = added_keeps lists m v there j w has
 -- and what it has then, it had, or it is the list with one more position
 cases_of : (o : Option ℕ) (lists : List (List ℕ)) (m v w : ℕ) → m < length lists → Contains (option_map_or (list_at (with_added lists m v)) o []) w → Contains (option_map_or (list_at lists) o []) w ⊎ ((o ≡ Some m) × (v ≡ w))
 cases_of None lists m v w there has = inl has
-cases_of (Some j) lists m v w there has =
-    elim (added_cases lists m v there j w has) [
-      | inl old ↦ inl old
-      | inr new ↦ inr (ap (λ x. Some x) new.0, new.1)
-    ]
+cases_of (Some j) lists m v w there has = grind (arith, added_cases lists m v there j w has)
 
 -- once one more determinant of the next entry is noted, its list has the position of that
 pub mentions_more : (past : List Entry) (dets numbers : List Det) (lists : List (List ℕ)) (det : Det) (m : ℕ) → number_of (length lists) numbers det ≡ Some m → m < length lists → AreMentionsWith past dets numbers lists → AreMentionsWith past (dets ++ det ∷ []) numbers (with_added lists m (length past))
@@ -337,14 +279,7 @@ mentions_begun past numbers lists are = record {
 pub mentions_done : (e : Entry) (past : List Entry) (numbers : List Det) (lists : List (List ℕ)) → AreMentionsWith past (mentioned_by e) numbers lists → AreMentions (e ∷ past) numbers lists
 mentions_done e past numbers lists are = record {
   ascend = let more : length past + 1 ≡ length (e ∷ past) = omega arith in subst (λ n. All (Ascends n) lists) more are.ascend;
-  mentioned = λ d v x at unlisted. elim (eqb_tells v (length past)) [
-    | inl newest ↦
-        let is : Some e ≡ Some x = sym (cond-true (v == length past) (Some e) (entry_at past v) newest.0) ∙ at in
-        let it : e ≡ x = cc is in
-        false_from_ne_true (has (mentioned_by x) d)
-        (λ listed. unlisted (subst (λ w. Contains (mentions_of numbers lists d) w) (sym newest.1) (are.noted d (ap (λ y. has (mentioned_by y) d) it ∙ listed))))
-    | inr older ↦ are.mentioned d v x (sym (cond-false (v == length past) (Some e) (entry_at past v) older.0) ∙ at) unlisted
-  ];
+  mentioned = λ d v x at unlisted. grind (arith, cond-true, cond-false);
   only = λ d v listed. elim (are.only d v listed) [
     | inl before ↦
         let low : v < length past = entry_within past v before.0 before.1 in

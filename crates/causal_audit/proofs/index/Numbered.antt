@@ -2,7 +2,7 @@
 use Rattle.causal_audit.proofs.Common.{ℕ, ◌≡◌, ◌+◌, ◌<◌, List, [], ◌∷◌, ◌++◌, length, get_or, take, drop, map, Option, Some, None, sym, ap, ◌∙◌, arith, append_assoc, append-nil, length-map, get_or-map, map-append, take_more, take_all, Entry, Det}
 use Rattle.std.specs.List.{flat_map}
 use Rattle.std.proofs.lemmas.List.{append_cancel_left, drop_more, take-append-le}
-use Rattle.std.proofs.lemmas.Grind.{flat_map-append}
+use Rattle.std.proofs.lemmas.Grind.{common_steps, flat_map-append}
 use Rattle.causal_trace.specs.Numbers.{number_of}
 use Rattle.causal_audit.specs.Quiet.{mentioned_by}
 use Rattle.causal_audit.specs.Inside.Index.Filed.{AreNumbersOf}
@@ -20,9 +20,7 @@ module _ (many : ℕ) (delivered : List Det) where
 
   -- one more
   pub one_more_number : (before dets : List Det) (numbers after : List ℕ) (d : Det) (v : ℕ) → number_of many delivered d ≡ Some v → after ≡ numbers ++ v ∷ [] → AreNumbersOf many delivered (before ++ dets) numbers → AreNumbersOf many delivered (before ++ (dets ++ d ∷ [])) after
-  one_more_number before dets numbers after d v is more are =
-      ap (map number) (sym (append_assoc before dets (d ∷ []))) ∙ map-append number (before ++ dets) (d ∷ []) ∙ ap (λ l. l ++ number d ∷ []) are ∙ ap (λ o. map some numbers ++ o ∷ []) is
-      ∙ sym (map-append some numbers (v ∷ [])) ∙ ap (map some) (sym more)
+  one_more_number before dets numbers after d v is more are = grind (arith, append_assoc before dets (d ∷ []), map-append)
 
   -- the determinant that has the next number
   pub next_numbered : (dets : List Det) (numbers : List ℕ) (i : ℕ) → AreNumbersOf many delivered dets numbers → i < length numbers → (d : Det) × (take (i + 1) dets ≡ take i dets ++ d ∷ []) × (number_of many delivered d ≡ Some (get_or numbers i 0))
@@ -49,6 +47,4 @@ mentioned_next entries i e below is = ap (flat_map mentioned_by) (drop_more entr
 
 -- what the entries up to one mention ends with what that mentions
 pub mentioned_more : (entries : List Entry) (i : ℕ) (e : Entry) → i < length entries → e ≡ get_or entries i e → flat_map mentioned_by (take (i + 1) entries) ≡ flat_map mentioned_by (take i entries) ++ mentioned_by e
-mentioned_more entries i e below is =
-    ap (flat_map mentioned_by) (take_more entries i e below ∙ ap (λ x. take i entries ++ x ∷ []) (sym is)) ∙ flat_map-append mentioned_by (take i entries) (e ∷ [])
-    ∙ ap (λ l. flat_map mentioned_by (take i entries) ++ l) (append-nil (mentioned_by e))
+mentioned_more entries i e below is = grind (arith, common_steps, flat_map-append, append-nil)

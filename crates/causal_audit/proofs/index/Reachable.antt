@@ -1,5 +1,5 @@
 -- Which processes the events of each reach, from the last entry to the first.
-use Rattle.causal_audit.proofs.Common.{ℕ, ◌≡◌, ◌+◌, ◌<◌, ◌≤◌, inl, inr, true, List, length, get_or, Some, refl, sym, ap, subst, ◌∙◌, arith, ◌⊎◌, ◌==◌, ◌||◌, or_left, or_right, eq-eqb, eqb_tells, get_or-set_same, get_or-set_other, Pid, Entry, Send, Deliver, Stable, Crash, Restart, Forget, entry_at, AreAccepted, DirectlyPrecedes, in_order, by_message, Reaches, itself, onward, reaches_begins, accepted_forward, nat_cmp, nat_cmp_total, FinSet, contains, insert, empty, union, contains-union}
+use Rattle.causal_audit.proofs.Common.{ℕ, ◌≡◌, ◌+◌, ◌<◌, ◌≤◌, inl, inr, true, List, length, get_or, Some, refl, sym, subst, ◌∙◌, arith, ◌⊎◌, ◌==◌, ◌||◌, or_left, or_right, eq-eqb, get_or-set_same, get_or-set_other, Pid, Entry, Send, Deliver, Stable, Crash, Restart, Forget, entry_at, AreAccepted, DirectlyPrecedes, in_order, by_message, Reaches, itself, onward, reaches_begins, accepted_forward, nat_cmp, nat_cmp_total, FinSet, contains, insert, empty, union, contains-union}
 use Rattle.causal_audit.specs.Inside.Index.Reached.{reached_by, with_reached}
 use Rattle.causal_audit.specs.Inside.Index.Spreads.{process_at}
 use Rattle.causal_audit.proofs.Legal.{receiver_event}
@@ -34,18 +34,15 @@ module _ (sets : List (FinSet nat_cmp)) (from to : Pid) (ssn : ℕ) (inside : fr
   -- the sender reaches whom it reached, and whom the receiver reaches
   joined : (q : ℕ) → (contains (reached_by sets from.0) q || contains (reached_by sets to.0) q) ≡ true → contains (reached_by sent from.0) q ≡ true
   joined q has =
-      let both = union (reached_by sets from.0) (reached_by sets to.0) in
-      with_more (get_or sent from.0 empty) from.0 q
-      (ap (λ s. contains s q) (get_or-set_same sets from.0 both empty inside) ∙ contains-union nat_cmp_total (reached_by sets from.0) (reached_by sets to.0) q ∙ has)
+      grind (
+        arith,
+        with_more,
+        get_or-set_same sets from.0 (union (reached_by sets from.0) (reached_by sets to.0)) empty inside,
+        contains-union nat_cmp_total (reached_by sets from.0) (reached_by sets to.0) q,
+      )
 
   grown_one : (p q : ℕ) → contains (reached_by sets p) q ≡ true → contains (reached_by sent p) q ≡ true
-  grown_one p q has =
-      elim (eqb_tells p from.0) [
-        | inl here ↦
-            subst (λ x. contains (reached_by sent x) q ≡ true) (sym here.1)
-            (joined q (or_left (contains (reached_by sets from.0) q) (contains (reached_by sets to.0) q) (subst (λ x. contains (reached_by sets x) q ≡ true) here.1 has)))
-        | inr apart ↦ ap (λ s. contains (insert s p) q) (get_or-set_other sets from.0 p (union (reached_by sets from.0) (reached_by sets to.0)) empty apart.1) ∙ has
-      ]
+  grown_one p q has = grind (arith, joined, get_or-set_other)
 
 -- the sender of an entry has its set
 abbrev HasSender : List (FinSet nat_cmp) → Entry → Type 0
@@ -99,8 +96,4 @@ module _ (n : ℕ) (past : List Entry) (formed : AreAccepted n past) (t : ℕ) (
 
   -- and with the entry before
   pub reached_next : AreReachedFrom past t (with_reached sets e)
-  reached_next i j up r =
-      elim (eqb_tells i t) [
-        | inl here ↦ subst (λ x. Knows (process_at past x) j) (sym here.1) (reaches_now j (subst (λ x. Reaches past x j) here.1 r))
-        | inr later ↦ grown sets e bound (process_at past i) (process_at past j) (before i j (omega (arith, up, later.1)) r)
-      ]
+  reached_next i j up r = grind (arith, reaches_now, grown)

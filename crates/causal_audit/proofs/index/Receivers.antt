@@ -1,6 +1,5 @@
 -- How long a delivery stays with its receiver, and what that means for its orphans.
-use Rattle.causal_audit.proofs.Common.{ℕ, ◌≡◌, ◌<◌, ◌≤◌, inl, inr, true, false, cond, List, [], ◌∷◌, length, Option, Some, None, refl, sym, ap, subst, ◌∙◌, arith, get_or, delivers_sent, sent_within, message_sent, option_and_then, ◌+◌, ◌≢◌, ◌⊎◌, ◌==◌, ◌||◌, not, ◌&&◌, slice_set, option_map, option_map_or, cases_lt, false≢true, eqb-true, eq-eqb, or_from, cond-true, cond-false, ne_eqb, false_from_ne_true, or_right, Pid, Det, Entry, Send, Deliver, Stable, Crash, Restart, Forget, instant, is_down, is_send_to, logs, lane, det_at, det_of, det_from, message_at, entry_at, AreAccepted, actor, IsEventOf, Delivers, DirectlyPrecedes, in_order, by_message, Reaches, itself, onward, is_delivery_of, accepted_forward, event_below, event_lane, instant_length, det_then, eqb_tells, HasOrphan, length-set, get_or-set_other}
-use Rattle.causal_name.specs.declared.MsgName.{MsgName}
+use Rattle.causal_audit.proofs.Common.{ℕ, ◌≡◌, ◌<◌, ◌≤◌, inl, inr, true, false, List, [], ◌∷◌, length, Some, None, refl, sym, ap, subst, ◌∙◌, arith, get_or, delivers_sent, sent_within, message_sent, option_and_then, ◌+◌, ◌≢◌, ◌⊎◌, ◌==◌, slice_set, option_map, option_map_or, cases_lt, false≢true, eqb-true, eq-eqb, or_from, cond-true, cond-false, ne_eqb, false_from_ne_true, or_right, Pid, Det, Entry, Send, Deliver, Stable, Crash, Restart, Forget, instant, is_down, is_send_to, logs, lane, det_at, det_of, det_from, entry_at, AreAccepted, actor, IsEventOf, Delivers, DirectlyPrecedes, in_order, by_message, Reaches, itself, onward, is_delivery_of, accepted_forward, event_below, event_lane, instant_length, det_then, HasOrphan, length-set, get_or-set_other}
 use Rattle.causal_audit.specs.Laws.{gone}
 use Rattle.causal_audit.specs.Spread.{StaysAlone, CoveredHasNone, StaysUntil, CrashedHasNone}
 use Rattle.causal_trace.proofs.Lemmas.DependenceSteps.{event_once}
@@ -14,7 +13,7 @@ use Rattle.causal_audit.proofs.look.CoverStays.{entry_then}
 use Rattle.causal_audit.specs.declared.look.thin_stretches.ThinStretches.{ThinStretches}
 use Rattle.causal_audit.specs.Inside.Index.Filed.{IsFirstCrash}
 use Rattle.causal_audit.specs.Inside.Look.Looks.{IsBareAt, IsThinAt, AreThinStretches, MayBeOpen}
-use Rattle.std.proofs.lemmas.Grind.{get_or-set_at}
+use Rattle.std.proofs.lemmas.Grind.{get_or-set_at, common_steps}
 use Rattle.causal_audit.proofs.by_clock.Link.{delivers_below}
 
 -- ==== how long a delivery stays with its receiver
@@ -36,9 +35,7 @@ reach_later n past formed i k (onward {j} r direct) = omega (arith, reach_later 
 
 module _ (n : ℕ) (past : List Entry) (formed : AreAccepted n past) (i p l : ℕ) (of : IsEventOf past i p l) where
   next_stays : (j v : ℕ) → i ≤ j → IsEventOf past j p l → DirectlyPrecedes past j v → IsEventOf past v p l ⊎ Left past i p l v
-  next_stays j v after here (in_order q m less a b) =
-      let one = event_once past j q m p l a here in
-      inl (subst (λ x. IsEventOf past v p x) one.1 (subst (λ x. IsEventOf past v x m) one.0 b))
+  next_stays j v after here (in_order q m less a b) = grind (arith, event_once past j q m p l a here)
   next_stays j v after here (by_message h) = inr (j, v, after, here, h, omega arith)
 
   pub stays_or_left : (v : ℕ) → Reaches past i v → IsEventOf past v p l ⊎ Left past i p l v
@@ -53,11 +50,7 @@ module _ (n : ℕ) (past : List Entry) (formed : AreAccepted n past) (i p l : �
 
 receiver_named : (past : List Entry) (e : Entry) (d : Det) (p : ℕ) → det_of past e ≡ Some d → actor e ≡ Some p → p ≡ d.dest.0
 receiver_named past (Send from to ssn) d p h of = absurd (let k : None ≡ Some d = h in cc)
-receiver_named past (Deliver to send rsn listed) d p h of = named (message_at past send) h
-  where
-    named : (o : Option MsgName) → option_map (det_from to rsn) o ≡ Some d → p ≡ d.dest.0
-    named None h = absurd (let k : None ≡ Some d = h in cc)
-    named (Some m) h = let k : det_from to rsn m ≡ d = cc h in let q : to.0 ≡ p = cc of in sym q ∙ ap (λ x. x.dest.0) k
+receiver_named past (Deliver to send rsn listed) d p h of = grind arith
 receiver_named past (Stable det) d p h of = absurd (let k : None ≡ Some d = h in cc)
 receiver_named past (Crash who) d p h of = absurd (let k : None ≡ Some d = h in cc)
 receiver_named past (Restart who listed) d p h of = absurd (let k : None ≡ Some d = h in cc)
@@ -160,15 +153,7 @@ det_process past k d at = let from = delivery_event past k d at in process_of_ev
 
 -- a delivery stays with its process
 pub stays_with : (n : ℕ) (past : List Entry) → AreAccepted n past → (stays : List ℕ) → AreSpreads past (process_at past) stays → (k : ℕ) → StaysUntil past k (get_or stays k 0)
-stays_with n past formed stays are k v p l before of reach =
-    elim (stays_or_left n past formed k p l of v reach) [
-      | inl same ↦ same
-      | inr left ↦
-          let lanes : process_at past left.0 ≡ process_at past k = process_of_event past left.0 p l left.3 ∙ sym (process_of_event past k p l of) in
-          let low : get_or stays k 0 ≤ left.1 = are.each k left.0 left.1 (event_below past k p l of) left.2 lanes left.4 in
-          let none : ⊥ = omega (arith, before, left.5, low) in
-          absurd none
-    ]
+stays_with n past formed stays are k v p l before of reach = grind (arith, common_steps, stays_or_left, process_of_event)
 
 -- ==== a delivery that has not left its receiver, and whose receiver has crashed since
 
@@ -182,33 +167,19 @@ fell_more (Deliver to send rsn listed) past p l h = h
 fell_more (Stable det) past p l h = h
 fell_more (Crash who) past p l (inl h) = inl (or_right (who.0 == p) (is_down past p) h.0, h.1)
 fell_more (Crash who) past p l (inr h) = inr h
-fell_more (Restart who listed) past p l h =
-    elim (eqb_tells who.0 p) [
-      | inl here ↦ inr (let up : lane (Restart who listed ∷ past) p ≡ lane past p + 1 = ap (λ b. cond b (lane past p + 1) (lane past p)) here.0 in omega (arith, up, low h))
-      | inr apart ↦ elim h [
-        | inl down ↦ inl (ap (λ b. not b && is_down past p) apart.0 ∙ down.0, subst (λ x. l ≤ x) (sym (ap (λ b. cond b (lane past p + 1) (lane past p)) apart.0)) down.1)
-        | inr late ↦ inr (subst (λ x. l < x) (sym (ap (λ b. cond b (lane past p + 1) (lane past p)) apart.0)) late)
-      ]
-    ]
-  where
-    low : Fell p l past → l ≤ lane past p
-    low (inl down) = down.1
-    low (inr late) = omega (arith, late)
+fell_more (Restart who listed) past p l h = grind arith
 fell_more (Forget who listed) past p l h = h
 
 -- such a delivery has no dependent any more
 pub crashed : CrashedHasNone
-crashed n past k d spread c u q formed at stays crash after before low within depends =
-    let then = instant past (c + 1) in
+crashed n past k d spread c u q formed at stays crash after before low within depends = let then = instant past (c + 1) in
     let from = delivery_event then k d (det_then past (c + 1) k (omega (arith, after)) (omega (arith, before, within)) ∙ at) in
     let early : depends.event < u = omega (arith, event_below (instant past u) depends.event q (lane (instant past u) q) depends.present, instant_length past u within) in
-    let own : IsEventOf past depends.event from.0 from.1 =
-    stays depends.event from.0 from.1 (omega (arith, early, low)) (event_whole past (c + 1) k from.0 from.1 from.2) (reaches_whole past u k depends.event depends.reached) in
+    let own : IsEventOf past depends.event from.0 from.1 = grind (arith, event_whole, reaches_whole) in
     let here : IsEventOf past depends.event q (lane (instant past u) q) = event_whole past u depends.event q (lane (instant past u) q) depends.present in
     let same = event_once past depends.event q (lane (instant past u) q) from.0 from.1 here own in
     let who : crash.0.0 ≡ q = crash.2 ∙ sym (alone n past k d spread u q formed at stays low within depends) in
-    let down : is_down then q ≡ true =
-    ap (λ x. is_down x q) (entry_then past c (Crash crash.0) (omega (arith, before, within)) crash.1) ∙ ap (λ b. b || is_down (instant past c) q) (eq-eqb crash.0.0 q who) in
+    let down : is_down then q ≡ true = grind (arith, entry_then, eq-eqb) in
     let lane_low : from.1 ≤ lane then q = subst (λ x. from.1 ≤ lane then x) (sym same.0) (event_lane then k from.0 from.1 from.2) in
     let fell : Fell q from.1 (instant past u) =
     onward_to (Fell q from.1) past (c + 1) u (omega (arith, before)) within (λ v e above below there h. fell_more e (instant past v) q from.1 h) (inl (down, lane_low)) in
@@ -229,19 +200,18 @@ module _ (n most : ℕ) (past : List Entry) (formed : AreAccepted n past) (k : �
       ]
 
   pub orphan_thin : IsThinAt n most past d u
-  orphan_thin =
-      let e = exposed n most (instant past u) k d (det_then past u k orphan_made within ∙ at) has in
+  orphan_thin = let e = exposed n most (instant past u) k d (det_then past u k orphan_made within ∙ at) has in
       record {
         unstable = e.unstable;
         few = e.few;
-        left_over = (
-          k,
-          e.depends.event,
-          det_process past k d at,
-          reaches_whole past u k e.depends.event e.depends.reached,
-          ap (gone (instant past u) d) (process_of_event past e.depends.event e.orphan (lane (instant past u) e.orphan) (event_whole past u e.depends.event e.orphan (lane (instant past u) e.orphan) e.depends.present))
-              ∙ or_from (is_down (instant past u) e.orphan) (logs (instant past u) e.orphan d) e.depends.up e.without,
-        );
+        left_over =
+            grind (
+              arith,
+              det_process past k d at,
+              reaches_whole past u k e.depends.event e.depends.reached,
+              process_of_event past e.depends.event e.orphan (lane (instant past u) e.orphan) (event_whole past u e.depends.event e.orphan (lane (instant past u) e.orphan) e.depends.present),
+              event_whole past u e.depends.event e.orphan (lane (instant past u) e.orphan) e.depends.present,
+            );
       }
 
   -- and bare, while it stays with its receiver
@@ -279,23 +249,15 @@ module _ (n most : ℕ) (past : List Entry) (formed : AreAccepted n past) (k : �
 
 pub delivers_entry : (past : List Entry) (j s : ℕ) (e : Entry) → entry_at past j ≡ Some e → Delivers past j s → is_delivery_of s e ≡ true
 delivers_entry [] j s e at delivers = absurd delivers
-delivers_entry (x ∷ past) j s e at (inl old) =
-    delivers_entry past j s e (sym (cond-false (j == length past) (Some x) (entry_at past j) (ne_eqb j (length past) (λ is. omega (arith, is, delivers_below past j s old)))) ∙ at) old
-delivers_entry (x ∷ past) j s e at (inr new) =
-    let is : Some x ≡ Some e = sym (cond-true (j == length past) (Some x) (entry_at past j) (eq-eqb j (length past) new.0)) ∙ at in
-    let same : x ≡ e = cc is in
-    ap (is_delivery_of s) (sym same) ∙ new.1
+delivers_entry (x ∷ past) j s e at (inl old) = grind (arith, delivers_entry past j s e, cond-false, delivers_below past j s old)
+delivers_entry (x ∷ past) j s e at (inr new) = grind arith
 
 -- ---- what an entry notes at its send
 
 -- what stands at a place then is the position, or what stood there
 noted_cases : (e : Entry) (i : ℕ) (list : List ℕ) (s : ℕ) → s < length list → (get_or (with_delivered e i list) s 0 ≡ i) ⊎ (get_or (with_delivered e i list) s 0 ≡ get_or list s 0)
 noted_cases (Send from to ssn) i list s there = inr refl
-noted_cases (Deliver to send rsn listed) i list s there =
-    elim (eqb_tells s send) [
-      | inl here ↦ inl (get_or-set_at list send s i 0 here.1 (omega (arith, here.1, there)))
-      | inr apart ↦ inr (get_or-set_other list send s i 0 apart.1)
-    ]
+noted_cases (Deliver to send rsn listed) i list s there = grind (arith, get_or-set_at, get_or-set_other)
 noted_cases (Stable det) i list s there = inr refl
 noted_cases (Crash who) i list s there = inr refl
 noted_cases (Restart who listed) i list s there = inr refl
@@ -333,12 +295,7 @@ module _ (n : ℕ) (past : List Entry) (formed : AreAccepted n past) (whose : �
 
   -- before any entry has been noted
   pub spreads_begun : (i : ℕ) (spreads outs : List ℕ) → i ≡ length past → length spreads ≡ length past → AreSpreadsFrom past whose i spreads outs
-  spreads_begun i spreads outs end count = record {
-    count = count;
-    firsts = λ s j low high delivers. absurd (omega (arith, end, high, delivers_below past j s delivers));
-    outs = λ s j high delivers. absurd (omega (arith, end, high, after j s delivers, delivers_below past j s delivers));
-    each = λ k s j high low. absurd (omega (arith, end, high, low));
-  }
+  spreads_begun i spreads outs end count = grind (arith, delivers_below, after)
 
   module _ (i lane : ℕ) (e : Entry) (spreads outs : List ℕ) (at : entry_at past i ≡ Some e) (below : i < length past) (of : whose i ≡ lane) (there : lane < length outs) (before : AreSpreadsFrom past whose (i + 1) spreads outs) where
     abbrev noted : List ℕ
@@ -352,11 +309,7 @@ module _ (n : ℕ) (past : List Entry) (formed : AreAccepted n past) (whose : �
 
     -- what is noted is no later than a delivery from i on, where what was noted before is no later
     noted_low : (s j : ℕ) → s < length past → i ≤ j → get_or spreads s 0 ≤ j → get_or noted s 0 ≤ j
-    noted_low s j inside up low =
-        elim (noted_cases e i spreads s (omega (arith, inside, before.count))) [
-          | inl here ↦ omega (arith, here, up)
-          | inr same ↦ omega (arith, same, low)
-        ]
+    noted_low s j inside up low = grind (arith, noted_cases)
 
     first_own : first ≤ get_or noted i 0
     first_own = omega arith
@@ -365,50 +318,11 @@ module _ (n : ℕ) (past : List Entry) (formed : AreAccepted n past) (whose : �
     first_lane = omega arith
 
     noted_first : (s j : ℕ) → s < i → i ≤ j → Delivers past j s → get_or noted s 0 ≤ j
-    noted_first s j low up delivers =
-        elim (eqb_tells j i) [
-          | inl now ↦
-              let here : is_delivery_of s e ≡ true = delivers_entry past i s e at (subst (λ x. Delivers past x s) now.1 delivers) in
-              omega (arith, noted_here e i spreads s here (omega (arith, low, below, before.count)), up)
-          | inr later ↦ noted_low s j (omega (arith, low, below)) up (before.firsts s j (omega (arith, low)) (omega (arith, up, later.1)) delivers)
-        ]
+    noted_first s j low up delivers = grind (arith, delivers_entry, noted_here, noted_low)
 
     outs_next : (s j : ℕ) → i ≤ s → Delivers past j s → get_or (slice_set outs lane first) (whose s) 0 ≤ j
-    outs_next s j up delivers =
-        elim (eqb_tells (whose s) lane) [
-          | inl same ↦
-              let here : get_or (slice_set outs lane first) (whose s) 0 ≡ first = get_or-set_at outs lane (whose s) first 0 same.1 there in
-              elim (eqb_tells s i) [
-                | inl own ↦
-                    let late : i < j = omega (arith, own.1, after j s delivers) in
-                    let low : get_or noted i 0 ≤ j = noted_low i j below (omega (arith, late)) (before.firsts i j (omega arith) (omega (arith, late)) (subst (Delivers past j) own.1 delivers)) in
-                    omega (arith, here, first_own, low)
-                | inr other ↦
-                    let low : get_or outs lane 0 ≤ j = subst (λ m. get_or outs m 0 ≤ j) same.1 (before.outs s j (omega (arith, up, other.1)) delivers) in
-                    omega (arith, here, first_lane, low)
-              ]
-          | inr apart ↦
-              let other : s ≢ i = λ is. apart.1 (ap whose is ∙ of) in
-              omega (arith, get_or-set_other outs lane (whose s) first 0 apart.1, before.outs s j (omega (arith, up, other)) delivers)
-        ]
+    outs_next s j up delivers = grind (arith, get_or-set_at, after j s delivers, noted_low, first_own, first_lane, get_or-set_other)
 
     -- and with one more
     pub spreads_next : AreSpreadsFrom past whose i (slice_set noted i first) (slice_set outs lane first)
-    spreads_next = record {
-      count = length-set noted i first ∙ long;
-      firsts = λ s j low up delivers.
-          let apart : s ≢ i = λ is. omega (arith, is, low) in
-          omega (arith, get_or-set_other noted i s first 0 apart, noted_first s j low up delivers);
-      outs = outs_next;
-      each = λ k s j up inside onward lanes delivers.
-          elim (eqb_tells k i) [
-            | inl own ↦
-                let same : whose s ≡ lane = lanes ∙ ap whose own.1 ∙ of in
-                let here : get_or (slice_set outs lane first) (whose s) 0 ≡ first = get_or-set_at outs lane (whose s) first 0 same there in
-                let is : get_or (slice_set noted i first) k 0 ≡ first = get_or-set_at noted i k first 0 own.1 (omega (arith, below, long)) in
-                omega (arith, is, here, outs_next s j (omega (arith, own.1, onward)) delivers)
-            | inr other ↦
-                let low : get_or noted k 0 ≤ j = noted_low k j inside (omega (arith, up, onward, after j s delivers)) (before.each k s j (omega (arith, up, other.1)) inside onward lanes delivers) in
-                omega (arith, get_or-set_other noted i k first 0 other.1, low)
-          ];
-    }
+    spreads_next = grind (arith, length-set, long, get_or-set_other, noted_first, outs_next, get_or-set_at, noted_low, after)

@@ -1,5 +1,5 @@
 -- Until when those who are down or hold a determinant are still so, and how it stands until then.
-use Rattle.causal_audit.proofs.Common.{ℕ, ◌≡◌, ◌+◌, ◌<◌, ◌≤◌, inl, inr, Bool, true, false, List, [], ◌∷◌, length, refl, sym, ap, subst, ◌∙◌, arith, Some, None, ◌||◌, ◌&&◌, ◌==◌, not, ◌↔◌, Contains, cases_lt, false≢true, ne_eqb, eqb-true, or_cases, and_parts, false_from_ne_true, or_right, eq-eqb, and_right, Det, same_det, count_below, count_below-within, members_counted, Entry, Send, Deliver, Stable, Crash, Restart, Forget, instant, is_down, is_stable, logs, has, entry_at, instant_length, det_then, accepted_then, nat_cmp_total, nat_cmp, FinSet, contains, difference, contains-difference, union, len, contains-union, Pid, AreAccepted, delivers_up, eqb_tells, nat_tests}
+use Rattle.causal_audit.proofs.Common.{ℕ, ◌≡◌, ◌+◌, ◌<◌, ◌≤◌, inl, inr, Bool, true, false, List, [], ◌∷◌, length, refl, sym, ap, subst, ◌∙◌, arith, Some, None, ◌||◌, ◌&&◌, ◌==◌, not, ◌↔◌, Contains, cases_lt, false≢true, ne_eqb, eqb-true, or_cases, and_parts, or_right, eq-eqb, Det, same_det, count_below, count_below-within, members_counted, Entry, Send, Deliver, Stable, Crash, Restart, Forget, instant, is_down, is_stable, logs, has, entry_at, instant_length, det_then, accepted_then, nat_cmp_total, nat_cmp, FinSet, contains, difference, contains-difference, union, len, contains-union, Pid, AreAccepted, delivers_up, eqb_tells, nat_tests}
 use Rattle.causal_audit.specs.Laws.{gone}
 use Rattle.causal_audit.specs.Inside.Look.Looks.{IsThinAt, RulesOut, StandsBy}
 use Rattle.causal_audit.specs.Lasting.{may_release, NoneReleasedFrom, IsOver, OrphansEnd}
@@ -49,10 +49,7 @@ gone_more (Forget who listed) past d p stays h = absurd (false≢true (sym stays
 
 none_releases : (past : List Entry) (t : ℕ) → NoneReleasedFrom past t → (v : ℕ) (e : Entry) → t ≤ v → entry_at past v ≡ Some e → may_release e ≡ false
 none_releases [] t none v e late at = absurd (let x : None ≡ Some e = at in cc)
-none_releases (x ∷ past) t none v e late at = elim (entry_cases x past v e at) [
-  | inl old ↦ none_releases past t none.0 v e late old
-  | inr new ↦ ap may_release (sym new.1) ∙ none.1 (omega (arith, late, new.0))
-]
+none_releases (x ∷ past) t none v e late at = grind (arith, entry_cases x past v e at, none_releases past t none.0 v e late)
 
 -- where none is released, who is down or holds d is so at each later instant
 pub gone_lasts : (past : List Entry) (d : Det) (t u : ℕ) → NoneReleasedFrom past t → t ≤ u → u ≤ length past → (p : ℕ) → gone (instant past t) d p ≡ true → gone (instant past u) d p ≡ true
@@ -64,8 +61,7 @@ gone_lasts past d t u none up within p =
 -- so a determinant that is over is stable, or more than f are down or hold it, at each later instant
 pub over_then : (n f : ℕ) (past : List Entry) (d : Det) (t u : ℕ) → IsOver n f past t d → t ≤ u → u ≤ length past → is_stable (instant past u) d ≡ false → count_below n (gone (instant past u) d) ≤ f → ⊥
 over_then n f past d t u (inl stable) up within unstable few = false≢true (sym unstable ∙ onward_to (λ p. is_stable p d ≡ true) past t u up within (λ v e above below at h. stable_more e (instant past v) d h) stable)
-over_then n f past d t u (inr many) up within unstable few =
-    omega (arith, few, many.1, count_below-within n (gone (instant past t) d) (gone (instant past u) d) (λ p _ here. gone_lasts past d t u many.0 up within p here))
+over_then n f past d t u (inr many) up within unstable few = grind (arith, few, many.1, count_below-within, gone_lasts)
 
 -- so no delivery with such a determinant has an orphan at a later instant
 pub orphans_end : OrphansEnd
@@ -112,9 +108,6 @@ gone_stay past d members t u p up within unmentioned unrestarted inside here =
 
 -- ---- those who hold it
 
-crashed_down : (w b : Bool) → not w ≡ true → b ≡ false → (w || b) ≡ false
-crashed_down w b h k = grind (arith, nat_tests)
-
 -- who holds a determinant is up
 pub holder_up : (n : ℕ) (past : List Entry) (d : Det) (p : ℕ) → AreAccepted n past → logs past p d ≡ true → is_down past p ≡ false
 holder_up n [] d p formed h = refl
@@ -125,14 +118,8 @@ holder_up n (Deliver to send rsn listed ∷ past) d p formed h =
       | inr old ↦ holder_up n past d p formed.0 old
     ]
 holder_up n (Stable det ∷ past) d p formed h = holder_up n past d p formed.0 h
-holder_up n (Crash who ∷ past) d p formed h =
-    let parts = and_parts (not (who.0 == p)) (logs past p d) h in
-    crashed_down (who.0 == p) (is_down past p) parts.0 (holder_up n past d p formed.0 parts.1)
-holder_up n (Restart who listed ∷ past) d p formed h =
-    elim (or_cases (who.0 == p && has listed d) (logs past p d) h) [
-      | inl new ↦ ap (λ b. not b && is_down past p) (and_parts (who.0 == p) (has listed d) new).0
-      | inr old ↦ and_right (not (who.0 == p)) (is_down past p) (holder_up n past d p formed.0 old)
-    ]
+holder_up n (Crash who ∷ past) d p formed h = grind (arith, holder_up n past d p formed.0 (and_parts (not (who.0 == p)) (logs past p d) h).1)
+holder_up n (Restart who listed ∷ past) d p formed h = grind (arith, holder_up n past d p formed.0)
 holder_up n (Forget who listed ∷ past) d p formed h = holder_up n past d p formed.0 (and_parts (not (who.0 == p && has listed d)) (logs past p d) h).1
 
 up_held : (held down : Bool) → (held ≡ true → down ≡ false) → held ≡ (held && not down)
@@ -150,9 +137,7 @@ held_next (Send from to ssn) past d members p was none out inside h = h
 held_next (Deliver to send rsn listed) past d members p was none out inside h = sym (logs_stay (Deliver to send rsn listed) past d refl none p) ∙ h
 held_next (Stable det) past d members p was none out inside h = h
 held_next (Crash who) past d members p was none out inside h = crash_held (who.0 == p) was (is_down past p) (logs past p d) h
-held_next (Restart who listed) past d members p was none out inside h =
-    restart_held (who.0 == p) (has listed d) was (is_down past p) (logs past p d) none
-    (λ here. false_from_ne_true was (λ is. false≢true (sym out ∙ ap (contains members) (eqb-true who.0 p here) ∙ inside is))) h
+held_next (Restart who listed) past d members p was none out inside h = grind (arith, restart_held, eqb-true)
 held_next (Forget who listed) past d members p was none out inside h = sym (logs_stay (Forget who listed) past d refl none p) ∙ h
 
 pub holders_stay : HoldersStay
@@ -167,11 +152,7 @@ difference_shown s t p held down h k = contains-difference nat_cmp_total s t p �
 
 -- the instant after an entry
 pub entry_then : (past : List Entry) (v : ℕ) (e : Entry) → v < length past → entry_at past v ≡ Some e → instant past (v + 1) ≡ e ∷ instant past v
-entry_then past v e below at =
-    let found = next_entry past v below in
-    let one : Some found.0 ≡ Some e = sym found.1 ∙ at in
-    let same : found.0 ≡ e = cc one in
-    found.2 ∙ ap (λ x. x ∷ instant past v) same
+entry_then past v e below at = grind (arith, next_entry past v below)
 
 -- ==== a walk over the entries that may change who is down or holds a determinant, and how the determinant stands between them
 
@@ -196,26 +177,17 @@ module _ (n : ℕ) (past : List Entry) (d : Det) (formed : AreAccepted n past) (
 pub kept_still : (n most : ℕ) (past : List Entry) → AreAccepted n past → (d : Det) (t u : ℕ) (reached down holders : FinSet nat_cmp) → HasReached past d.dest.0 reached → Shows down (λ p. is_down (instant past t) p)
     → Shows holders (λ p. logs (instant past t) p d) → StandsBy Kept most d.dest.0 reached (union down holders) → ((p : ℕ) → gone (instant past t) d p ≡ true → gone (instant past u) d p ≡ true) → IsThinAt n most past d u → ⊥
 kept_still n most past formed d t u reached down holders has downs holds (inl many) stay thin =
-    omega (
-      arith,
-      thin.few,
-      many,
-      gone_many n (instant past t) d (accepted_then n past t formed) down holders downs holds,
-      count_below-within n (gone (instant past t) d) (gone (instant past u) d) (λ p _ here. stay p here),
-    )
+    grind (arith, thin.few, many, gone_many n (instant past t) d (accepted_then n past t formed) down holders downs holds, count_below-within)
 kept_still n most past formed d t u reached down holders has downs holds (inr all) stay thin =
-    let left = thin.left_over in
-    let q = process_at past left.1 in
-    let here = is_subset-contains nat_cmp_total reached (union down holders) all q (has left.0 left.1 left.2 left.3) in
-    false≢true (sym left.4 ∙ stay q (sym (gone_shown n (instant past t) d (accepted_then n past t formed) down holders downs holds q) ∙ here))
+    grind (
+      arith,
+      is_subset-contains nat_cmp_total reached (union down holders) all (process_at past thin.left_over.1) (has thin.left_over.0 thin.left_over.1 thin.left_over.2 thin.left_over.3),
+      gone_shown n (instant past t) d (accepted_then n past t formed) down holders downs holds (process_at past thin.left_over.1),
+    )
 
 -- a position below the next mention is none
 pub beyond : (change mention : ℕ) → change ≤ mention → (mention == change) ≡ false → change < mention
-beyond change mention low apart =
-    elim (cases_lt change mention) [
-      | inl less ↦ less
-      | inr more ↦ absurd (false≢true (sym apart ∙ eq-eqb mention change (omega (arith, low, more))))
-    ]
+beyond change mention low apart = grind (arith, eq-eqb)
 
 pub unmentioned_at : (past : List Entry) (d : Det) (mentions : List ℕ) → HasMentions past d mentions → (t next : ℕ) → HasNoneUntil mentions t next → (v : ℕ) → t ≤ v → v < next → (e : Entry) → entry_at past v ≡ Some e → has (mentioned_by e) d ≡ false
 unmentioned_at past d mentions mentioned t next none v above below e there = mentioned v e there (none v above below)

@@ -1,5 +1,6 @@
 -- What a look finds, stretch by stretch, and what it tells of a delivery.
-use Rattle.causal_audit.proofs.Common.{ℕ, ◌≡◌, ◌-◌, ◌<◌, ◌≤◌, inl, inr, List, [], ◌∷◌, ◌++◌, length, get_or, sym, subst, arith, ◌⊎◌, min, All, IsPartitionPoint, cases_lt, get_or_default, All-push, All-weaker, Contains-append_left, Contains-push, IsNonDecreasingBy-push, Entry}
+use Rattle.std.proofs.lemmas.Grind.{common_steps}
+use Rattle.causal_audit.proofs.Common.{ℕ, ◌≡◌, ◌-◌, ◌<◌, ◌≤◌, inl, inr, List, [], ◌∷◌, ◌++◌, length, get_or, arith, ◌⊎◌, min, All, IsPartitionPoint, cases_lt, get_or_default, All-push, All-weaker, Contains-append_left, Contains-push, IsNonDecreasingBy-push, Entry}
 use Rattle.causal_audit.specs.declared.look.Look.{Look}
 use Rattle.causal_audit.specs.declared.look.thin.Stretch.{Stretch}
 use Rattle.causal_audit.specs.declared.look.thin_stretches.ThinStretches.{ThinStretches}
@@ -19,14 +20,7 @@ module _ (look : Look) (t next : ℕ) (s : Stretch) (passed : IsPassed look t ne
   Placed u = (u < t) ⊎ (((t ≤ u) × (u ≤ s.last)) ⊎ (IsThinAt n look.most past look.det u → ⊥))
 
   placed : (u : ℕ) → u < next → Placed u
-  placed u below =
-      elim (cases_lt u t) [
-        | inl before ↦ inl before
-        | inr here ↦ elim (cases_lt s.last u) [
-          | inl after ↦ inr (inr (passed.after u after below))
-          | inr inside ↦ inr (inl (here, inside))
-        ]
-      ]
+  placed u below = grind arith
 
   below_next : (xs : List Stretch) (at : Stretch → ℕ) → All (λ x. at x < t) xs → All (λ x. at x < next) xs
   below_next xs at all = All-weaker (λ x. at x < t) (λ x. at x < next) (λ x low. omega (arith, low, passed.order, passed.last)) xs all
@@ -34,72 +28,28 @@ module _ (look : Look) (t next : ℕ) (s : Stretch) (passed : IsPassed look t ne
   -- with no stretch more, where it is not thin in this one, or the first mention comes after it
   pub none_more : new.bare.items ≡ old.bare.items → old.last ≤ new.last → new.last ≤ next → ((u : ℕ) → old.from < u → t ≤ u → u ≤ s.last → IsThinAt n look.most past look.det u → u ≤ new.last)
       → ((u : ℕ) → old.from < u → t ≤ u → u ≤ s.last → IsBareAt n look.most past look.det u → ⊥) → AreFound look next new
-  none_more items up bound thin bare = record {
-    bound = bound;
-    last = λ u after below is. elim (placed u below) [
-      | inl before ↦ omega (arith, up, found.last u (omega (arith, after, same)) before is)
-      | inr more ↦ elim more [
-        | inl inside ↦ thin u (omega (arith, after, same)) inside.0 inside.1 is
-        | inr none ↦ absurd (none is)
-      ]
-    ];
-    bare = λ u after below is. subst (λ xs. IsInOne xs u) (sym items) (elim (placed u below) [
-      | inl before ↦ found.bare u (omega (arith, after, same)) before is
-      | inr more ↦ elim more [
-        | inl inside ↦ absurd (bare u (omega (arith, after, same)) inside.0 inside.1 is)
-        | inr none ↦ absurd (none is.thin)
-      ]
-    ]);
-    rising = subst AreRising (sym items) found.rising;
-    firsts_below = subst (All (λ (x : Stretch). x.first < next)) (sym items) (below_next old.bare.items (λ (x : Stretch). x.first) found.firsts_below);
-    lasts_below = subst (All (λ (x : Stretch). x.last < next)) (sym items) (below_next old.bare.items (λ (x : Stretch). x.last) found.lasts_below);
-  }
+  none_more items up bound thin bare = grind (arith, placed, below_next)
 
   -- the last element of a list of which all are below t
   last_low : (xs : List Stretch) (at : Stretch → ℕ) (y : ℕ) → t ≤ y → All (λ x. at x < t) xs → (d : Stretch) → 0 < length xs → at (get_or xs (length xs - 1) d) ≤ y
   last_low xs at y up all d some = let low : at (get_or xs (length xs - 1) d) < t = all (length xs - 1) d (omega (arith, some)) in omega (arith, low, up)
 
   rising_more : AreRising (old.bare.items ++ s ∷ [])
-  rising_more = record {
-    firsts = IsNonDecreasingBy-push (λ (x : Stretch). x.first) old.bare.items s found.rising.firsts (last_low old.bare.items (λ (x : Stretch). x.first) s.first (omega (arith, passed.first)) found.firsts_below);
-    lasts = IsNonDecreasingBy-push (λ (x : Stretch). x.last) old.bare.items s found.rising.lasts (last_low old.bare.items (λ (x : Stretch). x.last) s.last passed.order found.lasts_below);
-  }
+  rising_more = grind (arith, common_steps, IsNonDecreasingBy-push, last_low)
 
   in_old : (u : ℕ) → IsInOne old.bare.items u → IsInOne (old.bare.items ++ s ∷ []) u
   in_old u one = (one.0, Contains-append_left old.bare.items (s ∷ []) one.0 one.1, one.2, one.3)
 
   -- with this stretch more
   pub one_more : new.bare.items ≡ old.bare.items ++ s ∷ [] → new.last ≡ s.last → AreFound look next new
-  one_more items last = record {
-    bound = omega (arith, last, passed.last);
-    last = λ u after below is. elim (placed u below) [
-      | inl before ↦ omega (arith, found.bound, passed.order, last, found.last u (omega (arith, after, same)) before is)
-      | inr more ↦ elim more [
-        | inl inside ↦ omega (arith, last, inside.1)
-        | inr none ↦ absurd (none is)
-      ]
-    ];
-    bare = λ u after below is. subst (λ xs. IsInOne xs u) (sym items) (elim (placed u below) [
-      | inl before ↦ in_old u (found.bare u (omega (arith, after, same)) before is)
-      | inr more ↦ elim more [
-        | inl inside ↦ (s, Contains-push old.bare.items s, omega (arith, passed.first, inside.0), inside.1)
-        | inr none ↦ absurd (none is.thin)
-      ]
-    ]);
-    rising = subst AreRising (sym items) rising_more;
-    firsts_below = subst (All (λ (x : Stretch). x.first < next)) (sym items) (All-push (λ (x : Stretch). x.first < next) old.bare.items s (below_next old.bare.items (λ (x : Stretch). x.first) found.firsts_below) (omega (arith, passed.first, passed.order, passed.last)));
-    lasts_below = subst (All (λ (x : Stretch). x.last < next)) (sym items) (All-push (λ (x : Stretch). x.last < next) old.bare.items s (below_next old.bare.items (λ (x : Stretch). x.last) found.lasts_below) passed.last);
-  }
+  one_more items last = grind (arith, common_steps, placed, in_old, Contains-push old.bare.items s, rising_more, All-push, below_next)
 
 -- ---- the last instant up to a bound
 
 module _ (xs : List Stretch) (bound passed : ℕ) (point : IsPartitionPoint (λ (s : Stretch). s.first ≤ bound) (λ (s : Stretch). bound < s.first) xs passed) where
   -- no instant up to the bound is in a stretch, where none begins by it
   pub none_before : passed ≡ 0 → (u : ℕ) → u ≤ bound → IsInOne xs u → ⊥
-  none_before none u low one =
-      let ahead : bound < (get_or xs one.1.0 one.0).first = point.1 one.1.0 one.0 (omega (arith, none)) one.1.1 in
-      let at : (get_or xs one.1.0 one.0).first ≡ one.0.first = cc (one.1.2) in
-      omega (arith, ahead, at, one.2, low)
+  none_before none u low one = grind (arith, one.2, low)
 
   -- else each that is comes by the end of the last stretch that begins by it
   pub last_before : AreRising xs → 0 < passed → passed ≤ length xs → (x : Stretch) → x ≡ get_or xs (passed - 1) x → (u : ℕ) → u ≤ bound → IsInOne xs u → u ≤ min x.last bound

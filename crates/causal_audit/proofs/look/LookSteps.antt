@@ -114,14 +114,7 @@ module _ (look : Look) (stop : LookPosition) (mention change : ℕ) (is : IsChan
 
       -- the look goes on after it
       pub onward_stop : (new : LookPosition) → new.t ≡ change + 1 → new.ahead ≡ ahead → new.turns ≡ turns → new.cover ≡ cover → StandsBy new.standing look.most look.det.dest.0 look.reached (union cover.down cover.holders) → IsLookPosition look new
-      onward_stop new t_is ahead_is turns_is cover_is stands = record {
-        within = omega (arith, t_is, below);
-        mentions = subst (λ x. IsCursor look.mentions.now new.t x) (sym ahead_is) (cursor_later look.mentions.now stop.t new.t ahead (omega (arith, t_is, is.up)) (cursor look.mentions.now is.at.mentions));
-        turns = subst (λ x. x.turns.now ≡ look.run.turns.now) (sym turns_is) passed.over;
-        down = subst (λ x. Shows x.down (λ p. is_down (instant past new.t) p)) (sym cover_is) (subst (λ u. Shows cover.down (λ p. is_down (instant past u) p)) (sym t_is) down_then);
-        holders = subst (λ x. Shows x.holders (λ p. logs (instant past new.t) p look.det)) (sym cover_is) (subst (λ u. Shows cover.holders (λ p. logs (instant past u) p look.det)) (sym t_is) holders_then);
-        stands = subst (λ x. StandsBy new.standing look.most look.det.dest.0 look.reached (union x.down x.holders)) (sym cover_is) stands;
-      }
+      onward_stop new t_is ahead_is turns_is cover_is stands = grind (arith, within, below, cursor_later, down_then, holders_then)
 
       -- and ends where so many are down or hold it for good
       pub over : look.run.turns.now.lasting_from ≤ change + 1 → StandsBy Kept look.most look.det.dest.0 look.reached (union cover.down cover.holders) → (u : ℕ) → change < u → u < look.end + 1 → IsThinAt n look.most past look.det u → ⊥

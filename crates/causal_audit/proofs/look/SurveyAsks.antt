@@ -1,5 +1,5 @@
 -- What a survey tells by the deliveries that it gathers, as it asks one after the other.
-use Rattle.causal_audit.proofs.Common.{ℕ, ◌≡◌, ◌+◌, ◌<◌, ◌≤◌, inl, inr, Bool, true, false, List, [], ◌∷◌, ◌++◌, length, Option, Some, None, refl, sym, ap, subst, ◌∙◌, arith, ◌==◌, ◌&&◌, nat_lt, option_map_or, set, slice_index, Contains, map-append, All-push, Contains-append_left, cases_lt, cond-true, cond-false, eq-eqb, ne_eqb, eqb_tells, and_from, get_or-set_other, Det, same_det, Entry, Send, Deliver, Stable, Crash, Restart, Forget, deliveries_in, det_at, det_of, det_then, instant, instant_length, AreAccepted}
+use Rattle.causal_audit.proofs.Common.{ℕ, ◌≡◌, ◌+◌, ◌<◌, ◌≤◌, inl, inr, Bool, true, false, List, [], ◌∷◌, ◌++◌, length, Some, refl, sym, ap, subst, ◌∙◌, arith, ◌==◌, set, slice_index, Contains, map-append, All-push, Contains-append_left, cases_lt, cond-true, cond-false, eq-eqb, eqb_tells, get_or-set_other, Det, same_det, Entry, Send, Deliver, Stable, Crash, Restart, Forget, deliveries_in, det_at, det_of, det_then, instant, instant_length, AreAccepted}
 use Rattle.std.proofs.lemmas.Bool.{lt-ltb}
 use Rattle.causal_trace.specs.Numbers.{delivered_dets, number_of}
 use Rattle.causal_audit.specs.Numbers.{ArePositions, is_delivery, IsNumbered}
@@ -9,7 +9,7 @@ use Rattle.causal_audit.proofs.DeliveryNumbers.{numbered_below, numbered_later, 
 use Rattle.causal_audit.proofs.Lemmas.NumberLemmas.{has_number}
 use Rattle.causal_audit.proofs.NoOrphanSoFar.{not_yet}
 use Rattle.causal_audit.proofs.group.OpenPositions.{position}
-use Rattle.causal_audit.proofs.index.Filings.{numbers_apart, same_is, too_late}
+use Rattle.causal_audit.proofs.index.Filings.{numbers_apart, same_is}
 
 -- ==== deliveries by their numbers, and by their determinants
 
@@ -23,18 +23,14 @@ own_det n e past formed is =
 dets_counted : (n : ℕ) (past : List Entry) → AreAccepted n past → length (delivered_dets past) ≡ deliveries_in past
 dets_counted n [] formed = refl
 dets_counted n (Send from to ssn ∷ past) formed = dets_counted n past formed.0
-dets_counted n (Deliver to send rsn listed ∷ past) formed =
-    let own = own_det n (Deliver to send rsn listed) past formed refl in
-    omega (arith, ap (λ o. length (option_map_or (λ d. d ∷ delivered_dets past) o (delivered_dets past))) own.1, dets_counted n past formed.0)
+dets_counted n (Deliver to send rsn listed ∷ past) formed = grind (arith, dets_counted n past formed.0, own_det)
 dets_counted n (Stable det ∷ past) formed = dets_counted n past formed.0
 dets_counted n (Crash who ∷ past) formed = dets_counted n past formed.0
 dets_counted n (Restart who listed ∷ past) formed = dets_counted n past formed.0
 dets_counted n (Forget who listed ∷ past) formed = dets_counted n past formed.0
 
 same_self : (d : Det) → same_det d d ≡ true
-same_self d =
-    and_from (d.source.0 == d.source.0) _ (eq-eqb d.source.0 d.source.0 refl)
-    (and_from (d.ssn == d.ssn) _ (eq-eqb d.ssn d.ssn refl) (and_from (d.dest.0 == d.dest.0) (d.rsn == d.rsn) (eq-eqb d.dest.0 d.dest.0 refl) (eq-eqb d.rsn d.rsn refl)))
+same_self d = grind (arith, eq-eqb d.source.0 d.source.0 refl, eq-eqb d.ssn d.ssn refl, eq-eqb d.dest.0 d.dest.0 refl, eq-eqb d.rsn d.rsn refl)
 
 numbered_within : (past : List Entry) (i k : ℕ) → IsNumbered past i k → k < length past
 numbered_within [] i k numbered = absurd numbered
@@ -44,31 +40,14 @@ numbered_within (e ∷ past) i k (inr new) = omega (arith, new.0)
 -- the newest of the deliveries up to one, with its determinant, is that
 pub number_of_own : (n : ℕ) (past : List Entry) → AreAccepted n past → (i k : ℕ) (d : Det) → IsNumbered past i k → det_at past k ≡ Some d → number_of (i + 1) (delivered_dets past) d ≡ Some i
 number_of_own n [] formed i k d numbered at = absurd numbered
-number_of_own n (e ∷ past) formed i k d (inr new) at =
-    let dets = delivered_dets past in
-    let own : det_of past e ≡ Some d = sym (cond-true (k == length past) (det_of past e) (det_at past k) (eq-eqb k (length past) new.0)) ∙ at in
-    let count : length dets ≡ i = dets_counted n past formed.0 ∙ sym new.2 in
-    let low : nat_lt (length dets) (i + 1) ≡ true = lt-ltb (length dets) (i + 1) (omega (arith, count)) in
-    ap (λ o. number_of (i + 1) (option_map_or (λ x. x ∷ dets) o dets) d) own
-    ∙ cond-true (nat_lt (length dets) (i + 1) && same_det d d) (Some (length dets)) (number_of (i + 1) dets d) (and_from (nat_lt (length dets) (i + 1)) (same_det d d) low (same_self d))
-    ∙ ap (λ x. Some x) count
+number_of_own n (e ∷ past) formed i k d (inr new) at = grind (arith, cond-true, eq-eqb, dets_counted, lt-ltb, same_self)
 number_of_own n (e ∷ past) formed i k d (inl old) at =
-    let dets = delivered_dets past in
-    let early : k < length past = numbered_within past i k old in
-    let before : det_at past k ≡ Some d = sym (cond-false (k == length past) (det_of past e) (det_at past k) (ne_eqb k (length past) (λ is. omega (arith, is, early)))) ∙ at in
-    let below : i + 1 ≤ length dets = omega (arith, dets_counted n past formed.0, numbered_below past i k old) in
-    more (det_of past e) dets below (number_of_own n past formed.0 i k d old before)
-  where
-    more : (o : Option Det) (dets : List Det) → i + 1 ≤ length dets → number_of (i + 1) dets d ≡ Some i → number_of (i + 1) (option_map_or (λ x. x ∷ dets) o dets) d ≡ Some i
-    more None dets below is = is
-    more (Some x) dets below is = cond-false (nat_lt (length dets) (i + 1) && same_det x d) (Some (length dets)) (number_of (i + 1) dets d) (too_late (length dets) (i + 1) (same_det x d) below) ∙ is
+    grind (arith, number_of_own n past formed.0 i k d old, numbered_within, cond-false, dets_counted, numbered_below)
 
 -- so it is where the positions of those before an instant are listed
 pub number_at_own : (n : ℕ) (past : List Entry) → AreAccepted n past → (end : ℕ) (positions : List ℕ) (i : ℕ) (d : Det) → end ≤ length past → ArePositions (instant past end) positions → i < length positions → det_at past (slice_index positions i) ≡ Some d
     → number_of (i + 1) (delivered_dets past) d ≡ Some i
-number_at_own n past formed end positions i d within are low at =
-    let k = slice_index positions i in
-    number_of_own n past formed i k d (numbered_later past end i k within (are.each i low)) at
+number_at_own n past formed end positions i d within are low at = grind (arith, number_of_own, numbered_later)
 
 -- and the determinant is its own
 pub det_of_number : (n : ℕ) (past : List Entry) → AreAccepted n past → (j k : ℕ) (d : Det) → number_of (j + 1) (delivered_dets past) d ≡ Some j → IsNumbered past j k → det_at past k ≡ Some d

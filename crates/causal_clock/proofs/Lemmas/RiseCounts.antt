@@ -1,7 +1,6 @@
 -- The count that rises tell at a place.
 use Rattle.std.specs.Prelude.{◌≡◌, ℕ, ◌<◌, ◌≤◌, ◌⊎◌, leb, if◌then◌else◌, List, [], ◌∷◌, length}
 use Rattle.std.proofs.Common.{zero, suc, refl, arith, ap, inl, inr}
-use Rattle.std.proofs.lemmas.Bool.{le-leb}
 use Rattle.std.proofs.lemmas.Bool.Decides.{leb_tells}
 use Rattle.causal_clock.specs.declared.Rise.{Rise}
 use Rattle.causal_clock.specs.Rises.{rise_at, count_at}
@@ -9,9 +8,7 @@ use Rattle.causal_clock.specs.Rises.{rise_at, count_at}
 -- a rise up to the place counts there
 pub rise_counts : (rises : List Rise) (place i : ℕ) → i < length rises → (rise_at rises i).place ≤ place → (rise_at rises i).count ≤ count_at rises place
 rise_counts [] place i lt le = absurd (omega arith)
-rise_counts (r ∷ rises) place zero lt le =
-    let here : ◌≡◌ {A = ℕ} (if leb r.place place then r.count else 0) r.count = ap (λ b. if b then r.count else 0) (le-leb r.place place le) in
-    omega (arith, here)
+rise_counts (r ∷ rises) place zero lt le = grind arith
 rise_counts (r ∷ rises) place (suc i) lt le = omega (arith, rise_counts rises place i (omega arith) le)
 
 -- the count is that of some rise up to the place, or there is none

@@ -27,10 +27,7 @@ complete_at xs i h at none = (take i xs, no_feed-nowhere xs i (omega arith) none
 -- bytes with no line feed after such bytes have none
 pub no_feed-append : (xs ys : List ℕ) → no_feed xs ≡ true → no_feed ys ≡ true → no_feed (xs ++ ys) ≡ true
 no_feed-append [] ys p q = q
-no_feed-append (x ∷ xs) ys p q = both (not (x == 10)) (no_feed xs) _ p (λ r. no_feed-append xs ys r q) where
-  both : (a b c : Bool) → (a && b) ≡ true → (b ≡ true → c ≡ true) → (a && c) ≡ true
-  both true b c h f = f h
-  both false b c h f = absurd (let no : false ≡ true = h in cc)
+no_feed-append (x ∷ xs) ys p q = grind (arith, no_feed-append xs ys)
 
 first_other : (a b : Bool) → (not a && b) ≡ true → (a ≡ false) × (b ≡ true)
 first_other false b h = (refl, h)

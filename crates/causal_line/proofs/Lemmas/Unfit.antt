@@ -29,10 +29,7 @@ rest_false false b t h = absurd (let no : false ≡ true = t in cc)
 
 -- where not both hold but the second does, the first does not
 pub last_false : (a b : Bool) → b ≡ true → (a && b) ≡ false → a ≡ false
-last_false a true t h = all a h where
-  all : (a : Bool) → (a && true) ≡ false → a ≡ false
-  all true h = h
-  all false h = refl
+last_false a true t h = grind arith
 last_false a false t h = absurd (let no : false ≡ true = t in cc)
 
 -- the first two, or the rest

@@ -1,5 +1,5 @@
 -- A text has one reading: a fault that is the first is the one that reading gives.
-use Rattle.std.proofs.Common.{◌≡◌, ℕ, ◌+◌, List, [], ◌∷◌, length, Result, Err, inl, inr, refl, ap, ap₂, sym, ◌∙◌, subst}
+use Rattle.std.proofs.Common.{arith, ◌≡◌, ℕ, ◌+◌, List, [], ◌∷◌, length, Err, inl, inr, ap, ap₂, sym, ◌∙◌}
 use Rattle.causal_trace.specs.Rows.{Recording}
 use Rattle.causal_line.specs.declared.kind.TextKind.TheVariants as kind
 use Rattle.causal_line.specs.declared.kind.TextFault.{TextFault}
@@ -7,8 +7,7 @@ use Rattle.causal_line.specs.declared.stage.Stage.{Stage}
 use Rattle.causal_line.specs.declared.stage.Stage.TheVariants.{Opening, Within, Ended}
 use Rattle.causal_line.specs.Lines.{lines}
 use Rattle.causal_lines.specs.Places.{Place, start, next, ended}
-use Rattle.causal_line.specs.Reading.{◌>>=◌}
-use Rattle.causal_text.specs.Inside.LineByLine.{after_lines, reading}
+use Rattle.causal_text.specs.Inside.LineByLine.{reading}
 use Rattle.causal_line.specs.Stages.{after_line}
 use Rattle.causal_text.specs.Spelling.{SpellsWithin, IsOpen, IsFaultOfLine, IsCut, IsFirstFaultWithin}
 use Rattle.causal_text.proofs.Spellings.{IsPlaceAfter-lines, IsPlaceAfter-start}
@@ -21,11 +20,14 @@ faulty_next most q line f h n = rw h (ap (λ k. Err (record { line = k; kind = f
 -- the fault of the least line that has one is what reading gives
 fault_of_line : (most : ℕ) (text : List ℕ) (f : TextFault) → IsFaultOfLine most text f → reading most text ≡ Err f
 fault_of_line most text f e =
-    let q = Leads-reached most e.before e.stage e.reaches in
-    let st = IsPlaceAfter-lines most [] e.before start q.0 (IsPlaceAfter-start most) q.1 in
-    let here = faulty_next most q.0 e.line f (rw (q.2, st.size) e.faulty) (rw st.count e.number) in
-    let all : after_lines most start (lines text) ≡ Err f = ap (after_lines most start) e.split ∙ after_lines-append most start q.0 e.before (e.line ∷ e.after) q.1 ∙ rw here refl in
-    ap (λ (r : Result Place TextFault). r >>= λ p. ended p p.stage) all
+    grind (
+      arith,
+      Leads-reached,
+      IsPlaceAfter-lines most [] e.before start (Leads-reached most e.before e.stage e.reaches).0 (IsPlaceAfter-start most) (Leads-reached most e.before e.stage e.reaches).1,
+      IsPlaceAfter-start most,
+      faulty_next,
+      after_lines-append most start (Leads-reached most e.before e.stage e.reaches).0 e.before (e.line ∷ e.after) (Leads-reached most e.before e.stage e.reaches).1,
+    )
 
 -- with no end line so far the text is cut here
 cut_here : (q : Place) (s : Stage) (f : TextFault) → IsOpen s → f.line ≡ q.count + 1 → f.kind ≡ kind.Cut → ended q s ≡ Err f
@@ -36,10 +38,12 @@ cut_here q (Ended version r) f h n k = absurd h
 -- that a text is cut is what reading gives
 cut_of : (most : ℕ) (text : List ℕ) (f : TextFault) → IsCut most text f → reading most text ≡ Err f
 cut_of most text f e =
-    let q = Leads-reached most (lines text) e.stage e.reaches in
-    let st = IsPlaceAfter-lines most [] (lines text) start q.0 (IsPlaceAfter-start most) q.1 in
-    ap (λ (r : Result Place TextFault). r >>= λ p. ended p p.stage) q.1
-    ∙ cut_here q.0 q.0.stage f (subst (λ (s : Stage). IsOpen s) (sym q.2) e.unended) (rw st.count e.number) e.kind_is
+    grind (
+      arith,
+      IsPlaceAfter-lines most [] (lines text) start (Leads-reached most (lines text) e.stage e.reaches).0 (IsPlaceAfter-start most) (Leads-reached most (lines text) e.stage e.reaches).1,
+      IsPlaceAfter-start most,
+      cut_here,
+    )
 
 -- the first fault of a text is what reading gives
 pub reading-first : (most : ℕ) (text : List ℕ) (f : TextFault) → IsFirstFaultWithin most text f → reading most text ≡ Err f

@@ -1,5 +1,5 @@
 -- What a text begins with, the run begins with that the text spells.
-use Rattle.std.proofs.Common.{◌≡◌, ◌++◌, ◌∙◌, refl, sym, ap, ℕ, List, [], ◌∷◌, length, map, reverse, Ok, Result, append_assoc}
+use Rattle.std.proofs.Common.{arith, ◌≡◌, ◌++◌, ◌∙◌, refl, sym, ap, ℕ, List, [], ◌∷◌, length, map, reverse, Ok, Result, append_assoc}
 use Rattle.std.proofs.lemmas.List.{map-append, reverse-append, reverse-reverse}
 use Rattle.causal_trace.specs.declared.entry.Entry.{Entry}
 use Rattle.causal_line.specs.declared.kind.TextKind.{TextKind}
@@ -8,7 +8,6 @@ use Rattle.causal_line.specs.declared.shape.Shape.TheVariants as shape
 use Rattle.causal_line.specs.declared.stage.Stage.TheVariants.{Within, Ended}
 use Rattle.causal_text.specs.Laws.{TextsGoOn}
 use Rattle.causal_line.specs.Lines.{lines}
-use Rattle.causal_text.specs.Pieces.{joined}
 use Rattle.causal_line.specs.Stages.{said}
 use Rattle.causal_line.specs.Values.{line_shape}
 use Rattle.causal_line.specs.Versions.{number_of}
@@ -24,19 +23,12 @@ entries_read es = map Ok (map shape.Entry es)
 first_entries : (es fs : List Entry) (count : ℕ) (us : List Read) → entries_read es ++ us ≡ map Ok (map shape.Entry fs ++ shape.End count ∷ []) → (zs : List Entry) × (fs ≡ es ++ zs)
 first_entries [] fs count us e = (fs, refl)
 first_entries (x ∷ es) [] count us e = absurd (let head : shape.Entry x ≡ shape.End count = cc in let bad : shape.Entry x ≡ shape.End count = head in cc)
-first_entries (x ∷ es) (y ∷ fs) count us e =
-    let same : x ≡ y = cc in
-    let rest : entries_read es ++ us ≡ map Ok (map shape.Entry fs ++ shape.End count ∷ []) = cc in
-    let more = first_entries es fs count us rest in
-    (more.0, λ i. sym same i ∷ more.1 i)
+first_entries (x ∷ es) (y ∷ fs) count us e = grind (arith, first_entries es fs count us cc)
 
 pub texts_go_on : TextsGoOn
-texts_go_on most text whole r spells (bytes, tail, split, c) =
-    let all : lines text ≡ c.complete ++ lines (c.rest ++ tail) =
-    ap lines (split ∙ ap (λ xs. xs ++ tail) c.whole ∙ append_assoc (joined c.complete) c.rest tail) ∙ lines_joined c.complete (c.rest ++ tail) c.each in
+texts_go_on most text whole r spells (bytes, tail, split, c) = let all : lines text ≡ c.complete ++ lines (c.rest ++ tail) = grind (arith, append_assoc, lines_joined) in
     let us = map line_shape (lines (c.rest ++ tail)) in
-    let both : map Ok (said (Within c.version r)) ++ us ≡ map Ok (said (Ended spells.version whole)) =
-    ap (λ xs. xs ++ us) (sym c.reaches.said) ∙ sym (map-append line_shape c.complete (lines (c.rest ++ tail))) ∙ ap (map line_shape) (sym all) ∙ spells.said in
+    let both : map Ok (said (Within c.version r)) ++ us ≡ map Ok (said (Ended spells.version whole)) = grind (arith, map-append) in
     let header : shape.Header (number_of c.version) r.processes ≡ shape.Header (number_of spells.version) whole.processes = cc in
     let entries : entries_read (reverse r.past) ++ us ≡ map Ok (map shape.Entry (reverse whole.past) ++ shape.End (length whole.past) ∷ []) = cc in
     let later = first_entries (reverse r.past) (reverse whole.past) (length whole.past) us entries in

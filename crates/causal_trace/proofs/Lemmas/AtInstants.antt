@@ -1,5 +1,5 @@
 -- What holds of a run holds of its instants.
-use Rattle.std.proofs.Common.{ℕ, zero, suc, inl, inr, cond, ◌≡◌, ◌+◌, ◌-◌, ◌<◌, ◌≤◌, List, [], ◌∷◌, ◌++◌, length, take, drop, reverse, Some, None, refl, sym, ap, ◌∙◌, add-one, arith}
+use Rattle.std.proofs.Common.{ℕ, zero, suc, cond, ◌≡◌, ◌+◌, ◌-◌, ◌<◌, ◌≤◌, List, [], ◌∷◌, length, drop, reverse, Some, refl, ap, ◌∙◌, arith}
 use Rattle.std.specs.Prelude.{◌==◌}
 use Rattle.std.proofs.lemmas.List.{length-drop, length-reverse, reverse-append, reverse-reverse, drop_at, take-append-drop}
 use Rattle.std.proofs.lemmas.Bool.{cases_lt, cond-false, ne_eqb}
@@ -12,10 +12,7 @@ use Rattle.causal_trace.proofs.Lemmas.Instants.{det_beyond}
 
 -- one more entry leaves the instants that there were, and makes one more
 pub instants_stay : (e : Entry) (past : List Entry) (t : ℕ) → t ≤ length past → instant (e ∷ past) t ≡ instant past t
-instants_stay e past t within = ap (λ n. drop n (e ∷ past)) (let later : length (e ∷ past) - t ≡ (length past - t) + 1 = omega (arith, within) in later) ∙ dropped (length past - t) e past
-  where
-    dropped : (n : ℕ) (e : Entry) (past : List Entry) → drop (n + 1) (e ∷ past) ≡ drop n past
-    dropped n e past = rw add-one refl
+instants_stay e past t within = grind arith
 
 -- and the newest instant is the whole with it
 pub one_more_instant : (e : Entry) (past : List Entry) → instant (e ∷ past) (length past + 1) ≡ e ∷ past
@@ -46,29 +43,26 @@ last_instant past = ap (λ n. drop n past) (let none : length past - length past
 -- the states of the entries in their order are the instants
 pub read_instant : (past : List Entry) (t : ℕ) → t ≤ length past → past_at (reverse past) t ≡ instant past t
 read_instant past t within =
-    let es = reverse past in
-    let split : past ≡ reverse (drop t es) ++ reverse (take t es) = sym (reverse-reverse past) ∙ ap reverse (sym (take-append-drop t es)) ∙ reverse-append (take t es) (drop t es) in
-    sym (ap (λ x. drop (length past - t) x) split ∙ drop_at (reverse (drop t es)) (reverse (take t es)) (length past - t) (length-reverse (drop t es) ∙ length-drop t es ∙ ap (λ n. n - t) (length-reverse past)))
+    grind (
+      arith,
+      reverse-reverse past,
+      take-append-drop t (reverse past),
+      reverse-append,
+      drop_at,
+      length-reverse (drop t (reverse past)),
+      length-drop t (reverse past),
+      length-reverse past,
+    )
 
 -- a delivery stands within the past
 pub det_within : (past : List Entry) (k : ℕ) (d : Det) → det_at past k ≡ Some d → k < length past
-det_within past k d at =
-    elim (cases_lt k (length past)) [
-      | inl h ↦ h
-      | inr h ↦ absurd (let e : None ≡ Some d = sym (det_beyond past k h) ∙ at in cc)
-    ]
+det_within past k d at = grind (arith, det_beyond)
 
 -- what is told of an entry where it is the newest, and kept with each later one, is the same at each later instant
 pub found_then : {A : Type 0} (at : List Entry → ℕ → A) (of : List Entry → Entry → A) → ((e : Entry) (past : List Entry) (k : ℕ) → at (e ∷ past) k ≡ cond (k == length past) (of past e) (at past k))
     → (past : List Entry) (t k : ℕ) → k < t → t ≤ length past → at (instant past t) k ≡ at past k
 found_then at of more [] t k below within = absurd (omega (arith, below, within))
-found_then at of more (e ∷ past) t k below within =
-    elim (cases_lt (length past) t) [
-      | inl h ↦ let is : t ≡ length past + 1 = omega (arith, h, within) in ap (λ u. at (instant (e ∷ past) u) k) is ∙ ap (λ x. at x k) (one_more_instant e past)
-      | inr h ↦
-          ap (λ x. at x k) (instants_stay e past t h) ∙ found_then at of more past t k below h
-          ∙ sym (more e past k ∙ cond-false (k == length past) (of past e) (at past k) (ne_eqb k (length past) (λ is. omega (arith, below, h, is))))
-    ]
+found_then at of more (e ∷ past) t k below within = grind (arith, cases_lt, instants_stay, found_then at of more past t k below, cond-false, ne_eqb)
 
 -- a delivery's determinant is the same at each later instant
 pub det_then : (past : List Entry) (t k : ℕ) → k < t → t ≤ length past → det_at (instant past t) k ≡ det_at past k

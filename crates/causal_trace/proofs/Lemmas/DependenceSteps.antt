@@ -18,9 +18,7 @@ event_once [] i p l q m a b = absurd a
 event_once (e ∷ past) i p l q m (inl a) (inl b) = event_once past i p l q m a b
 event_once (e ∷ past) i p l q m (inl a) (inr b) = absurd (omega (arith, event_below past i p l a, b.0))
 event_once (e ∷ past) i p l q m (inr a) (inl b) = absurd (omega (arith, event_below past i q m b, a.0))
-event_once (e ∷ past) i p l q m (inr a) (inr b) =
-    let same : p ≡ q = let x : Some p ≡ Some q = sym a.1 ∙ b.1 in cc in
-    (same, sym a.2 ∙ ap (lane past) same ∙ b.2)
+event_once (e ∷ past) i p l q m (inr a) (inr b) = grind arith
 
 lane_grows : (e : Entry) (past : List Entry) (p : ℕ) → lane past p ≤ lane (e ∷ past) p
 lane_grows (Send from to ssn) past p = omega arith

@@ -1,7 +1,6 @@
 -- What is known of an entry against which nothing stands.
-use Rattle.std.proofs.Common.{ℕ, zero, suc, ◌≡◌, ◌<◌, inl, inr, Bool, true, false, List, [], ◌∷◌, length, Some, None, refl, sym, ap, subst, ◌∙◌, arith}
+use Rattle.std.proofs.Common.{ℕ, zero, suc, ◌≡◌, ◌<◌, inl, inr, Bool, true, false, List, [], ◌∷◌, length, Some, None, refl, sym, subst, arith}
 use Rattle.std.specs.Prelude.{not, slice_get}
-use Rattle.std.specs.Option.{option_map_or}
 use Rattle.std.proofs.lemmas.Bool.{false≢true, cases_lt, eqb-true}
 use Rattle.causal_name.specs.declared.Pid.{Pid}
 use Rattle.causal_name.specs.declared.Det.{Det}
@@ -9,7 +8,7 @@ use Rattle.causal_trace.specs.declared.entry.Entry.{Entry}
 use Rattle.causal_trace.specs.declared.entry.Entry.TheVariants.{Send, Deliver, Stable, Crash, Restart, Forget}
 use Rattle.causal_trace.specs.declared.fault.TraceFault.{TraceFault}
 use Rattle.causal_trace.specs.declared.fault.TraceFault.TheVariants.{NotUp, NotDown, NoSend}
-use Rattle.causal_trace.specs.Past.{is_down, is_send_to, is_sent_to}
+use Rattle.causal_trace.specs.Past.{is_down, is_sent_to}
 use Rattle.causal_trace.specs.Rows.{rows, first_holding, first_fault, AreAccepted}
 use Rattle.causal_trace.specs.Dependence.{is_delivery_of}
 use Rattle.causal_trace.proofs.Lemmas.WellFormed.{nothing_told}
@@ -24,9 +23,7 @@ not_false false h = sym h
 -- where nothing is told, no row holds
 pub row_fails : (told : List (Bool × TraceFault)) → first_holding told ≡ None → (k : ℕ) (row : Bool × TraceFault) → slice_get told k ≡ Some row → row.0 ≡ false
 row_fails [] h k row at = absurd (let e : None ≡ Some row = at in cc)
-row_fails (first ∷ rest) h zero row at =
-    let is : first ≡ row = cc at in
-    subst (λ x. x.0 ≡ false) is (nothing_told first.0 first.1 (first_holding rest) h).0
+row_fails (first ∷ rest) h zero row at = grind arith
 row_fails (first ∷ rest) h (suc k) row at = row_fails rest (nothing_told first.0 first.1 (first_holding rest) h).1 k row at
 
 -- a delivery is to a process that is up
@@ -46,11 +43,7 @@ delivers_sent n past to send rsn listed h = not_false (is_sent_to past send to.0
 
 -- a send to a process stands within the past
 pub sent_within : (past : List Entry) (send p : ℕ) → is_sent_to past send p ≡ true → send < length past
-sent_within past send p h =
-    elim (cases_lt send (length past)) [
-      | inl k ↦ k
-      | inr k ↦ absurd (false≢true (sym (ap (λ o. option_map_or (is_send_to p) o false) (entry_beyond past send k)) ∙ h))
-    ]
+sent_within past send p h = grind (arith, cases_lt, entry_beyond)
 
 -- what is delivered was sent to some process
 pub delivery_sent : (n : ℕ) (past : List Entry) (e : Entry) (i : ℕ) → first_fault n past e ≡ None → is_delivery_of i e ≡ true → (p : ℕ) × (is_sent_to past i p ≡ true)

@@ -5,7 +5,7 @@ use Rattle.std.proofs.Math.Seq.{drop-append_seam}
 use Rattle.std.proofs.lemmas.Option.{slice_get_cases}
 use Rattle.std.proofs.lemmas.Bool.{cond-true, cond-false, eq-eqb, ne_eqb}
 use Rattle.std.proofs.lemmas.Bool.Decides.{eqb_tells}
-use Rattle.std.specs.Prelude.{◌==◌, ◌-◌, drop, slice_get}
+use Rattle.std.specs.Prelude.{◌==◌, drop, slice_get}
 use Rattle.causal_trace.specs.declared.entry.Entry.{Entry}
 use Rattle.causal_trace.specs.State.{past_at}
 use Rattle.causal_trace.specs.Past.{instant, entry_at, det_of, det_at}
@@ -62,20 +62,16 @@ past_whole es = ap reverse (take_all (length es) es (omega arith))
 -- the instants of a recording are the states after its first entries
 pub instant_past : (es : List Entry) (t : ℕ) → t ≤ length es → instant (reverse es) t ≡ past_at es t
 instant_past es t within =
-    let split : reverse es ≡ reverse (drop t es) ++ reverse (take t es) = ap reverse (sym (take-append-drop t es)) ∙ reverse-append (take t es) (drop t es) in
-    let later : length (reverse es) - t ≡ length (reverse (drop t es)) = ap (λ n. n - t) (length-reverse es) ∙ sym (length-drop t es) ∙ sym (length-reverse (drop t es)) in
-    ap (λ n. drop n (reverse es)) later
-    ∙ ap (λ xs. drop (length (reverse (drop t es))) xs) split
-    ∙ drop-append_seam (reverse (drop t es)) (reverse (take t es))
+    grind (
+      arith,
+      take-append-drop t es,
+      reverse-append (take t es) (drop t es),
+      length-reverse es,
+      length-drop t es,
+      length-reverse (drop t es),
+      drop-append_seam,
+    )
 
 -- the entry at a position of a recording
 pub entry_of : (es : List Entry) (i : ℕ) → entry_at (reverse es) i ≡ slice_get es i
-entry_of es i =
-    elim ((slice_get_cases es i).1) [
-      | inl found ↦
-          ap (λ past. entry_at past i) (sym (past_whole es))
-          ∙ entry_there es (length es) i found.0 (omega arith) found.1
-          ∙ ap Some found.3
-          ∙ sym found.2
-      | inr beyond ↦ entry_beyond (reverse es) i (omega (arith, beyond.0, length-reverse es)) ∙ sym beyond.1
-    ]
+entry_of es i = grind (arith, slice_get_cases, past_whole es, entry_there, entry_beyond, length-reverse es)

@@ -2,14 +2,12 @@
 use Rattle.std.proofs.Common.{ℕ, ◌≡◌, ◌+◌, ◌≤◌, Bool, true, false, cond, List, [], ◌∷◌, length, Option, Some, None, refl, sym, ap, ◌∙◌, arith}
 use Rattle.std.specs.Prelude.{nat_lt, ◌||◌}
 use Rattle.std.proofs.lemmas.Bool.{false≢true}
-use Rattle.std.proofs.lemmas.Bool.Decides.{nat_tests}
 use Rattle.std.specs.List.{list_any}
 use Rattle.causal_trace.specs.declared.entry.Entry.{Entry}
 use Rattle.causal_trace.specs.declared.entry.Entry.TheVariants.{Send, Deliver, Stable, Crash, Restart, Forget}
 use Rattle.causal_trace.specs.declared.fault.TraceFault.{TraceFault}
 use Rattle.causal_trace.specs.declared.fault.TraceFault.TheVariants.{TooLong, NoMemory}
 use Rattle.causal_trace.specs.Past.{listed_in, listed_by}
-use Rattle.causal_trace.specs.Limits.{listed_within}
 use Rattle.causal_trace.specs.Rows.{Recording, rows, first_holding, first_fault, fault_by_rows, fault_within, passes, passes_limit, AreAccepted, IsWellFormed, IsWithin}
 use Rattle.causal_trace.specs.State.{with_entry}
 use Rattle.causal_trace.specs.Bounded.{IsBounded}
@@ -31,7 +29,7 @@ within_limits n past (Forget who listed) h = (nothing_told _ _ _ h).0
 
 -- a run that passes no limit, in numbers
 pub limits : (n a b : ℕ) → (nat_lt 16777216 (n + 1) || nat_lt 268435456 (a + b)) ≡ false → (n + 1 ≤ 16777216) × (a + b ≤ 268435456)
-limits n a b h = grind (arith, nat_tests)
+limits n a b h = grind arith
 
 abbrev is_memory : TraceFault → Bool
 is_memory NoMemory = true
@@ -66,34 +64,26 @@ pub rows_next : (entries : ℕ) (r : Recording) (e : Entry) → fault_within ent
 rows_next entries r e h = (nothing_told (passes entries r.past (length (listed_by e))) TooLong (fault_by_rows r e) h).1
 
 fits : (n a b m l : ℕ) → (nat_lt m (n + 1) || nat_lt l (a + b)) ≡ false → (n + 1 ≤ m) × (a + b ≤ l)
-fits n a b m l h = grind (arith, nat_tests)
+fits n a b m l h = grind arith
 
 -- a run with an entry that nothing stands against is still within its limit
 pub within_next : (entries : ℕ) (r : Recording) (e : Entry) → fault_within entries r e ≡ None → IsWithin entries (with_entry r e)
-within_next entries r e h =
-    let fit = fits (length r.past) (listed_in r.past) (length (listed_by e)) entries (listed_within entries) (nothing_told _ TooLong (fault_by_rows r e) h).0 in
-    record { few = omega (arith, fit.0); listed = fit.1 }
+within_next entries r e h = grind arith
 
 -- what is within limits with one more entry was so before, and no limit stood against the entry
 pub within_before : (entries : ℕ) (r : Recording) (e : Entry) → IsWithin entries (with_entry r e) → IsWithin entries r
 within_before entries r e w = record { few = omega (arith, w.few); listed = omega (arith, w.listed) }
 
 passed_none : (n a b m l : ℕ) → n + 1 ≤ m → a + b ≤ l → (nat_lt m (n + 1) || nat_lt l (a + b)) ≡ false
-passed_none n a b m l h k = grind (arith, nat_tests)
+passed_none n a b m l h k = grind arith
 
 -- nothing stands against an entry that no row refuses and with which the run is within its limit
 pub next_within : (entries : ℕ) (r : Recording) (e : Entry) → IsWithin entries (with_entry r e) → fault_by_rows r e ≡ None → fault_within entries r e ≡ None
-next_within entries r e w next =
-    let none : passes entries r.past (length (listed_by e)) ≡ false = passed_none (length r.past) (listed_in r.past) (length (listed_by e)) entries (listed_within entries) (omega (arith, w.few)) w.listed in
-    ap (λ b. cond b (Some TooLong) (fault_by_rows r e)) none ∙ next
+next_within entries r e w next = grind arith
 
 -- no limit tells want of memory either
 pub no_memory_within : (entries : ℕ) (r : Recording) (e : Entry) → fault_within entries r e ≡ Some NoMemory → ⊥
-no_memory_within entries r e h =
-    elim (passes entries r.past (length (listed_by e))) as (λ b. cond b (Some TooLong) (fault_by_rows r e) ≡ Some NoMemory → ⊥) [
-      | true ↦ λ told. let same : TooLong ≡ NoMemory = cc told in cc
-      | false ↦ no_memory_told r.processes r.past e
-    ] h
+no_memory_within entries r e h = grind (arith, no_memory_told)
 
 -- a well-formed recording with an entry that may come next is well formed
 pub formed_push : (r : Recording) (e : Entry) → IsWellFormed r → first_fault r.processes r.past e ≡ None → IsWellFormed (with_entry r e)
@@ -101,14 +91,7 @@ formed_push r e formed next = record { count = formed.count; accepted = (formed.
 
 -- what a trace keeps, with one more entry
 pub kept_push : (r : Recording) (e : Entry) (listed : ℕ) → IsBounded r listed → first_fault r.processes r.past e ≡ None → IsBounded (with_entry r e) (listed + length (listed_by e))
-kept_push r e listed kept next =
-    let fit : (length r.past + 1 ≤ 16777216) × (listed_in r.past + length (listed_by e) ≤ 268435456) = limits _ _ _ (within_limits r.processes r.past e next) in
-    record {
-      formed = formed_push r e kept.formed next;
-      short = omega (arith, fit.0);
-      counted = ap (λ n. n + length (listed_by e)) kept.counted;
-      within = omega (arith, fit.1, kept.counted);
-    }
+kept_push r e listed kept next = grind (arith, limits, within_limits)
 
 -- the limits, entry by entry
 pub record IsShort (past : List Entry) : Type 0 where
@@ -119,9 +102,7 @@ pub record IsShort (past : List Entry) : Type 0 where
 
 -- an entry that may come next leaves a past within them
 pub short_next : (n : ℕ) (past : List Entry) (e : Entry) → first_fault n past e ≡ None → IsShort (e ∷ past)
-short_next n past e next =
-    let fit = limits (length past) (listed_in past) (length (listed_by e)) (within_limits n past e next) in
-    record { entries = omega (arith, fit.0); listed = fit.1 }
+short_next n past e next = grind (arith, within_limits)
 
 -- so is each past whose entries could come
 pub accepted_short : (n : ℕ) (past : List Entry) → AreAccepted n past → IsShort past

@@ -1,4 +1,4 @@
-use Rattle.causal_audit.proofs.Common.{ℕ, List, length, ◌≡◌, ◌+◌, ◌<◌, ◌∷◌, ◌≤◌, arith, sym, subst, count_below, instant, is_down, Entry, Recording, entries_of, accepted_then}
+use Rattle.causal_audit.proofs.Common.{ℕ, List, length, ◌≡◌, ◌+◌, ◌<◌, ◌∷◌, arith, sym, subst, instant, is_down, Entry, Recording, entries_of, accepted_then}
 use Rattle.causal_audit.specs.Inside.DeliveryStates.{Shows}
 use Rattle.causal_audit.proofs.Shown.{down_members}
 use Rattle.causal_audit.proofs.Steps.{how_many, next_state, nobody_down, down_count, few_at_first, up_to_next}
@@ -8,10 +8,7 @@ below : (r : Recording) (es : List Entry) (t : ℕ) → es ≡ entries_of r → 
 below r es t read there = omega (arith, there, how_many r es read)
 
 pub loop-t-init : goal.loop-t-init
-loop-t-init c = record {
-  down = rw c.none-down.ensures (nobody_down c.args.trace.now.recording.past);
-  before = λ u h. few_at_first c.args.trace.now.recording c.args.f u h;
-}
+loop-t-init c = grind (arith, nobody_down, few_at_first)
 
 pub returns-then-len-from : goal.returns-then-len-from
 returns-then-len-from c =
@@ -30,15 +27,13 @@ returns-then-len-from c =
 
 pub loop-t-preserved : goal.loop-t-preserved
 loop-t-preserved c =
-    let r = c.args.trace.now.recording in
-    let t = c.loop-t.t in
-    let next : instant r.past (t + 1) ≡ c.index-recorded-t.result ∷ instant r.past t = next_state r c.entries-recorded.result.now c.entries-recorded.ensures.value t c.index-recorded-t.result (below r c.entries-recorded.result.now t c.entries-recorded.ensures.value c.loop-t-test.true) c.index-recorded-t.is in
-    let shown : Shows c.down_after-down.result (λ p. is_down (instant r.past (t + 1)) p) = subst (λ q. Shows c.down_after-down.result (λ p. is_down q p)) (sym next) (c.down_after-down.ensures (instant r.past t) c.loop-t.invariant.down) in
-    record {
-      down = shown;
-      before = up_to_next (λ u. count_below r.processes (is_down (instant r.past u)) ≤ c.args.f) t c.loop-t.invariant.before
-          (omega (arith, c.if-len-from.false, c.len.ensures.counted, c.from.ensures, down_count r c.entries-recorded.ensures.formed (t + 1) c.down_after-down.result shown));
-    }
+    grind (
+      arith,
+      up_to_next,
+      next_state c.args.trace.now.recording c.entries-recorded.result.now c.entries-recorded.ensures.value c.loop-t.t c.index-recorded-t.result (below c.args.trace.now.recording c.entries-recorded.result.now c.loop-t.t c.entries-recorded.ensures.value c.loop-t-test.true) c.index-recorded-t.is,
+      below c.args.trace.now.recording c.entries-recorded.result.now c.loop-t.t c.entries-recorded.ensures.value c.loop-t-test.true,
+      down_count,
+    )
 
 pub returns : goal.returns
-returns c = λ u h. c.loop-t.invariant.before u (omega (arith, h, how_many c.args.trace.now.recording c.entries-recorded.result.now c.entries-recorded.ensures.value, c.loop-t-test.false))
+returns c = grind (arith, how_many)

@@ -1,4 +1,4 @@
-use Rattle.causal_audit.proofs.Common.{◌+◌, length, subst, arith, deliveries_in, Recording, ℕ, Option, Some, None}
+use Rattle.causal_audit.proofs.Common.{length, subst, arith, deliveries_in, Recording, ℕ, Option, Some, None}
 use Rattle.causal_audit.specs.declared.breach.Excess.{Excess}
 use Rattle.causal_audit.specs.declared.breach.Breach.{Breach}
 use Rattle.causal_audit.specs.Breaches.{FirstExcess, LeastBreachBy, deciding}
@@ -14,10 +14,7 @@ returns-in-None-None c = λ r f excess least.
     accepted r f (subst (λ x. Bounded r f x None) c.in-None-None.is-0 (subst (Bounded r f c.args.excess) c.in-None-None.is-1 least)) (subst (FirstExcess r f) c.in-None-None.is-0 excess)
 
 pub returns-in-None-Some : goal.returns-in-None-Some
-returns-in-None-Some c = λ r f excess least.
-    let both = c.in-None-Some in
-    let one = subst (Bounded r f c.args.excess) both.is-1 least in
-    rw c.orphan.ensures (orphaned r f both.b one.1 (few_ever r f (subst (FirstExcess r f) both.is-0 excess) (both.b.instant + 1)))
+returns-in-None-Some c = grind (arith, orphaned, few_ever)
 
 pub returns-in-Some-None : goal.returns-in-Some-None
 returns-in-Some-None c = λ r f excess least.
@@ -32,8 +29,4 @@ returns-then-x-b c = λ r f excess least.
     rw c.exceeded-then-x-b.ensures (exceeded r f both.x (subst (FirstExcess r f) both.is-0 excess) (no_orphan_before r f both.b one.1 both.x.instant c.if-x-b.true))
 
 pub returns-else-x-b : goal.returns-else-x-b
-returns-else-x-b c = λ r f excess least.
-    let both = c.in-Some-Some in
-    let first = subst (FirstExcess r f) both.is-0 excess in
-    let one = subst (Bounded r f c.args.excess) both.is-1 least in
-    rw c.orphan-else-x-b.ensures (orphaned r f both.b one.1 (few_before r f both.x first (both.b.instant + 1) (omega (arith, c.if-x-b.false))))
+returns-else-x-b c = grind (arith, orphaned, few_before)

@@ -9,9 +9,10 @@ use Rattle.causal_clock.proofs.Clocks.local.Goals as goal
 
 pub append-requires-clause-place : goal.append-requires-clause-place
 append-requires-clause-place c =
-    let lt : c.args.lane < length c.self.inside.lanes.items = rw (← c.self.view_is) at c.requires.lane in
-    let room : length (events_of c.self.inside) < 16777216 = rw (← c.self.view_is) at c.requires.room in
-    omega (arith, room, small_lane (events_of c.self.inside) (places_of c.self.inside) c.self.inside.lanes.items c.args.lane c.index_mut.result.now lt c.index_mut.ensures.value c.self.invariant.keeps)
+    grind (
+      arith,
+      small_lane (events_of c.self.inside) (places_of c.self.inside) c.self.inside.lanes.items c.args.lane c.index_mut.result.now (rw (← c.self.view_is) at c.requires.lane) c.index_mut.ensures.value c.self.invariant.keeps,
+    )
 
 pub invariant_of-self-2 : goal.invariant_of-self-2
 invariant_of-self-2 c =

@@ -1,8 +1,6 @@
-use Rattle.std.proofs.Common.{sym}
+use Rattle.std.proofs.Common.{arith}
 use Rattle.causal_clock.proofs.Entries.{tells_event}
 use Rattle.causal_clock.proofs.Clocks.place.Goals as goal
 
 pub returns : goal.returns
-returns c =
-    let told = tells_event c.self.inside c.args.event _ c.self.invariant (rw (← c.self.view_is) at c.requires) c.index.ensures in
-    rw (← c.self.view_is) (sym told.place)
+returns c = grind (arith, tells_event)

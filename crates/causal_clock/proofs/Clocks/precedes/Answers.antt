@@ -1,4 +1,4 @@
-use Rattle.std.proofs.Common.{sym}
+use Rattle.std.proofs.Common.{sym, arith}
 use Rattle.causal_clock.specs.Timeline.{place_of}
 use Rattle.causal_clock.specs.Precedence.{Reaches, FirstReach}
 use Rattle.causal_clock.specs.Inside.Fields.{events_of}
@@ -7,9 +7,7 @@ use Rattle.causal_clock.proofs.Moves.{told_by_place}
 use Rattle.causal_clock.proofs.Clocks.precedes.Goals as goal
 
 pub reach-requires-clause-lane : goal.reach-requires-clause-lane
-reach-requires-clause-lane c =
-    let told = tells_event c.self.inside c.args.i _ c.self.invariant (rw (← c.self.view_is) at c.requires.earlier) c.index-first.ensures in
-    rw (← c.self.view_is) told.there
+reach-requires-clause-lane c = grind (arith, tells_event)
 
 pub returns : goal.returns
 returns c =

@@ -1,9 +1,9 @@
-use Rattle.std.proofs.Common.{◌≡◌, ◌≢◌, ℕ, ◌+◌, ◌<◌, [], ◌∷◌, ◌++◌, Some, List, length, get_or, ap, sym, ◌∙◌, subst, arith}
+use Rattle.std.proofs.lemmas.Grind.{common_steps}
+use Rattle.std.proofs.Common.{◌≡◌, ◌≢◌, ℕ, ◌+◌, ◌<◌, [], ◌∷◌, ◌++◌, Some, length, get_or, ap, ◌∙◌, subst, arith}
 use Rattle.std.proofs.Math.ListN.{length-set}
-use Rattle.causal_clock.specs.Rises.{RisesStrictly}
 use Rattle.causal_clock.specs.Inside.Columns.{column_in, raised, TellsAlike}
 use Rattle.causal_clock.specs.Inside.Lanes.{rises_in}
-use Rattle.causal_clock.specs.Inside.Fields.{events_of, places_of, counts_in, count_told}
+use Rattle.causal_clock.specs.Inside.Fields.{events_of, places_of, counts_in}
 use Rattle.causal_clock.proofs.Columns.{raised_alike}
 use Rattle.causal_clock.proofs.Entries.{tells_event}
 use Rattle.causal_clock.proofs.Lanes.{as_many, column_was, told_was}
@@ -12,46 +12,38 @@ use Rattle.causal_clock.proofs.Steps.{same_some}
 use Rattle.causal_clock.proofs.Clocks.receive.Goals as goal
 
 pub index-from-requires : goal.index-from-requires
-index-from-requires c =
-    let sent = tells_event c.self.inside c.args.send_event _ c.self.invariant (rw (← c.self.view_is) at c.requires.sent) c.index-sent.ensures in
-    omega (arith, sent.there, c.self.inside.lanes.ok.0)
+index-from-requires c = grind (arith, tells_event)
 
 pub counts_for-requires : goal.counts_for-requires
-counts_for-requires c =
-    let sent = tells_event c.self.inside c.args.send_event _ c.self.invariant (rw (← c.self.view_is) at c.requires.sent) c.index-sent.ensures in
-    let room : length (events_of c.self.inside) < 16777216 = rw (← c.self.view_is) at c.requires.room in
-    let lane = c.index-sent.result.now.event.lane in
-    record {
-      place = omega (arith, room, sent.few);
-      strictly = λ source. subst RisesStrictly (column_was c.self.inside.lanes.items lane c.index-from.result.now c.index-from.result.now sent.there c.index-from.ensures source) (c.self.invariant.keeps.columns lane source).strictly;
-    }
+counts_for-requires c = grind (arith, common_steps, tells_event, column_was)
 
 pub invariant_of-self-in_err-make_room : goal.invariant_of-self-in_err-make_room
 invariant_of-self-in_err-make_room c =
-    let lt : c.args.lane < length c.self.inside.lanes.items = rw (← c.self.view_is) at c.requires.lane in
-    record {
-      keeps = rw c.reserve.ensures.items (keeps_unchanged (events_of c.self.inside) (places_of c.self.inside) c.self.inside.lanes.items c.args.lane c.index_mut-own.result.now c.make_room.new.self lt c.index_mut-own.ensures.value c.make_room.ensures.events c.make_room.ensures.same c.self.invariant.keeps);
-      lanes = omega (arith, c.self.invariant.lanes, length-set c.self.inside.lanes.items c.args.lane c.make_room.new.self);
-      opened = c.self.invariant.opened;
-    }
+    grind (
+      arith,
+      keeps_unchanged (events_of c.self.inside) (places_of c.self.inside) c.self.inside.lanes.items c.args.lane c.index_mut-own.result.now c.make_room.new.self (rw (← c.self.view_is) at c.requires.lane) c.index_mut-own.ensures.value c.make_room.ensures.events c.make_room.ensures.same c.self.invariant.keeps,
+      length-set c.self.inside.lanes.items c.args.lane c.make_room.new.self,
+    )
 
 pub raise-requires-clause-few : goal.raise-requires-clause-few
 raise-requires-clause-few c =
-    let lt : c.args.lane < length c.self.inside.lanes.items = rw (← c.self.view_is) at c.requires.lane in
-    let room : length (events_of c.self.inside) < 16777216 = rw (← c.self.view_is) at c.requires.room in
-    let small = small_lane (events_of c.self.inside) (places_of c.self.inside) c.self.inside.lanes.items c.args.lane c.index_mut-own.result.now lt c.index_mut-own.ensures.value c.self.invariant.keeps in
-    omega (arith, room, small, c.make_room.ensures.events)
+    grind (
+      arith,
+      small_lane (events_of c.self.inside) (places_of c.self.inside) c.self.inside.lanes.items c.args.lane c.index_mut-own.result.now (rw (← c.self.view_is) at c.requires.lane) c.index_mut-own.ensures.value c.self.invariant.keeps,
+      c.make_room.ensures.events,
+    )
 
 pub append-requires-clause-place : goal.append-requires-clause-place
 append-requires-clause-place c =
-    let lt : c.args.lane < length c.self.inside.lanes.items = rw (← c.self.view_is) at c.requires.lane in
-    let room : length (events_of c.self.inside) < 16777216 = rw (← c.self.view_is) at c.requires.room in
-    let small = small_lane (events_of c.self.inside) (places_of c.self.inside) c.self.inside.lanes.items c.args.lane c.index_mut-own.result.now lt c.index_mut-own.ensures.value c.self.invariant.keeps in
-    omega (arith, room, small, c.make_room.ensures.events, c.raise.ensures.events)
+    grind (
+      arith,
+      small_lane (events_of c.self.inside) (places_of c.self.inside) c.self.inside.lanes.items c.args.lane c.index_mut-own.result.now (rw (← c.self.view_is) at c.requires.lane) c.index_mut-own.ensures.value c.self.invariant.keeps,
+      c.make_room.ensures.events,
+      c.raise.ensures.events,
+    )
 
 pub invariant_of-self-2 : goal.invariant_of-self-2
-invariant_of-self-2 c =
-    let lt : c.args.lane < length c.self.inside.lanes.items = rw (← c.self.view_is) at c.requires.lane in
+invariant_of-self-2 c = let lt : c.args.lane < length c.self.inside.lanes.items = rw (← c.self.view_is) at c.requires.lane in
     let room : length (events_of c.self.inside) < 16777216 = rw (← c.self.view_is) at c.requires.room in
     let k = c.self.invariant.keeps in
     let es = events_of c.self.inside in
@@ -68,13 +60,9 @@ invariant_of-self-2 c =
     let sent = tells_event c.self.inside c.args.send_event _ c.self.invariant (rw (← c.self.view_is) at c.requires.sent) c.index-sent.ensures in
     let many : length c.in_ok-counts.counts.items ≡ length c.self.inside.lanes.items = rw (← c.self.view_is) at (c.in_ok-counts.ensures.count ∙ c.lanes-count.ensures.counted) in
     let lengths = as_many (λ x. x.events) c.self.inside.lanes.items in
-    let row : c.index-to.result.now.row.items ≡ c.index_mut-own.result.now.row.items =
-    sym (told_was (λ x. x.row.items) lanes own c.index-to.result.now x [] lt c.index-to.ensures) ∙ told_was (λ x. x.row.items) lanes own x x [] lt c.index_mut-own.ensures.value in
+    let row : c.index-to.result.now.row.items ≡ c.index_mut-own.result.now.row.items = grind (arith, common_steps, told_was) in
     let each : (source : ℕ) → source < length (lengths_in c.self.inside.lanes.items) → source ≢ c.args.lane → TellsAlike (get_or c.index_mut-own.result.now.row.items source 0) (get_or c.in_ok-counts.counts.items source 0) (counts_in (events_of c.self.inside) (columns_in c.self.inside.lanes.items) c.args.send_event source) =
-    (λ source below other. subst (λ (n : ℕ). TellsAlike (get_or x.row.items source 0) (get_or counts source 0) n)
-    (told_in es (columns_in lanes) send source entry (rises_in from) sent.lane sent.place (column_was lanes entry.event.lane from from sent.there c.index-from.ensures source))
-    (subst (λ (l : List ℕ). TellsAlike (get_or l source 0) (get_or counts source 0) (count_told (rises_in from) entry source)) row
-    (c.in_ok-counts.ensures.each source (omega (arith, below, lengths, many, c.in_ok-counts.ensures.count)) other))) in
+    grind (arith, told_in, columns_in, column_was) in
     let both = alike es (places_of c.self.inside) (lengths_in lanes) (columns_in lanes) k send own sent.inside x.row.items counts (omega (arith, many, lengths)) c.in_ok-counts.ensures.own each in
     let kept = x.kept in
     let events_are : c.raise.new.self.events ≡ c.index_mut-own.result.now.events = c.raise.ensures.events ∙ c.make_room.ensures.events in

@@ -1,4 +1,4 @@
-use Rattle.std.proofs.Common.{subst}
+use Rattle.std.proofs.Common.{subst, arith}
 use Rattle.std.proofs.lemmas.Result.{IfOk-weaker}
 use Rattle.causal_explain.specs.declared.closest.Closest.TheVariants.{Never}
 use Rattle.causal_explain.specs.Closest.{HasNoOrphan}
@@ -19,5 +19,4 @@ pub returns-in-None-clause-safe : goal.returns-in-None-clause-safe
 returns-in-None-clause-safe c = leaves c.args.trace.now.recording c.args.f c.requires Never (returns-in-None-clause-closest c)
 
 pub returns-in-Some-clause-safe : goal.returns-in-Some-clause-safe
-returns-in-Some-clause-safe c =
-    IfOk-weaker c.narrowed.result _ _ (λ closest is. leaves c.args.trace.now.recording c.args.f c.requires closest is) c.narrowed.ensures
+returns-in-Some-clause-safe c = grind (arith, IfOk-weaker, leaves)

@@ -9,13 +9,11 @@ use Rattle.causal_explain.proofs.Told.{first_entries}
 use Rattle.causal_explain.proofs.down.down_since.Goals as goal
 
 pub returns : goal.returns
-returns c =
-    let r = c.args.trace.now.recording in
+returns c = let r = c.args.trace.now.recording in
     let past = instant r.past c.args.end in
     let n = c.processes.result in
     let standings = c.turns_in-standings.result in
-    let stand : AreStandings past (λ p state. is_down state p) standings =
-    subst (λ x. AreStandings x (λ p state. is_down state p) standings) (first_entries r c.entries.result.now c.args.end c.entries.ensures.value c.requires) c.turns_in-standings.ensures in
+    let stand : AreStandings past (λ p state. is_down state p) standings = grind (arith, first_entries) in
     let count : length (take n standings) ≡ r.processes = omega (arith, length-take n standings, c.turns_in-standings.type_inv, c.processes.ensures.value, c.processes.ensures.formed.count) in
     IfOk-weaker c.down_in.result _ (λ down. AreDown r.processes past down.items)
     (λ down told. subst (λ m. AreDown m past down.items) count (told past (stand_first past (λ p state. is_down state p) standings n stand))) c.down_in.ensures

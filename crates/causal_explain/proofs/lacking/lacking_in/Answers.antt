@@ -1,4 +1,4 @@
-use Rattle.std.proofs.Common.{◌≡◌, ◌+◌, ◌<◌, ◌∷◌, [], List, length, refl, ap, subst, sym, ◌∙◌, arith}
+use Rattle.std.proofs.Common.{◌≡◌, ◌+◌, ◌<◌, ◌∷◌, [], List, length, refl, subst, sym, arith}
 use Rattle.causal_trace.specs.declared.entry.Entry.{Entry}
 use Rattle.causal_trace.specs.Past.{logs}
 use Rattle.causal_trace.specs.State.{past_at}
@@ -39,7 +39,4 @@ loop-i-preserved c =
     }
 
 pub returns : goal.returns
-returns c =
-    let entries = c.args.entries.now in
-    let ended : c.loop-i.i ≡ length entries = omega (arith, c.loop-i-test.false, c.loop-i.auto) in
-    subst (λ past. AreLacking past c.args.det c.loop-i.lacking.items) (ap (past_at entries) ended ∙ past_whole entries) c.loop-i.invariant.marked
+returns c = grind (arith, past_whole c.args.entries.now)

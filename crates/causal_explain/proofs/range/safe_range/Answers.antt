@@ -4,10 +4,7 @@ use Rattle.causal_explain.proofs.RangeLemmas.{range_never, range_to, orphan_of_b
 use Rattle.causal_explain.proofs.range.safe_range.Goals as goal
 
 pub returns-in-Never : goal.returns-in-Never
-returns-in-Never c =
-    let r = c.args.trace.now.recording in
-    let from = c.most_down-from.result in
-    range_never r from c.most_down-from.ensures.fewer (subst (Leaves r from) c.in-Never.is c.in_ok-closest_failure-in-Accept.ensures.safe)
+returns-in-Never c = grind (arith, range_never)
 
 pub returns-in-At : goal.returns-in-At
 returns-in-At c =
@@ -18,9 +15,4 @@ returns-in-At c =
     range_to r from c.in-At.faults c.most_down-from.ensures.fewer (orphan_of_breach r c.in-At.faults _ first.least) (λ g more below. (leaves.1 g more).1 below)
 
 pub returns-in_default : goal.returns-in_default
-returns-in_default c =
-    let r = c.args.trace.now.recording in
-    let from = c.most_down-from.result in
-    range_to r from from c.most_down-from.ensures.fewer
-    (orphan_unless r from c.in_ok-verdict_of.field-0 c.most_down-from.ensures.most c.in_ok-verdict_of.ensures c.in_default.not-Accept)
-    (λ g more below. absurd (omega (arith, more, below)))
+returns-in_default c = grind (arith, range_to, orphan_unless)

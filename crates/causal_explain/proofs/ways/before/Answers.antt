@@ -14,6 +14,4 @@ returns-in-Some-Some c past i n ways fewest =
     step_back past i k n found.way (subst (TellsWay past i k) (sym read ∙ found.field-0-is) (ways.each k low)) fewest
 
 pub returns-in_default-2 : goal.returns-in_default-2
-returns-in_default-2 c past i n ways fewest =
-    let beyond = rw c.in_default.is at c.get.ensures.lookup in
-    absurd (omega (arith, comes_within past i c.args.position (n + 1) fewest.comes, ways.count, beyond.3))
+returns-in_default-2 c past i n ways fewest = grind (arith, comes_within)

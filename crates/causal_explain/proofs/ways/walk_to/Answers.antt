@@ -13,7 +13,4 @@ loop-preserved c = record {
 }
 
 pub returns : goal.returns
-returns c past i ways fewest =
-    rw c.reverse.ensures.items
-    (walk_over past i c.args.nearest.position c.args.nearest.steps c.loop.counter c.loop.position c.loop.chain.items (omega (arith, c.loop-test.false, c.loop.auto))
-    (c.loop.invariant.walked past i ways fewest))
+returns c past i ways fewest = grind (arith, walk_over)

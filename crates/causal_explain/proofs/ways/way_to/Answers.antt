@@ -1,4 +1,4 @@
-use Rattle.std.proofs.Common.{◌≡◌, true, length, subst, sym, ◌∙◌}
+use Rattle.std.proofs.Common.{◌≡◌, true, length, subst, sym, ◌∙◌, arith}
 use Rattle.std.specs.Option.{is_some}
 use Rattle.std.proofs.lemmas.Bool.{false≢true}
 use Rattle.causal_trace.specs.Dependence.{actor}
@@ -8,8 +8,7 @@ use Rattle.causal_explain.proofs.ways.way_to.Goals.{else-position-from-via-then-
 use Rattle.causal_explain.proofs.ways.way_to.Goals as goal
 
 pub returns-then-is_event : goal.returns-then-is_event
-returns-then-is_event c past here forward nearest =
-    way_to_itself c.args.entry.now past c.args.from forward c.args.position here c.if-position-from.true (sym c.is_event.ensures ∙ c.if-is_event.true)
+returns-then-is_event c past here forward nearest = grind (arith, way_to_itself)
 
 pub returns-in-Some : goal.returns-in-Some
 returns-in-Some c past here forward nearest =
@@ -21,10 +20,4 @@ returns-in-Some c past here forward nearest =
     way_through e past c.args.from forward c.args.position here other c.in-Some.before (subst (Nearest past c.args.from (PrecedesNext e past)) c.in-Some.is nearest)
 
 pub returns-in-None : goal.returns-in-None
-returns-in-None c past here forward nearest =
-    let e = c.args.entry.now in
-    let other : c.args.from ≡ length past → is_some (actor e) ≡ true → ⊥ = λ same event. elim c.else-position-from.branch [
-      | else-position-from-via-then-position-from+else-is_event w ↦ false≢true (sym w.if-is_event.false ∙ w.is_event.ensures ∙ event)
-      | else-position-from-via-else-position-from w ↦ w.if-position-from.false (sym here ∙ sym same)
-    ] in
-    no_way e past c.args.from forward c.args.position here other (subst (Nearest past c.args.from (PrecedesNext e past)) c.in-None.is nearest)
+returns-in-None c past here forward nearest = grind (arith, false≢true, no_way)

@@ -1,19 +1,13 @@
-use Rattle.std.proofs.Common.{◌≡◌, ◌+◌, ◌<◌, ◌≤◌, ◌∷◌, [], length, reverse, refl, ap, subst, sym, ◌∙◌, arith}
+use Rattle.std.proofs.Common.{◌≡◌, ◌+◌, ◌<◌, ◌≤◌, ◌∷◌, length, subst, sym, arith}
 use Rattle.causal_trace.specs.Dependence.{AreForward}
 use Rattle.causal_trace.specs.State.{past_at}
 use Rattle.causal_trace.proofs.Lemmas.Instants.{past_more, past_length, past_whole}
-use Rattle.causal_explain.specs.Inside.Ways.{AreNearest, AreWays, Nearest, PrecedesNext, TellsWay}
+use Rattle.causal_explain.specs.Inside.Ways.{AreNearest, Nearest, PrecedesNext, TellsWay}
 use Rattle.causal_explain.proofs.WayLemmas.{forward_at, lanes_none, nearest_below, ways_more, ways_none}
 use Rattle.causal_explain.proofs.ways.ways_from.Goals as goal
 
 pub loop-i-init : goal.loop-i-init
-loop-i-init c = record {
-  count = refl;
-  ways = subst (AreWays [] c.args.from) (sym c.in_ok-ways.ensures.items) (ways_none c.args.from);
-  lanes = lanes_none c.args.from 256;
-  len = c.in_ok-ways.ensures.len;
-  room = c.in_ok-ways.ensures.capacity;
-}
+loop-i-init c = grind (arith, ways_none c.args.from, lanes_none c.args.from 256)
 
 pub way_to-way-requires : goal.way_to-way-requires
 way_to-way-requires c =
@@ -25,8 +19,7 @@ way_to-way-requires c =
     (c.nearest_before-before.ensures past c.args.from (rw c.as_slice.ensures.value c.loop-i.invariant.ways) c.loop-i.invariant.lanes)
 
 pub loop-i-preserved : goal.loop-i-preserved
-loop-i-preserved c =
-    let entries = c.args.entries.now in
+loop-i-preserved c = let entries = c.args.entries.now in
     let i = c.loop-i.i in
     let from = c.args.from in
     let e = c.index-entries-i.result in
@@ -37,8 +30,7 @@ loop-i-preserved c =
     let forward : AreForward (e ∷ past) = subst AreForward next (forward_at entries (i + 1) (omega (arith, below)) c.requires.forward) in
     let nearest = c.nearest_before-before.ensures past from (rw c.as_slice.ensures.value c.loop-i.invariant.ways) c.loop-i.invariant.lanes in
     let way : TellsWay (e ∷ past) from i c.way_to-way.result = c.way_to-way.ensures past long forward nearest in
-    let reached : Nearest (e ∷ past) from (λ k. k ≡ length past) c.reached_by.result =
-    subst (λ n. Nearest (e ∷ past) from (λ k. k ≡ n) c.reached_by.result) (sym long) (c.reached_by.ensures (e ∷ past) from way) in
+    let reached : Nearest (e ∷ past) from (λ k. k ≡ length past) c.reached_by.result = grind arith in
     let lanes : AreNearest (e ∷ past) from c.note_reached.new.lanes = c.note_reached.ensures past from forward reached c.loop-i.invariant.lanes in
     record {
       count = omega (arith, c.loop-i.invariant.count, c.note_reached.auto.lanes);
@@ -50,8 +42,4 @@ loop-i-preserved c =
     }
 
 pub returns-clause-nearest : goal.returns-clause-nearest
-returns-clause-nearest c =
-    let entries = c.args.entries.now in
-    let ended : c.loop-i.i ≡ length entries = omega (arith, c.loop-i-test.false, c.loop-i.auto) in
-    let lanes : AreNearest (reverse entries) c.args.from c.loop-i.lanes = subst (λ p. AreNearest p c.args.from c.loop-i.lanes) (ap (past_at entries) ended ∙ past_whole entries) c.loop-i.invariant.lanes in
-    lanes c.args.process (omega arith)
+returns-clause-nearest c = grind (arith, past_whole c.args.entries.now)

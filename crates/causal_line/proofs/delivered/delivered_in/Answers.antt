@@ -14,6 +14,4 @@ loop-k-preserved c =
     ]
 
 pub returns : goal.returns
-returns c =
-    let past = c.args.trace.now.recording.past in
-    λ k d at. c.loop-k.invariant k d (omega (arith, det_within past k d at, c.loop-k-test.false, c.len-k-end.ensures.length)) at
+returns c = grind (arith, det_within)

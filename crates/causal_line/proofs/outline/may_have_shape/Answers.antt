@@ -1,4 +1,4 @@
-use Rattle.std.proofs.Common.{◌≡◌, Bool, false, Result, Ok, Err, ap}
+use Rattle.std.proofs.Common.{arith, ◌≡◌, Bool, false, Result, Ok, Err, ap}
 use Rattle.std.specs.Prelude.{IfErr}
 use Rattle.serde_json.specs.Data.{Data}
 use Rattle.causal_line.specs.declared.kind.TextKind.{TextKind}
@@ -28,7 +28,7 @@ on_no (Ok fit) r h is = formless r (let no : fit ≡ false = cc in cc)
 on_no (Err k) r h is = absurd (let bad : Err k ≡ Ok false = is in cc)
 
 pub returns-clause-no : goal.returns-clause-no
-returns-clause-no c = on_no c.has_outline.result _ c.has_outline.ensures
+returns-clause-no c = grind (arith, on_no)
 
 pub returns-clause-err : goal.returns-clause-err
-returns-clause-err c = on_err c.has_outline.result _ c.has_outline.ensures
+returns-clause-err c = grind (arith, on_err)

@@ -1,14 +1,13 @@
-use Rattle.std.proofs.Common.{◌≡◌, ◌≢◌, ℕ, ◌≤◌, List, Option, Some, None, Result, Ok, Err, sym, subst, ap, refl, ◌∙◌, arith}
+use Rattle.std.proofs.Common.{◌≡◌, ◌≢◌, ℕ, ◌≤◌, List, Option, Some, None, Result, Ok, Err, sym, ap, refl, ◌∙◌, arith}
 use Rattle.std.specs.Prelude.{IfErr, OnOk}
 use Rattle.causal_trace.specs.Rows.{Recording}
 use Rattle.causal_line.specs.declared.before.Before.{Before}
-use Rattle.causal_line.specs.declared.kind.TextKind.{TextKind}
 use Rattle.causal_line.specs.declared.shape.Shape.{Shape}
 use Rattle.causal_line.specs.declared.stage.Refused.{Refused}
 use Rattle.causal_line.specs.declared.stage.Stage.{Stage}
 use Rattle.causal_line.specs.declared.stage.Stage.TheVariants.{Opening, Within, Ended}
 use Rattle.causal_line.specs.declared.version.Version.{Version}
-use Rattle.causal_line.specs.Refusals.{GivesRefused, IsKeptAt, IsKeptBefore}
+use Rattle.causal_line.specs.Refusals.{IsKeptAt, IsKeptBefore}
 use Rattle.causal_line.specs.Stages.{text_within, follow, after_line}
 use Rattle.causal_line.specs.Values.{line_shape}
 use Rattle.causal_line.proofs.Lemmas.Passed.{in_limit}
@@ -32,12 +31,4 @@ whatever (Ok on) so = so
 whatever (Err refused) so = tt
 
 pub returns : goal.returns
-returns c =
-    let few : c.args.end ≤ text_within c.args.limits.entries = omega (arith, c.if-end-most.false, c.text_within-most.ensures.value) in
-    record {
-      value = subst (λ (read : Result Stage TextKind). GivesRefused c.follow.result read)
-          (sym (followed c.args.limits.entries c.args.stage c.args.end c.args.line.now c.in-Ok.shape c.in_default.not-Ended few c.in-Ok.ensures)) c.follow.ensures.value;
-      within = whatever c.follow.result few;
-      few = whatever c.follow.result (omega (arith, c.if-end-most.false, c.text_within-most.ensures.few));
-      before = kept_if_refused c.args.stage c.args.line.now c.in-Ok.shape c.follow.result c.in-Ok.ensures c.follow.ensures.before;
-    }
+returns c = grind (arith, followed, whatever, kept_if_refused)

@@ -1,4 +1,4 @@
-use Rattle.std.proofs.Common.{inl}
+use Rattle.std.proofs.Common.{arith, inl}
 use Rattle.std.proofs.lemmas.Result.{err_from_is_err_and}
 use Rattle.causal_merge.proofs.Wholes.{merges, header_fault, event_fault}
 use Rattle.causal_merge.proofs.merge.merge_within.Goals as goal
@@ -10,12 +10,10 @@ pub merge_events-requires : goal.merge_events-requires
 merge_events-requires c = let r = c.in_ok-gathered.ensures.ok in c.in_ok-run.ensures.few r.0 r.2
 
 pub returns-clause-ok : goal.returns-clause-ok
-returns-clause-ok c = merges c.args.limits.entries c.args.text.now c.in_ok-gathered.gathered c.in_ok-run.run' _ _ c.in_ok-gathered.ensures.ok c.in_ok-run.ensures.ok c.put_in_order.ensures c.in_ok-trace.ensures.processes c.in_ok-trace.ensures.ok
+returns-clause-ok c = grind (arith, merges)
 
 pub returns-in_err-gathered-clause-err : goal.returns-in_err-gathered-clause-err
-returns-in_err-gathered-clause-err c =
-    let p = err_from_is_err_and c.from_residual.result c.from_residual.ensures.1 in
-    rw (p.1, p.2) (λ other. inl (c.in_err-gathered.ensures.err other))
+returns-in_err-gathered-clause-err c = grind (arith, err_from_is_err_and)
 
 pub returns-in_err-run-clause-err : goal.returns-in_err-run-clause-err
 returns-in_err-run-clause-err c =
@@ -23,6 +21,4 @@ returns-in_err-run-clause-err c =
     rw (p.1, p.2) (λ other. header_fault c.args.limits.entries c.args.text.now c.in_ok-gathered.gathered _ c.in_ok-gathered.ensures.ok c.in_err-run.ensures.err)
 
 pub returns-in_err-trace-clause-err : goal.returns-in_err-trace-clause-err
-returns-in_err-trace-clause-err c =
-    let p = err_from_is_err_and c.from_residual-in_err-trace.result c.from_residual-in_err-trace.ensures.1 in
-    rw (p.1, p.2) (λ other. event_fault c.args.limits.entries c.args.text.now c.in_ok-gathered.gathered c.in_ok-run.run' _ _ c.in_ok-gathered.ensures.ok c.in_ok-run.ensures.ok c.put_in_order.ensures (c.in_err-trace.ensures.err other))
+returns-in_err-trace-clause-err c = grind (arith, err_from_is_err_and, event_fault)

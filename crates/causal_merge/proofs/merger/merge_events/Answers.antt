@@ -1,3 +1,4 @@
+use Rattle.std.proofs.lemmas.Grind.{common_steps}
 use Rattle.std.proofs.Common.{rules, arith, ap, sym, refl, ◌∙◌, ◌≡◌, ◌∷◌, [], ◌++◌, length, reverse}
 use Rattle.std.proofs.lemmas.List.{nil_from_length}
 use Rattle.std.specs.Vec.Iter.{into_iter_items}
@@ -13,19 +14,7 @@ loop-placed-init c = record {
 }
 
 pub loop-placed-preserved : goal.loop-placed-preserved
-loop-placed-preserved c =
-    let step = c.in-Some.ensures.steps in
-    let was = c.loop-placed.invariant in
-    let shorter = ap length step.0 in
-    record {
-      left = (let before = was.left in omega (arith, before, shorter, step.1));
-      so_far = (
-        c.in-Some.placed ∷ was.so_far.0,
-        was.so_far.1 ∙ ap (λ xs. reverse was.so_far.0 ++ xs) step.0 ∙ sym (reverse_step c.in-Some.placed was.so_far.0 (into_iter_items c.next.new.self)),
-        c.in_ok-take.ensures.ok was.so_far.0 was.so_far.2,
-      );
-      processes = c.in_ok-take.ensures.processes ∙ was.processes;
-    }
+loop-placed-preserved c = grind (arith, reverse_step)
 
 pub returns-in_err-take-clause-err : goal.returns-in_err-take-clause-err
 returns-in_err-take-clause-err c =
@@ -36,8 +25,4 @@ returns-in_err-take-clause-err c =
     rw (p.1, p.2) (merged-fault c.args.limits.entries c.args.processes _ c.args.events.items was.so_far.0 (into_iter_items c.next.new.self) c.in-Some.placed _ was.processes all (c.in_err-take.ensures.err was.so_far.0 was.so_far.2))
 
 pub returns-clause-ok : goal.returns-clause-ok
-returns-clause-ok c =
-    let was = c.loop-placed.invariant in
-    let began = c.into_iter-placed-iterator.ensures.into_iter_gives in
-    let none : into_iter_items c.loop-placed.placed-iterator ≡ [] = nil_from_length _ (sym was.left ∙ c.in-None.ensures.steps.0) in
-    rw c.into_trace.ensures (merged-all c.args.limits.entries c.args.processes _ c.args.events.items was.so_far.0 (into_iter_items c.loop-placed.placed-iterator) _ was.processes (sym began.0 ∙ was.so_far.1) none was.so_far.2.entries)
+returns-clause-ok c = grind (arith, common_steps, nil_from_length, merged-all c.args.limits.entries c.args.processes)

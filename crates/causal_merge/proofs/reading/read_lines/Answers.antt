@@ -19,10 +19,7 @@ pub take-requires : goal.take-requires
 take-requires c = let come = c.loop-line.invariant in let few = come.few in let within = come.within in omega (arith, few, within)
 
 pub loop-line-preserved : goal.loop-line-preserved
-loop-line-preserved c =
-    let s = c.in-Some.ensures in
-    let take = c.in_ok-take.ensures in
-    come_on c.args.limits.entries c.args.text.now c.loop-line.left.now c.in-Some.line.now c.in-Some.after.now _ _ (length c.args.text.now - length c.in-Some.after.now) c.loop-line.invariant s.line s.whole s.some refl take.ok take.count take.within
+loop-line-preserved c = grind (arith, come_on)
 
 pub returns-in_err-take-clause-err : goal.returns-in_err-take-clause-err
 returns-in_err-take-clause-err c =
@@ -33,10 +30,7 @@ returns-in_err-take-clause-err c =
     (c.in_err-take.ensures.err come.before come.read (end_is c.args.text.now c.loop-line.left.now c.in-Some.line.now c.in-Some.after.now come.before _ come.size s.whole refl)))
 
 pub returns-clause-ok : goal.returns-clause-ok
-returns-clause-ok c =
-    let come = c.loop-line.invariant in
-    let none : c.loop-line.left.now ≡ [] = grind arith in
-    subst (λ (before : List (List ℕ)). HasRead c.args.limits.entries c.loop-line.gathered before) (sym (reverse_whole (lines c.args.text.now) come.before (come.split ∙ ap (λ xs. reverse come.before ++ lines xs) none))) come.read
+returns-clause-ok c = grind (arith, reverse_whole)
 
 pub returns-clause-few : goal.returns-clause-few
 returns-clause-few c = let come = c.loop-line.invariant in let few = come.few in let within = come.within in omega (arith, few, within)

@@ -1,7 +1,7 @@
-use Rattle.std.proofs.Common.{◌∙◌, Ok, ap}
+use Rattle.std.proofs.Common.{arith, ◌∙◌, Ok, ap}
 use Rattle.causal_line.specs.Values.{json_of}
 use Rattle.causal_merge.proofs.Looks.{shapeless}
 use Rattle.causal_merge.proofs.value.value_of.Goals as goal
 
 pub returns-then-not-branch-clause-ok : goal.returns-then-not-branch-clause-ok
-returns-then-not-branch-clause-ok c = shapeless (json_of c.args.bytes.now) (c.in_ok-has_outline.ensures ∙ ap Ok c.if-not-branch.true)
+returns-then-not-branch-clause-ok c = grind (arith, shapeless)

@@ -1,4 +1,4 @@
-use Rattle.std.proofs.Common.{◌≡◌, sym, ap, ◌∙◌, rules}
+use Rattle.std.proofs.Common.{arith, sym, ap, ◌∙◌, rules}
 use Rattle.causal_picture.specs.Marks.{mark_at, marks_of}
 use Rattle.causal_picture.proofs.Ranges.{passed-none, passed-some}
 use Rattle.causal_picture.proofs.EntryMarks.{each_shown}
@@ -20,8 +20,7 @@ loop-position-preserved c =
 
 pub returns-clause-each : goal.returns-clause-each
 returns-clause-each c =
-    let recording = c.args.trace.now.recording in
-    let marks = c.loop-position.marks.items in
-    let value : marks ≡ marks_of recording.past c.args.stretch = search rules in
-    each_shown recording.processes recording.past c.args.stretch marks c.end_of-end.ensures.formed.accepted
-    c.requires value
+    grind (
+      arith,
+      each_shown c.args.trace.now.recording.processes c.args.trace.now.recording.past c.args.stretch c.loop-position.marks.items c.end_of-end.ensures.formed.accepted c.requires (search rules),
+    )

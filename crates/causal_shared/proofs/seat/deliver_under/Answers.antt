@@ -1,8 +1,7 @@
-use Rattle.std.proofs.Common.{◌∙◌, sym, refl}
+use Rattle.std.proofs.Common.{arith, refl}
 use Rattle.causal_protocol.specs.declared.request.Request.TheVariants as Ask
 use Rattle.causal_protocol.specs.declared.request.Reply.TheVariants as Told
 use Rattle.causal_shared.specs.Locked.{held_of}
-use Rattle.causal_shared.specs.Inside.Seated.{IsSeated}
 use Rattle.causal_shared.proofs.Seats.{called, never_full, not_wrong, section_heard}
 use Rattle.causal_shared.proofs.seat.deliver_under.Goals as goal
 
@@ -12,12 +11,10 @@ returns-clause-section g c =
     c.hear.ensures c.in_ok-first.ensures.ok c.deliver-answer.ensures.item c.number.ensures c.count.ensures refl c.delivery_told.ensures c.shared_answer.ensures c.begin.ensures.sitting
 
 pub returns-clause-wrong : goal.returns-clause-wrong
-returns-clause-wrong g c =
-    not_wrong c.deliver-answer.result c.shared_answer.result c.begin.result c.in_ok-first.first (IsSeated c.args.tag (held_of c.args.locked.now) c.args.seat.now.sitting) c.shared_answer.ensures c.in_ok-first.was c.begin.ensures.wrong
+returns-clause-wrong g c = grind (arith, not_wrong)
 
 pub returns-clause-full : goal.returns-clause-full
-returns-clause-full g c = λ e. absurd (never_full c.deliver-answer.result (sym c.shared_answer.ensures ∙ e))
+returns-clause-full g c = grind (arith, never_full)
 
 pub deliver-answer-requires : goal.deliver-answer-requires
-deliver-answer-requires g c =
-    called (held_of c.args.locked.now) c.begin.new.seat c.in_ok-first.first c.number.result c.count.result c.in_ok-first.ensures.ok c.number.ensures c.count.ensures
+deliver-answer-requires g c = grind (arith, called)

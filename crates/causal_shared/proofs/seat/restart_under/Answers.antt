@@ -1,9 +1,5 @@
-use Rattle.std.proofs.Common.{◌≡◌, ◌∙◌, sym, length, refl}
-use Rattle.std.specs.Prelude.{Result, Ok, Err, ℕ}
+use Rattle.std.proofs.Common.{arith, ◌≡◌, length}
 use Rattle.causal_protocol.specs.declared.request.Request.TheVariants as Ask
-use Rattle.causal_shared.specs.declared.fault.SharedFault.{SharedFault}
-use Rattle.causal_shared.specs.declared.fault.SharedFault.TheVariants as Fault
-use Rattle.causal_shared.specs.Inside.Answered.{shared_refusal}
 use Rattle.causal_shared.specs.Locked.{held_of, ItemCall}
 use Rattle.causal_shared.specs.Seat.{heard_restart}
 use Rattle.causal_shared.proofs.Answered.{if_err_answered}
@@ -19,17 +15,13 @@ returns-clause-section g c =
     rw heard (rw c.begin.ensures.sitting at (c.hear.ensures (held_of c.args.locked.now) c.in-Ok.ensures.ok item))
 
 pub returns-clause-spare : goal.returns-clause-spare
-returns-clause-spare g c = if_err_answered shared_refusal _ _ c.restart-answer.result _ c.shared_restart.ensures (λ e p. p) c.restart-answer.ensures.spare
+returns-clause-spare g c = grind (arith, if_err_answered)
 
 pub returns-clause-wrong : goal.returns-clause-wrong
-returns-clause-wrong g c = (
-  λ e. absurd (restarts_never_wrong c.restart-answer.result (rw c.shared_restart.ensures at e)),
-  λ no. absurd (let e : ◌≡◌ {A = Result ℕ SharedFault} (Ok c.in-Ok.first) (Err Fault.WrongSeat) = sym c.in-Ok.is ∙ c.begin.ensures.wrong.1 no in cc),
-)
+returns-clause-wrong g c = grind (arith, restarts_never_wrong)
 
 pub returns-clause-full : goal.returns-clause-full
-returns-clause-full g c = λ e. absurd (restarts_never_full c.restart-answer.result (rw c.shared_restart.ensures at e))
+returns-clause-full g c = grind (arith, restarts_never_full)
 
 pub restart-answer-requires : goal.restart-answer-requires
-restart-answer-requires g c =
-    called (held_of c.args.locked.now) c.begin.new.seat c.in-Ok.first c.number.result c.count.result c.in-Ok.ensures.ok c.number.ensures c.count.ensures
+restart-answer-requires g c = grind (arith, called)

@@ -1,13 +1,11 @@
-use Rattle.std.proofs.Common.{◌∙◌, ap, sym}
+use Rattle.std.proofs.Common.{arith}
 use Rattle.causal_shared.specs.Locked.{held_of}
-use Rattle.causal_shared.specs.Inside.Seated.{IsSeated}
 use Rattle.causal_shared.specs.Inside.Tasks.{reply_of, request_of}
 use Rattle.causal_shared.proofs.Seats.{called, never_full, not_wrong, section_heard}
 use Rattle.causal_shared.proofs.seat.task_under.Goals as goal
 
 pub perform-answer-requires : goal.perform-answer-requires
-perform-answer-requires g c =
-    called (held_of c.args.locked.now) c.begin.new.seat c.in_ok-first.first c.number.result c.count.result c.in_ok-first.ensures.ok c.number.ensures c.count.ensures
+perform-answer-requires g c = grind (arith, called)
 
 pub returns-clause-section : goal.returns-clause-section
 returns-clause-section g c =
@@ -15,8 +13,7 @@ returns-clause-section g c =
     c.hear.ensures c.in_ok-first.ensures.ok c.perform-answer.ensures c.number.ensures c.count.ensures c.request.ensures c.task_told.ensures c.shared_answer.ensures c.begin.ensures.sitting
 
 pub returns-clause-wrong : goal.returns-clause-wrong
-returns-clause-wrong g c =
-    not_wrong c.perform-answer.result c.shared_answer.result c.begin.result c.in_ok-first.first (IsSeated c.args.tag (held_of c.args.locked.now) c.args.seat.now.sitting) c.shared_answer.ensures c.in_ok-first.was c.begin.ensures.wrong
+returns-clause-wrong g c = grind (arith, not_wrong)
 
 pub returns-clause-full : goal.returns-clause-full
-returns-clause-full g c = λ e. absurd (never_full c.perform-answer.result (sym c.shared_answer.ensures ∙ e))
+returns-clause-full g c = grind (arith, never_full)

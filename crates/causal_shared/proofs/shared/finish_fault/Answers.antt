@@ -1,4 +1,4 @@
-use Rattle.std.proofs.Common.{ℕ, ◌≡◌, refl, sym, ◌∙◌}
+use Rattle.std.proofs.Common.{arith, ℕ, ◌≡◌}
 use Rattle.std.specs.Prelude.{Option, Some, None}
 use Rattle.std.proofs.lemmas.Bool.{false≢true}
 use Rattle.causal_shared.specs.declared.fault.FinishFault.{FinishFault}
@@ -19,45 +19,40 @@ mismatch_opening : (n : ℕ) → ◌≡◌ {A = Option FinishFault} (Some (Misma
 mismatch_opening n e = cc
 
 pub returns-clause-settled : goal.returns-clause-settled
-returns-clause-settled g c = record {
-  complete = c.is_complete.ensures.0 c.if-not-is_complete.false;
-  agree = rw c.history.ensures at c.in_default.ensures.none;
-  seated = rw c.history-2.ensures at (c.all_seated.ensures.0 c.if-not-all_seated.false);
-  begins = rw (c.core.ensures, c.history-3.ensures) at (c.is_opening.ensures.0 c.if-not-is_opening.false);
-}
+returns-clause-settled g c = grind arith
 
 pub returns-then-not-is_complete-clause-missing : goal.returns-then-not-is_complete-clause-missing
-returns-then-not-is_complete-clause-missing g c = (λ e complete. absurd (false≢true (sym c.if-not-is_complete.true ∙ c.is_complete.ensures.1 complete)), λ no. refl)
+returns-then-not-is_complete-clause-missing g c = grind (arith, false≢true)
 
 pub returns-then-not-is_complete-clause-mismatch : goal.returns-then-not-is_complete-clause-mismatch
-returns-then-not-is_complete-clause-mismatch g c = λ n e. absurd (mismatch_missing n (sym e))
+returns-then-not-is_complete-clause-mismatch g c = grind (arith, mismatch_missing)
 
 pub returns-then-not-is_complete-clause-opened : goal.returns-then-not-is_complete-clause-opened
-returns-then-not-is_complete-clause-opened g c = λ e. absurd (opening_missing (sym e))
+returns-then-not-is_complete-clause-opened g c = grind (arith, opening_missing)
 
 pub returns-in-Some-clause-missing : goal.returns-in-Some-clause-missing
-returns-in-Some-clause-missing g c = (λ e. absurd (mismatch_missing _ e), λ no. absurd (no (c.is_complete.ensures.0 c.if-not-is_complete.false)))
+returns-in-Some-clause-missing g c = grind (arith, mismatch_missing)
 
 pub returns-then-not-all_seated-clause-missing : goal.returns-then-not-all_seated-clause-missing
-returns-then-not-all_seated-clause-missing g c = (λ e. absurd (mismatch_missing _ e), λ no. absurd (no (c.is_complete.ensures.0 c.if-not-is_complete.false)))
+returns-then-not-all_seated-clause-missing g c = grind (arith, mismatch_missing)
 
 pub returns-then-not-is_opening-clause-missing : goal.returns-then-not-is_opening-clause-missing
-returns-then-not-is_opening-clause-missing g c = (λ e. absurd (opening_missing e), λ no. absurd (no (c.is_complete.ensures.0 c.if-not-is_complete.false)))
+returns-then-not-is_opening-clause-missing g c = grind (arith, opening_missing)
 
 pub returns-clause-missing : goal.returns-clause-missing
-returns-clause-missing g c = (λ e. absurd (none_is _ e), λ no. absurd (no (c.is_complete.ensures.0 c.if-not-is_complete.false)))
+returns-clause-missing g c = grind (arith, none_is)
 
 pub returns-in-Some-clause-opened : goal.returns-in-Some-clause-opened
-returns-in-Some-clause-opened g c = λ e. absurd (mismatch_opening _ e)
+returns-in-Some-clause-opened g c = grind (arith, mismatch_opening)
 
 pub returns-then-not-all_seated-clause-opened : goal.returns-then-not-all_seated-clause-opened
-returns-then-not-all_seated-clause-opened g c = λ e. absurd (mismatch_opening _ e)
+returns-then-not-all_seated-clause-opened g c = grind (arith, mismatch_opening)
 
 pub returns-clause-opened : goal.returns-clause-opened
-returns-clause-opened g c = λ e. absurd (none_is _ e)
+returns-clause-opened g c = grind (arith, none_is)
 
 pub returns-then-not-is_opening-clause-mismatch : goal.returns-then-not-is_opening-clause-mismatch
-returns-then-not-is_opening-clause-mismatch g c = λ n e. absurd (mismatch_opening n (sym e))
+returns-then-not-is_opening-clause-mismatch g c = grind (arith, mismatch_opening)
 
 pub returns-clause-mismatch : goal.returns-clause-mismatch
-returns-clause-mismatch g c = λ n e. absurd (none_is _ e)
+returns-clause-mismatch g c = grind (arith, none_is)

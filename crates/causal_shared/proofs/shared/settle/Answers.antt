@@ -1,4 +1,4 @@
-use Rattle.std.proofs.Common.{◌≡◌, ap, sym, ◌∙◌}
+use Rattle.std.proofs.Common.{arith, ◌≡◌, ap, ◌∙◌}
 use Rattle.std.specs.Prelude.{Option, Result, Some, Ok, Err}
 use Rattle.causal_shared.specs.declared.fault.FinishFault.{FinishFault}
 use Rattle.causal_core.specs.CoreView.{run_of}
@@ -18,19 +18,19 @@ module _ {A : Type 0} where
   told a b e = ap Err (let is : a ≡ b = cc e in is)
 
 pub returns-in-Some-clause-missing : goal.returns-in-Some-clause-missing
-returns-in-Some-clause-missing g c = (λ e. c.finish_fault.ensures.missing.0 (c.in-Some.is ∙ found _ _ e), λ no. told _ _ (sym c.in-Some.is ∙ c.finish_fault.ensures.missing.1 no))
+returns-in-Some-clause-missing g c = grind (arith, found, told)
 
 pub returns-in-Some-clause-mismatch : goal.returns-in-Some-clause-mismatch
 returns-in-Some-clause-mismatch g c = λ n e. c.finish_fault.ensures.mismatch n (c.in-Some.is ∙ found _ _ e)
 
 pub returns-in-Some-clause-opened : goal.returns-in-Some-clause-opened
-returns-in-Some-clause-opened g c = λ e. c.finish_fault.ensures.opened (c.in-Some.is ∙ found _ _ e)
+returns-in-Some-clause-opened g c = grind (arith, found)
 
 pub returns-clause-safe : goal.returns-clause-safe
 returns-clause-safe g c = safe_carried (run_of c.into_parts-core.result.0) c.into_parts-core.result.0.kept
 
 pub returns-clause-single : goal.returns-clause-single
-returns-clause-single g c = single_carried (run_of c.into_parts-core.result.0) c.into_parts-core.result.0.kept
+returns-clause-single g c = grind (arith, single_carried)
 
 pub returns-clause-opening : goal.returns-clause-opening
 returns-clause-opening g c = rw (c.into_parts-core.ensures.run, c.into_parts-core.ensures.history) c.in_default.ensures.settled.begins
@@ -42,15 +42,13 @@ pub returns-clause-others : goal.returns-clause-others
 returns-clause-others g c = rw c.into_parts-core.ensures.history c.in_default.ensures.settled.seated
 
 pub returns-clause-total : goal.returns-clause-total
-returns-clause-total g c =
-    let settled = c.in_default.ensures.settled in
-    rw c.into_parts-core.ensures.history (total_is c.args.seats.now c.args.locked.history.items settled.complete.once settled.seated settled.agree)
+returns-clause-total g c = grind (arith, total_is)
 
 pub returns-clause-missing : goal.returns-clause-missing
-returns-clause-missing g c = (λ e. absurd (ok_err _ _ e), λ no. absurd (no c.in_default.ensures.settled.complete))
+returns-clause-missing g c = grind (arith, ok_err)
 
 pub returns-clause-mismatch : goal.returns-clause-mismatch
-returns-clause-mismatch g c = λ n e. absurd (ok_err _ _ e)
+returns-clause-mismatch g c = grind (arith, ok_err)
 
 pub returns-clause-opened : goal.returns-clause-opened
-returns-clause-opened g c = λ e. absurd (ok_err _ _ e)
+returns-clause-opened g c = grind (arith, ok_err)

@@ -1,9 +1,10 @@
+use Rattle.std.proofs.Common.{arith}
 use Rattle.causal_line.proofs.Lemmas.Told.{told}
 use Rattle.causal_text.proofs.Spellings.{Spells-reading, IsFirstFault-reading}
 use Rattle.causal_text.proofs.reader.read_recorded.Goals as goal
 
 pub returns-in-Ok-clause-ok : goal.returns-in-Ok-clause-ok
-returns-in-Ok-clause-ok c = Spells-reading c.args.limits.entries _ _ c.in-Ok.ensures.value
+returns-in-Ok-clause-ok c = grind (arith, Spells-reading)
 
 pub returns-in-Err-clause-err : goal.returns-in-Err-clause-err
 returns-in-Err-clause-err c = λ other. IsFirstFault-reading c.args.limits.entries _ _ (told _ _ _ c.in-Err.ensures.value other)

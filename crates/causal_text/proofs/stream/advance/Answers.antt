@@ -1,4 +1,5 @@
-use Rattle.std.proofs.Common.{◌≡◌, ◌++◌, ◌∙◌, sym, ap, subst, List, [], ◌∷◌, ℕ, Bool, true, false, length, Err, append-nil}
+use Rattle.std.proofs.lemmas.Grind.{common_steps}
+use Rattle.std.proofs.Common.{arith, ◌≡◌, ◌++◌, ◌∙◌, sym, ap, subst, List, [], ◌∷◌, ℕ, Bool, true, false, length, Err, append-nil}
 use Rattle.std.specs.Prelude.{◌==◌}
 use Rattle.std.proofs.lemmas.Bool.{eqb-true}
 use Rattle.std.proofs.lemmas.List.{nil_from_length}
@@ -39,12 +40,10 @@ returns-in_err-feed-clause-err c =
     rw (p.1, p.2) (λ other b s. fault_after c.args.limits.entries c.args.piece.now _ _ c.is_empty.result c.is_empty.ensures c.if-is_empty.false (c.in_err-feed.ensures.err other b s.0))
 
 pub returns-in_ok-end-clause-ok : goal.returns-in_ok-end-clause-ok
-returns-in_ok-end-clause-ok c =
-    let empty = is_nil c.args.piece.now c.is_empty.result c.is_empty.ensures c.if-is_empty.true in
-    λ b s. Spells-reading c.args.limits.entries _ _ (rw (empty, append-nil b) (reading-ending c.args.limits.entries c.args.pieces b s.0 ∙ c.in_ok-end.ensures.value))
+returns-in_ok-end-clause-ok c = grind (arith, common_steps, is_nil, Spells-reading, append-nil, reading-ending)
 
 pub returns-in_ok-feed-clause-ok : goal.returns-in_ok-feed-clause-ok
-returns-in_ok-feed-clause-ok c = λ b s. read_more c.args.limits.entries _ _ (c.in_ok-feed.ensures.ok b s.0) c.in_ok-feed.ensures.room
+returns-in_ok-feed-clause-ok c = grind (arith, read_more)
 
 pub returns-in_err-end-clause-memory : goal.returns-in_err-end-clause-memory
 returns-in_err-end-clause-memory c =
@@ -60,12 +59,7 @@ kept_at_end most [] b rejected e h = subst (λ (bytes : List ℕ). IsKeptWithin 
 kept_at_end most (x ∷ xs) b rejected e h = absurd (let no : x ∷ xs ≡ [] = e in cc)
 
 pub returns-in_err-end-clause-before : goal.returns-in_err-end-clause-before
-returns-in_err-end-clause-before c =
-    let p = err_from_is_err_and c.from_residual.result c.from_residual.ensures.1 in
-    let empty = is_nil c.args.piece.now c.is_empty.result c.is_empty.ensures c.if-is_empty.true in
-    rw (p.1, p.2) (λ b s. kept_at_end c.args.limits.entries c.args.piece.now b _ empty (c.in_err-end.ensures.before b s.0))
+returns-in_err-end-clause-before c = grind (arith, common_steps, err_from_is_err_and, is_nil, kept_at_end)
 
 pub returns-in_err-feed-clause-before : goal.returns-in_err-feed-clause-before
-returns-in_err-feed-clause-before c =
-    let p = err_from_is_err_and c.from_residual-in_err-feed.result c.from_residual-in_err-feed.ensures.1 in
-    rw (p.1, p.2) (λ b s. kept_after c.args.limits.entries c.args.piece.now _ _ c.is_empty.result c.is_empty.ensures c.if-is_empty.false (c.in_err-feed.ensures.before b s.0))
+returns-in_err-feed-clause-before c = grind (arith, err_from_is_err_and, kept_after)

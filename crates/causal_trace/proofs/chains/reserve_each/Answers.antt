@@ -1,4 +1,4 @@
-use Rattle.std.proofs.Common.{ℕ, ◌<◌, ◌≤◌, ◌≡◌, length, get_or, set, ◌∙◌, arith}
+use Rattle.std.proofs.Common.{ℕ, ◌<◌, ◌≤◌, ◌≡◌, length, get_or, set, arith}
 use Rattle.std.proofs.Math.Seq.{map-set_same}
 use Rattle.causal_trace.specs.Inside.Chains.{least_room}
 use Rattle.causal_trace.proofs.Rooms.{room, least_at, least_each, least_grown, room_set, on_err}
@@ -18,12 +18,10 @@ grown c other =
     omega (arith, c.loop-list.invariant.grown other, least_grown c.loop-list.lists c.loop-list.list-index other c.reserve.new.self c.list-item.result (inside c) here)
 
 pub returns-in_err-reserve-clause-items : goal.returns-in_err-reserve-clause-items
-returns-in_err-reserve-clause-items c =
-    let d : After-reserve = (goal.at.returns-in_err-reserve-clause-items c).After-reserve in
-    map-set_same (λ list. list.items) c.loop-list.lists c.loop-list.list-index c.reserve.new.self c.list-item.result (same d) ∙ c.loop-list.invariant.items
+returns-in_err-reserve-clause-items c = grind (arith, map-set_same, same)
 
 pub returns-in_err-reserve-clause-grown : goal.returns-in_err-reserve-clause-grown
-returns-in_err-reserve-clause-grown c = grown (goal.at.returns-in_err-reserve-clause-grown c).After-reserve
+returns-in_err-reserve-clause-grown c = grind (arith, grown)
 
 pub returns-in_err-reserve-clause-full : goal.returns-in_err-reserve-clause-full
 returns-in_err-reserve-clause-full c =
@@ -33,13 +31,7 @@ returns-in_err-reserve-clause-full c =
     on_err c.from_residual.result few
 
 pub loop-list-preserved : goal.loop-list-preserved
-loop-list-preserved c =
-    let d : After-reserve = (goal.at.loop-list-preserved c).After-reserve in
-    record {
-      items = map-set_same (λ list. list.items) c.loop-list.lists c.loop-list.list-index c.reserve.new.self c.list-item.result (same d) ∙ c.loop-list.invariant.items;
-      grown = grown d;
-      done = room_set c.loop-list.lists c.loop-list.list-index c.args.room c.reserve.new.self (inside d) (omega (arith, c.in_ok-reserve.ensures.ok)) c.loop-list.invariant.done;
-    }
+loop-list-preserved c = grind (arith, map-set_same, same, grown, room_set, inside)
 
 pub returns-clause-ok : goal.returns-clause-ok
-returns-clause-ok c = λ other h. least_each c.loop-list.lists c.args.room other h (λ k d below. c.loop-list.invariant.done k d (omega (arith, below, c.loop-list-test.false, c.loop-list.auto.lists)))
+returns-clause-ok c = grind (arith, least_each)

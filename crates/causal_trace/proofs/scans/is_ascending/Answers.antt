@@ -7,9 +7,7 @@ use Rattle.causal_trace.proofs.scans.is_ascending.Goals as goal
 
 -- the step, at the place that the counter has passed
 step : (ds : List Det) (i : ℕ) (d : Det) → 1 ≤ i → i < length ds → is_ascending (drop (i - 1) ds) ≡ (is_before (get_or ds (i - 1) d) (get_or ds i d) && is_ascending (drop i ds))
-step ds i d low high =
-    let e : i - 1 + 1 ≡ i = omega arith in
-    rw e at (ascending_more ds (i - 1) d (omega arith))
+step ds i d low high = grind (arith, ascending_more)
 
 pub loop-i-preserved : goal.loop-i-preserved
 loop-i-preserved c =
@@ -21,4 +19,4 @@ loop-i-preserved c =
     ∙ c.loop-i.invariant
 
 pub returns : goal.returns
-returns c = sym (ascending_last c.args.dets.now (c.loop-i.i - 1) (omega arith)) ∙ c.loop-i.invariant
+returns c = grind (arith, ascending_last)

@@ -1,9 +1,7 @@
-use Rattle.std.proofs.Common.{ℕ, refl, ◌≡◌, arith, sym, ap, ◌∙◌, Some, false, length}
-use Rattle.std.specs.Option.{option_map_or}
+use Rattle.std.proofs.Common.{ℕ, refl, ◌≡◌, arith, false}
 use Rattle.causal_name.specs.declared.Pid.{Pid}
 use Rattle.causal_trace.specs.declared.entry.Entry.{Entry}
 use Rattle.causal_trace.specs.declared.entry.Entry.TheVariants.{Send, Deliver, Stable, Crash, Restart, Forget}
-use Rattle.causal_trace.specs.State.{past_at}
 use Rattle.causal_trace.specs.Past.{is_send_to}
 use Rattle.causal_trace.proofs.Lemmas.Instants.{past_length, entry_there, entry_beyond}
 use Rattle.causal_trace.proofs.scans.is_sent_to.Goals as goal
@@ -17,16 +15,10 @@ sends_none p (Restart who listed) h = refl
 sends_none p (Forget who listed) h = refl
 
 pub returns-then-send-entries : goal.returns-then-send-entries
-returns-then-send-entries c =
-    let es = c.args.entries.now in
-    sym (ap (λ o. option_map_or (is_send_to c.args.p.0) o false) (entry_beyond (past_at es (length es)) c.args.send (omega (arith, past_length es (length es) (omega arith)))))
+returns-then-send-entries c = grind (arith, entry_beyond, past_length)
 
 pub returns-in-Send : goal.returns-in-Send
-returns-in-Send c =
-    let es = c.args.entries.now in
-    sym (ap (λ o. option_map_or (is_send_to c.args.p.0) o false) (entry_there es (length es) c.args.send c.index-entries-send.result (omega arith) (omega arith) ∙ ap Some (sym c.index-entries-send.is ∙ c.in-Send.is)))
+returns-in-Send c = grind (arith, entry_there)
 
 pub returns-in_default : goal.returns-in_default
-returns-in_default c =
-    let es = c.args.entries.now in
-    sym (ap (λ o. option_map_or (is_send_to c.args.p.0) o false) (entry_there es (length es) c.args.send c.index-entries-send.result (omega arith) (omega arith) ∙ ap Some (sym c.index-entries-send.is)) ∙ sends_none c.args.p.0 c.index-entries-send.result c.in_default.not-Send)
+returns-in_default c = grind (arith, entry_there, sends_none)

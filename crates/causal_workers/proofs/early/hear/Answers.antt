@@ -1,4 +1,4 @@
-use Rattle.std.proofs.Common.{◌++◌, ◌≡◌, ◌∙◌, List, [], ℕ, true, length, refl, sym, ap, subst, append_assoc, append-nil}
+use Rattle.std.proofs.Common.{◌++◌, ◌≡◌, ◌∙◌, List, [], ℕ, true, length, refl, sym, ap, subst, append_assoc, append-nil, arith}
 use Rattle.causal_text.specs.Fed.{WasFed}
 use Rattle.std.specs.Prelude.{IfSome, IfNone, Option}
 use Rattle.causal_trace.specs.Judgement.{IsSafeTrace}
@@ -8,6 +8,7 @@ use Rattle.causal_workers.specs.declared.judged.Judged.{Judged}
 use Rattle.causal_workers.specs.Early.{FindsNoBreach, IsBreachSoFar, IsEarly, is_look}
 use Rattle.causal_workers.proofs.EarlyLemmas.{early_in, none_more, piece_is, stops_in}
 use Rattle.causal_workers.proofs.early.hear.Goals as goal
+use Rattle.std.proofs.lemmas.Grind.{common_steps}
 
 pub loop-line-init : goal.loop-line-init
 loop-line-init g c = ([], refl, λ most b fed none. rw (append-nil b) (fed, none))
@@ -46,13 +47,7 @@ loop-line-preserved g c =
     )
 
 pub returns-in-Ok-part-clause-ok : goal.returns-in-Ok-part-clause-ok
-returns-in-Ok-part-clause-ok g c = λ most b fed none.
-    let i = c.loop-line.invariant in
-    let now = i.2 most b fed none in
-    let part = c.loop-line.left.now in
-    let next = c.in-Ok-part.ensures.ok most (b ++ i.0) now.0 in
-    subst (λ (bytes : List ℕ). WasFed most c.in-Ok-part.next bytes × FindsNoBreach most bytes c.args.f) (append_assoc b i.0 part ∙ ap (λ xs. b ++ xs) (sym i.1))
-    (next, λ r x look. now.1 r (c.in-Ok-part.ensures.same most (b ++ i.0) r now.0 x) look)
+returns-in-Ok-part-clause-ok g c = λ most b fed none. grind (arith, common_steps, append_assoc b c.loop-line.invariant.0 c.loop-line.left.now)
 
 pub returns-in-Err-part-clause-err : goal.returns-in-Err-part-clause-err
 returns-in-Err-part-clause-err g c = λ most b fed none more.

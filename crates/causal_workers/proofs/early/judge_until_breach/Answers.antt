@@ -1,11 +1,10 @@
-use Rattle.std.proofs.Common.{◌<◌, ◌++◌, ◌≡◌, [], take, length, length-append, subst, Result, Ok, Err, IfErr, arith}
+use Rattle.std.proofs.Common.{[], take, length-append, subst, Result, Ok, Err, IfErr, arith}
 use Rattle.std.proofs.KnownBytes.{Consumes-nil, Consumes-trans}
 use Rattle.std.proofs.lemmas.List.{length-take-le}
 use Rattle.causal_workers.specs.Early.{IsKnown, TellsUnjudged}
 use Rattle.causal_workers.specs.declared.early.Known.TheVariants.{Early}
 use Rattle.causal_workers.specs.Inside.Heard.{IsHeard}
 use Rattle.causal_workers.specs.declared.early.Heard.{Heard}
-use Rattle.causal_workers.specs.declared.early.Heard.TheVariants.{More}
 use Rattle.causal_workers.proofs.EarlyLemmas.{at_end, going_on}
 use Rattle.causal_workers.proofs.early.judge_until_breach.Goals as goal
 
@@ -17,12 +16,7 @@ pub loop-i-init : goal.loop-i-init
 loop-i-init g c = ([], Consumes-nil _, c.new-begun.ensures.read, λ r x look. absurd (c.new-begun.ensures.none c.args.limits.entries r x), omega arith)
 
 pub returns-then-n-eq0-clause-err : goal.returns-then-n-eq0-clause-err
-returns-then-n-eq0-clause-err g c =
-    let i = c.loop-i.invariant in
-    let some : 0 < length c.read.new.buf = omega (arith, c.in-Ok.ensures.bound.0) in
-    if_err c.judged_whole.result _ _ (λ u h.
-    at_end (g.I.Read.remaining c.args.source.now) (g.I.Read.remaining c.loop-i.source) (g.I.Read.remaining c.read.new.self) i.0 c.read.new.buf c.in-Ok.n (λ text. TellsUnjudged c.args.limits.entries text c.args.f u)
-    i.1 c.in-Ok.ensures.bytes.0 c.if-n-eq0.true (c.in-Ok.ensures.bytes.1 c.if-n-eq0.true some) (h c.args.limits.entries i.0 i.2 i.3)) c.judged_whole.ensures.err
+returns-then-n-eq0-clause-err g c = grind (arith, if_err, at_end)
 
 pub returns-in-Ok-Breach-clause-ok : goal.returns-in-Ok-Breach-clause-ok
 returns-in-Ok-Breach-clause-ok g c =
@@ -40,16 +34,4 @@ returns-in-Err-clause-err g c =
     i.1 c.in-Ok.ensures.bytes.0 (c.in-Err.ensures.err c.args.limits.entries i.0 i.2 i.3)
 
 pub loop-i-preserved : goal.loop-i-preserved
-loop-i-preserved g c =
-    let i = c.loop-i.invariant in
-    let piece = take c.in-Ok.n c.read.new.buf in
-    let heard : IsHeard c.args.limits.entries i.0 piece c.args.f (More c.in-Ok-More.next) =
-    subst (λ (heard : Heard). IsHeard c.args.limits.entries i.0 piece c.args.f heard) c.in-Ok-More.field-0-is (c.in-Ok-More.ensures.ok c.args.limits.entries i.0 i.2 i.3) in
-    let size : length piece ≡ c.in-Ok.n = length-take-le c.in-Ok.n c.read.new.buf c.in-Ok.ensures.bound.0 in
-    let sum = length-append i.0 piece in (
-      i.0 ++ piece,
-      Consumes-trans (g.I.Read.remaining c.args.source.now) (g.I.Read.remaining c.loop-i.source) (g.I.Read.remaining c.read.new.self) i.0 piece i.1 c.in-Ok.ensures.bytes.0,
-      heard.0,
-      heard.1,
-      omega (arith, sum, size, i.4, c.if-n-eq0.false),
-    )
+loop-i-preserved g c = grind (arith, length-take-le, length-append, Consumes-trans)

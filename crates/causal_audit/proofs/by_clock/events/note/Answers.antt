@@ -40,19 +40,19 @@ pub local-requires-in-Forget-clause-room : goal.local-requires-in-Forget-clause-
 local-requires-in-Forget-clause-room c = room _ _ _ c.requires
 
 pub returns-in-Send-clause-mirrors : goal.returns-in-Send-clause-mirrors
-returns-in-Send-clause-mirrors c n past accepted m = on_ok c.local.result (λ appended. rw appended (after_send n past _ _ _ accepted m _ _ _ c.in-Send.is)) c.local.ensures.appended
+returns-in-Send-clause-mirrors c n past accepted m = grind (arith, on_ok, after_send)
 
 pub returns-in-Deliver-clause-mirrors : goal.returns-in-Deliver-clause-mirrors
-returns-in-Deliver-clause-mirrors c n past accepted m = on_ok c.receive.result (λ appended. rw appended (after_deliver n past _ _ _ accepted m _ _ _ _ c.in-Deliver.is)) c.receive.ensures.appended
+returns-in-Deliver-clause-mirrors c n past accepted m = grind (arith, on_ok, after_deliver)
 
 pub returns-in-Stable-clause-mirrors : goal.returns-in-Stable-clause-mirrors
-returns-in-Stable-clause-mirrors c n past accepted m = on_ok c.local-in-Stable.result (λ appended. rw appended (after_stable n past _ _ _ accepted m _ c.in-Stable.is (some_lane _ _ _ c.requires))) c.local-in-Stable.ensures.appended
+returns-in-Stable-clause-mirrors c n past accepted m = grind (arith, on_ok, after_stable, some_lane)
 
 pub returns-in-Crash-clause-mirrors : goal.returns-in-Crash-clause-mirrors
-returns-in-Crash-clause-mirrors c n past accepted m = on_ok c.local-in-Crash.result (λ appended. rw appended (after_crash n past _ _ _ accepted m _ c.in-Crash.is (some_lane _ _ _ c.requires))) c.local-in-Crash.ensures.appended
+returns-in-Crash-clause-mirrors c n past accepted m = grind (arith, on_ok, after_crash, some_lane)
 
 pub returns-in-Forget-clause-mirrors : goal.returns-in-Forget-clause-mirrors
-returns-in-Forget-clause-mirrors c n past accepted m = on_ok c.local-in-Forget.result (λ appended. rw appended (after_forget n past _ _ _ accepted m _ _ c.in-Forget.is (some_lane _ _ _ c.requires))) c.local-in-Forget.ensures.appended
+returns-in-Forget-clause-mirrors c n past accepted m = grind (arith, on_ok, after_forget, some_lane)
 
 pub returns-in-Ok-clause-mirrors : goal.returns-in-Ok-clause-mirrors
 returns-in-Ok-clause-mirrors c n past accepted m = on_ok c.local-in-Restart.result (λ appended. rw appended (rw (c.in-Ok.ensures.opened, c.in-Ok.ensures.number) (after_restart n past _ _ _ accepted m _ _ c.in-Restart.is))) c.local-in-Restart.ensures.appended

@@ -22,8 +22,7 @@ loop-t-init c =
     }
 
 pub loop-t-preserved-then-not-is_change : goal.loop-t-preserved-then-not-is_change
-loop-t-preserved-then-not-is_change c =
-    let r = c.args.trace.now.recording in
+loop-t-preserved-then-not-is_change c = let r = c.args.trace.now.recording in
     let t = c.loop-t.t in
     let i = c.loop-t.invariant in
     let formed = c.entries-entries.ensures.formed in
@@ -34,8 +33,7 @@ loop-t-preserved-then-not-is_change c =
     record {
       ahead = cursor_later c.args.mentions.now t (t + 1) c.next.new.self (omega arith) (c.next.ensures.cursor c.args.mentions.now i.ahead);
       state = state_agrees (instant r.past t) (instant r.past (t + 1)) c.args.k c.args.det c.loop-t.state agree i.state;
-      before = up_to_next (λ u. HasOrphan r.processes c.args.f (instant r.past u) c.args.k → ⊥) t i.before
-          (λ has. i.before t (omega arith) (none_agrees r.processes c.args.f r.past c.args.k c.args.det t (t + 1) c.requires.delivery (omega arith) (omega (arith, below)) agree has));
+      before = grind (arith, up_to_next, none_agrees);
     }
 
 pub returns-in-Some : goal.returns-in-Some

@@ -1,4 +1,4 @@
-use Rattle.causal_audit.proofs.Common.{◌≡◌, ◌<◌, arith, sym, ◌∙◌, ap, len, union, difference, empty}
+use Rattle.causal_audit.proofs.Common.{◌<◌, arith, sym, ◌∙◌, ap, len, union, difference}
 use Rattle.causal_holders.specs.Members.{IsLeast}
 use Rattle.causal_audit.proofs.Exposure.{not_many, not_none, least_orphan_is}
 use Rattle.causal_audit.proofs.delivery_state.DeliveryState.exposed.Goals as goal
@@ -10,8 +10,7 @@ returns-then-len-from c n past k d formed at state =
 
 pub returns-in_default : goal.returns-in_default
 returns-in_default c n past k d formed at state =
-    let none : difference c.args.self.dependents c.args.self.holders ≡ empty = sym c.minus.ensures ∙ c.in_default.ensures in
-    not_none n c.args.f past k d formed at c.args.self state none
+    grind (arith, not_none n c.args.f past k d formed at c.args.self state (sym c.minus.ensures ∙ c.in_default.ensures))
 
 pub returns : goal.returns
 returns c n past k d formed at state =

@@ -1,3 +1,4 @@
+use Rattle.std.proofs.Common.{arith}
 use Rattle.causal_audit.proofs.Common.{◌≡◌, ◌∙◌, ◌<◌, length, sym, ap, subst, rules, set, nat_cmp, contains, remove, contains-empty, get_or_default}
 use Rattle.causal_audit.specs.Inside.Group.Walk.{AreCopiesAfter, copies_at, no_copies}
 use Rattle.causal_audit.proofs.group.GroupWalk.{renewed_more, HaveRenewed}
@@ -5,7 +6,7 @@ use Rattle.causal_audit.proofs.group.GroupReach.{fewer}
 use Rattle.causal_audit.proofs.group.copies.renew.Goals as goal
 
 pub loop-place-smaller : goal.loop-place-smaller
-loop-place-smaller c = rw c.remove.ensures (fewer c.loop-place.rest c.in-Some.place c.in-Some.ensures.0)
+loop-place-smaller c = grind (arith, fewer)
 
 pub loop-place-preserved : goal.loop-place-preserved
 loop-place-preserved c =

@@ -6,16 +6,13 @@ use Rattle.causal_audit.proofs.group.GroupReach.{fewer}
 use Rattle.causal_audit.proofs.group.judged.judge.Goals as goal
 
 pub loop-least-init : goal.loop-least-init
-loop-least-init c = record {
-  judged = judged_none c.args.trace.now.recording c.args.f c.args.opened.now c.args.step.now.t c.both-rest.result;
-  asked = record { places = c.requires.asked.places; over = λ j low out. omega (arith, c.requires.asked.over j low out) };
-}
+loop-least-init c = grind (arith, judged_none)
 
 pub loop-least-smaller : goal.loop-least-smaller
-loop-least-smaller c = rw c.remove.ensures (fewer c.loop-least.rest c.in-Some.place c.in-Some.ensures.0)
+loop-least-smaller c = grind (arith, fewer)
 
 pub loop-least-smaller-then-delivery-step : goal.loop-least-smaller-then-delivery-step
-loop-least-smaller-then-delivery-step c = rw c.remove.ensures (fewer c.loop-least.rest c.in-Some.place c.in-Some.ensures.0)
+loop-least-smaller-then-delivery-step c = grind (arith, fewer)
 
 pub loop-least-preserved-then-delivery-step : goal.loop-least-preserved-then-delivery-step
 loop-least-preserved-then-delivery-step c =

@@ -1,4 +1,4 @@
-use Rattle.causal_audit.proofs.Common.{ℕ, ◌≡◌, ◌≤◌, ◌<◌, inl, inr, length, sym, ap, ◌∙◌, arith, contains, cases_lt}
+use Rattle.causal_audit.proofs.Common.{ℕ, ◌≡◌, ◌≤◌, ◌<◌, length, ap, arith}
 use Rattle.causal_audit.specs.Inside.Group.Walk.{position_at}
 use Rattle.causal_audit.proofs.group.OpenPositions.{position, zero}
 use Rattle.causal_audit.proofs.group.GroupReach.{none_in}
@@ -6,40 +6,29 @@ use Rattle.causal_audit.proofs.group.GroupWalk.{own_all, passed_all, passed_more
 use Rattle.causal_audit.proofs.group.own.own_at.Goals as goal
 
 pub loop-delivery-init : goal.loop-delivery-init
-loop-delivery-init c = record {
-  from = omega arith;
-  inside = c.requires.passed.inside;
-  own_are = λ j. (λ h. absurd (none_in j (ap (λ s. contains s j) (sym c.none-own.ensures) ∙ h)), λ is. absurd (omega (arith, is.0, is.1)));
-  stand = λ j late early. absurd (omega (arith, late, early));
-}
+loop-delivery-init c = grind (arith, none_in)
 
 pub loop-delivery-preserved : goal.loop-delivery-preserved
-loop-delivery-preserved c =
-    let i = c.loop-delivery.invariant in
+loop-delivery-preserved c = let i = c.loop-delivery.invariant in
     let low : c.loop-delivery.passed < length c.args.opened.now = c.in-Some.ensures.lookup.3.0 in
     let at : c.in-Some.delivery.now.position ≡ position_at c.args.opened.now c.loop-delivery.passed = ap position (c.in-Some.ensures.lookup.3.1 zero) in
-    let here : position_at c.args.opened.now c.loop-delivery.passed ≡ c.args.t = elim (cases_lt (position_at c.args.opened.now c.loop-delivery.passed) c.args.t) [
-      | inl before ↦ absurd (omega (arith, (c.requires.passed.earlier c.loop-delivery.passed low).1 before, i.from))
-      | inr late ↦ omega (arith, late, at, c.if-delivery-t.false)
-    ] in
+    let here : position_at c.args.opened.now c.loop-delivery.passed ≡ c.args.t = grind arith in
     rw c.insert.ensures (passed_more c.args.opened.now c.args.t c.args.passed.now c.loop-delivery.passed c.loop-delivery.own i low here)
 
 later : (c : goal.Then-delivery-t) → (j : ℕ) → c.loop-delivery.passed ≤ j → j < length c.args.opened.now → c.args.t < position_at c.args.opened.now j
-later c j late low =
-    let at : c.in-Some.delivery.now.position ≡ position_at c.args.opened.now c.loop-delivery.passed = ap position (c.in-Some.ensures.lookup.3.1 zero) in
-    omega (arith, c.if-delivery-t.true, at, c.requires.order c.loop-delivery.passed j zero late low)
+later c j late low = grind arith
 
 none_left : (c : goal.In_default) → (j : ℕ) → c.loop-delivery.passed ≤ j → j < length c.args.opened.now → c.args.t < position_at c.args.opened.now j
 none_left c j late low = let over : length c.args.opened.now ≤ c.loop-delivery.passed = c.in_default.ensures.lookup.3 in absurd (omega (arith, over, late, low))
 
 pub returns-then-delivery-t-clause-passed : goal.returns-then-delivery-t-clause-passed
-returns-then-delivery-t-clause-passed c = passed_all c.args.opened.now c.args.t c.args.passed.now c.loop-delivery.passed c.loop-delivery.own c.loop-delivery.invariant c.requires.passed (later c)
+returns-then-delivery-t-clause-passed c = grind (arith, passed_all, later)
 
 pub returns-then-delivery-t-clause-own : goal.returns-then-delivery-t-clause-own
-returns-then-delivery-t-clause-own c = own_all c.args.opened.now c.args.t c.args.passed.now c.loop-delivery.passed c.loop-delivery.own c.loop-delivery.invariant c.requires.passed (later c)
+returns-then-delivery-t-clause-own c = grind (arith, own_all, later)
 
 pub returns-clause-passed : goal.returns-clause-passed
-returns-clause-passed c = passed_all c.args.opened.now c.args.t c.args.passed.now c.loop-delivery.passed c.loop-delivery.own c.loop-delivery.invariant c.requires.passed (none_left c)
+returns-clause-passed c = grind (arith, passed_all, none_left)
 
 pub returns-clause-own : goal.returns-clause-own
-returns-clause-own c = own_all c.args.opened.now c.args.t c.args.passed.now c.loop-delivery.passed c.loop-delivery.own c.loop-delivery.invariant c.requires.passed (none_left c)
+returns-clause-own c = grind (arith, own_all, none_left)

@@ -5,13 +5,11 @@ use Rattle.causal_audit.proofs.index.reached.reached_in.Goals as goal
 
 pub loop-k-init : goal.loop-k-init
 loop-k-init c =
-    let r = c.args.trace.now.recording in
-    let many = how_many r c.entries-entries.result.now c.entries-entries.ensures.value in
-    record {
-      within = omega arith;
-      count = omega (arith, c.in_ok-sets.ensures.len);
-      reached = reached_begun r.past _ c.in_ok-sets.sets.items (omega (arith, many));
-    }
+    grind (
+      arith,
+      how_many c.args.trace.now.recording c.entries-entries.result.now c.entries-entries.ensures.value,
+      reached_begun c.args.trace.now.recording.past,
+    )
 
 pub loop-k-preserved : goal.loop-k-preserved
 loop-k-preserved c =

@@ -15,16 +15,13 @@ loop-i-init c = record {
 }
 
 pub loop-i-preserved : goal.loop-i-preserved
-loop-i-preserved c =
-    let i = c.loop-i.i - 1 in
+loop-i-preserved c = let i = c.loop-i.i - 1 in
     let e = c.index-entries-i.result in
     let below : i < length c.args.entries.now = omega (arith, c.loop-i-test.true, c.loop-i.invariant.within) in
     let back : i + 1 ≡ c.loop-i.i = omega (arith, c.loop-i-test.true) in
     let first = spread_at e i c.acting.result c.loop-i.stays.items c.loop-i.outs in
-    let written : c.note_spread.new.spreads.items ≡ slice_set (with_delivered e i c.loop-i.stays.items) i first =
-    c.note_spread.ensures.spreads in
-    let outs : c.note_spread.new.outs ≡ slice_set c.loop-i.outs c.acting.result first =
-    c.note_spread.ensures.outs in
+    let written : c.note_spread.new.spreads.items ≡ slice_set (with_delivered e i c.loop-i.stays.items) i first = grind arith in
+    let outs : c.note_spread.new.outs ≡ slice_set c.loop-i.outs c.acting.result first = grind arith in
     record {
       within = omega (arith, below);
       count = omega (arith, ap length written, length-set (with_delivered e i c.loop-i.stays.items) i first, noted_length e i c.loop-i.stays.items, c.loop-i.invariant.count);

@@ -1,4 +1,5 @@
-use Rattle.causal_audit.specs.Inside.Group.OpenDeliveries.{IsPrepared, asked_of, positions_of}
+use Rattle.std.proofs.Common.{arith}
+use Rattle.causal_audit.specs.Inside.Group.OpenDeliveries.{asked_of, positions_of}
 use Rattle.causal_audit.specs.Parts.{AreEnough}
 use Rattle.causal_audit.proofs.AmongLemmas.{among_all}
 use Rattle.causal_audit.proofs.look.SurveyAsks.{any_other}
@@ -8,12 +9,7 @@ pub invariant_of-outline : goal.invariant_of-outline
 invariant_of-outline c = record { turned = c.in_ok-index.ensures.kept.turned }
 
 pub invariant_of-result : goal.invariant_of-result
-invariant_of-result c =
-    let prepared : IsPrepared c.args.trace.now.recording c.args.f c.args.end c.in_ok-index.index c.in_ok-opened.opened.items = record {
-      indexed = c.in_ok-index.ensures.kept;
-      followed = c.in_ok-opened.ensures.followed;
-    } in
-    rw c.of-2.ensures prepared
+invariant_of-result c = grind arith
 
 pub returns-clause-enough : goal.returns-clause-enough
 returns-clause-enough c =

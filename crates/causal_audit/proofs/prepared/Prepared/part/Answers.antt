@@ -1,7 +1,7 @@
-use Rattle.causal_audit.proofs.Common.{ℕ, ◌≡◌, ◌-◌, take, drop, ap, subst, sym, ◌∙◌, arith, take-map, drop-map, All-drop, All-take, Recording}
-use Rattle.causal_audit.specs.Parts.{Followed, part_of}
+use Rattle.causal_audit.proofs.Common.{◌≡◌, ◌-◌, take, drop, ap, subst, sym, ◌∙◌, arith, take-map, drop-map, All-drop, All-take, Recording}
+use Rattle.causal_audit.specs.Parts.{Followed}
 use Rattle.causal_audit.specs.declared.group.run_to_follow.OpenDelivery.{OpenDelivery}
-use Rattle.causal_audit.specs.Inside.Group.OpenDeliveries.{AreOpenDeliveries, IsDeliveryAt, IsOpenDelivery, positions_of}
+use Rattle.causal_audit.specs.Inside.Group.OpenDeliveries.{AreOpenDeliveries, IsDeliveryAt, IsOpenDelivery}
 use Rattle.causal_audit.proofs.prepared.Prepared.part.Goals as goal
 
 abbrev is_of_delivery : Recording → OpenDelivery → Type 0
@@ -27,13 +27,4 @@ invariant_of-result c =
     )
 
 pub returns : goal.returns
-returns c =
-    let s = c.self.inside in
-    let from = c.args.from in
-    let many = c.args.to - c.args.from in
-    let place : OpenDelivery → ℕ = λ delivery. delivery.position in
-    let cut : positions_of (take many (drop from c.deref.result.now)) ≡ take many (drop from (positions_of s.opened.items)) =
-    ap (λ opened. positions_of (take many (drop from opened))) c.deref.ensures.value ∙ sym (take-map place many (drop from s.opened.items)) ∙ ap (take many) (sym (drop-map place from s.opened.items)) in
-    let same : c.args.trace.now.recording ≡ s.run.value.recording = c.requires.same ∙ sym (ap (λ (followed : Followed). followed.run) c.self.view_is) in
-    ap (λ (x : Recording). record { run = x; f = s.f; end = s.end; positions = positions_of (take many (drop from c.deref.result.now)) }) same
-    ∙ ap (λ positions. record { run = s.run.value.recording; f = s.f; end = s.end; positions = positions }) cut ∙ ap (λ f. part_of f from c.args.to) c.self.view_is
+returns c = grind (arith, take-map, drop-map)

@@ -1,8 +1,9 @@
+use Rattle.std.proofs.Common.{arith}
 use Rattle.causal_text.proofs.FedLemmas.{fed_more, fed_fault, fed_line}
 use Rattle.causal_text.proofs.fed.FedReader.feed.Goals as goal
 
 pub returns-in-Ok-clause-ok : goal.returns-in-Ok-clause-ok
-returns-in-Ok-clause-ok c = rw (← c.self.view_is, ← c.in-Some.ensures.value) (λ most b s. (s.0, fed_more _ most _ _ b _ s.0 (c.in-Ok.ensures.ok b) c.in-Ok.ensures.room s.1))
+returns-in-Ok-clause-ok c = grind (arith, fed_more)
 
 pub returns-in-Err-clause-err : goal.returns-in-Err-clause-err
 returns-in-Err-clause-err c = rw (← c.self.view_is, ← c.in-Some.ensures.value) (λ most b s. (

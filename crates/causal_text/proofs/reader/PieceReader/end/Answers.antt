@@ -1,12 +1,12 @@
-use Rattle.std.proofs.Common.{◌≡◌, ◌+◌, ◌<◌, ◌∙◌, ap, sym, subst, refl, List, [], ◌∷◌, ℕ, zero, suc, Bool, true, false, length, Option, Result, Err, arith}
+use Rattle.std.proofs.lemmas.Grind.{common_steps}
+use Rattle.std.proofs.Common.{◌≡◌, ◌+◌, ◌<◌, ◌∙◌, sym, subst, refl, List, [], ◌∷◌, ℕ, zero, suc, Bool, true, false, length, Option, Err, arith}
 use Rattle.std.specs.Prelude.{◌==◌, IfSome}
 use Rattle.std.proofs.lemmas.Result.{err_from_is_err_and}
 use Rattle.causal_line.specs.declared.before.Before.{Before}
 use Rattle.causal_line.specs.declared.kind.TextFault.{TextFault}
 use Rattle.causal_text.specs.Before.{StandsBeforeWithin}
 use Rattle.causal_text.specs.Pieces.{Held, StandsFor}
-use Rattle.causal_lines.specs.Places.{Place, next, ended}
-use Rattle.causal_line.specs.Reading.{◌>>=◌}
+use Rattle.causal_lines.specs.Places.{next}
 use Rattle.causal_line.specs.Refusals.{IsKeptAt}
 use Rattle.causal_text.specs.Inside.Unfinished.{last_place, ending}
 use Rattle.causal_text.proofs.BeforeLemmas.{kept_at_end}
@@ -22,18 +22,23 @@ last_of most h [] some = absurd (omega arith)
 last_of most h (x ∷ xs) some = refl
 
 faulty_end : (most : ℕ) (h : Held) (line : List ℕ) (f : TextFault) → 0 < length line → line ≡ h.rest → next most h.place line ≡ Err f → ending most h ≡ Err f
-faulty_end most h line f some is e =
-    ap (λ (r : Result Place TextFault). r >>= λ p. ended p p.stage) (subst (λ (xs : List ℕ). last_place most h xs ≡ Err f) is (last_of most h line some ∙ e))
+faulty_end most h line f some is e = grind (arith, last_of most h line some)
 
 moved : (most : ℕ) (k h : Held) (line : List ℕ) (f : TextFault) → k ≡ h → next most k.place line ≡ Err f → next most h.place line ≡ Err f
 moved most k h line f same e = subst (λ (held : Held). next most held.place line ≡ Err f) same e
 
 pub returns-in_err-lines-clause-value : goal.returns-in_err-lines-clause-value
 returns-in_err-lines-clause-value c =
-    let p = err_from_is_err_and c.from_residual.result c.from_residual.ensures.1 in
-    let some : 0 < length c.as_slice.result.now = omega (arith, some_of _ _ c.is_empty.ensures c.if-is_empty.false, c.as_slice.ensures.len) in
-    let is : c.as_slice.result.now ≡ c.args.self.rest = c.as_slice.ensures.value ∙ ap (λ (h : Held). h.rest) c.self.view_is in
-    rw (p.1, p.2) (fault_told _ _ _ (λ other. faulty_end c.args.limits.entries c.args.self c.as_slice.result.now _ some is (moved c.args.limits.entries _ c.args.self c.as_slice.result.now _ c.self.view_is (told _ _ _ c.in_err-lines.ensures.value other))))
+    grind (
+      arith,
+      common_steps,
+      err_from_is_err_and c.from_residual.result c.from_residual.ensures.1,
+      some_of,
+      fault_told,
+      faulty_end c.args.limits.entries c.args.self c.as_slice.result.now,
+      moved c.args.limits.entries,
+      told,
+    )
 
 kept_last : (most : ℕ) (h : Held) (b line : List ℕ) (number : ℕ) (kept : Option Before) → StandsFor most h b → 0 < length line → line ≡ h.rest → IsKeptAt h.place.stage line kept → number ≡ h.place.count + 1
     → IfSome kept (λ at. StandsBeforeWithin most b number at.trace.recording at.says)

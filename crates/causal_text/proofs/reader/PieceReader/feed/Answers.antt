@@ -1,4 +1,4 @@
-use Rattle.std.proofs.Common.{◌≡◌, ◌≢◌, ◌+◌, ◌<◌, ◌++◌, ◌∙◌, sym, ap, List, ℕ, true, length, Result, Ok, Err, IfOk, IfErr, append_assoc}
+use Rattle.std.proofs.Common.{arith, ◌≡◌, ◌≢◌, ◌+◌, ◌<◌, ◌++◌, ◌∙◌, ap, List, ℕ, true, length, Result, Ok, Err, IfOk, IfErr, append_assoc}
 use Rattle.causal_line.specs.declared.before.Rejected.{Rejected}
 use Rattle.causal_line.specs.declared.kind.TextKind.TheVariants as kind
 use Rattle.causal_text.specs.Spelling.{IsReadAt}
@@ -13,9 +13,11 @@ use Rattle.causal_text.proofs.reader.PieceReader.feed.Goals as goal
 
 pub loop-line-preserved : goal.loop-line-preserved
 loop-line-preserved c =
-    let i = c.loop-line.invariant in
-    let some = c.in-Some.ensures.some in
-    (i.0 ++ c.in-Some.line.now, i.1 ∙ ap (λ xs. i.0 ++ xs) some.1 ∙ sym (append_assoc i.0 c.in-Some.line.now c.in-Some.after.now), Comes-line c.args.limits.entries c.args.self c.loop-line.reader c.in_ok-reader.reader i.0 c.in-Some.line.now i.2 some.0 c.in_ok-reader.ensures.value)
+    grind (
+      arith,
+      append_assoc c.loop-line.invariant.0 c.in-Some.line.now c.in-Some.after.now,
+      Comes-line c.args.limits.entries c.args.self c.loop-line.reader c.in_ok-reader.reader c.loop-line.invariant.0 c.in-Some.line.now c.loop-line.invariant.2 c.in-Some.ensures.some.0 c.in_ok-reader.ensures.value,
+    )
 
 held : (most : ℕ) (h0 h : Held) (piece done left : List ℕ) (r : Result Held Rejected) → Comes most h0 done h → piece ≡ done ++ left → no_feed left ≡ true → IfOk r (λ k. k ≡ record { place = h.place; rest = h.rest ++ left }) → IfOk r (λ k. (b : List ℕ) → StandsFor most h0 b → StandsFor most k (b ++ piece))
 held most h0 h piece done left (Ok k) c is none e = rw (e, is) (Comes-hold most h0 h done left c none)

@@ -1,4 +1,4 @@
-use Rattle.std.proofs.Common.{◌≡◌, ◌<◌, ◌+◌, cond, length, get_or, reverse, Some, sym, ap, subst, ◌∙◌, arith}
+use Rattle.std.proofs.Common.{◌≡◌, ◌<◌, ◌+◌, cond, length, get_or, reverse, Some, sym, subst, ◌∙◌, arith}
 use Rattle.std.specs.Prelude.{nat_lt, ◌&&◌}
 use Rattle.std.specs.Option.{option_map_or}
 use Rattle.std.proofs.lemmas.List.{reverse-reverse, length-reverse}
@@ -13,13 +13,11 @@ there : (c : In-Some) → c.in-Some.k < length c.args.self.now.nodes
 there c = subst (λ at. IsBelow at (length c.args.self.now.nodes)) c.in-Some.is c.loop-place.invariant.inside
 
 pub index-node-requires : goal.index-node-requires
-index-node-requires c = omega (arith, there c, ap (λ s. length s.nodes) c.self.view_is, length-reverse c.self.inside.nodes.items, c.self.inside.nodes.ok.0)
+index-node-requires c = grind (arith, there, length-reverse)
 
 -- the node that was read is that of the place
 node_is : (c : After-index-node) → get_or (reverse c.args.self.now.nodes) c.in-Some.k c.index-node.result.now ≡ c.index-node.result.now
-node_is c =
-    let items : reverse c.args.self.now.nodes ≡ c.self.inside.nodes.items = ap (λ s. reverse s.nodes) (sym c.self.view_is) ∙ reverse-reverse c.self.inside.nodes.items in
-    ap (λ ns. get_or ns c.in-Some.k c.index-node.result.now) items ∙ sym c.index-node.ensures
+node_is c = grind (arith, reverse-reverse c.self.inside.nodes.items)
 
 -- it leads to a place below its own
 down : (c : After-index-node) → c.in-Some.k < length c.args.self.now.nodes → IsBelow c.index-node.result.now.next c.in-Some.k
@@ -28,15 +26,14 @@ down c low = subst (λ n. IsBelow n.next c.in-Some.k) (node_is c) (leads_on c.ar
 -- the answer is its place, or that of the rest
 rest : (c : After-index-node) → c.in-Some.k < length c.args.self.now.nodes → place_of c.args.among c.args.det c.args.self.now.nodes c.args.begin ≡ cond (nat_lt c.in-Some.k c.args.among && is_of c.args.det c.index-node.result.now.receipt) (Some c.in-Some.k) (place_of c.args.among c.args.det c.args.self.now.nodes c.index-node.result.now.next)
 rest c low =
-    let nodes = c.args.self.now.nodes in
-    c.loop-place.invariant.rest
-    ∙ ap (place_of c.args.among c.args.det nodes) c.in-Some.is
-    ∙ subst (λ n. place_of c.args.among c.args.det nodes (Some c.in-Some.k) ≡ cond (nat_lt c.in-Some.k c.args.among && is_of c.args.det n.receipt) (Some c.in-Some.k) (place_of c.args.among c.args.det nodes n.next)) (node_is c) (place_on c.args.among c.args.det nodes c.in-Some.k c.index-node.result.now c.requires.linked.nodes_lead low)
+    grind (
+      arith,
+      node_is c,
+      place_on c.args.among c.args.det c.args.self.now.nodes c.in-Some.k c.index-node.result.now c.requires.linked.nodes_lead low,
+    )
 
 pub returns-then-is_of_first : goal.returns-then-is_of_first
-returns-then-is_of_first c =
-    let p = goal.at.returns-then-is_of_first c in
-    sym (rest p.After-index-node (there p.In-Some) ∙ cond-true (nat_lt c.in-Some.k c.args.among && is_of c.args.det c.index-node.result.now.receipt) _ _ (sym c.if-is_of_first.ensures))
+returns-then-is_of_first c = grind (arith, rest, there, cond-true)
 
 pub loop-place-smaller : goal.loop-place-smaller
 loop-place-smaller c =
@@ -53,4 +50,4 @@ loop-place-preserved c =
     }
 
 pub returns : goal.returns
-returns c = sym (c.loop-place.invariant.rest ∙ place_none c.args.among c.args.det c.args.self.now.nodes c.loop-place.place c.in_default.not-Some)
+returns c = grind (arith, place_none)

@@ -1,5 +1,6 @@
+use Rattle.std.proofs.Common.{arith}
 use Rattle.causal_audit.proofs.group.RowSlots.{first_empty}
 use Rattle.causal_audit.proofs.group.rows.Rows.begin.Goals as goal
 
 pub returns-clause-empty : goal.returns-clause-empty
-returns-clause-empty c i = first_empty c.reset.new.slots.items c.reset.new.sets.items c.in_ok-reset.ensures.first i
+returns-clause-empty c i = grind (arith, first_empty)

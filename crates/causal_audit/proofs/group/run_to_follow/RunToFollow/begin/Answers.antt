@@ -1,4 +1,4 @@
-use Rattle.causal_audit.proofs.Common.{◌≡◌, ◌∙◌, ◌≤◌, true, length, ap, sym, subst, arith, contains, instant, is_down, logs, instant_length}
+use Rattle.causal_audit.proofs.Common.{◌≡◌, ◌≤◌, true, length, sym, subst, arith, contains, instant, is_down, logs, instant_length}
 use Rattle.causal_audit.proofs.group.OpenPositions.{zero}
 use Rattle.causal_audit.specs.Inside.Group.Walk.{AreCopies, TellRows, position_at}
 use Rattle.causal_audit.specs.Inside.Group.OpenDeliveries.{RunUpTo}
@@ -10,11 +10,10 @@ use Rattle.causal_audit.proofs.index.DownAfterTurns.{passed_down}
 use Rattle.causal_audit.proofs.group.run_to_follow.RunToFollow.begin.Goals as goal
 
 pub mark_all-requires-clause-none : goal.mark_all-requires-clause-none
-mark_all-requires-clause-none c i j inside h = absurd (none_in j (ap (λ s. contains s j) (sym (c.in_ok-begin.ensures.empty i)) ∙ h))
+mark_all-requires-clause-none c i j inside h = grind (arith, none_in)
 
 pub returns-clause-begun : goal.returns-clause-begun
-returns-clause-begun c =
-    let r = c.args.self.now.run in
+returns-clause-begun c = let r = c.args.self.now.run in
     let opened = c.args.opened.now in
     let start = c.args.start in
     let run = c.self.inside.outline.trace.now.recording in
@@ -24,8 +23,7 @@ returns-clause-begun c =
     let within : start ≤ length run.past = omega (arith, c.requires.ordered, inside, c.self.invariant.within) in
     let rows = c.mark_all.new.rows in
     let early : start ≤ length r.past = subst (λ (s : RunUpTo). start ≤ length s.run.past) c.self.view_is within in
-    let shown : Shows c.down-room.result (λ p. is_down (instant r.past start) p) =
-    subst (λ (s : RunUpTo). Shows c.down-room.result (λ p. is_down (instant s.run.past start) p)) c.self.view_is (c.down-room.ensures run.past start within walk.0 walk.1) in
+    let shown : Shows c.down-room.result (λ p. is_down (instant r.past start) p) = grind arith in
     record {
       start_is = c.in_ok-begin.ensures.rows.start;
       told = λ j d low at.

@@ -1,4 +1,4 @@
-use Rattle.causal_audit.proofs.Common.{◌≡◌, ◌≤◌, ◌∙◌, Some, subst, sym, arith, Contains, false, IsNonDecreasing, has, instant}
+use Rattle.causal_audit.proofs.Common.{◌≡◌, ◌≤◌, ◌∙◌, Some, subst, sym, arith, Contains, false, has, instant}
 use Rattle.causal_trace.specs.Numbers.{delivered_dets}
 use Rattle.causal_audit.specs.Quiet.{mentioned_by}
 use Rattle.causal_audit.specs.Inside.Group.Walk.{IsUntouchedBefore}
@@ -9,9 +9,10 @@ use Rattle.causal_audit.proofs.group.run_to_follow.RunToFollow.first_touched.Goa
 
 pub first_in-requires : goal.first_in-requires
 first_in-requires c =
-    let following = c.self.inside in
-    let past = following.outline.trace.now.recording.past in
-    record { ascend = subst IsNonDecreasing (sym c.list.ensures) (mentions_ascend (instant past following.end) (delivered_dets past) following.mentions.now.lists c.self.invariant.mentioned c.in-Some.det) }
+    grind (
+      arith,
+      mentions_ascend (instant c.self.inside.outline.trace.now.recording.past c.self.inside.end) (delivered_dets c.self.inside.outline.trace.now.recording.past) c.self.inside.mentions.now.lists c.self.invariant.mentioned c.in-Some.det,
+    )
 
 pub returns-clause-first : goal.returns-clause-first
 returns-clause-first c =

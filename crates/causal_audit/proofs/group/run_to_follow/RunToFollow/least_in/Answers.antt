@@ -12,10 +12,10 @@ use Rattle.causal_audit.proofs.NoOrphanSoFar.{not_yet}
 use Rattle.causal_audit.proofs.group.run_to_follow.RunToFollow.least_in.Goals as goal
 
 pub begin-requires-clause-few : goal.begin-requires-clause-few
-begin-requires-clause-few c = omega (arith, length_permutation c.args.opened.now c.by_position-group.result.now c.by_position-group.ensures.same, c.requires.few)
+begin-requires-clause-few c = grind (arith, length_permutation)
 
 pub follow-requires-clause-few : goal.follow-requires-clause-few
-follow-requires-clause-few c = omega (arith, length_permutation c.args.opened.now c.by_position-group.result.now c.by_position-group.ensures.same, c.requires.few)
+follow-requires-clause-few c = grind (arith, length_permutation)
 
 pub follow-requires-clause-none : goal.follow-requires-clause-none
 follow-requires-clause-none c =

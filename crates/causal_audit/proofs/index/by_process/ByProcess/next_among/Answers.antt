@@ -5,7 +5,7 @@ use Rattle.causal_audit.proofs.index.Filings.{RestNone, none_rest, rest_less}
 use Rattle.causal_audit.proofs.index.by_process.ByProcess.next_among.Goals as goal
 
 pub loop-process-smaller : goal.loop-process-smaller
-loop-process-smaller c = rw c.remove.ensures (fewer c.loop-process.rest c.in-Some.process c.in-Some.ensures.0)
+loop-process-smaller c = grind (arith, fewer)
 
 pub loop-process-preserved : goal.loop-process-preserved
 loop-process-preserved c = record {

@@ -1,26 +1,10 @@
-use Rattle.std.proofs.Common.{◌≡◌, ◌<◌, ◌≤◌, length, get_or, sym, subst, arith, ◌∙◌}
+use Rattle.std.proofs.Common.{◌≡◌, ◌<◌, ◌≤◌, length, get_or, subst, arith}
 use Rattle.causal_audit.proofs.Steps.{entry_read}
 use Rattle.causal_audit.proofs.index.DownAfterTurns.{left_above, none_restarts, passed_one_more}
 use Rattle.causal_audit.proofs.index.crashes_and_restarts.CrashesAndRestarts.next_of_many.Goals as goal
 
 pub loop-position-preserved : goal.loop-position-preserved
-loop-position-preserved c =
-    let i = c.loop-position.invariant in
-    let r = c.args.trace.now.recording in
-    let list = c.args.self.now.positions.items in
-    let are = c.requires.turns.turned in
-    let passed = c.loop-position.passed in
-    let x = c.in-Some.position.now in
-    let there : passed < length list = subst (λ l. passed < length l) c.deref.ensures.value c.in-Some.ensures.lookup.3.0 in
-    let is : x ≡ get_or list passed x = subst (λ l. x ≡ get_or l passed x) c.deref.ensures.value (c.in-Some.ensures.lookup.3.1 x) in
-    let below : x < length r.past = omega (arith, are.ascends.below passed x there, is) in
-    record {
-      left = λ j v late inside. i.left j v (omega (arith, late)) inside;
-      none =
-          passed_one_more r.past list c.args.self.now.downs.items are c.args.members c.args.from passed i.none x there is c.index-entries-position.result
-          (entry_read r c.entries-entries.result.now c.entries-entries.ensures.value x c.index-entries-position.result below c.index-entries-position.is)
-          (sym c.restarts_one.ensures ∙ c.if-restarts_one.false);
-    }
+loop-position-preserved c = grind (arith, passed_one_more, entry_read)
 
 pub returns-then-position-end-clause-none : goal.returns-then-position-end-clause-none
 returns-then-position-end-clause-none c =

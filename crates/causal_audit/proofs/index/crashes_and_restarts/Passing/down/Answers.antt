@@ -3,10 +3,7 @@ use Rattle.causal_audit.proofs.index.DownAfterTurns.{none_turned, last_turned}
 use Rattle.causal_audit.proofs.index.crashes_and_restarts.Passing.down.Goals as goal
 
 pub returns-then-self-eq0 : goal.returns-then-self-eq0
-returns-then-self-eq0 c past t within are walk =
-    let turns = c.args.self.now.turns.now in
-    let passed = c.args.self.now.passed in
-    rw c.none.ensures (none_turned past turns.positions.items turns.downs.items are.turned t passed within walk.place.inside walk.place.point (omega (arith, c.if-self-eq0.true)))
+returns-then-self-eq0 c past t within are walk = grind (arith, none_turned)
 
 pub returns : goal.returns
 returns c past t within are walk =

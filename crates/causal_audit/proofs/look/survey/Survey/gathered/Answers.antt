@@ -1,14 +1,12 @@
-use Rattle.causal_audit.proofs.Common.{◌≤◌, length, subst, arith, instant, instant_length}
+use Rattle.std.proofs.lemmas.Grind.{common_steps}
+use Rattle.causal_audit.proofs.Common.{◌≤◌, length, subst, arith}
 use Rattle.causal_audit.specs.Inside.Group.OpenDeliveries.{Asked}
 use Rattle.causal_audit.proofs.DeliveryNumbers.{deliveries_few}
 use Rattle.causal_audit.proofs.look.SurveyAsks.{all_told}
 use Rattle.causal_audit.proofs.look.survey.Survey.gathered.Goals as goal
 
 pub overflow_cast-number : goal.overflow_cast-number
-overflow_cast-number c =
-    let s = c.self.inside in
-    let past = s.outline.trace.now.recording.past in
-    omega (arith, c.self.invariant.numbered.count, deliveries_few (instant past s.end), instant_length past s.end c.self.invariant.within)
+overflow_cast-number c = grind (arith, common_steps, deliveries_few)
 
 pub returns : goal.returns
 returns c =
