@@ -28,7 +28,8 @@ fn give_body(
     body: &mut Body,
 ) -> Result<Vec<Outgoing>, NoMemory>
     requires { HasBox slots.old.items q }
-    ensures given { IsGiven answers q (Given source body.old) result slots.old.items slots.new.items }
+    ensures given { IsGiven answers q (Given source body.old) result
+        slots.old.items slots.new.items }
     ensures body { body.new ≡ body.old }
 {
     let lent = mem::replace(body, Body::empty(alloc));
@@ -121,8 +122,9 @@ impl Data {
     ) -> Result<Vec<Outgoing>, NoMemory>
         requires box_there { HasBox slots.old.items q.0 }
         requires legal { first_fault self.old.run (Ask.Deliver q source ssn) ≡ None }
-        ensures given { IsGiven answers q.0 (Given source (body_at self.old.bodies (name source ssn)))
-            result slots.old.items slots.new.items }
+        ensures given { IsGiven answers q.0
+            (Given source (body_at self.old.bodies (name source ssn))) result
+            slots.old.items slots.new.items }
         ensures data { self.new ≡ self.old }
     {
         give_at(slots, usize::from(q.0), alloc, &mut self.cells, source, ssn)

@@ -1,4 +1,4 @@
-use Rattle.std.proofs.Common.{arith, ℕ, ◌≡◌}
+use Rattle.std.proofs.Common.{ℕ, ◌≡◌, arith}
 use Rattle.std.specs.Prelude.{Option, Some, None}
 use Rattle.std.proofs.lemmas.Bool.{false≢true}
 use Rattle.causal_shared.specs.declared.fault.FinishFault.{FinishFault}
@@ -19,7 +19,12 @@ mismatch_opening : (n : ℕ) → ◌≡◌ {A = Option FinishFault} (Some (Misma
 mismatch_opening n e = cc
 
 pub returns-clause-settled : goal.returns-clause-settled
-returns-clause-settled g c = grind arith
+returns-clause-settled g c = record {
+  complete = c.is_complete.ensures.0 c.if-not-is_complete.false;
+  agree = rw c.history.ensures at c.in_default.ensures.none;
+  seated = rw c.history-2.ensures at (c.all_seated.ensures.0 c.if-not-all_seated.false);
+  begins = rw (c.core.ensures, c.history-3.ensures) at (c.is_opening.ensures.0 c.if-not-is_opening.false);
+}
 
 pub returns-then-not-is_complete-clause-missing : goal.returns-then-not-is_complete-clause-missing
 returns-then-not-is_complete-clause-missing g c = grind (arith, false≢true)
