@@ -1,5 +1,5 @@
 -- A value that does not fit the outline of a line has none of the shapes of a recording's line.
-use Rattle.std.proofs.Common.{arith, ◌≡◌, ◌⊎◌, ℕ, ◌^◌, true, false, Err, inl, inr, refl}
+use Rattle.std.proofs.Common.{arith, ◌≡◌, ℕ, ◌^◌, true, false, Err, refl}
 use Rattle.std.specs.Prelude.{◌&&◌, List, [], Bool, bytes_eq, codes, Some}
 use Rattle.serde_json.specs.Data.{Data, array, no_items, item}
 use Rattle.serde_json.specs.Find.{at}

@@ -1,22 +1,20 @@
 -- Lists with the newest first, against those with the oldest first; the fault of an older part is that of the whole.
-use Rattle.std.proofs.Common.{◌≡◌, ℕ, suc, List, [], ◌∷◌, ◌++◌, length, reverse, Result, Ok, Err, refl, ap, sym, subst, ◌∙◌, ◌≤◌, ◌<◌, ◌+◌, ◌-◌, arith, append_assoc}
+use Rattle.std.proofs.Common.{◌≡◌, ℕ, suc, List, [], ◌∷◌, ◌++◌, length, reverse, Result, Ok, Err, ap, sym, subst, ◌∙◌, ◌≤◌, ◌<◌, ◌+◌, ◌-◌, arith, append_assoc}
 use Rattle.std.specs.Prelude.{sum_by}
 use Rattle.std.proofs.lemmas.List.{append-nil, reverse-append, reverse-reverse, length-append}
 use Rattle.std.proofs.lemmas.List.Sums.{sum_by-cons}
 use Rattle.causal_trace.specs.declared.entry.Entry.{Entry}
 use Rattle.causal_line.specs.declared.kind.TextKind.{TextKind}
-use Rattle.causal_line.specs.Reading.{◌>>=◌}
 use Rattle.causal_merge.specs.declared.event.Line.{Line}
 use Rattle.causal_merge.specs.declared.event.Placed.{Placed}
 use Rattle.causal_merge.specs.declared.fault.MergeFault.{MergeFault}
-use Rattle.causal_merge.specs.Said.{run_in}
-use Rattle.causal_merge.specs.Reading.{most_bytes, next_line, with_line, reading}
+use Rattle.causal_merge.specs.Reading.{most_bytes, with_line, reading}
 use Rattle.causal_line.specs.Lines.{lines}
 use Rattle.causal_merge.specs.declared.gathered.Gathered.{Gathered}
 use Rattle.causal_merge.specs.Inside.Gathering.{HasRead, HasCome}
 use Rattle.causal_merge.specs.Inside.Gathering as gathering
 use Rattle.causal_merge.specs.Inside.Merger as merger
-use Rattle.causal_merge.specs.Merged.{event_fault, with_event, merged}
+use Rattle.causal_merge.specs.Merged.{merged}
 
 pub reverse_cons : {X : Type 0} (x : X) (xs : List X) → reverse (x ∷ xs) ≡ reverse xs ++ x ∷ []
 reverse_cons x xs = reverse-append (x ∷ []) xs

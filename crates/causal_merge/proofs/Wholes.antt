@@ -1,5 +1,5 @@
 -- From what is kept of all lines to what is said of the text.
-use Rattle.std.proofs.Common.{◌≡◌, ℕ, ◌+◌, ◌<◌, List, length, reverse, true, false, Option, Some, None, Ok, Err, IfSome, slice_index_or, inl, inr, ap, sym, ◌∙◌, subst, arith}
+use Rattle.std.proofs.Common.{◌≡◌, ℕ, ◌+◌, List, length, reverse, Option, Some, Ok, Err, IfSome, inl, inr, ap, ◌∙◌, subst, arith}
 use Rattle.std.proofs.lemmas.List.{length-reverse}
 use Rattle.causal_trace.specs.Limits.{IsProcessCount}
 use Rattle.causal_trace.specs.Rows.{Recording}

@@ -6,7 +6,7 @@ ghost use Rattle.causal_trace.specs.Past.{det_at, instant};
 ghost use Rattle.causal_audit.specs.Inside.Among.{HasNoOrphanFrom};
 ghost use Rattle.causal_audit.specs.Inside.Look.Looks.{AreThinStretches};
 ghost use Rattle.causal_audit.specs.Inside.Index.Kept.{AreMentionsKept};
-ghost use Rattle.causal_audit.specs.Inside.Group.OpenDeliveries.{AreAsked, AreFollowed, AreGathered, IsTold, StayMarked, asked_of, how_many, is_marked};
+ghost use Rattle.causal_audit.specs.Inside.Group.OpenDeliveries.{AreAsked, AreFollowed, AreGathered, HasAsked, IsTold, asked_of, how_many};
 
 use crate::group::run_to_follow::OpenDelivery;
 use crate::index::mentions::Mentions;
@@ -121,11 +121,8 @@ impl Survey<'_, '_> {
         requires own { number_of (number + 1) (delivered_dets self.now.run.past) det ≡ Some number }
         requires thins { AreThinStretches self.now.run.processes self.now.f
             self.now.run.past det (self.now.end + 1) thins.now }
-        ensures asked { OnOk result (AreAsked self.now asked.old.items gathered.old.items →
-            AreAsked self.now asked.new.items gathered.new.items) }
-        ensures marked { OnOk result (is_marked asked.new.items number ≡ true) }
-        ensures stay { OnOk result (StayMarked asked.old.items asked.new.items) }
-        ensures count { length asked.new.items ≡ length asked.old.items }
+        ensures { OnOk result (HasAsked self.now number asked.old.items asked.new.items
+            gathered.old.items gathered.new.items) }
     {
         self.gather(thins, self.positions[number as usize], det, gathered)?;
         asked[number as usize] = true;
@@ -146,11 +143,8 @@ impl Survey<'_, '_> {
         requires own { number_of (newest + 1) (delivered_dets self.now.run.past) det ≡ Some newest }
         requires thins { AreThinStretches self.now.run.processes self.now.f
             self.now.run.past det (self.now.end + 1) thins.now }
-        ensures asked { OnOk result (AreAsked self.now asked.old.items gathered.old.items →
-            AreAsked self.now asked.new.items gathered.new.items) }
-        ensures marked { OnOk result (is_marked asked.new.items newest ≡ true) }
-        ensures stay { OnOk result (StayMarked asked.old.items asked.new.items) }
-        ensures count { length asked.new.items ≡ length asked.old.items }
+        ensures { OnOk result (HasAsked self.now newest asked.old.items asked.new.items
+            gathered.old.items gathered.new.items) }
     {
         self.ask_one(thins, det, newest, asked, gathered)?;
         let mut number = newest;
@@ -171,11 +165,8 @@ impl Survey<'_, '_> {
     ) -> Result<(), NoMemory>
         requires few { newest < how_many self.now }
         requires count { length asked.old.items ≡ how_many self.now }
-        ensures asked { OnOk result (AreAsked self.now asked.old.items gathered.old.items →
-            AreAsked self.now asked.new.items gathered.new.items) }
-        ensures marked { OnOk result (is_marked asked.new.items newest ≡ true) }
-        ensures stay { OnOk result (StayMarked asked.old.items asked.new.items) }
-        ensures count { length asked.new.items ≡ length asked.old.items }
+        ensures { OnOk result (HasAsked self.now newest asked.old.items asked.new.items
+            gathered.old.items gathered.new.items) }
     {
         let Some(det) = self.outline.trace.det_at(self.positions[newest as usize]) else {
             return Err(NoMemory);

@@ -93,6 +93,13 @@ pub record AreAsked (asked : Asked) (marks : List Bool) (opened : List OpenDeliv
   pub followed : AreFollowed asked opened
   pub told : (i k : ℕ) → IsNumbered asked.run.past i k → is_marked marks i ≡ true → IsTold asked opened k
 
+-- what asking the delivery of a number did to marks, and to what was gathered: it is marked, and what was told stays so
+pub record HasAsked (asked : Asked) (number : ℕ) (before after : List Bool) (opened more : List OpenDelivery) : Type 0 where
+  pub kept : AreAsked asked before opened → AreAsked asked after more
+  pub marked : is_marked after number ≡ true
+  pub stay : StayMarked before after
+  pub count : length after ≡ length before
+
 -- they are to be followed, and each delivery before the end is told by them
 pub record AreGathered (asked : Asked) (opened : List OpenDelivery) : Type 0 where
   pub followed : AreFollowed asked opened

@@ -5,7 +5,7 @@ use Rattle.json.specs.Reads.{token_of}
 use Rattle.json.proofs.Grammar.{value_is, value-begin_array, value-begin_object, read_key-shorter}
 use Rattle.serde_json.specs.Data.{array, object, no_members, put}
 use Rattle.serde_json.specs.Read.{of_json, of_items, converted}
-use Rattle.causal_line.specs.Outline.{fits, items_fit}
+use Rattle.causal_line.specs.Outline.{items_fit}
 use Rattle.causal_line.proofs.GrammarLoops.{converted-array, converted-object, item_refused, items_over, member_read, member_refused, key_refused, members_over, turn, mapped, unmapped, none_mapped, plain_read, no_value, on_err, on_err_weaker}
 use Rattle.causal_line.proofs.outline.+fits.Goals as goal
 

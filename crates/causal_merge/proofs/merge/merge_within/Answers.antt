@@ -1,4 +1,4 @@
-use Rattle.std.proofs.Common.{arith, inl}
+use Rattle.std.proofs.Common.{arith}
 use Rattle.std.proofs.lemmas.Result.{err_from_is_err_and}
 use Rattle.causal_merge.proofs.Wholes.{merges, header_fault, event_fault}
 use Rattle.causal_merge.proofs.merge.merge_within.Goals as goal

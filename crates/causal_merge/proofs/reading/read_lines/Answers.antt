@@ -1,7 +1,6 @@
-use Rattle.std.proofs.Common.{arith, ap, sym, subst, refl, ◌∙◌, ◌≡◌, ◌++◌, ◌-◌, [], List, ℕ, length, reverse}
+use Rattle.std.proofs.Common.{arith, ap, refl, ◌∙◌, ◌++◌, [], reverse}
 use Rattle.std.proofs.lemmas.Result.{err_from_is_err_and}
 use Rattle.causal_line.specs.Lines.{lines}
-use Rattle.causal_merge.specs.Inside.Gathering.{HasRead}
 use Rattle.causal_merge.proofs.Prefixes.{reverse_whole, reading-fault, end_is, come_on}
 use Rattle.causal_merge.proofs.reading.read_lines.Goals as goal
 

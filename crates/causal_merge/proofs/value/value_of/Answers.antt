@@ -1,5 +1,4 @@
-use Rattle.std.proofs.Common.{arith, ◌∙◌, Ok, ap}
-use Rattle.causal_line.specs.Values.{json_of}
+use Rattle.std.proofs.Common.{arith}
 use Rattle.causal_merge.proofs.Looks.{shapeless}
 use Rattle.causal_merge.proofs.value.value_of.Goals as goal
 

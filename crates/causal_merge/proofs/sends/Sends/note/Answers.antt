@@ -1,5 +1,4 @@
-use Rattle.std.proofs.Common.{◌≡◌, ◌+◌, ◌<◌, length, arith}
-use Rattle.causal_trace.specs.Past.{lane}
+use Rattle.std.proofs.Common.{arith}
 use Rattle.causal_merge.proofs.SendLemmas.{lane-le, lane_after}
 use Rattle.causal_merge.proofs.sends.Sends.note.Goals as goal
 

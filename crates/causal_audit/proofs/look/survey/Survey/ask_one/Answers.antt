@@ -1,4 +1,4 @@
-use Rattle.causal_audit.proofs.Common.{◌≡◌, ◌+◌, ◌<◌, Some, slice_index, length, ap, subst, arith, accepted_then, det_at, det_within, instant, instant_length}
+use Rattle.causal_audit.proofs.Common.{rules, ◌≡◌, ◌+◌, ◌<◌, Some, slice_index, length, ap, subst, arith, accepted_then, det_at, det_within, instant, instant_length}
 use Rattle.causal_trace.specs.Numbers.{delivered_dets, number_of}
 use Rattle.causal_audit.specs.Numbers.{IsNumbered}
 use Rattle.causal_audit.specs.Inside.Group.OpenDeliveries.{Asked, how_many}
@@ -24,8 +24,8 @@ gather-requires c =
       thins = c.requires.thins;
     }
 
-pub returns-clause-asked : goal.returns-clause-asked
-returns-clause-asked c so_far =
+pub returns : goal.returns
+returns c =
     let s = c.self.inside in
     let r = s.outline.trace.now.recording in
     let kept = c.self.invariant in
@@ -34,4 +34,9 @@ returns-clause-asked c so_far =
     let low : number < length s.positions.now = omega (arith, c.requires.few, ap how_many c.self.view_is, kept.numbered.count) in
     let numbered : IsNumbered c.args.self.now.run.past number k =
     subst (λ (a : Asked). IsNumbered a.run.past number k) c.self.view_is (numbered_later r.past s.end number k kept.within (kept.numbered.each number low)) in
-    one_asked c.args.self.now c.args.asked.now.items c.args.gathered.now.items c.gather.new.gathered.items number k numbered c.in_ok-gather.ensures.followed c.in_ok-gather.ensures.more c.in_ok-gather.ensures.told so_far
+    record {
+      kept = one_asked c.args.self.now c.args.asked.now.items c.args.gathered.now.items c.gather.new.gathered.items number k numbered c.in_ok-gather.ensures.followed c.in_ok-gather.ensures.more c.in_ok-gather.ensures.told;
+      marked = search rules;
+      stay = search rules;
+      count = search rules;
+    }
