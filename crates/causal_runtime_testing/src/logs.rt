@@ -1,7 +1,7 @@
 //! Each call once, on values worked out by hand: logs and the batches that they choose, and the store in memory.
 use crate::runtime::{Fields, det, name};
 use causal_holders::Holders;
-use causal_log::{Item, Known, Log, MemStable, Stable};
+use causal_log::{Batch, Item, Known, Log, MemStable, Stable};
 use causal_name::{Det, Pid, Slot};
 use std::alloc::Global;
 
@@ -130,6 +130,77 @@ fn is_told(alloc: Global, teller: &Log) -> bool {
 fn what_one_process_logs_another_hears(rt: HostRuntime) {
     let mut log = Log::new(rt.alloc());
     assert!(rt; tells(rt.alloc(), &mut log) && is_told(rt.alloc(), &log));
+}
+
+/// The first message from 1 to 2, the first that 2 delivers.
+const OWN: Fields = (1, 0, 2, 0);
+
+/// Whether messages carry just these items once process 2 has delivered what process 1 tells, where two may fail.
+fn would_carry(alloc: Global, log: &Log, told: &Batch, items: &[Item]) -> bool {
+    match log.choose_grown(alloc, told, det(OWN), Pid(1), Pid(2), 2) {
+        Ok(next) => next.as_slice() == items,
+        Err(_) => false,
+    }
+}
+
+/// Whether a log takes in that delivery, in room made before, and keeps what messages carry then.
+fn grows(alloc: Global, log: &mut Log, told: &Batch) -> bool {
+    let own = det(OWN);
+    let Ok(next) = log.choose_grown(alloc, told, own, Pid(1), Pid(2), 2) else {
+        return false;
+    };
+    if told.as_slice().len() != 2 || log.reserve(3).is_err() {
+        return false;
+    }
+    log.grow(told, own, Pid(1), Pid(2));
+    log.carry(2, next);
+    true
+}
+
+/// Whether a log of three determinants, none of them stable, tells them.
+fn tells_three(alloc: Global, log: &mut Log) -> bool {
+    let unstable = match log.unstable_dets(alloc) {
+        Ok(dets) => dets.as_slice() == [det(FIRST), det(OWN), det(RIVAL)].as_slice(),
+        Err(_) => false,
+    };
+    unstable
+        && log.unstable_len() == 3
+        && log.stable_len() == 0
+        && log.unordered().len() == 3
+        && log.sort().is_ok()
+        && log.at(1) == Some((det(OWN), known_by(&[2], false)))
+}
+
+/// Whether process 2 takes in what process 1 tells as a runtime does, and messages carry what was worked out before: its sender's and
+/// its own where two may fail, also of the same delivery in a replay, and its own where one may.
+fn is_delivered(alloc: Global, told: &Batch) -> bool {
+    let carried = [item(FIRST, &[1, 2]), item(OWN, &[2]), item(RIVAL, &[1, 2])];
+    let mut log = Log::new(alloc);
+    would_carry(alloc, &log, told, &carried)
+        && log.len() == 0
+        && grows(alloc, &mut log, told)
+        && chooses(alloc, &log, 2, &carried)
+        && would_carry(alloc, &log, told, &carried)
+        && chooses(alloc, &log, 1, &[item(OWN, &[2])])
+        && tells_three(alloc, &mut log)
+}
+
+/// Whether what process 1 tells names its own determinants alone, and is delivered.
+fn is_carried(alloc: Global, teller: &Log) -> bool {
+    match teller.choose(alloc, 1) {
+        Ok(told) => {
+            told.place_for(det(OWN)) == Some(1)
+                && told.place_for(det(RIVAL)).is_none()
+                && is_delivered(alloc, &told)
+        }
+        Err(_) => false,
+    }
+}
+
+#[test]
+fn what_a_delivery_brings(rt: HostRuntime) {
+    let mut log = Log::new(rt.alloc());
+    assert!(rt; tells(rt.alloc(), &mut log) && is_carried(rt.alloc(), &log));
 }
 
 /// The slot of the first message that 1 delivers, and the next.
