@@ -1,0 +1,236 @@
+-- Nothing becomes acceptable except by being sent.
+use Rattle.std.proofs.Common.{ℕ, ◌≡◌, ◌≤◌, ◌+◌, inl, inr, Bool, true, false, cond, Some, None, refl, sym, ap, subst, ◌∙◌, arith}
+use Rattle.std.specs.Prelude.{◌==◌}
+use Rattle.std.proofs.lemmas.Bool.{both_ways, eq-eqb, cond-true, cond-false}
+use Rattle.std.proofs.lemmas.Bool.Decides.{eqb_tells}
+use Rattle.causal_rounds.specs.Rounds.{set_at, Round, RoundState, number, new_round, with_reply, crash, begin, give_up, answer, refuse, not_up, restart, RoundInvariant}
+use Rattle.causal_rounds.specs.Gathered.{Carrier, DetState, IsOpen, DetInvariant, IsInTransitAfter, to_up, to_new, from_up, to_round}
+use Rattle.causal_rounds.specs.Acceptance.{IsAcceptable, by_floor, by_sender, by_round, AcceptanceNeedsSending, RestartsMissNothing}
+use Rattle.causal_rounds.proofs.Lemmas.RoundSteps.{set_at_cases, some_is, none_some}
+use Rattle.causal_rounds.proofs.Lemmas.GatheredSteps.{restarts_gather_all}
+
+here : {X : Type 0} (f : ℕ → X) (p : ℕ) (x : X) → set_at f p x p ≡ x
+here f p x = cond-true (p == p) x (f p) (eq-eqb p p refl)
+
+away : {X : Type 0} (f : ℕ → X) (p : ℕ) (x : X) (q : ℕ) → (q ≡ p → ⊥) → set_at f p x q ≡ f q
+away f p x q other = elim (set_at_cases f p x q) [ inl is ↦ absurd (other is.0) | inr fact ↦ fact.1 ]
+
+up_number : (w : RoundState) (q : ℕ) → w.down q ≡ false → number w q ≡ w.lane q
+up_number w q up = cond-false (w.down q) (w.lane q + 1) (w.lane q) up
+
+down_number : (w : RoundState) (q : ℕ) → w.down q ≡ true → number w q ≡ w.lane q + 1
+down_number w q down = cond-true (w.down q) (w.lane q + 1) (w.lane q) down
+
+module _ (w : RoundState) (h : RoundInvariant w) (t : Carrier) (low : t.lane ≤ w.lane t.from) where
+  -- p goes down
+  module _ (p : ℕ) (up : w.down p ≡ false) where
+    abbrev fallen : RoundState
+    fallen = record { lane = w.lane; down = set_at w.down p true; floors = w.floors; rounds = w.rounds }
+
+    was_up : (q : ℕ) → set_at w.down p true q ≡ false → w.down q ≡ false
+    was_up q is = elim (set_at_cases w.down p true q) [ inl me ↦ absurd (both_ways (set_at w.down p true q) is me.1) | inr other ↦ sym other.1 ∙ is ]
+
+    had_replied : (s : ℕ) (r : Round) → w.rounds s ≡ Some r → IsOpen fallen s r → r.replied p ≡ true
+    had_replied s r at fitting = by (r.replied p) refl
+      where
+        by : (b : Bool) → r.replied p ≡ b → r.replied p ≡ true
+        by true is = is
+        by false is =
+            let not_s : p ≡ s → ⊥ = λ me. both_ways (w.down p) up (subst (λ x. w.down x ≡ true) (sym me) (h.gathering_are_down s r at)) in
+            let fits = fitting p not_s is in
+            let now = down_number fallen p (here w.down p true) in
+            let then = up_number w p up in
+            let seen = h.views_told s p r at in
+            absurd (omega (arith, fits, now, then, seen))
+
+    was_open : (s : ℕ) (r : Round) → w.rounds s ≡ Some r → IsOpen fallen s r → IsOpen w s r
+    was_open s r at fitting q other no_reply =
+        let not_p : q ≡ p → ⊥ = λ is. both_ways (r.replied q) no_reply (subst (λ x. r.replied x ≡ true) (sym is) (had_replied s r at fitting)) in
+        sym (ap (λ (b : Bool). cond b (w.lane q + 1) (w.lane q)) (away w.down p true q not_p)) ∙ fitting q other no_reply
+
+    before_crash : IsAcceptable fallen t → IsAcceptable w t
+    before_crash (by_floor is_up floor) = by_floor (was_up t.to is_up) floor
+    before_crash (by_sender down sender lane) = by (w.down t.to) refl
+      where
+        by : (b : Bool) → w.down t.to ≡ b → IsAcceptable w t
+        by true is = by_sender is (was_up t.from sender) lane
+        by false is = by_floor is (let floor = h.floors_told t.to t.from in let count = up_number w t.from (was_up t.from sender) in omega (arith, floor, count, lane))
+    before_crash (by_round o down at fitting replied_q view) = by_round o (h.gathering_are_down t.to o at) at (was_open t.to o at fitting) replied_q view
+
+  before_begin : (s : ℕ) (view : ℕ → ℕ) (absent : ℕ → Bool) → ((q : ℕ) → absent q ≡ true → (w.down q ≡ true) × (w.rounds q ≡ None) × (view q ≡ w.lane q + 1))
+      → IsAcceptable (record { lane = w.lane; down = w.down; floors = w.floors; rounds = set_at w.rounds s (Some (new_round view absent)) }) t → IsAcceptable w t
+  before_begin s view absent gone (by_floor up floor) = by_floor up floor
+  before_begin s view absent gone (by_sender down up lane) = by_sender down up lane
+  before_begin s view absent gone (by_round o down at fitting replied_q above) = elim (set_at_cases w.rounds s (Some (new_round view absent)) t.to) [
+    | inl is ↦
+        let same : new_round view absent ≡ o = some_is (new_round view absent) o (sym is.1 ∙ at) in
+        let fact = gone t.from (ap (λ (x : Round). x.replied t.from) same ∙ replied_q) in
+        let next : o.view t.from ≡ w.lane t.from + 1 = sym (ap (λ (x : Round). x.view t.from) same) ∙ fact.2 in
+        absurd (omega (arith, low, above, next))
+    | inr other ↦ by_round o down (sym other.1 ∙ at) fitting replied_q above
+  ]
+
+  before_end : (s : ℕ) → IsAcceptable (record { lane = w.lane; down = w.down; floors = w.floors; rounds = set_at w.rounds s None }) t → IsAcceptable w t
+  before_end s (by_floor up floor) = by_floor up floor
+  before_end s (by_sender down up lane) = by_sender down up lane
+  before_end s (by_round o down at fitting replied_q above) = elim (set_at_cases w.rounds s None t.to) [
+    | inl is ↦ absurd (none_some o (sym is.1 ∙ at))
+    | inr other ↦ by_round o down (sym other.1 ∙ at) fitting replied_q above
+  ]
+
+  -- y answers s, or says that it is not up
+  module _ (y s : ℕ) (r : Round) (at : w.rounds s ≡ Some r) (up : Bool) (fits : number w y ≡ r.view y) where
+    abbrev told : Round
+    told = with_reply r y up
+
+    open_before : IsOpen w s told → IsOpen w s r
+    open_before fitting q other no_reply = elim (set_at_cases r.replied y true q) [
+      | inl is ↦ subst (λ x. number w x ≡ r.view x) (sym is.0) fits
+      | inr fact ↦ fitting q other (fact.1 ∙ no_reply)
+    ]
+
+    -- to s, from a process that had replied, or from this one
+    to_asker : t.to ≡ s → w.down t.to ≡ true → IsOpen w s told → told.replied t.from ≡ true → r.view t.from ≤ t.lane → IsAcceptable w t
+    to_asker is down fitting replied_q above = elim (set_at_cases r.replied y true t.from) [
+      | inl me ↦ by (w.down t.from) refl me.0
+      | inr old ↦ by_round r down (ap w.rounds is ∙ at) (subst (λ x. IsOpen w x r) (sym is) (open_before fitting)) (sym old.1 ∙ replied_q) above
+    ]
+      where
+        by : (b : Bool) → w.down t.from ≡ b → t.from ≡ y → IsAcceptable w t
+        by false is_up me =
+            let count = up_number w t.from is_up in
+            let number_here : number w t.from ≡ r.view t.from = subst (λ x. number w x ≡ r.view x) (sym me) fits in
+            by_sender down is_up (omega (arith, count, number_here, above, low))
+        by true is_down me =
+            let count = down_number w t.from is_down in
+            let number_here : number w t.from ≡ r.view t.from = subst (λ x. number w x ≡ r.view x) (sym me) fits in
+            absurd (omega (arith, count, number_here, above, low))
+
+    as_round : (p : ℕ) (o : Round) → p ≡ s → told ≡ o → IsOpen w p o → IsOpen w s told
+    as_round p o is same fitting = subst (λ (x : Round). IsOpen w s x) (sym same) (subst (λ x. IsOpen w x o) is fitting)
+
+  before_answer : (y s : ℕ) (r : Round) (floors : ℕ → ℕ) → w.down y ≡ false → w.rounds s ≡ Some r → r.view y ≡ w.lane y → ((z : ℕ) → w.floors y z ≤ floors z)
+      → IsAcceptable (record { lane = w.lane; down = w.down; floors = set_at w.floors y floors; rounds = set_at w.rounds s (Some (with_reply r y true)) }) t → IsAcceptable w t
+  before_answer y s r floors up at fits rise (by_floor is_up floor) = elim (set_at_cases w.floors y floors t.to) [
+    | inl is ↦
+        let above : floors t.from ≤ t.lane = subst (λ g. g t.from ≤ t.lane) is.1 floor in
+        let grown : w.floors t.to t.from ≤ floors t.from = subst (λ x. w.floors x t.from ≤ floors t.from) (sym is.0) (rise t.from) in
+        by_floor is_up (omega (arith, above, grown))
+    | inr other ↦ by_floor is_up (subst (λ g. g t.from ≤ t.lane) other.1 floor)
+  ]
+  before_answer y s r floors up at fits rise (by_sender down is_up lane) = by_sender down is_up lane
+  before_answer y s r floors up at fits rise (by_round o down there fitting replied_q above) = elim (set_at_cases w.rounds s (Some (with_reply r y true)) t.to) [
+    | inl is ↦
+        let same : with_reply r y true ≡ o = some_is (with_reply r y true) o (sym is.1 ∙ there) in
+        to_asker y s r at true (up_number w y up ∙ sym fits) is.0 down (as_round y s r at true (up_number w y up ∙ sym fits) t.to o is.0 same fitting) (ap (λ (x : Round). x.replied t.from) same ∙ replied_q) (subst (λ (x : Round). x.view t.from ≤ t.lane) (sym same) above)
+    | inr other ↦ by_round o down (sym other.1 ∙ there) fitting replied_q above
+  ]
+
+  before_not_up : (y s : ℕ) (r : Round) → w.down y ≡ true → w.rounds s ≡ Some r → r.view y ≡ w.lane y + 1
+      → IsAcceptable (record { lane = w.lane; down = w.down; floors = w.floors; rounds = set_at (set_at w.rounds s (Some (with_reply r y false))) y None }) t → IsAcceptable w t
+  before_not_up y s r is_down at fits (by_floor is_up floor) = by_floor is_up floor
+  before_not_up y s r is_down at fits (by_sender down is_up lane) = by_sender down is_up lane
+  before_not_up y s r is_down at fits (by_round o down there fitting replied_q above) = elim (set_at_cases (set_at w.rounds s (Some (with_reply r y false))) y None t.to) [
+    | inl is ↦ absurd (none_some o (sym is.1 ∙ there))
+    | inr not_y ↦ elim (set_at_cases w.rounds s (Some (with_reply r y false)) t.to) [
+      | inl is ↦
+          let same : with_reply r y false ≡ o = some_is (with_reply r y false) o (sym is.1 ∙ sym not_y.1 ∙ there) in
+          to_asker y s r at false (down_number w y is_down ∙ sym fits) is.0 down (as_round y s r at false (down_number w y is_down ∙ sym fits) t.to o is.0 same fitting) (ap (λ (x : Round). x.replied t.from) same ∙ replied_q) (subst (λ (x : Round). x.view t.from ≤ t.lane) (sym same) above)
+      | inr other ↦ by_round o down (sym other.1 ∙ sym not_y.1 ∙ there) fitting replied_q above
+    ]
+  ]
+
+  -- s comes up
+  module _ (s : ℕ) (r : Round) (at : w.rounds s ≡ Some r) (all : (q : ℕ) → (q ≡ s → ⊥) → r.replied q ≡ true) where
+    abbrev risen : RoundState
+    risen = record { lane = set_at w.lane s (w.lane s + 1); down = set_at w.down s false; floors = set_at w.floors s r.view; rounds = set_at w.rounds s None }
+
+    down_s : w.down s ≡ true
+    down_s = h.gathering_are_down s r at
+
+    number_same : (q : ℕ) → number risen q ≡ number w q
+    number_same q = elim (eqb_tells q s) [
+      | inl is ↦ subst (λ x. number risen x ≡ number w x) (sym is.1) (up_number risen s (here w.down s false) ∙ here w.lane s (w.lane s + 1) ∙ sym (down_number w s down_s))
+      | inr other ↦ ap (λ (b : Bool). cond b (risen.lane q + 1) (risen.lane q)) (away w.down s false q other.1) ∙ ap (λ l. cond (w.down q) (l + 1) l) (away w.lane s (w.lane s + 1) q other.1)
+    ]
+
+    -- nothing was sent by the new lane of s
+    not_new : t.from ≡ s → t.lane ≡ set_at w.lane s (w.lane s + 1) t.from → ⊥
+    not_new is lane =
+        let new : t.lane ≡ w.lane s + 1 = lane ∙ ap (set_at w.lane s (w.lane s + 1)) is ∙ here w.lane s (w.lane s + 1) in
+        let old : t.lane ≤ w.lane s = subst (λ x. t.lane ≤ w.lane x) is low in
+        omega (arith, new, old)
+
+    still_down : (q : ℕ) → set_at w.down s false q ≡ true → (q ≡ s → ⊥) × (w.down q ≡ true)
+    still_down q is = elim (set_at_cases w.down s false q) [ inl me ↦ absurd (both_ways (set_at w.down s false q) me.1 is) | inr other ↦ (other.0, sym other.1 ∙ is) ]
+
+    -- what the new lane of s does not refuse comes from a process that has replied
+    in_view : r.view t.from ≤ t.lane → r.replied t.from ≡ true
+    in_view above = elim (eqb_tells t.from s) [
+      | inl is ↦
+          let own : r.view t.from ≡ w.lane t.from + 1 = subst (λ x. r.view x ≡ w.lane x + 1) (sym is.1) (h.own_view s r at).1 in
+          absurd (omega (arith, own, above, low))
+      | inr other ↦ all t.from other.1
+    ]
+
+    before_restart : IsAcceptable risen t → IsAcceptable w t
+    before_restart (by_floor is_up floor) = elim (set_at_cases w.floors s r.view t.to) [
+      | inl is ↦
+          let above : r.view t.from ≤ t.lane = subst (λ g. g t.from ≤ t.lane) is.1 floor in
+          by_round r (subst (λ x. w.down x ≡ true) (sym is.0) down_s) (ap w.rounds is.0 ∙ at) (λ q other no_reply. absurd (both_ways (r.replied q) no_reply (all q (λ me. other (me ∙ sym is.0))))) (in_view above) above
+      | inr other ↦ by_floor (sym (away w.down s false t.to other.0) ∙ is_up) (subst (λ g. g t.from ≤ t.lane) other.1 floor)
+    ]
+    before_restart (by_sender down is_up lane) = elim (eqb_tells t.from s) [
+      | inl is ↦ absurd (not_new is.1 lane)
+      | inr other ↦ by_sender (still_down t.to down).1 (sym (away w.down s false t.from other.1) ∙ is_up) (lane ∙ away w.lane s (w.lane s + 1) t.from other.1)
+    ]
+    before_restart (by_round o down there fitting replied_q above) =
+        let old = still_down t.to down in
+        by_round o old.1 (sym (away w.rounds s None t.to old.0) ∙ there) (λ q other no_reply. sym (number_same q) ∙ fitting q other no_reply) replied_q above
+
+before_refuse : (w : RoundState) (t : Carrier) (y : ℕ) (floors : ℕ → ℕ) → ((z : ℕ) → w.floors y z ≤ floors z) → IsAcceptable (record { lane = w.lane; down = w.down; floors = set_at w.floors y floors; rounds = w.rounds }) t → IsAcceptable w t
+before_refuse w t y floors rise (by_floor up floor) = by_floor up (elim (set_at_cases w.floors y floors t.to) [
+  | inl is ↦
+      let more = rise t.from in
+      let here : w.floors t.to t.from ≡ w.floors y t.from = ap (λ x. w.floors x t.from) is.0 in
+      let new : set_at w.floors y floors t.to t.from ≡ floors t.from = ap (λ (g : ℕ → ℕ). g t.from) is.1 in
+      omega (arith, floor, more, here, new)
+  | inr other ↦ subst (λ g. g t.from ≤ t.lane) other.1 floor
+])
+before_refuse w t y floors rise (by_sender down up lane) = by_sender down up lane
+before_refuse w t y floors rise (by_round o down at fitting replied above) = by_round o down at fitting replied above
+
+pub acceptance_needs_sending : AcceptanceNeedsSending
+acceptance_needs_sending w x (crash p up) h t low there = before_crash w h t low p up there
+acceptance_needs_sending w x (begin s view absent is_down mine below present gone) h t low there = before_begin w h t low s view absent gone there
+acceptance_needs_sending w x (give_up s) h t low there = before_end w h t low s there
+acceptance_needs_sending w x (answer y s r floors up at fits rise above below) h t low there = before_answer w h t low y s r floors up at fits rise there
+acceptance_needs_sending w x (refuse y floors up rise below) h t low there = before_refuse w t y floors rise there
+acceptance_needs_sending w x (not_up q s r is_down other at fits) h t low there = before_not_up w h t low q s r is_down at fits there
+acceptance_needs_sending w x (restart s r at all) h t low there = before_restart w h t low s r at all there
+
+-- what is acceptable after a restart is in transit
+module _ (a : DetState) (s : ℕ) (r : Round) (h : RoundInvariant a.state) (k : DetInvariant a) (at : a.state.rounds s ≡ Some r) (all : (q : ℕ) → (q ≡ s → ⊥) → r.replied q ≡ true) where
+  abbrev after : RoundState
+  after = record { lane = set_at a.state.lane s (a.state.lane s + 1); down = set_at a.state.down s false; floors = set_at a.state.floors s r.view; rounds = set_at a.state.rounds s None }
+
+  in_transit : (i : ℕ) (t : Carrier) → a.carriers i ≡ Some t → IsAcceptable after t → IsInTransitAfter a s r t
+  in_transit i t there (by_floor is_up floor) = elim (set_at_cases a.state.floors s r.view t.to) [
+    | inl is ↦ to_new is.0 (subst (λ g. g t.from ≤ t.lane) is.1 floor)
+    | inr other ↦ to_up (sym (away a.state.down s false t.to other.0) ∙ is_up) (subst (λ g. g t.from ≤ t.lane) other.1 floor)
+  ]
+  in_transit i t there (by_sender down is_up lane) = elim (eqb_tells t.from s) [
+    | inl is ↦
+        let new : t.lane ≡ a.state.lane s + 1 = lane ∙ ap after.lane is.1 ∙ here a.state.lane s (a.state.lane s + 1) in
+        let old : t.lane ≤ a.state.lane s = subst (λ x. t.lane ≤ a.state.lane x) is.1 (k.lanes i t there) in
+        absurd (omega (arith, new, old))
+    | inr other ↦ from_up (sym (away a.state.down s false t.from other.1) ∙ is_up) (lane ∙ away a.state.lane s (a.state.lane s + 1) t.from other.1)
+  ]
+  in_transit i t there (by_round o down at_o fitting replied_q above) = elim (set_at_cases a.state.rounds s None t.to) [
+    | inl is ↦ absurd (none_some o (sym is.1 ∙ at_o))
+    | inr other ↦ to_round o other.0 (sym other.1 ∙ at_o) replied_q above
+  ]
+
+pub restarts_miss_nothing : RestartsMissNothing
+restarts_miss_nothing a s r x h k at all is must unstable (inl logged) = restarts_gather_all a s r h k at all must unstable (inl logged)
+restarts_miss_nothing a s r x h k at all is must unstable (inr (i, t, there, may)) = restarts_gather_all a s r h k at all must unstable (inr (i, t, there, in_transit a s r h k at all i t there (subst (λ y. IsAcceptable y t) is may)))

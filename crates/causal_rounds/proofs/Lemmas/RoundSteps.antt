@@ -1,0 +1,426 @@
+-- Each step preserves the invariant of the rounds.
+use Rattle.std.proofs.Common.{ℕ, ◌≡◌, ◌≤◌, ◌+◌, inl, inr, Bool, true, false, cond, Option, Some, None, refl, sym, ap, subst, ◌∙◌, arith}
+use Rattle.std.specs.Prelude.{◌⊎◌, ◌==◌}
+use Rattle.std.proofs.lemmas.Bool.{both_ways, eq-eqb, cond-true, cond-false, cases_Bool}
+use Rattle.std.proofs.lemmas.Bool.Decides.{eqb_tells}
+use Rattle.causal_rounds.specs.Rounds.{set_at, Round, RoundState, number, new_round, with_reply, crash, begin, give_up, answer, refuse, not_up, restart, RoundInvariant, RoundStepsPreserve}
+
+-- the value at a number
+pub set_at_cases : {X : Type 0} (f : ℕ → X) (p : ℕ) (x : X) (q : ℕ) → ((q ≡ p) × (set_at f p x q ≡ x)) ⊎ ((q ≡ p → ⊥) × (set_at f p x q ≡ f q))
+set_at_cases f p x q = elim (eqb_tells q p) [ inl is ↦ inl (is.1, cond-true (q == p) x (f q) is.0) | inr other ↦ inr (other.1, cond-false (q == p) x (f q) other.0) ]
+
+pub some_is : {X : Type 0} (x y : X) → Some x ≡ Some y → x ≡ y
+some_is x y h = cc
+
+pub none_some : {X : Type 0} (x : X) → None ≡ Some x → ⊥
+none_some x h = cc
+
+-- a crash
+module _ (w : RoundState) (p : ℕ) (up : w.down p ≡ false) (k : RoundInvariant w) where
+  abbrev crashed : RoundState
+  crashed = record { lane = w.lane; down = set_at w.down p true; floors = w.floors; rounds = w.rounds }
+
+  stays_down : (q : ℕ) → w.down q ≡ true → set_at w.down p true q ≡ true
+  stays_down q h = elim (set_at_cases w.down p true q) [ inl is ↦ is.1 | inr other ↦ other.1 ∙ h ]
+
+  was_up : (q : ℕ) → set_at w.down p true q ≡ false → w.down q ≡ false
+  was_up q h = elim (set_at_cases w.down p true q) [ inl is ↦ absurd (both_ways (set_at w.down p true q) h is.1) | inr other ↦ sym other.1 ∙ h ]
+
+  more : (q : ℕ) → number w q ≤ number crashed q
+  more q = grind (arith, cases_Bool (w.down q), stays_down q, cond-true, cond-false)
+
+  crash_preserves : RoundInvariant crashed
+  crash_preserves = record {
+    gathering_are_down = λ s r at. stays_down s (k.gathering_are_down s r at);
+    own_view = k.own_view;
+    views_told = λ s q r at. omega (arith, k.views_told s q r at, more q);
+    floors_told = λ y q. omega (arith, k.floors_told y q, more q);
+    one_way = k.one_way;
+    same_lane = k.same_lane;
+    still_down = λ s q r at replied_q quiet. let old = k.still_down s q r at replied_q quiet in (stays_down q old.0, old.1);
+    answers_are_replies = k.answers_are_replies;
+    refuses = λ s y z r at was here. k.refuses s y z r at was (was_up y here);
+    ordered = k.ordered;
+  }
+
+-- a round begins, or is given up: a round that is there is an old one, or the new one of s
+module _ (w : RoundState) (s : ℕ) (k : RoundInvariant w) where
+  abbrev without : RoundState
+  without = record { lane = w.lane; down = w.down; floors = w.floors; rounds = set_at w.rounds s None }
+
+  left : (q : ℕ) (r : Round) → set_at w.rounds s None q ≡ Some r → w.rounds q ≡ Some r
+  left q r h = elim (set_at_cases w.rounds s None q) [ inl is ↦ absurd (none_some r (sym is.1 ∙ h)) | inr other ↦ sym other.1 ∙ h ]
+
+  give_up_preserves : RoundInvariant without
+  give_up_preserves = record {
+    gathering_are_down = λ p r at. k.gathering_are_down p r (left p r at);
+    own_view = λ p r at. k.own_view p r (left p r at);
+    views_told = λ p q r at. k.views_told p q r (left p r at);
+    floors_told = k.floors_told;
+    one_way = λ p q r o at there. k.one_way p q r o (left p r at) (left q o there);
+    same_lane = λ p q r at. k.same_lane p q r (left p r at);
+    still_down = λ p q r at. k.still_down p q r (left p r at);
+    answers_are_replies = λ p q r at. k.answers_are_replies p q r (left p r at);
+    refuses = λ p y z r at. k.refuses p y z r (left p r at);
+    ordered = λ p z y r o at there. k.ordered p z y r o (left p r at) (left z o there);
+  }
+
+module _ (w : RoundState) (s : ℕ) (view : ℕ → ℕ) (is_down : w.down s ≡ true) (mine : view s ≡ w.lane s + 1) (low : (q : ℕ) → view q ≤ number w q) (absent : ℕ → Bool) (there : absent s ≡ false)
+    (gone : (q : ℕ) → absent q ≡ true → (w.down q ≡ true) × (w.rounds q ≡ None) × (view q ≡ w.lane q + 1)) (k : RoundInvariant w) where
+  abbrev begun : RoundState
+  begun = record { lane = w.lane; down = w.down; floors = w.floors; rounds = set_at w.rounds s (Some (new_round view absent)) }
+
+  which : (p : ℕ) (r : Round) → set_at w.rounds s (Some (new_round view absent)) p ≡ Some r → ((p ≡ s) × (new_round view absent ≡ r)) ⊎ (w.rounds p ≡ Some r)
+  which p r h = elim (set_at_cases w.rounds s (Some (new_round view absent)) p) [ inl is ↦ inl (is.0, some_is (new_round view absent) r (sym is.1 ∙ h)) | inr other ↦ inr (sym other.1 ∙ h) ]
+
+  replied_new : (r : Round) (q : ℕ) → new_round view absent ≡ r → r.replied q ≡ absent q
+  replied_new r q is = sym (ap (λ (o : Round). o.replied q) is)
+
+  -- an absent process has no round
+  absent_round : (q : ℕ) (o : Round) → absent q ≡ true → w.rounds q ≡ Some o → ⊥
+  absent_round q o is at = none_some o (sym (gone q is).1 ∙ at)
+
+  present : (q : ℕ) (o : Round) → w.rounds q ≡ Some o → absent q ≡ false
+  present q o at = by (absent q) refl
+    where
+      by : (b : Bool) → absent q ≡ b → absent q ≡ false
+      by true is = absurd (absent_round q o is at)
+      by false is = is
+
+  unanswered : (r : Round) (q : ℕ) → new_round view absent ≡ r → r.answered q ≡ false
+  unanswered r q is = sym (ap (λ (o : Round). o.answered q) is)
+
+  begin_preserves : RoundInvariant begun
+  begin_preserves = record {
+    gathering_are_down = λ p r at. elim (which p r at) [ inl is ↦ subst (λ q. w.down q ≡ true) (sym is.0) is_down | inr old ↦ k.gathering_are_down p r old ];
+    own_view = λ p r at. elim (which p r at) [
+      | inl is ↦ (replied_new r p is.1 ∙ ap absent is.0 ∙ there, subst (λ q. r.view q ≡ w.lane q + 1) (sym is.0) (sym (ap (λ (o : Round). o.view s) is.1) ∙ mine))
+      | inr old ↦ k.own_view p r old
+    ];
+    views_told = λ p q r at. elim (which p r at) [ inl is ↦ subst (λ v. v ≤ number w q) (ap (λ (o : Round). o.view q) is.1) (low q) | inr old ↦ k.views_told p q r old ];
+    floors_told = k.floors_told;
+    one_way = λ p q r o at other replied_q. elim (which q o other) [
+      | inl is ↦ replied_new o p is.1 ∙ elim (which p r at) [ inl new ↦ ap absent new.0 ∙ there | inr before ↦ present p r before ]
+      | inr old ↦ elim (which p r at) [ inl new ↦ absurd (absent_round q o (sym (replied_new r q new.1) ∙ replied_q) old) | inr before ↦ k.one_way p q r o before old replied_q ]
+    ];
+    same_lane = λ p q r at replied_q was. elim (which p r at) [ inl new ↦ absurd (both_ways (r.answered q) (unanswered r q new.1) was) | inr old ↦ k.same_lane p q r old replied_q was ];
+    still_down = λ p q r at replied_q quiet. elim (which p r at) [
+      | inl new ↦ let fact = gone q (sym (replied_new r q new.1) ∙ replied_q) in (fact.0, sym fact.2 ∙ ap (λ (x : Round). x.view q) new.1)
+      | inr old ↦ k.still_down p q r old replied_q quiet
+    ];
+    answers_are_replies = λ p q r at was. elim (which p r at) [ inl new ↦ absurd (both_ways (r.answered q) (unanswered r q new.1) was) | inr old ↦ k.answers_are_replies p q r old was ];
+    refuses = λ p y z r at was. elim (which p r at) [ inl new ↦ absurd (both_ways (r.answered y) (unanswered r y new.1) was) | inr old ↦ k.refuses p y z r old was ];
+    ordered = λ p z y r o at other replied_q was. elim (which p r at) [
+      | inl new ↦ absurd (both_ways (r.answered y) (unanswered r y new.1) was)
+      | inr old ↦ elim (which z o other) [ inl new ↦ absurd (absent_round p r (sym (replied_new o p new.1) ∙ replied_q) old) | inr before ↦ k.ordered p z y r o old before replied_q was ]
+    ];
+  }
+
+-- one process more has replied to the round of s
+module _ (w : RoundState) (s y : ℕ) (up : Bool) (r : Round) (at : w.rounds s ≡ Some r) (k : RoundInvariant w) where
+  abbrev grown : Round
+  grown = with_reply r y up
+
+  heard_more : (q : ℕ) → grown.replied q ≡ true → (q ≡ y) ⊎ (r.replied q ≡ true)
+  heard_more q h = elim (set_at_cases r.replied y true q) [ inl is ↦ inl is.0 | inr other ↦ inr (sym other.1 ∙ h) ]
+
+  heard_other : (q : ℕ) → (q ≡ y → ⊥) → grown.replied q ≡ r.replied q
+  heard_other q away = elim (set_at_cases r.replied y true q) [ inl is ↦ absurd (away is.0) | inr other ↦ other.1 ]
+
+  answered_other : (q : ℕ) → (q ≡ y → ⊥) → grown.answered q ≡ r.answered q
+  answered_other q away = elim (set_at_cases r.answered y up q) [ inl is ↦ absurd (away is.0) | inr other ↦ other.1 ]
+
+  answered_more : (q : ℕ) → grown.answered q ≡ true → ((q ≡ y) × (up ≡ true)) ⊎ ((q ≡ y → ⊥) × (r.answered q ≡ true))
+  answered_more q h = elim (set_at_cases r.answered y up q) [ inl is ↦ inl (is.0, sym is.1 ∙ h) | inr other ↦ inr (other.0, sym other.1 ∙ h) ]
+
+  silent_more : (q : ℕ) → grown.replied q ≡ true → grown.answered q ≡ false → ((q ≡ y) × (up ≡ false)) ⊎ ((r.replied q ≡ true) × (r.answered q ≡ false))
+  silent_more q h quiet = elim (set_at_cases r.answered y up q) [
+    | inl is ↦ inl (is.0, sym is.1 ∙ quiet)
+    | inr other ↦ inr (sym (heard_other q other.0) ∙ h, sym other.1 ∙ quiet)
+  ]
+
+-- y, which is up, answers s
+module _ (w : RoundState) (y s : ℕ) (r : Round) (new_floors : ℕ → ℕ) (up : w.down y ≡ false) (at : w.rounds s ≡ Some r) (fits : r.view y ≡ w.lane y) (rise : (z : ℕ) → w.floors y z ≤ new_floors z) (above : (z : ℕ) → r.view z ≤ new_floors z) (low : (z : ℕ) → new_floors z ≤ number w z) (k : RoundInvariant w) where
+  abbrev told : Round
+  told = with_reply r y true
+
+  abbrev told_world : RoundState
+  told_world = record { lane = w.lane; down = w.down; floors = set_at w.floors y new_floors; rounds = set_at w.rounds s (Some told) }
+
+  -- a process with a round is not y
+  has_none : (p : ℕ) (o : Round) → w.rounds p ≡ Some o → p ≡ y → ⊥
+  has_none p o there is = both_ways (w.down y) up (subst (λ q. w.down q ≡ true) is (k.gathering_are_down p o there))
+
+  not_s : s ≡ y → ⊥
+  not_s is = has_none s r at is
+
+  found : (p : ℕ) (o : Round) → set_at w.rounds s (Some told) p ≡ Some o → ((p ≡ s) × (told ≡ o)) ⊎ (w.rounds p ≡ Some o)
+  found p o h = elim (set_at_cases w.rounds s (Some told) p) [ inl is ↦ inl (is.0, some_is told o (sym is.1 ∙ h)) | inr other ↦ inr (sym other.1 ∙ h) ]
+
+  self_answered : told.replied s ≡ false
+  self_answered = heard_other w s y true r at k s not_s ∙ (k.own_view s r at).0
+
+  answer_self : (p : ℕ) (o : Round) → set_at w.rounds s (Some told) p ≡ Some o → (o.replied p ≡ false) × (o.view p ≡ w.lane p + 1)
+  answer_self p o there = elim (found p o there) [
+    | inl is ↦ subst (λ q. (o.replied q ≡ false) × (o.view q ≡ w.lane q + 1)) (sym is.0) (subst (λ (x : Round). (x.replied s ≡ false) × (x.view s ≡ w.lane s + 1)) is.1 (self_answered, (k.own_view s r at).1))
+    | inr old ↦ k.own_view p o old
+  ]
+
+  answer_one_way : (p q : ℕ) (a o : Round) → set_at w.rounds s (Some told) p ≡ Some a → set_at w.rounds s (Some told) q ≡ Some o → a.replied q ≡ true → o.replied p ≡ false
+  answer_one_way p q a o here there replied_q = elim (found p a here) [
+    | inl new ↦ elim (heard_more w s y true r at k q (ap (λ (x : Round). x.replied q) new.1 ∙ replied_q)) [
+      | inl is ↦ elim (found q o there) [ inl other ↦ absurd (not_s (sym other.0 ∙ is)) | inr old ↦ absurd (has_none q o old is) ]
+      | inr before ↦ elim (found q o there) [
+        | inl other ↦ absurd (both_ways (r.replied s) (k.own_view s r at).0 (subst (λ x. r.replied x ≡ true) other.0 before))
+        | inr old ↦ subst (λ x. o.replied x ≡ false) (sym new.0) (k.one_way s q r o at old before)
+      ]
+    ]
+    | inr here_old ↦ elim (found q o there) [
+      | inl new ↦ subst (λ (x : Round). x.replied p ≡ false) new.1 (heard_other w s y true r at k p (λ is. has_none p a here_old is) ∙ k.one_way p s a r here_old at (subst (λ x. a.replied x ≡ true) new.0 replied_q))
+      | inr old ↦ k.one_way p q a o here_old old replied_q
+    ]
+  ]
+
+  floors_rise : (p z : ℕ) → w.floors p z ≤ set_at w.floors y new_floors p z
+  floors_rise p z = elim (set_at_cases w.floors y new_floors p) [
+    | inl is ↦ subst (λ g. w.floors p z ≤ g z) (sym is.1) (subst (λ q. w.floors q z ≤ new_floors z) (sym is.0) (rise z))
+    | inr other ↦ subst (λ g. w.floors p z ≤ g z) (sym other.1) (omega arith)
+  ]
+
+  floors_here : (z : ℕ) → r.view z ≤ set_at w.floors y new_floors y z
+  floors_here z = subst (λ g. r.view z ≤ g z) (sym (cond-true (y == y) new_floors (w.floors y) (eq-eqb y y refl))) (above z)
+
+  answer_refuses : (p q z : ℕ) (a : Round) → set_at w.rounds s (Some told) p ≡ Some a → a.answered q ≡ true → w.down q ≡ false → a.view z ≤ set_at w.floors y new_floors q z
+  answer_refuses p q z a here was is_up = elim (found p a here) [
+    | inl new ↦ elim (answered_more w s y true r at k q (ap (λ (x : Round). x.answered q) new.1 ∙ was)) [
+      | inl is ↦ subst (λ (x : Round). x.view z ≤ set_at w.floors y new_floors q z) new.1 (subst (λ x. r.view z ≤ set_at w.floors y new_floors x z) (sym is.0) (floors_here z))
+      | inr old ↦ subst (λ (x : Round). x.view z ≤ set_at w.floors y new_floors q z) new.1 (let before = k.refuses s q z r at old.1 is_up in omega (arith, before, floors_rise q z))
+    ]
+    | inr old ↦ omega (arith, k.refuses p q z a old was is_up, floors_rise q z)
+  ]
+
+  answer_order : (p z q : ℕ) (a o : Round) → set_at w.rounds s (Some told) p ≡ Some a → set_at w.rounds s (Some told) z ≡ Some o → o.replied p ≡ true → a.answered q ≡ true → o.view q ≤ a.view q
+  answer_order p z q a o here there replied_q was = elim (found p a here) [
+    | inl new ↦ elim (found z o there) [
+      | inl other ↦ absurd (both_ways (told.replied s) self_answered (subst (λ x. told.replied x ≡ true) new.0 (ap (λ (x : Round). x.replied p) other.1 ∙ replied_q)))
+      | inr old ↦
+          let hears_s : o.replied s ≡ true = subst (λ x. o.replied x ≡ true) new.0 replied_q in
+          subst (λ (x : Round). o.view q ≤ x.view q) new.1 (elim (answered_more w s y true r at k q (ap (λ (x : Round). x.answered q) new.1 ∙ was)) [
+            | inl is ↦ subst (λ x. o.view x ≤ r.view x) (sym is.0) (let seen = k.views_told z y o old in let here_number : number w y ≡ w.lane y = cond-false (w.down y) (w.lane y + 1) (w.lane y) up in omega (arith, seen, here_number, fits))
+            | inr before ↦ k.ordered s z q r o at old hears_s before.1
+          ])
+    ]
+    | inr here_old ↦ elim (found z o there) [
+      | inl new ↦ elim (heard_more w s y true r at k p (ap (λ (x : Round). x.replied p) new.1 ∙ replied_q)) [
+        | inl is ↦ absurd (has_none p a here_old is)
+        | inr before ↦ subst (λ (x : Round). x.view q ≤ a.view q) new.1 (k.ordered p s q a r here_old at before was)
+      ]
+      | inr old ↦ k.ordered p z q a o here_old old replied_q was
+    ]
+  ]
+
+  answer_preserves : RoundInvariant told_world
+  answer_preserves = record {
+    gathering_are_down = λ p o there. elim (found p o there) [ inl is ↦ subst (λ q. w.down q ≡ true) (sym is.0) (k.gathering_are_down s r at) | inr old ↦ k.gathering_are_down p o old ];
+    own_view = answer_self;
+    views_told = λ p q o there. elim (found p o there) [ inl is ↦ subst (λ (x : Round). x.view q ≤ number w q) is.1 (k.views_told s q r at) | inr old ↦ k.views_told p q o old ];
+    floors_told = λ p q. elim (set_at_cases w.floors y new_floors p) [ inl is ↦ subst (λ g. g q ≤ number w q) (sym is.1) (low q) | inr other ↦ subst (λ g. g q ≤ number w q) (sym other.1) (k.floors_told p q) ];
+    one_way = answer_one_way;
+    same_lane = λ p q a here replied_q was. elim (found p a here) [
+      | inl new ↦ subst (λ (x : Round). w.lane q ≡ x.view q) new.1 (elim (answered_more w s y true r at k q (ap (λ (x : Round). x.answered q) new.1 ∙ was)) [
+        | inl is ↦ subst (λ x. w.lane x ≡ r.view x) (sym is.0) (sym fits)
+        | inr old ↦ k.same_lane s q r at (k.answers_are_replies s q r at old.1) old.1
+      ])
+      | inr old ↦ k.same_lane p q a old replied_q was
+    ];
+    still_down = λ p q a here replied_q quiet. elim (found p a here) [
+      | inl new ↦ subst (λ (x : Round). (w.down q ≡ true) × (w.lane q + 1 ≡ x.view q)) new.1 (elim (silent_more w s y true r at k q (ap (λ (x : Round). x.replied q) new.1 ∙ replied_q) (ap (λ (x : Round). x.answered q) new.1 ∙ quiet)) [
+        | inl is ↦ absurd (both_ways true is.1 refl)
+        | inr old ↦ k.still_down s q r at old.0 old.1
+      ])
+      | inr old ↦ k.still_down p q a old replied_q quiet
+    ];
+    answers_are_replies = λ p q a here was. elim (found p a here) [
+      | inl new ↦ sym (ap (λ (x : Round). x.replied q) new.1) ∙ elim (answered_more w s y true r at k q (ap (λ (x : Round). x.answered q) new.1 ∙ was)) [
+        | inl is ↦ cond-true (q == y) true (r.replied q) (eq-eqb q y is.0)
+        | inr old ↦ heard_other w s y true r at k q old.0 ∙ k.answers_are_replies s q r at old.1
+      ]
+      | inr old ↦ k.answers_are_replies p q a old was
+    ];
+    refuses = answer_refuses;
+    ordered = answer_order;
+  }
+
+-- y, which is not up, says so to s
+module _ (w : RoundState) (y s : ℕ) (r : Round) (is_down : w.down y ≡ true) (other_one : y ≡ s → ⊥) (at : w.rounds s ≡ Some r) (fits : r.view y ≡ w.lane y + 1) (k : RoundInvariant w) where
+  abbrev said : Round
+  said = with_reply r y false
+
+  abbrev said_rounds : ℕ → Option Round
+  said_rounds = set_at (set_at w.rounds s (Some said)) y None
+
+  abbrev said_world : RoundState
+  said_world = record { lane = w.lane; down = w.down; floors = w.floors; rounds = said_rounds }
+
+  -- y has no round
+  seen : (p : ℕ) (o : Round) → said_rounds p ≡ Some o → (p ≡ y → ⊥) × (((p ≡ s) × (said ≡ o)) ⊎ (w.rounds p ≡ Some o))
+  seen p o h = elim (set_at_cases (set_at w.rounds s (Some said)) y None p) [
+    | inl is ↦ absurd (none_some o (sym is.1 ∙ h))
+    | inr away ↦ (away.0, elim (set_at_cases w.rounds s (Some said) p) [ inl is ↦ inl (is.0, some_is said o (sym is.1 ∙ sym away.1 ∙ h)) | inr other ↦ inr (sym other.1 ∙ sym away.1 ∙ h) ])
+  ]
+
+  self_not_up : said.replied s ≡ false
+  self_not_up = heard_other w s y false r at k s (λ is. other_one (sym is)) ∙ (k.own_view s r at).0
+
+  said_one_way : (p q : ℕ) (a o : Round) → said_rounds p ≡ Some a → said_rounds q ≡ Some o → a.replied q ≡ true → o.replied p ≡ false
+  said_one_way p q a o here there replied_q = elim (seen p a here).1 [
+    | inl new ↦ elim (heard_more w s y false r at k q (ap (λ (x : Round). x.replied q) new.1 ∙ replied_q)) [
+      | inl is ↦ absurd ((seen q o there).0 is)
+      | inr before ↦ elim (seen q o there).1 [
+        | inl other ↦ absurd (both_ways (r.replied s) (k.own_view s r at).0 (subst (λ x. r.replied x ≡ true) other.0 before))
+        | inr old ↦ subst (λ x. o.replied x ≡ false) (sym new.0) (k.one_way s q r o at old before)
+      ]
+    ]
+    | inr here_old ↦ elim (seen q o there).1 [
+      | inl new ↦ subst (λ (x : Round). x.replied p ≡ false) new.1 (heard_other w s y false r at k p (seen p a here).0 ∙ k.one_way p s a r here_old at (subst (λ x. a.replied x ≡ true) new.0 replied_q))
+      | inr old ↦ k.one_way p q a o here_old old replied_q
+    ]
+  ]
+
+  -- a process that has answered did so before
+  old_answer : (q : ℕ) → said.answered q ≡ true → r.answered q ≡ true
+  old_answer q was = elim (answered_more w s y false r at k q was) [ inl is ↦ absurd (both_ways false refl is.1) | inr old ↦ old.1 ]
+
+  said_order : (p z q : ℕ) (a o : Round) → said_rounds p ≡ Some a → said_rounds z ≡ Some o → o.replied p ≡ true → a.answered q ≡ true → o.view q ≤ a.view q
+  said_order p z q a o here there replied_q was = elim (seen p a here).1 [
+    | inl new ↦ elim (seen z o there).1 [
+      | inl other ↦ absurd (both_ways (said.replied s) self_not_up (subst (λ x. said.replied x ≡ true) new.0 (ap (λ (x : Round). x.replied p) other.1 ∙ replied_q)))
+      | inr old ↦ subst (λ (x : Round). o.view q ≤ x.view q) new.1 (k.ordered s z q r o at old (subst (λ x. o.replied x ≡ true) new.0 replied_q) (old_answer q (ap (λ (x : Round). x.answered q) new.1 ∙ was)))
+    ]
+    | inr here_old ↦ elim (seen z o there).1 [
+      | inl new ↦ elim (heard_more w s y false r at k p (ap (λ (x : Round). x.replied p) new.1 ∙ replied_q)) [
+        | inl is ↦ absurd ((seen p a here).0 is)
+        | inr before ↦ subst (λ (x : Round). x.view q ≤ a.view q) new.1 (k.ordered p s q a r here_old at before was)
+      ]
+      | inr old ↦ k.ordered p z q a o here_old old replied_q was
+    ]
+  ]
+
+  not_up_preserves : RoundInvariant said_world
+  not_up_preserves = record {
+    gathering_are_down = λ p o there. elim (seen p o there).1 [ inl is ↦ subst (λ q. w.down q ≡ true) (sym is.0) (k.gathering_are_down s r at) | inr old ↦ k.gathering_are_down p o old ];
+    own_view = λ p o there. elim (seen p o there).1 [
+      | inl is ↦ subst (λ q. (o.replied q ≡ false) × (o.view q ≡ w.lane q + 1)) (sym is.0) (subst (λ (x : Round). (x.replied s ≡ false) × (x.view s ≡ w.lane s + 1)) is.1 (self_not_up, (k.own_view s r at).1))
+      | inr old ↦ k.own_view p o old
+    ];
+    views_told = λ p q o there. elim (seen p o there).1 [ inl is ↦ subst (λ (x : Round). x.view q ≤ number w q) is.1 (k.views_told s q r at) | inr old ↦ k.views_told p q o old ];
+    floors_told = k.floors_told;
+    one_way = said_one_way;
+    same_lane = λ p q a here replied_q was. elim (seen p a here).1 [
+      | inl new ↦ let old = old_answer q (ap (λ (x : Round). x.answered q) new.1 ∙ was) in subst (λ (x : Round). w.lane q ≡ x.view q) new.1 (k.same_lane s q r at (k.answers_are_replies s q r at old) old)
+      | inr old ↦ k.same_lane p q a old replied_q was
+    ];
+    still_down = λ p q a here replied_q quiet. elim (seen p a here).1 [
+      | inl new ↦ subst (λ (x : Round). (w.down q ≡ true) × (w.lane q + 1 ≡ x.view q)) new.1 (elim (silent_more w s y false r at k q (ap (λ (x : Round). x.replied q) new.1 ∙ replied_q) (ap (λ (x : Round). x.answered q) new.1 ∙ quiet)) [
+        | inl is ↦ subst (λ x. (w.down x ≡ true) × (w.lane x + 1 ≡ r.view x)) (sym is.0) (is_down, sym fits)
+        | inr old ↦ k.still_down s q r at old.0 old.1
+      ])
+      | inr old ↦ k.still_down p q a old replied_q quiet
+    ];
+    answers_are_replies = λ p q a here was. elim (seen p a here).1 [
+      | inl new ↦ sym (ap (λ (x : Round). x.replied q) new.1) ∙ elim (answered_more w s y false r at k q (ap (λ (x : Round). x.answered q) new.1 ∙ was)) [
+        | inl is ↦ absurd (both_ways false refl is.1)
+        | inr old ↦ heard_other w s y false r at k q old.0 ∙ k.answers_are_replies s q r at old.1
+      ]
+      | inr old ↦ k.answers_are_replies p q a old was
+    ];
+    refuses = λ p q z a here was up. elim (seen p a here).1 [
+      | inl new ↦ subst (λ (x : Round). x.view z ≤ w.floors q z) new.1 (k.refuses s q z r at (old_answer q (ap (λ (x : Round). x.answered q) new.1 ∙ was)) up)
+      | inr old ↦ k.refuses p q z a old was up
+    ];
+    ordered = said_order;
+  }
+
+-- all others have replied to s, and it comes up
+module _ (w : RoundState) (s : ℕ) (r : Round) (at : w.rounds s ≡ Some r) (all : (q : ℕ) → (q ≡ s → ⊥) → r.replied q ≡ true) (k : RoundInvariant w) where
+  abbrev come : RoundState
+  come = record { lane = set_at w.lane s (w.lane s + 1); down = set_at w.down s false; floors = set_at w.floors s r.view; rounds = set_at w.rounds s None }
+
+  others : (p : ℕ) (o : Round) → set_at w.rounds s None p ≡ Some o → (p ≡ s → ⊥) × (w.rounds p ≡ Some o)
+  others p o h = elim (set_at_cases w.rounds s None p) [ inl is ↦ absurd (none_some o (sym is.1 ∙ h)) | inr other ↦ (other.0, sym other.1 ∙ h) ]
+
+  -- s has replied to no round
+  unheard_s : (p : ℕ) (o : Round) → set_at w.rounds s None p ≡ Some o → o.replied s ≡ false
+  unheard_s p o h = let old = others p o h in k.one_way s p r o at old.1 (all p old.0)
+
+  same_lane : (q : ℕ) → (q ≡ s → ⊥) → come.lane q ≡ w.lane q
+  same_lane q away = elim (set_at_cases w.lane s (w.lane s + 1) q) [ inl is ↦ absurd (away is.0) | inr other ↦ other.1 ]
+
+  same_down : (q : ℕ) → (q ≡ s → ⊥) → come.down q ≡ w.down q
+  same_down q away = elim (set_at_cases w.down s false q) [ inl is ↦ absurd (away is.0) | inr other ↦ other.1 ]
+
+  same_number : (q : ℕ) → number come q ≡ number w q
+  same_number q = elim (eqb_tells q s) [
+    | inl is ↦ subst (λ x. number come x ≡ number w x) (sym is.1) here
+    | inr other ↦ ap (λ (b : Bool). cond b (come.lane q + 1) (come.lane q)) (same_down q other.1) ∙ ap (λ l. cond (w.down q) (l + 1) l) (same_lane q other.1)
+  ]
+    where
+      here : number come s ≡ number w s
+      here =
+          cond-false (come.down s) (come.lane s + 1) (come.lane s) (cond-true (s == s) false (w.down s) (eq-eqb s s refl))
+          ∙ cond-true (s == s) (w.lane s + 1) (w.lane s) (eq-eqb s s refl)
+          ∙ sym (cond-true (w.down s) (w.lane s + 1) (w.lane s) (k.gathering_are_down s r at))
+
+  -- a process that has replied is not s
+  had_not_replied : (p q : ℕ) (o : Round) → set_at w.rounds s None p ≡ Some o → o.replied q ≡ true → q ≡ s → ⊥
+  had_not_replied p q o there replied_q is = both_ways (o.replied s) (unheard_s p o there) (subst (λ x. o.replied x ≡ true) is replied_q)
+
+  restart_preserves : RoundInvariant come
+  restart_preserves = record {
+    gathering_are_down = λ p o there. let old = others p o there in same_down p old.0 ∙ k.gathering_are_down p o old.1;
+    own_view = λ p o there. let old = others p o there in let fact = k.own_view p o old.1 in (fact.0, fact.1 ∙ ap (λ l. l + 1) (sym (same_lane p old.0)));
+    views_told = λ p q o there. subst (λ m. o.view q ≤ m) (sym (same_number q)) (k.views_told p q o (others p o there).1);
+    floors_told = λ p q. subst (λ m. come.floors p q ≤ m) (sym (same_number q)) (elim (set_at_cases w.floors s r.view p) [ inl is ↦ subst (λ g. g q ≤ number w q) (sym is.1) (k.views_told s q r at) | inr other ↦ subst (λ g. g q ≤ number w q) (sym other.1) (k.floors_told p q) ]);
+    one_way = λ p q a o here there. k.one_way p q a o (others p a here).1 (others q o there).1;
+    same_lane = λ p q a here replied_q was. same_lane q (had_not_replied p q a here replied_q) ∙ k.same_lane p q a (others p a here).1 replied_q was;
+    still_down = λ p q a here replied_q quiet. let fact = k.still_down p q a (others p a here).1 replied_q quiet in let away = had_not_replied p q a here replied_q in (same_down q away ∙ fact.0, ap (λ l. l + 1) (same_lane q away) ∙ fact.1);
+    answers_are_replies = λ p q a here was. k.answers_are_replies p q a (others p a here).1 was;
+    refuses = λ p q z a here was up.
+        let old = (others p a here).1 in
+        let away = had_not_replied p q a here (k.answers_are_replies p q a old was) in
+        let before = k.refuses p q z a old was (sym (same_down q away) ∙ up) in
+        elim (set_at_cases w.floors s r.view q) [ inl is ↦ absurd (away is.0) | inr other ↦ subst (λ g. a.view z ≤ g z) (sym other.1) before ];
+    ordered = λ p z q a o here there. k.ordered p z q a o (others p a here).1 (others z o there).1;
+  }
+
+-- y refuses more
+refuse_preserves : (w : RoundState) (y : ℕ) (floors : ℕ → ℕ) → ((z : ℕ) → w.floors y z ≤ floors z) → ((z : ℕ) → floors z ≤ number w z) → RoundInvariant w → RoundInvariant (record { lane = w.lane; down = w.down; floors = set_at w.floors y floors; rounds = w.rounds })
+refuse_preserves w y floors rise below k = record {
+  gathering_are_down = k.gathering_are_down;
+  own_view = k.own_view;
+  views_told = k.views_told;
+  floors_told = λ p q. elim (set_at_cases w.floors y floors p) [ inl is ↦ subst (λ g. g q ≤ number w q) (sym is.1) (below q) | inr other ↦ subst (λ g. g q ≤ number w q) (sym other.1) (k.floors_told p q) ];
+  one_way = k.one_way;
+  same_lane = k.same_lane;
+  still_down = k.still_down;
+  answers_are_replies = k.answers_are_replies;
+  refuses = λ s p z r at was up. elim (set_at_cases w.floors y floors p) [
+    | inl is ↦
+        let old = k.refuses s p z r at was up in
+        let here : w.floors p z ≡ w.floors y z = ap (λ x. w.floors x z) is.0 in
+        let more = rise z in
+        let new : set_at w.floors y floors p z ≡ floors z = ap (λ (g : ℕ → ℕ). g z) is.1 in
+        omega (arith, old, here, more, new)
+    | inr other ↦ subst (λ g. r.view z ≤ g z) (sym other.1) (k.refuses s p z r at was up)
+  ];
+  ordered = k.ordered;
+}
+
+pub round_step_preserves : RoundStepsPreserve
+round_step_preserves w next (crash p up) k = crash_preserves w p up k
+round_step_preserves w next (begin s view absent is_down mine low there gone) k = begin_preserves w s view is_down mine low absent there gone k
+round_step_preserves w next (give_up s) k = give_up_preserves w s k
+round_step_preserves w next (answer y s r floors up at fits rise above low) k = answer_preserves w y s r floors up at fits rise above low k
+round_step_preserves w next (refuse y floors up rise below) k = refuse_preserves w y floors rise below k
+round_step_preserves w next (not_up q s r is_down away at fits) k = not_up_preserves w q s r is_down away at fits k
+round_step_preserves w next (restart s r at all) k = restart_preserves w s r at all k

@@ -1,0 +1,3 @@
+-- Public lemmas, for the proofs of other crates.
+pub mod Positions
+pub mod Reachable

@@ -1,0 +1,16 @@
+//! Laws over the definitions. Each function does nothing: what it ensures is the law.
+ghost use Rattle.causal_steps.specs.Steps.{EachStepPreserves};
+ghost use Rattle.causal_steps.specs.Reachable.{ReachableAreSafe, ReachableShareNoSlot, ReachableSurvivorsAreDelivered};
+
+/// Each legal step preserves the invariant.
+pub fn steps_preserve_invariant()
+    ensures preserved { EachStepPreserves }
+{}
+
+/// Each state that legal steps reach is safe at each of its instants for its number of failures. No two determinants that survive in it
+/// share a slot, and each of them is that of a delivery.
+pub fn reachable_states_are_safe()
+    ensures safe { ReachableAreSafe }
+    ensures single { ReachableShareNoSlot }
+    ensures delivered { ReachableSurvivorsAreDelivered }
+{}

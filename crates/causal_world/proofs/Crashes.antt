@@ -1,0 +1,182 @@
+-- A process crashes, and a process learns who holds what it logs.
+use Rattle.std.proofs.Common.{ℕ, suc, ◌≡◌, ◌<◌, ◌≤◌, inl, inr, Bool, true, false, not, ◌&&◌, ◌||◌, nat_lt, ◌∷◌, Some, refl, sym, ap, subst, ◌∙◌, arith}
+use Rattle.std.specs.Prelude.{◌⊎◌, ◌==◌}
+use Rattle.std.proofs.lemmas.Bool.{both_ways, and_parts, and_from, not_from_false, eq-eqb, ne_eqb}
+use Rattle.causal_name.specs.declared.Pid.{Pid}
+use Rattle.causal_name.specs.declared.Det.{Det}
+use Rattle.causal_name.specs.Sets.{count_below}
+use Rattle.causal_trace.specs.declared.entry.Entry.TheVariants.{Crash}
+use Rattle.causal_trace.specs.Past.{is_down, logs, is_stable}
+use Rattle.causal_steps.specs.Recovery.{must_recover}
+use Rattle.causal_steps.specs.Steps.{crashes, silent, learns}
+use Rattle.causal_steps.specs.Reachable.{next_state}
+use Rattle.causal_rounds.specs.Rounds.{set_at, RoundState, RoundStep, crash}
+use Rattle.causal_rounds.specs.Gathered.{DetState, DetInvariant}
+use Rattle.causal_rounds.specs.Gathered as det
+use Rattle.causal_rounds.specs.Acceptance.{by_floor}
+use Rattle.causal_rounds.proofs.Lemmas.RoundSteps.{set_at_cases, round_step_preserves}
+use Rattle.causal_rounds.proofs.Lemmas.GatheredSteps.{det_step_preserves}
+use Rattle.causal_world.specs.World.{Packet, World, carrier_of, volatile_of, det_state_of}
+use Rattle.causal_world.specs.Invariant.{AbsentAreDown, WorldInvariant}
+use Rattle.causal_world.proofs.Functions.{set_at_away, apart_is}
+use Rattle.causal_world.proofs.Transit.{in_transit_of, is_accepted, rounds_bring_nothing, same_brings_nothing}
+
+module _ (n f : ℕ) (w : World) (k : WorldInvariant n f w) where
+  -- a process that is up has nothing to recover
+  pub up_recovers_nothing : (p : ℕ) (d : Det) → p < n → w.rounds.down p ≡ false → must_recover w.past p d ≡ false
+  up_recovers_nothing p d low up = by (must_recover w.past p d) refl
+    where
+      by : (b : Bool) → must_recover w.past p d ≡ b → must_recover w.past p d ≡ false
+      by false is = is
+      by true is =
+          let small : nat_lt p n ≡ true = grind (arith, low) in
+          absurd (both_ways (w.rounds.down p) up ((k.dets d).recovering_are_down p (and_from _ _ small is)))
+
+  module _ (who : Pid) (low : who.0 < n) (up : is_down w.past who.0 ≡ false) (few : count_below n (is_down w.past) < f) where
+    abbrev fallen : RoundState
+    fallen = record { lane = w.rounds.lane; down = set_at w.rounds.down who.0 true; floors = w.rounds.floors; rounds = w.rounds.rounds }
+
+    abbrev after : World
+    after = record {
+      past = Crash who ∷ w.past;
+      rounds = fallen;
+      knows_holder = λ p d q. not (who.0 == p) && w.knows_holder p d q;
+      knows_stable = λ p d. not (who.0 == p) && w.knows_stable p d;
+      packets = w.packets;
+      gathered = w.gathered;
+      stored = w.stored;
+      landed = w.landed;
+    }
+
+    was_up : w.rounds.down who.0 ≡ false
+    was_up = k.down who.0 low ∙ up
+
+    falls : RoundStep w.rounds fallen
+    falls = crash who.0 was_up
+
+    absent_still : AbsentAreDown (suc n) fallen
+    absent_still = record {
+      down = λ p above. elim (set_at_cases w.rounds.down who.0 true p) [ inl is ↦ is.1 | inr other ↦ other.1 ∙ k.absent.down p above ];
+      no_round = k.absent.no_round;
+      replied = k.absent.replied;
+    }
+
+    logs_after : (d : Det) (p : ℕ) → set_at (λ q. (nat_lt q n && logs w.past q d) || (q == n && w.stored d)) who.0 false p ≡ ((nat_lt p n && (not (who.0 == p) && logs w.past p d)) || (p == n && w.stored d))
+    logs_after d p = elim (set_at_cases (λ q. (nat_lt q n && logs w.past q d) || (q == n && w.stored d)) who.0 false p) [
+      | inl is ↦
+          let same : (who.0 == p) ≡ true = eq-eqb who.0 p (sym is.0) in
+          let apart : (p == n) ≡ false = subst (λ x. (x == n) ≡ false) (sym is.0) (apart_is who.0 n low) in
+          is.1 ∙ sym (at_who (nat_lt p n) (who.0 == p) (logs w.past p d) (p == n) (w.stored d) same apart)
+      | inr other ↦ let differ : (who.0 == p) ≡ false = ne_eqb who.0 p (λ e. other.0 (sym e)) in other.1 ∙ sym (elsewhere (nat_lt p n) (who.0 == p) (logs w.past p d) ((p == n) && w.stored d) differ)
+    ]
+      where
+        at_who : (a b c d e : Bool) → b ≡ true → d ≡ false → ((a && (not b && c)) || (d && e)) ≡ false
+        at_who a b c d e hb hd = grind (arith, hb, hd)
+
+        elsewhere : (a b c d : Bool) → b ≡ false → ((a && (not b && c)) || d) ≡ ((a && c) || d)
+        elsewhere a b c d hb = grind (arith, hb)
+
+    recover_after : (d : Det) (p : ℕ) → set_at (λ q. nat_lt q n && must_recover w.past q d) who.0 ((nat_lt who.0 n && logs w.past who.0 d) || (who.0 == n && w.stored d)) p ≡ (nat_lt p n && ((who.0 == p && logs w.past p d) || must_recover w.past p d))
+    recover_after d p = elim (set_at_cases (λ q. nat_lt q n && must_recover w.past q d) who.0 ((nat_lt who.0 n && logs w.past who.0 d) || (who.0 == n && w.stored d)) p) [
+      | inl is ↦
+          let same : (who.0 == p) ≡ true = eq-eqb who.0 p (sym is.0) in
+          let none : must_recover w.past p d ≡ false = subst (λ q. must_recover w.past q d ≡ false) (sym is.0) (up_recovers_nothing who.0 d low was_up) in
+          is.1 ∙ ap lost (sym is.0) ∙ recovered (nat_lt p n) (who.0 == p) (logs w.past p d) (must_recover w.past p d) ((p == n) && w.stored d) same none (stored_apart p is.0)
+      | inr other ↦ let differ : (who.0 == p) ≡ false = ne_eqb who.0 p (λ e. other.0 (sym e)) in other.1 ∙ grind (arith, differ)
+    ]
+      where
+        lost : ℕ → Bool
+        lost q = (nat_lt q n && logs w.past q d) || (q == n && w.stored d)
+
+        stored_apart : (q : ℕ) → q ≡ who.0 → ((q == n) && w.stored d) ≡ false
+        stored_apart q is = let apart : (q == n) ≡ false = subst (λ x. (x == n) ≡ false) (sym is) (apart_is who.0 n low) in ap (λ b. b && w.stored d) apart
+
+        recovered : (a b c d e : Bool) → b ≡ true → d ≡ false → e ≡ false → ((a && c) || e) ≡ (a && ((b && c) || d))
+        recovered a b c d e hb hd he = grind (arith, hb, hd, he)
+
+    dets : (d : Det) → DetInvariant (det_state_of n after d)
+    dets d = subst (λ (a : DetState). DetInvariant a)
+        (λ j. record { state = fallen; logs = λ p. logs_after d p j; must_recover = λ p. recover_after d p j; stable = (det_state_of n w d).stable; carriers = (det_state_of n w d).carriers; gathered = (det_state_of n w d).gathered })
+        (det_step_preserves (det_state_of n w d) _ (det.crash who.0 was_up) k.rounds (k.dets d))
+
+    pub crash_preserves : WorldInvariant n f (record {
+      past = Crash who ∷ w.past;
+      rounds = record { lane = w.rounds.lane; down = set_at w.rounds.down who.0 true; floors = w.rounds.floors; rounds = w.rounds.rounds };
+      knows_holder = λ p d q. not (who.0 == p) && w.knows_holder p d q;
+      knows_stable = λ p d. not (who.0 == p) && w.knows_stable p d;
+      packets = w.packets;
+      gathered = w.gathered;
+      stored = w.stored;
+      landed = w.landed;
+    })
+    crash_preserves = record {
+      reached = next_state w.past (Crash who ∷ w.past) (volatile_of n w) (volatile_of n after) k.reached (crashes who (record {
+        few = few;
+        holders = λ p d q. refl;
+        new_stable = λ p d h. (and_parts (not (who.0 == p)) (w.knows_stable p d) h).1;
+        nothing_new = rounds_bring_nothing n w after falls k.rounds absent_still (λ i. refl) (λ i. refl) k.lanes;
+      }));
+      rounds = round_step_preserves w.rounds fallen falls k.rounds;
+      dets = dets;
+      absent = absent_still;
+      down = λ p small. elim (set_at_cases w.rounds.down who.0 true p) [
+        | inl is ↦ let same : (who.0 == p) ≡ true = eq-eqb who.0 p (sym is.0) in is.1 ∙ grind (arith, same)
+        | inr other ↦ let differ : (who.0 == p) ≡ false = ne_eqb who.0 p (λ e. other.0 (sym e)) in other.1 ∙ k.down p small ∙ grind (arith, differ)
+      ];
+      lanes = k.lanes;
+      gathered_from = k.gathered_from;
+      storage = record { up = set_at_away w.rounds.down who.0 true n (λ e. omega (arith, low, e)) ∙ k.storage.up; no_round = k.storage.no_round; first_lane = k.storage.first_lane };
+      stores = record { stored_from = k.stores.stored_from; landed_stored = k.stores.landed_stored; stable_stored = k.stores.stable_stored };
+      reads = record { last = k.reads.last; own_gathered = k.reads.own_gathered };
+      own_logged = λ p d small still dest next stored. elim (set_at_cases w.rounds.down who.0 true p) [
+        | inl is ↦ absurd (both_ways (set_at w.rounds.down who.0 true p) still is.1)
+        | inr other ↦ and_from _ _ (not_from_false (who.0 == p) (ne_eqb who.0 p (λ e. other.0 (sym e)))) (k.own_logged p d small (sym other.1 ∙ still) dest next stored)
+      ];
+    }
+
+  pub learn_preserves : (p i : ℕ) (t : Packet) (known : ℕ → Det → ℕ → Bool) → w.rounds.down p ≡ false → w.packets i ≡ Some t → t.to ≡ p → w.rounds.floors p t.parcel.from ≤ t.lane
+      → ((x : ℕ) (d : Det) (q : ℕ) → known x d q ≡ true → (w.knows_holder x d q ≡ true) ⊎ ((x ≡ p) × (logs w.past p d ≡ true) × (t.parcel.names_holder d q ≡ true)))
+      → ((x : ℕ) (d : Det) (q : ℕ) → w.knows_holder x d q ≡ true → known x d q ≡ true)
+      → WorldInvariant n f (record { past = w.past; rounds = w.rounds; knows_holder = known; knows_stable = w.knows_stable; packets = w.packets; gathered = w.gathered; stored = w.stored; landed = w.landed })
+  learn_preserves p i t known up at to floor new keeps = record {
+    reached = next_state w.past w.past (volatile_of n w) (volatile_of n (record { past = w.past; rounds = w.rounds; knows_holder = known; knows_stable = w.knows_stable; packets = w.packets; gathered = w.gathered; stored = w.stored; landed = w.landed })) k.reached (silent (learns p (record {
+      new_holders = λ x d q h. elim (new x d q h) [
+        | inl old ↦ inl old
+        | inr (is, logs_d, named) ↦ inr (is, logs_d, (t.parcel, in_transit_of n w i t at (is_accepted (suc n) w.rounds (carrier_of t) (by_floor (ap w.rounds.down to ∙ up) (subst (λ y. w.rounds.floors y t.parcel.from ≤ t.lane) (sym to) floor))), named))
+      ];
+      keeps_holders = keeps;
+      new_stable = λ x d h. inl h;
+      nothing_new = same_brings_nothing n w (record { past = w.past; rounds = w.rounds; knows_holder = known; knows_stable = w.knows_stable; packets = w.packets; gathered = w.gathered; stored = w.stored; landed = w.landed }) refl (λ j. refl) (λ j. refl);
+    })));
+    rounds = k.rounds;
+    dets = k.dets;
+    absent = k.absent;
+    down = k.down;
+    lanes = k.lanes;
+    gathered_from = k.gathered_from;
+    storage = k.storage;
+    stores = record { stored_from = k.stores.stored_from; landed_stored = k.stores.landed_stored; stable_stored = k.stores.stable_stored };
+    reads = k.reads;
+    own_logged = k.own_logged;
+  }
+
+  pub confirm_preserves : (marked : ℕ → Det → Bool) → ((x : ℕ) (d : Det) → marked x d ≡ true → (w.knows_stable x d ≡ true) ⊎ (is_stable w.past d ≡ true))
+      → WorldInvariant n f (record { past = w.past; rounds = w.rounds; knows_holder = w.knows_holder; knows_stable = marked; packets = w.packets; gathered = w.gathered; stored = w.stored; landed = w.landed })
+  confirm_preserves marked new = record {
+    reached = next_state w.past w.past (volatile_of n w) (volatile_of n (record { past = w.past; rounds = w.rounds; knows_holder = w.knows_holder; knows_stable = marked; packets = w.packets; gathered = w.gathered; stored = w.stored; landed = w.landed })) k.reached (silent (learns 0 (record {
+      new_holders = λ x d q h. inl h;
+      keeps_holders = λ x d q h. h;
+      new_stable = new;
+      nothing_new = same_brings_nothing n w (record { past = w.past; rounds = w.rounds; knows_holder = w.knows_holder; knows_stable = marked; packets = w.packets; gathered = w.gathered; stored = w.stored; landed = w.landed }) refl (λ j. refl) (λ j. refl);
+    })));
+    rounds = k.rounds;
+    dets = k.dets;
+    absent = k.absent;
+    down = k.down;
+    lanes = k.lanes;
+    gathered_from = k.gathered_from;
+    storage = k.storage;
+    stores = record { stored_from = k.stores.stored_from; landed_stored = k.stores.landed_stored; stable_stored = k.stores.stable_stored };
+    reads = k.reads;
+    own_logged = k.own_logged;
+  }

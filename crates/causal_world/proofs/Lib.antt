@@ -1,0 +1,11 @@
+mod Functions
+mod Transit
+mod Sends
+mod RoundChanges
+mod Crashes
+mod Delivers
+mod Restarts
+mod Storage
+mod Worlds
+mod Openings
+mod Recovery

@@ -1,0 +1,150 @@
+-- A recovery, step by step: of two processes the second one crashes, is answered by the first one and by stable
+-- storage, and comes up.
+use Rattle.std.proofs.Common.{ℕ, zero, suc, ◌≡◌, ◌<◌, ◌≤◌, inl, inr, Bool, true, false, not, ◌&&◌, ◌||◌, nat_lt, [], ◌∷◌, Some, None, refl, ap, ◌∙◌, arith}
+use Rattle.std.specs.Prelude.{◌==◌}
+use Rattle.std.proofs.lemmas.Bool.{false≢true, cond-true}
+use Rattle.causal_name.specs.declared.Pid.{Pid}
+use Rattle.causal_trace.specs.declared.entry.Entry.TheVariants.{Crash}
+use Rattle.causal_trace.specs.Past.{logs}
+use Rattle.causal_rounds.specs.Rounds.{set_at, Round, number, new_round, with_reply}
+use Rattle.causal_rounds.proofs.Lemmas.RoundSteps.{set_at_cases}
+use Rattle.causal_world.specs.World.{Packet, World}
+use Rattle.causal_world.specs.Steps.{crash, begin, answer, read, restart}
+use Rattle.causal_world.specs.Reachable.{IsReachableWorld, opening, next_world, RecoveriesAreReachable}
+
+abbrev second : Pid
+second = record { 0 = 1 }
+
+abbrev absent : ℕ → Bool
+absent q = not (nat_lt q 3)
+
+abbrev first_world : World
+first_world = record {
+  past = [];
+  rounds = record { lane = λ p. 0; down = absent; floors = λ p q. 0; rounds = λ p. None };
+  knows_holder = λ p d q. false;
+  knows_stable = λ p d. false;
+  packets = λ i. None;
+  gathered = λ s d. false;
+  stored = λ d. false;
+  landed = λ i. false;
+}
+
+abbrev crashed : World
+crashed = record {
+  past = Crash second ∷ [];
+  rounds = record { lane = λ p. 0; down = set_at absent 1 true; floors = λ p q. 0; rounds = λ p. None };
+  knows_holder = λ p d q. not (1 == p) && false;
+  knows_stable = λ p d. not (1 == p) && false;
+  packets = λ i. None;
+  gathered = λ s d. false;
+  stored = λ d. false;
+  landed = λ i. false;
+}
+
+abbrev view : ℕ → ℕ
+view q = number crashed.rounds q
+
+abbrev begun : World
+begun = record {
+  past = crashed.past;
+  rounds = record { lane = crashed.rounds.lane; down = crashed.rounds.down; floors = crashed.rounds.floors; rounds = set_at crashed.rounds.rounds 1 (Some (new_round view absent)) };
+  knows_holder = crashed.knows_holder;
+  knows_stable = crashed.knows_stable;
+  packets = crashed.packets;
+  gathered = set_at crashed.gathered 1 (λ d. false);
+  stored = crashed.stored;
+  landed = crashed.landed;
+}
+
+abbrev round : Round
+round = new_round view absent
+
+abbrev empty_answer : Packet
+empty_answer = record { parcel = record { from = 0; send = None; carries = λ d. false; names_holder = λ d q. false; names_stable = λ d. false }; lane = 0; to = 1 }
+
+abbrev answered : World
+answered = record {
+  past = begun.past;
+  rounds = record { lane = begun.rounds.lane; down = begun.rounds.down; floors = set_at begun.rounds.floors 0 view; rounds = set_at begun.rounds.rounds 1 (Some (with_reply round 0 true)) };
+  knows_holder = begun.knows_holder;
+  knows_stable = begun.knows_stable;
+  packets = set_at begun.packets 0 (Some empty_answer);
+  gathered = set_at begun.gathered 1 (λ d. begun.gathered 1 d || logs begun.past 0 d);
+  stored = begun.stored;
+  landed = begun.landed;
+}
+
+abbrev was_read : World
+was_read = record {
+  past = answered.past;
+  rounds = record { lane = answered.rounds.lane; down = answered.rounds.down; floors = set_at answered.rounds.floors 2 view; rounds = set_at answered.rounds.rounds 1 (Some (with_reply (with_reply round 0 true) 2 true)) };
+  knows_holder = answered.knows_holder;
+  knows_stable = answered.knows_stable;
+  packets = answered.packets;
+  gathered = set_at answered.gathered 1 (λ d. answered.gathered 1 d || answered.stored d);
+  stored = answered.stored;
+  landed = answered.landed;
+}
+
+starts : IsReachableWorld 2 1 first_world
+starts = opening first_world (record {
+  past = refl;
+  up = λ p low. grind (arith, low);
+  storage = refl;
+  absent = λ p high. grind (arith, high);
+  lanes = λ p. refl;
+  floors = λ p q. refl;
+  no_rounds = λ p. refl;
+  no_holders = λ p d q. refl;
+  no_stable = λ p d. refl;
+  no_packets = λ i. refl;
+  nothing_stored = λ d. refl;
+  nothing_landed = λ i. refl;
+})
+
+crashes : IsReachableWorld 2 1 crashed
+crashes = next_world first_world crashed starts (crash second (omega arith) refl (omega arith))
+
+gone : (q : ℕ) → suc 2 ≤ q → (absent q ≡ true) × (view q ≡ 1)
+gone q high =
+    let big : nat_lt q 3 ≡ false = grind (arith, high) in
+    let is_absent : absent q ≡ true = ap not big in
+    let down : set_at absent 1 true q ≡ true = elim (set_at_cases absent 1 true q) [ inl is ↦ is.1 | inr other ↦ other.1 ∙ is_absent ] in
+    (is_absent, cond-true (set_at absent 1 true q) 1 0 down)
+
+here : (q : ℕ) → q < suc 2 → absent q ≡ false
+here zero low = refl
+here (suc zero) low = refl
+here (suc (suc zero)) low = refl
+here (suc (suc (suc q))) low = absurd (omega (arith, low))
+
+begins : IsReachableWorld 2 1 begun
+begins = next_world crashed begun crashes (begin 1 view absent (omega arith) refl refl (λ q. omega arith) here gone)
+
+answers : IsReachableWorld 2 1 answered
+answers = next_world begun answered begins (answer 0 1 0 round view empty_answer (omega arith) refl refl refl (λ z. omega arith) (λ z. omega arith) (λ z. omega arith)
+    (record { free = refl; lane = refl; of_log = record { process = omega arith; up = refl; from = refl; logged = λ d h. absurd (false≢true h); known_holders = λ d q h. absurd (false≢true h); known_stable = λ d h. absurd (false≢true h); names_sender = λ d h. absurd (false≢true h) } })
+    refl refl (λ d. refl))
+
+reads : IsReachableWorld 2 1 was_read
+reads = next_world answered was_read answers (read 1 (with_reply round 0 true) view refl all (λ z. omega arith) (λ z. omega arith) (λ z. omega arith))
+  where
+    all : (q : ℕ) → q < 2 → (q ≡ 1 → ⊥) → (with_reply round 0 true).replied q ≡ true
+    all zero low other = refl
+    all (suc zero) low other = absurd (other refl)
+    all (suc (suc q)) low other = absurd (omega (arith, low))
+
+pub recoveries_are_reachable : RecoveriesAreReachable
+recoveries_are_reachable = (
+  _,
+  next_world was_read _ reads (restart second [] (with_reply (with_reply round 0 true) 2 true) was_read.knows_holder was_read.knows_stable (omega arith) refl all
+      (λ d h. absurd (false≢true h)) (λ d h dest. absurd (false≢true h)) (λ d h. absurd (false≢true h)) (λ x d q h. inl h) (λ d h. absurd (false≢true h)) (λ x d q h. h) (λ x d h. inl h)),
+  refl,
+)
+  where
+    all : (q : ℕ) → q < suc 2 → (q ≡ 1 → ⊥) → (with_reply (with_reply round 0 true) 2 true).replied q ≡ true
+    all zero low other = refl
+    all (suc zero) low other = absurd (other refl)
+    all (suc (suc zero)) low other = refl
+    all (suc (suc (suc q))) low other = absurd (omega (arith, low))

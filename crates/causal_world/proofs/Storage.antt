@@ -1,0 +1,276 @@
+-- Stable storage takes a write, an entry says what is stable, and a process forgets what is stable.
+use Rattle.std.proofs.Common.{ℕ, suc, ◌≡◌, ◌<◌, ◌≤◌, inl, inr, Bool, true, false, not, ◌&&◌, ◌||◌, nat_lt, List, ◌∷◌, Some, None, refl, sym, ap, subst, ◌∙◌, arith}
+use Rattle.std.specs.Prelude.{◌⊎◌, ◌==◌}
+use Rattle.std.proofs.lemmas.Bool.{both_ways, or_cases, or_left, or_right, and_from, and_parts, not_from_false, eqb-true, eq-eqb, ne_eqb, cond-true}
+use Rattle.std.proofs.lemmas.Bool.Decides.{eqb_tells}
+use Rattle.causal_name.specs.declared.Pid.{Pid}
+use Rattle.causal_name.specs.declared.Det.{Det}
+use Rattle.causal_name.specs.Names.{same_det}
+use Rattle.causal_name.proofs.Lemmas.DetOrder.{same_is}
+use Rattle.causal_trace.specs.declared.entry.Entry.TheVariants.{Stable, Forget}
+use Rattle.causal_trace.specs.Past.{list_has, logs, is_stable, deliveries}
+use Rattle.causal_steps.specs.Recovery.{must_recover, HasOrRecovers}
+use Rattle.causal_steps.specs.Transit.{Parcel, IsInTransit, Survives}
+use Rattle.causal_steps.specs.Invariant.{StepInvariant}
+use Rattle.causal_steps.specs.Steps.{silent, learns, writes, forgets}
+use Rattle.causal_steps.specs.Reachable.{next_state}
+use Rattle.causal_steps.proofs.Lemmas.Reachable.{reachable_safe}
+use Rattle.causal_rounds.specs.Rounds.{set_at, Round}
+use Rattle.causal_rounds.specs.Gathered.{Carrier, DetState, DetInvariant, take, record_stable, to_up}
+use Rattle.causal_rounds.specs.Gathered as det
+use Rattle.causal_rounds.specs.Acceptance.{by_floor}
+use Rattle.causal_rounds.proofs.Lemmas.RoundSteps.{set_at_cases, some_is}
+use Rattle.causal_rounds.proofs.Lemmas.GatheredSteps.{det_step_preserves, restarts_gather_all}
+use Rattle.causal_world.specs.World.{Packet, World, carrier_of, is_acceptable, if_carries, volatile_of, det_state_of}
+use Rattle.causal_world.specs.Invariant.{WorldInvariant}
+use Rattle.causal_world.proofs.Functions.{set_at_here, below_is, apart_is}
+use Rattle.causal_world.proofs.Transit.{packet_of, in_transit_of, landed_in_transit, is_accepted, same_brings_nothing}
+use Rattle.causal_world.proofs.RoundChanges.{round_low}
+use Rattle.causal_world.proofs.Crashes.{up_recovers_nothing}
+
+module _ (n f : ℕ) (w : World) (k : WorldInvariant n f w) where
+  facts : StepInvariant n f w.past (volatile_of n w)
+  facts = (reachable_safe n f w.past (volatile_of n w) k.reached).facts
+
+  -- a process that is up logs what survives of its deliveries, or that is stable
+  up_logs : (p : ℕ) (d : Det) → p < n → w.rounds.down p ≡ false → d.dest.0 ≡ p → Survives n w.past (volatile_of n w) d → (is_stable w.past d ≡ true) ⊎ (logs w.past p d ≡ true)
+  up_logs p d low up dest alive = elim (subst (λ x. HasOrRecovers w.past d x) dest (facts.receivers_have_survivors d alive)) [
+    | inl stable ↦ inl stable
+    | inr holds ↦ elim (or_cases (logs w.past p d) (must_recover w.past p d) holds) [ inl has_d ↦ inr has_d | inr lost ↦ absurd (both_ways (must_recover w.past p d) (up_recovers_nothing n f w k p d low up) lost) ]
+  ]
+
+  -- storage takes a write
+  module _ (i : ℕ) (p : Packet) (at : w.packets i ≡ Some p) (to : p.to ≡ n) (floor : w.rounds.floors n p.parcel.from ≤ p.lane) where
+    abbrev after : World
+    after = record { past = w.past; rounds = w.rounds; knows_holder = w.knows_holder; knows_stable = w.knows_stable; packets = w.packets; gathered = w.gathered; stored = λ d. w.stored d || p.parcel.carries d; landed = set_at w.landed i true }
+
+    storage_up : w.rounds.down p.to ≡ false
+    storage_up = ap w.rounds.down to ∙ k.storage.up
+
+    floor_to : w.rounds.floors p.to p.parcel.from ≤ p.lane
+    floor_to = subst (λ y. w.rounds.floors y p.parcel.from ≤ p.lane) (sym to) floor
+
+    written : IsInTransit (volatile_of n w) p.parcel
+    written = in_transit_of n w i p at (is_accepted (suc n) w.rounds (carrier_of p) (by_floor storage_up floor_to))
+
+    nothing_new : (t : Parcel) → IsInTransit (volatile_of n after) t → IsInTransit (volatile_of n w) t
+    nothing_new t there =
+        let found = packet_of n after t there in
+        subst (λ y. IsInTransit (volatile_of n w) y) found.4 (elim (or_cases (set_at w.landed i true found.0) (is_acceptable (suc n) w.rounds (carrier_of found.1)) found.3) [
+          | inr accepted ↦ in_transit_of n w found.0 found.1 found.2 accepted
+          | inl landed ↦ elim (set_at_cases w.landed i true found.0) [
+            | inl is ↦ subst (λ (q : Packet). IsInTransit (volatile_of n w) q.parcel) (some_is p found.1 (sym at ∙ ap w.packets (sym is.0) ∙ found.2)) written
+            | inr other ↦ landed_in_transit n w found.0 found.1 found.2 (sym other.1 ∙ landed)
+          ]
+        ])
+
+    there : (d : Det) → p.parcel.carries d ≡ true → (det_state_of n w d).carriers i ≡ Some (carrier_of p)
+    there d h = ap (if_carries d) at ∙ cond-true (p.parcel.carries d) (Some (carrier_of p)) None h
+
+    abbrev with_logs : Det → (ℕ → Bool) → DetState
+    with_logs d g = record { state = w.rounds; logs = g; must_recover = (det_state_of n w d).must_recover; stable = is_stable w.past d; carriers = (det_state_of n w d).carriers; gathered = (det_state_of n w d).gathered }
+
+    logs_landed : (d : Det) → p.parcel.carries d ≡ true → (q : ℕ) → set_at (det_state_of n w d).logs n true q ≡ ((nat_lt q n && logs w.past q d) || (q == n && (w.stored d || p.parcel.carries d)))
+    logs_landed d h q = elim (set_at_cases (det_state_of n w d).logs n true q) [
+      | inl is ↦ is.1 ∙ sym (or_right _ _ (and_from _ _ (eq-eqb q n is.0) (or_right _ _ h)))
+      | inr other ↦ other.1 ∙ elsewhere (nat_lt q n && logs w.past q d) (q == n) (w.stored d) (p.parcel.carries d) (ne_eqb q n other.0)
+    ]
+      where
+        elsewhere : (a b c e : Bool) → b ≡ false → (a || (b && c)) ≡ (a || (b && (c || e)))
+        elsewhere a b c e hb = grind (arith, hb)
+
+    logs_same : (d : Det) → p.parcel.carries d ≡ false → (q : ℕ) → (det_state_of n w d).logs q ≡ ((nat_lt q n && logs w.past q d) || (q == n && (w.stored d || p.parcel.carries d)))
+    logs_same d h q = same (nat_lt q n && logs w.past q d) (q == n) (w.stored d) (p.parcel.carries d) h
+      where
+        same : (a b c e : Bool) → e ≡ false → (a || (b && c)) ≡ (a || (b && (c || e)))
+        same a b c e he = grind (arith, he)
+
+    dets : (d : Det) → DetInvariant (det_state_of n after d)
+    dets d = by (p.parcel.carries d) refl
+      where
+        by : (b : Bool) → p.parcel.carries d ≡ b → DetInvariant (det_state_of n after d)
+        by true is = subst (λ (g : ℕ → Bool). DetInvariant (with_logs d g)) (λ j q. logs_landed d is q j) (det_step_preserves (det_state_of n w d) _ (take n i (carrier_of p) k.storage.up (there d is) floor) k.rounds (k.dets d))
+        by false is = subst (λ (g : ℕ → Bool). DetInvariant (with_logs d g)) (λ j q. logs_same d is q j) (k.dets d)
+
+    -- a round to which storage has replied has gathered what is written of its process's own deliveries
+    gathered_own : (s : ℕ) (r : Round) (d : Det) → w.rounds.rounds s ≡ Some r → r.replied n ≡ true → p.parcel.carries d ≡ true → d.dest.0 ≡ s → w.gathered s d ≡ true
+    gathered_own s r d here done carries dest = by (is_stable w.past d) refl
+      where
+        low : s < n
+        low = round_low n f w k s r here
+
+        all : (q : ℕ) → (q ≡ s → ⊥) → r.replied q ≡ true
+        all q other = below (nat_lt q n) refl
+          where
+            below : (b : Bool) → nat_lt q n ≡ b → r.replied q ≡ true
+            below true is = k.reads.last s r q here done (grind (arith, is)) other
+            below false is = elim (eqb_tells q n) [
+              | inl same ↦ ap r.replied same.1 ∙ done
+              | inr differ ↦ k.absent.replied s q r here (let high : n ≤ q = grind (arith, is) in let apart : q ≡ n → ⊥ = differ.1 in omega (arith, high, apart))
+            ]
+
+        by : (b : Bool) → is_stable w.past d ≡ b → w.gathered s d ≡ true
+        by true is = k.reads.own_gathered s r d here done (k.stores.stable_stored d is) dest
+        by false is = elim (subst (λ x. HasOrRecovers w.past d x) dest (facts.receivers_have_survivors d (inr (inr (p.parcel, written, carries))))) [
+          | inl stable ↦ absurd (both_ways (is_stable w.past d) is stable)
+          | inr holds ↦ elim (or_cases (logs w.past s d) (must_recover w.past s d) holds) [
+            | inl has_d ↦ absurd (both_ways (w.rounds.down s) ((k.dets d).logs_up s (or_left _ _ (and_from _ _ (below_is s n low) has_d))) (k.rounds.gathering_are_down s r here))
+            | inr lost ↦ restarts_gather_all (det_state_of n w d) s r k.rounds (k.dets d) here all (and_from _ _ (below_is s n low) lost) is (inr (i, carrier_of p, there d carries, to_up storage_up floor_to))
+          ]
+        ]
+
+    pub land_preserves : WorldInvariant n f (record { past = w.past; rounds = w.rounds; knows_holder = w.knows_holder; knows_stable = w.knows_stable; packets = w.packets; gathered = w.gathered; stored = λ d. w.stored d || p.parcel.carries d; landed = set_at w.landed i true })
+    land_preserves = record {
+      reached = next_state w.past w.past (volatile_of n w) (volatile_of n after) k.reached (silent (learns 0 (record { new_holders = λ x d q h. inl h; keeps_holders = λ x d q h. h; new_stable = λ x d h. inl h; nothing_new = nothing_new })));
+      rounds = k.rounds;
+      dets = dets;
+      absent = k.absent;
+      down = k.down;
+      lanes = k.lanes;
+      gathered_from = λ s r d here h. elim (k.gathered_from s r d here h) [ inl from ↦ inl from | inr stored ↦ inr (or_left _ _ stored) ];
+      storage = k.storage;
+      stores = record {
+        stored_from = λ d h. elim (or_cases (w.stored d) (p.parcel.carries d) h) [
+          | inl old ↦ let from = k.stores.stored_from d old in (from.0, from.1, from.2, elim (set_at_cases w.landed i true from.0) [ inl is ↦ is.1 | inr other ↦ other.1 ∙ from.3 ], from.4)
+          | inr new ↦ (i, p, at, set_at_here w.landed i true, new)
+        ];
+        landed_stored = λ j h. elim (set_at_cases w.landed i true j) [
+          | inl is ↦ (p, ap w.packets is.0 ∙ at, λ d c. or_right _ _ c)
+          | inr other ↦ let old = k.stores.landed_stored j (sym other.1 ∙ h) in (old.0, old.1, λ d c. or_left _ _ (old.2 d c))
+        ];
+        stable_stored = λ d h. or_left _ _ (k.stores.stable_stored d h);
+      };
+      reads = record {
+        last = k.reads.last;
+        own_gathered = λ s r d here done h dest. elim (or_cases (w.stored d) (p.parcel.carries d) h) [ inl old ↦ k.reads.own_gathered s r d here done old dest | inr new ↦ gathered_own s r d here done new dest ];
+      };
+      own_logged = λ x d low up dest next h. elim (or_cases (w.stored d) (p.parcel.carries d) h) [
+        | inl old ↦ k.own_logged x d low up dest next old
+        | inr new ↦ elim (up_logs x d low up dest (inr (inr (p.parcel, written, new)))) [ inl stable ↦ k.own_logged x d low up dest next (k.stores.stable_stored d stable) | inr has_d ↦ has_d ]
+      ];
+    }
+
+  -- what is stored is recorded as stable
+  pub write_preserves : (det : Det) (marked : ℕ → Det → Bool) → w.stored det ≡ true → ((x : ℕ) (d : Det) → marked x d ≡ true → (w.knows_stable x d ≡ true) ⊎ (same_det d det ≡ true))
+      → WorldInvariant n f (record { past = Stable det ∷ w.past; rounds = w.rounds; knows_holder = w.knows_holder; knows_stable = marked; packets = w.packets; gathered = w.gathered; stored = w.stored; landed = w.landed })
+  write_preserves det marked stored new = record {
+    reached = next_state w.past (Stable det ∷ w.past) (volatile_of n w) (volatile_of n written_world) k.reached (writes det (record {
+      survived = (let from = k.stores.stored_from det stored in inr (inr (from.1.parcel, landed_in_transit n w from.0 from.1 from.2 from.3, from.4)));
+      same_holders = λ x d q. refl;
+      new_stable = new;
+      nothing_new = same_brings_nothing n w written_world refl (λ j. refl) (λ j. refl);
+    }));
+    rounds = k.rounds;
+    dets = dets_written;
+    absent = k.absent;
+    down = k.down;
+    lanes = k.lanes;
+    gathered_from = k.gathered_from;
+    storage = k.storage;
+    stores = record {
+      stored_from = k.stores.stored_from;
+      landed_stored = k.stores.landed_stored;
+      stable_stored = λ d h. elim (or_cases (same_det d det) (is_stable w.past d) h) [ inl is ↦ subst (λ x. w.stored x ≡ true) (sym (same_is d det is)) stored | inr old ↦ k.stores.stable_stored d old ];
+    };
+    reads = k.reads;
+    own_logged = k.own_logged;
+  }
+    where
+      written_world : World
+      written_world = record { past = Stable det ∷ w.past; rounds = w.rounds; knows_holder = w.knows_holder; knows_stable = marked; packets = w.packets; gathered = w.gathered; stored = w.stored; landed = w.landed }
+
+      with_stable : Det → Bool → DetState
+      with_stable d b = record { state = w.rounds; logs = (det_state_of n w d).logs; must_recover = (det_state_of n w d).must_recover; stable = b; carriers = (det_state_of n w d).carriers; gathered = (det_state_of n w d).gathered }
+
+      dets_written : (d : Det) → DetInvariant (with_stable d (same_det d det || is_stable w.past d))
+      dets_written d = by (same_det d det) refl
+        where
+          by : (b : Bool) → same_det d det ≡ b → DetInvariant (with_stable d (same_det d det || is_stable w.past d))
+          by true is = subst (λ b. DetInvariant (with_stable d b)) (sym (or_left (same_det d det) (is_stable w.past d) is)) (det_step_preserves (det_state_of n w d) _ record_stable k.rounds (k.dets d))
+          by false is = subst (λ b. DetInvariant (with_stable d b)) (ap (λ b. b || is_stable w.past d) (sym is)) (k.dets d)
+
+  -- a process forgets
+  module _ (who : Pid) (listed : List Det) (low : who.0 < n) (known : (d : Det) → list_has listed d ≡ true → w.knows_stable who.0 d ≡ true) (spares : (d : Det) → list_has listed d ≡ true → d.dest.0 ≡ who.0 → d.rsn < deliveries w.past who.0) where
+    abbrev lessened : World
+    lessened = record {
+      past = Forget who listed ∷ w.past;
+      rounds = w.rounds;
+      knows_holder = λ p d q. not (who.0 == p && list_has listed d) && w.knows_holder p d q;
+      knows_stable = λ p d. not (who.0 == p && list_has listed d) && w.knows_stable p d;
+      packets = w.packets;
+      gathered = w.gathered;
+      stored = w.stored;
+      landed = w.landed;
+    }
+
+    abbrev with_less : Det → (ℕ → Bool) → DetState
+    with_less d g = record { state = w.rounds; logs = g; must_recover = (det_state_of n w d).must_recover; stable = is_stable w.past d; carriers = (det_state_of n w d).carriers; gathered = (det_state_of n w d).gathered }
+
+    logs_forgotten : (d : Det) → list_has listed d ≡ true → (q : ℕ) → set_at (det_state_of n w d).logs who.0 false q ≡ ((nat_lt q n && (not (who.0 == q && list_has listed d) && logs w.past q d)) || (q == n && w.stored d))
+    logs_forgotten d h q = elim (set_at_cases (det_state_of n w d).logs who.0 false q) [
+      | inl is ↦
+          let apart : (q == n) ≡ false = subst (λ x. (x == n) ≡ false) (sym is.0) (apart_is who.0 n low) in
+          is.1 ∙ sym (gone (nat_lt q n) (who.0 == q) (list_has listed d) (logs w.past q d) (q == n) (w.stored d) (eq-eqb who.0 q (sym is.0)) h apart)
+      | inr other ↦ other.1 ∙ sym (elsewhere (nat_lt q n) (who.0 == q) (list_has listed d) (logs w.past q d) (q == n && w.stored d) (ne_eqb who.0 q (λ e. other.0 (sym e))))
+    ]
+      where
+        gone : (a b c x e g : Bool) → b ≡ true → c ≡ true → e ≡ false → ((a && (not (b && c) && x)) || (e && g)) ≡ false
+        gone a b c x e g hb hc he = grind (arith, hb, hc, he)
+
+        elsewhere : (a b c x e : Bool) → b ≡ false → ((a && (not (b && c) && x)) || e) ≡ ((a && x) || e)
+        elsewhere a b c x e hb = grind (arith, hb)
+
+    logs_left : (d : Det) → list_has listed d ≡ false → (q : ℕ) → (det_state_of n w d).logs q ≡ ((nat_lt q n && (not (who.0 == q && list_has listed d) && logs w.past q d)) || (q == n && w.stored d))
+    logs_left d h q = sym (left (nat_lt q n) (who.0 == q) (list_has listed d) (logs w.past q d) (q == n && w.stored d) h)
+      where
+        left : (a b c x e : Bool) → c ≡ false → ((a && (not (b && c) && x)) || e) ≡ ((a && x) || e)
+        left a b c x e hc = grind (arith, hc)
+
+    dets_left : (d : Det) → DetInvariant (det_state_of n lessened d)
+    dets_left d = by (list_has listed d) refl
+      where
+        by : (b : Bool) → list_has listed d ≡ b → DetInvariant (det_state_of n lessened d)
+        by true is = subst (λ (g : ℕ → Bool). DetInvariant (with_less d g)) (λ j q. logs_forgotten d is q j) (det_step_preserves (det_state_of n w d) _ (det.forget who.0 (facts.known_stable_true who.0 d low (known d is))) k.rounds (k.dets d))
+        by false is = subst (λ (g : ℕ → Bool). DetInvariant (with_less d g)) (λ j q. logs_left d is q j) (k.dets d)
+
+    own_left : (p : ℕ) (d : Det) → p < n → w.rounds.down p ≡ false → d.dest.0 ≡ p → deliveries w.past p ≤ d.rsn → w.stored d ≡ true → (not (who.0 == p && list_has listed d) && logs w.past p d) ≡ true
+    own_left p d small up dest next stored = by (who.0 == p && list_has listed d) refl
+      where
+        by : (b : Bool) → (who.0 == p && list_has listed d) ≡ b → (not (who.0 == p && list_has listed d) && logs w.past p d) ≡ true
+        by false is = and_from _ _ (not_from_false (who.0 == p && list_has listed d) is) (k.own_logged p d small up dest next stored)
+        by true is =
+            let parts = and_parts (who.0 == p) (list_has listed d) is in
+            let same : who.0 ≡ p = eqb-true who.0 p parts.0 in
+            let before = spares d parts.1 (dest ∙ sym same) in
+            let next_who : deliveries w.past who.0 ≤ d.rsn = subst (λ x. deliveries w.past x ≤ d.rsn) (sym same) next in
+            absurd (omega (arith, before, next_who))
+
+    pub forget_preserves : WorldInvariant n f (record {
+      past = Forget who listed ∷ w.past;
+      rounds = w.rounds;
+      knows_holder = λ p d q. not (who.0 == p && list_has listed d) && w.knows_holder p d q;
+      knows_stable = λ p d. not (who.0 == p && list_has listed d) && w.knows_stable p d;
+      packets = w.packets;
+      gathered = w.gathered;
+      stored = w.stored;
+      landed = w.landed;
+    })
+    forget_preserves = record {
+      reached = next_state w.past (Forget who listed ∷ w.past) (volatile_of n w) (volatile_of n lessened) k.reached (forgets who listed (record {
+        process = low;
+        known_stable = known;
+        holders = λ p d q. refl;
+        new_stable = λ p d h. (and_parts (not (who.0 == p && list_has listed d)) (w.knows_stable p d) h).1;
+        nothing_new = same_brings_nothing n w lessened refl (λ j. refl) (λ j. refl);
+      }));
+      rounds = k.rounds;
+      dets = dets_left;
+      absent = k.absent;
+      down = k.down;
+      lanes = k.lanes;
+      gathered_from = k.gathered_from;
+      storage = k.storage;
+      stores = record { stored_from = k.stores.stored_from; landed_stored = k.stores.landed_stored; stable_stored = k.stores.stable_stored };
+      reads = k.reads;
+      own_logged = own_left;
+    }
