@@ -1,7 +1,7 @@
 //! The calls of a core.
 use crate::readings::is_judged;
-use crate::told::{TRIES, came, refused};
-use causal_commands::audited;
+use crate::reporting::{TRIES, print_refusal, print_result};
+use causal_commands::audit_core;
 use causal_core::{Core, CoreFault, FlushFault};
 use causal_log::{MemStable, Stable};
 use causal_name::Pid;
@@ -12,7 +12,7 @@ use std::thread::Threads;
 
 pub type Boxed = Box<dyn Process + Send>;
 
-/// A call of a core, with its numbers in their order.
+/// A call of a core, with its arguments in order.
 #[derive(Clone, Copy)]
 enum Call {
     Deliver(u8, u8, u32),
@@ -24,10 +24,10 @@ enum Call {
     Forget(u8),
 }
 
-/// A call, and how it is told.
+/// A call, and its name in the output.
 type Named = (&'static str, Call);
 
-/// Twice round the ring, and then process 1 goes down.
+/// Two rounds of the ring; then process 1 crashes.
 const BEFORE: [Named; 10] = [
     ("core.deliver", Call::Deliver(1, 0, 0)),
     ("core.deliver", Call::Deliver(2, 1, 0)),
@@ -41,7 +41,7 @@ const BEFORE: [Named; 10] = [
     ("core.gathered", Call::Gathered(1)),
 ];
 
-/// What it had delivered, and once more round.
+/// The replay of process 1, its pending messages, and two further deliveries.
 const AFTER: [Named; 4] = [
     ("core.replay", Call::Replay(1)),
     ("core.pending", Call::Pending(1)),
@@ -49,15 +49,15 @@ const AFTER: [Named; 4] = [
     ("core.deliver", Call::Deliver(2, 1, 2)),
 ];
 
-/// More deliveries than a replay makes here.
+/// An upper bound on the deliveries of a replay here.
 const MOST: u32 = 16;
 
-/// How many entries are recorded, and how many determinants they list.
+/// The number of recorded entries and of listed determinants.
 fn extent<S: Stable>(core: &Core<S>) -> (u32, u32) {
     (core.trace().len(), core.trace().listed())
 }
 
-/// Whether a message is named for the next delivery of a process that is up.
+/// Returns whether a message is named for the next delivery of a process that is up.
 fn is_named<S: Stable>(core: &Core<S>, p: u8) -> bool {
     matches!(core.named(Pid(p)), Ok(Some(_)))
 }
@@ -66,8 +66,8 @@ fn none_done(fault: CoreFault) -> FlushFault {
     FlushFault { fault, done: 0 }
 }
 
-/// A replay that ends while a message is still named was refused its next delivery.
-fn replayed<S: Stable>(core: &mut Core<S>, p: u8) -> Result<(), FlushFault> {
+/// Replays. If a message is still named afterwards, the next delivery was refused.
+fn replay<S: Stable>(core: &mut Core<S>, p: u8) -> Result<(), FlushFault> {
     let before = core.trace().len();
     match core.replay(Pid(p), MOST) {
         Ok(_) if is_named(core, p) => Err(FlushFault {
@@ -79,8 +79,8 @@ fn replayed<S: Stable>(core: &mut Core<S>, p: u8) -> Result<(), FlushFault> {
     }
 }
 
-/// A call that changes the core: why it was refused, and how many entries it had made before.
-fn asked<S: Stable>(core: &mut Core<S>, call: Call) -> Result<(), FlushFault> {
+/// Performs a call that changes the core. An error contains the number of entries that the call recorded.
+fn call_core<S: Stable>(core: &mut Core<S>, call: Call) -> Result<(), FlushFault> {
     match call {
         Call::Deliver(q, source, ssn) => match core.deliver(Pid(q), Pid(source), ssn) {
             Ok(_) => Ok(()),
@@ -98,12 +98,12 @@ fn asked<S: Stable>(core: &mut Core<S>, call: Call) -> Result<(), FlushFault> {
             Ok(_) => Ok(()),
             Err(fault) => Err(none_done(fault)),
         },
-        Call::Replay(p) => replayed(core, p),
+        Call::Replay(p) => replay(core, p),
         Call::Gathered(_) | Call::Pending(_) => Ok(()),
     }
 }
 
-/// Whether a refused call has left what there was, and beyond that only what it had done before.
+/// Returns whether a refused call left the core unchanged, except for the entries that it recorded.
 fn is_left(before: (u32, u32), done: u32, after: (u32, u32)) -> bool {
     if done == 0 {
         before == after
@@ -112,46 +112,50 @@ fn is_left(before: (u32, u32), done: u32, after: (u32, u32)) -> bool {
     }
 }
 
-/// Makes a call that changes the core, once; whether it came through.
-fn changed<P: Print + Eprint, S: Stable>(rt: &P, core: &mut Core<S>, (name, call): Named) -> bool {
+/// Performs a call that changes the core, once. Returns whether it succeeded.
+fn try_change<P: Print + Eprint, S: Stable>(
+    rt: &P,
+    core: &mut Core<S>,
+    (name, call): Named,
+) -> bool {
     let before = extent(core);
-    match asked(core, call) {
-        Ok(()) => came(rt, name, &extent(core)),
+    match call_core(core, call) {
+        Ok(()) => print_result(rt, name, &extent(core)),
         Err(stopped) => {
             let is_left = is_left(before, stopped.done, extent(core));
-            refused(rt, name, &stopped.fault, is_left)
+            print_refusal(rt, name, &stopped.fault, is_left)
         }
     }
 }
 
-/// Makes a call once; whether it came through.
-fn made<P: Print + Eprint, S: Stable>(rt: &P, core: &mut Core<S>, (name, call): Named) -> bool {
+/// Performs a call once. Returns whether it succeeded.
+fn try_call<P: Print + Eprint, S: Stable>(rt: &P, core: &mut Core<S>, (name, call): Named) -> bool {
     match call {
         Call::Gathered(p) => match core.gathered(Pid(p)) {
-            Ok(dets) => came(rt, name, &dets.len()),
-            Err(fault) => refused(rt, name, &fault, true),
+            Ok(dets) => print_result(rt, name, &dets.len()),
+            Err(fault) => print_refusal(rt, name, &fault, true),
         },
         Call::Pending(q) => match core.pending(Pid(q)) {
-            Ok(names) => came(rt, name, &names.len()),
-            Err(fault) => refused(rt, name, &fault, true),
+            Ok(names) => print_result(rt, name, &names.len()),
+            Err(fault) => print_refusal(rt, name, &fault, true),
         },
-        _ => changed(rt, core, (name, call)),
+        _ => try_change(rt, core, (name, call)),
     }
 }
 
-/// Makes calls one after the other, each until it comes through.
+/// Performs the calls in order, each until it succeeds.
 fn all_made<P: Print + Eprint, S: Stable>(rt: &P, core: &mut Core<S>, calls: &[Named]) -> bool {
     let mut done = 0;
     for _ in 0..TRIES {
-        if done < calls.len() && made(rt, core, calls[done]) {
+        if done < calls.len() && try_call(rt, core, calls[done]) {
             done += 1;
         }
     }
     done == calls.len()
 }
 
-/// A restart gives the spare back where it is refused.
-fn restarted<P: Print + Eprint, S: Stable>(
+/// Restarts process 1, once. Returns the spare if the restart is refused.
+fn try_restart<P: Print + Eprint, S: Stable>(
     rt: &P,
     core: &mut Core<S>,
     spare: Boxed,
@@ -159,35 +163,35 @@ fn restarted<P: Print + Eprint, S: Stable>(
     let before = extent(core);
     match core.restart(Pid(1), spare) {
         Ok(_) => {
-            came(rt, "core.restart", &extent(core));
+            print_result(rt, "core.restart", &extent(core));
             None
         }
         Err(back) => {
-            refused(rt, "core.restart", &back.fault, extent(core) == before);
+            print_refusal(rt, "core.restart", &back.fault, extent(core) == before);
             Some(back.spare)
         }
     }
 }
 
-/// Restarts process 1 by the spare, until it comes through.
+/// Restarts process 1 with the spare, until it succeeds.
 fn restarted_again<P: Print + Eprint, S: Stable>(rt: &P, core: &mut Core<S>, spare: Boxed) -> bool {
     let mut spare = Some(spare);
     for _ in 0..TRIES {
         spare = match spare {
-            Some(boxed) => restarted(rt, core, boxed),
+            Some(boxed) => try_restart(rt, core, boxed),
             None => None,
         };
     }
     spare.is_none()
 }
 
-/// Makes each call of a core until it comes through.
+/// Performs each call of a core until it succeeds.
 fn all_calls<P: Print + Eprint, S: Stable>(rt: &P, core: &mut Core<S>, spare: Boxed) -> bool {
     all_made(rt, core, &BEFORE) && restarted_again(rt, core, spare) && all_made(rt, core, &AFTER)
 }
 
-/// A core of these processes for one failure, unless its start is refused, which drops them.
-pub fn started<P: Print + Eprint>(
+/// Starts a core of these processes with failure bound 1. If the start is refused, they are dropped.
+pub fn start_core<P: Print + Eprint>(
     rt: &P,
     alloc: Global,
     boxes: Vec<Boxed>,
@@ -195,31 +199,31 @@ pub fn started<P: Print + Eprint>(
     match Core::start(alloc, 1, boxes, MemStable::new(alloc)) {
         Ok(core) => Some(core),
         Err(fault) => {
-            refused(rt, "core.start", &fault, true);
+            print_refusal(rt, "core.start", &fault, true);
             None
         }
     }
 }
 
-/// Audits what a core has recorded, until there is memory for it.
+/// Audits the core's trace, until it succeeds.
 fn is_audited<P: Print + Eprint, S: Stable>(rt: &P, alloc: Global, core: &Core<S>) -> bool {
     for _ in 0..TRIES {
-        match audited(alloc, core) {
-            Ok(verdict) => return came(rt, "audited", &verdict),
-            Err(fault) => refused(rt, "audited", &fault, true),
+        match audit_core(alloc, core) {
+            Ok(verdict) => return print_result(rt, "audited", &verdict),
+            Err(fault) => print_refusal(rt, "audited", &fault, true),
         };
     }
     false
 }
 
-/// A core of these processes, all its calls, and what it has then recorded; whether it was started.
+/// Starts a core of these processes, performs all its calls and audits its trace. Returns whether all succeeded.
 pub fn run<R: Print + Eprint + Threads + Wait>(
     rt: &R,
     alloc: Global,
     boxes: Vec<Boxed>,
     spare: Boxed,
 ) -> bool {
-    match started(rt, alloc, boxes) {
+    match start_core(rt, alloc, boxes) {
         Some(mut core) => {
             all_calls(rt, &mut core, spare)
                 && is_judged(rt, alloc, core.trace())

@@ -1,37 +1,37 @@
-//! Makes calls of the libraries, each again where memory was refused, and tells on standard output what came of them: the same,
-//! whichever growth was refused. On standard error it tells each refusal, and whether it left all as it was.
+//! Performs calls of the libraries, each again if allocation failed. Standard output contains their results, which are
+//! the same whichever allocation fails; standard error each refusal, and whether the state was unchanged.
 //!
-//! A trial of the built program refuses its growths, one after the other. No proof shows that a call which was refused memory comes
-//! through once there is some.
+//! A trial of the built program lets each allocation fail in turn. No proof shows that a refused call succeeds once
+//! memory is available.
 #![tactic(auto)]
 
 /// The calls of a core.
 mod cores;
-/// A trace that is read and judged.
+/// Texts of a trace: reading, printing and audits.
 mod readings;
 /// The processes of the runs: a ring of three.
 mod rings;
-/// A script that is run.
+/// A script and its run.
 mod scripts;
 /// The calls of a shared runtime, by one seat.
 mod seats;
-/// What is told of each call: what came of it on standard output, and that it was refused on standard error.
-mod told;
+/// The output for each call: results on standard output, refusals on standard error.
+mod reporting;
 
 use std::alloc::Global;
 use std::process::ExitCode;
 use std::sync::Wait;
 use std::thread::Threads;
 
-/// A script, and what its run has recorded.
+/// Runs a script, and audits its trace.
 fn of_a_script<R: Print + Eprint + Threads + Wait>(rt: &R, alloc: Global) -> bool {
-    match scripts::recorded(rt, alloc) {
+    match scripts::trace_of_script(rt, alloc) {
         Some(trace) => readings::is_judged(rt, alloc, &trace),
         None => false,
     }
 }
 
-/// The text of a trace.
+/// Reads the text of a trace, and audits it.
 fn of_a_text<R: Print + Eprint + Threads + Wait>(rt: &R, alloc: Global) -> bool {
     match readings::read(rt, alloc) {
         Some(trace) => readings::is_judged(rt, alloc, &trace) && readings::are_read(rt, alloc),

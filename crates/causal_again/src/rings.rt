@@ -1,6 +1,6 @@
 //! The processes of the runs: a ring of three.
 use crate::cores::Boxed;
-use crate::told::{TRIES, refused};
+use crate::reporting::{TRIES, print_refusal};
 use crate::{cores, seats};
 use causal_name::NoMemory;
 use causal_process::Ring;
@@ -8,16 +8,17 @@ use std::alloc::Global;
 use std::sync::Wait;
 use std::thread::Threads;
 
-/// How many processes there are.
+/// The number of processes.
 const PROCESSES: u8 = 3;
 
-/// How many hops the message makes.
+/// The number of hops that the message makes.
 const HOPS: u8 = 9;
 
-// A function that makes a box and hands it out would hide what it makes, so the one that makes them runs them.
+// A function that returns a box would hide its content from the proof; so the function that makes the boxes runs them.
 
-/// Makes the processes and a spare, and runs them: in a shared runtime, or in a core alone; whether they were run.
-fn made<R: Print + Eprint + Threads + Wait>(
+/// Makes the processes and a spare and runs them, in a shared runtime or in a core. Returns whether all calls
+/// succeeded.
+fn make_and_run<R: Print + Eprint + Threads + Wait>(
     rt: &R,
     alloc: Global,
     is_shared: bool,
@@ -34,21 +35,21 @@ fn made<R: Print + Eprint + Threads + Wait>(
     })
 }
 
-/// Whether there was memory for the processes, and they were run.
+/// Returns whether the processes were allocated and all calls succeeded.
 fn is_made<P: Eprint>(rt: &P, made: Result<bool, NoMemory>) -> bool {
     match made {
         Ok(is_run) => is_run,
-        Err(fault) => refused(rt, "boxes", &fault, true),
+        Err(fault) => print_refusal(rt, "boxes", &fault, true),
     }
 }
 
-/// Runs a core and then a seat, each with new processes until memory is refused neither for them nor for what they begin in.
+/// Runs a core and then a shared runtime, each with new processes until the processes and the runtime are allocated.
 pub fn are_run<R: Print + Eprint + Threads + Wait>(rt: &R, alloc: Global) -> bool {
     let mut by_core = false;
     let mut by_seat = false;
     for _ in 0..TRIES {
-        by_core = by_core || is_made(rt, made(rt, alloc, false));
-        by_seat = by_seat || (by_core && is_made(rt, made(rt, alloc, true)));
+        by_core = by_core || is_made(rt, make_and_run(rt, alloc, false));
+        by_seat = by_seat || (by_core && is_made(rt, make_and_run(rt, alloc, true)));
     }
     by_seat
 }

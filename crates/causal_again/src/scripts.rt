@@ -1,5 +1,5 @@
-//! A script that is run.
-use crate::told::{TRIES, refused};
+//! A script and its run.
+use crate::reporting::{TRIES, print_refusal};
 use causal_run::run_script;
 use causal_script::{Script, parse_script};
 use causal_trace::trace::Trace;
@@ -10,11 +10,11 @@ const SCRIPT: &str =
     "start ring 3 1 2\ndeliver 1 0 0\ndeliver 2 1 0\ndeliver 0 2 0\nflush 2\nforget 2\n\
     crash 1\nrestart 1\ndeliver 1 0 0\n";
 
-fn parsed<P: Print + Eprint>(rt: &P, alloc: Global) -> Option<Script> {
+fn parse<P: Print + Eprint>(rt: &P, alloc: Global) -> Option<Script> {
     for _ in 0..TRIES {
         match parse_script(alloc, SCRIPT.as_bytes()) {
             Ok(script) => return Some(script),
-            Err(fault) => refused(rt, "parse_script", &fault, true),
+            Err(fault) => print_refusal(rt, "parse_script", &fault, true),
         };
     }
     None
@@ -27,15 +27,15 @@ fn run<R: Print + Eprint + Wait>(rt: &R, alloc: Global, script: &Script) -> Opti
     for _ in 0..TRIES {
         match run_script(rt, alloc, script) {
             Ok(trace) => return Some(trace),
-            Err(fault) => refused(rt, "run_script", &fault, true),
+            Err(fault) => print_refusal(rt, "run_script", &fault, true),
         };
     }
     None
 }
 
-/// The trace of the script's run, which is asked for until there is memory for it.
-pub fn recorded<R: Print + Eprint + Wait>(rt: &R, alloc: Global) -> Option<Trace> {
-    match parsed(rt, alloc) {
+/// Runs the script, until it succeeds, and returns the trace.
+pub fn trace_of_script<R: Print + Eprint + Wait>(rt: &R, alloc: Global) -> Option<Trace> {
+    match parse(rt, alloc) {
         Some(script) => run(rt, alloc, &script),
         None => None,
     }

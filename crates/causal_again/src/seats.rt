@@ -1,9 +1,9 @@
 //! The calls of a shared runtime, by one seat.
 ghost use Rattle.std.specs.Prelude.{◌≤◌};
 
-use crate::cores::{Boxed, started};
+use crate::cores::{Boxed, start_core};
 use crate::readings::is_judged;
-use crate::told::{TRIES, came, refused};
+use crate::reporting::{TRIES, print_refusal, print_result};
 use causal_log::MemStable;
 use causal_name::Pid;
 use causal_shared::fault::SharedFault;
@@ -13,9 +13,10 @@ use std::alloc::Global;
 use std::sync::Wait;
 use std::thread::Threads;
 
-// What is asked of the calls below is always so. Without it they would be refused as hiding what a box behind the lock does.
+// The precondition of the functions below always holds. Without it their proofs are refused, since a box behind the
+// lock is hidden.
 
-/// A call of a seat, with its numbers in their order.
+/// A call of a seat, with its arguments in order.
 #[derive(Clone, Copy)]
 enum Call {
     Deliver(u8, u8, u32),
@@ -26,10 +27,10 @@ enum Call {
     Snapshot,
 }
 
-/// A call, and how it is told.
+/// A call, and its name in the output.
 type Named = (&'static str, Call);
 
-/// Once round the ring, and then process 1 goes down.
+/// One round of the ring; then process 1 crashes.
 const BEFORE: [Named; 6] = [
     ("shared.deliver", Call::Deliver(1, 0, 0)),
     ("shared.deliver", Call::Deliver(2, 1, 0)),
@@ -39,19 +40,19 @@ const BEFORE: [Named; 6] = [
     ("shared.crash", Call::Crash(1)),
 ];
 
-/// What it had delivered, and what is seen then.
+/// The delivery of process 1, replayed, and two calls that make no item.
 const AFTER: [Named; 3] = [
     ("shared.deliver", Call::Deliver(1, 0, 0)),
     ("shared.pending", Call::Pending(1)),
     ("shared.snapshot", Call::Snapshot),
 ];
 
-/// How many items the seat has, and how many entries it has seen.
-fn sitting(seat: &Seat) -> (u32, u32) {
+/// The seat's number of items and its `seen` count.
+fn seat_counts(seat: &Seat) -> (u32, u32) {
     (seat.count(), seat.seen())
 }
 
-/// What a refusal leaves: one that the core has told is an item, which changes nothing but what a flush had stored.
+/// The counts after a refusal. An error of the core is recorded as an item, and changes only what a flush has stored.
 fn left_by(fault: SharedFault, before: (u32, u32)) -> (u32, u32) {
     let (count, seen) = before;
     match fault {
@@ -63,16 +64,16 @@ fn left_by(fault: SharedFault, before: (u32, u32)) -> (u32, u32) {
     }
 }
 
-/// A shared runtime, and where it is told what comes of its calls.
+/// A shared runtime, and the output for the results of its calls.
 #[derive(Drop)]
-struct Calling<'a, R> {
+struct SeatCaller<'a, R> {
     rt: &'a R,
     shared: &'a Shared<MemStable>,
 }
 
-impl<'a, R: Print + Eprint + Wait> Calling<'a, R> {
-    /// A call that makes an item.
-    fn asked(&self, seat: &mut Seat, call: Call) -> Result<(), SharedFault>
+impl<'a, R: Print + Eprint + Wait> SeatCaller<'a, R> {
+    /// Performs a call that makes an item.
+    fn call_shared(&self, seat: &mut Seat, call: Call) -> Result<(), SharedFault>
         requires { 1 ≤ TRIES }
     {
         match call {
@@ -98,86 +99,86 @@ impl<'a, R: Print + Eprint + Wait> Calling<'a, R> {
         }
     }
 
-    /// Makes such a call once; whether it came through.
-    fn recorded(&self, seat: &mut Seat, named: Named) -> bool
+    /// Performs a call that makes an item, once. Returns whether it succeeded.
+    fn try_item_call(&self, seat: &mut Seat, named: Named) -> bool
         requires { 1 ≤ TRIES }
     {
         let (name, call) = named;
-        let before = sitting(seat);
-        match self.asked(seat, call) {
-            Ok(()) => came(self.rt, name, &seat.seen()),
+        let before = seat_counts(seat);
+        match self.call_shared(seat, call) {
+            Ok(()) => print_result(self.rt, name, &seat.seen()),
             Err(fault) => {
-                let is_left = sitting(seat) == left_by(fault, before);
-                refused(self.rt, name, &fault, is_left)
+                let is_left = seat_counts(seat) == left_by(fault, before);
+                print_refusal(self.rt, name, &fault, is_left)
             }
         }
     }
 
-    /// Makes a call once; whether it came through.
-    fn made(&self, seat: &mut Seat, named: Named) -> bool
+    /// Performs a call once. Returns whether it succeeded.
+    fn try_call(&self, seat: &mut Seat, named: Named) -> bool
         requires { 1 ≤ TRIES }
     {
         let (name, call) = named;
-        let before = sitting(seat);
+        let before = seat_counts(seat);
         match call {
             Call::Pending(q) => match self.shared.pending(self.rt, seat, Pid(q)) {
-                Ok(names) => came(self.rt, name, &names.len()),
-                Err(fault) => refused(self.rt, name, &fault, true),
+                Ok(names) => print_result(self.rt, name, &names.len()),
+                Err(fault) => print_refusal(self.rt, name, &fault, true),
             },
             Call::Snapshot => match self.shared.snapshot(self.rt, seat) {
-                Ok(shown) => came(self.rt, name, &shown.trace.len()),
-                Err(fault) => refused(self.rt, name, &fault, sitting(seat) == before),
+                Ok(shown) => print_result(self.rt, name, &shown.trace.len()),
+                Err(fault) => print_refusal(self.rt, name, &fault, seat_counts(seat) == before),
             },
-            _ => self.recorded(seat, named),
+            _ => self.try_item_call(seat, named),
         }
     }
 
-    /// Makes calls one after the other, each until it comes through.
+    /// Performs the calls in order, each until it succeeds.
     fn all_made(&self, seat: &mut Seat, calls: &[Named]) -> bool
         requires { 1 ≤ TRIES }
     {
         let mut done = 0;
         for _ in 0..TRIES {
-            if done < calls.len() && self.made(seat, calls[done]) {
+            if done < calls.len() && self.try_call(seat, calls[done]) {
                 done += 1;
             }
         }
         done == calls.len()
     }
 
-    /// A restart gives the spare back where it is refused.
-    fn restarted(&self, seat: &mut Seat, spare: Boxed) -> Option<Boxed>
+    /// Restarts process 1, once. Returns the spare if the restart is refused.
+    fn try_restart(&self, seat: &mut Seat, spare: Boxed) -> Option<Boxed>
         requires { 1 ≤ TRIES }
     {
-        let before = sitting(seat);
+        let before = seat_counts(seat);
         match self.shared.restart(self.rt, seat, Pid(1), spare) {
             Ok(_) => {
-                came(self.rt, "shared.restart", &seat.seen());
+                print_result(self.rt, "shared.restart", &seat.seen());
                 None
             }
             Err(back) => {
-                let is_left = sitting(seat) == left_by(back.fault, before);
-                refused(self.rt, "shared.restart", &back.fault, is_left);
+                let is_left = seat_counts(seat) == left_by(back.fault, before);
+                print_refusal(self.rt, "shared.restart", &back.fault, is_left);
                 Some(back.spare)
             }
         }
     }
 
-    /// Restarts process 1 by the spare, until it comes through.
+    /// Restarts process 1 with the spare, until it succeeds.
     fn restarted_again(&self, seat: &mut Seat, spare: Boxed) -> bool
         requires { 1 ≤ TRIES }
     {
         let mut spare = Some(spare);
         for _ in 0..TRIES {
             spare = match spare {
-                Some(boxed) => self.restarted(seat, boxed),
+                Some(boxed) => self.try_restart(seat, boxed),
                 None => None,
             };
         }
         spare.is_none()
     }
 
-    /// Makes each call of a seat until it comes through.
+    /// Performs each call of a seat until it succeeds.
     fn all_calls(&self, seat: &mut Seat, spare: Boxed) -> bool
         requires { 1 ≤ TRIES }
     {
@@ -186,7 +187,7 @@ impl<'a, R: Print + Eprint + Wait> Calling<'a, R> {
             && self.all_made(seat, &AFTER)
     }
 
-    /// The same, by the first of the seats.
+    /// Performs each call of the first seat until it succeeds.
     fn all_calls_of(&self, seats: &mut Vec<Seat>, spare: Boxed) -> bool
         requires { 1 ≤ TRIES }
     {
@@ -197,8 +198,8 @@ impl<'a, R: Print + Eprint + Wait> Calling<'a, R> {
     }
 }
 
-/// What a finished runtime has recorded.
-fn ended<R: Print + Eprint + Threads + Wait>(
+/// Finishes the runtime and audits its trace.
+fn finish_and_audit<R: Print + Eprint + Threads + Wait>(
     rt: &R,
     alloc: Global,
     shared: Shared<MemStable>,
@@ -208,12 +209,12 @@ fn ended<R: Print + Eprint + Threads + Wait>(
 {
     match finish(shared, seats) {
         Ok(finished) => is_judged(rt, alloc, finished.core.trace()),
-        Err(fault) => refused(rt, "finish", &fault, false),
+        Err(fault) => print_refusal(rt, "finish", &fault, false),
     }
 }
 
-/// All calls of a shared runtime, and what it has then recorded.
-fn served<R: Print + Eprint + Threads + Wait>(
+/// Performs all calls of a shared runtime, finishes it and audits its trace.
+fn call_and_finish<R: Print + Eprint + Threads + Wait>(
     rt: &R,
     alloc: Global,
     shared: Shared<MemStable>,
@@ -223,15 +224,15 @@ fn served<R: Print + Eprint + Threads + Wait>(
     requires { 1 ≤ TRIES }
 {
     let mut seats = seats;
-    let calling = Calling {
+    let calling = SeatCaller {
         rt,
         shared: &shared,
     };
-    calling.all_calls_of(&mut seats, spare) && ended(rt, alloc, shared, seats)
+    calling.all_calls_of(&mut seats, spare) && finish_and_audit(rt, alloc, shared, seats)
 }
 
-/// A shared runtime of these processes with one seat, all its calls, and what it has then recorded; whether it was opened. Where
-/// the opening is refused, the core is dropped.
+/// Opens a shared runtime of these processes with one seat, performs all its calls and audits its trace. Returns
+/// whether all succeeded. If `open` is refused, the core is dropped.
 pub fn run<R: Print + Eprint + Threads + Wait>(
     rt: &R,
     alloc: Global,
@@ -240,11 +241,11 @@ pub fn run<R: Print + Eprint + Threads + Wait>(
 ) -> bool
     requires { 1 ≤ TRIES }
 {
-    let Some(core) = started(rt, alloc, boxes) else {
+    let Some(core) = start_core(rt, alloc, boxes) else {
         return false;
     };
     match Shared::open(alloc, core, 1, 7) {
-        Ok((shared, seats)) => served(rt, alloc, shared, seats, spare),
-        Err(fault) => refused(rt, "shared.open", &fault, true),
+        Ok((shared, seats)) => call_and_finish(rt, alloc, shared, seats, spare),
+        Err(fault) => print_refusal(rt, "shared.open", &fault, true),
     }
 }

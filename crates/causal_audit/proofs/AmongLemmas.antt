@@ -1,36 +1,36 @@
--- The least breach of the deliveries at given positions.
-use Rattle.causal_audit.proofs.Common.{ℕ, ◌≡◌, ◌+◌, ◌<◌, ◌≤◌, inl, inr, Bool, true, false, List, [], ◌∷◌, ◌++◌, Option, Some, None, length, refl, arith, ◌⊎◌, Contains, if◌then◌else◌, cases_lt, Contains-append_cases, Contains-append_left, Contains-append_right, Contains-push, Contains-push_cases, Det, instant, deliveries_in, det_at, Recording, AreAccepted, HasOrphan}
+-- The earliest breach of the deliveries at given positions.
+use Rattle.causal_audit.proofs.Common.{ℕ, ◌≡◌, ◌+◌, ◌<◌, ◌≤◌, inl, inr, Bool, true, false, List, [], ◌∷◌, ◌++◌, Option, Some, None, length, refl, arith, ◌⊎◌, Contains, if◌then◌else◌, cases_lt, Contains-append_cases, Contains-append_left, Contains-append_right, Contains-push, Contains-push_cases, Det, instant, deliveries_in, det_at, Recording, AreLegalEntries, HasOrphan}
 use Rattle.causal_audit.specs.declared.breach.Breach.{Breach}
-use Rattle.causal_audit.specs.Earlier.{comes_before, earlier}
+use Rattle.causal_audit.specs.BreachOrder.{comes_before, earlier_breach}
 use Rattle.causal_audit.specs.Numbers.{IsNumbered}
-use Rattle.causal_audit.specs.Breaches.{IsFirstBreach, LeastBreachBy}
-use Rattle.causal_audit.specs.Inside.Among.{FirstBreachBy, HasNoOrphanBy, IsLeastAmong, LeastAmongBy, horizon}
+use Rattle.causal_audit.specs.Breaches.{IsFirstBreach, EarliestBreachBy}
+use Rattle.causal_audit.specs.Inside.Among.{FirstBreachBy, HasNoOrphanBy, IsEarliestAmong, EarliestAmongBy, last_relevant_instant}
 use Rattle.causal_audit.proofs.Lemmas.NumberLemmas.{has_number}
 use Rattle.causal_audit.proofs.DeliveryNumbers.{numbered_later, numbered_below, numbered_one, numbered_some}
 
--- what is no earlier than a is no earlier than what comes before a
+-- a lower bound a implies the lower bound b if b precedes a
 pub before_least : (a b : Breach) (k t : ℕ) → comes_before b a ≡ true → (a.instant ≤ t) × (a.instant ≡ t → a.delivery ≤ k) → (b.instant ≤ t) × (b.instant ≡ t → b.delivery ≤ k)
 before_least a b k t h later = grind arith
 
--- and than what does not come after a
+-- a lower bound b implies the lower bound a if b does not precede a
 pub not_before_least : (a b : Breach) (k t : ℕ) → comes_before b a ≡ false → (b.instant ≤ t) × (b.instant ≡ t → b.delivery ≤ k) → (a.instant ≤ t) × (a.instant ≡ t → a.delivery ≤ k)
 not_before_least a b k t h later = grind arith
 
 module _ (r : Recording) (f : ℕ) where
-  -- the first breach of a delivery is no later than any of its orphans
+  -- the first breach of a delivery is at or before each of its orphans
   first_least : (k : ℕ) (b : Breach) → IsFirstBreach r f k b → (t : ℕ) → HasOrphan r.processes f (instant r.past t) k → (b.instant ≤ t) × (b.instant ≡ t → b.delivery ≤ k)
   first_least k b first t has = grind arith
 
-  -- what comes by a bound comes no later than what comes after it
+  -- an instant up to a bound precedes each instant after the bound
   by_bound : (b : Breach) (end t k : ℕ) → b.instant ≤ end → end < t → (b.instant ≤ t) × (b.instant ≡ t → b.delivery ≤ k)
   by_bound b end t k low late = (omega (arith, low, late), λ same. absurd (omega (arith, low, late, same)))
 
-  -- nothing is in the empty list
+  -- the empty list contains no number
   nothing : (k : ℕ) → Contains {X = ℕ} [] k → ⊥
   nothing k listed = omega (arith, listed.1)
 
-  chosen : (positions more : List ℕ) (end : ℕ) (a b : Breach) → a.instant ≤ end → b.instant ≤ end → IsLeastAmong r f positions a → IsLeastAmong r f more b → (x : Bool) → comes_before b a ≡ x
-      → LeastAmongBy r f end (positions ++ more) (if x then Some b else Some a)
+  chosen : (positions more : List ℕ) (end : ℕ) (a b : Breach) → a.instant ≤ end → b.instant ≤ end → IsEarliestAmong r f positions a → IsEarliestAmong r f more b → (x : Bool) → comes_before b a ≡ x
+      → EarliestAmongBy r f end (positions ++ more) (if x then Some b else Some a)
   chosen positions more end a b low short one other true before = (
     short,
     record {
@@ -54,18 +54,18 @@ module _ (r : Recording) (f : ℕ) where
     },
   )
 
-  -- of no position there is none
-  pub among_none : (end : ℕ) → LeastAmongBy r f end [] None
+  -- the deliveries at no positions have no breach
+  pub among_none : (end : ℕ) → EarliestAmongBy r f end [] None
   among_none end k t listed = absurd (nothing k listed)
 
-  -- of one position it is the first breach of its delivery
-  among_one : (end k : ℕ) (found : Option Breach) → FirstBreachBy r f end k found → LeastAmongBy r f end (k ∷ []) found
+  -- for one position the earliest breach is the first breach of its delivery
+  among_one : (end k : ℕ) (found : Option Breach) → FirstBreachBy r f end k found → EarliestAmongBy r f end (k ∷ []) found
   among_one end k None none = λ j t listed low has. grind (arith, Contains-push_cases [] k j listed, nothing)
   among_one end k (Some b) one = grind (arith, Contains-push [] k, Contains-push_cases, nothing, first_least)
 
-  -- More positions need be known no further than the breach so far.
-  pub among_joined : (end until : ℕ) (positions more : List ℕ) (one other : Option Breach) → until ≡ horizon end one → LeastAmongBy r f end positions one → LeastAmongBy r f until more other
-      → LeastAmongBy r f end (positions ++ more) (earlier one other)
+  -- Further positions need a search only up to the instant of the breach so far.
+  pub among_joined : (end until : ℕ) (positions more : List ℕ) (one other : Option Breach) → until ≡ last_relevant_instant end one → EarliestAmongBy r f end positions one → EarliestAmongBy r f until more other
+      → EarliestAmongBy r f end (positions ++ more) (earlier_breach one other)
   among_joined end until positions more None None reach so_far next = λ j t listed low has. elim (Contains-append_cases positions more j listed) [
     | inl old ↦ so_far j t old low has
     | inr new ↦ next j t new (omega (arith, low, reach)) has
@@ -100,19 +100,19 @@ module _ (r : Recording) (f : ℕ) where
   )
   among_joined end until positions more (Some a) (Some b) reach so_far next = grind (arith, chosen)
 
-  -- Two answers by one instant make one.
-  pub among_both : (end : ℕ) (positions more : List ℕ) (one other : Option Breach) → LeastAmongBy r f end positions one → LeastAmongBy r f end more other → LeastAmongBy r f end (positions ++ more) (earlier one other)
+  -- The earlier of two earliest breaches is that of both lists.
+  pub among_both : (end : ℕ) (positions more : List ℕ) (one other : Option Breach) → EarliestAmongBy r f end positions one → EarliestAmongBy r f end more other → EarliestAmongBy r f end (positions ++ more) (earlier_breach one other)
   among_both end positions more None other so_far next = among_joined end end positions more None other refl so_far next
   among_both end positions more (Some a) None so_far next = among_joined end a.instant positions more (Some a) None refl so_far (λ j t listed low. next j t listed (omega (arith, low, so_far.0)))
   among_both end positions more (Some a) (Some b) so_far next = chosen positions more end a b so_far.0 next.0 so_far.1 next.1 (comes_before b a) refl
 
   -- one position more
-  pub among_push : (end : ℕ) (positions : List ℕ) (k : ℕ) (one other : Option Breach) → LeastAmongBy r f end positions one → FirstBreachBy r f end k other → LeastAmongBy r f end (positions ++ k ∷ []) (earlier one other)
+  pub among_push : (end : ℕ) (positions : List ℕ) (k : ℕ) (one other : Option Breach) → EarliestAmongBy r f end positions one → FirstBreachBy r f end k other → EarliestAmongBy r f end (positions ++ k ∷ []) (earlier_breach one other)
   among_push end positions k one other so_far next = among_both end positions (k ∷ []) one other so_far (among_one end k other next)
 
-  -- positions of which some have no orphan by then
+  -- more positions, if the added ones have no orphan by then
   pub among_wider : (end : ℕ) (positions more : List ℕ) (found : Option Breach) → ((k : ℕ) → Contains positions k → Contains more k) → ((k : ℕ) → Contains more k → Contains positions k ⊎ HasNoOrphanBy r f k end)
-      → LeastAmongBy r f end positions found → LeastAmongBy r f end more found
+      → EarliestAmongBy r f end positions found → EarliestAmongBy r f end more found
   among_wider end positions more None inside others none = λ k t listed low has. elim (others k listed) [ inl old ↦ none k t old low has | inr never ↦ never t low has ]
   among_wider end positions more (Some b) inside others one = (
     one.0,
@@ -129,24 +129,24 @@ module _ (r : Recording) (f : ℕ) where
     },
   )
 
-  -- where none has one after an instant, the least by that instant is the least by a later one
+  -- if none has an orphan after an instant, the earliest breach by that instant is also that by a later one
   pub among_later : (last end : ℕ) (positions : List ℕ) (found : Option Breach) → last ≤ end → ((k u : ℕ) → Contains positions k → last < u → u ≤ end → HasOrphan r.processes f (instant r.past u) k → ⊥)
-      → LeastAmongBy r f last positions found → LeastAmongBy r f end positions found
+      → EarliestAmongBy r f last positions found → EarliestAmongBy r f end positions found
   among_later last end positions None up later none = λ k t listed low has. elim (cases_lt last t) [
     | inl late ↦ later k t listed late low has
     | inr early ↦ none k t listed early has
   ]
   among_later last end positions (Some b) up later one = (omega (arith, one.0, up), one.1)
 
-  -- a breach that is known comes by the bound
-  pub horizon_within : (end : ℕ) (positions : List ℕ) (found : Option Breach) → LeastAmongBy r f end positions found → horizon end found ≤ end
+  -- a breach that was found comes by the bound
+  pub horizon_within : (end : ℕ) (positions : List ℕ) (found : Option Breach) → EarliestAmongBy r f end positions found → last_relevant_instant end found ≤ end
   horizon_within end positions None none = omega arith
   horizon_within end positions (Some b) one = one.0
 
-  -- Where each other delivery has no orphan by then, it is the least of all.
-  pub among_all : (end : ℕ) (positions : List ℕ) (found : Option Breach) → AreAccepted r.processes r.past → end ≤ length r.past
+  -- If all other deliveries have no orphan by then, it is the earliest breach of the run.
+  pub among_all : (end : ℕ) (positions : List ℕ) (found : Option Breach) → AreLegalEntries r.processes r.past → end ≤ length r.past
       → ((k : ℕ) (d : Det) → det_at r.past k ≡ Some d → Contains positions k ⊎ HasNoOrphanBy r f k end)
-      → LeastAmongBy r f end positions found → LeastBreachBy r f end 0 (deliveries_in r.past) found
+      → EarliestAmongBy r f end positions found → EarliestBreachBy r f end 0 (deliveries_in r.past) found
   among_all end positions None formed within others none = λ i k t low high numbered in_time has.
       let some = numbered_some r.processes r.past i k formed numbered in
       elim (others k some.0 some.1) [
@@ -176,16 +176,16 @@ module _ (r : Recording) (f : ℕ) where
         },
       )
 
--- ---- the deliveries one by one
+-- ---- delivery by delivery
 
--- the least of those with a number below i
+-- the earliest breach of the deliveries numbered below i
 pub record IsLeastBelow (r : Recording) (f end i : ℕ) (found : Option Breach) : Type 0 where
   pub positions : List ℕ
   pub each : (j k : ℕ) → j < i → IsNumbered r.past j k → Contains positions k
-  pub least : LeastAmongBy r f end positions found
+  pub least : EarliestAmongBy r f end positions found
 
--- the earlier of that and the first breach of the delivery of number i is the least below i + 1
-pub below_more : (r : Recording) (f end i k : ℕ) (one other : Option Breach) → IsNumbered r.past i k → IsLeastBelow r f end i one → FirstBreachBy r f end k other → IsLeastBelow r f end (i + 1) (earlier one other)
+-- the earlier of it and the first breach of delivery number i is the earliest below i + 1
+pub below_more : (r : Recording) (f end i k : ℕ) (one other : Option Breach) → IsNumbered r.past i k → IsLeastBelow r f end i one → FirstBreachBy r f end k other → IsLeastBelow r f end (i + 1) (earlier_breach one other)
 below_more r f end i k one other here so_far next =
     grind (
       arith,
@@ -195,6 +195,6 @@ below_more r f end i k one other here so_far next =
       among_push r f end so_far.positions k one other so_far.least next,
     )
 
--- that of all deliveries is the least breach by the bound
-pub below_all : (r : Recording) (f end : ℕ) (found : Option Breach) → AreAccepted r.processes r.past → end ≤ length r.past → IsLeastBelow r f end (deliveries_in r.past) found → LeastBreachBy r f end 0 (deliveries_in r.past) found
+-- that of all numbers is the earliest breach by the bound
+pub below_all : (r : Recording) (f end : ℕ) (found : Option Breach) → AreLegalEntries r.processes r.past → end ≤ length r.past → IsLeastBelow r f end (deliveries_in r.past) found → EarliestBreachBy r f end 0 (deliveries_in r.past) found
 below_all r f end found formed within all = grind (arith, among_all, has_number)

@@ -1,4 +1,4 @@
--- What is read of a list whose elements are all the same is that element.
+-- A read of a list whose elements are all equal returns that element.
 use Rattle.causal_audit.proofs.Common.{ℕ, zero, suc, ◌≡◌, List, get_or, refl, ap, ◌∙◌, replicate}
 
 replicated : {A : Type 0} → (n m : ℕ) (x : A) → get_or (replicate n x) m x ≡ x

@@ -1,36 +1,36 @@
--- What one more entry makes of who depends on a delivery, and what stays between two changes.
-use Rattle.causal_audit.proofs.Common.{ℕ, ◌≡◌, ◌≢◌, ◌+◌, inl, inr, Bool, true, false, cond, List, ◌∷◌, length, Some, None, refl, sym, ap, subst, ◌∙◌, zero, suc, ◌-◌, ◌<◌, ◌≤◌, [], arith, ◌⊎◌, ◌↔◌, ◌&&◌, ◌||◌, not, ◌==◌, nat_cmp, FinSet, contains, insert, remove, false≢true, eq-eqb, ne_eqb, cases_lt, cond-true, cond-false, nat_tests, Pid, Det, Entry, Send, Deliver, Stable, Crash, Restart, Forget, is_down, lane, instant, entry_at, det_at, is_stable, logs, has, AreAccepted, first_fault, actor, IsEventOf, DirectlyPrecedes, in_order, by_message, Reaches, itself, onward, Depends, event_below, reaches_old, depends_restarted, reaches_begins, accepted_forward, delivers_up, same_det, HasOrphan, instants_stay, one_more_instant, last_instant, accepted_then, det_then, det_within, instant_length}
-use Rattle.causal_audit.specs.Inside.DeliveryStates.{AreDependents, TellsNextReach, IsDeliveryState}
+-- The dependents of a delivery after one more entry, and the instants between two changes.
+use Rattle.causal_audit.proofs.Common.{ℕ, ◌≡◌, ◌≢◌, ◌+◌, inl, inr, Bool, true, false, cond, List, ◌∷◌, length, Some, None, refl, sym, ap, subst, ◌∙◌, zero, suc, ◌-◌, ◌<◌, ◌≤◌, [], arith, ◌⊎◌, ◌↔◌, ◌&&◌, ◌||◌, not, ◌==◌, nat_cmp, FinSet, contains, insert, remove, false≢true, eq-eqb, ne_eqb, cases_lt, cond-true, cond-false, nat_tests, Pid, Det, Entry, Send, Deliver, Stable, Crash, Restart, Forget, is_down, lane, instant, entry_at, det_at, is_stable, logs, list_has, AreLegalEntries, first_fault, actor, IsEventOf, DirectlyPrecedes, in_order, by_message, Reaches, itself, onward, Depends, event_below, reaches_old, depends_restarted, reaches_begins, accepted_forward, delivers_up, same_det, HasOrphan, instants_stay, one_more_instant, last_instant, accepted_then, det_then, det_within, instant_length}
+use Rattle.causal_audit.specs.Inside.DeliveryStates.{AreDependents, IsNextReached, IsDeliveryState}
 use Rattle.causal_audit.proofs.Legal.{sends_up}
 use Rattle.causal_audit.proofs.Shown.{inserted, removed}
-use Rattle.causal_audit.specs.Laws.{gone, IsExposed}
+use Rattle.causal_audit.specs.Laws.{down_or_holding, IsExposed}
 use Rattle.causal_audit.specs.declared.delivery_state.DeliveryState.{DeliveryState}
-use Rattle.causal_audit.specs.Quiet.{is_turn, mentioned_by, IsQuiet, AreQuiet, Agree, InstantsAgree, OrphansAgree}
+use Rattle.causal_audit.specs.Quiet.{is_transition, mentioned_dets, IsQuiet, AreQuiet, SameDeliveryState, InstantsAgree, OrphansAgree}
 use Rattle.causal_audit.proofs.Lemmas.OrphansByCounts.{exposed, unexposed}
 
--- ==== what one more entry makes of who depends on a delivery
+-- ==== the dependents of a delivery after one more entry
 
--- ---- what holds stays with one more entry
+-- ---- facts that one more entry preserves
 
 precedes_more : (e : Entry) (past : List Entry) (i j : ℕ) → DirectlyPrecedes past i j → DirectlyPrecedes (e ∷ past) i j
 precedes_more e past i j (in_order p l less a b) = in_order p l less (inl a) (inl b)
 precedes_more e past i j (by_message h) = by_message (inl h)
 
--- what an entry reaches grows with the run
+-- an entry that is reached is still reached in a longer run
 pub reaches_more : (e : Entry) (past : List Entry) (i j : ℕ) → Reaches past i j → Reaches (e ∷ past) i j
 reaches_more e past i j (itself p l at) = itself p l (inl at)
 reaches_more e past i k (onward {j} r d) = onward (reaches_more e past i j r) (precedes_more e past j k d)
 
--- the entry is no crash and no restart of p
+-- the entry does not crash or restart p
 abbrev pub IsNoTurn : Entry → List Entry → ℕ → Type 0
 IsNoTurn e past p = (is_down (e ∷ past) p ≡ is_down past p) × (lane (e ∷ past) p ≡ lane past p)
 
--- what a process depends on grows with the run while it neither crashes nor restarts
+-- a process keeps its dependences while it does not crash or restart
 pub depends_more : (e : Entry) (past : List Entry) (k p : ℕ) → IsNoTurn e past p → Depends past k p → Depends (e ∷ past) k p
 depends_more e past k p same d = grind (arith, reaches_more e past k d.event d.reached)
 
--- what depends after the entry did before, or the entry is its event and is reached
-pub depends_before : (n : ℕ) (e : Entry) (past : List Entry) (k p : ℕ) → AreAccepted n (e ∷ past) → IsNoTurn e past p → Depends (e ∷ past) k p → Depends past k p ⊎ ((actor e ≡ Some p) × Reaches (e ∷ past) k (length past))
+-- a dependent after the entry was one before, or the entry is its event and is reached
+pub depends_before : (n : ℕ) (e : Entry) (past : List Entry) (k p : ℕ) → AreLegalEntries n (e ∷ past) → IsNoTurn e past p → Depends (e ∷ past) k p → Depends past k p ⊎ ((actor e ≡ Some p) × Reaches (e ∷ past) k (length past))
 depends_before n e past k p formed same d = go d.present
   where
     go : IsEventOf (e ∷ past) d.event p (lane (e ∷ past) p) → Depends past k p ⊎ ((actor e ≡ Some p) × Reaches (e ∷ past) k (length past))
@@ -54,30 +54,30 @@ removed_here s p q same = removed s p q ∙ ap (λ b. not b && contains s q) (eq
 removed_other : (s : FinSet nat_cmp) (p q : ℕ) → q ≢ p → contains (remove s p) q ≡ contains s q
 removed_other s p q apart = removed s p q ∙ ap (λ b. not b && contains s q) (ne_eqb p q (λ h. apart (sym h)))
 
-module _ (n : ℕ) (e : Entry) (past : List Entry) (k : ℕ) (formed : AreAccepted n (e ∷ past)) (s : FinSet nat_cmp) (are : AreDependents past k s) where
-  -- an entry that is no turn of p, and no event of p that is reached
-  stays : (p : ℕ) → IsNoTurn e past p → (actor e ≡ Some p → Reaches (e ∷ past) k (length past) → ⊥) → (contains s p ≡ true) ↔ Depends (e ∷ past) k p
-  stays p same none = grind (arith, depends_more, depends_before)
+module _ (n : ℕ) (e : Entry) (past : List Entry) (k : ℕ) (formed : AreLegalEntries n (e ∷ past)) (s : FinSet nat_cmp) (are : AreDependents past k s) where
+  -- an entry that does not crash or restart p and is not a reached event of p
+  departures : (p : ℕ) → IsNoTurn e past p → (actor e ≡ Some p → Reaches (e ∷ past) k (length past) → ⊥) → (contains s p ≡ true) ↔ Depends (e ∷ past) k p
+  departures p same none = grind (arith, depends_more, depends_before)
 
-  -- an entry that is nobody's turn, and no event that is reached
+  -- an entry that crashes or restarts no process and is not a reached event
   pub same_dependents : ((p : ℕ) → IsNoTurn e past p) → ((p : ℕ) → actor e ≡ Some p → Reaches (e ∷ past) k (length past) → ⊥) → AreDependents (e ∷ past) k s
-  same_dependents same none p = stays p (same p) (none p)
+  same_dependents same none p = departures p (same p) (none p)
 
-  -- an event that is reached
+  -- a reached event
   pub one_dependent_more : (w : ℕ) → actor e ≡ Some w → is_down past w ≡ false → ((p : ℕ) → IsNoTurn e past p) → Reaches (e ∷ past) k (length past) → AreDependents (e ∷ past) k (insert s w)
-  one_dependent_more w of up same reach p = grind (arith, inserted_here, stays, inserted_other)
+  one_dependent_more w of up same reach p = grind (arith, inserted_here, departures, inserted_other)
 
-  -- a turn of one process
+  -- a crash or restart of one process
   one_dependent_less : (w : ℕ) → actor e ≡ None → ((p : ℕ) → p ≢ w → IsNoTurn e past p) → (Depends (e ∷ past) k w → ⊥) → AreDependents (e ∷ past) k (remove s w)
-  one_dependent_less w none same gone p = grind (arith, removed_here, stays, removed_other)
+  one_dependent_less w none same down_or_holding p = grind (arith, removed_here, departures, removed_other)
 
 pub no_event : {G : Type 0} (e : Entry) (p : ℕ) → actor e ≡ None → actor e ≡ Some p → G
 no_event e p none who = absurd (let x : None ≡ Some p = sym none ∙ who in cc)
 
--- the same, at an entry that is known by an equation
-module _ (n : ℕ) (x : Entry) (past : List Entry) (k : ℕ) (formed : AreAccepted n (x ∷ past)) (reached : Bool) (tells : TellsNextReach past x k reached) (s : FinSet nat_cmp) (are : AreDependents past k s) where
+-- as above, for an entry that is given by an equation
+module _ (n : ℕ) (x : Entry) (past : List Entry) (k : ℕ) (formed : AreLegalEntries n (x ∷ past)) (reached : Bool) (tells : IsNextReached past x k reached) (s : FinSet nat_cmp) (are : AreDependents past k s) where
   abbrev After : Entry → FinSet nat_cmp → Type 0
-  After y t = AreAccepted n (y ∷ past) → TellsNextReach past y k reached → AreDependents (y ∷ past) k t
+  After y t = AreLegalEntries n (y ∷ past) → IsNextReached past y k reached → AreDependents (y ∷ past) k t
 
   at_entry : (y : Entry) (t : FinSet nat_cmp) → x ≡ y → After y t → AreDependents (x ∷ past) k t
   at_entry y t is h = subst (λ z. After z t) (sym is) h formed tells
@@ -110,12 +110,12 @@ module _ (n : ℕ) (x : Entry) (past : List Entry) (k : ℕ) (formed : AreAccept
       (λ p apart. let other = ne_eqb who.0 p (λ h. apart (sym h)) in (ap (λ b. not b && is_down past p) other, ap (λ b. cond b (lane past p + 1) (lane past p)) other))
       (λ d. depends_restarted (Restart who listed) past k who.0 (ap (λ b. cond b (lane past who.0 + 1) (lane past who.0)) (eq-eqb who.0 who.0 refl)) refl d))
 
--- ==== between two changes of what is known of a delivery its instants agree
+-- ==== the instants between two changes of a delivery's state agree
 
 -- ---- a quiet entry changes nothing
 
--- an entry that is no crash and no restart leaves who is down, and in which lane each process is
-pub no_turn_stays : (e : Entry) (past : List Entry) → is_turn e ≡ false → (p : ℕ) → IsNoTurn e past p
+-- an entry that is not a crash or restart preserves the down processes and the lane of each process
+pub no_turn_stays : (e : Entry) (past : List Entry) → is_transition e ≡ false → (p : ℕ) → IsNoTurn e past p
 no_turn_stays (Send from to ssn) past h p = (refl, refl)
 no_turn_stays (Deliver to send rsn listed) past h p = (refl, refl)
 no_turn_stays (Stable det) past h p = (refl, refl)
@@ -132,17 +132,17 @@ and_unlisted w l b h = grind (arith, nat_tests)
 or_false : (a b : Bool) → (a || false) ≡ false → b ≡ (a || b)
 or_false a b h = grind (arith, nat_tests)
 
--- and who logs a determinant that it does not mention
-pub logs_stay : (e : Entry) (past : List Entry) (d : Det) → is_turn e ≡ false → has (mentioned_by e) d ≡ false → (p : ℕ) → logs past p d ≡ logs (e ∷ past) p d
+-- the logs that contain a determinant that it does not mention
+pub logs_stay : (e : Entry) (past : List Entry) (d : Det) → is_transition e ≡ false → list_has (mentioned_dets e) d ≡ false → (p : ℕ) → logs past p d ≡ logs (e ∷ past) p d
 logs_stay (Send from to ssn) past d h l p = refl
-logs_stay (Deliver to send rsn listed) past d h l p = or_unlisted (to.0 == p) (has listed d) (logs past p d) l
+logs_stay (Deliver to send rsn listed) past d h l p = or_unlisted (to.0 == p) (list_has listed d) (logs past p d) l
 logs_stay (Stable det) past d h l p = refl
 logs_stay (Crash who) past d h l p = absurd (false≢true (sym h))
 logs_stay (Restart who listed) past d h l p = absurd (false≢true (sym h))
-logs_stay (Forget who listed) past d h l p = and_unlisted (who.0 == p) (has listed d) (logs past p d) l
+logs_stay (Forget who listed) past d h l p = and_unlisted (who.0 == p) (list_has listed d) (logs past p d) l
 
--- and whether that is stable
-pub stable_stays : (e : Entry) (past : List Entry) (d : Det) → has (mentioned_by e) d ≡ false → is_stable past d ≡ is_stable (e ∷ past) d
+-- and whether that determinant is stable
+pub stable_stays : (e : Entry) (past : List Entry) (d : Det) → list_has (mentioned_dets e) d ≡ false → is_stable past d ≡ is_stable (e ∷ past) d
 stable_stays (Send from to ssn) past d l = refl
 stable_stays (Deliver to send rsn listed) past d l = refl
 stable_stays (Stable det) past d l = or_false (same_det d det) (is_stable past d) l
@@ -150,8 +150,8 @@ stable_stays (Crash who) past d l = refl
 stable_stays (Restart who listed) past d l = refl
 stable_stays (Forget who listed) past d l = refl
 
--- so where it is quiet, the states before and after it agree
-pub quiet_step : (n : ℕ) (e : Entry) (past : List Entry) (k : ℕ) (d : Det) → AreAccepted n (e ∷ past) → IsQuiet past e k d → Agree past (e ∷ past) k d
+-- so the states before and after a quiet entry agree
+pub quiet_step : (n : ℕ) (e : Entry) (past : List Entry) (k : ℕ) (d : Det) → AreLegalEntries n (e ∷ past) → IsQuiet past e k d → SameDeliveryState past (e ∷ past) k d
 quiet_step n e past k d formed quiet = grind (arith, no_turn_stays, logs_stay, stable_stays, depends_more, depends_before)
 
 -- ---- from instant to instant
@@ -175,66 +175,66 @@ next_entry (e ∷ past) v below =
           )
     ]
 
-agree_then : (k : ℕ) (d : Det) (one two three : List Entry) → Agree one two k d → Agree two three k d → Agree one three k d
+agree_then : (k : ℕ) (d : Det) (one two three : List Entry) → SameDeliveryState one two k d → SameDeliveryState two three k d → SameDeliveryState one three k d
 agree_then k d one two three a b = grind arith
 
-agree_itself : (k : ℕ) (d : Det) (past : List Entry) → Agree past past k d
+agree_itself : (k : ℕ) (d : Det) (past : List Entry) → SameDeliveryState past past k d
 agree_itself k d past = record { down = λ p. refl; logged = λ p. refl; stable = refl; dependents = λ p. (λ x. x, λ x. x) }
 
-pub agree_back : (k : ℕ) (d : Det) (one other : List Entry) → Agree one other k d → Agree other one k d
+pub agree_back : (k : ℕ) (d : Det) (one other : List Entry) → SameDeliveryState one other k d → SameDeliveryState other one k d
 agree_back k d one other a = grind arith
 
-agree_next : (n : ℕ) (past : List Entry) (k : ℕ) (d : Det) (v : ℕ) → AreAccepted n past → v < length past → ((e : Entry) → entry_at past v ≡ Some e → IsQuiet (instant past v) e k d) → Agree (instant past v) (instant past (v + 1)) k d
+agree_next : (n : ℕ) (past : List Entry) (k : ℕ) (d : Det) (v : ℕ) → AreLegalEntries n past → v < length past → ((e : Entry) → entry_at past v ≡ Some e → IsQuiet (instant past v) e k d) → SameDeliveryState (instant past v) (instant past (v + 1)) k d
 agree_next n past k d v formed below quiet =
     let found = next_entry past v below in
-    subst (λ x. Agree (instant past v) x k d) (sym found.2)
-    (quiet_step n found.0 (instant past v) k d (subst (AreAccepted n) found.2 (accepted_then n past (v + 1) formed)) (quiet found.0 found.1))
+    subst (λ x. SameDeliveryState (instant past v) x k d) (sym found.2)
+    (quiet_step n found.0 (instant past v) k d (subst (AreLegalEntries n) found.2 (accepted_then n past (v + 1) formed)) (quiet found.0 found.1))
 
-agree_for : (n : ℕ) (past : List Entry) (k : ℕ) (d : Det) (t more : ℕ) → AreAccepted n past → t + more ≤ length past → AreQuiet past t (t + more) k d → Agree (instant past t) (instant past (t + more)) k d
-agree_for n past k d t zero formed within quiet = let same : t ≡ t + 0 = omega arith in subst (λ x. Agree (instant past t) (instant past x) k d) same (agree_itself k d (instant past t))
+agree_for : (n : ℕ) (past : List Entry) (k : ℕ) (d : Det) (t more : ℕ) → AreLegalEntries n past → t + more ≤ length past → AreQuiet past t (t + more) k d → SameDeliveryState (instant past t) (instant past (t + more)) k d
+agree_for n past k d t zero formed within quiet = let same : t ≡ t + 0 = omega arith in subst (λ x. SameDeliveryState (instant past t) (instant past x) k d) same (agree_itself k d (instant past t))
 agree_for n past k d t (suc more) formed within quiet =
     let same : t + more + 1 ≡ t + suc more = omega arith in
-    subst (λ x. Agree (instant past t) (instant past x) k d) same
+    subst (λ x. SameDeliveryState (instant past t) (instant past x) k d) same
     (agree_then k d (instant past t) (instant past (t + more)) (instant past (t + more + 1))
     (agree_for n past k d t more formed (omega (arith, within)) (λ v e above below at. quiet v e above (omega (arith, below)) at))
     (agree_next n past k d (t + more) formed (omega (arith, within)) (λ e at. quiet (t + more) e (omega arith) (omega arith) at)))
 
--- the instants between which each entry is quiet agree
+-- two instants agree if each entry between them is quiet
 pub instants_agree : InstantsAgree
 instants_agree n past k d t u formed up within quiet =
     let same : t + (u - t) ≡ u = omega (arith, up) in
-    subst (λ x. Agree (instant past t) (instant past x) k d) same
+    subst (λ x. SameDeliveryState (instant past t) (instant past x) k d) same
     (agree_for n past k d t (u - t) formed (omega (arith, same, within)) (λ v e above below at. quiet v e above (omega (arith, below, same)) at))
 
-exposed_agrees : (n f : ℕ) (one other : List Entry) (k : ℕ) (d : Det) → Agree one other k d → IsExposed n f one k d → IsExposed n f other k d
+exposed_agrees : (n f : ℕ) (one other : List Entry) (k : ℕ) (d : Det) → SameDeliveryState one other k d → IsExposed n f one k d → IsExposed n f other k d
 exposed_agrees n f one other k d a e = grind arith
 
--- so a delivery that is made has an orphan at both or at neither
+-- so a delivery before both has an orphan at both or at neither
 pub orphans_agree : OrphansAgree
 orphans_agree n f past k d t u formed at made up within quiet =
     let a = instants_agree n past k d t u formed up within quiet in
     let at_t = det_then past t k made (omega (arith, up, within)) ∙ at in
     let at_u = det_then past u k (omega (arith, made, up)) within ∙ at in (
-      λ has. unexposed n f (instant past u) k d at_u (exposed_agrees n f (instant past t) (instant past u) k d a (exposed n f (instant past t) k d at_t has)),
-      λ has. unexposed n f (instant past t) k d at_t (exposed_agrees n f (instant past u) (instant past t) k d (agree_back k d (instant past t) (instant past u) a) (exposed n f (instant past u) k d at_u has)),
+      λ list_has. unexposed n f (instant past u) k d at_u (exposed_agrees n f (instant past t) (instant past u) k d a (exposed n f (instant past t) k d at_t list_has)),
+      λ list_has. unexposed n f (instant past t) k d at_t (exposed_agrees n f (instant past u) (instant past t) k d (agree_back k d (instant past t) (instant past u) a) (exposed n f (instant past u) k d at_u list_has)),
     )
 
--- what is known of the delivery at one is known at the other
-pub state_agrees : (one other : List Entry) (k : ℕ) (d : Det) (s : DeliveryState) → Agree one other k d → IsDeliveryState one k d s → IsDeliveryState other k d s
+-- the state of the delivery at one instant is its state at the other
+pub state_agrees : (one other : List Entry) (k : ℕ) (d : Det) (s : DeliveryState) → SameDeliveryState one other k d → IsDeliveryState one k d s → IsDeliveryState other k d s
 state_agrees one other k d s a is = grind arith
 
--- and it has an orphan at the later one only where it has one at the other
-pub none_agrees : (n f : ℕ) (past : List Entry) (k : ℕ) (d : Det) (t w : ℕ) → det_at past k ≡ Some d → t ≤ w → w ≤ length past → Agree (instant past t) (instant past w) k d → HasOrphan n f (instant past w) k → HasOrphan n f (instant past t) k
-none_agrees n f past k d t w at up within agree has =
-    let made : k < w = omega (arith, det_within (instant past w) k has.is_orphan.det has.is_orphan.delivered, instant_length past w within) in
-    let x = exposed n f (instant past w) k d (det_then past w k made within ∙ at) has in
+-- it has an orphan at the later instant only if it has one at the earlier
+pub none_agrees : (n f : ℕ) (past : List Entry) (k : ℕ) (d : Det) (t w : ℕ) → det_at past k ≡ Some d → t ≤ w → w ≤ length past → SameDeliveryState (instant past t) (instant past w) k d → HasOrphan n f (instant past w) k → HasOrphan n f (instant past t) k
+none_agrees n f past k d t w at up within agree list_has =
+    let made : k < w = omega (arith, det_within (instant past w) k list_has.is_orphan.det list_has.is_orphan.delivered, instant_length past w within) in
+    let x = exposed n f (instant past w) k d (det_then past w k made within ∙ at) list_has in
     let depends = (agree.dependents x.orphan).1 x.depends in
     let before : k < t = omega (arith, reaches_begins (instant past t) k depends.event depends.reached, instant_length past t (omega (arith, up, within))) in
     unexposed n f (instant past t) k d (det_then past t k before (omega (arith, up, within)) ∙ at) (exposed_agrees n f (instant past w) (instant past t) k d (agree_back k d (instant past t) (instant past w) agree) x)
 
 -- ---- which entries are quiet
 
--- an event adds nobody where k reaches an earlier one of its lane
+-- an event adds no dependent if k reaches an earlier event of its lane
 pub known_already : (n : ℕ) (past : List Entry) (e : Entry) (k i p : ℕ) → first_fault n past e ≡ None → actor e ≡ Some p → IsEventOf past i p (lane past p) → Reaches past k i → Depends past k p
 known_already n past (Send from to ssn) k i p legal of present reach = grind (arith, sends_up n past from to ssn legal)
 known_already n past (Deliver to send rsn listed) k i p legal of present reach =

@@ -1,4 +1,4 @@
--- The names that most proofs cite, passed on from one place. Declares nothing.
+-- Re-exports the names that most proofs use; declares nothing.
 pub use Rattle.std.proofs.Common.{ℕ, ◌≡◌, ◌+◌, ◌<◌, ◌≤◌, inl, inr, Bool, true, false, List, [], ◌∷◌, ◌++◌, Option, Some, None, length, refl, sym, subst, arith, min, zero, suc, get_or, ap, ◌∙◌, ◌≢◌, cond, ◌-◌, ◌==◌, drop, take, reverse, length-append, Result, Ok, Err, ◌/◌, Vec, Global, map, vec_len, append_assoc, append-nil, rules}
 pub use Rattle.std.specs.Prelude.{◌⊎◌, Contains, if◌then◌else◌, ◌↔◌, ◌&&◌, ◌||◌, not, nat_le, nat_lt, slice_index, slice_set, OnOk, vec_capacity}
 pub use Rattle.std.specs.Option.{option_map_or, option_map, option_and_then, is_some}
@@ -17,13 +17,13 @@ pub use Rattle.std.proofs.lemmas.List.Sorted.{Contains-permutation, IsNonDecreas
 pub use Rattle.causal_name.specs.declared.Pid.{Pid}
 pub use Rattle.causal_name.specs.declared.Det.{Det}
 pub use Rattle.causal_name.specs.Names.{same_det}
-pub use Rattle.causal_name.specs.Sets.{count_below, IsWithin}
+pub use Rattle.causal_name.specs.Sets.{count_below, IsSubsetBelow}
 pub use Rattle.causal_holders.proofs.Lemmas.MemberCounts.{count_below-within, count_below-le, members_counted, count_below-none}
 pub use Rattle.causal_trace.specs.declared.entry.Entry.{Entry}
 pub use Rattle.causal_trace.specs.declared.entry.Entry.TheVariants.{Send, Deliver, Stable, Crash, Restart, Forget}
-pub use Rattle.causal_trace.specs.Past.{instant, deliveries_in, det_at, is_down, lane, entry_at, is_stable, logs, has, restarts, listed_in, listed_by, is_send_to, is_sent_to, det_of, det_from, message_sent, message_at}
+pub use Rattle.causal_trace.specs.Past.{instant, deliveries_in, det_at, is_down, lane, entry_at, is_stable, logs, list_has, restarts, listed_in, listed_by, is_send_to, is_sent_to, det_of, det_from, message_sent, message_at}
 pub use Rattle.causal_trace.specs.State.{past_at, entries_of}
-pub use Rattle.causal_trace.specs.Rows.{Recording, AreAccepted, first_fault, IsWellFormed}
+pub use Rattle.causal_trace.specs.Rows.{Recording, AreLegalEntries, first_fault, IsWellFormed}
 pub use Rattle.causal_trace.specs.Limits.{max_entries}
 pub use Rattle.causal_trace.specs.Dependence.{actor, IsEventOf, DirectlyPrecedes, in_order, by_message, Reaches, itself, onward, Depends, is_delivery_of, Delivers}
 pub use Rattle.causal_trace.specs.Judgement.{HasOrphan, IsCrashSet, IsOrphan, IsSafe}

@@ -1,8 +1,8 @@
--- An instant is safe exactly where what survivors depend on is held outside each crash set.
+-- An instant is safe exactly if the determinants on which survivors depend are held outside each crash set.
 use Rattle.causal_audit.proofs.Common.{ℕ, zero, suc, ◌≡◌, ◌<◌, inl, inr, Bool, true, false, List, sym, ◌∙◌, ap, arith, ◌⊎◌, false≢true, cases_Bool, cases_lt, Det, Entry, logs, is_stable, HasOrphan, IsSafe}
-use Rattle.causal_audit.specs.Held.{AreHeld, SafeIsHeld}
+use Rattle.causal_audit.specs.HeldOutside.{IsHeldOutsideCrashSets, SafeIffHeld}
 
--- some process below n holds it outside the set, or none does
+-- some process below n outside the set holds it, or none does
 holder_below : (n : ℕ) (past : List Entry) (crash : ℕ → Bool) (d : Det)
     → ((q : ℕ) × (q < n) × (crash q ≡ false) × (logs past q d ≡ true)) ⊎ ((q : ℕ) → q < n → crash q ≡ false → logs past q d ≡ false)
 holder_below zero past crash d = inr (λ q below. absurd (omega (arith, below)))
@@ -23,7 +23,7 @@ holder_below (suc n) past crash d = elim (holder_below n past crash d) [
   ]
 ]
 
-held : (n f : ℕ) (past : List Entry) → IsSafe n f past → AreHeld n f past
+held : (n f : ℕ) (past : List Entry) → IsSafe n f past → IsHeldOutsideCrashSets n f past
 held n f past safe crash k p d may_crash at process survives depends = elim (cases_Bool (is_stable past d)) [
   | inl stable ↦ inl stable
   | inr unstable ↦ elim (holder_below n past crash d) [
@@ -37,7 +37,7 @@ held n f past safe crash k p d may_crash at process survives depends = elim (cas
   ]
 ]
 
-no_orphan : (n f : ℕ) (past : List Entry) → AreHeld n f past → (k : ℕ) → HasOrphan n f past k → ⊥
+no_orphan : (n f : ℕ) (past : List Entry) → IsHeldOutsideCrashSets n f past → (k : ℕ) → HasOrphan n f past k → ⊥
 no_orphan n f past are k has =
     let o = has.is_orphan in
     elim (are has.crash k has.orphan o.det has.may_crash o.delivered o.process o.survives o.depends) [
@@ -45,7 +45,7 @@ no_orphan n f past are k has =
       | inr some ↦ false≢true (sym (o.lost some.0 some.1 some.2) ∙ some.3)
     ]
 
-pub safe_is_held : SafeIsHeld
+pub safe_is_held : SafeIffHeld
 safe_is_held n f past = (
   λ safe. (safe.few_down, held n f past safe),
   λ both. record { few_down = both.0; no_orphan = no_orphan n f past both.1 },

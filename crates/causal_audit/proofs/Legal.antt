@@ -1,24 +1,24 @@
--- What is known of the entries of a well-formed run.
-use Rattle.causal_audit.proofs.Common.{ℕ, ◌≡◌, ◌<◌, inl, inr, true, false, cond, List, [], ◌∷◌, length, Option, Some, None, refl, arith, ◌==◌, option_map_or, false≢true, eqb-true, Pid, Det, Entry, Send, Deliver, Stable, Crash, Restart, Forget, is_down, lane, restarts, listed_in, listed_by, entry_at, is_send_to, is_sent_to, det_of, det_at, first_fault, AreAccepted, actor, is_delivery_of, IsEventOf, Delivers, row_fails}
+-- Facts about the entries of a well-formed run.
+use Rattle.causal_audit.proofs.Common.{ℕ, ◌≡◌, ◌<◌, inl, inr, true, false, cond, List, [], ◌∷◌, length, Option, Some, None, refl, arith, ◌==◌, option_map_or, false≢true, eqb-true, Pid, Det, Entry, Send, Deliver, Stable, Crash, Restart, Forget, is_down, lane, restarts, listed_in, listed_by, entry_at, is_send_to, is_sent_to, det_of, det_at, first_fault, AreLegalEntries, actor, is_delivery_of, IsEventOf, Delivers, row_fails}
 use Rattle.causal_audit.specs.Numbers.{is_delivery}
-use Rattle.causal_trace.specs.Rows.{rows}
+use Rattle.causal_trace.specs.Rows.{refusal_rows}
 use Rattle.causal_trace.specs.declared.fault.TraceFault.TheVariants.{NotUp}
 use Rattle.causal_trace.proofs.Lemmas.EntryFacts.{delivery_sent}
 use Rattle.causal_trace.proofs.Lemmas.WellFormed.{within_limits, limits}
 use Rattle.causal_audit.proofs.Shown.{send_inside, deliver_inside}
 
 module _ (n : ℕ) (past : List Entry) where
-  -- who sends is up
+  -- the sender of a send is up
   pub sends_up : (from to : Pid) (ssn : ℕ) → first_fault n past (Send from to ssn) ≡ None → is_down past from.0 ≡ false
-  unfolding rows
-  sends_up from to ssn legal = row_fails (rows n past (Send from to ssn)) legal 2 (is_down past from.0, NotUp) refl
+  unfolding refusal_rows
+  sends_up from to ssn legal = row_fails (refusal_rows n past (Send from to ssn)) legal 2 (is_down past from.0, NotUp) refl
 
-  -- there are lanes left where a restart may come next
+  -- before a restart there are lanes left
   pub restarts_few : (who : Pid) (listed : List Det) → first_fault n past (Restart who listed) ≡ None → restarts past < 192
-  unfolding rows
+  unfolding refusal_rows
   restarts_few who listed legal = grind arith
 
-  -- the process of an event is one of the run, and up
+  -- the process of an event is a process of the run, and up
   pub actor_inside : (e : Entry) (p : ℕ) → first_fault n past e ≡ None → actor e ≡ Some p → p < n
   actor_inside (Send from to ssn) p legal of = let k : from.0 ≡ p = cc of in omega (arith, k, send_inside n past from to ssn legal)
   actor_inside (Deliver to send rsn listed) p legal of = let k : to.0 ≡ p = cc of in omega (arith, k, deliver_inside n past to send rsn listed legal)
@@ -27,17 +27,17 @@ module _ (n : ℕ) (past : List Entry) where
   actor_inside (Restart who listed) p legal of = absurd (let k : None ≡ Some p = of in cc)
   actor_inside (Forget who listed) p legal of = absurd (let k : None ≡ Some p = of in cc)
 
-  -- there is room for the entry
+  -- the run is below its maximum length before the entry
   pub entry_short : (e : Entry) → first_fault n past e ≡ None → length past < 16777216
   entry_short e legal = omega (arith, (limits (length past) (listed_in past) (length (listed_by e)) (within_limits n past e legal)).0)
 
--- the process of each event is one of the run
-pub event_inside : (n : ℕ) (past : List Entry) → AreAccepted n past → (i p l : ℕ) → IsEventOf past i p l → p < n
+-- the process of each event is a process of the run
+pub event_inside : (n : ℕ) (past : List Entry) → AreLegalEntries n past → (i p l : ℕ) → IsEventOf past i p l → p < n
 event_inside n [] h i p l at = absurd at
 event_inside n (e ∷ past) h i p l (inl at) = event_inside n past h.0 i p l at
 event_inside n (e ∷ past) h i p l (inr at) = actor_inside n past e p h.1 at.1
 
--- where a send is named, there is one
+-- an entry that passes the check for a send to p is a send
 pub sent_is : (p : ℕ) (o : Option Entry) → option_map_or (is_send_to p) o false ≡ true → (sender : Pid) × (to : Pid) × (ssn : ℕ) × (o ≡ Some (Send sender to ssn))
 sent_is p None h = absurd (false≢true h)
 sent_is p (Some (Send from to ssn)) h = (from, to, ssn, refl)
@@ -80,12 +80,12 @@ receiver_event (e ∷ past) j i (inl h) = let found = receiver_event past j i h 
 receiver_event (e ∷ past) j i (inr h) = let found = delivering i e h.1 in (found.0, lane past found.0, inr (h.0, found.1, refl))
 
 -- and its sender
-pub sender_event : (n : ℕ) (past : List Entry) → AreAccepted n past → (j i : ℕ) → Delivers past j i → (p : ℕ) × (l : ℕ) × IsEventOf past i p l
+pub sender_event : (n : ℕ) (past : List Entry) → AreLegalEntries n past → (j i : ℕ) → Delivers past j i → (p : ℕ) × (l : ℕ) × IsEventOf past i p l
 sender_event n [] h j i d = absurd d
 sender_event n (e ∷ past) h j i (inl d) = let found = sender_event n past h.0 j i d in (found.0, found.1, inl found.2)
 sender_event n (e ∷ past) h j i (inr d) = let sent = delivery_sent n past e i h.1 d.1 in let found = sent_event past i sent.0 sent.1 in (found.0, found.1, inl found.2)
 
--- what has a determinant is a delivery, and an event
+-- an entry with a determinant is a delivery, and an event
 pub det_delivers : (past : List Entry) (e : Entry) (d : Det) → det_of past e ≡ Some d → (p : ℕ) × (actor e ≡ Some p) × (is_delivery e ≡ true)
 det_delivers past (Send from to ssn) d h = absurd (let k : None ≡ Some d = h in cc)
 det_delivers past (Deliver to send rsn listed) d h = (to.0, refl, refl)

@@ -1,4 +1,4 @@
--- What crates above may cite of this crate's proofs.
+-- The lemmas that other crates may cite.
 pub mod Beginnings
 pub mod OrphansByCounts
 pub mod NumberLemmas

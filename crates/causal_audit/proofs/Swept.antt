@@ -1,17 +1,17 @@
--- Which deliveries may come to have an orphan by one more entry.
-use Rattle.causal_audit.proofs.Common.{ℕ, zero, suc, ◌≡◌, ◌<◌, inl, inr, true, false, List, [], ◌∷◌, length, Some, None, refl, sym, subst, ◌∙◌, arith, ◌≤◌, Bool, ◌⊎◌, ◌&&◌, ◌||◌, ◌==◌, not, false≢true, cases_Bool, cases_lt, eqb-true, eq-eqb, or_parts, false_from_ne_true, cond-true, cond-false, ne_eqb, eqb_tells, nat_tests, Pid, Det, Entry, Send, Deliver, Stable, Crash, Restart, Forget, is_down, lane, is_stable, logs, has, det_at, det_of, AreAccepted, actor, is_delivery_of, IsEventOf, in_order, by_message, Reaches, itself, onward, Depends, event_below, reaches_old, reaches_newest, ReachesNewest, is_newest, in_lane, through_message, reaches_begins, accepted_forward, count_below, count_below-within, HasOrphan}
+-- The deliveries that one more entry may newly orphan.
+use Rattle.causal_audit.proofs.Common.{ℕ, zero, suc, ◌≡◌, ◌<◌, inl, inr, true, false, List, [], ◌∷◌, length, Some, None, refl, sym, subst, ◌∙◌, arith, ◌≤◌, Bool, ◌⊎◌, ◌&&◌, ◌||◌, ◌==◌, not, false≢true, cases_Bool, cases_lt, eqb-true, eq-eqb, or_parts, false_from_ne_true, cond-true, cond-false, ne_eqb, eqb_tells, nat_tests, Pid, Det, Entry, Send, Deliver, Stable, Crash, Restart, Forget, is_down, lane, is_stable, logs, list_has, det_at, det_of, AreLegalEntries, actor, is_delivery_of, IsEventOf, in_order, by_message, Reaches, itself, onward, Depends, event_below, reaches_old, reaches_newest, ReachesNewest, is_newest, in_lane, through_message, reaches_begins, accepted_forward, count_below, count_below-within, HasOrphan}
 use Rattle.causal_audit.proofs.Between.{reaches_more, IsNoTurn, depends_before}
 use Rattle.causal_audit.proofs.by_clock.Link.{delivers_below}
-use Rattle.causal_audit.specs.Laws.{gone}
-use Rattle.causal_audit.specs.Lasting.{may_release}
-use Rattle.causal_audit.specs.Sweep.{MayNewlyFail, SweepLaw, OneNewOrphan}
+use Rattle.causal_audit.specs.Laws.{down_or_holding}
+use Rattle.causal_audit.specs.NoRelease.{may_release}
+use Rattle.causal_audit.specs.NewOrphans.{MayGetOrphan, NewOrphansLaw, OneNewOrphan}
 use Rattle.causal_audit.proofs.Lemmas.OrphansByCounts.{exposed, unexposed, orphan_without}
-use Rattle.causal_audit.proofs.look.CoverStays.{stable_more, gone_more}
+use Rattle.causal_audit.proofs.safety_scan.CoverStays.{stable_more, gone_more}
 use Rattle.causal_audit.proofs.Legal.{sends_up}
 
--- ==== whether an event reaches another, and whether a process depends on a delivery, is decided
+-- ==== whether an event reaches another, and whether a process depends on a delivery, is decidable
 
--- it holds, or it does not
+-- a proposition that holds or does not
 abbrev Known : Type 0 → Type 0
 Known P = P ⊎ (P → ⊥)
 
@@ -33,7 +33,7 @@ event_known : (past : List Entry) (i p l : ℕ) → Known (IsEventOf past i p l)
 event_known [] i p l = inr (λ at. at)
 event_known (e ∷ past) i p l = grind (arith, event_known past i p l)
 
--- what is no event is reached by nothing
+-- an entry that is not an event is not reached
 no_event_reached : (e : Entry) (past : List Entry) (k i : ℕ) → actor e ≡ None → ((j : ℕ) → is_delivery_of j e ≡ false) → i ≡ length past → Reaches (e ∷ past) k i → ⊥
 no_event_reached e past k i none quiet is (itself q l (inl at)) = omega (arith, event_below past k q l at, is)
 no_event_reached e past k i none quiet is (itself q l (inr at)) = let x : None ≡ Some q = sym none ∙ at.1 in cc
@@ -42,7 +42,7 @@ no_event_reached e past k i none quiet is (onward {j} r (in_order q l h a (inr b
 no_event_reached e past k i none quiet is (onward {j} r (by_message (inl h))) = omega (arith, delivers_below past i j h, is)
 no_event_reached e past k i none quiet is (onward {j} r (by_message (inr h))) = false≢true (sym (quiet j) ∙ h.1)
 
--- some number below a bound has a property that is known of each, or none has it
+-- if a property is decidable for each number below a bound, it is decidable whether some number has it
 some_below : (P : ℕ → Type 0) (n : ℕ) → ((j : ℕ) → j < n → Known (P j)) → Known ((j : ℕ) × (j < n) × P j)
 some_below P zero known = inr (λ some. absurd (omega (arith, some.1)))
 some_below P (suc n) known = elim (either_known (known n (omega arith)) (some_below P n (λ j below. known j (omega (arith, below))))) [
@@ -58,8 +58,9 @@ module _ (n : ℕ) (past : List Entry) (k : ℕ) (before : (j : ℕ) → j < len
   mate_known : (p : ℕ) → Known ((j : ℕ) × (j < length past) × (IsEventOf past j p (lane past p) × Reaches past k j))
   mate_known p = some_below (λ j. IsEventOf past j p (lane past p) × Reaches past k j) (length past) (λ j below. both_known (event_known past j p (lane past p)) (before j below))
 
-  -- the newest entry is an event of p: it is k itself, or one of its lane or the send of its message is reached
-  event_reached : (e : Entry) (i p : ℕ) → AreAccepted n (e ∷ past) → i ≡ length past → actor e ≡ Some p
+  -- whether the newest entry, an event of p, is reached: it is k, or an earlier event of its lane or its message's send
+  -- is reached
+  event_reached : (e : Entry) (i p : ℕ) → AreLegalEntries n (e ∷ past) → i ≡ length past → actor e ≡ Some p
       → Known ((j : ℕ) × (is_delivery_of j e ≡ true) × Reaches past k j) → Known (Reaches (e ∷ past) k i)
   event_reached e i p formed is who sent =
       let here : IsEventOf (e ∷ past) i p (lane past p) = inr (is, who, refl) in
@@ -74,7 +75,7 @@ module _ (n : ℕ) (past : List Entry) (k : ℕ) (before : (j : ℕ) → j < len
         ])
       ]
 
-  newest_known : (e : Entry) (i : ℕ) → AreAccepted n (e ∷ past) → i ≡ length past → Known (Reaches (e ∷ past) k i)
+  newest_known : (e : Entry) (i : ℕ) → AreLegalEntries n (e ∷ past) → i ≡ length past → Known (Reaches (e ∷ past) k i)
   newest_known (Send from to ssn) i formed is = event_reached (Send from to ssn) i from.0 formed is refl (inr (λ by. false≢true by.1))
   newest_known (Deliver to send rsn listed) i formed is =
       let e = Deliver to send rsn listed in
@@ -89,7 +90,7 @@ module _ (n : ℕ) (past : List Entry) (k : ℕ) (before : (j : ℕ) → j < len
   newest_known (Forget who listed) i formed is = inr (no_event_reached (Forget who listed) past k i refl (λ j. refl) is)
 
 -- whether an event reaches another
-pub reach_known : (n : ℕ) (past : List Entry) (k i : ℕ) → AreAccepted n past → i < length past → Known (Reaches past k i)
+pub reach_known : (n : ℕ) (past : List Entry) (k i : ℕ) → AreLegalEntries n past → i < length past → Known (Reaches past k i)
 reach_known n [] k i formed below = absurd (omega (arith, below))
 reach_known n (e ∷ past) k i formed below = elim (cases_lt i (length past)) [
   | inl early ↦ elim (reach_known n past k i formed.0 early) [
@@ -100,7 +101,7 @@ reach_known n (e ∷ past) k i formed below = elim (cases_lt i (length past)) [
 ]
 
 -- whether a process depends on a delivery
-pub depends_known : (n : ℕ) (past : List Entry) (k p : ℕ) → AreAccepted n past → Known (Depends past k p)
+pub depends_known : (n : ℕ) (past : List Entry) (k p : ℕ) → AreLegalEntries n past → Known (Depends past k p)
 depends_known n past k p formed = elim (cases_Bool (is_down past p)) [
   | inl down ↦ inr (λ d. false≢true (sym d.up ∙ down))
   | inr up ↦ elim (mate_known n past k (λ j h. reach_known n past k j formed h) p) [
@@ -109,15 +110,15 @@ depends_known n past k p formed = elim (cases_Bool (is_down past p)) [
   ]
 ]
 
--- ==== which deliveries may come to have an orphan by one more entry
+-- ==== the deliveries that one more entry may newly orphan
 
--- ---- what holds before, from what holds after
+-- ---- facts before the entry, from facts after it
 
 stable_fewer : (e : Entry) (past : List Entry) (d : Det) → is_stable (e ∷ past) d ≡ false → is_stable past d ≡ false
 stable_fewer e past d h = false_from_ne_true (is_stable past d) (λ s. false≢true (sym h ∙ stable_more e past d s))
 
-gone_fewer : (n f : ℕ) (e : Entry) (past : List Entry) (d : Det) → may_release e ≡ false → count_below n (gone (e ∷ past) d) ≤ f → count_below n (gone past d) ≤ f
-gone_fewer n f e past d stays few = omega (arith, few, count_below-within n (gone past d) (gone (e ∷ past) d) (λ p _ h. gone_more e past d p stays h))
+gone_fewer : (n f : ℕ) (e : Entry) (past : List Entry) (d : Det) → may_release e ≡ false → count_below n (down_or_holding (e ∷ past) d) ≤ f → count_below n (down_or_holding past d) ≤ f
+gone_fewer n f e past d departures few = omega (arith, few, count_below-within n (down_or_holding past d) (down_or_holding (e ∷ past) d) (λ p _ h. gone_more e past d p departures h))
 
 module _ (n f : ℕ) (e : Entry) (past : List Entry) (k : ℕ) (d : Det) (at : det_at (e ∷ past) k ≡ Some d) where
   det_before : k < length past → det_at past k ≡ Some d
@@ -126,47 +127,47 @@ module _ (n f : ℕ) (e : Entry) (past : List Entry) (k : ℕ) (d : Det) (at : d
   det_newest : k ≡ length past → det_of past e ≡ Some d
   det_newest is = sym (cond-true (k == length past) (det_of past e) (det_at past k) (eq-eqb k (length past) is)) ∙ at
 
-  -- an orphan that depended before
-  pub orphan_before : (p : ℕ) → p < n → Depends past k p → is_stable past d ≡ false → count_below n (gone past d) ≤ f → logs past p d ≡ false → HasOrphan n f past k
+  -- an orphan that depended on the delivery before the entry
+  pub orphan_before : (p : ℕ) → p < n → Depends past k p → is_stable past d ≡ false → count_below n (down_or_holding past d) ≤ f → logs past p d ≡ false → HasOrphan n f past k
   orphan_before p low depends unstable few without = grind (arith, unexposed, det_before (reaches_begins past k depends.event depends.reached))
 
 -- ---- a send
 
--- a send that a delivery reaches is of a process that depended on it before
-pub sent_before : (n : ℕ) (past : List Entry) (k : ℕ) (d : Det) (from to : Pid) (ssn p : ℕ) → AreAccepted n (Send from to ssn ∷ past) → (k ≡ length past → det_at (Send from to ssn ∷ past) k ≡ Some d)
+-- the process of a send that a delivery reaches depended on the delivery before
+pub sent_before : (n : ℕ) (past : List Entry) (k : ℕ) (d : Det) (from to : Pid) (ssn p : ℕ) → AreLegalEntries n (Send from to ssn ∷ past) → (k ≡ length past → det_at (Send from to ssn ∷ past) k ≡ Some d)
     → actor (Send from to ssn) ≡ Some p → ReachesNewest (Send from to ssn) past k p → Depends past k p
 sent_before n past k d from to ssn p formed at who (is_newest is) = absurd (let e : None ≡ Some d = det_newest n 0 (Send from to ssn) past k d (at is) is in cc)
 sent_before n past k d from to ssn p formed at who (through_message j is reach) = absurd (false≢true is)
 sent_before n past k d from to ssn p formed at who (in_lane j event reach) = grind (arith, sends_up n past from to ssn formed.1)
 
-pub sent : (n f : ℕ) (past : List Entry) (k : ℕ) (d : Det) (from to : Pid) (ssn : ℕ) → AreAccepted n (Send from to ssn ∷ past) → det_at (Send from to ssn ∷ past) k ≡ Some d
+pub sent : (n f : ℕ) (past : List Entry) (k : ℕ) (d : Det) (from to : Pid) (ssn : ℕ) → AreLegalEntries n (Send from to ssn ∷ past) → det_at (Send from to ssn ∷ past) k ≡ Some d
     → HasOrphan n f (Send from to ssn ∷ past) k → HasOrphan n f past k
-sent n f past k d from to ssn formed at has =
+sent n f past k d from to ssn formed at list_has =
     let e = Send from to ssn in
-    let x = exposed n f (e ∷ past) k d at has in
+    let x = exposed n f (e ∷ past) k d at list_has in
     let was : Depends past k x.orphan = elim (depends_before n e past k x.orphan formed (refl, refl) x.depends) [
       | inl old ↦ old
       | inr new ↦ sent_before n past k d from to ssn x.orphan formed (λ _. at) new.0 (reaches_newest e past k x.orphan (length past) (accepted_forward n (e ∷ past) formed) refl new.0 new.1)
     ] in
     orphan_before n f e past k d at x.orphan x.process was x.unstable x.few x.without
 
--- ---- an entry of which no process is the actor
+-- ---- an entry without an acting process
 
-pub no_actor : (n : ℕ) (e : Entry) (past : List Entry) (k p : ℕ) → AreAccepted n (e ∷ past) → actor e ≡ None → IsNoTurn e past p → Depends (e ∷ past) k p → Depends past k p
+pub no_actor : (n : ℕ) (e : Entry) (past : List Entry) (k p : ℕ) → AreLegalEntries n (e ∷ past) → actor e ≡ None → IsNoTurn e past p → Depends (e ∷ past) k p → Depends past k p
 no_actor n e past k p formed none same depends = elim (depends_before n e past k p formed same depends) [ inl old ↦ old | inr new ↦ absurd (let x : None ≡ Some p = sym none ∙ new.0 in cc) ]
 
-pub stored : (n f : ℕ) (past : List Entry) (k : ℕ) (d det : Det) → AreAccepted n (Stable det ∷ past) → det_at (Stable det ∷ past) k ≡ Some d
+pub stored : (n f : ℕ) (past : List Entry) (k : ℕ) (d det : Det) → AreLegalEntries n (Stable det ∷ past) → det_at (Stable det ∷ past) k ≡ Some d
     → HasOrphan n f (Stable det ∷ past) k → HasOrphan n f past k
-stored n f past k d det formed at has = grind (arith, exposed, orphan_before, no_actor, stable_fewer)
+stored n f past k d det formed at list_has = grind (arith, exposed, orphan_before, no_actor, stable_fewer)
 
 held_by_other : (w b : Bool) → w ≡ false → (not w && b) ≡ false → b ≡ false
 held_by_other w b h k = grind (arith, nat_tests)
 
-pub crashed : (n f : ℕ) (past : List Entry) (k : ℕ) (d : Det) (who : Pid) → AreAccepted n (Crash who ∷ past) → det_at (Crash who ∷ past) k ≡ Some d
+pub crashed : (n f : ℕ) (past : List Entry) (k : ℕ) (d : Det) (who : Pid) → AreLegalEntries n (Crash who ∷ past) → det_at (Crash who ∷ past) k ≡ Some d
     → HasOrphan n f (Crash who ∷ past) k → HasOrphan n f past k
-crashed n f past k d who formed at has = grind (arith, exposed, orphan_before, no_actor, gone_fewer, held_by_other)
+crashed n f past k d who formed at list_has = grind (arith, exposed, orphan_before, no_actor, gone_fewer, held_by_other)
 
--- ---- a forgetting that does not list it
+-- ---- a forgetting that does not list the determinant
 
 unforgotten : (a w h b : Bool) → h ≡ false → (a || b) ≡ true → (a || (not (w && h) && b)) ≡ true
 unforgotten a w h b miss k = grind (arith, nat_tests)
@@ -174,28 +175,28 @@ unforgotten a w h b miss k = grind (arith, nat_tests)
 not_held : (w h b : Bool) → h ≡ false → (not (w && h) && b) ≡ false → b ≡ false
 not_held w h b miss k = grind (arith, nat_tests)
 
-pub forgotten : (n f : ℕ) (past : List Entry) (k : ℕ) (d : Det) (who : Pid) (listed : List Det) → AreAccepted n (Forget who listed ∷ past) → det_at (Forget who listed ∷ past) k ≡ Some d
-    → has listed d ≡ false → HasOrphan n f (Forget who listed ∷ past) k → HasOrphan n f past k
+pub forgotten : (n f : ℕ) (past : List Entry) (k : ℕ) (d : Det) (who : Pid) (listed : List Det) → AreLegalEntries n (Forget who listed ∷ past) → det_at (Forget who listed ∷ past) k ≡ Some d
+    → list_has listed d ≡ false → HasOrphan n f (Forget who listed ∷ past) k → HasOrphan n f past k
 forgotten n f past k d who listed formed at miss orphaned = grind (arith, exposed, orphan_before, no_actor, count_below-within, unforgotten, not_held)
 
--- ---- a restart that lists it
+-- ---- a restart that lists the determinant
 
 relisted : (w a h b : Bool) → h ≡ true → (a || b) ≡ true → ((not w && a) || ((w && h) || b)) ≡ true
 relisted w a h b hit k = grind (arith, nat_tests)
 
-pub restarted : (n f : ℕ) (past : List Entry) (k : ℕ) (d : Det) (who : Pid) (listed : List Det) → AreAccepted n (Restart who listed ∷ past) → det_at (Restart who listed ∷ past) k ≡ Some d
-    → has listed d ≡ true → HasOrphan n f (Restart who listed ∷ past) k → HasOrphan n f past k
+pub restarted : (n f : ℕ) (past : List Entry) (k : ℕ) (d : Det) (who : Pid) (listed : List Det) → AreLegalEntries n (Restart who listed ∷ past) → det_at (Restart who listed ∷ past) k ≡ Some d
+    → list_has listed d ≡ true → HasOrphan n f (Restart who listed ∷ past) k → HasOrphan n f past k
 restarted n f past k d who listed formed at hit orphaned = grind (arith, exposed, orphan_before, no_actor, count_below-within, relisted)
 
--- ---- a delivery: it has an orphan before, or the receiver newly depends on it
+-- ---- a delivery: it had an orphan before, or the receiver newly depends on it
 
-pub delivered : (n f : ℕ) (past : List Entry) (k : ℕ) (d : Det) (to : Pid) (send rsn : ℕ) (listed : List Det) → AreAccepted n (Deliver to send rsn listed ∷ past) → det_at (Deliver to send rsn listed ∷ past) k ≡ Some d
-    → (p : ℕ) → p < n → Depends (Deliver to send rsn listed ∷ past) k p → is_stable past d ≡ false → count_below n (gone (Deliver to send rsn listed ∷ past) d) ≤ f → logs (Deliver to send rsn listed ∷ past) p d ≡ false
+pub delivered : (n f : ℕ) (past : List Entry) (k : ℕ) (d : Det) (to : Pid) (send rsn : ℕ) (listed : List Det) → AreLegalEntries n (Deliver to send rsn listed ∷ past) → det_at (Deliver to send rsn listed ∷ past) k ≡ Some d
+    → (p : ℕ) → p < n → Depends (Deliver to send rsn listed ∷ past) k p → is_stable past d ≡ false → count_below n (down_or_holding (Deliver to send rsn listed ∷ past) d) ≤ f → logs (Deliver to send rsn listed ∷ past) p d ≡ false
     → HasOrphan n f past k ⊎ ((p ≡ to.0) × Reaches (Deliver to send rsn listed ∷ past) k (length past) × (Depends past k to.0 → HasOrphan n f past k))
 delivered n f past k d to send rsn listed formed at p low depends unstable few without =
     let e = Deliver to send rsn listed in
     let fewer = gone_fewer n f e past d refl few in
-    let lacked = (or_parts (to.0 == p && has listed d) (logs past p d) without).1 in
+    let lacked = (or_parts (to.0 == p && list_has listed d) (logs past p d) without).1 in
     elim (depends_before n e past k p formed (refl, refl) depends) [
       | inl old ↦ inl (orphan_before n f e past k d at p low old unstable fewer lacked)
       | inr new ↦
@@ -203,9 +204,9 @@ delivered n f past k d to send rsn listed formed at p low depends unstable few w
           inr (same, new.1, λ was. orphan_before n f e past k d at p low (subst (Depends past k) (sym same) was) unstable fewer lacked)
     ]
 
-receives : (n f : ℕ) (past : List Entry) (k : ℕ) (d : Det) (to : Pid) (send rsn : ℕ) (listed : List Det) → AreAccepted n (Deliver to send rsn listed ∷ past) → det_at (Deliver to send rsn listed ∷ past) k ≡ Some d
+receives : (n f : ℕ) (past : List Entry) (k : ℕ) (d : Det) (to : Pid) (send rsn : ℕ) (listed : List Det) → AreLegalEntries n (Deliver to send rsn listed ∷ past) → det_at (Deliver to send rsn listed ∷ past) k ≡ Some d
     → HasOrphan n f (Deliver to send rsn listed ∷ past) k
-    → HasOrphan n f past k ⊎ MayNewlyFail past (Deliver to send rsn listed) k d
+    → HasOrphan n f past k ⊎ MayGetOrphan past (Deliver to send rsn listed) k d
 receives n f past k d to send rsn listed formed at orphaned =
     let x = exposed n f (Deliver to send rsn listed ∷ past) k d at orphaned in
     elim (delivered n f past k d to send rsn listed formed at x.orphan x.process x.depends x.unstable x.few x.without) [
@@ -215,8 +216,8 @@ receives n f past k d to send rsn listed formed at orphaned =
 
 -- ---- the laws
 
--- after one more entry a delivery has an orphan only if it had one before, or may newly have one
-pub sweep_law : SweepLaw
+-- after one more entry a delivery has an orphan only if it had one before, or the entry may newly orphan it
+pub sweep_law : NewOrphansLaw
 sweep_law n f (Send from to ssn) past k d formed at orphaned = inl (sent n f past k d from to ssn formed at orphaned)
 sweep_law n f (Deliver to send rsn listed) past k d formed at orphaned = receives n f past k d to send rsn listed formed at orphaned
 sweep_law n f (Stable det) past k d formed at orphaned = inl (stored n f past k d det formed at orphaned)
@@ -224,12 +225,12 @@ sweep_law n f (Crash who) past k d formed at orphaned = inl (crashed n f past k 
 sweep_law n f (Restart who listed) past k d formed at orphaned = grind (arith, restarted)
 sweep_law n f (Forget who listed) past k d formed at orphaned = grind (arith, forgotten)
 
--- what comes to have one by a delivery has only the receiver as its orphan
+-- if a delivery entry newly orphans it, the receiver is the only orphan
 pub one_new_orphan : OneNewOrphan
 one_new_orphan n f past k d to send rsn listed p formed at orphaned never orphan =
     let e = Deliver to send rsn listed in
     let x = exposed n f (e ∷ past) k d at orphaned in
-    let o = orphan_without n f (e ∷ past) k d at (gone (e ∷ past) d) p orphan in
+    let o = orphan_without n f (e ∷ past) k d at (down_or_holding (e ∷ past) d) p orphan in
     elim (delivered n f past k d to send rsn listed formed at p orphan.process orphan.depends x.unstable x.few o.1) [
       | inl old ↦ absurd (never old)
       | inr new ↦ new.0

@@ -1,11 +1,11 @@
--- The verdict, from the first excess and the least breach.
+-- The verdict from the first excess and the earliest breach.
 use Rattle.causal_audit.proofs.Common.{ℕ, ◌+◌, ◌<◌, ◌≤◌, length, None, refl, arith, count_below, instant, is_down, deliveries_in, Recording, HasOrphan, IsSafe}
 use Rattle.causal_audit.specs.declared.breach.Breach.{Breach}
 use Rattle.causal_audit.specs.declared.breach.Excess.{Excess}
 use Rattle.causal_audit.specs.declared.verdict.Verdict.TheVariants.{Accept, Exceeded, Orphan}
 use Rattle.causal_audit.specs.Numbers.{IsNumbered}
 use Rattle.causal_audit.specs.Verdicts.{IsVerdict}
-use Rattle.causal_audit.specs.Breaches.{LeastBreach, LeastBreachBy, IsLeastBreach, FirstExcess, IsFirstExcess}
+use Rattle.causal_audit.specs.Breaches.{EarliestBreach, EarliestBreachBy, IsEarliestBreach, FirstExcess, IsFirstExcess}
 use Rattle.causal_audit.proofs.Lemmas.NumberLemmas.{has_number}
 use Rattle.causal_audit.proofs.DeliveryNumbers.{numbered_later, numbered_below}
 
@@ -14,7 +14,7 @@ module _ (r : Recording) (f : ℕ) where
   abbrev pub NoOrphanBefore : ℕ → Type 0
   NoOrphanBefore t = (u : ℕ) → u < t → u ≤ length r.past → (k : ℕ) → HasOrphan r.processes f (instant r.past u) k → ⊥
 
-  -- at most f are down before the instant t
+  -- at most f processes are down before the instant t
   abbrev pub FewBefore : ℕ → Type 0
   FewBefore t = (u : ℕ) → u < t → u ≤ length r.past → count_below r.processes (is_down (instant r.past u)) ≤ f
 
@@ -24,22 +24,22 @@ module _ (r : Recording) (f : ℕ) where
       let now : IsNumbered r.past then.0 k = numbered_later r.past t then.0 k within then.2 in
       (then.0, numbered_below r.past then.0 k now, now)
 
-  no_orphan_ever : LeastBreach r f 0 (deliveries_in r.past) None → (t : ℕ) → NoOrphanBefore t
+  no_orphan_ever : EarliestBreach r f 0 (deliveries_in r.past) None → (t : ℕ) → NoOrphanBefore t
   no_orphan_ever none t u early within k has =
       let n = number_of u k within has in
       none n.0 k u (omega arith) n.1 n.2 within has
 
-  -- where no delivery has an orphan by an instant, none has one before the next
-  pub no_orphan_by : (end : ℕ) → LeastBreachBy r f end 0 (deliveries_in r.past) None → (t : ℕ) → t ≤ end + 1 → NoOrphanBefore t
+  -- if no delivery has an orphan by an instant, none has one before the next
+  pub no_orphan_by : (end : ℕ) → EarliestBreachBy r f end 0 (deliveries_in r.past) None → (t : ℕ) → t ≤ end + 1 → NoOrphanBefore t
   no_orphan_by end none t low u early within k has =
       let n = number_of u k within has in
       none n.0 k u (omega arith) n.1 n.2 (omega (arith, early, low)) has
 
-  -- nor before the instant of the least breach
-  pub no_orphan_before : (b : Breach) → IsLeastBreach r f 0 (deliveries_in r.past) b → (t : ℕ) → t ≤ b.instant → NoOrphanBefore t
+  -- nor before the instant of the earliest breach
+  pub no_orphan_before : (b : Breach) → IsEarliestBreach r f 0 (deliveries_in r.past) b → (t : ℕ) → t ≤ b.instant → NoOrphanBefore t
   no_orphan_before b least t low u early within k has = grind (arith, number_of u k within has, early, low)
 
-  -- where there is no excess, at most f are down at each instant
+  -- without an excess, at most f processes are down at each instant
   pub few_ever : FirstExcess r f None → (t : ℕ) → FewBefore t
   few_ever none t u early within = none u within
 
@@ -50,11 +50,11 @@ module _ (r : Recording) (f : ℕ) where
   safe_before : (t u : ℕ) → NoOrphanBefore t → FewBefore t → u < t → u ≤ length r.past → IsSafe r.processes f (instant r.past u)
   safe_before t u orphans few early within = record { few_down = few u early within; no_orphan = orphans u early within }
 
-  -- with no breach and no excess the verdict accepts
-  pub accepted : LeastBreach r f 0 (deliveries_in r.past) None → FirstExcess r f None → IsVerdict r f Accept
+  -- without a breach and an excess the verdict accepts
+  pub accepted : EarliestBreach r f 0 (deliveries_in r.past) None → FirstExcess r f None → IsVerdict r f Accept
   accepted none few = λ t within. safe_before (t + 1) t (no_orphan_ever none (t + 1)) (few_ever few (t + 1)) (omega arith) within
 
-  -- the first excess is the verdict, where no orphan comes before it
+  -- the first excess is the verdict if no orphan comes before it
   pub exceeded : (x : Excess) → IsFirstExcess r f x → NoOrphanBefore x.instant → IsVerdict r f (Exceeded x.instant x.down)
   exceeded x first orphans = (
     record {
@@ -65,8 +65,8 @@ module _ (r : Recording) (f : ℕ) where
     first.excess,
   )
 
-  -- the least breach is, where no excess comes by its instant
-  pub orphaned : (b : Breach) → IsLeastBreach r f 0 (deliveries_in r.past) b → FewBefore (b.instant + 1) → IsVerdict r f (Orphan b.instant b.delivery b.crash b.orphan)
+  -- the earliest breach is the verdict if no excess comes by its instant
+  pub orphaned : (b : Breach) → IsEarliestBreach r f 0 (deliveries_in r.past) b → FewBefore (b.instant + 1) → IsVerdict r f (Orphan b.instant b.delivery b.crash b.orphan)
   orphaned b least few =
       let here = least.first.least in
       let within = least.first.within in (

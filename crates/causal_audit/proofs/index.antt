@@ -1,5 +1,6 @@
 pub mod Cursors
 pub mod Filings
+mod MentionedDeliveries
 mod Numbered
 mod PackedSpans
 pub mod Reachable

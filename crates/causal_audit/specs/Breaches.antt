@@ -1,4 +1,4 @@
--- The first instant at which a delivery has an orphan, and the first at which too many processes are down.
+-- The earliest breach of deliveries, the first excess, and the verdict that they decide.
 use Rattle.std.specs.Prelude.{◌≡◌, ℕ, ◌<◌, ◌≤◌, length, Option, Some, None, MatchOption}
 use Rattle.causal_trace.specs.Past.{instant, is_down, deliveries_in}
 use Rattle.causal_trace.specs.Rows.{Recording}
@@ -10,34 +10,34 @@ use Rattle.causal_audit.specs.declared.breach.Breach.{Breach}
 use Rattle.causal_audit.specs.declared.breach.Excess.{Excess}
 use Rattle.causal_audit.specs.declared.verdict.Verdict.{Verdict}
 
--- the delivery at position k first has an orphan so
+-- b describes the first instant at which the delivery at position k has an orphan
 pub record IsFirstBreach (r : Recording) (f k : ℕ) (b : Breach) : Type 0 where
   pub within : b.instant ≤ length r.past
   pub delivery : b.delivery ≡ k
   pub before : (t : ℕ) → t < b.instant → HasOrphan r.processes f (instant r.past t) k → ⊥
   pub least : IsLeastOrphan r.processes f (instant r.past b.instant) k b.crash b.orphan
 
--- the first breach of the delivery at position k; None where it has an orphan at no instant
+-- the first breach of the delivery at position k; None if it has an orphan at no instant
 abbrev pub FirstBreach : Recording → ℕ → ℕ → Option Breach → Type 0
 FirstBreach r f k found = MatchOption found
     ((t : ℕ) → t ≤ length r.past → HasOrphan r.processes f (instant r.past t) k → ⊥)
     (IsFirstBreach r f k)
 
--- the first instant with more than f processes down, and these
+-- x is the first instant with more than f processes down, with these processes
 pub record IsFirstExcess (r : Recording) (f : ℕ) (x : Excess) : Type 0 where
   pub within : x.instant ≤ length r.past
   pub before : (t : ℕ) → t < x.instant → count_below r.processes (is_down (instant r.past t)) ≤ f
   pub excess : IsExcess r.processes f (instant r.past x.instant) x.down
 
--- the first excess; None where at each instant at most f processes are down
+-- the first excess; None if at most f processes are down at each instant
 abbrev pub FirstExcess : Recording → ℕ → Option Excess → Type 0
 FirstExcess r f found = MatchOption found
     ((t : ℕ) → t ≤ length r.past → count_below r.processes (is_down (instant r.past t)) ≤ f)
     (IsFirstExcess r f)
 
--- of the deliveries numbered from `from` and below `to`, the one that first has an orphan has it so: no other has one
--- earlier, nor at that instant at a lower position
-pub record IsLeastBreach (r : Recording) (f from to : ℕ) (b : Breach) : Type 0 where
+-- b is the earliest breach of the deliveries numbered from `from` to below `to`: no other has an orphan earlier, nor at
+-- that instant at a lower position
+pub record IsEarliestBreach (r : Recording) (f from to : ℕ) (b : Breach) : Type 0 where
   pub number : ℕ
   pub least_from : from ≤ number
   pub below_to : number < to
@@ -45,33 +45,33 @@ pub record IsLeastBreach (r : Recording) (f from to : ℕ) (b : Breach) : Type 0
   pub first : IsFirstBreach r f b.delivery b
   pub least : (i k t : ℕ) → from ≤ i → i < to → IsNumbered r.past i k → t ≤ length r.past → HasOrphan r.processes f (instant r.past t) k → (b.instant ≤ t) × (b.instant ≡ t → b.delivery ≤ k)
 
--- the least breach of these deliveries by instant, then by position; None where none of them has one
-abbrev pub LeastBreach : Recording → ℕ → ℕ → ℕ → Option Breach → Type 0
-LeastBreach r f from to found = MatchOption found
+-- the earliest breach of these deliveries by instant, then by position; None if none of them has an orphan
+abbrev pub EarliestBreach : Recording → ℕ → ℕ → ℕ → Option Breach → Type 0
+EarliestBreach r f from to found = MatchOption found
     ((i k t : ℕ) → from ≤ i → i < to → IsNumbered r.past i k → t ≤ length r.past → HasOrphan r.processes f (instant r.past t) k → ⊥)
-    (IsLeastBreach r f from to)
+    (IsEarliestBreach r f from to)
 
--- the last instant that can decide, of a run of so many entries: that of the first excess, or the last of all
-abbrev pub deciding : ℕ → Option Excess → ℕ
-deciding entries None = entries
-deciding entries (Some x) = x.instant
+-- the last instant that can decide in a run of this many entries: that of the first excess, or the last one
+abbrev pub last_deciding_instant : ℕ → Option Excess → ℕ
+last_deciding_instant entries None = entries
+last_deciding_instant entries (Some x) = x.instant
 
--- of the deliveries numbered from `from` and below `to`, the least breach by instant, then by position, if it comes by the
--- instant `end`; None where none of them has an orphan by then
-abbrev pub LeastBreachBy : Recording → ℕ → ℕ → ℕ → ℕ → Option Breach → Type 0
-LeastBreachBy r f end from to found = MatchOption found
+-- the earliest breach of the deliveries numbered from `from` to below `to`, if it comes by the instant `end`; None if
+-- none of them has an orphan by then
+abbrev pub EarliestBreachBy : Recording → ℕ → ℕ → ℕ → ℕ → Option Breach → Type 0
+EarliestBreachBy r f end from to found = MatchOption found
     ((i k t : ℕ) → from ≤ i → i < to → IsNumbered r.past i k → t ≤ end → HasOrphan r.processes f (instant r.past t) k → ⊥)
-    (λ b. (b.instant ≤ end) × IsLeastBreach r f from to b)
+    (λ b. (b.instant ≤ end) × IsEarliestBreach r f from to b)
 
--- the least breach by the instant `end` is that which decides, in a run with this first excess
+-- the earliest breach up to the instant `end` is that up to the last instant that can decide, given the first excess
 abbrev pub IsHorizon : Recording → ℕ → Option Excess → ℕ → Type 0
 IsHorizon r f excess end =
-    (found : Option Breach) → LeastBreachBy r f end 0 (deliveries_in r.past) found
-    → LeastBreachBy r f (deciding (length r.past) excess) 0 (deliveries_in r.past) found
+    (found : Option Breach) → EarliestBreachBy r f end 0 (deliveries_in r.past) found
+    → EarliestBreachBy r f (last_deciding_instant (length r.past) excess) 0 (deliveries_in r.past) found
 
--- the verdict is that of every run whose first excess is this one, and whose least breach is the other, as far as the last
--- instant that can decide
-abbrev pub Decides : Option Excess → Option Breach → Verdict → Type 0
-Decides excess breach verdict =
+-- the verdict is that of every run with this first excess and, up to the last instant that can decide, this earliest
+-- breach
+abbrev pub IsDecidedVerdict : Option Excess → Option Breach → Verdict → Type 0
+IsDecidedVerdict excess breach verdict =
     (r : Recording) (f : ℕ) → FirstExcess r f excess
-    → LeastBreachBy r f (deciding (length r.past) excess) 0 (deliveries_in r.past) breach → IsVerdict r f verdict
+    → EarliestBreachBy r f (last_deciding_instant (length r.past) excess) 0 (deliveries_in r.past) breach → IsVerdict r f verdict

@@ -1,8 +1,9 @@
--- What models and private functions keep; no public clause cites it.
+-- Invariants of private types and contracts of private functions; no public clause cites them.
 pub mod Among
+pub mod PositionLists
 pub mod ByClock
 pub mod Common
 pub mod Group
 pub mod Index
-pub mod Look
+pub mod SafetyScan
 pub mod DeliveryStates

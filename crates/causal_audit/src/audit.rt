@@ -2,48 +2,53 @@
 ghost use Rattle.std.specs.Prelude.{◌≤◌, IfOk, length};
 ghost use Rattle.causal_trace.specs.Limits.{max_entries};
 ghost use Rattle.causal_trace.specs.Past.{deliveries_in};
-ghost use Rattle.causal_audit.specs.Breaches.{FirstExcess, IsHorizon, LeastBreachBy};
+ghost use Rattle.causal_audit.specs.Breaches.{FirstExcess, IsHorizon, EarliestBreachBy};
 ghost use Rattle.causal_audit.specs.Verdicts.{IsVerdict};
 
 use crate::breach::{Breach, Excess};
-use crate::excess::{deciding_in, first_excess_in};
-use crate::index::mentions::mentioned;
-use crate::judging::decided;
-use crate::prepared::Prepared;
+use crate::clock_audit::decide_verdict;
+use crate::excess::{first_excess_in, last_deciding_instant};
+use crate::index::mentions::mentioned_dets;
+use crate::prepared_run::PreparedRun;
 use crate::verdict::Verdict;
 use causal_name::NoMemory;
 use causal_trace::entry::Entry;
 use causal_trace::trace::Trace;
 use std::alloc::Global;
 
-/// At most so many entries are looked at before the others.
+/// The maximum number of entries that `horizon_of` audits first.
 const FIRST_ENTRIES: usize = 4_096;
 
-/// At most so many determinants are listed by them.
+/// The maximum number of determinants that these entries list.
 const FIRST_LISTED: usize = 16_384;
 
-/// The least breach of a run for f by the instant `end`, by instant and then by position; None where no delivery has an orphan by
-/// then.
+/// Returns the earliest breach of a run for f up to the instant `end`: by instant, then by position. `None` if no
+/// delivery has an orphan by then.
 ///
 /// # Errors
-/// `NoMemory` where memory was refused.
-pub fn least_by(alloc: Global, trace: &Trace, f: u16, end: u32) -> Result<Option<Breach>, NoMemory>
+/// `NoMemory` if allocation fails.
+pub fn earliest_breach(
+    alloc: Global,
+    trace: &Trace,
+    f: u16,
+    end: u32,
+) -> Result<Option<Breach>, NoMemory>
     requires { end ≤ length trace.now.recording.past }
     ensures { IfOk result
-        (LeastBreachBy trace.now.recording f end 0 (deliveries_in trace.now.recording.past)) }
+        (EarliestBreachBy trace.now.recording f end 0 (deliveries_in trace.now.recording.past)) }
 {
-    let prepared = Prepared::of(alloc, trace, f, end)?;
-    prepared.least(alloc, trace)
+    let prepared = PreparedRun::of(alloc, trace, f, end)?;
+    prepared.earliest_breach(alloc, trace)
 }
 
-/// How many of the first entries are looked at before the others, up to the instant `end`.
-fn beginning(entries: &[Entry], end: u32) -> u32
+/// Returns how many of the first entries, up to the instant `end`, are audited first.
+fn early_part_len(entries: &[Entry], end: u32) -> u32
     requires { length entries.now ≤ max_entries }
     ensures { result ≤ end }
 {
     let mut listed: usize = 0;
     for (i, entry) in entries.iter().enumerate() {
-        listed = listed.saturating_add(mentioned(entry).len());
+        listed = listed.saturating_add(mentioned_dets(entry).len());
         if i >= FIRST_ENTRIES || listed > FIRST_LISTED {
             return end.min(i as u32);
         }
@@ -51,13 +56,14 @@ fn beginning(entries: &[Entry], end: u32) -> u32
     end
 }
 
-/// An instant by which the least breach for f is that which decides, in a run with this first excess: the last that can decide, or
-/// that of the least breach, if it comes among the first 4,096 entries, and before they list more than 16,384 determinants. So a
-/// run that fails early is not prepared beyond that.
+/// Returns an instant such that the earliest breach up to it decides the verdict, given the run's first excess. It is
+/// the last instant that can decide, or the instant of an early breach. A breach is early if it comes among the first
+/// 4,096 entries, before these list more than 16,384 determinants. So a run that fails early is prepared only up to its
+/// breach.
 ///
 /// # Errors
-/// `NoMemory` where memory was refused.
-pub fn horizon_in(
+/// `NoMemory` if allocation fails.
+pub fn horizon_of(
     alloc: Global,
     trace: &Trace,
     f: u16,
@@ -67,25 +73,25 @@ pub fn horizon_in(
     ensures within { IfOk result (λ end. end ≤ length trace.now.recording.past) }
     ensures decides { IfOk result (IsHorizon trace.now.recording f excess.now) }
 {
-    let end = deciding_in(trace, excess);
-    let first = beginning(trace.entries(), end);
-    let early = least_by(alloc, trace, f, first)?;
+    let end = last_deciding_instant(trace, excess);
+    let first = early_part_len(trace.entries(), end);
+    let early = earliest_breach(alloc, trace, f, first)?;
     match early {
         Some(breach) => Ok(breach.instant),
         None => Ok(end),
     }
 }
 
-/// The verdict on a trace for f. It is safe at every instant, or the first instant that is not decides, and at one instant the
-/// first delivery with an orphan.
+/// Returns the verdict on a trace for f: every instant is safe, or the first unsafe instant decides. At that instant
+/// the first delivery with an orphan decides.
 ///
 /// # Errors
-/// `NoMemory` where memory was refused.
+/// `NoMemory` if allocation fails.
 pub fn verdict_of(alloc: Global, trace: &Trace, f: u16) -> Result<Verdict, NoMemory>
     ensures { IfOk result (IsVerdict trace.now.recording f) }
 {
     let excess = first_excess_in(trace, f);
-    let end = horizon_in(alloc, trace, f, &excess)?;
-    let least = least_by(alloc, trace, f, end)?;
-    Ok(decided(excess, least))
+    let end = horizon_of(alloc, trace, f, &excess)?;
+    let least = earliest_breach(alloc, trace, f, end)?;
+    Ok(decide_verdict(excess, least))
 }

@@ -1,36 +1,38 @@
-//! How a recorded run fails: a delivery that has an orphan, or too many processes down.
+//! The two ways in which a recorded run fails: a delivery has an orphan, or too many processes are down.
 ghost use Rattle.std.specs.Prelude.{◌≡◌};
-ghost use Rattle.causal_audit.specs.Earlier.{earlier};
-ghost use Rattle.causal_audit.specs.Inside.Among.{horizon};
+ghost use Rattle.causal_audit.specs.BreachOrder.{earlier_breach};
+ghost use Rattle.causal_audit.specs.Inside.Among.{last_relevant_instant};
 
 use causal_holders::Holders;
 
-/// How a delivery first has an orphan. Instants count entries: instant t is the state after the first t of them.
+/// The first instant at which a delivery has an orphan, with a crash set and an orphan. Instants count entries: instant
+/// t is the state after the first t entries.
 #[derive(Clone, Copy, Debug, PartialEq, Eq)]
 pub struct Breach {
     /// The first instant at which the delivery has an orphan.
     pub instant: u32,
     /// The position of the delivery's entry.
     pub delivery: u32,
-    /// The crash set that is contained in each that gives the delivery an orphan at that instant.
+    /// The smallest crash set that gives the delivery an orphan at that instant: every other such set contains it.
     pub crash: Holders,
     /// The least process that is an orphan under this crash set.
     pub orphan: u8,
 }
 
-/// How more than f processes are first down together.
+/// The first instant at which more than f processes are down, with these processes.
 #[derive(Clone, Copy, Debug, PartialEq, Eq)]
 pub struct Excess {
     /// The first instant with more than f processes down.
     pub instant: u32,
-    /// The processes that are down then.
+    /// The processes that are down at that instant.
     pub down: Holders,
 }
 
 impl Breach {
-    ghost use Rattle.causal_audit.specs.Earlier.{comes_before};
+    ghost use Rattle.causal_audit.specs.BreachOrder.{comes_before};
 
-    /// Whether it comes before another: at an earlier instant, or at the same one for an earlier delivery.
+    /// Returns whether this breach precedes another: at an earlier instant, or at the same instant with a lower
+    /// position.
     pub fn comes_before(&self, other: &Breach) -> bool
         ensures { result ≡ comes_before self.now other.now }
     {
@@ -39,9 +41,9 @@ impl Breach {
     }
 }
 
-/// The one of two answers that comes first; where only one has a breach, that one.
-pub fn earlier(one: Option<Breach>, other: Option<Breach>) -> Option<Breach>
-    ensures { result ≡ earlier one other }
+/// Returns the earlier of two optional breaches. If only one is present, returns it.
+pub fn earlier_breach(one: Option<Breach>, other: Option<Breach>) -> Option<Breach>
+    ensures { result ≡ earlier_breach one other }
 {
     match (one, other) {
         (Some(a), Some(b)) => { if b.comes_before(&a) { Some(b) } else { Some(a) } }
@@ -50,9 +52,9 @@ pub fn earlier(one: Option<Breach>, other: Option<Breach>) -> Option<Breach>
     }
 }
 
-/// The last instant at which a breach can still come first: that of the least breach so far, or `end`.
-pub(crate) fn horizon(end: u32, least: &Option<Breach>) -> u32
-    ensures { result ≡ horizon end least.now }
+/// Returns the last instant at which an earlier breach is still possible: that of the earliest breach so far, or `end`.
+pub(crate) fn last_relevant_instant(end: u32, least: &Option<Breach>) -> u32
+    ensures { result ≡ last_relevant_instant end least.now }
 {
     match least {
         Some(breach) => breach.instant,

@@ -1,6 +1,6 @@
-//! One delivery is followed from change to change, by vector clocks.
+//! Finds the first orphan of one delivery, from change to change, by vector clocks.
 
-/// The events of a clock that stand for the entries.
+/// The clock of a run, with one event for each entry.
 pub mod events;
 /// The first instant at which a delivery has an orphan.
 pub mod orphans;

@@ -1,16 +1,16 @@
-//! What is known of one delivery at an instant, and what one more entry makes of it. Where the delivery has an orphan is
-//! told by counting: no crash set is tried.
+//! The state of one delivery at an instant, and how one more entry changes it. An orphan is found by counting: no crash
+//! set is enumerated.
 ghost use Rattle.std.specs.Prelude.{◌≡◌};
 ghost use Rattle.std.specs.FinSet as set;
-ghost use Rattle.causal_audit.specs.Inside.DeliveryStates.{ExposesLeast, TellsBreachAt, IsStateAfter, IsStateBegun, ShowsDependentsAfter, ShowsDownAfter, ShowsStableAfter};
+ghost use Rattle.causal_audit.specs.Inside.DeliveryStates.{FindsLeastOrphan, IsBreachForState, IsStateAfter, IsInitialState, ShowsDependentsAfter, ShowsDownAfter, ShowsStableAfter};
 
 use crate::breach::Breach;
-use crate::holding::holders_after;
+use crate::holders::holders_after;
 use causal_holders::Holders;
 use causal_trace::entry::Entry;
 
-/// What is known of one delivery at an instant: who is down, who holds its determinant, whether that is stable, and who
-/// depends on the delivery.
+/// The state of one delivery at an instant: the down processes, the holders of its determinant, whether that is stable,
+/// and the processes that depend on the delivery.
 #[derive(Clone, Copy)]
 pub struct DeliveryState {
     pub down: Holders,
@@ -21,32 +21,34 @@ pub struct DeliveryState {
 
 /// A crash set, and an orphan under it.
 #[derive(Clone, Copy)]
-pub struct Exposed {
+pub struct CrashSetAndOrphan {
     pub crash: Holders,
     pub orphan: u8,
 }
 
-pub fn with(mut members: Holders, p: u8) -> Holders
+/// Returns the set with one more member.
+pub fn with_member(mut members: Holders, p: u8) -> Holders
     ensures { result ≡ set.insert members p }
 {
     members.insert(p);
     members
 }
 
-pub fn without(mut members: Holders, p: u8) -> Holders
+/// Returns the set without one member.
+pub fn without_member(mut members: Holders, p: u8) -> Holders
     ensures { result ≡ set.remove members p }
 {
     members.remove(p);
     members
 }
 
-/// Who is down after one more entry.
+/// Returns the processes that are down after one more entry.
 pub fn down_after(down: Holders, entry: &Entry) -> Holders
     ensures { ShowsDownAfter entry.now down result }
 {
     match entry {
-        Entry::Crash { who } => with(down, who.0),
-        Entry::Restart { who, .. } => without(down, who.0),
+        Entry::Crash { who } => with_member(down, who.0),
+        Entry::Restart { who, .. } => without_member(down, who.0),
         Entry::Send { .. } => down,
         Entry::Deliver { .. } => down,
         Entry::Stable { .. } => down,
@@ -54,7 +56,7 @@ pub fn down_after(down: Holders, entry: &Entry) -> Holders
     }
 }
 
-/// Whether a determinant is stable after one more entry, which mentions it or does not.
+/// Returns whether a determinant is stable after one more entry. `mentioned`: the entry mentions it.
 pub fn stable_after(stable: bool, entry: &Entry, mentioned: bool) -> bool
     ensures { ShowsStableAfter entry.now mentioned stable result }
 {
@@ -64,37 +66,38 @@ pub fn stable_after(stable: bool, entry: &Entry, mentioned: bool) -> bool
     }
 }
 
-/// Who depends on the delivery after one more entry, which it reaches or not. An event brings its process in where it is
-/// reached; a crash and a restart take theirs out.
+/// Returns the processes that depend on the delivery after one more entry. `reached`: the delivery reaches the entry.
+/// An event that is reached adds its process; a crash or restart removes its process.
 fn dependents_after(dependents: Holders, entry: &Entry, reached: bool) -> Holders
     ensures { ShowsDependentsAfter entry.now reached dependents result }
 {
     match entry {
         Entry::Send { from, .. } => {
             if reached {
-                with(dependents, from.0)
+                with_member(dependents, from.0)
             } else {
                 dependents
             }
         }
         Entry::Deliver { to, .. } => {
             if reached {
-                with(dependents, to.0)
+                with_member(dependents, to.0)
             } else {
                 dependents
             }
         }
-        Entry::Crash { who } => without(dependents, who.0),
-        Entry::Restart { who, .. } => without(dependents, who.0),
+        Entry::Crash { who } => without_member(dependents, who.0),
+        Entry::Restart { who, .. } => without_member(dependents, who.0),
         Entry::Stable { .. } => dependents,
         Entry::Forget { .. } => dependents,
     }
 }
 
 impl DeliveryState {
-    /// Where nothing is known of the delivery yet but who is down.
+    /// Returns the state of a delivery before anything depends on it or holds its determinant. `down` are the down
+    /// processes.
     pub fn begin(down: Holders) -> DeliveryState
-        ensures { IsStateBegun down result }
+        ensures { IsInitialState down result }
     {
         DeliveryState {
             down,
@@ -104,8 +107,9 @@ impl DeliveryState {
         }
     }
 
-    /// Takes in one more entry, which mentions the determinant or not, and which the delivery reaches or not.
-    pub fn see(&mut self, entry: &Entry, mentioned: bool, reached: bool)
+    /// Updates the state by one more entry. `mentioned`: the entry mentions the determinant. `reached`: the delivery
+    /// reaches the entry.
+    pub fn apply_entry(&mut self, entry: &Entry, mentioned: bool, reached: bool)
         ensures { IsStateAfter entry.now mentioned reached self.old self.new }
     {
         *self = DeliveryState {
@@ -116,11 +120,11 @@ impl DeliveryState {
         };
     }
 
-    /// The crash set that is contained in each that gives the delivery an orphan, and the least orphan under it. There is
-    /// an orphan where the determinant is not stable, the down processes and the holders together are at most f, and some
-    /// dependent is no holder; no crash set is tried.
-    pub fn exposed(self, f: u16) -> Option<Exposed>
-        ensures { ExposesLeast f self result }
+    /// Returns the smallest crash set that gives the delivery an orphan, and the least orphan under it. There is an
+    /// orphan exactly if the determinant is not stable, at most f processes are down or hold it, and some dependent
+    /// does not hold it. No crash set is enumerated.
+    pub fn find_orphan(self, f: u16) -> Option<CrashSetAndOrphan>
+        ensures { FindsLeastOrphan f self result }
     {
         if self.stable {
             return None;
@@ -132,18 +136,19 @@ impl DeliveryState {
         if crash.len() > u32::from(f) {
             return None;
         }
-        Some(Exposed { crash, orphan })
+        Some(CrashSetAndOrphan { crash, orphan })
     }
 }
 
-/// How the delivery at position k has an orphan at the instant t; None where it has none. It has none before it is made.
+/// Returns the breach of the delivery at position k at the instant t; `None` if it has no orphan then, as before it
+/// happens.
 pub fn breach_at(state: &DeliveryState, f: u16, k: u32, t: u32) -> Option<Breach>
-    ensures { TellsBreachAt f k t state.now result }
+    ensures { IsBreachForState f k t state.now result }
 {
     if t <= k {
         return None;
     }
-    let found = state.exposed(f)?;
+    let found = state.find_orphan(f)?;
     Some(Breach {
         instant: t,
         delivery: k,

@@ -1,13 +1,13 @@
-//! The first instant with too many processes down, and the last that can decide: the trace alone tells them.
+//! The first instant with too many processes down, and the last that can decide. Both are computed from the trace only.
 ghost use Rattle.std.specs.Prelude.{◌≡◌, ◌≤◌, ℕ, length};
-ghost use Rattle.causal_audit.specs.Breaches.{FirstExcess, deciding};
+ghost use Rattle.causal_audit.specs.Breaches.{FirstExcess, last_deciding_instant};
 
 use crate::breach::Excess;
 use crate::delivery_state::down_after;
 use causal_holders::Holders;
 use causal_trace::trace::Trace;
 
-/// The first instant of a trace with more than f processes down, with these processes; None where there is none.
+/// Returns the first instant of a trace with more than f processes down, with these processes; `None` if there is none.
 pub fn first_excess_in(trace: &Trace, f: u16) -> Option<Excess>
     ensures { FirstExcess trace.now.recording f result }
 {
@@ -25,9 +25,9 @@ pub fn first_excess_in(trace: &Trace, f: u16) -> Option<Excess>
     None
 }
 
-/// The last instant of a trace that can decide: that of the first excess, or the last of the run.
-pub fn deciding_in(trace: &Trace, excess: &Option<Excess>) -> u32
-    ensures value { result ≡ deciding (length trace.now.recording.past) excess.now }
+/// Returns the last instant of a trace that can decide: that of the first excess, or the last of the run.
+pub fn last_deciding_instant(trace: &Trace, excess: &Option<Excess>) -> u32
+    ensures value { result ≡ last_deciding_instant (length trace.now.recording.past) excess.now }
     ensures within { (f : ℕ) → FirstExcess trace.now.recording f excess.now →
         result ≤ length trace.now.recording.past }
 {

@@ -1,28 +1,29 @@
-//! The deliveries of a group are followed by one walk over the entries.
+//! Finds the earliest breach of a group of deliveries by one walk over the entries. A delivery's place is its index in
+//! the group.
 
-/// The memory of a walk over the entries for a group of deliveries, which is made once for all groups.
+/// The buffers of a walk, allocated once for all groups.
 pub mod buffers;
-/// Where the copies of the determinants of a group are, by their places: in whose logs, and whether in stable storage.
+/// Where each determinant of a group has copies: in which logs, and whether in stable storage.
 pub mod copies;
-/// Whose determinants each process is known to hold, of the deliveries of a group, by their places.
-pub mod held;
-/// Which delivery of a group has an orphan at one instant.
-pub mod judged;
-/// Which entries of a walk mention the determinants of the deliveries of a group.
+/// For each process, the determinants of a group that it is known to hold.
+pub mod held_places;
+/// The check whether a delivery of a group has an orphan at one instant.
+pub mod orphan_check;
+/// Which entries of a walk mention the determinants of a group.
 pub mod marks;
-/// In which order deliveries are followed: those that are open until the same instant side by side.
-pub mod ordered;
-/// Where the deliveries of a group stand.
-pub mod own;
-/// On which of a few deliveries the processes depend, and which of them reach the sends.
+/// The order in which deliveries are followed: by the instant at which they close.
+pub mod walk_order;
+/// The positions of the deliveries of a group.
+pub mod group_positions;
+/// For each process the deliveries on which it depends, and for each send those that reach it.
 pub mod reach;
-/// The sets of the entries of a walk, of which many are empty and many alike.
+/// The sets of the entries of a walk. Many are empty and many are equal.
 pub mod rows;
-/// What is read of a recorded run, up to an instant, to follow deliveries, and which of them are followed.
-pub mod run_to_follow;
-/// Which deliveries of a group may newly have an orphan by an entry.
+/// What a walk reads of a recorded run up to an instant, and the deliveries that it follows.
+pub mod walk_input;
+/// Which deliveries of a group an entry may newly orphan.
 pub mod suspects;
-/// The least breach of the deliveries of a group, by one walk over the entries.
+/// The earliest breach of a group of deliveries, by one walk over the entries.
 pub mod walk;
 
 use causal_holders::ByteSet;

@@ -1,26 +1,26 @@
-//! What is read of a run before anything is followed.
+//! Indexes of a run, built before any delivery is followed.
 
 /// The crashes of each process, and its restarts.
 pub mod by_process;
-/// A walk over a list of positions.
+/// A cursor over a list of positions.
 pub mod cursor;
-/// Lists of positions by numbers.
+/// Numbered lists of positions.
 pub mod lists;
-/// Which entries mention each determinant.
+/// The positions at which each determinant is mentioned.
 pub mod mentions;
 /// Lists of positions in one vector.
-pub mod packed;
-/// What tells who is down at an instant.
-pub mod outline;
+pub mod packed_lists;
+/// The trace with its crashes and restarts, which give the down processes at an instant.
+pub mod indexed_trace;
 /// The positions of the deliveries.
 pub mod positions;
-/// Which processes the events of each reach.
-pub mod reached;
-/// What is kept of a run beside its trace.
+/// The processes that the events of each process reach.
+pub mod reachability;
+/// The index of a run.
 pub mod run_index;
-/// From which position on no process is released.
+/// The position from which no process is released.
 pub mod releases;
-/// How long each entry stays with its process.
-pub mod spreads;
+/// When the effect of each entry first leaves its process.
+pub mod departures;
 /// The crashes and restarts, in order.
-pub mod crashes_and_restarts;
+pub mod transitions;

@@ -1,76 +1,77 @@
-//! Laws over the judgement of recorded runs. Each function does nothing: its contract is the law.
-ghost use Rattle.causal_audit.specs.Held.{SafeIsHeld};
-ghost use Rattle.causal_audit.specs.Lasting.{OrphansEnd};
+//! Laws about the audit of recorded runs. Each function does nothing: its contract is the law.
+ghost use Rattle.causal_audit.specs.HeldOutside.{SafeIffHeld};
+ghost use Rattle.causal_audit.specs.NoRelease.{OrphansEnd};
 ghost use Rattle.causal_audit.specs.Quiet.{InstantsAgree, OrphansAgree};
-ghost use Rattle.causal_audit.specs.Spread.{StaysAlone, CoveredHasNone, CrashedHasNone};
-ghost use Rattle.causal_audit.specs.Sweep.{SweepLaw, OneNewOrphan};
-ghost use Rattle.causal_audit.specs.Laws.{OrphansAreCounted, CrashSetsContain, GoneIsCrashSet, NoOrphansCondition, VerdictsAreOne, BeginningsDecide};
+ghost use Rattle.causal_audit.specs.Covered.{LocalHasNoOtherDependents, CoveredHasNoOrphan, CrashedHasNoDependents};
+ghost use Rattle.causal_audit.specs.NewOrphans.{NewOrphansLaw, OneNewOrphan};
+ghost use Rattle.causal_audit.specs.Laws.{OrphansByCounting, CrashSetsContain, DownOrHoldingIsCrashSet, NoOrphansCondition, VerdictIsUnique, PrefixBreachIsFinal};
 
-/// What safety means for those who survive: an instant is safe exactly where at most f processes are down, and for each
-/// crash set and each delivery on which a process outside it depends, the determinant is in stable storage or in the log
-/// of a process outside. (Safety itself is defined by the absence of orphans.)
-pub fn safe_is_held()
-    ensures { SafeIsHeld }
+/// States safety by who holds the determinants. An instant is safe exactly if at most f processes are down and the
+/// following holds. For each crash set and each delivery on which a process outside it depends, the determinant is in
+/// stable storage or in the log of a process outside it. (Safety itself is defined by the absence of orphans.)
+pub fn safe_iff_held()
+    ensures { SafeIffHeld }
 {}
 
-/// No crash set need be tried. A delivery has an orphan under some crash set exactly where its determinant is not
-/// stable, the down processes and its holders together are at most f, and some dependent is no holder; those processes
-/// are then the crash set that is contained in each that gives an orphan, and its orphans are the dependents that are no
-/// holders. (Orphans are those of Elnozahy, Alvisi, Wang and Johnson 2002; the bound f is this project's.)
-pub fn orphans_are_counted()
-    ensures counted { OrphansAreCounted }
+/// States that orphans can be found by counting, without enumerating crash sets. A delivery has an orphan under some
+/// crash set exactly if three conditions hold. Its determinant is not stable, at most f processes are down or hold it,
+/// and some dependent does not hold it. These processes are then the smallest crash set that gives an orphan, and its
+/// orphans are the dependents that do not hold the determinant. (Orphans are those of Elnozahy, Alvisi, Wang and
+/// Johnson 2002; the bound f is this project's.)
+pub fn orphans_by_counting()
+    ensures counted { OrphansByCounting }
     ensures contained { CrashSetsContain }
-    ensures least { GoneIsCrashSet }
+    ensures least { DownOrHoldingIsCrashSet }
 {}
 
-/// For f not below the number of processes an instant is safe exactly where the always-no-orphans condition of
-/// Elnozahy, Alvisi, Wang and Johnson (2002) holds over the processes that are up: of each delivery the determinant is
-/// stable, or every process that depends on it has it in its log.
+/// States safety for f at least the number of processes. An instant is then safe exactly if the always-no-orphans
+/// condition of Elnozahy, Alvisi, Wang and Johnson (2002) holds over the processes that are up. That is, the
+/// determinant of each delivery is stable, or every process that depends on the delivery has it in its log.
 pub fn no_orphans_condition()
     ensures { NoOrphansCondition }
 {}
 
-/// A recorded run has one verdict for f: the first instant that is not safe, the delivery, the crash set and the orphan
-/// are determined.
+/// States that a recorded run has exactly one verdict for f: the first unsafe instant, the delivery, the crash set and
+/// the orphan are unique.
 #[tactic(auto, using(crate::proofs::Lemmas::OneVerdict::one_verdict))]
-pub fn verdicts_are_one()
-    ensures { VerdictsAreOne }
+pub fn verdict_is_unique()
+    ensures { VerdictIsUnique }
 {}
 
-/// A verdict that does not accept what a run begins with is the verdict of the run, however it goes on.
+/// States that a verdict on a prefix of a run, if it does not accept, is the verdict on the whole run.
 #[tactic(auto, using(crate::proofs::Lemmas::Beginnings::beginnings_decide))]
-pub fn beginnings_decide()
-    ensures { BeginningsDecide }
+pub fn prefix_breach_is_final()
+    ensures { PrefixBreachIsFinal }
 {}
 
-/// A delivery has no orphan any more once its determinant is stable, nor once more than f processes are down or hold it,
-/// where no later entry restarts a process or forgets.
+/// States when a delivery has no orphan from an instant on. Its determinant is stable, or more than f processes are
+/// down or hold it and no later entry restarts a process or forgets.
 pub fn orphans_end()
     ensures { OrphansEnd }
 {}
 
-/// Between two changes the instants agree: where no entry between them crashes or restarts a process, mentions the
-/// delivery's determinant or brings in a dependent, the same is known of the delivery at both, and once it is made, it
-/// has an orphan at both or at neither.
+/// States that the instants between two changes agree. It requires that no entry in between crashes or restarts a
+/// process, mentions the delivery's determinant, or adds a dependent. Then the state of the delivery is the same at
+/// both instants, and after the delivery it has an orphan at both or at neither.
 pub fn instants_agree()
     ensures agree { InstantsAgree }
     ensures orphans { OrphansAgree }
 {}
 
-/// One more entry gives an orphan only to few deliveries that had none: those on which the receiver of a delivery newly
-/// depends, and it is then their only orphan; those whose determinant a restart does not list; those whose determinant a
-/// forgetting lists.
-pub fn sweep_law()
-    ensures newly { SweepLaw }
+/// States which deliveries one more entry may newly orphan. A delivery entry: those on which its receiver newly
+/// depends, and the receiver is then their only orphan. A restart: those whose determinants it does not list. A
+/// forgetting: those whose determinants it lists.
+pub fn new_orphans_law()
+    ensures newly { NewOrphansLaw }
     ensures receiver { OneNewOrphan }
 {}
 
-/// A delivery that has not left its receiver, since nothing that the receiver's lane sent from then on is delivered yet,
-/// has no dependent but its receiver. It has no orphan where the receiver is down or holds its determinant, nor where
-/// more than f processes are down or hold it: so a delivery can come to fail only after both have ended. Nor has it one once
-/// its receiver has crashed, even if that is up again: nobody depends on it any more.
-pub fn covered_deliveries()
-    ensures alone { StaysAlone }
-    ensures covered { CoveredHasNone }
-    ensures crashed { CrashedHasNone }
+/// States when a delivery that has not left its receiver has no orphan. It has not left until a message that the
+/// receiver's lane sends from then on is delivered; until then only the receiver depends on it. It has no orphan while
+/// the receiver is down or holds its determinant, or more than f processes are down or hold it. Nor has it one after
+/// its receiver crashes, even if that is up again: no process depends on it then.
+pub fn covered_deliveries_are_safe()
+    ensures only_receiver { LocalHasNoOtherDependents }
+    ensures covered { CoveredHasNoOrphan }
+    ensures crashed { CrashedHasNoDependents }
 {}

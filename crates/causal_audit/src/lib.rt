@@ -1,50 +1,50 @@
 //! The audit of recorded runs: is each delivery's determinant safe from f crashes at every instant?
 //!
-//! [`verdict_of`] gives the verdict on a trace for f. A caller that divides the work among threads takes its steps alone:
-//! [`first_excess_in`] tells when too many processes are first down, and [`horizon_in`] beyond which instant nothing decides.
-//! [`Prepared::of`] tells which deliveries have to be followed up to there, and [`Part::least`] follows a part of them.
-//! [`decided`] makes the verdict of what they found. [`Tables`] and [`judge`] give the same verdict by vector clocks, and
-//! [`laws`] states what the judgement rests on.
+//! [`verdict_of`] returns the verdict on a trace for f. A caller that divides the work among threads calls the steps:
+//! [`first_excess_in`] returns the first instant with too many processes down, and [`horizon_of`] an instant beyond
+//! which nothing decides. [`PreparedRun::of`] finds the deliveries that must be followed up to there, [`Part::earliest_breach`]
+//! follows a part of them, and [`decide_verdict`] combines the results into the verdict. [`Tables`] and [`check_step`] return the
+//! same verdict by vector clocks, and [`laws`] states the facts behind the audit.
 #![tactic(auto)]
 
-// The verdict.
+// Public interface.
 
 /// The audit on the calling thread.
 pub mod audit;
-/// How a run fails.
+/// The breaches and excesses of a run.
 pub mod breach;
-/// When too many processes are first down.
+/// The first instant with too many processes down.
 pub mod excess;
-/// The verdict by tables.
-pub mod judging;
-/// What the judgement rests on.
+/// The verdict by vector clocks.
+pub mod clock_audit;
+/// The laws behind the audit.
 pub mod laws;
-/// A run that is prepared, and parts of its deliveries.
-pub mod prepared;
+/// A run prepared for its audit, and parts of its deliveries.
+pub mod prepared_run;
 /// A run with its vector clocks.
 pub mod tables;
-/// A verdict.
+/// The verdict on a run.
 pub mod verdict;
 
-// How they are told.
+// Implementation.
 
-/// One delivery is followed from change to change.
+/// The first orphan of one delivery, by vector clocks.
 mod by_clock;
 /// The walk over the entries for a group of deliveries.
 mod group;
-/// Who holds a determinant after one more entry.
-mod holding;
-/// What is read of a run before anything is followed.
+/// The holders of a determinant after one more entry.
+mod holders;
+/// Indexes of a run, built before any delivery is followed.
 mod index;
-/// A look at a determinant: until when a delivery with it may be uncovered.
-mod look;
-/// What is known of one delivery at an instant.
+/// The scan of one determinant, and the deliveries that may have an orphan.
+mod safety_scan;
+/// The state of one delivery at an instant.
 mod delivery_state;
 
-pub use audit::{horizon_in, least_by, verdict_of};
-pub use breach::{Breach, Excess, earlier};
-pub use excess::{deciding_in, first_excess_in};
-pub use judging::{decided, first_breach, first_excess, judge};
-pub use prepared::{Part, Prepared};
+pub use audit::{earliest_breach, horizon_of, verdict_of};
+pub use breach::{Breach, Excess, earlier_breach};
+pub use clock_audit::{decide_verdict, first_breach, first_excess, judge};
+pub use excess::{first_excess_in, last_deciding_instant};
+pub use prepared_run::{Part, PreparedRun};
 pub use tables::Tables;
 pub use verdict::Verdict;

@@ -1,4 +1,4 @@
-//! What is kept of a recorded run to judge it.
+//! The tables of a recorded run, for the audit by vector clocks.
 ghost use Rattle.std.specs.Prelude.{◌≡◌, ◌≤◌, ◌<◌, IfOk, length, Some};
 ghost use Rattle.causal_trace.specs.Limits.{max_entries};
 ghost use Rattle.causal_trace.specs.Past.{deliveries_in, det_at};
@@ -17,8 +17,8 @@ use causal_trace::trace::Trace;
 use std::alloc::Global;
 use std::marker::Model;
 
-/// What is kept of a recorded run to judge it: a copy of its trace, the positions of its deliveries, a clock of its
-/// entries, and what mentions each determinant. It is seen as the recording.
+/// The tables of a recorded run: a copy of its trace, the positions of its deliveries, a clock of its entries, and the
+/// mentions of each determinant. The model is the recording.
 #[derive(Drop)]
 pub struct Tables {
     trace: Trace,
@@ -29,7 +29,7 @@ pub struct Tables {
 
 impl Model for Tables {
     ghost use Rattle.causal_trace.specs.Rows.{Recording};
-    ghost use Rattle.causal_audit.specs.Inside.ByClock.Stored.{AreTables};
+    ghost use Rattle.causal_audit.specs.Inside.ByClock.TablesOfRun.{AreTables};
 
     ghost Value = { Recording };
 
@@ -39,10 +39,10 @@ impl Model for Tables {
 }
 
 impl Tables {
-    /// The tables of a trace.
+    /// Returns the tables of a trace. Takes O(entries · lanes + listed determinants) time.
     ///
     /// # Errors
-    /// `NoMemory` where memory was refused.
+    /// `NoMemory` if allocation fails.
     pub fn of(alloc: Global, trace: &Trace) -> Result<Tables, NoMemory>
         ensures { IfOk result (λ tables. tables ≡ trace.now.recording) }
     {
@@ -59,7 +59,7 @@ impl Tables {
         })
     }
 
-    /// How many entries the run has, up to 16,777,216. A recorded run is well formed.
+    /// Returns the number of entries, up to 16,777,216. A recorded run is well-formed.
     pub fn entries(&self) -> u32
         ensures length { result ≡ length self.now.past }
         ensures formed { IsWellFormed self.now }
@@ -68,7 +68,7 @@ impl Tables {
         self.trace.len()
     }
 
-    /// How many deliveries the run has; they are numbered from 0 in their order.
+    /// Returns the number of deliveries. They are numbered from 0 in their order.
     #[tactic(auto, using(crate::proofs::DeliveryNumbers::deliveries_few))]
     pub fn deliveries(&self) -> u32
         ensures value { result ≡ deliveries_in self.now.past }
@@ -77,7 +77,7 @@ impl Tables {
         self.positions.len() as u32
     }
 
-    /// The position of the delivery of number i, which is below the number of deliveries.
+    /// Returns the position of delivery number i, which must be below the number of deliveries.
     pub fn position(&self, i: u32) -> u32
         requires { i < deliveries_in self.now.past }
         ensures { IsNumbered self.now.past i result }
@@ -85,14 +85,14 @@ impl Tables {
         self.positions[i as usize]
     }
 
-    /// The trace that they are of.
+    /// Returns the trace of these tables.
     pub(crate) fn trace(&self) -> &Trace
         ensures { result.now.recording ≡ self.now }
     {
         &self.trace
     }
 
-    /// The determinant of the delivery at a position; None where there is no delivery.
+    /// Returns the determinant of the delivery at a position; `None` if there is no delivery.
     pub(crate) fn det_at(&self, k: u32) -> Option<Det>
         ensures value { result ≡ det_at self.now.past k }
         ensures formed { IsWellFormed self.now }
@@ -100,7 +100,8 @@ impl Tables {
         self.trace.det_at(k)
     }
 
-    /// How the delivery at position k, whose determinant this is, first has an orphan, if it has one by the instant `end`.
+    /// Returns the first breach of the delivery at position k with this determinant, if it comes by the instant `end`;
+    /// `None` otherwise.
     pub(crate) fn first_orphan(&self, f: u16, end: u32, k: u32, det: Det) -> Option<Breach>
         requires delivery { det_at self.now.past k ≡ Some det }
         requires within { end ≤ length self.now.past }

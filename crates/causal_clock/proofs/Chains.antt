@@ -1,4 +1,4 @@
--- What one more event does to the chains.
+-- How one more event changes which events reach which.
 use Rattle.std.specs.Prelude.{◌≡◌, ◌≢◌, ℕ, ◌+◌, ◌<◌, ◌≤◌, max, ◌⊎◌, ◌==◌, if◌then◌else◌, Option, Some, List, [], ◌∷◌, ◌++◌, length}
 use Rattle.std.proofs.Common.{refl, arith, ap, sym, ◌∙◌, subst, inl, inr, get_or, length-append}
 use Rattle.std.proofs.Math.ListN.{get_or-append}
@@ -8,14 +8,14 @@ use Rattle.std.proofs.lemmas.List.Sums.{sum_by-append}
 use Rattle.causal_clock.specs.declared.Event.{Event}
 use Rattle.causal_clock.specs.Timeline.{lane_of, send_of, lane_length, place_of}
 use Rattle.causal_clock.specs.Precedence.{DirectlyPrecedes, Reaches, itself, onward, FirstReach}
-use Rattle.causal_clock.specs.Inside.Kept.{LastOf}
+use Rattle.causal_clock.specs.Inside.EventCounts.{LastOf}
 
 -- ---- a list with one more event
 
 old_event : (es : List Event) (e : Event) (i : ℕ) (d : Event) → i < length es → get_or (es ++ e ∷ []) i d ≡ get_or es i d
 old_event es e i d h = get_or-append es (e ∷ []) d i h
 
--- an event before the newest keeps its lane
+-- the lane of an older event is unchanged
 pub lane_of-old : (es : List Event) (e : Event) (i : ℕ) → i < length es → lane_of (es ++ e ∷ []) i ≡ lane_of es i
 lane_of-old es e i h = ap (λ (x : Event). x.lane) (old_event es e i _ h)
 
@@ -34,12 +34,12 @@ length-more es e = length-append es (e ∷ [])
 
 -- ---- chains
 
--- an event reaches no event before it, and only one that is there
+-- an event reaches only existing events, and none before it
 pub reaches_forward : {es : List Event} {i j : ℕ} → Reaches es i j → (i ≤ j) × (j < length es)
 reaches_forward (itself h) = (omega arith, h)
 reaches_forward (onward c d) = let before = reaches_forward c in (omega (arith, d.earlier), d.within)
 
--- what reaches an event reaches all that this one reaches
+-- reachability is transitive
 pub reaches_through : {es : List Event} {i j k : ℕ} → Reaches es i j → Reaches es j k → Reaches es i k
 reaches_through c (itself h) = c
 reaches_through c (onward b d) = onward (reaches_through c b) d
@@ -50,41 +50,41 @@ precedes_old es e i j d = grind (arith, length-more, lane_of-old, send_of-old)
 pub precedes_back : (es : List Event) (e : Event) (i j : ℕ) → j < length es → DirectlyPrecedes (es ++ e ∷ []) i j → DirectlyPrecedes es i j
 precedes_back es e i j h d = grind (arith, lane_of-old, send_of-old)
 
--- one more event leaves what reaches what
+-- one more event keeps each chain
 pub reaches_old : {es : List Event} (e : Event) {i j : ℕ} → Reaches es i j → Reaches (es ++ e ∷ []) i j
 reaches_old {es} e (itself h) = itself (omega (arith, length-more es e))
 reaches_old {es} e (onward {j = j} {k = k} c d) = onward (reaches_old e c) (precedes_old es e j k d)
 
--- what reaches an older event did so before the newest came
+-- what reaches an older event reached it before the newest event was added
 pub reaches_back : (es : List Event) (e : Event) {i j : ℕ} → j < length es → Reaches (es ++ e ∷ []) i j → Reaches es i j
 reaches_back es e below (itself h) = itself below
 reaches_back es e below (onward {j = j} {k = k} c d) =
     onward (reaches_back es e (omega (arith, d.earlier)) c) (precedes_back es e j k below d)
 
--- a chain to the new event is that event alone, or a chain to one that directly precedes it
+-- a chain to the newest event is that event alone, or a chain to one that directly precedes it
 pub reaches_new : (es : List Event) (e : Event) {i k : ℕ} → k ≡ length es → Reaches (es ++ e ∷ []) i k → (i ≡ k) ⊎ ((j : ℕ) × Reaches es i j × ((lane_of es j ≡ e.lane) ⊎ (e.send ≡ Some j)))
 reaches_new es e is (itself h) = inl refl
 reaches_new es e is (onward {j = j} {k = k} c d) = grind (arith, reaches_back, lane_of-old, lane_of-new, send_of-new)
 
 -- ---- places
 
--- one more event makes its own lane longer by one, and no other
+-- one more event makes its lane longer by one, and no other lane
 pub lane_length-more : (es : List Event) (e : Event) (lane : ℕ) → lane_length (es ++ e ∷ []) lane ≡ lane_length es lane + (if e.lane == lane then 1 else 0)
 lane_length-more es e lane = sum_by-append _ es (e ∷ []) ∙ omega arith
 
--- an event before the newest keeps its place in its lane
+-- the place of an older event in its lane is unchanged
 pub place_of-old : (es : List Event) (e : Event) (i : ℕ) → i < length es → place_of (es ++ e ∷ []) i ≡ place_of es i
 place_of-old es e i h = grind (arith, take-append-le, lane_of-old)
 
--- the newest event's place is how many events its lane had
+-- the newest event's place is the number of events that its lane had
 pub place_of-new : (es : List Event) (e : Event) (i : ℕ) → i ≡ length es → place_of (es ++ e ∷ []) i ≡ lane_length es e.lane
 place_of-new es e i is = ap (place_of (es ++ e ∷ [])) is ∙ (λ k. lane_length (take-append_seam es (e ∷ []) k) (lane_of-new es e k))
 
--- at the newest position stands the newest event's lane
+-- the lane at the newest index is the newest event's
 pub lane_of-at_new : (es : List Event) (e : Event) (i : ℕ) → i ≡ length es → lane_of (es ++ e ∷ []) i ≡ e.lane
 lane_of-at_new es e i is = ap (lane_of (es ++ e ∷ [])) is ∙ lane_of-new es e
 
--- each event is one of those before, or the newest
+-- each event is an older one or the newest
 pub old_or_new : (es : List Event) (e : Event) (i : ℕ) → i < length (es ++ e ∷ []) → (i < length es) ⊎ (i ≡ length es)
 old_or_new es e i h = grind (arith, length-more)
 
@@ -96,9 +96,9 @@ one_at_same a b h = grind arith
 pub one_at_other : (a b : ℕ) → a ≢ b → ◌≡◌ {A = ℕ} (if a == b then 1 else 0) 0
 one_at_other a b h = grind arith
 
--- ---- an older event is reached from the same events as before
+-- ---- an older event is reached from the same events
 
--- an older event is still reached by as many of a lane's first events
+-- an older event is reached by equally many of a lane's first events
 pub first_old : (es : List Event) (e : Event) (j lane n : ℕ) → j < length es → FirstReach es j lane n → FirstReach (es ++ e ∷ []) j lane n
 first_old es e j lane n below f = record {
   no_more = omega (arith, f.no_more, lane_length-more es e lane);
@@ -113,22 +113,22 @@ first_old es e j lane n below f = record {
   ];
 }
 
--- ---- the new event
+-- ---- the newest event
 
--- of the lane's events, just the first n reach the event, if there is one
+-- exactly the first n of a lane's events reach the event, if there is one
 pub record FirstReachSome (es : List Event) (event : Option ℕ) (lane n : ℕ) : Type 0 where
-  -- the lane has so many events
+  -- the lane has n events or more
   pub no_more : n ≤ lane_length es lane
   -- there is an event, and the first n reach it
   pub back : (i : ℕ) → i < length es → lane_of es i ≡ lane → place_of es i < n → (j : ℕ) × (event ≡ Some j) × Reaches es i j
-  -- what reaches it is one of the first n
+  -- only the first n reach it
   pub forth : (i j : ℕ) → i < length es → lane_of es i ≡ lane → event ≡ Some j → Reaches es i j → place_of es i < n
 
--- an event of the newest event's lane directly precedes that
+-- an older event of the newest event's lane directly precedes it
 pub by_lane : (es : List Event) (e : Event) (p : ℕ) → p < length es → lane_of es p ≡ e.lane → DirectlyPrecedes (es ++ e ∷ []) p (length es)
 by_lane es e p lt same = record { earlier = lt; within = omega (arith, length-more es e); because = inl (lane_of-old es e p lt ∙ same ∙ sym (lane_of-new es e)) }
 
--- the event that sent to the newest one directly precedes that
+-- the send of the newest event directly precedes it
 pub by_send : (es : List Event) (e : Event) (s : ℕ) → s < length es → e.send ≡ Some s → DirectlyPrecedes (es ++ e ∷ []) s (length es)
 by_send es e s lt sent = record { earlier = lt; within = omega (arith, length-more es e); because = inr (send_of-new es e ∙ sent) }
 
@@ -148,11 +148,11 @@ module _ (es : List Event) (e : Event) (previous : Option ℕ) (last : LastOf es
   counted : (i : ℕ) → i < length es → lane_of es i ≡ lane → Reaches (es ++ e ∷ []) i (length es) → place_of es i < max from_previous from_send
   counted i lt of_lane c = grind (arith, reaches_new, reaches_forward, reaches_through)
 
-  -- in another lane: the greater of the two counts
+  -- for another lane: the greater of the two counts
   pub first_new_other : lane ≢ e.lane → FirstReach (es ++ e ∷ []) (length es) lane (max from_previous from_send)
   first_new_other other = grind (arith, lane_length-more es e lane, old_or_new, place_of-old, lane_of-old, counted, reaches_it, lane_of-at_new)
 
-  -- in its own lane: one more
+  -- for the event's lane: one more
   pub first_new_own : lane ≡ e.lane → lane_length es lane ≤ from_previous → FirstReach (es ++ e ∷ []) (length es) lane (max from_previous from_send + 1)
   first_new_own own full = record {
     no_more = omega (arith, along.no_more, across.no_more, lane_length-more es e lane, one_at_same e.lane lane (sym own));

@@ -1,4 +1,4 @@
--- What a clock keeps goes on through one more event: the columns of its lane rise to what its send had.
+-- The invariant of a clock after one more event: its lane's columns rise to its send's counts.
 use Rattle.std.proofs.lemmas.Grind.{common_steps}
 use Rattle.std.specs.Prelude.{◌≡◌, ◌≢◌, ℕ, ◌+◌, ◌<◌, ◌≤◌, max, if◌then◌else◌, Option, Some, None, List, [], ◌∷◌, ◌++◌, length}
 use Rattle.std.proofs.Common.{refl, arith, ap, sym, ◌∙◌, subst, inl, inr, get_or, get_or-set_same, get_or-set_other, eq-eqb}
@@ -9,37 +9,37 @@ use Rattle.causal_clock.specs.declared.Event.{Event}
 use Rattle.causal_clock.specs.declared.Rise.{Rise}
 use Rattle.causal_clock.specs.Timeline.{lane_of, lane_length, place_of}
 use Rattle.causal_clock.specs.Rises.{count_at}
-use Rattle.causal_clock.specs.Inside.Columns.{raised, IsColumn}
-use Rattle.causal_clock.specs.Inside.Kept.{LastOf, count_or_none}
-use Rattle.causal_clock.specs.Inside.Fields.{counts_in, KeepsColumns}
+use Rattle.causal_clock.specs.Inside.Columns.{column_after, IsColumn}
+use Rattle.causal_clock.specs.Inside.EventCounts.{LastOf, count_or_none}
+use Rattle.causal_clock.specs.Inside.Fields.{counts_in, ColumnsAreRight}
 use Rattle.causal_clock.proofs.Chains.{lane_of-old, lane_of-at_new, lane_length-more, place_of-old, place_of-new, old_or_new, one_at_same, one_at_other}
 use Rattle.causal_clock.proofs.Columns.{count_of_none, settled, raised_before, raised_there, raised_column}
 use Rattle.causal_clock.proofs.Steps.{keeps_event}
 
--- an event's count of its own lane is its place and one more
+-- an event's count of its lane is its place plus one
 pub counts_own : (es : List Event) (column : ℕ → ℕ → List Rise) (j lane : ℕ) → lane_of es j ≡ lane → counts_in es column j lane ≡ place_of es j + 1
 counts_own es column j lane same = ap (λ b. if b then place_of es j + 1 else count_at (column (lane_of es j) lane) (place_of es j)) (eq-eqb (lane_of es j) lane same)
 
--- an event's count of another lane is what the column tells at its place
+-- an event's count of another lane is the column's count at its place
 pub counts_other : (es : List Event) (column : ℕ → ℕ → List Rise) (j lane source : ℕ) → lane_of es j ≡ lane → source ≢ lane → counts_in es column j source ≡ count_at (column lane source) (place_of es j)
 counts_other es column j lane source same other = grind arith
 
-module _ (es : List Event) (places lengths : List ℕ) (column : ℕ → ℕ → List Rise) (k : KeepsColumns es places lengths column) where
-  -- an event stands in its lane
+module _ (es : List Event) (places lengths : List ℕ) (column : ℕ → ℕ → List Rise) (k : ColumnsAreRight es places lengths column) where
+  -- an event's place is within its lane
   in_lane : (j : ℕ) → j < length es → place_of es j < lane_length es (lane_of es j)
   in_lane j lt = omega (arith, k.keeps.own j lt, (k.keeps.reach j lt (lane_of es j)).no_more)
 
-  -- the count of the lane's last event is what the column tells at the next place
+  -- the count of a lane's last event is the column's count at the next place
   previous_count : (lane source : ℕ) (event : Option ℕ) → LastOf es event lane → source ≢ lane → count_or_none (counts_in es column) event source ≡ count_at (column lane source) (lane_length es lane)
   previous_count lane source None last other = sym (count_of_none (column lane source) _ (λ i lt. absurd (omega (arith, last.empty refl, (k.columns lane source).places i lt))))
   previous_count lane source (Some p) last other = grind (arith, settled)
 
-  module _ (e : Event) (inside : e.lane < length lengths) (sent : (s : ℕ) → e.send ≡ Some s → s < length es) (room : length es < 16777216) (counts : ℕ → ℕ) (own_none : counts e.lane ≡ 0) (counts_are : (source : ℕ) → source ≢ e.lane → counts source ≡ count_or_none (counts_in es column) e.send source) (column' : ℕ → ℕ → List Rise) (others : (lane source : ℕ) → lane ≢ e.lane → column' lane source ≡ column lane source) (risen : (source : ℕ) → column' e.lane source ≡ raised (column e.lane source) (lane_length es e.lane) (counts source)) where
+  module _ (e : Event) (inside : e.lane < length lengths) (sent : (s : ℕ) → e.send ≡ Some s → s < length es) (room : length es < 16777216) (counts : ℕ → ℕ) (own_none : counts e.lane ≡ 0) (counts_are : (source : ℕ) → source ≢ e.lane → counts source ≡ count_or_none (counts_in es column) e.send source) (column' : ℕ → ℕ → List Rise) (others : (lane source : ℕ) → lane ≢ e.lane → column' lane source ≡ column lane source) (risen : (source : ℕ) → column' e.lane source ≡ column_after (column e.lane source) (lane_length es e.lane) (counts source)) where
     at_old_place : (lane source q : ℕ) → q < lane_length es lane → count_at (column' lane source) q ≡ count_at (column lane source) q
     at_old_place lane source q lt =
         elim (eqb_tells lane e.lane) [
           | inl s ↦
-              let is : column' lane source ≡ raised (column lane source) (lane_length es lane) (counts source) = subst (λ (x : ℕ). column' x source ≡ raised (column x source) (lane_length es x) (counts source)) (sym s.1) (risen source) in
+              let is : column' lane source ≡ column_after (column lane source) (lane_length es lane) (counts source) = subst (λ (x : ℕ). column' x source ≡ column_after (column x source) (lane_length es x) (counts source)) (sym s.1) (risen source) in
               ap (λ c. count_at c q) is ∙ raised_before (column lane source) (lane_length es lane) (counts source) q lt
           | inr s ↦ ap (λ c. count_at c q) (others lane source s.1)
         ]
@@ -90,8 +90,8 @@ module _ (es : List Event) (places lengths : List ℕ) (column : ℕ → ℕ →
     next_lengths lane lt =
         grind (arith, common_steps, eqb_tells, set, get_or-set_same, lane_length-more, one_at_same, get_or-set_other, length-set, one_at_other)
 
-    -- with one more event the raised columns tell all counts
-    pub keeps_next : length places ≡ length es → KeepsColumns (es ++ e ∷ []) (places ++ lane_length es e.lane ∷ []) (set lengths e.lane (lane_length es e.lane + 1)) column'
+    -- after one more event, the raised columns have all counts
+    pub keeps_next : length places ≡ length es → ColumnsAreRight (es ++ e ∷ []) (places ++ lane_length es e.lane ∷ []) (set lengths e.lane (lane_length es e.lane + 1)) column'
     keeps_next long = record {
       keeps = rw (length-set lengths e.lane (lane_length es e.lane + 1)) (keeps_event es (counts_in es column) (length lengths) k.keeps e inside sent room (counts_in (es ++ e ∷ []) column') old_count own_count new_count);
       places = next_places long;

@@ -1,4 +1,4 @@
--- What a column tells at a place, and what one more rise changes.
+-- The count of a column at a place, and what one more rise changes.
 use Rattle.std.proofs.lemmas.Grind.{common_steps}
 use Rattle.std.specs.Prelude.{◌≡◌, ℕ, ◌+◌, ◌-◌, ◌<◌, ◌≤◌, max, ◌⊎◌, leb, if◌then◌else◌, true, false, List, [], ◌∷◌, ◌++◌, length, take, drop}
 use Rattle.std.proofs.Common.{zero, suc, refl, arith, ap, sym, ◌∙◌, subst, inl, inr, length-append}
@@ -11,7 +11,7 @@ use Rattle.std.proofs.lemmas.List.Sorted.{IsPartitionedBy-leb, IsNonDecreasingBy
 use Rattle.std.proofs.lemmas.List.{get_or-drop, length-drop, take_all}
 use Rattle.causal_clock.specs.declared.Rise.{Rise}
 use Rattle.causal_clock.specs.Rises.{rise_at, count_at, RisesStrictly}
-use Rattle.causal_clock.specs.Inside.Columns.{IsParted, IsColumn, TellsAlike, raised}
+use Rattle.causal_clock.specs.Inside.Columns.{IsSplitAt, IsColumn, SameOrNoNews, column_after}
 use Rattle.causal_clock.proofs.Lemmas.RiseCounts.{rise_counts, count_risen}
 
 -- ---- the count at a place
@@ -20,15 +20,15 @@ count_at-append : (xs ys : List Rise) (place : ℕ) → count_at (xs ++ ys) plac
 count_at-append [] ys place = omega arith
 count_at-append (x ∷ xs) ys place = omega (arith, count_at-append xs ys place)
 
--- no rise up to the place: the count is 0
+-- if no rise is at or before the place, the count is 0
 pub count_of_none : (rises : List Rise) (place : ℕ) → ((i : ℕ) → i < length rises → place < (rise_at rises i).place) → count_at rises place ≡ 0
 count_of_none rises place later = grind (arith, count_risen)
 
--- the first n rises stand up to the place: the last of them tells the count
+-- if exactly the first n rises are at or before the place, the last of them has the count
 pub count_of_last : (rises : List Rise) (place n : ℕ) → RisesStrictly rises → n < length rises → ((i : ℕ) → i ≤ n → (rise_at rises i).place ≤ place) → ((i : ℕ) → n < i → i < length rises → place < (rise_at rises i).place) → count_at rises place ≡ (rise_at rises n).count
 count_of_last rises place n strictly lt before after = grind (arith, rise_counts, count_risen rises place)
 
--- from a place that no rise stands after the count stays
+-- from a place that no rise follows, the count is constant
 pub settled : (rises : List Rise) (p q : ℕ) → ((i : ℕ) → i < length rises → ((rise_at rises i).place ≤ p) × ((rise_at rises i).place ≤ q)) → count_at rises p ≡ count_at rises q
 settled [] p q h = refl
 settled (r ∷ rises) p q h =
@@ -39,7 +39,7 @@ settled (r ∷ rises) p q h =
 
 -- ---- where a search stops
 
--- rises before one that stands up to the place stand there too
+-- all rises before one that is at or before the place are so too
 pub up_to : (rises : List Rise) (place n i : ℕ) → RisesStrictly rises → n < length rises → (rise_at rises n).place ≤ place → i ≤ n → (rise_at rises i).place ≤ place
 up_to rises place n i strictly lt le before = grind arith
 
@@ -53,7 +53,7 @@ partitioned rises place start strictly = IsPartitionedBy-leb (λ y. y.place) (dr
         let long : length (drop start rises) ≡ length rises - start = length-drop start rises in
         omega (arith, in_i, in_j, up_to rises ((rise_at rises (start + j)).place) (start + j) (start + i) strictly (omega (arith, lt, long)) (omega arith) (omega (arith, le)))
 
-parted : (rises : List Rise) (place start n : ℕ) → start ≤ length rises → ((i : ℕ) → i < start → (rise_at rises i).place ≤ place) → IsPartitionPoint (λ y. leb y.place place ≡ true) (λ y. leb y.place place ≡ false) (drop start rises) n → n ≤ length (drop start rises) → IsParted rises place (start + n)
+parted : (rises : List Rise) (place start n : ℕ) → start ≤ length rises → ((i : ℕ) → i < start → (rise_at rises i).place ≤ place) → IsPartitionPoint (λ y. leb y.place place ≡ true) (λ y. leb y.place place ≡ false) (drop start rises) n → n ≤ length (drop start rises) → IsSplitAt rises place (start + n)
 parted rises place start n inside passed point bound = record { inside = omega (arith, bound, long); before = before; after = after }
   where
     long : length (drop start rises) ≡ length rises - start
@@ -74,16 +74,16 @@ parted rises place start n inside passed point bound = record { inside = omega (
     after : (i : ℕ) → start + n ≤ i → i < length rises → place < (rise_at rises i).place
     after i le lt = omega (arith, place_is i (omega (arith, le)), leb-false _ _ (point.1 (i - start) (record { place = 0; count = 0 }) (omega (arith, le)) (omega (arith, lt, long, le))))
 
--- the same at the list that a slice from `start` on gives
+-- the lemma for the slice from `start` on
 pub tail_is : (rises : List Rise) (start : ℕ) → take (length rises - start) (drop start rises) ≡ drop start rises
 tail_is rises start = take_all (length rises - start) (drop start rises) (omega (arith, length-drop start rises))
 
--- rises from start on have those up to a place first, and those beyond it after
+-- the rises from `start` on have those at or before a place first
 pub tail_partitioned : (rises : List Rise) (place start : ℕ) → RisesStrictly rises → IsPartitionedBy (λ y. leb y.place place) (take (length rises - start) (drop start rises))
 tail_partitioned rises place start strictly = subst (IsPartitionedBy (λ y. leb y.place place)) (sym (tail_is rises start)) (partitioned rises place start strictly)
 
--- where the tail parts after n rises, the column parts n after start
-pub tail_parted : (rises : List Rise) (place start n : ℕ) → start ≤ length rises → ((i : ℕ) → i < start → (rise_at rises i).place ≤ place) → IsPartitionPoint (λ y. leb y.place place ≡ true) (λ y. leb y.place place ≡ false) (take (length rises - start) (drop start rises)) n → n ≤ length (take (length rises - start) (drop start rises)) → IsParted rises place (start + n)
+-- if the tail splits after n rises, the column splits n after `start`
+pub tail_parted : (rises : List Rise) (place start n : ℕ) → start ≤ length rises → ((i : ℕ) → i < start → (rise_at rises i).place ≤ place) → IsPartitionPoint (λ y. leb y.place place ≡ true) (λ y. leb y.place place ≡ false) (take (length rises - start) (drop start rises)) n → n ≤ length (take (length rises - start) (drop start rises)) → IsSplitAt rises place (start + n)
 tail_parted rises place start n inside passed point bound =
     parted rises place start n inside passed
     (subst (λ (l : List Rise). IsPartitionPoint (λ y. leb y.place place ≡ true) (λ y. leb y.place place ≡ false) l n) (tail_is rises start) point)
@@ -91,50 +91,50 @@ tail_parted rises place start n inside passed point bound =
 
 -- ---- one more rise
 
-raised_cases : (rises : List Rise) (place count : ℕ) → ((raised rises place count ≡ rises ++ record { place = place; count = count } ∷ []) × (count_at rises place < count)) ⊎ ((raised rises place count ≡ rises) × (count ≤ count_at rises place))
+raised_cases : (rises : List Rise) (place count : ℕ) → ((column_after rises place count ≡ rises ++ record { place = place; count = count } ∷ []) × (count_at rises place < count)) ⊎ ((column_after rises place count ≡ rises) × (count ≤ count_at rises place))
 raised_cases rises place count = grind arith
 
--- a count that is greater than the one there makes one more rise
-pub raised_more : (rises : List Rise) (place count : ℕ) → count_at rises place < count → raised rises place count ≡ rises ++ record { place = place; count = count } ∷ []
+-- a greater count than the one at the place adds a rise
+pub raised_more : (rises : List Rise) (place count : ℕ) → count_at rises place < count → column_after rises place count ≡ rises ++ record { place = place; count = count } ∷ []
 raised_more rises place count less = ap (λ b. if b then rises ++ record { place = place; count = count } ∷ [] else rises) (lt-ltb _ _ less)
 
--- counts that tell alike raise alike
-pub raised_alike : (rises : List Rise) (place known count other : ℕ) → count_at rises place ≡ known → TellsAlike known count other → raised rises place count ≡ raised rises place other
+-- counts that are equal, or no greater than the known one, raise a column equally
+pub raised_alike : (rises : List Rise) (place known count other : ℕ) → count_at rises place ≡ known → SameOrNoNews known count other → column_after rises place count ≡ column_after rises place other
 raised_alike rises place known count other is alike = grind arith
 
--- later the count is no less
+-- at a later place the count is no less
 pub count_at-later : (rises : List Rise) (p q : ℕ) → p ≤ q → count_at rises p ≤ count_at rises q
 count_at-later [] p q le = omega arith
 count_at-later (r ∷ rises) p q le = grind (arith, le-leb, count_at-later rises p q le)
 
--- from one more rise on
+-- the count from one more rise on
 pub count_at-risen : (rises : List Rise) (place count q : ℕ) → place ≤ q → count_at (rises ++ record { place = place; count = count } ∷ []) q ≡ max (count_at rises q) count
 count_at-risen rises place count q le = count_at-append rises _ q ∙ omega (arith, ap (λ b. if b then count else 0) (le-leb place q le))
 
--- nothing rises to 0
-pub raised_none : (rises : List Rise) (place : ℕ) → raised rises place 0 ≡ rises
+-- a count of 0 adds no rise
+pub raised_none : (rises : List Rise) (place : ℕ) → column_after rises place 0 ≡ rises
 raised_none rises place = grind arith
 
--- before its place the count is as it was
-pub raised_before : (rises : List Rise) (place count q : ℕ) → q < place → count_at (raised rises place count) q ≡ count_at rises q
+-- before its place, a rise changes no count
+pub raised_before : (rises : List Rise) (place count q : ℕ) → q < place → count_at (column_after rises place count) q ≡ count_at rises q
 raised_before rises place count q before = grind (arith, lt-leb, count_at-append)
 
--- and at its place the greater one
-pub raised_there : (rises : List Rise) (place count : ℕ) → count_at (raised rises place count) place ≡ max (count_at rises place) count
+-- at its place, the count is the greater of the two
+pub raised_there : (rises : List Rise) (place count : ℕ) → count_at (column_after rises place count) place ≡ max (count_at rises place) count
 raised_there rises place count = grind (arith, le-leb, count_at-append)
 
 -- ---- columns
 
--- a column stays one when its lanes get more events
+-- a column remains one when its lanes get more events
 pub column_more : (rises : List Rise) (events from_events events' from_events' : ℕ) → events ≤ events' → from_events ≤ from_events' → IsColumn rises events from_events → IsColumn rises events' from_events'
 column_more rises events from_events events' from_events' le le' is = grind arith
 
--- with strict counts from 1 on rise i counts more than i
+-- rise i counts more than i, as counts are strict and begin at 1
 at_least : (rises : List Rise) → RisesStrictly rises → (i : ℕ) → i < length rises → i < (rise_at rises i).count
 at_least rises strictly zero lt = strictly.some 0 lt
 at_least rises strictly (suc i) lt = omega (arith, at_least rises strictly i (omega (arith, lt)), strictly.counts i (suc i) (omega arith) lt)
 
--- so there are no more rises than the count
+-- so a column has no more rises than its last count
 no_more_rises : (rises : List Rise) (events from_events place : ℕ) → IsColumn rises events from_events → events ≤ place → length rises ≤ count_at rises place
 no_more_rises rises events from_events place is le =
     elim (leb_tells (length rises) 0) [
@@ -169,8 +169,8 @@ module _ (rises : List Rise) (own from_events from_events' count : ℕ) (is : Is
     few = omega (arith, length-append rises (next ∷ []), no_more_rises rises own from_events own is (omega arith), more, few);
   }
 
--- a column after an event of its lane
-pub raised_column : (rises : List Rise) (own from_events from_events' count : ℕ) → from_events ≤ from_events' → count ≤ from_events' → IsColumn rises own from_events → IsColumn (raised rises own count) (own + 1) from_events'
+-- a column after one more event of its lane
+pub raised_column : (rises : List Rise) (own from_events from_events' count : ℕ) → from_events ≤ from_events' → count ≤ from_events' → IsColumn rises own from_events → IsColumn (column_after rises own count) (own + 1) from_events'
 raised_column rises own from_events from_events' count grown few is =
     elim (raised_cases rises own count) [
       | inl more ↦ rw more.0 (appended rises own from_events from_events' count is grown few more.1)

@@ -1,4 +1,4 @@
--- The number of a lane's first events that reach an event is how many of its events do.
+-- The number of a lane's first events that reach an event is the number of its events that do.
 use Rattle.std.specs.Prelude.{None, ◌≡◌, ℕ, ◌+◌, ◌<◌, ◌≤◌, min, ◌↔◌, ◌==◌, ◌&&◌, if◌then◌else◌, Bool, true, false, List, length, take, count_by}
 use Rattle.std.proofs.Common.{zero, suc, refl, arith, ap, sym, ◌∙◌, inl, inr}
 use Rattle.std.specs.List.{range_with_len}
@@ -9,7 +9,7 @@ use Rattle.std.proofs.lemmas.Bool.{false≢true}
 use Rattle.std.proofs.lemmas.Bool.Decides.{eqb_tells}
 use Rattle.causal_clock.specs.declared.Event.{Event}
 use Rattle.causal_clock.specs.Timeline.{lane_of, lane_length, place_of}
-use Rattle.causal_clock.specs.Precedence.{FirstReach, TellsReach, count_in_lane}
+use Rattle.causal_clock.specs.Precedence.{FirstReach, IsReachTest, count_in_lane}
 use Rattle.causal_clock.proofs.Chains.{lane_length-more}
 
 count_more : (p : ℕ → Bool) (n : ℕ) → count_by p (range_with_len 0 (suc n)) ≡ count_by p (range_with_len 0 n) + (if p n then 1 else 0)
@@ -29,7 +29,7 @@ other_next : (b t : Bool) (n x y : ℕ) → b ≡ false → x ≡ min n y → x 
 other_next true t n x y e before = absurd (false≢true (sym e))
 other_next false t n x y e before = omega (arith, before)
 
-module _ (es : List Event) (j lane n : ℕ) (test : ℕ → Bool) (f : FirstReach es j lane n) (tells : TellsReach es j test) where
+module _ (es : List Event) (j lane n : ℕ) (test : ℕ → Bool) (f : FirstReach es j lane n) (tells : IsReachTest es j test) where
   of_lane : (m : ℕ) → m < length es → lane_of es m ≡ lane → (test m ≡ true) ↔ (place_of es m < n)
   of_lane m h same = (λ t. (f.first m h same).0 ((tells m h).0 t), λ lt. (tells m h).1 ((f.first m h same).1 lt))
 
@@ -45,6 +45,6 @@ module _ (es : List Event) (j lane n : ℕ) (test : ℕ → Bool) (f : FirstReac
       ]
       ∙ ap (min n) (sym next)
 
-  -- where a lane's first n events reach j, that many of them pass a test of what reaches j
+  -- if exactly a lane's first n events reach j, n of them pass a test for reaching j
   pub reach_counted : count_in_lane es lane test ≡ n
   reach_counted = grind (arith, take-length, counted_below)

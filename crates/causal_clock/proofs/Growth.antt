@@ -1,4 +1,4 @@
--- Which events reach which when one more event has come.
+-- Which events reach which after one more event.
 use Rattle.std.specs.Prelude.{◌≡◌, ℕ, ◌<◌, ◌≤◌, ◌↔◌, ◌⊎◌, Some, List, [], ◌∷◌, ◌++◌, length}
 use Rattle.std.proofs.Common.{refl, arith, inl, inr, subst, sym}
 use Rattle.causal_clock.specs.declared.Event.{Event}
@@ -14,7 +14,7 @@ into_new : (es : List Event) (e : Event) (i j : ℕ) → Reaches es i j → (lan
 into_new es e i j c (inl same) = onward (reaches_old e c) (by_lane es e j (reaches_forward c).1 same)
 into_new es e i j c (inr sent) = onward (reaches_old e c) (by_send es e j (reaches_forward c).1 sent)
 
--- the new event is reached from itself, and from what reaches an event of its lane or its send's event
+-- the new event is reached from itself, and from what reaches an event of its lane or its send
 pub newest : (es : List Event) (e : Event) (i : ℕ) → Reaches (es ++ e ∷ []) i (length es) ↔ IsReachedThrough es e i
 newest es e i = (λ c. reaches_new es e refl c, λ r. back r)
   where
@@ -22,11 +22,11 @@ newest es e i = (λ c. reaches_new es e refl c, λ r. back r)
     back (inl same) = subst (λ (x : ℕ). Reaches (es ++ e ∷ []) x (length es)) (sym same) (itself (omega (arith, length-more es e)))
     back (inr before) = into_new es e i before.0 before.1 before.2
 
--- what reaches an event comes no later than it
+-- an event reaches none before it
 pub in_order : (es : List Event) (i j : ℕ) → Reaches es i j → i ≤ j
 in_order es i j c = (reaches_forward c).0
 
--- what reaches an event reaches all that this one reaches
+-- reachability is transitive
 pub through : (es : List Event) (i j k : ℕ) → Reaches es i j → Reaches es j k → Reaches es i k
 through es i j k c d = reaches_through c d
 

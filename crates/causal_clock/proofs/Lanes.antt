@@ -1,65 +1,65 @@
--- What lists tell of their elements, as a lane's columns or a clock's lanes, when one is written back or added.
+-- Lists of a field of each element, after an element is replaced or added.
 use Rattle.std.specs.Prelude.{◌≡◌, ◌≢◌, ℕ, ◌<◌, List, [], ◌∷◌, ◌++◌, length, map}
 use Rattle.std.proofs.Common.{Bool, true, false, cond, Vec, Global, zero, suc, refl, arith, ap, sym, ◌∙◌, get_or, get_or-set_same, get_or-set_other}
 use Rattle.std.proofs.Math.ListN.{set}
 use Rattle.causal_clock.specs.declared.Rise.{Rise}
-use Rattle.causal_clock.specs.declared.lane.Lane.{Lane}
+use Rattle.causal_clock.specs.declared.lane.LaneColumns.{LaneColumns}
 use Rattle.causal_clock.specs.Inside.Columns.{column_in, column_of}
 use Rattle.causal_clock.specs.Inside.Lanes.{rises_in, SameColumns}
 use Rattle.std.proofs.lemmas.List.{map-append, map-set, set-get_or, get_or-map, length-map}
 
--- a list of what elements tell is as long as theirs
+-- the list of a field is as long as the list of elements
 pub as_many : {V B : Type 0} (f : V → B) (xs : List V) → length (map f xs) ≡ length xs
 as_many f xs = simp length-map
 
 module _ {V B : Type 0} (f : V → B) (xs : List V) (i : ℕ) (x y : V) where
-  -- what is told of it, and of the others
+  -- the field of the replaced element, and of the others
   pub told_here : (d : B) → i < length (map f xs) → get_or (map f (set xs i y)) i d ≡ f y
   told_here d lt = ap (λ ys. get_or ys i d) (map-set f xs i y) ∙ get_or-set_same (map f xs) i (f y) d lt
 
-  -- to replace an element leaves what the others tell
+  -- replacing an element leaves the fields of the others unchanged
   pub told_elsewhere : (d : B) (k : ℕ) → k ≢ i → get_or (map f (set xs i y)) k d ≡ get_or (map f xs) k d
   told_elsewhere d k other = ap (λ ys. get_or ys k d) (map-set f xs i y) ∙ get_or-set_other (map f xs) i k (f y) d other
 
-  -- at a position stands what the element there tells
+  -- the list has at an index the field of the element there
   pub told_was : (d : B) → i < length xs → x ≡ get_or xs i x → get_or (map f xs) i d ≡ f x
   told_was d lt is = get_or-map f xs i x d lt ∙ ap f (sym is)
 
-  -- written back as it was
+  -- replacing an element by one with an equal field changes nothing
   pub told_same : i < length xs → x ≡ get_or xs i x → f y ≡ f x → map f (set xs i y) ≡ map f xs
   told_same lt is same = grind (arith, map-set f xs i y, set (map f xs) i, told_was (f x) lt is, set-get_or)
 
--- one more element that tells the default tells nothing new
+-- appending an element with the default field changes no look-up
 pub told_default : {B : Type 0} (ys : List B) (b d : B) → b ≡ d → (k : ℕ) → get_or (ys ++ b ∷ []) k d ≡ get_or ys k d
 told_default [] b d is zero = is
 told_default [] b d is (suc k) = refl
 told_default (y ∷ ys) b d is zero = refl
 told_default (y ∷ ys) b d is (suc k) = told_default ys b d is k
 
--- ---- the columns of a clock's lanes, when a lane is written back
+-- ---- the columns of a clock's lanes, after a lane is replaced
 
-module _ (xs : List Lane) (l : ℕ) (x y : Lane) (lt : l < length xs) where
-  -- a lane that was written back has its new columns
+module _ (xs : List LaneColumns) (l : ℕ) (x y : LaneColumns) (lt : l < length xs) where
+  -- a replaced lane has its new columns
   pub column_here : (source : ℕ) → column_of (map rises_in (set xs l y)) l source ≡ column_in (rises_in y) source
   column_here source = ap (λ columns. column_in columns source) (told_here rises_in xs l x y [] (omega (arith, lt, as_many rises_in xs)))
 
-  -- to write a lane back leaves the columns of the others
+  -- replacing a lane leaves the columns of the others unchanged
   pub column_elsewhere : (lane source : ℕ) → lane ≢ l → column_of (map rises_in (set xs l y)) lane source ≡ column_of (map rises_in xs) lane source
   column_elsewhere lane source other = ap (λ columns. column_in columns source) (told_elsewhere rises_in xs l x y [] lane other)
 
-  -- a lane that was taken out has the columns that stood there
+  -- a lane that was read has the columns of the lane there
   pub column_was : x ≡ get_or xs l x → (source : ℕ) → column_of (map rises_in xs) l source ≡ column_in (rises_in x) source
   column_was is source = ap (λ columns. column_in columns source) (told_was rises_in xs l x y [] lt is)
 
-  -- where it tells the same of each source lane nothing changes
+  -- replacing a lane by one with the same columns changes nothing
   pub columns_same : x ≡ get_or xs l x → SameColumns x y → (lane source : ℕ) → column_of (map rises_in (set xs l y)) lane source ≡ column_of (map rises_in xs) lane source
   columns_same is same lane source = grind (arith, set, column_here, column_was, column_elsewhere)
 
--- one more lane without rises leaves all columns
-pub column_more : (xs : List Lane) (x : Lane) → rises_in x ≡ [] → (lane source : ℕ) → column_of (map rises_in (xs ++ x ∷ [])) lane source ≡ column_of (map rises_in xs) lane source
+-- appending a lane without rises changes no columns
+pub column_more : (xs : List LaneColumns) (x : LaneColumns) → rises_in x ≡ [] → (lane source : ℕ) → column_of (map rises_in (xs ++ x ∷ [])) lane source ≡ column_of (map rises_in xs) lane source
 column_more xs x is lane source = ap (λ columns. column_in (get_or columns lane []) source) (map-append rises_in xs (x ∷ [])) ∙ ap (λ columns. column_in columns source) (told_default (map rises_in xs) (rises_in x) [] is lane)
 
--- an empty column that was added, or not, tells nothing new
+-- appending an empty column, or none, changes nothing
 pub column_pushed : (added : Bool) (xs ys : List (Vec Rise Global)) (v : Vec Rise Global) → ys ≡ cond added (xs ++ v ∷ []) xs → v.items ≡ [] → (source : ℕ) → column_in (map (λ c. c.items) ys) source ≡ column_in (map (λ c. c.items) xs) source
 column_pushed true xs ys v is empty source = grind (arith, map-append, told_default)
 column_pushed false xs ys v is empty source = ap (λ l. column_in (map (λ c. c.items) l) source) is

@@ -1,2 +1,2 @@
--- Lemmas that other crates cite in their proofs.
+-- Public lemmas, for the proofs of other crates.
 pub mod RiseCounts

@@ -1,4 +1,4 @@
--- Each place of a lane has an event, so a count of first events is determined.
+-- Each place of a lane has an event, so the number of first events that reach one is unique.
 use Rattle.std.specs.Prelude.{◌≡◌, ℕ, ◌+◌, ◌<◌, ◌≤◌, ◌==◌, if◌then◌else◌, List, [], ◌∷◌, length, take}
 use Rattle.std.proofs.Common.{zero, suc, refl, arith, ap, sym, ◌∙◌, inl, inr}
 use Rattle.std.proofs.lemmas.Bool.Decides.{eqb_tells, leb_tells}
@@ -16,11 +16,11 @@ place_of-suc e es i = lane_length-first e (take i es) (lane_of es i)
 
 -- the n-th event of a lane is event i
 pub record IsAtPlace (es : List Event) (lane n i : ℕ) : Type 0 where
-  -- the event is there
+  -- the event exists
   pub within : i < length es
-  -- it is of the lane
+  -- it is in the lane
   pub of_lane : lane_of es i ≡ lane
-  -- n events of the lane stand before it
+  -- n events of the lane precede it
   pub place : place_of es i ≡ n
 
 first_or_later : (e : Event) (es : List Event) (lane n : ℕ) → e.lane ≡ lane → n < lane_length (e ∷ es) lane → ((m : ℕ) → m < lane_length es lane → (i : ℕ) × IsAtPlace es lane m i) → (i : ℕ) × IsAtPlace (e ∷ es) lane n i
@@ -65,6 +65,6 @@ no_greater es j lane n m f g =
           absurd (omega (arith, (g.first some.0 at.within at.of_lane).0 reaches, at.place))
     ]
 
--- just one number says how many of the lane's events reach j
+-- only one number can be the number of a lane's first events that reach j
 pub reach_unique : (es : List Event) (j lane n m : ℕ) → FirstReach es j lane n → FirstReach es j lane m → n ≡ m
 reach_unique es j lane n m f g = omega (arith, no_greater es j lane n m f g, no_greater es j lane m n g f)

@@ -1,4 +1,4 @@
--- A rise stands at a receive: nothing else brings news of another lane.
+-- Each rise is at a receive: no other event raises a count of another lane.
 use Rattle.std.specs.Prelude.{◌≡◌, ◌≢◌, ℕ, ◌-◌, ◌<◌, ◌≤◌, None, List, length}
 use Rattle.std.proofs.Common.{arith, sym, ◌∙◌}
 use Rattle.causal_clock.specs.declared.Event.{Event}
@@ -7,22 +7,22 @@ use Rattle.causal_clock.specs.Timeline.{lane_of, lane_length, place_of, send_of}
 use Rattle.causal_clock.specs.Precedence.{Reaches, itself, onward, FirstReach}
 use Rattle.causal_clock.specs.Rises.{rise_at, count_at, RisesStrictly, AreRises, IsReceiveAt}
 use Rattle.causal_clock.specs.Inside.Columns.{IsColumn}
-use Rattle.causal_clock.specs.Inside.Kept.{Keeps}
+use Rattle.causal_clock.specs.Inside.EventCounts.{CountsAreRight}
 use Rattle.causal_clock.proofs.Chains.{reaches_forward}
 use Rattle.causal_clock.proofs.Lemmas.RiseCounts.{rise_counts, count_risen}
 use Rattle.causal_clock.proofs.Places.{event_at_place}
 
--- before a rise the count is lower
+-- before a rise, the count is less
 fewer : (rises : List Rise) → RisesStrictly rises → (i place : ℕ) → i < length rises → place < (rise_at rises i).place → count_at rises place < (rise_at rises i).count
 fewer rises strictly i place within before = grind (arith, count_risen)
 
-module _ (es : List Event) (counts : ℕ → ℕ → ℕ) (many : ℕ) (k : Keeps es counts many) where
-  -- an earlier event of a lane has a lower place
+module _ (es : List Event) (counts : ℕ → ℕ → ℕ) (many : ℕ) (k : CountsAreRight es counts many) where
+  -- an earlier event of a lane has a smaller place
   lower : (i j : ℕ) → i < j → j < length es → lane_of es i ≡ lane_of es j → place_of es i < place_of es j
   lower i j before within same = grind (arith, reaches_forward)
 
   module _ (lane source : ℕ) (apart : source ≢ lane) (rises : List Rise) (strictly : RisesStrictly rises) (told : (j : ℕ) → j < length es → lane_of es j ≡ lane → FirstReach es j source (count_at rises (place_of es j))) (i : ℕ) (within : i < length rises) where
-    -- what the rise newly tells comes by a send
+    -- events that newly reach a lane do so by a send
     by_a_send : {m j : ℕ} → Reaches es m j → lane_of es m ≡ source → place_of es m ≡ (rise_at rises i).count - 1 → lane_of es j ≡ lane → place_of es j ≡ (rise_at rises i).place → send_of es j ≢ None
     by_a_send (itself h) from place of_lane placed none = absurd (apart (sym from ∙ of_lane))
     by_a_send {m} (onward {j = l} {k = j} before step) from place of_lane placed none = grind (arith, reaches_forward, lower, fewer)
@@ -39,7 +39,7 @@ module _ (es : List Event) (counts : ℕ → ℕ → ℕ) (many : ℕ) (k : Keep
           record { within = at.within; of_lane = at.of_lane; placed = at.place; receives = by_a_send reach from.of_lane from.place at.of_lane at.place },
         )
 
-  -- a column that tells what reaches a lane from a source has just the rises by it
+  -- a column with the counts from a source lane has exactly the rises of the lane by it
   pub rises_are : (lane source : ℕ) → source ≢ lane → (rises : List Rise) → IsColumn rises (lane_length es lane) (lane_length es source) → ((j : ℕ) → j < length es → lane_of es j ≡ lane → FirstReach es j source (count_at rises (place_of es j))) → AreRises es lane source rises
   rises_are lane source apart rises column told = record {
     strictly = column.strictly;

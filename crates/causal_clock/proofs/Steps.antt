@@ -1,4 +1,4 @@
--- What is known of the counts goes on through one more event, and through one more lane.
+-- The invariant on counts after one more event, and after one more lane.
 use Rattle.std.proofs.lemmas.Grind.{common_steps}
 use Rattle.std.specs.Prelude.{◌≡◌, ◌≢◌, ℕ, ◌+◌, ◌<◌, ◌≤◌, max, Option, Some, None, List, [], ◌∷◌, ◌++◌, length}
 use Rattle.std.proofs.Common.{refl, arith, ap, sym, ◌∙◌, subst, inl, inr}
@@ -6,15 +6,15 @@ use Rattle.std.proofs.lemmas.Bool.Decides.{eqb_tells}
 use Rattle.causal_clock.specs.declared.Event.{Event}
 use Rattle.causal_clock.specs.Timeline.{lane_of, lane_length, place_of}
 use Rattle.causal_clock.specs.Precedence.{Reaches, itself, onward, FirstReach}
-use Rattle.causal_clock.specs.Inside.Kept.{LastOf, count_or_none, Keeps}
+use Rattle.causal_clock.specs.Inside.EventCounts.{LastOf, count_or_none, CountsAreRight}
 use Rattle.causal_clock.proofs.Chains.{FirstReachSome, reaches_old, lane_of-old, lane_of-at_new, length-more, lane_length-more, place_of-old, place_of-new, old_or_new, one_at_same, one_at_other, first_old, first_new_other, first_new_own, by_lane}
 
--- what a receive's send is
+-- equal options have equal values
 pub same_some : {a b : ℕ} → Some a ≡ Some b → a ≡ b
 same_some e = cc
 
 -- the counts of an event, or none where there is no event
-some_reach : (es : List Event) (counts : ℕ → ℕ → ℕ) (lanes : ℕ) (k : Keeps es counts lanes) (event : Option ℕ) (lane : ℕ) → ((j : ℕ) → event ≡ Some j → j < length es) → FirstReachSome es event lane (count_or_none counts event lane)
+some_reach : (es : List Event) (counts : ℕ → ℕ → ℕ) (lanes : ℕ) (k : CountsAreRight es counts lanes) (event : Option ℕ) (lane : ℕ) → ((j : ℕ) → event ≡ Some j → j < length es) → FirstReachSome es event lane (count_or_none counts event lane)
 some_reach es counts lanes k None lane inside = grind arith
 some_reach es counts lanes k (Some j) lane inside =
     let f = k.reach j (inside j refl) lane in
@@ -24,15 +24,15 @@ some_reach es counts lanes k (Some j) lane inside =
       forth = λ i j' lt of_lane is c. (f.first i lt of_lane).0 (subst (Reaches es i) (sym (same_some is)) c);
     }
 
--- in the lane of an event the last one's count has all
-full : (es : List Event) (counts : ℕ → ℕ → ℕ) (lanes : ℕ) (k : Keeps es counts lanes) (event : Option ℕ) (lane : ℕ) → LastOf es event lane → lane_length es lane ≤ count_or_none counts event lane
+-- the count of a lane's last event for its lane is the lane's length
+full : (es : List Event) (counts : ℕ → ℕ → ℕ) (lanes : ℕ) (k : CountsAreRight es counts lanes) (event : Option ℕ) (lane : ℕ) → LastOf es event lane → lane_length es lane ≤ count_or_none counts event lane
 full es counts lanes k None lane l = omega (arith, l.empty refl)
 full es counts lanes k (Some p) lane l =
     let at = l.inside p refl in
     let own : counts p lane ≡ place_of es p + 1 = ap (counts p) (sym at.1) ∙ k.own p at.0 in
     omega (arith, own, at.2)
 
-module _ (es : List Event) (counts : ℕ → ℕ → ℕ) (lanes : ℕ) (k : Keeps es counts lanes) (e : Event) (in_lane : e.lane < lanes) (sent : (s : ℕ) → e.send ≡ Some s → s < length es) (room : length es < 16777216) (after : ℕ → ℕ → ℕ) (same : (j : ℕ) → j < length es → (lane : ℕ) → after j lane ≡ counts j lane) (own : after (length es) e.lane ≡ lane_length es e.lane + 1) (each : (lane : ℕ) → lane ≢ e.lane → after (length es) lane ≡ max (count_or_none counts (k.last e.lane).0 lane) (count_or_none counts e.send lane)) where
+module _ (es : List Event) (counts : ℕ → ℕ → ℕ) (lanes : ℕ) (k : CountsAreRight es counts lanes) (e : Event) (in_lane : e.lane < lanes) (sent : (s : ℕ) → e.send ≡ Some s → s < length es) (room : length es < 16777216) (after : ℕ → ℕ → ℕ) (same : (j : ℕ) → j < length es → (lane : ℕ) → after j lane ≡ counts j lane) (own : after (length es) e.lane ≡ lane_length es e.lane + 1) (each : (lane : ℕ) → lane ≢ e.lane → after (length es) lane ≡ max (count_or_none counts (k.last e.lane).0 lane) (count_or_none counts e.send lane)) where
   last : LastOf es (k.last e.lane).0 e.lane
   last = (k.last e.lane).1
 
@@ -88,8 +88,8 @@ module _ (es : List Event) (counts : ℕ → ℕ → ℕ) (lanes : ℕ) (k : Kee
     empty = λ is. omega (arith, l.empty is, lane_length-more es e lane, one_at_other e.lane lane other);
   }
 
-  -- counts hold with a new event whose own are the greater of its lane's last and its send's
-  pub keeps_event : Keeps (es ++ e ∷ []) after lanes
+  -- the counts hold after a new event, whose counts are the greater of its lane's last event's and its send's
+  pub keeps_event : CountsAreRight (es ++ e ∷ []) after lanes
   keeps_event = record {
     few = omega (arith, length-more es e);
     reach = λ j lt lane. elim (old_or_new es e j lt) [
@@ -105,5 +105,5 @@ module _ (es : List Event) (counts : ℕ → ℕ → ℕ) (lanes : ℕ) (k : Kee
   }
 
 -- one more lane
-pub keeps_lane : (es : List Event) (counts : ℕ → ℕ → ℕ) (lanes : ℕ) → Keeps es counts lanes → Keeps es counts (lanes + 1)
+pub keeps_lane : (es : List Event) (counts : ℕ → ℕ → ℕ) (lanes : ℕ) → CountsAreRight es counts lanes → CountsAreRight es counts (lanes + 1)
 keeps_lane es counts lanes k = record { few = k.few; reach = k.reach; own = k.own; last = k.last; lanes = λ i lt. omega (arith, k.lanes i lt) }

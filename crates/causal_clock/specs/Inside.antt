@@ -1,6 +1,6 @@
--- What models and private functions keep; no public clause cites it.
+-- Definitions that only models and private functions cite.
 pub mod Columns
 pub mod Fields
-pub mod Kept
+pub mod EventCounts
 pub mod Lanes
 pub mod Row

@@ -1,13 +1,13 @@
-//! Columns: for a lane and a source lane, where in the lane the count of the source's events rose.
+//! Columns: for a lane and a source lane, the places at which the count of the source's events rises.
 ghost use Rattle.std.specs.Prelude.{◌≡◌, ℕ, ◌-◌, ◌<◌, ◌≤◌, length, OnOk, vec_len, vec_capacity};
 ghost use Rattle.causal_clock.specs.Rises.{rise_at, count_at, RisesStrictly};
-ghost use Rattle.causal_clock.specs.Inside.Columns.{IsParted};
+ghost use Rattle.causal_clock.specs.Inside.Columns.{IsSplitAt};
 
 use crate::Rise;
 use std::alloc::AllocError;
 
-// Where a search for the place may begin: each rise before it stands before the place. It is sought from the end by
-// steps that double, since a place that is asked for is mostly a late one.
+// Returns where to begin the search for a place: all rises before it are at or before the place. Searches from the
+// end in doubling steps, since the place is usually a late one.
 fn search_start(column: &[Rise], place: u32) -> usize
     requires strictly { RisesStrictly column.now }
     ensures inside { result ≤ length column.now }
@@ -20,17 +20,17 @@ fn search_start(column: &[Rise], place: u32) -> usize
     column.len().saturating_sub(back)
 }
 
-// How many rises stand up to the place. It costs the logarithm of how many stand after it.
+// Returns how many rises are at or before the place. Takes O(log n) time for n rises after it.
 fn count_up_to(column: &[Rise], place: u32) -> usize
     requires strictly { RisesStrictly column.now }
-    ensures { IsParted column.now place result }
+    ensures { IsSplitAt column.now place result }
 {
     let start = search_start(column, place);
     start + column[start..].partition_point(|rise| rise.place <= place)
 }
 
-/// How many events of the source lane are reached from that place of the lane: what the last rise up to there tells. It
-/// costs the logarithm of how many rises stand after that one.
+/// Returns how many events of the source lane reach that place of the lane: the count of the last rise at or before
+/// it. Takes O(log n) time for n rises after it.
 pub fn count_at(column: &[Rise], place: u32) -> u32
     requires strictly { RisesStrictly column.now }
     ensures { result ≡ count_at column.now place }
@@ -41,7 +41,7 @@ pub fn count_at(column: &[Rise], place: u32) -> u32
     }
 }
 
-/// Makes room for one more rise, if the count is to rise from what is known. Nothing else changes.
+/// Reserves capacity for one more rise, if the count is greater than the known one. Changes nothing else.
 pub fn reserve_rise(column: &mut Vec<Rise>, known: u32, count: u32) -> Result<(), AllocError>
     ensures items { column.new.items ≡ column.old.items }
     ensures room { OnOk result (known < count → 0 < vec_capacity column.new - vec_len column.new) }

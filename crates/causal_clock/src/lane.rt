@@ -1,32 +1,32 @@
-//! What a clock keeps for each lane: how many events it has, its columns, and a row of their last counts.
+//! The fields of a lane: its number of events, its columns, and a row of their last counts.
 ghost use Rattle.std.specs.Prelude.{◌≡◌, ℕ, ◌<◌, ◌≤◌, [], length, map, OnOk, slice_index};
 ghost use Rattle.causal_clock.specs.Rises.{count_at, RisesStrictly};
-ghost use Rattle.causal_clock.specs.Inside.Columns.{column_in, raised, TellsAlike};
-ghost use Rattle.causal_clock.specs.Inside.Row.{KeepsRow};
+ghost use Rattle.causal_clock.specs.Inside.Columns.{column_in, column_after, SameOrNoNews};
+ghost use Rattle.causal_clock.specs.Inside.Row.{RowMatchesColumns};
 
 use crate::column::{count_at, reserve_rise};
 use crate::{EVENTS, Rise};
 use std::alloc::{AllocError, Global};
 
-/// How many events a lane has, and for each source lane where the count of its events rose. A lane has no columns until
-/// it receives, and none for a lane that was opened after its last receive. The column of the lane itself stays empty:
-/// that count is the place of the event and one more.
+/// The number of events of a lane, and for each source lane the places at which the count of its events rises. A lane
+/// has no columns until it receives, and none for a lane opened after its last receive. The column of the lane itself
+/// is empty: that count is the place of the event plus one.
 ///
-/// The row has the count that each column tells from `last` on, the place of the last rise, so that what is asked of a
-/// late place is not searched: `kept` says so. It has four bytes for each column.
+/// The row has the count of each column from `last` on, which is the place of the last rise (`kept`), so a query of a
+/// late place needs no search. It takes four bytes for each column.
 #[derive(Drop)]
-pub struct Lane {
+pub struct LaneColumns {
     pub events: u32,
     pub last: u32,
     pub columns: Vec<Vec<Rise>>,
     pub row: Vec<u32>,
-    ghost kept: { KeepsRow events last (map (λ c. c.items) columns.items) row.items },
+    ghost kept: { RowMatchesColumns events last (map (λ c. c.items) columns.items) row.items },
 }
 
-impl Lane {
-    ghost use Rattle.causal_clock.specs.Inside.Lanes.{rises_in, spares_in, HasRoom, SameButFor, SameColumns};
+impl LaneColumns {
+    ghost use Rattle.causal_clock.specs.Inside.Lanes.{rises_in, spares_in, HasReservedRises, SameButFor, SameColumns};
 
-    /// A lane with no event.
+    /// Returns a lane without events.
     pub fn new(alloc: Global) -> Self
         ensures events { result.events ≡ 0 }
         ensures columns { rises_in result ≡ [] }
@@ -39,7 +39,7 @@ impl Lane {
         }
     }
 
-    /// Where the count of the source lane's events rose.
+    /// Returns the rises of the lane by a source lane.
     pub fn rises(&self, source: u32) -> &[Rise]
         ensures { result.now ≡ column_in (rises_in self.now) source }
     {
@@ -49,7 +49,7 @@ impl Lane {
         }
     }
 
-    /// How many events of the source lane, another one, are reached from the last rise on.
+    /// Returns how many events of the source lane, which is another lane, reach this lane from the last rise on.
     pub fn last_count(&self, source: u32) -> u32
         ensures { result ≡ slice_index self.now.row.items source }
     {
@@ -59,7 +59,7 @@ impl Lane {
         }
     }
 
-    /// How many events of the source lane, another one, are reached from that place of this lane.
+    /// Returns how many events of the source lane, which is another lane, reach that place of this lane.
     pub fn count_at(&self, source: u32, place: u32) -> u32
         requires strictly { RisesStrictly (column_in (rises_in self.now) source) }
         ensures { result ≡ count_at (column_in (rises_in self.now) source) place }
@@ -71,11 +71,12 @@ impl Lane {
         }
     }
 
-    /// The same, for one who knows of so many of them: where there are no more, it may be any number up to that. Where
-    /// this lane never comes to reach more, nothing is searched.
-    pub fn news_at(&self, source: u32, place: u32, known: u32) -> u32
+    /// Returns how many events of the source lane reach that place, if they are more than `known`; else any number up
+    /// to `known`. Searches only if this lane's last count is greater than `known`.
+    pub fn count_if_greater(&self, source: u32, place: u32, known: u32) -> u32
         requires strictly { RisesStrictly (column_in (rises_in self.now) source) }
-        ensures { TellsAlike known result (count_at (column_in (rises_in self.now) source) place) }
+        ensures { SameOrNoNews known result (count_at (column_in
+            (rises_in self.now) source) place) }
     {
         if self.last_count(source) <= known {
             0
@@ -84,20 +85,20 @@ impl Lane {
         }
     }
 
-    /// Makes room for the rises that the next event brings, if it receives these counts. A refusal changes nothing else
-    /// either.
-    pub fn make_room(&mut self, alloc: Global, counts: &[u32]) -> Result<(), AllocError>
+    /// Reserves capacity for the rises that the next event adds if it receives these counts. If out of memory, the
+    /// columns are unchanged.
+    pub fn reserve_counts(&mut self, alloc: Global, counts: &[u32]) -> Result<(), AllocError>
         ensures events { self.new.events ≡ self.old.events }
         ensures same { SameColumns self.old self.new }
-        ensures room { OnOk result (HasRoom self.new counts.now) }
+        ensures room { OnOk result (HasReservedRises self.new counts.now) }
     {
-        self.widen(alloc, counts.len())?;
-        self.widen_row(counts.len())?;
+        self.add_columns(alloc, counts.len())?;
+        self.extend_row(counts.len())?;
         self.reserve_rises(counts)
     }
 
-    // Adds empty columns until there are that many.
-    fn widen(&mut self, alloc: Global, count: usize) -> Result<(), AllocError>
+    // Adds empty columns until there are `count`.
+    fn add_columns(&mut self, alloc: Global, count: usize) -> Result<(), AllocError>
         ensures events { self.new.events ≡ self.old.events }
         ensures same { SameColumns self.old self.new }
         ensures wide { OnOk result (count ≤ length (rises_in self.new)) }
@@ -108,8 +109,8 @@ impl Lane {
         Ok(())
     }
 
-    // Adds counts of 0 to the row until there are that many.
-    fn widen_row(&mut self, count: usize) -> Result<(), AllocError>
+    // Adds counts of 0 to the row until there are `count`.
+    fn extend_row(&mut self, count: usize) -> Result<(), AllocError>
         ensures events { self.new.events ≡ self.old.events }
         ensures same { rises_in self.new ≡ rises_in self.old }
         ensures wide { OnOk result (count ≤ length self.new.row.items) }
@@ -120,13 +121,13 @@ impl Lane {
         Ok(())
     }
 
-    // Makes room for one more rise in each column that the counts are to raise.
+    // Reserves capacity for one more rise in each column that the counts raise.
     fn reserve_rises(&mut self, counts: &[u32]) -> Result<(), AllocError>
         requires wide { length counts.now ≤ length (rises_in self.old) }
         requires counted { length counts.now ≤ length self.old.row.items }
         ensures events { self.new.events ≡ self.old.events }
         ensures same { rises_in self.new ≡ rises_in self.old }
-        ensures room { OnOk result (HasRoom self.new counts.now) }
+        ensures room { OnOk result (HasReservedRises self.new counts.now) }
     {
         for (source, count) in counts.iter().enumerate() {
             let known = self.row[source];
@@ -135,21 +136,22 @@ impl Lane {
         Ok(())
     }
 
-    /// Raises the columns to the counts that the next event receives. There is room, and nothing is refused.
-    pub fn raise(&mut self, counts: &[u32])
+    /// Raises the columns to the counts that the next event receives, in reserved capacity. Cannot fail.
+    pub fn append_counts(&mut self, counts: &[u32])
         requires few { self.old.events < EVENTS }
-        requires room { HasRoom self.old counts.now }
+        requires room { HasReservedRises self.old counts.now }
         ensures events { self.new.events ≡ self.old.events }
         ensures raised { (source : ℕ) → column_in (rises_in self.new) source
-            ≡ raised (column_in (rises_in self.old) source) self.old.events (slice_index counts.now source) }
+            ≡ column_after (column_in (rises_in self.old) source) self.old.events
+            (slice_index counts.now source) }
     {
         for (source, count) in counts.iter().enumerate() {
-            self.raise_column(source, *count);
+            self.append_count(source, *count);
         }
     }
 
-    // Raises one column to the count that the next event receives, if it is to rise: there is room for it then.
-    fn raise_column(&mut self, source: usize, count: u32)
+    // Raises one column, in reserved capacity, if the count that the next event receives is greater.
+    fn append_count(&mut self, source: usize, count: u32)
         requires few { self.old.events < EVENTS }
         requires column { source < length (rises_in self.old) }
         requires counted { source < length self.old.row.items }
@@ -157,7 +159,7 @@ impl Lane {
             0 < slice_index (spares_in self.old) source }
         ensures rest { SameButFor source self.old self.new }
         ensures raised { column_in (rises_in self.new) source
-            ≡ raised (column_in (rises_in self.old) source) self.old.events count }
+            ≡ column_after (column_in (rises_in self.old) source) self.old.events count }
     {
         if self.row[source] < count {
             let place = self.events;

@@ -1,4 +1,4 @@
--- What is written to the text of a trace, where what was read and written is known.
+-- What is written for the text of a trace, if the bytes of the reader and of the writer are known.
 use Rattle.std.proofs.Common.{◌≡◌, ◌<◌, List, ℕ, Option, None, Some, Result, Ok, Err, IfOk, inl, inr, length, take, sym, subst}
 use Rattle.std.specs.Prelude.{IfErr, IfSome, MatchResult}
 use Rattle.std.specs.Io.KnownBytes.{Appends}
@@ -8,12 +8,12 @@ use Rattle.causal_commands.specs.declared.ended.Ended.{Ended}
 use Rattle.causal_commands.specs.declared.ended.Ended.TheVariants.{Accepted, Breached, Ranged, Merged, Faulted, Ran, Refused, ReadFault, WriteFault, NoMemory, NoWorker, FinishFault}
 use Rattle.causal_commands.specs.declared.json.Question.{Question}
 use Rattle.causal_commands.specs.Json.{IsObject, object_of}
-use Rattle.causal_commands.specs.Written.{WritesAnswer}
-use Rattle.causal_commands.specs.Inside.Answers.{AreLinesFor, IsObjectFor, IsSilent, IsTold, IsWritten}
+use Rattle.causal_commands.specs.AnswerWrites.{WritesAnswer}
+use Rattle.causal_commands.specs.Inside.Answers.{AreLinesFor, IsObjectFor, WritesNothing, WritesWholeAnswer, IsWritten}
 use Rattle.causal_commands.proofs.Known.{IfSome-weaker}
 
--- what is written of an answer whole
-whole : (Answers : Ended → List ℕ → Type 0) (old new : Option (List ℕ)) (ended : Ended) (line : List ℕ) → IsTold ended → Answers ended line → Appends old new line → WritesAnswer Answers ended old new
+-- an answer that is appended whole is written as its ending requires
+whole : (Answers : Ended → List ℕ → Type 0) (old new : Option (List ℕ)) (ended : Ended) (line : List ℕ) → WritesWholeAnswer ended → Answers ended line → Appends old new line → WritesAnswer Answers ended old new
 whole Answers old new Accepted line told is all = (line, is, all)
 whole Answers old new Breached line told is all = (line, is, all)
 whole Answers old new Ranged line told is all = (line, is, all)
@@ -27,29 +27,29 @@ whole Answers old new NoMemory line told is all = absurd told
 whole Answers old new NoWorker line told is all = absurd told
 whole Answers old new FinishFault line told is all = absurd told
 
-written_so : (Answers : Ended → List ℕ → Type 0) (old new : Option (List ℕ)) (answer : Answer) (ended : Ended) → IsTold answer.ended → Answers answer.ended answer.line.items
+written_so : (Answers : Ended → List ℕ → Type 0) (old new : Option (List ℕ)) (answer : Answer) (ended : Ended) → WritesWholeAnswer answer.ended → Answers answer.ended answer.line.items
     → IsWritten answer ended old new → WritesAnswer Answers ended old new
 written_so Answers old new answer ended told is (inl all) =
     subst (λ (e : Ended). WritesAnswer Answers e old new) (sym all.0) (whole Answers old new answer.ended answer.line.items told is all.1)
 written_so Answers old new answer ended told is (inr some) =
     subst (λ (e : Ended). WritesAnswer Answers e old new) (sym some.0) (answer.ended, answer.line.items, some.1.0, is, some.1.1, some.1.2)
 
--- the line of an answer was written
+-- the whole line was appended
 pub line_written : (answer : Answer) (ended : Ended) (old new : Option (List ℕ)) (bytes : List ℕ) → bytes ≡ answer.line.items → ended ≡ answer.ended → Appends old new bytes → IsWritten answer ended old new
 line_written answer ended old new bytes same is all = inl (is, subst (Appends old new) same all)
 
--- its first bytes were
+-- a proper prefix of the line was appended
 pub line_begun : (answer : Answer) (ended : Ended) (old new : Option (List ℕ)) (bytes : List ℕ) (n : ℕ) → bytes ≡ answer.line.items → ended ≡ WriteFault → n < length bytes → Appends old new (take n bytes)
     → IsWritten answer ended old new
 line_begun answer ended old new bytes n same is some first =
     inr (is, (n, subst (λ b. n < length b) same some, subst (λ b. Appends old new (take n b)) same first))
 
--- the answer was written to what a reader gave
-pub writes : (Answers : List ℕ → Ended → List ℕ → Type 0) (known old new : Option (List ℕ)) (answer : Answer) (ended : Ended) → IsTold answer.ended
+-- an answer to the bytes of a reader is written as its ending requires
+pub writes : (Answers : List ℕ → Ended → List ℕ → Type 0) (known old new : Option (List ℕ)) (answer : Answer) (ended : Ended) → WritesWholeAnswer answer.ended
     → IfSome known (λ text. Answers text answer.ended answer.line.items) → IsWritten answer ended old new → IfSome known (λ text. WritesAnswer (Answers text) ended old new)
 writes Answers known old new answer ended told is w = IfSome-weaker known _ _ (λ text a. written_so (Answers text) old new answer ended told a w) is
 
-nothing_so : (Answers : Ended → List ℕ → Type 0) (old : Option (List ℕ)) (ended : Ended) → IsSilent ended → WritesAnswer Answers ended old old
+nothing_so : (Answers : Ended → List ℕ → Type 0) (old : Option (List ℕ)) (ended : Ended) → WritesNothing ended → WritesAnswer Answers ended old old
 nothing_so Answers old ReadFault silent = Keeps-refl old
 nothing_so Answers old NoMemory silent = Keeps-refl old
 nothing_so Answers old NoWorker silent = Keeps-refl old
@@ -67,17 +67,17 @@ known_all : (known : Option (List ℕ)) (P : List ℕ → Type 0) → ((bytes : 
 known_all None P all = tt
 known_all (Some bytes) P all = all bytes
 
--- nothing was written to it
-pub writes_nothing : (Answers : List ℕ → Ended → List ℕ → Type 0) (known old : Option (List ℕ)) (ended : Ended) → IsSilent ended → IfSome known (λ text. WritesAnswer (Answers text) ended old old)
+-- nothing is appended if the ending writes nothing
+pub writes_nothing : (Answers : List ℕ → Ended → List ℕ → Type 0) (known old : Option (List ℕ)) (ended : Ended) → WritesNothing ended → IfSome known (λ text. WritesAnswer (Answers text) ended old old)
 writes_nothing Answers known old ended silent = known_all known _ (λ text. nothing_so (Answers text) old ended silent)
 
--- what a call tells of what a reader gave, well or not
+-- both branches of a call's result, as one fact on the bytes of a reader
 pub tells : {A E : Type 0} (known : Option (List ℕ)) (P : A → List ℕ → Type 0) (Q : E → List ℕ → Type 0) (told : Result A E) → IfOk told (λ a. IfSome known (P a))
     → IfErr told (λ e. IfSome known (Q e)) → IfSome known (λ text. MatchResult told (λ a. P a text) (λ e. Q e text))
 tells known P Q (Ok a) ok err = ok
 tells known P Q (Err e) ok err = err
 
--- the object of the lines that answer
+-- the object of the lines that answer is the answer as JSON
 pub objects : (most : ℕ) (question : Question) (known : Option (List ℕ)) (lines answer : Answer) → answer.ended ≡ lines.ended → answer.line.items ≡ object_of lines.ended lines.line.items
     → AreLinesFor most question known lines.ended lines.line.items → IsObjectFor most question known answer.ended answer.line.items
 objects most question known lines answer ended object are =

@@ -1,4 +1,4 @@
--- How a run of the program can end.
+-- The exit status and the message of each ending of a command.
 use Rattle.std.specs.Prelude.{ℕ, List, Option, Some, None, codes}
 use Rattle.causal_commands.specs.declared.ended.Ended.{Ended}
 use Rattle.causal_commands.specs.declared.ended.Ended.TheVariants.{Accepted, Breached, Ranged, Merged, Faulted, Ran, Refused, ReadFault, WriteFault, NoMemory, NoWorker, FinishFault}
@@ -18,7 +18,7 @@ status_of NoMemory = 5
 status_of NoWorker = 5
 status_of FinishFault = 5
 
--- what is told on standard error of each ending
+-- the message of each ending on standard error; None if the answer was written whole
 abbrev pub text_of : Ended → Option (List ℕ)
 text_of Accepted = None
 text_of Breached = None

@@ -1,6 +1,6 @@
--- What private functions keep. No public clause cites these.
+-- Definitions for private contracts; no public contract cites them.
 pub mod Answers
-pub mod Printed
-pub mod Merged
+pub mod ScriptAnswers
+pub mod MergeOutcomes
 pub mod Refusals
-pub mod Told
+pub mod ReasonsForScripts

@@ -1,19 +1,20 @@
--- Why the program prints no trace for the text of a script.
+-- Why `run` writes no trace for the text of a script.
 use Rattle.std.specs.Prelude.{List, ℕ, Option, IfSome}
 use Rattle.causal_script.specs.declared.script.Script.{Script}
-use Rattle.causal_script.specs.Spelling.{Spells, plan_of}
+use Rattle.causal_script.specs.Spelling.{Spells, script_content}
 use Rattle.causal_script.specs.Faults.{IsFirstFault}
-use Rattle.causal_run.specs.Runs.{Tells}
-use Rattle.causal_run.specs.Members.{IsStartOf}
-use Rattle.causal_commands.specs.Runs.{read_of}
+use Rattle.causal_run.specs.Runs.{ExplainsRunFault}
+use Rattle.causal_run.specs.ScriptProcesses.{IsStartOf}
+use Rattle.causal_commands.specs.Runs.{script_bytes_read}
 use Rattle.causal_commands.specs.declared.script.Reason.{Reason}
 use Rattle.causal_commands.specs.declared.script.Reason.TheVariants as Why
 
--- the text is no script, and this is its first fault; or the script's run, by its own processes, is refused so
+-- the text is not a valid script, and this is its first error; or a refusal is that of the script's run, by its own
+-- processes
 abbrev pub IsReason : List ℕ → Reason → Type 0
 IsReason text (Why.Script fault) = IsFirstFault text fault
-IsReason text (Why.Run fault) = (script : Script) × Spells text (plan_of script) × Tells (IsStartOf script) script.commands fault
+IsReason text (Why.Run fault) = (script : Script) × Spells text (script_content script) × ExplainsRunFault (IsStartOf script) script.commands fault
 
--- a reason that is told is that of what a reader gives, where its bytes are known
-abbrev pub NamesReason : Option (List ℕ) → Option Reason → Type 0
-NamesReason given told = IfSome given (λ text. IfSome told (IsReason (read_of text)))
+-- the returned reason, if any, is true of the bytes read from a reader, if its bytes are known
+abbrev pub IsReasonFor : Option (List ℕ) → Option Reason → Type 0
+IsReasonFor given told = IfSome given (λ text. IfSome told (IsReason (script_bytes_read text)))

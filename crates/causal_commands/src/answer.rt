@@ -1,114 +1,121 @@
-//! The answer to the text of a trace, and how it is written.
+//! The answer to the text of a trace, and its output.
 ghost use Rattle.std.specs.Prelude.{◌≡◌, ◌≢◌, ℕ, List, Option, IfOk, IfErr, IfSome, Err};
-ghost use Rattle.causal_commands.specs.Remarks.{NamesFirstFault};
+ghost use Rattle.causal_commands.specs.Diagnostics.{IsDiagnosisFor};
 ghost use Rattle.causal_commands.specs.Streams.{IsAnswer, IsFaultLine};
-ghost use Rattle.causal_commands.specs.Inside.Answers.{IsSilent, IsTold, IsWritten, TellsJudged};
-ghost use Rattle.causal_commands.specs.Inside.Refusals.{IsRejectedSo, NamesRejected, TellsStop};
+ghost use Rattle.causal_commands.specs.Inside.Answers.{WritesNothing, WritesWholeAnswer, IsWritten, IsVerdictOrRefusal};
+ghost use Rattle.causal_commands.specs.Inside.Refusals.{IsTrueRefusal, IsTrueRefusalFor, ExplainsStreamRefusal};
 
+use crate::diagnostic::{DiagnosedFault, diagnose};
 use crate::ended::Ended;
-use crate::judged::Stopped;
-use crate::remark::{Refusal, refusal_of};
-use crate::stream::Told;
+use crate::input_audit::StreamRefusal;
+use crate::stream::Outcome;
 use causal_audit::verdict::Verdict;
 use causal_name::NoMemory;
-use causal_text::{Rejected, fault_line, write_whole};
+use causal_text::{TextRefusal, fault_line, write_whole};
 use causal_workers::{Judged, verdict_line};
 use std::alloc::Global;
 use std::io::Write;
 
-/// The line that answers a text, how the program ends that writes it, and the fault that it tells, with what stands before it.
+/// The line that answers a text, the ending after it is written, and, if it reports an error, that error with its
+/// context.
 #[derive(Drop)]
 pub(crate) struct Answer {
     pub ended: Ended,
     pub line: Vec<u8>,
-    pub rejected: Option<Rejected>,
+    pub refusal: Option<TextRefusal>,
 }
 
-/// Writes an answer, and tells how that ended and what more there is to say, for f, of the fault that it tells.
+/// Writes an answer and returns the outcome: the ending, and the diagnosis for f of the error that the answer reports,
+/// if any.
 pub(crate) fn write_answer<O: Write>(
     alloc: Global,
     output: &mut O,
     f: u16,
     answer: Answer,
-) -> Told<Refusal>
-    requires { IsTold answer.ended }
+) -> Outcome<DiagnosedFault>
+    requires { WritesWholeAnswer answer.ended }
     ensures written { IsWritten answer result.ended
         (O.contents output.old) (O.contents output.new) }
-    ensures fault { (most : ℕ) (given : Option (List ℕ)) → NamesRejected most given answer.rejected
-        → NamesFirstFault most given f result.fault }
-    ensures alone { result.ended ≢ Ended.NoWorker }
+    ensures fault { (most : ℕ) (given : Option (List ℕ)) →
+        IsTrueRefusalFor most given answer.refusal
+        → IsDiagnosisFor most given f result.fault }
+    ensures never_no_worker { result.ended ≢ Ended.NoWorker }
 {
     let Answer {
         ended,
         line,
-        rejected,
+        refusal: rejected,
     } = answer;
     let ended = match write_whole(line.as_slice(), output) {
         Ok(()) => ended,
         Err(_) => Ended::WriteFault,
     };
-    let fault = refusal_of(alloc, f, rejected);
-    Told { ended, fault }
+    let fault = diagnose(alloc, f, rejected);
+    Outcome { ended, fault }
 }
 
-/// The line that answers a text that is judged so, or how the program ends that writes none.
+/// Returns the answer to a text with this verdict or this refusal, or the ending if there is no line to write.
 pub(crate) fn verdict_answer(
     alloc: Global,
     f: u16,
-    judged: Result<Judged, Stopped>,
+    judged: Result<Judged, StreamRefusal>,
 ) -> Result<Answer, Ended>
     ensures ok { IfOk result (λ answer. (most : ℕ) (text : List ℕ)
-        → TellsJudged most text f judged → IsAnswer most text f answer.ended answer.line.items) }
+        → IsVerdictOrRefusal most text f judged →
+        IsAnswer most text f answer.ended answer.line.items) }
     ensures rejected { IfOk result (λ answer. (most : ℕ) (text : List ℕ)
-        → TellsJudged most text f judged → IfSome answer.rejected (IsRejectedSo most text)) }
-    ensures told { IfOk result (λ answer. IsTold answer.ended) }
-    ensures err { IfErr result IsSilent }
-    ensures alone { result ≡ Err Ended.NoWorker → judged ≡ Err Stopped.NoWorker }
+        → IsVerdictOrRefusal most text f judged →
+        IfSome answer.refusal (IsTrueRefusal most text)) }
+    ensures whole_answer { IfOk result (λ answer. WritesWholeAnswer answer.ended) }
+    ensures err { IfErr result WritesNothing }
+    ensures no_worker { result ≡ Err Ended.NoWorker → judged ≡ Err StreamRefusal.NoWorker }
 {
     match judged {
         Ok(judged) => match verdict_line(alloc, f, &judged) {
             Ok(line) => Ok(Answer {
                 ended: ended_of(judged.verdict),
                 line,
-                rejected: None,
+                refusal: None,
             }),
             Err(NoMemory) => Err(Ended::NoMemory),
         },
-        Err(stopped) => faulted(alloc, stopped),
+        Err(stopped) => fault_answer(alloc, stopped),
     }
 }
 
-/// The line of the fault of a text that got no verdict, or how the program ends that writes none.
-pub(crate) fn faulted(alloc: Global, stopped: Stopped) -> Result<Answer, Ended>
+/// Returns the line of the first error of a text without verdict, or the ending if there is no line to write.
+pub(crate) fn fault_answer(alloc: Global, stopped: StreamRefusal) -> Result<Answer, Ended>
     ensures ended { IfOk result (λ answer. answer.ended ≡ Ended.Faulted) }
-    ensures told { IfOk result (λ answer. IsTold answer.ended) }
-    ensures ok { IfOk result (λ answer. (most : ℕ) (text : List ℕ) → TellsStop most text stopped
+    ensures whole_answer { IfOk result (λ answer. WritesWholeAnswer answer.ended) }
+    ensures ok { IfOk result (λ answer. (most : ℕ) (text : List ℕ) →
+        ExplainsStreamRefusal most text stopped
         → IsFaultLine most text answer.line.items) }
     ensures rejected { IfOk result (λ answer. (most : ℕ) (text : List ℕ)
-        → TellsStop most text stopped → IfSome answer.rejected (IsRejectedSo most text)) }
-    ensures err { IfErr result IsSilent }
-    ensures alone { result ≡ Err Ended.NoWorker → stopped ≡ Stopped.NoWorker }
+        → ExplainsStreamRefusal most text stopped →
+        IfSome answer.refusal (IsTrueRefusal most text)) }
+    ensures err { IfErr result WritesNothing }
+    ensures no_worker { result ≡ Err Ended.NoWorker → stopped ≡ StreamRefusal.NoWorker }
 {
     match stopped {
-        Stopped::Text(rejected) => match fault_line(alloc, &rejected.fault) {
+        StreamRefusal::Text(rejected) => match fault_line(alloc, &rejected.fault) {
             Ok(line) => Ok(Answer {
                 ended: Ended::Faulted,
                 line,
-                rejected: Some(rejected),
+                refusal: Some(rejected),
             }),
             Err(NoMemory) => Err(Ended::NoMemory),
         },
-        Stopped::Read => Err(Ended::ReadFault),
-        Stopped::NoMemory => Err(Ended::NoMemory),
-        Stopped::NoWorker => Err(Ended::NoWorker),
+        StreamRefusal::Read => Err(Ended::ReadFault),
+        StreamRefusal::NoMemory => Err(Ended::NoMemory),
+        StreamRefusal::NoWorker => Err(Ended::NoWorker),
     }
 }
 
-/// How the program ends that writes the line of a verdict.
+/// Returns the ending after the line of this verdict is written.
 pub(crate) fn ended_of(verdict: Verdict) -> Ended
     ensures accepted { verdict ≡ Verdict.Accept → result ≡ Ended.Accepted }
     ensures breached { verdict ≢ Verdict.Accept → result ≡ Ended.Breached }
-    ensures told { IsTold result }
+    ensures whole_answer { WritesWholeAnswer result }
 {
     match verdict {
         Verdict::Accept => Ended::Accepted,

@@ -1,28 +1,28 @@
-//! How a run of the program ends.
+//! How a command ends: its exit status and its message.
 ghost use Rattle.std.specs.Prelude.{◌≡◌, option_map};
 
-/// How a run ended.
+/// How a command ended.
 #[derive(Clone, Copy)]
 pub enum Ended {
-    /// The line of a trace that is accepted was written.
+    /// The verdict or view of an accepted trace was written.
     Accepted,
-    /// The line of a trace that is not accepted was written.
+    /// The verdict or view of a trace that is not accepted was written.
     Breached,
-    /// The numbers of faults for which a trace is safe were written.
+    /// The bounds f for which a trace is safe were written.
     Ranged,
-    /// The trace of merged recordings was written.
+    /// The trace merged from recorder files was written.
     Merged,
-    /// The line of a text's, a script's or recordings' first fault was written.
+    /// The line of the first error of a trace, a script or recorder files was written; as a picture, nothing.
     Faulted,
     /// The trace of a script's run was written.
     Ran,
-    /// The line of a script's first refused command was written.
+    /// The line of the first refused command of a script was written.
     Refused,
     /// The reader failed. Nothing was written.
     ReadFault,
-    /// The writer failed, or took no byte. Some first bytes of the line were written.
+    /// The writer failed, or accepted no byte. Only the first bytes of the answer were written, if any.
     WriteFault,
-    /// Memory was refused. Nothing was written.
+    /// An allocation failed. Nothing was written.
     NoMemory,
     /// A worker could not be started. Nothing was written.
     NoWorker,
@@ -33,8 +33,8 @@ pub enum Ended {
 impl Ended {
     ghost use Rattle.causal_commands.specs.Endings.{status_of, text_of};
 
-    /// The program's exit status: 0, 1 or 2 after an answer that was written whole, 4 where a stream failed, 5 for want of
-    /// memory or of a thread, or where a run could not be finished.
+    /// Returns the program's exit status: 0, 1 or 2 after an answer that was written whole, 4 after a failed stream. It
+    /// is 5 if an allocation or the start of a thread failed, or a run could not be finished.
     pub fn status(self) -> u8
         ensures { result ≡ status_of self }
     {
@@ -47,7 +47,7 @@ impl Ended {
         }
     }
 
-    /// What is told on standard error, where no answer was written whole.
+    /// Returns the message for standard error; None if the answer was written whole.
     pub fn text(self) -> Option<&'static str>
         ensures { option_map (λ text. text.now) result ≡ text_of self }
     {

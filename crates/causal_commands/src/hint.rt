@@ -1,13 +1,13 @@
-//! What a script may have where a line is none of it.
+//! Hints on invalid lines of a script.
 ghost use Rattle.std.specs.Prelude.{◌≡◌, option_map};
-ghost use Rattle.causal_commands.specs.Hints as told;
+ghost use Rattle.causal_commands.specs.Hints as hints;
 
 use crate::script::Reason;
 use causal_script::ScriptFaultKind;
 
-/// What was expected at the line of a script's fault, where it is none of a script there; None of another reason.
+/// Returns what was expected at the line of a script's error, if that line is invalid there; None for any other reason.
 pub fn hint_of(reason: Reason) -> Option<&'static str>
-    ensures { option_map (λ text. text.now) result ≡ told.hint_of reason }
+    ensures { option_map (λ text. text.now) result ≡ hints.hint_of reason }
 {
     match reason {
         Reason::Script(fault) => match fault.kind {
@@ -19,7 +19,7 @@ pub fn hint_of(reason: Reason) -> Option<&'static str>
 }
 
 fn expected_at(line: u32) -> &'static str
-    ensures { result.now ≡ told.expected_at line }
+    ensures { result.now ≡ hints.expected_at line }
 {
     if line == 1 {
         "expected there: start ring N F H, start echo N F H or start tally N F, with N 1 to 256, F 0 to 65535 and H 0 to 255"

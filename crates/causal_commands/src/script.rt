@@ -1,13 +1,13 @@
-//! The run of a script, over any reader and writer.
+//! The command `run`, over any reader and writer.
 ghost use Rattle.std.specs.Prelude.{◌≡◌, Ok, IfOk, IfErr, IfSome};
-ghost use Rattle.causal_commands.specs.Runs.{IsPrinted, PrintsFor, ReadsNoMore};
-ghost use Rattle.causal_commands.specs.Reasons.{IsReason, NamesReason};
-ghost use Rattle.causal_commands.specs.Inside.Printed.{AnswersFault, AnswersStop, IsPrintedFor, PrintsNothing};
-ghost use Rattle.causal_commands.specs.Inside.Told.{TellsFault, TellsStop};
+ghost use Rattle.causal_commands.specs.Runs.{IsScriptAnswer, WritesScriptFor, ReadsAtMostScript};
+ghost use Rattle.causal_commands.specs.Reasons.{IsReason, IsReasonFor};
+ghost use Rattle.causal_commands.specs.Inside.ScriptAnswers.{IsScriptFaultAnswer, IsRefusalAnswer, IsPrintedFor, RunWritesNothing};
+ghost use Rattle.causal_commands.specs.Inside.ReasonsForScripts.{IsFaultReason, IsRefusalReason};
 
+use crate::bounded_read::{ReadFault, read_script};
 use crate::ended::Ended;
-use crate::reading::{ReadFault, read_script};
-use crate::stream::Told;
+use crate::stream::Outcome;
 use causal_name::NoMemory;
 use causal_run::{RunFault, run_script};
 use causal_script::{ScriptFault, ScriptFaultKind, parse_script, refused_line, script_line};
@@ -17,10 +17,10 @@ use std::io::{Read, Write};
 use std::sync::Wait;
 use thiserror::Error;
 
-/// Why no trace is printed.
+/// Why a script has no trace.
 #[derive(Clone, Copy, Debug, Error)]
 pub enum Reason {
-    /// The text is no script: this is its first fault.
+    /// The text is not a valid script: its first error.
     #[error(transparent)]
     Script(ScriptFault),
     /// The runtime refused a command.
@@ -28,70 +28,60 @@ pub enum Reason {
     Run(RunFault),
 }
 
-/// Reads the text of a script, runs it, and writes the trace of its run; or one line, where a command is refused or the text
-/// is no script. Where the reader or the writer fails, or memory is refused, or the shared runtime can't be finished, the
-/// answer says so.
+/// Reads the text of a script, runs it and writes the trace of the run. If a command is refused or the text is not a
+/// valid script, it writes one line with that, and the outcome has the error or the refusal. The ending reports a failure
+/// of the reader, the writer or an allocation, and a shared runtime that could not be finished.
 ///
-/// At most 1,048,577 bytes of the text are read, which is one more than a script may have.
-pub fn run_stream<R: Wait, I: Read, O: Write>(
+/// At most 1,048,577 bytes of the text are read, one more than a script may have.
+pub fn answer_script<R: Wait, I: Read, O: Write>(
     rt: &R,
     alloc: Global,
     input: &mut I,
     output: &mut O,
-) -> Ended
-    ensures prints { PrintsFor (I.remaining input.old) result
+) -> Outcome<Reason>
+    ensures prints { WritesScriptFor (I.remaining input.old) result.ended
         (O.contents output.old) (O.contents output.new) }
-    ensures most { ReadsNoMore (I.remaining input.old) (I.remaining input.new) }
+    ensures reason { IsReasonFor (I.remaining input.old) result.fault }
+    ensures most { ReadsAtMostScript (I.remaining input.old) (I.remaining input.new) }
 {
-    run_and_tell(rt, alloc, input, output).ended
-}
-
-/// The same, with the reason beside how the run ended, so that more can be said of it.
-pub fn run_and_tell<R: Wait, I: Read, O: Write>(
-    rt: &R,
-    alloc: Global,
-    input: &mut I,
-    output: &mut O,
-) -> Told<Reason>
-    ensures prints { PrintsFor (I.remaining input.old) result.ended
-        (O.contents output.old) (O.contents output.new) }
-    ensures reason { NamesReason (I.remaining input.old) result.fault }
-    ensures most { ReadsNoMore (I.remaining input.old) (I.remaining input.new) }
-{
-    let Answer {
+    let ScriptAnswer {
         ended,
         text,
         reason,
     } = match answer_from(rt, alloc, input) {
         Ok(answer) => answer,
-        Err(ended) => return Told { ended, fault: None },
+        Err(ended) => return Outcome { ended, fault: None },
     };
     match write_whole(text.as_slice(), output) {
-        Ok(()) => Told {
+        Ok(()) => Outcome {
             ended,
             fault: reason,
         },
-        Err(_) => Told {
+        Err(_) => Outcome {
             ended: Ended::WriteFault,
             fault: reason,
         },
     }
 }
 
-/// What answers the text of a script, how the program ends that writes it, and why it is no trace.
+/// The text that answers a script, the ending after it is written, and, if it is not a trace, the reason.
 #[derive(Drop)]
-struct Answer {
+struct ScriptAnswer {
     ended: Ended,
     text: Vec<u8>,
     reason: Option<Reason>,
 }
 
-fn answer_from<R: Wait, I: Read>(rt: &R, alloc: Global, input: &mut I) -> Result<Answer, Ended>
+fn answer_from<R: Wait, I: Read>(
+    rt: &R,
+    alloc: Global,
+    input: &mut I,
+) -> Result<ScriptAnswer, Ended>
     ensures ok { IfOk result
         (λ answer. IsPrintedFor (I.remaining input.old) answer.ended answer.text.items) }
-    ensures reason { IfOk result (λ answer. NamesReason (I.remaining input.old) answer.reason) }
-    ensures err { IfErr result PrintsNothing }
-    ensures most { ReadsNoMore (I.remaining input.old) (I.remaining input.new) }
+    ensures reason { IfOk result (λ answer. IsReasonFor (I.remaining input.old) answer.reason) }
+    ensures err { IfErr result RunWritesNothing }
+    ensures most { ReadsAtMostScript (I.remaining input.old) (I.remaining input.new) }
 {
     match read_script(alloc, input) {
         Ok(text) => answer_to(rt, alloc, text.as_slice()),
@@ -100,29 +90,29 @@ fn answer_from<R: Wait, I: Read>(rt: &R, alloc: Global, input: &mut I) -> Result
     }
 }
 
-fn answer_to<R: Wait>(rt: &R, alloc: Global, text: &[u8]) -> Result<Answer, Ended>
-    ensures ok { IfOk result (λ answer. IsPrinted text.now answer.ended answer.text.items) }
+fn answer_to<R: Wait>(rt: &R, alloc: Global, text: &[u8]) -> Result<ScriptAnswer, Ended>
+    ensures ok { IfOk result (λ answer. IsScriptAnswer text.now answer.ended answer.text.items) }
     ensures reason { IfOk result (λ answer. IfSome answer.reason (IsReason text.now)) }
-    ensures err { IfErr result PrintsNothing }
+    ensures err { IfErr result RunWritesNothing }
 {
     let script = match parse_script(alloc, text) {
         Ok(script) => script,
-        Err(fault) => return faulted(alloc, fault),
+        Err(fault) => return fault_answer(alloc, fault),
     };
     match run_script(rt, alloc, &script) {
-        Ok(trace) => told(Ended::Ran, text_of(alloc, &trace), None),
-        Err(fault) => stopped(alloc, fault),
+        Ok(trace) => line_answer(Ended::Ran, text_of(alloc, &trace), None),
+        Err(fault) => refusal_answer(alloc, fault),
     }
 }
 
-fn faulted(alloc: Global, fault: ScriptFault) -> Result<Answer, Ended>
-    ensures ok { IfOk result (λ answer. AnswersFault fault answer.ended answer.text.items) }
-    ensures reason { IfOk result (λ answer. TellsFault fault answer.reason) }
-    ensures err { IfErr result PrintsNothing }
+fn fault_answer(alloc: Global, fault: ScriptFault) -> Result<ScriptAnswer, Ended>
+    ensures ok { IfOk result (λ answer. IsScriptFaultAnswer fault answer.ended answer.text.items) }
+    ensures reason { IfOk result (λ answer. IsFaultReason fault answer.reason) }
+    ensures err { IfErr result RunWritesNothing }
 {
     match fault.kind {
         ScriptFaultKind::NoMemory => Err(Ended::NoMemory),
-        _ => told(
+        _ => line_answer(
             Ended::Faulted,
             script_line(alloc, &fault),
             Some(Reason::Script(fault)),
@@ -130,16 +120,16 @@ fn faulted(alloc: Global, fault: ScriptFault) -> Result<Answer, Ended>
     }
 }
 
-fn stopped(alloc: Global, fault: RunFault) -> Result<Answer, Ended>
-    ensures ok { IfOk result (λ answer. AnswersStop fault answer.ended answer.text.items) }
-    ensures reason { IfOk result (λ answer. TellsStop fault answer.reason) }
-    ensures err { IfErr result PrintsNothing }
+fn refusal_answer(alloc: Global, fault: RunFault) -> Result<ScriptAnswer, Ended>
+    ensures ok { IfOk result (λ answer. IsRefusalAnswer fault answer.ended answer.text.items) }
+    ensures reason { IfOk result (λ answer. IsRefusalReason fault answer.reason) }
+    ensures err { IfErr result RunWritesNothing }
 {
     match fault {
         RunFault::Refused {
             line,
             fault: refusal,
-        } => told(
+        } => line_answer(
             Ended::Refused,
             refused_line(alloc, line, refusal),
             Some(Reason::Run(fault)),
@@ -149,18 +139,18 @@ fn stopped(alloc: Global, fault: RunFault) -> Result<Answer, Ended>
     }
 }
 
-/// A line, unless it was refused its memory.
-fn told(
+/// Returns the answer with this text; `NoMemory` if the text could not be allocated.
+fn line_answer(
     ended: Ended,
     line: Result<Vec<u8>, NoMemory>,
     reason: Option<Reason>,
-) -> Result<Answer, Ended>
+) -> Result<ScriptAnswer, Ended>
     ensures ok { IfOk result (λ answer. (answer.ended ≡ ended) × (line ≡ Ok answer.text)) }
     ensures reason { IfOk result (λ answer. answer.reason ≡ reason) }
-    ensures err { IfErr result PrintsNothing }
+    ensures err { IfErr result RunWritesNothing }
 {
     match line {
-        Ok(text) => Ok(Answer {
+        Ok(text) => Ok(ScriptAnswer {
             ended,
             text,
             reason,

@@ -10,7 +10,7 @@ use Rattle.causal_name.specs.declared.Det.{Det}
 use Rattle.causal_name.specs.Names.{same_det}
 use Rattle.causal_log.specs.declared.known.Known.{Known}
 use Rattle.causal_log.specs.Knowledge.{as_stable}
-use Rattle.causal_log.specs.Logs.{LogMap, mark, marked}
+use Rattle.causal_log.specs.Logs.{LogMap, mark, after_mark}
 use Rattle.causal_log.proofs.Lemmas.Searches.{any_map, any_dets}
 use Rattle.causal_trace.specs.declared.entry.Entry.{Entry}
 use Rattle.causal_trace.specs.declared.entry.Entry.TheVariants.{Stable}
@@ -18,51 +18,51 @@ use Rattle.causal_trace.specs.Past.{listed_in}
 use Rattle.causal_trace.specs.Rows as Rows
 use Rattle.causal_trace.specs.Rows.{IsWellFormed}
 use Rattle.causal_trace.proofs.Lemmas.WellFormed.{formed_push, formed_short}
-use Rattle.causal_protocol.specs.declared.request.Request.TheVariants as Ask
-use Rattle.causal_protocol.specs.Memory.{Memory, Memories, at, changed, with_log}
+use Rattle.causal_protocol.specs.declared.request.Request.TheVariants as Requests
+use Rattle.causal_protocol.specs.Memory.{Memory, Memories, present_at, update_at, with_log}
 use Rattle.causal_protocol.specs.Run.{Run, memories, memories_of}
-use Rattle.causal_protocol.specs.Steps.{extended}
-use Rattle.causal_core.specs.Inside.Facts.{Fits, FitsAt, AllFit, IsHeld}
+use Rattle.causal_protocol.specs.Steps.{extend_run}
+use Rattle.causal_core.specs.Inside.MemoryInvariant.{MatchesEntries, MatchesEntriesAt, AllMatchEntries, IsRunData}
 use Rattle.causal_core.proofs.MemoriesFit.{fits_other, all_fit_set, placed_more}
 use Rattle.causal_core.proofs.RuntimeDelivery.{insert_all}
 
--- what passes for all passes for one of them
+-- a test that passes for all passes for one
 all_at : (P : Det → Bool) (ds : List Det) (d : Det) → list_all P ds ≡ true → list_any (same_det d) ds ≡ true → P d ≡ true
 all_at P [] d all h = absurd (false≢true h)
 all_at P (x ∷ ds) d all h = grind (arith, all_at P ds d (and_parts (P x) (list_all P ds) all).1)
 
--- a determinant that is logged
+-- a test that passes for a whole log passes for a logged determinant
 pub logged_passes : (P : Det → Bool) (log : LogMap) (d : Det) → list_all P (fin.keys log) ≡ true → is_some (fin.get log d) ≡ true → P d ≡ true
 logged_passes P log d all h = all_at P (fin.keys log) d all (any_map (λ e. e.0) (same_det d) (λ e. same_det d e.0) (λ x. refl) (fin.entries log) ∙ any_dets d log ∙ h)
 
-pub marked_all : (P : Det → Bool) (log : LogMap) (d : Det) → list_all P (fin.keys log) ≡ true → list_all P (fin.keys (marked log d)) ≡ true
+pub marked_all : (P : Det → Bool) (log : LogMap) (d : Det) → list_all P (fin.keys log) ≡ true → list_all P (fin.keys (after_mark log d)) ≡ true
 marked_all P log d all = by (fin.get log d) refl
   where
     by : (o : Option Known) → fin.get log d ≡ o → list_all P (fin.keys (mark log d o)) ≡ true
     by None is = all
     by (Some k) is = insert_all P log d (as_stable k) (logged_passes P log d all (ap is_some is)) all
 
--- p's memory with one more mark
-marked_fits : (past : List Entry) (p : ℕ) (det : Det) (m : Memory) → Fits past p m → Fits (Stable det ∷ past) p (with_log (λ log. marked log det) m)
+-- p's memory with one more mark matches the entries
+marked_fits : (past : List Entry) (p : ℕ) (det : Det) (m : Memory) → MatchesEntries past p m → MatchesEntries (Stable det ∷ past) p (with_log (λ log. after_mark log det) m)
 marked_fits past p det m fit = grind (arith, marked_all, placed_more)
 
-fits_option : (past : List Entry) (p : ℕ) (det : Det) (o : Option Memory) → FitsAt past p o → FitsAt (Stable det ∷ past) p (option_map (with_log (λ log. marked log det)) o)
+fits_option : (past : List Entry) (p : ℕ) (det : Det) (o : Option Memory) → MatchesEntriesAt past p o → MatchesEntriesAt (Stable det ∷ past) p (option_map (with_log (λ log. after_mark log det)) o)
 fits_option past p det o h = grind (arith, marked_fits)
 
--- what p logs was delivered, so nothing stands against its stable entry
-pub stable_legal : (n : ℕ) (past : List Entry) (p : ℕ) (det : Det) (m : Memory) → Fits past p m → is_some (fin.get m.log det) ≡ true → length past < 16777216 → listed_in past ≤ 268435456 → Rows.first_fault n past (Stable det) ≡ None
-unfolding Rows.rows
+-- each determinant that p logs was delivered, so its stable entry is legal
+pub stable_legal : (n : ℕ) (past : List Entry) (p : ℕ) (det : Det) (m : Memory) → MatchesEntries past p m → is_some (fin.get m.log det) ≡ true → length past < 16777216 → listed_in past ≤ 268435456 → Rows.first_fault n past (Stable det) ≡ None
+unfolding Rows.refusal_rows
 stable_legal n past p det m fit logged short within = grind (arith, logged_passes)
 
--- the same of a process that is up in a run
-pub stable_may : (r : Run) (p : Pid) (det : Det) → AllFit r.recording.processes r.recording.past (memories_of r) → p.0 < r.recording.processes → is_some (at (memories_of r) p.0) ≡ true → is_some (fin.get (log_at (memories_of r) p.0) det) ≡ true → length r.recording.past < 16777216 → IsWellFormed r.recording
+-- the stable entry of a determinant that an up process of a run logs is legal
+pub stable_may : (r : Run) (p : Pid) (det : Det) → AllMatchEntries r.recording.processes r.recording.past (memories_of r) → p.0 < r.recording.processes → is_some (present_at (memories_of r) p.0) ≡ true → is_some (fin.get (log_at (memories_of r) p.0) det) ≡ true → length r.recording.past < 16777216 → IsWellFormed r.recording
     → Rows.first_fault r.recording.processes r.recording.past (Stable det) ≡ None
 stable_may r p det fit process up logged short formed = grind (arith, stable_legal, formed_short)
 
--- once p has marked the determinant, the memories are those of the run with its stable entry
-pub stable_held : (r : Run) (ms : Memories) (p : Pid) (det : Det) → IsHeld r ms → p.0 < r.recording.processes → Rows.first_fault r.recording.processes r.recording.past (Stable det) ≡ None → IsHeld (extended r (Ask.Flush p) (Stable det ∷ [])) (changed (with_log (λ log. marked log det)) ms p.0)
+-- after p marked the determinant, the memories are those of the run with its stable entry
+pub stable_held : (r : Run) (ms : Memories) (p : Pid) (det : Det) → IsRunData r ms → p.0 < r.recording.processes → Rows.first_fault r.recording.processes r.recording.past (Stable det) ≡ None → IsRunData (extend_run r (Requests.Flush p) (Stable det ∷ [])) (update_at (with_log (λ log. after_mark log det)) ms p.0)
 unfolding memories
-stable_held r ms p det held process next =
+stable_held r ms p det run_data process next =
     grind (
       arith,
       all_fit_set r.recording.processes r.recording.past (Stable det ∷ r.recording.past) ms p.0,

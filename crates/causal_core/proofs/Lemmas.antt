@@ -1,2 +1,2 @@
--- What crates above may cite of this crate's proofs.
+-- Lemmas of this crate that other crates may use.
 pub mod Slices

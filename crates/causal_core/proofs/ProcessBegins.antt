@@ -9,20 +9,20 @@ use Rattle.causal_name.specs.declared.Det.{Det}
 use Rattle.causal_name.specs.Names.{det_cmp}
 use Rattle.causal_process.specs.declared.message.Input.{Input}
 use Rattle.causal_process.specs.declared.message.Outgoing.{Outgoing}
-use Rattle.causal_log.specs.Logs.{LogMap, chosen}
-use Rattle.causal_log.specs.Stores.{DetSet, has}
+use Rattle.causal_log.specs.Logs.{LogMap, batch_items}
+use Rattle.causal_log.specs.Stores.{DetSet, set_has}
 use Rattle.causal_trace.specs.declared.entry.Entry.{Entry}
 use Rattle.causal_trace.specs.Limits.{IsProcessCount}
 use Rattle.causal_trace.specs.Past.{is_stable}
-use Rattle.causal_protocol.specs.Memory.{Memories, fresh, at}
+use Rattle.causal_protocol.specs.Memory.{Memories, new_memory, present_at}
 use Rattle.causal_protocol.specs.Run.{Run, memories, memories_of}
-use Rattle.causal_protocol.specs.Runs.{Opens}
-use Rattle.causal_protocol.specs.Steps.{pushed, sends_of}
-use Rattle.causal_core.specs.Boxes.{Began}
-use Rattle.causal_core.specs.Inside.Facts.{Fits, FitsAt, IsHeld}
-use Rattle.causal_core.specs.Inside.Begins.{begun_by, MayBegin, Begins, HaveBegun}
+use Rattle.causal_protocol.specs.Runs.{HaveBegunBelow}
+use Rattle.causal_protocol.specs.Steps.{append_all, sends_of}
+use Rattle.causal_core.specs.Boxes.{BoxesBegan}
+use Rattle.causal_core.specs.Inside.MemoryInvariant.{MatchesEntries, MatchesEntriesAt, IsRunData}
+use Rattle.causal_core.specs.Inside.Begins.{run_after_begin, CanBegin, Begins, HaveBegun}
 use Rattle.causal_core.specs.Starts.{with_beginning, with_beginnings, opening}
-use Rattle.causal_core.specs.View.{DataState, receivers, sent_bodies}
+use Rattle.causal_core.specs.View.{RunDataState, receivers, sent_bodies}
 use Rattle.causal_core.specs.Inside.Memories.{keep_all}
 use Rattle.causal_core.proofs.RuntimeSend.{memories_sends, are_sends, receivers_below, receivers_long, addressed_few, pushed_length, sends_length}
 use Rattle.causal_core.proofs.BoxLemmas.{Began-push}
@@ -31,45 +31,45 @@ use Rattle.causal_core.proofs.StoreEntries.{sends_unstable}
 use Rattle.causal_core.proofs.RestartCounts.{keys_have}
 use Rattle.causal_core.proofs.RuntimeRestart.{all_of}
 
--- a log of nothing passes each test
+-- an empty log passes each test
 pub none_pass : (P : Det → Bool) (log : LogMap) → log ≡ fin.empty → list_all P (fin.keys log) ≡ true
 none_pass P log is = all_of P (fin.keys log) (λ d there. absurd (false≢true (sym (keys_have log d ∙ ap (λ m. is_some (fin.get m d)) is ∙ ap is_some (fin.get-empty det_cmp d)) ∙ there)))
 
-fits_first : (p : ℕ) → Fits [] p (fresh fin.empty)
+fits_first : (p : ℕ) → MatchesEntries [] p (new_memory fin.empty)
 fits_first p = grind (arith, none_pass)
 
-at_replicate : {X : Type 0} (n p : ℕ) (x : Option X) → p < n → at (replicate n x) p ≡ x
+at_replicate : {X : Type 0} (n p : ℕ) (x : Option X) → p < n → present_at (replicate n x) p ≡ x
 at_replicate zero p x h = absurd (omega (arith, h))
 at_replicate (suc n) zero x h = refl
 at_replicate (suc n) (suc p) x h = at_replicate n p x (omega (arith, h))
 
--- what processes have before they begin fits a run in which nothing has happened
-pub fresh_held : (n f : ℕ) (ms : Memories) → IsProcessCount n → ms ≡ replicate n (Some (fresh fin.empty)) → IsHeld (opening n f []) ms
+-- the memories of processes before they begin match a run in which nothing has happened
+pub fresh_held : (n f : ℕ) (ms : Memories) → IsProcessCount n → ms ≡ replicate n (Some (new_memory fin.empty)) → IsRunData (opening n f []) ms
 unfolding memories
 fresh_held n f ms count is = record {
   same = is;
   fit = record {
-    count = ap length is ∙ length-replicate n (Some (fresh fin.empty));
-    each = λ p h. subst (FitsAt [] p) (sym (ap (λ xs. at xs p) is ∙ at_replicate n p (Some (fresh fin.empty)) h)) (fits_first p);
+    count = ap length is ∙ length-replicate n (Some (new_memory fin.empty));
+    each = λ p h. subst (MatchesEntriesAt [] p) (sym (ap (λ xs. present_at xs p) is ∙ at_replicate n p (Some (new_memory fin.empty)) h)) (fits_first p);
   };
   formed = record { count = count; accepted = tt };
 }
 
 -- the memories of a run in which a process begins
-module _ (r : Run) (ms : Memories) (held : IsHeld r ms) (p : Pid) (may : MayBegin p.0 r) where
-  pub begun_memories : (tos : List Pid) → slice_set ms p.0 (Some (keep_all (length r.recording.past) (chosen r.faults fin.empty) tos (fresh fin.empty))) ≡ memories r.recording.processes r.faults r.writers (pushed (sends_of p 0 tos) r.recording.past)
+module _ (r : Run) (ms : Memories) (run_data : IsRunData r ms) (p : Pid) (may : CanBegin p.0 r) where
+  pub begun_memories : (tos : List Pid) → slice_set ms p.0 (Some (keep_all (length r.recording.past) (batch_items r.faults fin.empty) tos (new_memory fin.empty))) ≡ memories r.recording.processes r.faults r.writers (append_all (sends_of p 0 tos) r.recording.past)
   begun_memories tos =
-      memories_sends r.recording.processes r.faults r.writers r.recording.past p 0 tos ms (fresh fin.empty) held.same
-      (let process = may.process in let count = held.fit.count in omega (arith, process, count))
-      (ap (λ xs. at xs p.0) held.same ∙ may.fresh_yet)
+      memories_sends r.recording.processes r.faults r.writers r.recording.past p 0 tos ms (new_memory fin.empty) run_data.same
+      (let process = may.process in let count = run_data.fit.count in omega (arith, process, count))
+      (ap (λ xs. present_at xs p.0) run_data.same ∙ may.fresh_yet)
 
--- one more beginning
+-- one more process begins
 beginnings_last : (n p : ℕ) (sends : List (List Outgoing)) (sent : List Outgoing) (past : List Entry) → with_beginnings n p (sends ++ sent ∷ []) past ≡ with_beginning n (p + length sends) sent (with_beginnings n p sends past)
 unfolding with_beginnings
 beginnings_last n p [] sent past = ap (λ k. with_beginning n k sent past) (omega arith)
 beginnings_last n p (s ∷ sends) sent past = grind (arith, beginnings_last n (p + 1) sends sent (with_beginning n p s past))
 
--- it is at most eight entries
+-- it records at most eight entries
 beginning_short : (n p : ℕ) (sent : List Outgoing) (past : List Entry) → length sent ≤ 8 → length (with_beginning n p sent past) ≤ length past + 8
 beginning_short n p sent past few = grind (arith, pushed_length, sends_length, receivers_long, addressed_few)
 
@@ -80,21 +80,21 @@ set_after {X = X} xs rest x y k is = ap (λ i. slice_set (xs ++ x ∷ rest) i y)
     by [] = refl
     by (z ∷ zs) = ap (λ ws. z ∷ ws) (by zs)
 
-began_sends : {B : Type 0} (answers : B → List Input → List (List Outgoing)) (boxes : List B) (sends : List (List Outgoing)) (slots : List (Option B)) → Began answers boxes sends slots → (length sends ≡ length boxes) × (length slots ≡ length boxes)
+began_sends : {B : Type 0} (answers : B → List Input → List (List Outgoing)) (boxes : List B) (sends : List (List Outgoing)) (slots : List (Option B)) → BoxesBegan answers boxes sends slots → (length sends ≡ length boxes) × (length slots ≡ length boxes)
 began_sends answers [] sends slots h = grind arith
 began_sends answers (each ∷ others) sends slots h = grind (arith, began_sends answers others)
 
 module _ {B : Type 0} (answers : B → List Input → List (List Outgoing)) where
-  pub slots_long : (n f : ℕ) (boxes : List B) (slots : List (Option B)) (d : DataState) → HaveBegun answers n f boxes slots d → length slots ≡ length boxes
+  pub slots_long : (n f : ℕ) (boxes : List B) (slots : List (Option B)) (d : RunDataState) → HaveBegun answers n f boxes slots d → length slots ≡ length boxes
   slots_long n f boxes slots d h = (began_sends answers boxes h.sends slots h.began).1
 
-  -- before any box has begun
-  pub none_begun : (n f : ℕ) (d : DataState) (slots : List (Option B)) → slots ≡ [] → d.run ≡ opening n f [] → d.bodies ≡ replicate n [] → HaveBegun answers n f [] slots d
+  -- before any box began
+  pub none_begun : (n f : ℕ) (d : RunDataState) (slots : List (Option B)) → slots ≡ [] → d.run ≡ opening n f [] → d.bodies ≡ replicate n [] → HaveBegun answers n f [] slots d
   unfolding with_beginnings memories
   none_begun n f d slots empty run bodies = grind (arith, at_replicate)
 
-  -- one more box has begun
-  module _ (n f : ℕ) (boxes : List B) (slots next : List (Option B)) (was is : DataState) (b : B) (h : HaveBegun answers n f boxes slots was) (one : Begins answers b slots next was is) (low : length boxes < n) where
+  -- one more box begins
+  module _ (n f : ℕ) (boxes : List B) (slots next : List (Option B)) (was is : RunDataState) (b : B) (h : HaveBegun answers n f boxes slots was) (one : Begins answers b slots next was is) (low : length boxes < n) where
     longer : length (boxes ++ b ∷ []) ≡ suc (length boxes)
     longer = let l = length-append boxes (b ∷ []) in omega (arith, l)
 
@@ -124,16 +124,16 @@ module _ {B : Type 0} (answers : B → List Input → List (List Outgoing)) wher
     unfolding sends
     more_begun = record {
       sends = sends;
-      began = subst (Began answers (boxes ++ b ∷ []) (h.sends ++ one.sends ∷ [])) (sym one.slots) (Began-push answers boxes h.sends slots b one.sends one.slot h.began one.box);
+      began = subst (BoxesBegan answers (boxes ++ b ∷ []) (h.sends ++ one.sends ∷ [])) (sym one.slots) (Began-push answers boxes h.sends slots b one.sends one.slot h.began one.box);
       run =
           one.told.run
-          ∙ (λ i. begun_by (h.run i) (many.1 i) one.sends)
+          ∙ (λ i. run_after_begin (h.run i) (many.1 i) one.sends)
           ∙ ap (opening n f) (ap (λ k. with_beginning n k one.sends (with_beginnings n 0 h.sends [])) (let m = many.0 in let e : length boxes ≡ 0 + length h.sends = omega (arith, m) in e) ∙ sym (beginnings_last n 0 h.sends one.sends []));
       bodies = bodies_are;
       fresh_yet = λ q over high. one.told.others q (λ e. absurd (let l = longer in let m = many.1 in omega (arith, l, m, e, over))) ∙ h.fresh_yet q (let l = longer in omega (arith, l, over)) high;
       short = let a = ap length past_is in let s = beginning_short n (length boxes) one.sends was.run.recording.past one.few in let l = longer in let m = h.short in omega (arith, a, s, l, m);
       opens =
-          subst (λ k. Opens n k is.run.recording.past) (sym longer)
+          subst (λ k. HaveBegunBelow n k is.run.recording.past) (sym longer)
           (was.run.recording.past, length (receivers n one.sends), sends_of (record { 0 = length boxes }) 0 (receivers n one.sends), h.opens, are_sends n (record { 0 = length boxes }) 0 (length (receivers n one.sends)) (receivers n one.sends) (receivers_below n one.sends) refl (let few = one.few in let a = addressed_few n one.sends in let b = receivers_long n one.sends in omega (arith, few, a, b)), past_is);
     }
 
@@ -142,11 +142,11 @@ unfolding with_beginnings
 beginnings_up n f p [] past = refl
 beginnings_up n f p (s ∷ sends) past = beginnings_up n f (p + 1) sends (with_beginning n p s past) ∙ sends_up n f [] (record { 0 = p }) 0 (receivers n s) past
 
-up_first : (n : ℕ) → map is_some (replicate n (Some (fresh fin.empty))) ≡ replicate n true
+up_first : (n : ℕ) → map is_some (replicate n (Some (new_memory fin.empty))) ≡ replicate n true
 up_first zero = refl
 up_first (suc n) = ap (λ bits. true ∷ bits) (up_first n)
 
--- once all have begun, each process is up
+-- after all boxes began, each process is up
 pub all_up : (n f : ℕ) (sends : List (List Outgoing)) (r : Run) → r ≡ opening n f (with_beginnings n 0 sends []) → map is_some (memories_of r) ≡ replicate n true
 unfolding memories
 all_up n f sends r is = ap (λ x. map is_some (memories_of x)) is ∙ beginnings_up n f 0 sends [] ∙ up_first n
@@ -156,10 +156,10 @@ unfolding with_beginnings
 beginnings_unstable n p [] past d = refl
 beginnings_unstable n p (s ∷ sends) past d = beginnings_unstable n (p + 1) sends (with_beginning n p s past) d ∙ sends_unstable (record { 0 = p }) 0 (receivers n s) past d
 
--- and nothing is stable, so an empty store has just that
-pub none_stored : (n f : ℕ) (sends : List (List Outgoing)) (r : Run) (s : DetSet) → r ≡ opening n f (with_beginnings n 0 sends []) → s ≡ fin.empty → (d : Det) → has s d ≡ is_stable r.recording.past d
+-- nothing is stable, so an empty store contains exactly that
+pub none_stored : (n f : ℕ) (sends : List (List Outgoing)) (r : Run) (s : DetSet) → r ≡ opening n f (with_beginnings n 0 sends []) → s ≡ fin.empty → (d : Det) → set_has s d ≡ is_stable r.recording.past d
 none_stored n f sends r s is none d = grind (arith, fin.get-empty, beginnings_unstable)
 
--- the next box may begin
-pub may_begin : {B : Type 0} (answers : B → List Input → List (List Outgoing)) (n f : ℕ) (boxes : List B) (slots : List (Option B)) (d : DataState) → HaveBegun answers n f boxes slots d → length boxes < n → n ≤ 256 → MayBegin (length slots) d.run
+-- the next box can begin
+pub may_begin : {B : Type 0} (answers : B → List Input → List (List Outgoing)) (n f : ℕ) (boxes : List B) (slots : List (Option B)) (d : RunDataState) → HaveBegun answers n f boxes slots d → length boxes < n → n ≤ 256 → CanBegin (length slots) d.run
 may_begin answers n f boxes slots d h low few = grind (arith, slots_long answers n f boxes slots d h)

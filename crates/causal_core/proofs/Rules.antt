@@ -1,4 +1,4 @@
--- Lemmas that the tactic is told of at the goals of a function, beside the library's.
+-- Lemmas that the tactic uses at the goals of a function, in addition to the library's.
 use Rattle.std.proofs.Common.{append_assoc, append-nil}
 use Rattle.std.proofs.lemmas.Bool.Decides.{nat_tests}
 use Rattle.std.proofs.lemmas.List.{take_all, drop_more, drop_all, length-drop}

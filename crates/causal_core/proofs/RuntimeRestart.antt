@@ -9,23 +9,23 @@ use Rattle.causal_name.specs.declared.Pid.{Pid}
 use Rattle.causal_name.specs.declared.Det.{Det}
 use Rattle.causal_name.specs.Names.{same_det}
 use Rattle.causal_name.proofs.Lemmas.DetOrder.{dets_total}
-use Rattle.causal_log.specs.Logs.{LogMap, chosen}
-use Rattle.causal_log.specs.Stores.{has, count_in}
+use Rattle.causal_log.specs.Logs.{LogMap, batch_items}
+use Rattle.causal_log.specs.Stores.{set_has, count_in}
 use Rattle.causal_log.proofs.Lemmas.Ascents.{map_ascends}
 use Rattle.causal_trace.specs.declared.entry.Entry.{Entry}
 use Rattle.causal_trace.specs.declared.entry.Entry.TheVariants.{Restart}
 use Rattle.causal_trace.specs.Past.{is_down, is_stable, is_delivered, listed_in, restarts}
 use Rattle.causal_trace.specs.Rows as Rows
-use Rattle.causal_trace.specs.Rows.{are_delivered, AreAccepted}
-use Rattle.causal_protocol.specs.declared.request.Request.TheVariants as Ask
+use Rattle.causal_trace.specs.Rows.{are_delivered, AreLegalEntries}
+use Rattle.causal_protocol.specs.declared.request.Request.TheVariants as Requests
 use Rattle.causal_protocol.specs.declared.request.CoreFault.{CoreFault}
-use Rattle.causal_protocol.specs.declared.request.CoreFault.TheVariants as Why
-use Rattle.causal_protocol.specs.Memory.{Memory, Memories, fresh, at}
-use Rattle.causal_protocol.specs.Gathering.{stable_set, gathered_log}
+use Rattle.causal_protocol.specs.declared.request.CoreFault.TheVariants as Faults
+use Rattle.causal_protocol.specs.Memory.{Memory, Memories, new_memory, present_at}
+use Rattle.causal_protocol.specs.Gathering.{stable_set, restart_log}
 use Rattle.causal_protocol.specs.Run.{Run, memories, memories_of, stable_of}
-use Rattle.causal_protocol.specs.Refusals.{rows, first_of, first_fault, is_full, when, gathered}
-use Rattle.causal_protocol.specs.Steps.{extended, pushed, sends_of}
-use Rattle.causal_core.specs.Inside.Facts.{Fits, FitsAt, AllFit}
+use Rattle.causal_protocol.specs.Refusals.{refusal_rows, first_fault_in, first_fault, exceeds_limits, fault_if, restart_list}
+use Rattle.causal_protocol.specs.Steps.{extend_run, append_all, sends_of}
+use Rattle.causal_core.specs.Inside.MemoryInvariant.{MatchesEntries, MatchesEntriesAt, AllMatchEntries}
 use Rattle.causal_core.specs.Inside.Gathers.{is_logged, listing_fault}
 use Rattle.causal_core.specs.View.{gathering_fault}
 use Rattle.causal_core.specs.Inside.Memories.{keep_all}
@@ -47,7 +47,7 @@ module _ (P : Det → Bool) where
   one_of [] all d there = absurd (false≢true there)
   one_of (x ∷ ds) all d there = grind (arith, one_of ds (and_parts (P x) (list_all P ds) all).1 d)
 
-  logged_pass : (ms : Memories) → ((p : ℕ) (m : Memory) → at ms p ≡ Some m → list_all P (fin.keys m.log) ≡ true) → (d : Det) → is_logged ms d ≡ true → P d ≡ true
+  logged_pass : (ms : Memories) → ((p : ℕ) (m : Memory) → present_at ms p ≡ Some m → list_all P (fin.keys m.log) ≡ true) → (d : Det) → is_logged ms d ≡ true → P d ≡ true
   logged_pass [] each d there = absurd (false≢true there)
   logged_pass (None ∷ ms) each d there = logged_pass ms (λ p m is. each (suc p) m is) d there
   logged_pass (Some k ∷ ms) each d there =
@@ -60,102 +60,102 @@ module _ (P : Det → Bool) where
   either_pass : (a b : Bool) (d : Det) → (a || b) ≡ true → (a ≡ true → P d ≡ true) → (b ≡ true → P d ≡ true) → P d ≡ true
   either_pass a b d h h2 h3 = grind arith
 
--- what is stable was delivered
-stable_delivered : (n : ℕ) (past : List Entry) → AreAccepted n past → (d : Det) → is_stable past d ≡ true → is_delivered past d ≡ true
-unfolding Rows.rows
+-- each stable determinant was delivered
+stable_delivered : (n : ℕ) (past : List Entry) → AreLegalEntries n past → (d : Det) → is_stable past d ≡ true → is_delivered past d ≡ true
+unfolding Rows.refusal_rows
 stable_delivered n [] h d h2 = grind arith
 stable_delivered n (each ∷ others) h d h2 = grind (arith, stable_delivered n others)
 
--- what a restart gathers was delivered
-pub gathered_delivered : (n : ℕ) (past : List Entry) (ms : Memories) (p : Pid) → AreAccepted n past → AllFit n past ms → are_delivered past (fin.keys (gathered_log ms (stable_set past) p)) ≡ true
+-- each determinant that a restart gathers was delivered
+pub gathered_delivered : (n : ℕ) (past : List Entry) (ms : Memories) (p : Pid) → AreLegalEntries n past → AllMatchEntries n past ms → are_delivered past (fin.keys (restart_log ms (stable_set past) p)) ≡ true
 gathered_delivered n past ms p accepted fit =
-    all_of (is_delivered past) (fin.keys (gathered_log ms (stable_set past) p))
+    all_of (is_delivered past) (fin.keys (restart_log ms (stable_set past) p))
     (λ d there.
-    either_pass (is_delivered past) (has (stable_set past) d) (is_logged ms d) d
-    (sym (keys_have (gathered_log ms (stable_set past) p) d ∙ gathered_has ms (stable_set past) p d) ∙ there)
+    either_pass (is_delivered past) (set_has (stable_set past) d) (is_logged ms d) d
+    (sym (keys_have (restart_log ms (stable_set past) p) d ∙ gathered_has ms (stable_set past) p d) ∙ there)
     (λ stored. stable_delivered n past accepted d (sym (has_stable past d) ∙ stored))
-    (λ logged. logged_pass (is_delivered past) ms (λ q m is. let own : FitsAt past q (Some m) = subst (FitsAt past q) is (fit.each q (subst (λ k. q < k) fit.count (some_within ms q m is))) in own.logged) d logged))
+    (λ logged. logged_pass (is_delivered past) ms (λ q m is. let own : MatchesEntriesAt past q (Some m) = subst (MatchesEntriesAt past q) is (fit.each q (subst (λ k. q < k) fit.count (some_within ms q m is))) in own.logged) d logged))
 
--- what is known where nothing stands against a restart
+-- the facts about a restart that is not refused
 pub record MayRestart (r : Run) (p : Pid) : Type 0 where
   pub process : p.0 < r.recording.processes
   pub down : is_down r.recording.past p.0 ≡ true
   pub long : length r.recording.past + 9 ≤ 16777216
-  pub listed : listed_in r.recording.past + length (gathered r p) ≤ 268435456
+  pub listed : listed_in r.recording.past + length (restart_list r p) ≤ 268435456
   pub lanes : restarts r.recording.past < 192
 
--- a restart that nothing stands against is of a process that is down, and there is room for it
-pub may_restart : (r : Run) (p : Pid) → AllFit r.recording.processes r.recording.past (memories_of r) → first_fault r (Ask.Restart p) ≡ None → MayRestart r p
-unfolding rows
+-- a restart that is not refused is of a down process, and the trace has capacity for it
+pub may_restart : (r : Run) (p : Pid) → AllMatchEntries r.recording.processes r.recording.past (memories_of r) → first_fault r (Requests.Restart p) ≡ None → MayRestart r p
+unfolding refusal_rows
 may_restart r p fit none = grind arith
 
--- then nothing stands against its entry
-pub restart_legal : (r : Run) (p : Pid) → MayRestart r p → are_delivered r.recording.past (gathered r p) ≡ true → Rows.first_fault r.recording.processes r.recording.past (Restart p (gathered r p)) ≡ None
-unfolding Rows.rows
+-- then its entry is legal
+pub restart_legal : (r : Run) (p : Pid) → MayRestart r p → are_delivered r.recording.past (restart_list r p) ≡ true → Rows.first_fault r.recording.processes r.recording.past (Restart p (restart_list r p)) ≡ None
+unfolding Rows.refusal_rows
 restart_legal r p may delivered = grind (arith, map_ascends, may.down, may.long)
 
--- a restart is an entry of its process alone
+-- a restart is an entry of its process only
 pub restart_apart : (q : ℕ) (p : Pid) (listed : List Det) → q ≢ p.0 → is_of q (Restart p listed) ≡ false
 restart_apart q p listed h = grind arith
 
--- the process has sent and received nothing since
-pub restart_fits : (past : List Entry) (p : Pid) (listed : List Det) (log : LogMap) → are_delivered past (fin.keys log) ≡ true → Fits (Restart p listed ∷ past) p.0 (fresh log)
+-- the restarted process has sent and received nothing
+pub restart_fits : (past : List Entry) (p : Pid) (listed : List Det) (log : LogMap) → are_delivered past (fin.keys log) ≡ true → MatchesEntries (Restart p listed ∷ past) p.0 (new_memory log)
 restart_fits past p listed log delivered = grind arith
 
--- what a restart and its sends make of the memories
+-- the memories after a restart and its sends
 pub restart_memories : (r : Run) (p : Pid) (listed : List Det) (tos : List Pid) → p.0 < length (memories_of r)
-    → slice_set (memories_of r) p.0 (Some (keep_all (length (Restart p listed ∷ r.recording.past)) (chosen r.faults (gathered_log (memories_of r) (stable_of r) p)) tos (fresh (gathered_log (memories_of r) (stable_of r) p))))
-    ≡ memories r.recording.processes r.faults r.writers (pushed (sends_of p 0 tos) (Restart p listed ∷ r.recording.past))
+    → slice_set (memories_of r) p.0 (Some (keep_all (length (Restart p listed ∷ r.recording.past)) (batch_items r.faults (restart_log (memories_of r) (stable_of r) p)) tos (new_memory (restart_log (memories_of r) (stable_of r) p))))
+    ≡ memories r.recording.processes r.faults r.writers (append_all (sends_of p 0 tos) (Restart p listed ∷ r.recording.past))
 unfolding memories
 restart_memories r p listed tos inside =
-    let log = gathered_log (memories_of r) (stable_of r) p in
-    let next = fresh log in
-    sym (set_twice (memories_of r) p.0 (Some next) (Some (keep_all (length (Restart p listed ∷ r.recording.past)) (chosen r.faults log) tos next)))
+    let log = restart_log (memories_of r) (stable_of r) p in
+    let next = new_memory log in
+    sym (set_twice (memories_of r) p.0 (Some next) (Some (keep_all (length (Restart p listed ∷ r.recording.past)) (batch_items r.faults log) tos next)))
     ∙ memories_sends r.recording.processes r.faults r.writers (Restart p listed ∷ r.recording.past) p 0 tos (slice_set (memories_of r) p.0 (Some next)) next refl
     (subst (λ k. p.0 < k) (sym (length-slice_set (memories_of r) p.0 (Some next))) inside) (at-set_same (memories_of r) p.0 (Some next) inside)
 
--- there are no more stable ones than entries
+-- there are no more stable determinants than entries
 pub few_stable : (past : List Entry) → count_in (stable_set past) ≤ length past
 unfolding stable_set
 few_stable [] = grind (arith, fin.len-empty)
 few_stable (each ∷ others) = grind (arith, few_stable others, fin.len-insert, dets_total)
 
--- what stands against a restart is what stands against one that lists what is gathered
-pub restart_lists : (r : Run) (p : Pid) (listed : ℕ) → listed ≡ length (gathered r p) → listing_fault r p listed ≡ first_fault r (Ask.Restart p)
-unfolding rows
+-- the first refusal of a restart is that of a restart with the length of the gathered list
+pub restart_lists : (r : Run) (p : Pid) (listed : ℕ) → listed ≡ length (restart_list r p) → listing_fault r p listed ≡ first_fault r (Requests.Restart p)
+unfolding refusal_rows
 restart_lists r p listed is = ap (listing_fault r p) is
 
--- how many a log has that is what is gathered
-pub log_listed : (r : Run) (p : Pid) (log : LogMap) → log ≡ gathered_log (memories_of r) (stable_of r) p → fin.len log ≡ length (gathered r p)
+-- the length of the gathered log is that of the list
+pub log_listed : (r : Run) (p : Pid) (log : LogMap) → log ≡ restart_log (memories_of r) (stable_of r) p → fin.len log ≡ length (restart_list r p)
 log_listed r p log is = fin.len-entries log ∙ sym (length-map (fin.entries log) (λ e. e.0)) ∙ ap (λ m. length (fin.keys m)) is
 
-longer : (r : Run) (k : ℕ) → (is_full r 9 0 || nat_le 192 (restarts r.recording.past)) ≡ true → (is_full r 9 k || nat_le 192 (restarts r.recording.past)) ≡ true
+longer : (r : Run) (k : ℕ) → (exceeds_limits r 9 0 || nat_le 192 (restarts r.recording.past)) ≡ true → (exceeds_limits r 9 k || nat_le 192 (restarts r.recording.past)) ≡ true
 longer r k h = grind arith
 
-stands : (a b less more : Bool) (fault : CoreFault) → (less ≡ true → more ≡ true) → first_of (when a Why.NoProcess ∷ when b Why.NotDown ∷ when less Why.Full ∷ []) ≡ Some fault → first_of (when a Why.NoProcess ∷ when b Why.NotDown ∷ when more Why.Full ∷ []) ≡ Some fault
+stands : (a b less more : Bool) (fault : CoreFault) → (less ≡ true → more ≡ true) → first_fault_in (fault_if a Faults.NoProcess ∷ fault_if b Faults.NotDown ∷ fault_if less Faults.Full ∷ []) ≡ Some fault → first_fault_in (fault_if a Faults.NoProcess ∷ fault_if b Faults.NotDown ∷ fault_if more Faults.Full ∷ []) ≡ Some fault
 stands a b less more fault h h2 = grind arith
 
--- what stands against a restart that lists nothing stands against each
-pub none_listed : (r : Run) (p : Pid) (fault : CoreFault) → listing_fault r p 0 ≡ Some fault → first_fault r (Ask.Restart p) ≡ Some fault
+-- the refusal of a restart with an empty list is that of each restart
+pub none_listed : (r : Run) (p : Pid) (fault : CoreFault) → listing_fault r p 0 ≡ Some fault → first_fault r (Requests.Restart p) ≡ Some fault
 none_listed r p fault h =
-    sym (restart_lists r p (length (gathered r p)) refl)
-    ∙ stands (not (nat_lt p.0 r.recording.processes)) (is_some (at (memories_of r) p.0)) _ _ fault (longer r (length (gathered r p))) h
+    sym (restart_lists r p (length (restart_list r p)) refl)
+    ∙ stands (not (nat_lt p.0 r.recording.processes)) (is_some (present_at (memories_of r) p.0)) _ _ fault (longer r (length (restart_list r p))) h
 
--- where nothing stands against gathering, a restart is refused where the trace is full
-pub listing_full : (r : Run) (p : Pid) (listed : ℕ) (test : Bool) → gathering_fault r p ≡ None → test ≡ (is_full r 9 listed || nat_le 192 (restarts r.recording.past)) → listing_fault r p listed ≡ when test Why.Full
+-- if the gathering is not refused, a restart is refused exactly if the trace is full
+pub listing_full : (r : Run) (p : Pid) (listed : ℕ) (test : Bool) → gathering_fault r p ≡ None → test ≡ (exceeds_limits r 9 listed || nat_le 192 (restarts r.recording.past)) → listing_fault r p listed ≡ fault_if test Faults.Full
 listing_full r p listed test none is = grind arith
 
--- what stands against gathering stands against a restart
+-- a refusal of the gathering is a refusal of the restart
 pub gathering_told : (r : Run) (p : Pid) (listed : ℕ) (fault : CoreFault) → gathering_fault r p ≡ Some fault → listing_fault r p listed ≡ Some fault
 gathering_told r p listed fault h = grind arith
 
--- where nothing stands against a restart, its process is one of the run
-pub restart_below : (r : Run) (p : Pid) → first_fault r (Ask.Restart p) ≡ None → p.0 < r.recording.processes
-unfolding rows
+-- if a restart is not refused, its process is one of the run
+pub restart_below : (r : Run) (p : Pid) → first_fault r (Requests.Restart p) ≡ None → p.0 < r.recording.processes
+unfolding refusal_rows
 restart_below r p none = grind arith
 
--- who is up after a restart, and what is stable
-module _ (r mid next : Run) (p : Pid) (listed : List Det) (tos : List Pid) (same : mid ≡ r) (run : next ≡ extended mid (Ask.Restart p) (Restart p listed ∷ sends_of p 0 tos)) where
+-- which processes are up after a restart, and what is stable
+module _ (r mid next : Run) (p : Pid) (listed : List Det) (tos : List Pid) (same : mid ≡ r) (run : next ≡ extend_run mid (Requests.Restart p) (Restart p listed ∷ sends_of p 0 tos)) where
   pub restart_filled : map is_some (memories_of next) ≡ slice_set (map is_some (memories_of r)) p.0 true
   unfolding memories
   restart_filled = grind (arith, sends_up, map-set)

@@ -7,27 +7,27 @@ use Rattle.causal_name.specs.declared.Pid.{Pid}
 use Rattle.causal_name.specs.Names.{is_ascending}
 use Rattle.causal_process.specs.declared.message.Outgoing.{Outgoing}
 use Rattle.causal_log.specs.declared.batch.Item.{Item}
-use Rattle.causal_log.specs.Logs.{chosen, dets_of}
+use Rattle.causal_log.specs.Logs.{batch_items, dets_of}
 use Rattle.causal_trace.specs.declared.entry.Entry.{Entry}
 use Rattle.causal_trace.specs.declared.entry.Entry.TheVariants.{Send}
 use Rattle.causal_trace.specs.Past.{listed_in}
 use Rattle.causal_trace.specs.Rows as Rows
 use Rattle.causal_trace.specs.Rows.{are_delivered}
-use Rattle.causal_protocol.specs.Memory.{Memory, Memories, at, keeping}
+use Rattle.causal_protocol.specs.Memory.{Memory, Memories, present_at, with_sent_message}
 use Rattle.causal_protocol.specs.Run.{memories}
-use Rattle.causal_protocol.specs.Steps.{pushed, sends_of, receiver_of, AreSends}
-use Rattle.causal_core.specs.Inside.Facts.{Fits}
-use Rattle.causal_core.specs.View.{addressed, receivers}
+use Rattle.causal_protocol.specs.Steps.{append_all, sends_of, receiver_of, AreSends}
+use Rattle.causal_core.specs.Inside.MemoryInvariant.{MatchesEntries}
+use Rattle.causal_core.specs.View.{sends_to_processes, receivers}
 use Rattle.causal_core.specs.Inside.Memories.{keep_all}
 use Rattle.causal_core.proofs.MemoriesFit.{is_of, length-slice_set, placed_more, at-set_same}
 
--- the test for equal numbers passes a number and itself
+-- a number equals itself
 pub eqb_refl : (n : ℕ) → (n == n) ≡ true
 eqb_refl n = grind arith
 
--- where there is room, the trace has nothing against the next send of an up process
-pub send_legal : (n : ℕ) (past : List Entry) (q to : Pid) (m : Memory) → q.0 < n → to.0 < n → Fits past q.0 m → length past < 16777216 → listed_in past ≤ 268435456 → Rows.first_fault n past (Send q to (length m.sent)) ≡ None
-unfolding Rows.rows
+-- if the trace has capacity, the next send of an up process is a legal entry
+pub send_legal : (n : ℕ) (past : List Entry) (q to : Pid) (m : Memory) → q.0 < n → to.0 < n → MatchesEntries past q.0 m → length past < 16777216 → listed_in past ≤ 268435456 → Rows.first_fault n past (Send q to (length m.sent)) ≡ None
+unfolding Rows.refusal_rows
 send_legal n past q to m from process fit short within = grind arith
 
 -- the last element of a list with one more
@@ -35,31 +35,31 @@ get_last : {X : Type 0} (xs : List X) (x y : X) (i : ℕ) → slice_get (xs ++ x
 get_last [] x y i h = grind arith
 get_last (each ∷ others) x y i h = grind (arith, get_last others)
 
--- q keeps what it has sent
-pub send_fits : (past : List Entry) (q to : Pid) (batch : List Item) (m : Memory) → Fits past q.0 m → is_ascending (dets_of batch) ≡ true → are_delivered past (dets_of batch) ≡ true → Fits (Send q to (length m.sent) ∷ past) q.0 (keeping to (length past) batch m)
+-- q's memory matches the entries after a send that it keeps
+pub send_fits : (past : List Entry) (q to : Pid) (batch : List Item) (m : Memory) → MatchesEntries past q.0 m → is_ascending (dets_of batch) ≡ true → are_delivered past (dets_of batch) ≡ true → MatchesEntries (Send q to (length m.sent) ∷ past) q.0 (with_sent_message to (length past) batch m)
 send_fits past q to batch m fit ascending delivered = grind (arith, length-append, get_last, placed_more)
 
--- a send is an entry of its sender alone
+-- a send is an entry of its sender only
 pub send_apart : (q : ℕ) (from to : Pid) (ssn : ℕ) → q ≢ from.0 → is_of q (Send from to ssn) ≡ false
 send_apart q from to ssn h = grind arith
 
--- to write what is there changes nothing
-pub set_same : {X : Type 0} (xs : List (Option X)) (p : ℕ) (x : X) → at xs p ≡ Some x → slice_set xs p (Some x) ≡ xs
+-- writing the present element changes nothing
+pub set_same : {X : Type 0} (xs : List (Option X)) (p : ℕ) (x : X) → present_at xs p ≡ Some x → slice_set xs p (Some x) ≡ xs
 set_same [] p x h = grind arith
 set_same (each ∷ others) p x h = grind (arith, set_same others)
 
--- of two writes to a place the later one counts
+-- of two writes to an index the later one counts
 pub set_twice : {X : Type 0} (xs : List X) (p : ℕ) (x y : X) → slice_set (slice_set xs p x) p y ≡ slice_set xs p y
 set_twice [] p x y = grind arith
 set_twice (each ∷ others) p x y = grind (arith, set_twice others)
 
--- what the sends of a step make of the memories
-pub memories_sends : (n f : ℕ) (writers : List Pid) (past : List Entry) (q : Pid) (ssn : ℕ) (tos : List Pid) (ms : Memories) (m : Memory) → ms ≡ memories n f writers past → q.0 < length ms → at ms q.0 ≡ Some m
-    → slice_set ms q.0 (Some (keep_all (length past) (chosen f m.log) tos m)) ≡ memories n f writers (pushed (sends_of q ssn tos) past)
+-- the memories after the sends of a step
+pub memories_sends : (n f : ℕ) (writers : List Pid) (past : List Entry) (q : Pid) (ssn : ℕ) (tos : List Pid) (ms : Memories) (m : Memory) → ms ≡ memories n f writers past → q.0 < length ms → present_at ms q.0 ≡ Some m
+    → slice_set ms q.0 (Some (keep_all (length past) (batch_items f m.log) tos m)) ≡ memories n f writers (append_all (sends_of q ssn tos) past)
 unfolding memories keep_all sends_of
 memories_sends n f writers past q ssn [] ms m same inside is = set_same ms q.0 m is ∙ same
 memories_sends n f writers past q ssn (to ∷ tos) ms m same inside is =
-    let next : Memory = keeping to (length past) (chosen f m.log) m in
+    let next : Memory = with_sent_message to (length past) (batch_items f m.log) m in
     grind (
       arith,
       memories_sends n f writers (Send q to ssn ∷ past) q (ssn + 1) tos (slice_set ms q.0 (Some next)) next,
@@ -69,51 +69,51 @@ memories_sends n f writers past q ssn (to ∷ tos) ms m same inside is =
     )
 
 -- one more entry comes last
-pub pushed_last : (es : List Entry) (e : Entry) (past : List Entry) → pushed (es ++ e ∷ []) past ≡ e ∷ pushed es past
+pub pushed_last : (es : List Entry) (e : Entry) (past : List Entry) → append_all (es ++ e ∷ []) past ≡ e ∷ append_all es past
 pushed_last [] e past = refl
 pushed_last (x ∷ es) e past = pushed_last es e (x ∷ past)
 
--- the past grows by as many entries as are appended
-pub pushed_length : (es past : List Entry) → length (pushed es past) ≡ length es + length past
+-- the past grows by the number of appended entries
+pub pushed_length : (es past : List Entry) → length (append_all es past) ≡ length es + length past
 pushed_length [] past = omega arith
 pushed_length (e ∷ es) past = let rest = pushed_length es (e ∷ past) in omega (arith, rest)
 
 -- one more send of a step
-pub addressed_more : (n : ℕ) (sends : List Outgoing) (s : Outgoing) → addressed n (sends ++ s ∷ []) ≡ addressed n sends ++ cond (nat_lt s.to.0 n) (s ∷ []) []
+pub addressed_more : (n : ℕ) (sends : List Outgoing) (s : Outgoing) → sends_to_processes n (sends ++ s ∷ []) ≡ sends_to_processes n sends ++ cond (nat_lt s.to.0 n) (s ∷ []) []
 addressed_more n [] s = refl
 addressed_more n (t ∷ ts) s = grind (arith, addressed_more n ts s)
 
 -- no more sends go to processes than a step makes
-pub addressed_few : (n : ℕ) (sends : List Outgoing) → length (addressed n sends) ≤ length sends
+pub addressed_few : (n : ℕ) (sends : List Outgoing) → length (sends_to_processes n sends) ≤ length sends
 addressed_few n [] = omega arith
 addressed_few n (s ∷ ss) = grind (arith, addressed_few n ss)
 
 -- each send to a process has one receiver
-pub receivers_long : (n : ℕ) (sends : List Outgoing) → length (receivers n sends) ≡ length (addressed n sends)
-receivers_long n sends = length-map (addressed n sends) (λ s. s.to)
+pub receivers_long : (n : ℕ) (sends : List Outgoing) → length (receivers n sends) ≡ length (sends_to_processes n sends)
+receivers_long n sends = length-map (sends_to_processes n sends) (λ s. s.to)
 
 -- the receivers are processes
 pub receivers_below : (n : ℕ) (sends : List Outgoing) → list_all (λ to. nat_lt to.0 n) (receivers n sends) ≡ true
 receivers_below n [] = refl
 receivers_below n (s ∷ ss) = grind (arith, receivers_below n ss)
 
--- the message of one more send is kept last, with the entry that comes after theirs
-pub keep_more : (send : ℕ) (batch : List Item) (tos : List Pid) (to : Pid) (m : Memory) → keep_all send batch (tos ++ to ∷ []) m ≡ keeping to (send + length tos) batch (keep_all send batch tos m)
+-- the message of one more send is kept last, with the position after those of the others
+pub keep_more : (send : ℕ) (batch : List Item) (tos : List Pid) (to : Pid) (m : Memory) → keep_all send batch (tos ++ to ∷ []) m ≡ with_sent_message to (send + length tos) batch (keep_all send batch tos m)
 unfolding keep_all
-keep_more send batch [] to m = ap (λ k. keeping to k batch m) (omega arith)
-keep_more send batch (x ∷ xs) to m = keep_more (send + 1) batch xs to (keeping x send batch m) ∙ ap (λ k. keeping to k batch (keep_all (send + 1) batch xs (keeping x send batch m))) (omega arith)
+keep_more send batch [] to m = ap (λ k. with_sent_message to k batch m) (omega arith)
+keep_more send batch (x ∷ xs) to m = keep_more (send + 1) batch xs to (with_sent_message x send batch m) ∙ ap (λ k. with_sent_message to k batch (keep_all (send + 1) batch xs (with_sent_message x send batch m))) (omega arith)
 
--- one more send comes last, with the number that comes after theirs
+-- one more send comes last, with the number after those of the others
 pub sends_more : (q : Pid) (ssn : ℕ) (tos : List Pid) (to : Pid) → sends_of q ssn (tos ++ to ∷ []) ≡ sends_of q ssn tos ++ Send q to (ssn + length tos) ∷ []
 unfolding sends_of
 sends_more q ssn [] to = ap (λ k. Send q to k ∷ []) (omega arith)
 sends_more q ssn (x ∷ xs) to = ap (λ es. Send q x ssn ∷ es) (sends_more q (ssn + 1) xs to ∙ ap (λ k. sends_of q (ssn + 1) xs ++ Send q to k ∷ []) (omega arith))
 
--- a process then keeps one message more for each receiver
+-- a process then keeps one more message for each receiver
 pub kept_length : (send : ℕ) (batch : List Item) (tos : List Pid) (m : Memory) → length (keep_all send batch tos m).sent ≡ length m.sent + length tos
 unfolding keep_all
 kept_length send batch [] m = omega arith
-kept_length send batch (x ∷ xs) m = grind (arith, kept_length (send + 1) batch xs (keeping x send batch m), length-append)
+kept_length send batch (x ∷ xs) m = grind (arith, kept_length (send + 1) batch xs (with_sent_message x send batch m), length-append)
 
 -- there is one send for each receiver
 pub sends_length : (q : Pid) (ssn : ℕ) (tos : List Pid) → length (sends_of q ssn tos) ≡ length tos
@@ -126,6 +126,6 @@ unfolding sends_of
 receivers_of_sends q ssn [] = refl
 receivers_of_sends q ssn (x ∷ xs) = ap (λ ys. x ∷ ys) (receivers_of_sends q (ssn + 1) xs)
 
--- sends to these processes are sends
+-- the entries of sends to these processes are sends of the step
 pub are_sends : (n : ℕ) (q : Pid) (ssn number : ℕ) (tos : List Pid) → list_all (λ to. nat_lt to.0 n) tos ≡ true → length tos ≡ number → number ≤ 8 → AreSends n q ssn number (sends_of q ssn tos)
 are_sends n q ssn number tos below count few = grind (arith, receivers_of_sends, sends_length)

@@ -1,14 +1,14 @@
--- What models and private functions keep; no public clause cites it.
-pub mod Facts
+-- Definitions of models and private contracts; no public clause uses them.
+pub mod MemoryInvariant
 pub mod Gathers
-pub mod Grown
+pub mod DeliveryPlans
 pub mod Begins
-pub mod Commits
+pub mod DeliveryRecords
 pub mod Limits
 pub mod Listings
 pub mod Memories
 pub mod Namings
-pub mod Remembers
-pub mod Sents
+pub mod GatherCaches
+pub mod Outboxes
 pub mod Slots
 pub mod Stables

@@ -1,9 +1,9 @@
-//! What is stable need not be logged.
+//! Forget: stable determinants leave a log.
 ghost use Rattle.std.specs.Prelude.{◌≡◌, ◌<◌};
-ghost use Rattle.causal_protocol.specs.declared.request.Request.TheVariants as Ask;
-ghost use Rattle.causal_protocol.specs.Steps.{Steps, told_forget};
+ghost use Rattle.causal_protocol.specs.declared.request.Request.TheVariants as Requests;
+ghost use Rattle.causal_protocol.specs.Steps.{Steps, reply_of_forget};
 ghost use Rattle.causal_core.specs.Boxes.{SameAnswers};
-ghost use Rattle.causal_core.specs.CoreView.{run_of, state_of};
+ghost use Rattle.causal_core.specs.CoreView.{core_run, core_state};
 
 use crate::runtime::Core;
 use causal_log::Stable;
@@ -11,21 +11,23 @@ use causal_name::Pid;
 use causal_protocol::request::CoreFault;
 
 impl<S: Stable> Core<S> {
-    /// Takes out of p's log the determinants that p knows to be stable, with one entry in the trace that lists them, and
-    /// answers how many these were; where there are none, nothing is recorded. It costs what p logs, and so does its
-    /// refusal as `Full`, for which what is marked is counted.
+    /// Removes from p's log the determinants that p knows to be stable, and returns their number. One entry of the
+    /// trace lists them; if there are none, nothing is recorded. It takes O(logged determinants) time up to logarithmic
+    /// factors. A refusal as `Full` takes O(logged determinants) too, since it counts those that are known to be
+    /// stable.
     ///
     /// # Errors
-    /// The first of `NoProcess`, `Down`, and `Full` where there are some and the entry or its list does not fit; where none
-    /// of these stands, `NoMemory` where memory was refused. A refusal changes nothing.
+    /// The first of `NoProcess`, `Down`, and `Full` if there is something to forget and the entry or its list would
+    /// exceed a limit; if none applies, `NoMemory` if allocation failed. A refusal changes nothing.
     pub fn forget(&mut self, p: Pid) -> Result<u32, CoreFault>
         requires { p.0 < 256 }
-        ensures step { Steps (run_of self.old)
-            (Ask.Forget p) (told_forget result) (run_of self.new) }
-        ensures bodies { (state_of self.new).bodies ≡ (state_of self.old).bodies }
-        ensures boxes { SameAnswers answers (state_of self.old).slots (state_of self.new).slots }
+        ensures step { Steps (core_run self.old)
+            (Requests.Forget p) (reply_of_forget result) (core_run self.new) }
+        ensures bodies { (core_state self.new).bodies ≡ (core_state self.old).bodies }
+        ensures boxes { SameAnswers answers (core_state self.old).slots
+            (core_state self.new).slots }
     {
-        self.last = None;
-        self.held.forget(self.alloc, p)
+        self.gather_cache = None;
+        self.run_data.forget(self.alloc, p)
     }
 }

@@ -1,32 +1,33 @@
-//! What a restart gathers.
+//! The log that a restart gathers.
 ghost use Rattle.std.specs.Prelude.{◌≡◌, IfOk, OnOk};
 ghost use Rattle.std.specs.FinMap as fin;
-ghost use Rattle.causal_protocol.specs.Gathering.{united_all, held_all, stable_all};
-ghost use Rattle.causal_core.specs.Inside.Gathers.{gathered_onto, gathered_with};
+ghost use Rattle.causal_protocol.specs.Gathering.{with_logs_of, with_held, with_stored};
+ghost use Rattle.causal_core.specs.Inside.Gathers.{log_with_gathered, gathered_log_of};
 ghost use Rattle.causal_core.specs.Inside.Memories.{memories_in};
 
-use crate::cell::Cell;
+use crate::process_memory::ProcessMemory;
 use causal_log::Log;
 use causal_name::{Det, NoMemory, Pid};
 use std::alloc::Global;
 
-/// All that the up processes know becomes known.
+/// Adds the logs of the up processes to a log.
 #[tactic(auto, using(crate::proofs::Rules::of_knowing))]
-fn know_all(log: &mut Log, cells: &[Option<Cell>]) -> Result<(), NoMemory>
-    ensures { OnOk result (log.new.map ≡ united_all (memories_in cells.now) log.old.map) }
+fn learn_logs(log: &mut Log, process_memories: &[Option<ProcessMemory>]) -> Result<(), NoMemory>
+    ensures { OnOk result (log.new.map
+        ≡ with_logs_of (memories_in process_memories.now) log.old.map) }
 {
-    for cell in cells {
-        if let Some(cell) = cell {
-            log.union_from(&cell.log)?;
+    for process_memory in process_memories {
+        if let Some(process_memory) = process_memory {
+            log.union_from(&process_memory.log)?;
         }
     }
     Ok(())
 }
 
-/// That p holds each of these becomes known.
+/// Adds to a log that p holds each of these determinants.
 #[tactic(auto, using(crate::proofs::Gathers::held_more, crate::proofs::Gathers::held_end))]
-fn hold_all(log: &mut Log, dets: &[Det], p: Pid) -> Result<(), NoMemory>
-    ensures { OnOk result (log.new.map ≡ held_all dets.now p log.old.map) }
+fn learn_held(log: &mut Log, dets: &[Det], p: Pid) -> Result<(), NoMemory>
+    ensures { OnOk result (log.new.map ≡ with_held dets.now p log.old.map) }
 {
     for det in dets {
         log.add_own(*det, p)?;
@@ -34,10 +35,10 @@ fn hold_all(log: &mut Log, dets: &[Det], p: Pid) -> Result<(), NoMemory>
     Ok(())
 }
 
-/// That p holds each of these, and that they are stable, becomes known.
+/// Adds to a log that p holds each of these determinants and that they are stable.
 #[tactic(auto, using(crate::proofs::Gathers::stable_more, crate::proofs::Gathers::stable_end))]
-fn store_all(log: &mut Log, dets: &[Det], p: Pid) -> Result<(), NoMemory>
-    ensures { OnOk result (log.new.map ≡ stable_all dets.now p log.old.map) }
+fn learn_stored(log: &mut Log, dets: &[Det], p: Pid) -> Result<(), NoMemory>
+    ensures { OnOk result (log.new.map ≡ with_stored dets.now p log.old.map) }
 {
     for det in dets {
         log.add_stable(*det, p)?;
@@ -45,40 +46,42 @@ fn store_all(log: &mut Log, dets: &[Det], p: Pid) -> Result<(), NoMemory>
     Ok(())
 }
 
-/// That p holds all that the log has becomes known.
-fn hold_known(alloc: Global, log: &mut Log, p: Pid) -> Result<(), NoMemory>
-    ensures { OnOk result (log.new.map ≡ held_all (fin.keys log.old.map) p log.old.map) }
+/// Adds to a log that p holds every determinant of it.
+fn learn_own_holding(alloc: Global, log: &mut Log, p: Pid) -> Result<(), NoMemory>
+    ensures { OnOk result (log.new.map ≡ with_held (fin.keys log.old.map) p log.old.map) }
 {
     let dets = log.dets(alloc)?;
-    hold_all(log, dets.as_slice(), p)
+    learn_held(log, dets.as_slice(), p)
 }
 
-/// What up processes know and what is stored becomes known, and that p holds it.
+/// Adds the logs of the up processes and the stored determinants to a log, and that p holds all of them.
 fn gather_into(
     alloc: Global,
     log: &mut Log,
-    cells: &[Option<Cell>],
+    process_memories: &[Option<ProcessMemory>],
     stored: &[Det],
     p: Pid,
 ) -> Result<(), NoMemory>
     ensures { OnOk result
-        (log.new.map ≡ gathered_onto log.old.map (memories_in cells.now) stored.now p) }
+        (log.new.map ≡ log_with_gathered log.old.map
+        (memories_in process_memories.now) stored.now p) }
 {
-    know_all(log, cells)?;
-    hold_known(alloc, log, p)?;
-    store_all(log, stored, p)
+    learn_logs(log, process_memories)?;
+    learn_own_holding(alloc, log, p)?;
+    learn_stored(log, stored, p)
 }
 
-/// The log that p has once it has gathered what up processes log and what is stored.
+/// Returns the log of p after it has gathered the logs of the up processes and the stored determinants.
 pub(crate) fn gather(
     alloc: Global,
-    cells: &[Option<Cell>],
+    process_memories: &[Option<ProcessMemory>],
     stored: &[Det],
     p: Pid,
 ) -> Result<Log, NoMemory>
-    ensures { IfOk result (λ log. log.map ≡ gathered_with (memories_in cells.now) stored.now p) }
+    ensures { IfOk result (λ log. log.map
+        ≡ gathered_log_of (memories_in process_memories.now) stored.now p) }
 {
     let mut log = Log::new(alloc);
-    // The log goes through `and`, since each way out that drops a log is long to prove.
-    gather_into(alloc, &mut log, cells, stored, p).and(Ok(log))
+    // The log goes through `and`: each exit that drops a log needs a long proof.
+    gather_into(alloc, &mut log, process_memories, stored, p).and(Ok(log))
 }

@@ -1,7 +1,8 @@
-//! Laws over the definitions. Each function does nothing: what it ensures is the law.
-ghost use Rattle.causal_core.specs.Pendings.{PendingAreThese};
+//! Laws over the definitions. Each function has an empty body; its `ensures` clause is the law.
+ghost use Rattle.causal_core.specs.Pendings.{PendingIsExact};
 
-/// Pending for a process that is up are exactly the messages that a delivery to it finds available and not yet delivered.
-pub fn pending_are_these()
-    ensures { PendingAreThese }
+/// The messages pending for an up process are exactly those that a delivery to it finds available and not yet
+/// delivered.
+pub fn pending_is_exact()
+    ensures { PendingIsExact }
 {}

@@ -1,69 +1,71 @@
-//! The runtime of processes that log causally: it delivers, takes processes down and brings them up again, writes determinants to
-//! stable storage, and records all of it as a trace that is safe for its number of failures.
+//! A runtime for processes with causal message logging. It delivers messages, crashes and restarts processes, writes
+//! determinants to stable storage, and records every step in a trace. The trace is safe for the runtime's bound f on
+//! failures.
 //!
-//! Begin at [`Core`]: `Core::start` with the processes in boxes and a store, then `deliver`, `crash`, `restart`, `replay`, `flush`
-//! and `forget`. `pending` and `named` say what may be delivered next; `trace` has what is recorded, and promises the safety.
+//! Start at [`Core`]: `Core::start` takes processes in boxes and a store; then come `deliver`, `crash`, `restart`,
+//! `replay`, `flush` and `forget`. `Core::pending` and `Core::naming` return what may be delivered next; `Core::trace`
+//! returns the recorded trace, and its contract states the safety.
 #![tactic(auto)]
 
-/// Boxes in slots.
+/// The boxes of the up processes, in slots.
 mod boxes;
-/// What an up process has in volatile memory.
-pub mod cell;
-/// A delivery and its sends, once the box has stepped.
-mod commit;
-/// How many determinants a restart lists, counted without memory.
-mod count;
-/// The plain data of a core.
-pub mod data;
-/// A flush and a forgetting, as far as plain data goes.
-mod data_flush;
-/// A restart, as far as plain data goes.
-mod data_restart;
-/// A beginning, as far as plain data goes.
-mod data_start;
-/// Which processes are down.
-pub mod down;
-/// What a process logs becomes stable.
+/// The volatile memory of an up process.
+pub mod process_memory;
+/// Recording of a delivery and its sends, after the box has stepped.
+mod delivery_recording;
+/// The number of determinants that a restart lists, counted without allocation.
+mod gathered_count;
+/// The run data of a core: the trace, and the memory of each process.
+pub mod run_data;
+/// Flush and forget, on the run data.
+mod run_data_flush;
+/// Restart, on the run data.
+mod run_data_restart;
+/// The start of the processes, on the run data.
+mod run_data_start;
+/// The set of the down processes.
+pub mod down_processes;
+/// Flush: determinants of a log become stable.
 pub mod flush;
-/// What is stable need not be logged.
+/// Forget: stable determinants leave a log.
 pub mod forget;
-/// What a process has that begins.
-mod fresh;
-/// What a restart gathers.
+/// The memory of a process that begins.
+mod new_memory;
+/// The log that a restart gathers.
 mod gather;
-/// What a restart puts in place once the box has begun.
-pub mod gathered;
-/// A kept message is given to a box, without a copy of its body.
-mod give;
-/// What a delivery needs memory for, made before the box steps.
-mod grow;
-/// What a delivery puts in place once the box has stepped.
-pub mod grown;
-/// What a delivery lists.
-mod insertion;
+/// The restart plan, made before the spare begins.
+pub mod restart_plan;
+/// A box steps with a kept message, without a copy of its body.
+mod message_step;
+/// The making of a delivery plan.
+mod delivery_planning;
+/// The delivery plan, made before the box steps.
+pub mod delivery_plan;
+/// The determinants that a delivery lists.
+mod delivery_list;
 /// Laws over the definitions.
 pub mod laws;
-/// What is named for a process's next delivery.
-mod named;
+/// The message that is named for a process's next delivery.
+mod naming;
 /// The messages that a process may deliver.
 pub mod pending;
-/// The delivery entry of a step.
-mod receive;
-/// What the last restart gathered, kept for the next one of the same process.
-pub mod remembered;
-/// The deliveries that are named, one after the other.
+/// The deliver entry of a step, and what the receiver learns by it.
+mod receipt;
+/// The cache of the last gathered log.
+pub mod gather_cache;
+/// Replay: deliveries of the named messages, one after the other.
 pub mod replay;
-/// A process that is down comes up again.
+/// Restart of a down process.
 pub mod restart;
-/// The runtime: processes in boxes, what is recorded of them, and stable storage.
+/// The runtime: processes in boxes, the recorded run, and stable storage.
 pub mod runtime;
-/// What stands in the cells.
-mod search;
+/// Look-ups in the memories of the processes.
+mod memory_lookup;
 /// The sends of a step.
 mod sends;
-/// The messages that a process has sent.
-pub mod sent;
-/// How a core begins.
+/// The outbox: the messages that a process has sent.
+pub mod outbox;
+/// The start of a core.
 pub mod start;
 
 pub use causal_protocol::request::{CoreFault, Delivered, FlushFault, Reply, Request, Restarted};

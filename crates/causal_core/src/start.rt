@@ -1,13 +1,13 @@
-//! How a core begins.
+//! The start of a core.
 ghost use Rattle.std.specs.Prelude.{◌≡◌, ◌<◌, ◌≤◌, [], length, replicate, IfOk, IfErr, OnOk, None};
 ghost use Rattle.std.specs.FinMap as fin;
-ghost use Rattle.causal_core.specs.CoreView.{run_of, state_of};
-ghost use Rattle.causal_core.specs.Inside.Begins.{MayBegin, Begins, HaveAllBegun};
+ghost use Rattle.causal_core.specs.CoreView.{core_run, core_state};
+ghost use Rattle.causal_core.specs.Inside.Begins.{CanBegin, Begins, HaveAllBegun};
 ghost use Rattle.causal_core.specs.Starts.{opening, start_fault, IsOpening, IsStartReason, Starts};
 ghost use Rattle.causal_trace.specs.Limits.{max_processes};
 
 use crate::boxes::begin_box;
-use crate::data::Data;
+use crate::run_data::RunData;
 use crate::runtime::Core;
 use causal_log::Stable;
 use causal_name::{NoMemory, Pid};
@@ -15,7 +15,7 @@ use causal_process::Process;
 use std::alloc::Global;
 use thiserror::Error;
 
-/// Why a core did not begin.
+/// Why a core did not start.
 #[derive(Clone, Copy, Debug, PartialEq, Eq, Error)]
 pub enum StartFault {
     /// A core has 1 to 256 processes.
@@ -24,56 +24,56 @@ pub enum StartFault {
     /// Nothing is stable at the beginning.
     #[error("the store is not empty")]
     StoreNotEmpty,
-    /// Memory was asked for and refused.
+    /// Allocation failed.
     #[error("no memory")]
     NoMemory,
 }
 
-/// Gives a box its beginning as the next process, records what it sends, and puts it into the next slot.
+/// Begins a box as the next process, records what it sends, and puts it into the next slot.
 fn begin(
     alloc: Global,
-    held: &mut Data,
+    run_data: &mut RunData,
     slots: &mut Vec<Option<Box<dyn Process + Send>>>,
     mut process: Box<dyn Process + Send>,
 ) -> Result<(), NoMemory>
-    requires { MayBegin (length slots.old.items) held.old.run }
+    requires { CanBegin (length slots.old.items) run_data.old.run }
     ensures { OnOk result
-        (Begins answers process slots.old.items slots.new.items held.old held.new) }
+        (Begins answers process slots.old.items slots.new.items run_data.old run_data.new) }
 {
     let p = Pid(slots.len() as u8);
-    let fresh = held.prepare_begin(alloc)?;
+    let fresh = run_data.prepare_begin(alloc)?;
     let sends = begin_box(&mut process, alloc)?;
-    held.begin(p, fresh, sends);
+    run_data.record_begin(p, fresh, sends);
     slots.push(Some(process))?;
     Ok(())
 }
 
-/// The same for each box, in order.
+/// Begins each box, in order, and returns the slots.
 fn begin_all(
     alloc: Global,
-    held: &mut Data,
+    run_data: &mut RunData,
     boxes: Vec<Box<dyn Process + Send>>,
 ) -> Result<Vec<Option<Box<dyn Process + Send>>>, NoMemory>
-    requires run { held.old.run ≡ opening (length boxes.items) held.old.run.faults [] }
-    requires bodies { held.old.bodies ≡ replicate (length boxes.items) [] }
+    requires run { run_data.old.run ≡ opening (length boxes.items) run_data.old.run.faults [] }
+    requires bodies { run_data.old.bodies ≡ replicate (length boxes.items) [] }
     requires few { length boxes.items ≤ max_processes }
     ensures { IfOk result
-        (λ slots. HaveAllBegun answers held.old.run.faults boxes.items slots.items held.new) }
+        (λ slots. HaveAllBegun answers run_data.old.run.faults boxes.items slots.items run_data.new) }
 {
     let mut slots = Vec::new(alloc);
     for process in boxes {
-        begin(alloc, held, &mut slots, process)?;
+        begin(alloc, run_data, &mut slots, process)?;
     }
     Ok(slots)
 }
 
 impl<S: Stable> Core<S> {
-    /// Begins with these processes, numbered in order from 0, for f failures: each is given its beginning, in order, and
-    /// what it sends is recorded. On a refusal the boxes and the store are dropped.
+    /// Starts a core with these processes, numbered in order from 0, and the bound f on failures. Each process begins,
+    /// in order, and what it sends is recorded. On a refusal the boxes and the store are dropped.
     ///
     /// # Errors
-    /// `Processes` where there are not 1 to 256 boxes; `StoreNotEmpty`; where neither stands, `NoMemory` where memory was
-    /// refused.
+    /// The first of `Processes`, if there are not 1 to 256 boxes, and `StoreNotEmpty`; if neither applies, `NoMemory`
+    /// if allocation failed.
     pub fn start(
         alloc: Global,
         f: u16,
@@ -81,10 +81,10 @@ impl<S: Stable> Core<S> {
         store: S,
     ) -> Result<Core<S>, StartFault>
         requires { f < 65536 }
-        ensures ok { IfOk result (λ core. Starts answers f boxes.items (state_of core)) }
+        ensures ok { IfOk result (λ core. Starts answers f boxes.items (core_state core)) }
         ensures opens { IfOk result
-            (λ core. IsOpening (length boxes.items) (run_of core).recording.past) }
-        ensures stored { IfOk result (λ core. S.contents core.store ≡ fin.empty) }
+            (λ core. IsOpening (length boxes.items) (core_run core).recording.past) }
+        ensures store_empty { IfOk result (λ core. S.contents core.store ≡ fin.empty) }
         ensures legal { OnOk result (start_fault (length boxes.items) (S.contents store) ≡ None) }
         ensures refused { IfErr result (IsStartReason (length boxes.items) (S.contents store)) }
     {
@@ -96,18 +96,19 @@ impl<S: Stable> Core<S> {
         if stored > 0 {
             return Err(StartFault::StoreNotEmpty);
         }
-        let Ok(mut held) = Data::open(alloc, n as u16, f) else {
+        let Ok(mut run_data) = RunData::open(alloc, n as u16, f) else {
             return Err(StartFault::NoMemory);
         };
-        let Ok(slots) = begin_all(alloc, &mut held, boxes) else {
+        let Ok(slots) = begin_all(alloc, &mut run_data, boxes) else {
             return Err(StartFault::NoMemory);
         };
         Ok(Core {
             alloc,
-            held,
+            run_data: run_data,
             slots,
             store,
-            last: None,
+            gather_cache: None,
+            replay_refusal: None,
         })
     }
 }

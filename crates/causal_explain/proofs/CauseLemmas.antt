@@ -11,17 +11,17 @@ use Rattle.causal_trace.specs.declared.entry.Entry.{Entry}
 use Rattle.causal_trace.specs.declared.entry.Entry.TheVariants.{Send, Deliver, Stable, Crash, Restart, Forget}
 use Rattle.causal_trace.specs.Dependence.{AreForward, actor, Depends}
 use Rattle.causal_trace.specs.Judgement.{IsCrashSet, IsOrphan, HasOrphan, IsSafe}
-use Rattle.causal_trace.specs.Past.{instant, det_at, det_of, has, is_down, lane, logs}
-use Rattle.causal_trace.specs.Rows.{AreAccepted, Recording}
+use Rattle.causal_trace.specs.Past.{instant, det_at, det_of, list_has, is_down, lane, logs}
+use Rattle.causal_trace.specs.Rows.{AreLegalEntries, Recording}
 use Rattle.causal_trace.proofs.Lemmas.EntryFacts.{accepted_forward}
 use Rattle.causal_trace.proofs.Lemmas.AtInstants.{accepted_then, instant_length}
 use Rattle.causal_trace.proofs.Lemmas.DependenceSteps.{depends_old, depends_restarted, reaches_begins}
-use Rattle.causal_audit.specs.Laws.{gone}
-use Rattle.causal_audit.specs.Sweep.{MayNewlyFail, SweepLaw, OneNewOrphan}
+use Rattle.causal_audit.specs.Laws.{down_or_holding}
+use Rattle.causal_audit.specs.NewOrphans.{MayGetOrphan, NewOrphansLaw, OneNewOrphan}
 use Rattle.causal_audit.specs.Verdicts.{IsVerdict}
 use Rattle.causal_audit.specs.declared.verdict.Verdict.TheVariants.{Exceeded, Orphan}
-use Rattle.causal_explain.specs.Causes.{MakesExcess, MakesOrphan, TellsCause}
-use Rattle.causal_explain.specs.Inside.Acts.{newest_act}
+use Rattle.causal_explain.specs.Causes.{MakesExcess, MakesOrphan, IsCauseOf}
+use Rattle.causal_explain.specs.Inside.EntryCauses.{newest_cause}
 use Rattle.causal_explain.proofs.OrphanLemmas.{delivered_in}
 
 -- ---- the state before the newest entry
@@ -43,13 +43,13 @@ still_depends e past k p forward none up same d = elim (depends_old e past k p f
 det_before : (e : Entry) (past : List Entry) (k : ℕ) (d : Det) → det_at (e ∷ past) k ≡ Some d → k < length past → det_at past k ≡ Some d
 det_before e past k d at below = sym (cond-false (k == length past) (det_of past e) (det_at past k) (ne_eqb k (length past) (λ is. omega (arith, below, is)))) ∙ at
 
--- an orphan is one under the crash set of the down processes and the holders
-gone_orphan : (n : ℕ) (s : List Entry) (k p : ℕ) (crash : ℕ → Bool) → (o : IsOrphan n s k crash p) → IsOrphan n s k (gone s o.det) p
+-- an orphan is also one under the crash set of the down processes and the holders
+gone_orphan : (n : ℕ) (s : List Entry) (k p : ℕ) (crash : ℕ → Bool) → (o : IsOrphan n s k crash p) → IsOrphan n s k (down_or_holding s o.det) p
 gone_orphan n s k p crash o = grind (arith, or_from (is_down s p) (logs s p o.det) o.depends.up (o.lost p o.process o.survives), or_parts)
 
 module _ (n f : ℕ) (past : List Entry) (k p : ℕ) (crash : ℕ → Bool) where
-  -- what a restart leaves out, some process holds
-  gathers : (who : Pid) (listed : List Det) → AreAccepted n (Restart who listed ∷ past) → (o : IsOrphan n (Restart who listed ∷ past) k crash p) → IsSafe n f past → any_below n (λ q. logs past q o.det) ≡ true
+  -- some process holds the determinant that a restart does not list
+  gathers : (who : Pid) (listed : List Det) → AreLegalEntries n (Restart who listed ∷ past) → (o : IsOrphan n (Restart who listed ∷ past) k crash p) → IsSafe n f past → any_below n (λ q. logs past q o.det) ≡ true
   gathers who listed formed o safe =
       let e = Restart who listed in
       let other : (who.0 == p) ≡ false = false_from_ne_true (who.0 == p) (λ same.
@@ -74,8 +74,8 @@ module _ (n f : ℕ) (past : List Entry) (k p : ℕ) (crash : ℕ → Bool) wher
         }))
       ] refl
 
-  -- what is forgotten was held
-  forgets : (who : Pid) (listed : List Det) → AreAccepted n (Forget who listed ∷ past) → IsCrashSet n f (Forget who listed ∷ past) crash → (o : IsOrphan n (Forget who listed ∷ past) k crash p) → IsSafe n f past
+  -- the process held the determinant that it forgets
+  forgets : (who : Pid) (listed : List Det) → AreLegalEntries n (Forget who listed ∷ past) → IsCrashSet n f (Forget who listed ∷ past) crash → (o : IsOrphan n (Forget who listed ∷ past) k crash p) → IsSafe n f past
       → logs past who.0 o.det ≡ true
   forgets who listed formed may o safe =
       let e = Forget who listed in
@@ -96,23 +96,23 @@ module _ (n f : ℕ) (past : List Entry) (k p : ℕ) (crash : ℕ → Bool) wher
             lost = λ q low out. elim (eqb_tells q who.0) [
               | inl here ↦ subst (λ x. logs past x o.det ≡ false) (sym here.1) none
               | inr apart ↦
-                  sym (ap (λ b. not (b && has listed o.det) && logs past q o.det) (ne_eqb who.0 q (λ same. apart.1 (sym same)))) ∙ o.lost q low out
+                  sym (ap (λ b. not (b && list_has listed o.det) && logs past q o.det) (ne_eqb who.0 q (λ same. apart.1 (sym same)))) ∙ o.lost q low out
             ];
           };
         }))
       ] refl
 
-module _ (n f k p : ℕ) (crash : ℕ → Bool) (sweep : SweepLaw) (only : OneNewOrphan) where
-  newly : (e : Entry) (past : List Entry) → AreAccepted n (e ∷ past) → IsCrashSet n f (e ∷ past) crash → (o : IsOrphan n (e ∷ past) k crash p) → IsSafe n f past → MayNewlyFail past e k o.det
+module _ (n f k p : ℕ) (crash : ℕ → Bool) (sweep : NewOrphansLaw) (only : OneNewOrphan) where
+  newly : (e : Entry) (past : List Entry) → AreLegalEntries n (e ∷ past) → IsCrashSet n f (e ∷ past) crash → (o : IsOrphan n (e ∷ past) k crash p) → IsSafe n f past → MayGetOrphan past e k o.det
   newly e past formed may o safe =
       elim (sweep n f e past k o.det formed o.delivered (record { crash = crash; orphan = p; may_crash = may; is_orphan = o })) [
         | inl old ↦ absurd (safe.no_orphan k old)
         | inr new ↦ new
       ]
 
-  -- the newest entry makes the orphan, where the state before it is safe
-  pub makes_orphan : (s : List Entry) → AreAccepted n s → IsCrashSet n f s crash → (o : IsOrphan n s k crash p) → ((e : Entry) (past : List Entry) → s ≡ e ∷ past → IsSafe n f past)
-      → MatchOption (newest_act s) ⊥ (MakesOrphan n s k o.det p)
+  -- if the state before the newest entry is safe, that entry makes the orphan
+  pub makes_orphan : (s : List Entry) → AreLegalEntries n s → IsCrashSet n f s crash → (o : IsOrphan n s k crash p) → ((e : Entry) (past : List Entry) → s ≡ e ∷ past → IsSafe n f past)
+      → MatchOption (newest_cause s) ⊥ (MakesOrphan n s k o.det p)
   makes_orphan [] formed may o before = absurd (let x : None ≡ Some o.det = o.delivered in cc)
   makes_orphan (Send from to ssn ∷ past) formed may o before = absurd (newly (Send from to ssn) past formed may o (before (Send from to ssn) past refl))
   makes_orphan (Stable det ∷ past) formed may o before = absurd (newly (Stable det) past formed may o (before (Stable det) past refl))
@@ -141,8 +141,8 @@ module _ (n f : ℕ) where
   no_fewer : (e : Entry) (past : List Entry) → ((q : ℕ) → is_down (e ∷ past) q ≡ true → is_down past q ≡ true) → count_below n (is_down past) ≤ f → f < count_below n (is_down (e ∷ past)) → ⊥
   no_fewer e past same few many = omega (arith, few, many, count_below-within n (is_down (e ∷ past)) (is_down past) (λ q low h. same q h))
 
-  -- the newest entry is a crash, where not too many were down before it
-  pub makes_excess : (s : List Entry) → f < count_below n (is_down s) → ((e : Entry) (past : List Entry) → s ≡ e ∷ past → count_below n (is_down past) ≤ f) → MatchOption (newest_act s) ⊥ (MakesExcess n f s)
+  -- if at most f processes were down before the newest entry, and more are after it, that entry is a crash
+  pub makes_excess : (s : List Entry) → f < count_below n (is_down s) → ((e : Entry) (past : List Entry) → s ≡ e ∷ past → count_below n (is_down past) ≤ f) → MatchOption (newest_cause s) ⊥ (MakesExcess n f s)
   makes_excess [] many before = absurd (omega (arith, many, count_below-none n (is_down []) (λ q low. refl)))
   makes_excess (Crash who ∷ past) many before = (refl, record { before = before (Crash who) past refl; after = many })
   makes_excess (Send from to ssn ∷ past) many before = absurd (no_fewer (Send from to ssn) past (λ q h. h) (before _ past refl) many)
@@ -158,16 +158,16 @@ more_told None P Q more h = h
 more_told (Some x) P Q more h = more x h
 
 module _ (r : Recording) (f t : ℕ) where
-  -- where the verdict names too many down, the newest entry of that instant tells the cause
-  pub excess_told : (down : _) → IsVerdict r f (Exceeded t down) → TellsCause r f (Exceeded t down) (newest_act (instant r.past t))
+  -- if the verdict is `Exceeded`, the newest entry of its instant is the cause
+  pub excess_told : (down : _) → IsVerdict r f (Exceeded t down) → IsCauseOf r f (Exceeded t down) (newest_cause (instant r.past t))
   excess_told down v = grind (arith, makes_excess, previous)
 
-  -- where the verdict names an orphan, the newest entry of that instant tells the cause
-  pub orphan_told : (k : ℕ) (crash : _) (p : ℕ) → AreAccepted r.processes r.past → SweepLaw → OneNewOrphan → IsVerdict r f (Orphan t k crash p) → TellsCause r f (Orphan t k crash p) (newest_act (instant r.past t))
+  -- if the verdict is `Orphan`, the newest entry of its instant is the cause
+  pub orphan_told : (k : ℕ) (crash : _) (p : ℕ) → AreLegalEntries r.processes r.past → NewOrphansLaw → OneNewOrphan → IsVerdict r f (Orphan t k crash p) → IsCauseOf r f (Orphan t k crash p) (newest_cause (instant r.past t))
   orphan_told k crash p formed sweep only v =
       let s = instant r.past t in
       let o = v.1.least.is_orphan in
-      more_told (newest_act s) (MakesOrphan r.processes s k o.det p) _ (λ c made. (o.det, delivered_in r.past t k o.det v.0.within o.delivered, made))
+      more_told (newest_cause s) (MakesOrphan r.processes s k o.det p) _ (λ c made. (o.det, delivered_in r.past t k o.det v.0.within o.delivered, made))
       (makes_orphan r.processes f k p _ sweep only s (accepted_then r.processes r.past t formed) v.1.least.may_crash o (λ e past is.
       let old = previous r.past t e past v.0.within is in
       subst (IsSafe r.processes f) old.1 (v.0.before (length past) old.0)))

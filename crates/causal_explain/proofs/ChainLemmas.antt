@@ -1,37 +1,37 @@
--- The shortest chain, by the ways.
+-- A shortest chain, by the shortest paths.
 use Rattle.std.proofs.Common.{ℕ, ◌≡◌, ◌+◌, List, length, Some, None, refl, ap, ◌∙◌, arith}
 use Rattle.std.specs.Prelude.{Option, IfSome}
 use Rattle.causal_trace.specs.declared.entry.Entry.{Entry}
 use Rattle.causal_trace.specs.Past.{lane}
 use Rattle.causal_trace.specs.Dependence.{IsEventOf}
-use Rattle.causal_explain.specs.declared.ways.Reached.{Reached}
-use Rattle.causal_explain.specs.Chains.{IsShortestChain, LeadsTo, ShortestChain}
-use Rattle.causal_explain.specs.Inside.Ways.{Comes, at_once, onward, IsLeast, IsWalk, Nearest, WalksTo}
+use Rattle.causal_explain.specs.declared.paths.ReachedEvent.{ReachedEvent}
+use Rattle.causal_explain.specs.Chains.{IsShortestChain, IsChain, ShortestChain}
+use Rattle.causal_explain.specs.Inside.ShortestPaths.{HasPath, at_once, onward, IsLeast, IsPathOfLength, Nearest, IsPathToNearest}
 use Rattle.causal_explain.proofs.ComingLemmas.{comes_along}
 
 module _ (past : List Entry) (i p : ℕ) where
-  -- where a chain leads to, one comes by one step less than it has events
-  led : (chain : List ℕ) → (h : LeadsTo past i p chain) → Comes past i h.last (length h.rest)
+  -- a path leads to the end of a chain, by one step less than the chain has events
+  led : (chain : List ℕ) → (h : IsChain past i p chain) → HasPath past i h.last (length h.rest)
   led chain h = comes_along past i i h.last 0 (length h.rest) h.rest (at_once h.event.0 h.event.1 h.event.2 refl refl) h.path (omega arith)
 
-  long : (chain : List ℕ) → (h : LeadsTo past i p chain) → length chain ≡ length h.rest + 1
+  long : (chain : List ℕ) → (h : IsChain past i p chain) → length chain ≡ length h.rest + 1
   long chain h = ap length h.begins ∙ omega arith
 
-  event_of : (k n : ℕ) → Comes past i k n → (q : ℕ) × (l : ℕ) × IsEventOf past i q l
+  event_of : (k n : ℕ) → HasPath past i k n → (q : ℕ) × (l : ℕ) × IsEventOf past i q l
   event_of k n (at_once q l at is none) = (q, l, at)
   event_of k n (onward j m c d is) = event_of j m c
 
-  -- where no event of the lane is come to, no chain leads there
-  no_chain : Nearest past i (λ k. IsEventOf past k p (lane past p)) None → (chain : List ℕ) → LeadsTo past i p chain → ⊥
+  -- if no event of the lane is reached, no chain leads to the process
+  no_chain : Nearest past i (λ k. IsEventOf past k p (lane past p)) None → (chain : List ℕ) → IsChain past i p chain → ⊥
   no_chain none chain h = none h.last (length h.rest) h.present (led chain h)
 
-  -- the nearest of them, if there is one, is reached by the fewest steps
-  pub all_least : (nearest : Option Reached) → Nearest past i (λ k. IsEventOf past k p (lane past p)) nearest → IfSome nearest (λ x. IsLeast past i x.position x.steps)
+  -- the nearest event of the lane, if there is one, is reached by the fewest steps
+  pub all_least : (nearest : Option ReachedEvent) → Nearest past i (λ k. IsEventOf past k p (lane past p)) nearest → IfSome nearest (λ x. IsLeast past i x.position x.steps)
   all_least None h = tt
   all_least (Some x) h = record { comes = h.1; least = λ m c. h.2 x.position m h.0 c }
 
-  -- so the events by which it is are a shortest chain
-  shortest : (x : Reached) (chain : List ℕ) → Nearest past i (λ k. IsEventOf past k p (lane past p)) (Some x) → IsWalk past i x.position x.steps chain → IsShortestChain past i p chain
+  -- the events of the path to the nearest event are a shortest chain
+  shortest : (x : ReachedEvent) (chain : List ℕ) → Nearest past i (λ k. IsEventOf past k p (lane past p)) (Some x) → IsPathOfLength past i x.position x.steps chain → IsShortestChain past i p chain
   shortest x chain h walk = record {
     leads = record { event = event_of x.position x.steps h.1; rest = walk.rest; begins = walk.begins; last = x.position; path = walk.path; present = h.0 };
     shortest = λ other leads.
@@ -39,8 +39,8 @@ module _ (past : List Entry) (i p : ℕ) where
         omega (arith, few, long other leads, ap length walk.begins, walk.steps);
   }
 
-  -- and where none is reached there is no chain
-  pub chain_told : (nearest : Option Reached) (found : Option (List ℕ)) → Nearest past i (λ k. IsEventOf past k p (lane past p)) nearest → WalksTo past i nearest found → ShortestChain past i p found
+  -- the result is a shortest chain, or None if no event is reached
+  pub chain_told : (nearest : Option ReachedEvent) (found : Option (List ℕ)) → Nearest past i (λ k. IsEventOf past k p (lane past p)) nearest → IsPathToNearest past i nearest found → ShortestChain past i p found
   chain_told None None h walk = no_chain h
   chain_told None (Some chain) h walk = absurd (let no : Some chain ≡ None = walk in cc)
   chain_told (Some x) None h walk = absurd walk

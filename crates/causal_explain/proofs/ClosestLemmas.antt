@@ -1,4 +1,4 @@
--- Orphans for one number of faults and for another, and what is found for one.
+-- Orphans for one bound and for another, and what a search for one finds.
 use Rattle.std.proofs.Common.{ℕ, ◌≡◌, ◌<◌, ◌≤◌, inl, inr, Bool, true, List, length, Option, Some, None, refl, arith}
 use Rattle.std.specs.Ordering.{nat_cmp}
 use Rattle.std.specs.FinSet.{FinSet, contains, len}
@@ -10,48 +10,48 @@ use Rattle.causal_trace.specs.Past.{instant, deliveries_in}
 use Rattle.causal_trace.specs.Rows.{Recording}
 use Rattle.causal_trace.specs.Judgement.{IsCrashSet, HasOrphan, IsSafeTrace}
 use Rattle.causal_audit.specs.declared.breach.Breach.{Breach}
-use Rattle.causal_audit.specs.Breaches.{IsLeastBreach, LeastBreachBy}
+use Rattle.causal_audit.specs.Breaches.{IsEarliestBreach, EarliestBreachBy}
 use Rattle.causal_explain.specs.declared.closest.Closest.{Closest}
 use Rattle.causal_explain.specs.declared.closest.Closest.TheVariants.{Never, At}
-use Rattle.causal_explain.specs.Closest.{HasNoOrphan, IsClosest, Leaves}
-use Rattle.causal_explain.specs.Inside.Narrowing.{Finds}
+use Rattle.causal_explain.specs.Closest.{HasNoOrphan, IsClosest, IsSafeBelowClosest}
+use Rattle.causal_explain.specs.Inside.Bisection.{IsFoundBreach}
 use Rattle.causal_audit.proofs.Lemmas.NumberLemmas.{has_number}
 use Rattle.causal_explain.proofs.OrphanLemmas.{delivered_in}
 
--- a crash set is one for more faults
+-- a crash set for a bound is one for a greater bound
 crash_more : (n f g : ℕ) (past : List Entry) (crash : ℕ → Bool) → f ≤ g → IsCrashSet n f past crash → IsCrashSet n g past crash
 crash_more n f g past crash more h = record { down = h.down; few = omega (arith, h.few, more) }
 
--- an orphan is one for more faults
+-- an orphan for a bound is one for a greater bound
 pub orphan_more : (n f g : ℕ) (past : List Entry) (k : ℕ) → f ≤ g → HasOrphan n f past k → HasOrphan n g past k
 orphan_more n f g past k more h = grind (arith, crash_more n f g past h.crash more h.may_crash)
 
--- and for as many as there are processes
+-- an orphan is one for the number of processes as the bound
 orphan_all : (n f : ℕ) (past : List Entry) (k : ℕ) → HasOrphan n f past k → HasOrphan n n past k
 orphan_all n f past k h = grind (arith, count_below-le n h.crash)
 
--- where none has one for some number, none has one for a smaller number
+-- if no delivery has an orphan for a bound, none has one for a smaller bound
 pub none_fewer : (r : Recording) (f g : ℕ) → f ≤ g → HasNoOrphan r g → HasNoOrphan r f
 none_fewer r f g fewer none k t within has = none k t within (orphan_more r.processes f g (instant r.past t) k fewer has)
 
--- where none has one for as many as there are processes, none ever has
+-- if no delivery has an orphan for the number of processes, none has one for any bound
 pub none_ever : (r : Recording) → HasNoOrphan r r.processes → (f : ℕ) → HasNoOrphan r f
 none_ever r none f k t within has = none k t within (orphan_all r.processes f (instant r.past t) k has)
 
--- where a run is safe, none has one
+-- in a safe run no delivery has an orphan
 pub safe_none : (r : Recording) (f : ℕ) → IsSafeTrace r f → HasNoOrphan r f
 safe_none r f safe k t within has = (safe t within).no_orphan k has
 
--- and where none has one for a greater number, the run is safe for that too
+-- a safe run is safe for a greater bound for which no delivery has an orphan
 safe_more : (r : Recording) (f g : ℕ) → IsSafeTrace r f → f ≤ g → HasNoOrphan r g → IsSafeTrace r g
 safe_more r f g safe more none t within = record { few_down = omega (arith, (safe t within).few_down, more); no_orphan = λ k. none k t within }
 
--- a breach is no end of safety where fewer may crash than its number
-breached : (r : Recording) (faults : ℕ) (b : Breach) → IsLeastBreach r faults 0 (deliveries_in r.past) b → (g : ℕ) → faults ≤ g → HasNoOrphan r g → ⊥
+-- a breach for a bound excludes that no delivery has an orphan for a greater bound
+breached : (r : Recording) (faults : ℕ) (b : Breach) → IsEarliestBreach r faults 0 (deliveries_in r.past) b → (g : ℕ) → faults ≤ g → HasNoOrphan r g → ⊥
 breached r faults b h g more none = grind (arith, orphan_more)
 
--- what the closest failure leaves to safety
-pub leaves : (r : Recording) (f : ℕ) → IsSafeTrace r f → (c : Closest) → IsClosest r c → Leaves r f c
+-- the bounds for which the run is safe, by the closest failure
+pub leaves : (r : Recording) (f : ℕ) → IsSafeTrace r f → (c : Closest) → IsClosest r c → IsSafeBelowClosest r f c
 leaves r f safe Never h = λ g more. safe_more r f g safe more (h g)
 leaves r f safe (At faults breach) h =
     let never : (g : ℕ) → faults ≤ g → HasNoOrphan r g → ⊥ = breached r faults breach h.least in (
@@ -65,8 +65,8 @@ leaves r f safe (At faults breach) h =
 counted : (n : ℕ) (c : FinSet nat_cmp) → ((q : ℕ) → contains c q ≡ true → q < n) → len c ≡ count_below n (contains c)
 counted n c inside = members_counted n c (contains c) (record { process = inside; member = λ p below. refl })
 
--- a least breach is one for as many faults as its crash set has processes
-by_itself : (r : Recording) (g : ℕ) (b : Breach) → IsLeastBreach r g 0 (deliveries_in r.past) b → (len b.crash ≤ g) × IsLeastBreach r (len b.crash) 0 (deliveries_in r.past) b
+-- an earliest breach is the earliest for the size of its crash set as the bound
+by_itself : (r : Recording) (g : ℕ) (b : Breach) → IsEarliestBreach r g 0 (deliveries_in r.past) b → (len b.crash ≤ g) × IsEarliestBreach r (len b.crash) 0 (deliveries_in r.past) b
 by_itself r g b h =
     let n = r.processes in
     let f = len b.crash in
@@ -95,12 +95,12 @@ by_itself r g b h =
       },
     )
 
--- a least breach is found, by whichever instant it comes
-pub finds_breach : (r : Recording) (f end : ℕ) (b : Breach) → f < 65536 → LeastBreachBy r f end 0 (deliveries_in r.past) (Some b) → Finds r f (Some b)
+-- an earliest breach by any instant is what a search finds
+pub finds_breach : (r : Recording) (f end : ℕ) (b : Breach) → f < 65536 → EarliestBreachBy r f end 0 (deliveries_in r.past) (Some b) → IsFoundBreach r f (Some b)
 finds_breach r f end b small told = grind (arith, by_itself r f b told.1)
 
--- and so is that of the whole run, or that there is none
-pub finds : (r : Recording) (f : ℕ) (told : Option Breach) → f < 65536 → LeastBreachBy r f (length r.past) 0 (deliveries_in r.past) told → Finds r f told
+-- the result of a search in the whole run is what a search finds
+pub finds : (r : Recording) (f : ℕ) (told : Option Breach) → f < 65536 → EarliestBreachBy r f (length r.past) 0 (deliveries_in r.past) told → IsFoundBreach r f told
 finds r f None small none = λ k t within has.
     let at = delivered_in r.past t k has.is_orphan.det within has.is_orphan.delivered in
     let n = has_number r.past k has.is_orphan.det at in

@@ -1,12 +1,12 @@
--- By how many steps an event comes to others, with one more entry.
+-- The number of steps from an event to others, with one more entry.
 use Rattle.std.proofs.Common.{ℕ, ◌≡◌, ◌+◌, ◌<◌, ◌≤◌, inl, inr, true, List, [], ◌∷◌, length, refl, sym, ap, subst, ◌∙◌, arith}
 use Rattle.std.specs.Option.{is_some}
 use Rattle.causal_trace.specs.declared.entry.Entry.{Entry}
 use Rattle.causal_trace.specs.Past.{lane}
-use Rattle.causal_trace.specs.Agree.{IsPath}
+use Rattle.causal_trace.specs.Laws.{IsPath}
 use Rattle.causal_trace.specs.Dependence.{AreForward, actor, IsEventOf, Delivers, DirectlyPrecedes, in_order, by_message}
 use Rattle.causal_trace.proofs.Lemmas.DependenceSteps.{event_below}
-use Rattle.causal_explain.specs.Inside.Ways.{Comes, at_once, onward, PrecedesNext}
+use Rattle.causal_explain.specs.Inside.ShortestPaths.{HasPath, at_once, onward, PrecedesNext}
 
 event_old : (e : Entry) (past : List Entry) (i p l : ℕ) → i < length past → IsEventOf (e ∷ past) i p l → IsEventOf past i p l
 event_old e past i p l below (inl h) = h
@@ -33,53 +33,53 @@ precedes_old : (e : Entry) (past : List Entry) (i j : ℕ) → j < length past �
 precedes_old e past i j below (in_order p l h a b) = in_order p l h (event_old e past i p l (omega (arith, below, h)) a) (event_old e past j p l below b)
 precedes_old e past i j below (by_message h) = by_message (delivers_old e past j i below h)
 
--- what precedes does so with one more entry
+-- an event that directly precedes another still does with one more entry
 pub precedes_more : (e : Entry) (past : List Entry) (i j : ℕ) → DirectlyPrecedes past i j → DirectlyPrecedes (e ∷ past) i j
 precedes_more e past i j (in_order p l h a b) = in_order p l h (inl a) (inl b)
 precedes_more e past i j (by_message h) = by_message (inl h)
 
--- what precedes the next entry does so with it
+-- an event that precedes the next entry directly precedes it, once it is there
 pub next_preceded : (e : Entry) (past : List Entry) (j : ℕ) → PrecedesNext e past j → DirectlyPrecedes (e ∷ past) j (length past)
 next_preceded e past j (inl h) = in_order h.0 (lane past h.0) (event_below past j h.0 (lane past h.0) h.2) (inl h.2) (inr (refl, h.1, refl))
 next_preceded e past j (inr h) = by_message (inr (refl, h))
 
--- steps there were are there with one more entry
-pub comes_more : (e : Entry) (past : List Entry) (i k n : ℕ) → Comes past i k n → Comes (e ∷ past) i k n
+-- steps that lead to an event still do with one more entry
+pub comes_more : (e : Entry) (past : List Entry) (i k n : ℕ) → HasPath past i k n → HasPath (e ∷ past) i k n
 comes_more e past i k n (at_once p l at is none) = at_once p l (inl at) is none
 comes_more e past i k n (onward j m c d is) = onward j m (comes_more e past i j m c) (precedes_more e past j k d) is
 
--- and to an earlier event there are no others
-pub comes_old : (e : Entry) (past : List Entry) (i k n : ℕ) → AreForward (e ∷ past) → k < length past → Comes (e ∷ past) i k n → Comes past i k n
+-- no new steps lead to an earlier event
+pub comes_old : (e : Entry) (past : List Entry) (i k n : ℕ) → AreForward (e ∷ past) → k < length past → HasPath (e ∷ past) i k n → HasPath past i k n
 comes_old e past i k n forward below (at_once p l at is none) = at_once p l (event_old e past i p l (omega (arith, below, is)) at) is none
 comes_old e past i k n forward below (onward j m c d is) =
     let earlier : j < k = precedes_before (e ∷ past) j k forward d in
     onward j m (comes_old e past i j m forward (omega (arith, below, earlier)) c) (precedes_old e past j k below d) is
 
--- what is come to stands within the past
-pub comes_within : (past : List Entry) (i k n : ℕ) → Comes past i k n → k < length past
+-- an event that is reached is in the past
+pub comes_within : (past : List Entry) (i k n : ℕ) → HasPath past i k n → k < length past
 comes_within past i k n (at_once p l at is none) = omega (arith, event_below past i p l at, is)
 comes_within past i k n (onward j m c d is) = precedes_within past j k d
 
--- each step goes on by one position at least
-pub comes_few : (past : List Entry) (i k n : ℕ) → AreForward past → Comes past i k n → n ≤ k
+-- each step advances by at least one position
+pub comes_few : (past : List Entry) (i k n : ℕ) → AreForward past → HasPath past i k n → n ≤ k
 comes_few past i k n forward (at_once p l at is none) = omega (arith, none)
 comes_few past i k n forward (onward j m c d is) = grind (arith, precedes_before past j k forward d, is, comes_few past i j m forward c)
 
--- by no step nothing but itself is come to
-pub comes_nowhere : (past : List Entry) (i k : ℕ) → (n : ℕ) → n ≡ 0 → Comes past i k n → k ≡ i
+-- an event that is reached by zero steps is the start itself
+pub comes_nowhere : (past : List Entry) (i k : ℕ) → (n : ℕ) → n ≡ 0 → HasPath past i k n → k ≡ i
 comes_nowhere past i k n zero (at_once p l at is none) = is
 comes_nowhere past i k n zero (onward j m c d is) = absurd (omega (arith, zero, is))
 
--- how i comes to the newest entry: it is that event, or it comes to what directly precedes it
+-- how the newest entry is reached from i: it is that event, or an event that directly precedes it is reached
 pub data ComesNewest (e : Entry) (past : List Entry) (i n : ℕ) : Type 0 where
   is_newest : i ≡ length past → is_some (actor e) ≡ true → n ≡ 0 → ComesNewest e past i n
-  through : (j m : ℕ) → PrecedesNext e past j → Comes past i j m → n ≡ m + 1 → ComesNewest e past i n
+  through : (j m : ℕ) → PrecedesNext e past j → HasPath past i j m → n ≡ m + 1 → ComesNewest e past i n
 
 begins_newest : (e : Entry) (past : List Entry) (i p l n : ℕ) → i ≡ length past → n ≡ 0 → IsEventOf (e ∷ past) i p l → ComesNewest e past i n
 begins_newest e past i p l n here none (inl old) = absurd (omega (arith, event_below past i p l old, here))
 begins_newest e past i p l n here none (inr new) = is_newest here (ap is_some new.1) none
 
-precedes_newest : (e : Entry) (past : List Entry) (i j k m n : ℕ) → AreForward (e ∷ past) → k ≡ length past → Comes (e ∷ past) i j m → DirectlyPrecedes (e ∷ past) j k → n ≡ m + 1 → ComesNewest e past i n
+precedes_newest : (e : Entry) (past : List Entry) (i j k m n : ℕ) → AreForward (e ∷ past) → k ≡ length past → HasPath (e ∷ past) i j m → DirectlyPrecedes (e ∷ past) j k → n ≡ m + 1 → ComesNewest e past i n
 precedes_newest e past i j k m n forward here c (in_order p l h a (inl b)) is = absurd (omega (arith, event_below past k p l b, here))
 precedes_newest e past i j k m n forward here c (in_order p l h a (inr b)) is =
     let below : j < length past = omega (arith, h, here) in
@@ -89,12 +89,12 @@ precedes_newest e past i j k m n forward here c (by_message (inr h)) is =
     let below : j < length past = omega (arith, forward k j (inr h), here) in
     through j m (inr h.1) (comes_old e past i j m forward below c) is
 
--- the newest event is reached by no step, or by one more than what directly precedes it
-pub comes_newest : (e : Entry) (past : List Entry) (i k n : ℕ) → AreForward (e ∷ past) → k ≡ length past → Comes (e ∷ past) i k n → ComesNewest e past i n
+-- the newest event is reached by zero steps, or by one more than an event that directly precedes it
+pub comes_newest : (e : Entry) (past : List Entry) (i k n : ℕ) → AreForward (e ∷ past) → k ≡ length past → HasPath (e ∷ past) i k n → ComesNewest e past i n
 comes_newest e past i k n forward here (at_once p l at is none) = begins_newest e past i p l n (sym is ∙ here) none at
 comes_newest e past i k n forward here (onward j m c d is) = precedes_newest e past i j k m n forward here c d is
 
--- along a path one comes on
-pub comes_along : (past : List Entry) (i j k n m : ℕ) (over : List ℕ) → Comes past i j n → IsPath past j over k → m ≡ n + length over → Comes past i k m
-comes_along past i j k n m [] c path is = subst (λ x. Comes past i x m) path (subst (Comes past i j) (let same : n ≡ m = omega (arith, is) in same) c)
+-- steps that lead to the start of a path also lead to its end, with those of the path
+pub comes_along : (past : List Entry) (i j k n m : ℕ) (over : List ℕ) → HasPath past i j n → IsPath past j over k → m ≡ n + length over → HasPath past i k m
+comes_along past i j k n m [] c path is = subst (λ x. HasPath past i x m) path (subst (HasPath past i j) (let same : n ≡ m = omega (arith, is) in same) c)
 comes_along past i j k n m (v ∷ over) c path is = comes_along past i v k (n + 1) m over (onward j n c path.0 refl) path.1 (omega (arith, is))

@@ -1,4 +1,4 @@
--- After which deliveries a log lacks a determinant, with one more entry.
+-- The deliveries after which a log lacks a determinant, with one more entry.
 use Rattle.std.proofs.Common.{ℕ, ◌≡◌, ◌+◌, ◌<◌, ◌≤◌, Bool, true, false, List, [], ◌∷◌, ◌++◌, length, Option, Some, None, refl, sym, ap, ◌∙◌, arith}
 use Rattle.std.specs.Prelude.{◌==◌, not, MatchOption}
 use Rattle.std.specs.List.{find}
@@ -13,29 +13,29 @@ use Rattle.causal_trace.specs.declared.entry.Entry.{Entry}
 use Rattle.causal_trace.specs.Past.{entry_at, instant}
 use Rattle.causal_trace.proofs.Lemmas.AtInstants.{instants_stay, one_more_instant}
 use Rattle.causal_trace.proofs.Lemmas.Instants.{entry_beyond}
-use Rattle.causal_explain.specs.Chains.{is_lacking, lacks_after, first_lacking}
+use Rattle.causal_explain.specs.Chains.{lacks_det, lacks_after, first_lacking}
 use Rattle.causal_explain.specs.Inside.Lacking.{AreLacking, first_in}
-use Rattle.causal_explain.specs.Since.{HoldsSince}
+use Rattle.causal_explain.specs.ProcessFacts.{HoldsSince}
 use Rattle.causal_explain.proofs.SinceLemmas.{holds_now}
 
 module _ (e : Entry) (past : List Entry) (d : Det) where
-  -- what was so of an earlier position still is
+  -- an earlier position is unchanged
   lacks_still : (k : ℕ) → k < length past → lacks_after (e ∷ past) d k ≡ lacks_after past d k
   lacks_still k below =
-      ap (λ s. option_map_or (is_lacking s d) (entry_at (e ∷ past) k) false) (instants_stay e past (k + 1) (omega (arith, below)))
-      ∙ ap (λ x. option_map_or (is_lacking (instant past (k + 1)) d) x false) (cond-false (k == length past) _ _ (ne_eqb k (length past) (λ is. omega (arith, below, is))))
+      ap (λ s. option_map_or (lacks_det s d) (entry_at (e ∷ past) k) false) (instants_stay e past (k + 1) (omega (arith, below)))
+      ∙ ap (λ x. option_map_or (lacks_det (instant past (k + 1)) d) x false) (cond-false (k == length past) _ _ (ne_eqb k (length past) (λ is. omega (arith, below, is))))
 
-  -- of the newest position the newest state decides
-  lacks_newest : lacks_after (e ∷ past) d (length past) ≡ is_lacking (e ∷ past) d e
+  -- the newest position depends on the newest state
+  lacks_newest : lacks_after (e ∷ past) d (length past) ≡ lacks_det (e ∷ past) d e
   lacks_newest =
-      ap (λ s. option_map_or (is_lacking s d) (entry_at (e ∷ past) (length past)) false) (one_more_instant e past)
-      ∙ ap (λ x. option_map_or (is_lacking (e ∷ past) d) x false) (cond-true (length past == length past) _ _ (eq-eqb (length past) (length past) refl))
+      ap (λ s. option_map_or (lacks_det s d) (entry_at (e ∷ past) (length past)) false) (one_more_instant e past)
+      ∙ ap (λ x. option_map_or (lacks_det (e ∷ past) d) x false) (cond-true (length past == length past) _ _ (eq-eqb (length past) (length past) refl))
 
   lacks_beyond : (k : ℕ) → length (e ∷ past) ≤ k → lacks_after (e ∷ past) d k ≡ false
-  lacks_beyond k above = ap (λ x. option_map_or (is_lacking (instant (e ∷ past) (k + 1)) d) x false) (entry_beyond (e ∷ past) k above)
+  lacks_beyond k above = ap (λ x. option_map_or (lacks_det (instant (e ∷ past) (k + 1)) d) x false) (entry_beyond (e ∷ past) k above)
 
-  -- one more mark
-  pub lacking_more : (marks : List Bool) (b : Bool) → AreLacking past d marks → b ≡ is_lacking (e ∷ past) d e → AreLacking (e ∷ past) d (marks ++ b ∷ [])
+  -- the marks with one more
+  pub lacking_more : (marks : List Bool) (b : Bool) → AreLacking past d marks → b ≡ lacks_det (e ∷ past) d e → AreLacking (e ∷ past) d (marks ++ b ∷ [])
   lacking_more marks b h is =
       grind (
         arith,
@@ -50,7 +50,7 @@ module _ (e : Entry) (past : List Entry) (d : Det) where
         lacks_beyond,
       )
 
--- where it is told since when a test holds, if it does, none is told just where it does not
+-- a test that may hold since a position does not hold exactly if no position is given
 pub lacks_told : (past : List Entry) (test : List Entry → Bool) (found : Option ℕ) (none : Bool) → MatchOption found (test past ≡ false) (HoldsSince past test)
     → is_some found ≡ not none → none ≡ not (test past)
 lacks_told past test None true fails is = ap not (sym fails)
@@ -58,10 +58,10 @@ lacks_told past test None false fails is = absurd (false≢true is)
 lacks_told past test (Some s) true since is = absurd (false≢true (sym is))
 lacks_told past test (Some s) false since is = ap not (sym (holds_now past test s since))
 
--- the first marked position is the first with such a delivery
+-- the first marked position is the first with a delivery after which the log lacks the determinant
 pub first_marked : (past : List Entry) (d : Det) (marks : List Bool) (chain : List ℕ) → AreLacking past d marks → first_in marks chain ≡ first_lacking past d chain
 first_marked past d marks chain h = λ i. find (λ k. h.each k i) chain
 
--- before the first entry
+-- no marks before the first entry
 pub lacking_none : (d : Det) → AreLacking [] d []
 lacking_none d = record { count = refl; each = λ k. refl }

@@ -9,6 +9,6 @@ mod OrphanLemmas
 mod RangeLemmas
 mod SinceLemmas
 mod StandingLemmas
-mod Told
+mod FirstEntries
 mod WalkLemmas
 mod WayLemmas

@@ -1,4 +1,4 @@
--- By which entry a log loses a determinant.
+-- The entry by which a log loses a determinant.
 use Rattle.std.proofs.Common.{ℕ, ◌≡◌, ◌+◌, ◌<◌, inl, inr, Bool, true, false, List, [], ◌∷◌, length, Some, refl, sym, ap, ◌∙◌, arith}
 use Rattle.std.specs.Prelude.{◌==◌, ◌&&◌, ◌||◌, not}
 use Rattle.std.proofs.lemmas.Bool.{false≢true, and_parts, or_parts, eqb-true, cond-true, cond-false, eq-eqb, ne_eqb}
@@ -6,10 +6,10 @@ use Rattle.std.proofs.lemmas.Bool.Decides.{eqb_tells}
 use Rattle.causal_name.specs.declared.Det.{Det}
 use Rattle.causal_trace.specs.declared.entry.Entry.{Entry}
 use Rattle.causal_trace.specs.declared.entry.Entry.TheVariants.{Send, Deliver, Stable, Crash, Restart, Forget}
-use Rattle.causal_trace.specs.Past.{instant, entry_at, has, logs}
+use Rattle.causal_trace.specs.Past.{instant, entry_at, list_has, logs}
 use Rattle.causal_trace.proofs.Lemmas.AtInstants.{instants_stay, last_instant, one_more_instant}
 use Rattle.causal_explain.specs.Inside.Losing.{lost_by}
-use Rattle.causal_explain.specs.Since.{HoldsSince, IsLoss, Loses}
+use Rattle.causal_explain.specs.ProcessFacts.{HoldsSince, IsLoss, Loses}
 use Rattle.causal_explain.specs.declared.explanation.Loss.{Loss}
 
 -- the entry at a position, and the instants before and after it
@@ -43,11 +43,11 @@ taken false c held gone = absurd (false≢true held)
 loses : (e : Entry) (past : List Entry) (p : ℕ) (d : Det) → logs past p d ≡ true → logs (e ∷ past) p d ≡ false → Loses e p d (lost_by (Some e))
 loses (Send from to ssn) past p d held gone = absurd (false≢true (sym gone ∙ held))
 loses (Stable det) past p d held gone = absurd (false≢true (sym gone ∙ held))
-loses (Deliver to send rsn listed) past p d held gone = absurd (kept (logs past p d) (to.0 == p && has listed d) held gone)
-loses (Restart who listed) past p d held gone = absurd (kept (logs past p d) (who.0 == p && has listed d) held gone)
+loses (Deliver to send rsn listed) past p d held gone = absurd (kept (logs past p d) (to.0 == p && list_has listed d) held gone)
+loses (Restart who listed) past p d held gone = absurd (kept (logs past p d) (who.0 == p && list_has listed d) held gone)
 loses (Crash who) past p d held gone = (refl, sym (eqb-true who.0 p (taken (logs past p d) (who.0 == p) held gone)))
 loses (Forget who listed) past p d held gone =
-    let lists = and_parts (who.0 == p) (has listed d) (taken (logs past p d) (who.0 == p && has listed d) held gone) in
+    let lists = and_parts (who.0 == p) (list_has listed d) (taken (logs past p d) (who.0 == p && list_has listed d) held gone) in
     (refl, sym (eqb-true who.0 p lists.0), lists.1)
 
 not_false : (b : Bool) → not b ≡ false → b ≡ true
@@ -58,7 +58,7 @@ not_true : (b : Bool) → not b ≡ true → b ≡ false
 not_true true h = sym h
 not_true false h = refl
 
--- what is told of a loss by its entry is so
+-- a loss with the kind of its entry is true
 pub is_loss : (past : List Entry) (d : Det) (x : Loss) → HoldsSince past (λ state. not (logs state x.process d)) x.lost → x.by ≡ lost_by (entry_at past x.lost) → IsLoss past d x
 is_loss past d x since by =
     grind (

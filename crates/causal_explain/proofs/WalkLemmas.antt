@@ -1,25 +1,25 @@
--- The steps by which an event is reached, gone back from the last.
+-- A path to an event, traced back from its last step.
 use Rattle.std.proofs.Common.{ℕ, ◌≡◌, ◌+◌, ◌-◌, ◌<◌, List, [], ◌∷◌, ◌++◌, length, reverse, ap, subst, ◌∙◌, arith}
 use Rattle.std.proofs.lemmas.List.{reverse-append}
 use Rattle.causal_trace.specs.declared.entry.Entry.{Entry}
-use Rattle.causal_trace.specs.Agree.{IsPath}
+use Rattle.causal_trace.specs.Laws.{IsPath}
 use Rattle.causal_trace.specs.Dependence.{DirectlyPrecedes}
-use Rattle.causal_explain.specs.Inside.Ways.{IsLeast, IsWalk}
+use Rattle.causal_explain.specs.Inside.ShortestPaths.{IsLeast, IsPathOfLength}
 use Rattle.causal_explain.proofs.ComingLemmas.{comes_nowhere}
 
--- of so many steps in all these were gone back, to this position
+-- of `total` steps, `gone` are traced back, to this position
 pub record IsWalkedBack (past : List Entry) (i last total gone position : ℕ) (chain : List ℕ) : Type 0 where
   pub rest : List ℕ
   pub reversed : reverse chain ≡ position ∷ rest
   pub path : IsPath past position rest last
-  -- so many steps were gone back
+  -- the steps that are traced back
   pub steps : length rest ≡ gone
   pub left : ℕ
   pub in_all : left + gone ≡ total
   -- the position is reached from i by as many steps as are left, and by no fewer
   pub fewest : IsLeast past i position left
 
--- one more step is gone back to an event from which one step less is left
+-- one more step is traced back, to an event from which one step less is left
 pub walk_more : (past : List Entry) (i last total gone position : ℕ) (chain : List ℕ) (next : ℕ) → gone < total → IsWalkedBack past i last total gone position chain
     → ((n : ℕ) → IsLeast past i position (n + 1) → DirectlyPrecedes past next position × IsLeast past i next n) → IsWalkedBack past i last total (gone + 1) next (chain ++ next ∷ [])
 walk_more past i last total gone position chain next below h back =
@@ -36,6 +36,6 @@ walk_more past i last total gone position chain next below h back =
       fewest = before.1;
     }
 
--- once all steps were gone back, the chain in the order of the run is the walk
-pub walk_over : (past : List Entry) (i last total gone position : ℕ) (chain : List ℕ) → gone ≡ total → IsWalkedBack past i last total gone position chain → IsWalk past i last total (reverse chain)
+-- after all steps, the reversed chain is the path in the order of the run
+pub walk_over : (past : List Entry) (i last total gone position : ℕ) (chain : List ℕ) → gone ≡ total → IsWalkedBack past i last total gone position chain → IsPathOfLength past i last total (reverse chain)
 walk_over past i last total gone position chain over h = grind (arith, comes_nowhere)

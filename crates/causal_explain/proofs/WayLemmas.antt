@@ -1,4 +1,4 @@
--- The nearest of some events, and the way to each, with one more entry.
+-- The nearest of some events, and the path to each, with one more entry.
 use Rattle.std.proofs.Common.{ℕ, ◌≡◌, ◌+◌, ◌<◌, ◌≤◌, inl, inr, true, List, [], ◌∷◌, ◌++◌, length, get_or, reverse, replicate, Option, Some, None, refl, sym, subst, ◌∙◌, arith}
 use Rattle.std.specs.Prelude.{◌⊎◌, ◌==◌, slice_set, IfSome}
 use Rattle.std.specs.Option.{is_some}
@@ -17,38 +17,38 @@ use Rattle.causal_trace.proofs.Lemmas.AtInstants.{at_instant}
 use Rattle.causal_trace.proofs.Lemmas.Instants.{instant_past}
 use Rattle.causal_trace.specs.Dependence.{AreForward, actor, DirectlyPrecedes, IsEventOf}
 use Rattle.causal_trace.proofs.Lemmas.DependenceSteps.{event_below, event_lane}
-use Rattle.causal_explain.specs.declared.ways.Reached.{Reached}
-use Rattle.causal_explain.specs.declared.ways.Way.{Way}
-use Rattle.causal_explain.specs.Inside.Ways.{AreNearest, AreWays, Comes, at_once, onward, IsLeast, IsWay, Nearest, PrecedesNext, TellsWay, nearer}
+use Rattle.causal_explain.specs.declared.paths.ReachedEvent.{ReachedEvent}
+use Rattle.causal_explain.specs.declared.paths.PathStep.{PathStep}
+use Rattle.causal_explain.specs.Inside.ShortestPaths.{AreNearest, ArePathSteps, HasPath, at_once, onward, IsLeast, IsPathStep, Nearest, PrecedesNext, IsPathStepOf, closer_event}
 use Rattle.causal_explain.proofs.ComingLemmas.{comes_more, comes_old, comes_within, comes_few, comes_newest, next_preceded, precedes_more, ComesNewest, is_newest, through}
 
 module _ (past : List Entry) (i : ℕ) (A B C : ℕ → Type 0) (either : (k : ℕ) → C k → A k ⊎ B k) (one : (k : ℕ) → A k → C k) (other : (k : ℕ) → B k → C k) where
-  -- the nearer of the nearest of two kinds is the nearest of both
-  pub nearest_of_both : (a b : Option Reached) → Nearest past i A a → Nearest past i B b → Nearest past i C (nearer a b)
+  -- the closer one of the nearest of two kinds is the nearest of both
+  pub nearest_of_both : (a b : Option ReachedEvent) → Nearest past i A a → Nearest past i B b → Nearest past i C (closer_event a b)
   nearest_of_both None None h g = λ k n is c. elim (either k is) [ inl in_a ↦ h k n in_a c | inr in_b ↦ g k n in_b c ]
   nearest_of_both None (Some b) h g = (other b.position g.0, g.1, λ k n is c. elim (either k is) [ inl in_a ↦ absurd (h k n in_a c) | inr in_b ↦ g.2 k n in_b c ])
   nearest_of_both (Some a) None h g = (one a.position h.0, h.1, λ k n is c. elim (either k is) [ inl in_a ↦ h.2 k n in_a c | inr in_b ↦ absurd (g k n in_b c) ])
   nearest_of_both (Some a) (Some b) h g = grind arith
 
--- the nearest of earlier events is still the nearest with one more entry
+-- the nearest of earlier events is unchanged with one more entry
 pub nearest_still : (e : Entry) (past : List Entry) (i : ℕ) (A B : ℕ → Type 0) → AreForward (e ∷ past) → ((k : ℕ) → A k → k < length past) → ((k : ℕ) → A k → B k) → ((k : ℕ) → B k → A k)
-    → (found : Option Reached) → Nearest past i A found → Nearest (e ∷ past) i B found
+    → (found : Option ReachedEvent) → Nearest past i A found → Nearest (e ∷ past) i B found
 nearest_still e past i A B forward within to from None h = λ k n is c. h k n (from k is) (comes_old e past i k n forward (within k (from k is)) c)
 nearest_still e past i A B forward within to from (Some x) h = grind (arith, comes_more e past i x.position x.steps h.1, comes_old)
 
 -- the nearest is reached by fewer steps than there are entries
-pub nearest_few : (past : List Entry) (i : ℕ) (A : ℕ → Type 0) (x : Reached) → AreForward past → Nearest past i A (Some x) → x.steps < length past
+pub nearest_few : (past : List Entry) (i : ℕ) (A : ℕ → Type 0) (x : ReachedEvent) → AreForward past → Nearest past i A (Some x) → x.steps < length past
 nearest_few past i A x forward h = omega (arith, comes_few past i x.position x.steps forward h.1, comes_within past i x.position x.steps h.1)
 
--- of a process that the entry does not concern the nearest event stays
-pub lane_still : (e : Entry) (past : List Entry) (i p : ℕ) (found : Option Reached) → AreForward (e ∷ past) → (actor e ≡ Some p → ⊥) → lane (e ∷ past) p ≡ lane past p
+-- the nearest event of a process that the entry does not concern is unchanged
+pub lane_still : (e : Entry) (past : List Entry) (i p : ℕ) (found : Option ReachedEvent) → AreForward (e ∷ past) → (actor e ≡ Some p → ⊥) → lane (e ∷ past) p ≡ lane past p
     → Nearest past i (λ k. IsEventOf past k p (lane past p)) found → Nearest (e ∷ past) i (λ k. IsEventOf (e ∷ past) k p (lane (e ∷ past) p)) found
 lane_still e past i p found forward other same h = grind (arith, nearest_still, event_below)
 
--- of the process of an event it is the nearer of that before and the event
-pub lane_joined : (e : Entry) (past : List Entry) (i p : ℕ) (before reached : Option Reached) → AreForward (e ∷ past) → actor e ≡ Some p → lane (e ∷ past) p ≡ lane past p
+-- the nearest event of an event's process is the closer one of the previous nearest and the event
+pub lane_joined : (e : Entry) (past : List Entry) (i p : ℕ) (before reached : Option ReachedEvent) → AreForward (e ∷ past) → actor e ≡ Some p → lane (e ∷ past) p ≡ lane past p
     → Nearest past i (λ k. IsEventOf past k p (lane past p)) before → Nearest (e ∷ past) i (λ k. k ≡ length past) reached
-    → Nearest (e ∷ past) i (λ k. IsEventOf (e ∷ past) k p (lane (e ∷ past) p)) (nearer before reached)
+    → Nearest (e ∷ past) i (λ k. IsEventOf (e ∷ past) k p (lane (e ∷ past) p)) (closer_event before reached)
 lane_joined e past i p before reached forward who same h new =
     nearest_of_both (e ∷ past) i (λ k. IsEventOf past k p (lane past p)) (λ k. k ≡ length past) (λ k. IsEventOf (e ∷ past) k p (lane (e ∷ past) p)) either
     (λ k at. inl (subst (IsEventOf past k p) (sym same) at)) (λ k here. inr (here, who, sym same)) before reached
@@ -66,42 +66,42 @@ lane_empty e past i p none more = λ k n at c. no_event k at
     no_event k (inl at) = omega (arith, event_lane past k p (lane (e ∷ past) p) at, more)
     no_event k (inr at) = let x : None ≡ Some p = sym none ∙ at.1 in cc
 
--- the lanes, where that of one process is set
-pub lanes_changed : (e : Entry) (past : List Entry) (i : ℕ) (lanes : List (Option Reached)) (q : ℕ) (found : Option Reached) → q < length lanes → AreForward (e ∷ past)
+-- the nearest events, if that of one process is set
+pub lanes_changed : (e : Entry) (past : List Entry) (i : ℕ) (lanes : List (Option ReachedEvent)) (q : ℕ) (found : Option ReachedEvent) → q < length lanes → AreForward (e ∷ past)
     → ((p : ℕ) → (p ≡ q → ⊥) → (actor e ≡ Some p → ⊥) × (lane (e ∷ past) p ≡ lane past p)) → Nearest (e ∷ past) i (λ k. IsEventOf (e ∷ past) k q (lane (e ∷ past) q)) found
     → AreNearest past i lanes → AreNearest (e ∷ past) i (slice_set lanes q found)
 lanes_changed e past i lanes q found within forward others own h = λ p below.
     grind (arith, eqb_tells p q, get_or-set_same lanes q found None within, get_or-set_other, lane_still, length-set lanes q found)
 
--- and where none is
-pub lanes_still : (e : Entry) (past : List Entry) (i : ℕ) (lanes : List (Option Reached)) → AreForward (e ∷ past) → actor e ≡ None → ((p : ℕ) → lane (e ∷ past) p ≡ lane past p)
+-- the nearest events, if none is set
+pub lanes_still : (e : Entry) (past : List Entry) (i : ℕ) (lanes : List (Option ReachedEvent)) → AreForward (e ∷ past) → actor e ≡ None → ((p : ℕ) → lane (e ∷ past) p ≡ lane past p)
     → AreNearest past i lanes → AreNearest (e ∷ past) i lanes
 lanes_still e past i lanes forward none same h = λ p below. lane_still e past i p (get_or lanes p None) forward (λ is. let x : None ≡ Some p = sym none ∙ is in cc) (same p) (h p below)
 
 module _ (e : Entry) (past : List Entry) (i : ℕ) (forward : AreForward (e ∷ past)) where
-  -- the event itself is come to by no step
-  pub way_to_itself : (v : ℕ) → length past ≡ v → v ≡ i → is_some (actor e) ≡ true → IsWay (e ∷ past) i v (record { steps = 0; before = i })
+  -- the event itself is reached by zero steps
+  pub way_to_itself : (v : ℕ) → length past ≡ v → v ≡ i → is_some (actor e) ≡ true → IsPathStep (e ∷ past) i v (record { steps = 0; previous = i })
   way_to_itself v here own event = record {
     fewest = record { comes = begins (actor e) refl event; least = λ m c. omega arith };
     last = λ m is. absurd (omega (arith, is));
   }
     where
-      begins : (a : Option ℕ) → actor e ≡ a → is_some a ≡ true → Comes (e ∷ past) i v 0
+      begins : (a : Option ℕ) → actor e ≡ a → is_some a ≡ true → HasPath (e ∷ past) i v 0
       begins None is some = absurd (false≢true some)
       begins (Some p) is some = at_once p (lane past p) (inr (sym own ∙ sym here, is, refl)) own refl
 
-  -- another event by one step from the nearest that directly precedes it
-  pub way_through : (v : ℕ) → length past ≡ v → (i ≡ length past → is_some (actor e) ≡ true → ⊥) → (x : Reached) → Nearest past i (PrecedesNext e past) (Some x)
-      → IsWay (e ∷ past) i v (record { steps = x.steps + 1; before = x.position })
+  -- another event is reached by one step from the nearest one that directly precedes it
+  pub way_through : (v : ℕ) → length past ≡ v → (i ≡ length past → is_some (actor e) ≡ true → ⊥) → (x : ReachedEvent) → Nearest past i (PrecedesNext e past) (Some x)
+      → IsPathStep (e ∷ past) i v (record { steps = x.steps + 1; previous = x.position })
   way_through v here other x h = record {
     fewest = record {
       comes = onward x.position x.steps comes precedes refl;
       least = λ n c. farther n (comes_newest e past i v n forward (sym here) c);
     };
-    last = λ m is. (precedes, subst (Comes (e ∷ past) i x.position) (let same : x.steps ≡ m = omega (arith, is) in same) comes);
+    last = λ m is. (precedes, subst (HasPath (e ∷ past) i x.position) (let same : x.steps ≡ m = omega (arith, is) in same) comes);
   }
     where
-      comes : Comes (e ∷ past) i x.position x.steps
+      comes : HasPath (e ∷ past) i x.position x.steps
       comes = comes_more e past i x.position x.steps h.1
 
       precedes : DirectlyPrecedes (e ∷ past) x.position v
@@ -111,66 +111,66 @@ module _ (e : Entry) (past : List Entry) (i : ℕ) (forward : AreForward (e ∷ 
       farther n (is_newest is event none) = absurd (other is event)
       farther n (through j m kind c is) = let far = h.2 j m kind c in omega (arith, far, is)
 
-  -- and what is preceded by nothing that is come to is not come to
-  pub no_way : (v : ℕ) → length past ≡ v → (i ≡ length past → is_some (actor e) ≡ true → ⊥) → Nearest past i (PrecedesNext e past) None → (n : ℕ) → Comes (e ∷ past) i v n → ⊥
+  -- an event is not reached if none that directly precedes it is
+  pub no_way : (v : ℕ) → length past ≡ v → (i ≡ length past → is_some (actor e) ≡ true → ⊥) → Nearest past i (PrecedesNext e past) None → (n : ℕ) → HasPath (e ∷ past) i v n → ⊥
   no_way v here other h n c = grind (arith, comes_newest e past i v n forward (sym here) c)
 
--- an event of q brings it in where it is nearer
-pub lanes_joined : (e : Entry) (past : List Entry) (i : ℕ) (lanes : List (Option Reached)) (q : ℕ) (reached : Option Reached) → q < length lanes → AreForward (e ∷ past)
+-- an event of q becomes the nearest of its lane if it is closer
+pub lanes_joined : (e : Entry) (past : List Entry) (i : ℕ) (lanes : List (Option ReachedEvent)) (q : ℕ) (reached : Option ReachedEvent) → q < length lanes → AreForward (e ∷ past)
     → actor e ≡ Some q → ((p : ℕ) → lane (e ∷ past) p ≡ lane past p) → Nearest (e ∷ past) i (λ k. k ≡ length past) reached
-    → AreNearest past i lanes → AreNearest (e ∷ past) i (slice_set lanes q (nearer (get_or lanes q None) reached))
+    → AreNearest past i lanes → AreNearest (e ∷ past) i (slice_set lanes q (closer_event (get_or lanes q None) reached))
 lanes_joined e past i lanes q reached within forward who same new h =
     grind (arith, lanes_changed, lane_joined e past i q (get_or lanes q None) reached forward who (same q) (h q within) new)
 
 -- a restart of q empties its lane
-pub lanes_restarted : (past : List Entry) (i : ℕ) (lanes : List (Option Reached)) (who : Pid) (listed : List Det) → who.0 < length lanes → AreForward (Restart who listed ∷ past)
+pub lanes_restarted : (past : List Entry) (i : ℕ) (lanes : List (Option ReachedEvent)) (who : Pid) (listed : List Det) → who.0 < length lanes → AreForward (Restart who listed ∷ past)
     → AreNearest past i lanes → AreNearest (Restart who listed ∷ past) i (slice_set lanes who.0 None)
 lanes_restarted past i lanes who listed within forward h =
     lanes_changed (Restart who listed) past i lanes who.0 None within forward
     (λ p apart. (λ is. let x : None ≡ Some p = is in cc, cond-false (who.0 == p) _ _ (ne_eqb who.0 p (λ same. apart (sym same)))))
     (lane_empty (Restart who listed) past i who.0 refl (cond-true (who.0 == who.0) _ _ (eq-eqb who.0 who.0 refl))) h
 
--- the nearest that directly precedes a delivery is of its lane, or its send
-pub nearest_delivered : (past : List Entry) (i : ℕ) (to : Pid) (send rsn : ℕ) (listed : List Det) (a b : Option Reached) → Nearest past i (λ k. IsEventOf past k to.0 (lane past to.0)) a
-    → Nearest past i (λ k. k ≡ send) b → Nearest past i (PrecedesNext (Deliver to send rsn listed) past) (nearer a b)
+-- the nearest event that directly precedes a delivery is of the delivery's lane, or is its send
+pub nearest_delivered : (past : List Entry) (i : ℕ) (to : Pid) (send rsn : ℕ) (listed : List Det) (a b : Option ReachedEvent) → Nearest past i (λ k. IsEventOf past k to.0 (lane past to.0)) a
+    → Nearest past i (λ k. k ≡ send) b → Nearest past i (PrecedesNext (Deliver to send rsn listed) past) (closer_event a b)
 nearest_delivered past i to send rsn listed a b h g = grind (arith, nearest_of_both, eq-eqb)
 
--- a way is still one with one more entry
-way_still : (e : Entry) (past : List Entry) (i k : ℕ) (found : Option Way) → AreForward (e ∷ past) → k < length past → TellsWay past i k found → TellsWay (e ∷ past) i k found
+-- a path is unchanged with one more entry
+way_still : (e : Entry) (past : List Entry) (i k : ℕ) (found : Option PathStep) → AreForward (e ∷ past) → k < length past → IsPathStepOf past i k found → IsPathStepOf (e ∷ past) i k found
 way_still e past i k None forward below h = λ n c. h n (comes_old e past i k n forward below c)
 way_still e past i k (Some w) forward below h = record {
   fewest = grind (arith, comes_more e past i k w.steps h.fewest.comes, comes_old);
-  last = λ m is. let before = h.last m is in (precedes_more e past w.before k before.0, comes_more e past i w.before m before.1);
+  last = λ m is. let before = h.last m is in (precedes_more e past w.previous k before.0, comes_more e past i w.previous m before.1);
 }
 
--- the ways to one entry more
-pub ways_more : (e : Entry) (past : List Entry) (i : ℕ) (ways : List (Option Way)) (way : Option Way) → AreForward (e ∷ past) → TellsWay (e ∷ past) i (length past) way
-    → AreWays past i ways → AreWays (e ∷ past) i (ways ++ way ∷ [])
+-- the paths with one more entry
+pub ways_more : (e : Entry) (past : List Entry) (i : ℕ) (ways : List (Option PathStep)) (way : Option PathStep) → AreForward (e ∷ past) → IsPathStepOf (e ∷ past) i (length past) way
+    → ArePathSteps past i ways → ArePathSteps (e ∷ past) i (ways ++ way ∷ [])
 ways_more e past i ways way forward new h =
     grind (arith, length-append ways (way ∷ []), eqb_tells, get_or-append_seam ways way [] None, get_or-append, way_still)
 
--- to no entry there is a way
-pub ways_none : (i : ℕ) → AreWays [] i []
+-- the paths before the first entry
+pub ways_none : (i : ℕ) → ArePathSteps [] i []
 ways_none i = record { count = refl; each = λ k below. absurd (omega (arith, below)) }
 
--- and nothing is come to
+-- the nearest events before the first entry
 pub lanes_none : (i n : ℕ) → AreNearest [] i (replicate n None)
-lanes_none i n = λ p below. subst (Nearest [] i (λ k. IsEventOf [] k p 0)) (sym (get_or-replicate n p None None (omega (arith, below, length-replicate {A = Option Reached} n None)))) (λ k m at c. absurd at)
+lanes_none i n = λ p below. subst (Nearest [] i (λ k. IsEventOf [] k p 0)) (sym (get_or-replicate n p None None (omega (arith, below, length-replicate {A = Option ReachedEvent} n None)))) (λ k m at c. absurd at)
 
--- the nearest is reached by few steps
-pub nearest_below : (past : List Entry) (i : ℕ) (A : ℕ → Type 0) (n : ℕ) (found : Option Reached) → AreForward past → length past ≡ n → Nearest past i A found → IfSome found (λ x. x.steps < n)
+-- the nearest event, if any, is reached by fewer steps than this number of entries
+pub nearest_below : (past : List Entry) (i : ℕ) (A : ℕ → Type 0) (n : ℕ) (found : Option ReachedEvent) → AreForward past → length past ≡ n → Nearest past i A found → IfSome found (λ x. x.steps < n)
 nearest_below past i A n None forward long h = tt
 nearest_below past i A n (Some x) forward long h = omega (arith, nearest_few past i A x forward h, long)
 
--- from an event one step back
-pub step_back : (past : List Entry) (i k n : ℕ) (w : Way) → IsWay past i k w → IsLeast past i k (n + 1) → DirectlyPrecedes past w.before k × IsLeast past i w.before n
+-- the event one step back is reached by one step less
+pub step_back : (past : List Entry) (i k n : ℕ) (w : PathStep) → IsPathStep past i k w → IsLeast past i k (n + 1) → DirectlyPrecedes past w.previous k × IsLeast past i w.previous n
 step_back past i k n w h fewest =
     let same : w.steps ≡ n + 1 = omega (arith, h.fewest.least (n + 1) fewest.comes, fewest.least w.steps h.fewest.comes) in
     let before = h.last n same in (
       before.0,
-      record { comes = before.1; least = λ m c. let more = fewest.least (m + 1) (onward w.before m c before.0 refl) in omega (arith, more) },
+      record { comes = before.1; least = λ m c. let more = fewest.least (m + 1) (onward w.previous m c before.0 refl) in omega (arith, more) },
     )
 
--- deliveries of a run are forward at each of its instants
+-- at each instant of a run, no delivery precedes its send
 pub forward_at : (es : List Entry) (t : ℕ) → t ≤ length es → AreForward (reverse es) → AreForward (past_at es t)
 forward_at es t within h = subst AreForward (instant_past es t within) (at_instant AreForward (λ e past k j i d. k j i (inl d)) (reverse es) t h)

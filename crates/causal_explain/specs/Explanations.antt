@@ -1,4 +1,4 @@
--- What an explanation says of a breach.
+-- What an explanation of a breach states of the run.
 use Rattle.std.specs.Prelude.{◌≡◌, false, Some}
 use Rattle.causal_trace.specs.Past.{det_at, is_stable}
 use Rattle.causal_trace.specs.Past as past
@@ -6,10 +6,11 @@ use Rattle.causal_trace.specs.Rows.{Recording}
 use Rattle.causal_audit.specs.declared.breach.Breach.{Breach}
 use Rattle.causal_explain.specs.declared.explanation.Explanation.{Explanation}
 use Rattle.causal_explain.specs.Chains.{IsShortestChain, first_lacking}
-use Rattle.causal_explain.specs.Since.{AreDown, AreHoldings, AreLosses}
+use Rattle.causal_explain.specs.ProcessFacts.{AreDown, AreHoldings, AreLosses}
 
--- what it says is so at the breach's instant: the breach is that, the determinant is the delivery's and is not stable, who
--- holds it, who lost it and who is down are told, and by which events the orphan comes to depend on the delivery
+-- All facts are those at the breach's instant. The delivery, the crash set and the orphan are the breach's. The
+-- determinant is the delivery's, and not stable. The lists of holders, losses and down processes are complete, and the
+-- chain is a shortest.
 pub record IsExplanation (r : Recording) (b : Breach) (x : Explanation) : Type 0 where
   pub delivery : x.delivery ≡ b.delivery
   pub instant : x.instant ≡ b.instant

@@ -1,7 +1,7 @@
--- What private functions keep; no public clause cites it.
-pub mod Acts
+-- Definitions for private contracts; no public contract cites them.
+pub mod EntryCauses
 pub mod Lacking
 pub mod Losing
-pub mod Narrowing
-pub mod Standings
-pub mod Ways
+pub mod Bisection
+pub mod Validities
+pub mod ShortestPaths

@@ -4,4 +4,4 @@ pub mod Closest
 pub mod Explanations
 pub mod Inside
 pub mod Ranges
-pub mod Since
+pub mod ProcessFacts

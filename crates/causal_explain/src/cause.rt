@@ -1,31 +1,31 @@
-//! Which entry makes the instant fail that a verdict names, and what it does.
+//! The entry by which the instant of a verdict fails, and what it does.
 ghost use Rattle.std.specs.Prelude.{◌≡◌, ℕ, reverse};
 ghost use Rattle.causal_audit.specs.Verdicts.{IsVerdict};
-ghost use Rattle.causal_explain.specs.Causes.{TellsCause};
-ghost use Rattle.causal_explain.specs.Inside.Acts.{act_of, newest_act};
+ghost use Rattle.causal_explain.specs.Causes.{IsCauseOf};
+ghost use Rattle.causal_explain.specs.Inside.EntryCauses.{cause_from_entry, newest_cause};
 
 use causal_audit::Verdict;
-use causal_audit::laws::sweep_law;
+use causal_audit::laws::new_orphans_law;
 use causal_trace::entry::Entry;
 use causal_trace::trace::Trace;
 
-/// What the entry does that makes an instant fail: the last entry before the instant.
+/// What the last entry before an instant does, by which the instant fails.
 #[derive(Clone, Copy)]
 pub enum Cause {
-    /// The orphan delivers what the entry at the position `send` sends; so it comes to depend on the delivery, and its log
-    /// lacks the determinant.
+    /// The orphan delivers the message that the entry at the position `send` sends. So it comes to depend on the
+    /// delivery, and its log lacks the determinant.
     Delivery { process: u8, send: u32 },
-    /// The process restarts, and does not list the determinant, which another one holds.
+    /// The process restarts, and does not list the determinant, which another process holds.
     Restart { process: u8 },
     /// The process forgets the determinant, which it held and which is not stable.
     Forgetting { process: u8 },
-    /// The process crashes, and with it more than f processes are down.
+    /// The process crashes; then more than f processes are down.
     Crash { process: u8 },
 }
 
-/// The cause that an entry may be.
-fn act_of(entry: &Entry) -> Option<Cause>
-    ensures { result ≡ act_of entry.now }
+/// Returns the cause that an entry may be.
+fn cause_from_entry(entry: &Entry) -> Option<Cause>
+    ensures { result ≡ cause_from_entry entry.now }
 {
     match entry {
         Entry::Deliver { to, send, .. } => Some(Cause::Delivery {
@@ -39,27 +39,27 @@ fn act_of(entry: &Entry) -> Option<Cause>
     }
 }
 
-/// That of the last of these entries.
-fn last_act(entries: &[Entry]) -> Option<Cause>
-    ensures { result ≡ newest_act (reverse entries.now) }
+/// Returns the cause that the last of these entries may be.
+fn last_cause(entries: &[Entry]) -> Option<Cause>
+    ensures { result ≡ newest_cause (reverse entries.now) }
 {
     match entries.last() {
-        Some(entry) => act_of(entry),
+        Some(entry) => cause_from_entry(entry),
         None => None,
     }
 }
 
-/// By what the instant fails that a verdict names; None of a safe run. A send, a confirmed write to stable storage and a crash
-/// never give a delivery an orphan that it had not before.
+/// Returns the cause by which the instant of the verdict fails; None for `Accept`. A send, a confirmed write to stable
+/// storage and a crash never give a delivery an orphan that it did not have before.
 pub fn cause_of(trace: &Trace, verdict: &Verdict) -> Option<Cause>
     requires { (f : ℕ) × IsVerdict trace.now.recording f verdict.now }
     ensures { (f : ℕ) → IsVerdict trace.now.recording f verdict.now
-        → TellsCause trace.now.recording f verdict.now result }
+        → IsCauseOf trace.now.recording f verdict.now result }
 {
-    sweep_law();
+    new_orphans_law();
     match verdict {
         Verdict::Accept => None,
-        Verdict::Exceeded { instant, .. } => last_act(&trace.entries()[..*instant as usize]),
-        Verdict::Orphan { instant, .. } => last_act(&trace.entries()[..*instant as usize]),
+        Verdict::Exceeded { instant, .. } => last_cause(&trace.entries()[..*instant as usize]),
+        Verdict::Orphan { instant, .. } => last_cause(&trace.entries()[..*instant as usize]),
     }
 }

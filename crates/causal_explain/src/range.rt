@@ -1,7 +1,7 @@
-//! For which numbers of faults a run is safe.
+//! The bounds f for which a run is safe.
 ghost use Rattle.std.specs.Prelude.{◌≡◌, ◌<◌, ◌≤◌, ℕ, None, IfOk};
 ghost use Rattle.causal_audit.specs.Breaches.{FirstExcess};
-ghost use Rattle.causal_explain.specs.Ranges.{ComesToExcess, IsSafeRange};
+ghost use Rattle.causal_explain.specs.Ranges.{HasExcessInstant, IsSafeRange};
 
 use crate::closest::{Closest, closest_failure};
 use causal_audit::{Verdict, first_excess_in, verdict_of};
@@ -9,21 +9,21 @@ use causal_name::NoMemory;
 use causal_trace::trace::Trace;
 use std::alloc::Global;
 
-/// Numbers of faults: those that are at least `from` and, where there is an end, below `below`.
+/// Bounds f: those that are at least `from` and, if `below` is given, less than `below`.
 #[derive(Clone, Copy)]
 pub struct SafeRange {
     pub from: u16,
     pub below: Option<u16>,
 }
 
-/// For which numbers of faults a run is safe: for those from the greatest number of processes that are down at once up to the first
-/// for which a delivery has an orphan. There may be none between.
+/// Returns the bounds f for which a run is safe: from the greatest number of processes that are down at once up to, but
+/// without, the least bound for which a delivery has an orphan. There may be none between.
 ///
-/// At most ten passes over the entries tell the first, and some twenty judgements of the run at most the other
+/// The first bound takes at most ten passes over the entries, the other at most some twenty audits
 /// ([`closest_failure`]).
 ///
 /// # Errors
-/// `NoMemory` where memory was refused.
+/// `NoMemory` if an allocation failed.
 pub fn safe_range(alloc: Global, trace: &Trace) -> Result<SafeRange, NoMemory>
     ensures { IfOk result (IsSafeRange trace.now.recording) }
 {
@@ -43,10 +43,10 @@ pub fn safe_range(alloc: Global, trace: &Trace) -> Result<SafeRange, NoMemory>
     }
 }
 
-/// How many processes are down at once at most. Each pass over the entries halves what it may be.
+/// Returns the greatest number of processes that are down at once. Each pass over the entries halves the interval.
 fn most_down(trace: &Trace) -> u16
     ensures most { FirstExcess trace.now.recording result None }
-    ensures fewer { (f : ℕ) → f < result → ComesToExcess trace.now.recording f }
+    ensures fewer { (f : ℕ) → f < result → HasExcessInstant trace.now.recording f }
 {
     let mut low = 0;
     let mut high = trace.processes();

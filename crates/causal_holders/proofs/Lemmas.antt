@@ -1,3 +1,3 @@
--- What crates above may cite of this crate's proofs.
+-- Public lemmas, for the proofs of other crates.
 pub mod MemberCounts
 pub mod Sets

@@ -1,4 +1,4 @@
--- The members of a set in order, and the least of them.
+-- The members of a set in ascending order, and the least of them.
 use Rattle.std.specs.Prelude.{List, ◌≡◌, ◌≢◌, ℕ, ◌+◌, ◌<◌, ◌≤◌, Bool, true, false, not, ◌&&◌, if◌then◌else◌, nat_eq, [], ◌∷◌, ◌++◌, filter, length, count_by}
 use Rattle.std.proofs.Common.{zero, suc, refl, arith, ap, sym, ◌∙◌, inl, inr}
 use Rattle.std.specs.List.{list_any, range_with_len}
@@ -15,7 +15,7 @@ use Rattle.std.specs.FinSet.{FinSet, empty, remove, contains, len, contains-empt
 use Rattle.std.proofs.lemmas.Bool.Decides.{nat_tests, eqb_tells}
 use Rattle.causal_holders.specs.Members.{ascending, IsLeast, AreProcesses}
 
--- of the n numbers from start on, those that pass the test
+-- those of the n numbers from `start` on that pass the test
 abbrev passing_from : ℕ → ℕ → (ℕ → Bool) → List ℕ
 passing_from start n p = filter p (range_with_len start n)
 
@@ -30,7 +30,7 @@ none_passing : (start n : ℕ) (f : ℕ → Bool) → ((k : ℕ) → f k ≡ fal
 none_passing start zero f h = refl
 none_passing start (suc n) f h = ap (λ b. if b then start ∷ passing_from (start + 1) n f else passing_from (start + 1) n f) (h start) ∙ none_passing (start + 1) n f h
 
--- f passes first, and g is f without that number
+-- f passes `first` before any other number, and g is f without it
 first_passing : (start n first : ℕ) (f g : ℕ → Bool) → start ≤ first → first < start + n → f first ≡ true → g first ≡ false → ((k : ℕ) → k < first → f k ≡ false) → ((k : ℕ) → k ≢ first → g k ≡ f k) → passing_from start n f ≡ first ∷ passing_from start n g
 first_passing start zero first f g from below here gone before same = absurd (omega arith)
 first_passing start (suc n) first f g from below here gone before same =
@@ -46,7 +46,7 @@ first_passing start (suc n) first f g from below here gone before same =
           rw (f_not, g_not) (first_passing (start + 1) n first f g (omega arith) (omega arith) here gone before same)
     ]
 
--- the empty set has no members in any order
+-- the empty set has an empty list of members
 pub ascending-empty : ascending empty ≡ []
 ascending-empty = none_passing 0 256 (contains empty) (contains-empty nat_cmp)
 
@@ -60,7 +60,7 @@ not_true : (b : Bool) → (b ≡ true → ⊥) → b ≡ false
 not_true true h = absurd (h refl)
 not_true false h = refl
 
--- the least member comes first, and then the others
+-- the least member comes first, then the others
 pub ascending-least : (s : FinSet nat_cmp) (p : ℕ) → p < 256 → IsLeast s p → ascending s ≡ p ∷ ascending (remove s p)
 ascending-least s p below least =
     let after : (k : ℕ) → contains (remove s p) k ≡ (not (nat_eq k p) && contains s k) = λ k. contains-remove nat_cmp_total s p k ∙ ap (λ t. not t && contains s k) (unsigned_tied k p) in
@@ -69,7 +69,7 @@ ascending-least s p below least =
     (λ k lower. not_true (contains s k) (λ h. absurd (omega (arith, least.1 k h))))
     (λ k other. after k ∙ is_other k p (contains s k) other)
 
--- ---- who is in the list
+-- ---- membership in the list
 
 other_head : (q start : ℕ) (b : Bool) (rest : List ℕ) → q ≢ start → list_any (nat_eq q) (if b then start ∷ rest else rest) ≡ list_any (nat_eq q) rest
 other_head q start true rest h = grind (arith, nat_tests)
@@ -91,13 +91,13 @@ listed start (suc n) f q from to =
       | inr e ↦ other_head q start (f start) (passing_from (start + 1) n f) e.1 ∙ listed (start + 1) n f q (omega (arith, e.1)) (omega arith)
     ]
 
--- the list has just the members below 256
+-- the list has exactly the members below 256
 pub ascending-members : (s : FinSet nat_cmp) (q : ℕ) → q < 256 → list_any (nat_eq q) (ascending s) ≡ contains s q
 ascending-members s q h = listed 0 256 (contains s) q (omega arith) (omega arith)
 
--- ---- that it ascends, and how long it is
+-- ---- order and length of the list
 
--- each member is below the next
+-- the list strictly ascends
 pub ascending-rises : (s : FinSet nat_cmp) → IsStrictlyIncreasing (ascending s)
 ascending-rises s = IsStrictlyIncreasing-filter (contains s) (range_with_len 0 256) (λ k h.
     let below : k + 1 < 256 = omega (arith, h, length-range_with_len 0 256) in
@@ -109,7 +109,7 @@ counted_below (suc n) test =
     let next = sum_by-map-range_with_len_more (λ k. if test k then 1 else 0) (λ k. k) 0 n n (omega arith) in
     ap (λ k. count_by test (range_with_len 0 k)) (let same : suc n ≡ n + 1 = omega arith in same) ∙ (simp map-id at next) ∙ omega (arith, counted_below n test)
 
--- it has each member once
+-- the list is as long as the set
 pub length-ascending : (s : FinSet nat_cmp) → AreProcesses s → length (ascending s) ≡ len s
 length-ascending s inside =
     length-filter (contains s) (range_with_len 0 256) ∙ counted_below 256 (contains s) ∙ sym (len_counted 256 s inside)

@@ -1,4 +1,4 @@
--- What the operations on words do to the sets that they show.
+-- What the operations on words do to the sets that the words represent.
 use Rattle.std.specs.Prelude.{List, [], ◌∷◌, length, slice_index, ◌≡◌, ◌≢◌, ℕ, ◌+◌, ◌-◌, ◌*◌, ◌/◌, ◌%◌, ◌^◌, ◌<◌, ◌≤◌, min, max, Bool, true, false, cond, not, ◌&&◌, ◌||◌, if◌then◌else◌, nat_lt, nat_eq, bit_or, bit_and}
 use Rattle.std.proofs.Common.{get_or, get_or-set_same, get_or-set_other, zero, suc, refl, arith, ap, sym, ◌∙◌, subst, inl, inr, w64}
 use Rattle.std.specs.Ordering.{nat_cmp, eq_by_cmp}
@@ -15,11 +15,11 @@ use Rattle.causal_holders.specs.Members.{IsLeast, numbers_below}
 use Rattle.std.proofs.lemmas.Bool.Decides.{nat_tests, eqb_tells, leb_tells}
 use Rattle.std.proofs.lemmas.Nat.Bits.{bit_at-zero, bit_at-lt, bit_at_or, bit_at_and, bit_at_not, bit_at_set_same, bit_at_set_other, bit_at_clear_same, bit_at_clear_other, shr_and_one, bit_at-trailing_zeros}
 use Rattle.causal_holders.specs.Inside.Words.{has_bit, has_member, AreWords, words_of}
-use Rattle.causal_holders.specs.Inside.WordsTold.{contains-numbers_below, mod_suc, words_shown}
-use Rattle.causal_holders.specs.Same.{have_same_members, have_same_members-itself, same_members_equal}
+use Rattle.causal_holders.specs.Inside.WordLemmas.{contains-numbers_below, mod_suc, words_shown}
+use Rattle.causal_holders.specs.SameMembers.{have_same_members, have_same_members-itself, same_members_equal}
 use Rattle.std.proofs.Math.ListN.{set, length-set}
 
--- the set that four words show
+-- the set that four words represent
 abbrev pub shown : List ℕ → FinSet nat_cmp
 shown ws = numbers_below 256 (has_member ws)
 
@@ -59,7 +59,7 @@ inserted_bit ws p q a h =
       ]
     ]
 
--- to set the bit of p adds p to the set that the words show
+-- setting bit p inserts p into the set
 pub inserted : (ws : List ℕ) (p : ℕ) → AreWords ws → p < 256 → shown (set ws (p / 64) (bit_or (slice_index ws (p / 64)) (1 * 2 ^ (p % 64) % 2 ^ 64))) ≡ insert (shown ws) p
 inserted ws p a h =
     shown_is _ _ (λ q. inserted_bit ws p q a h
@@ -68,7 +68,7 @@ inserted ws p a h =
 at_other : (q p : ℕ) (b : Bool) → q ≢ p → b ≡ (not (nat_eq q p) && b)
 at_other q p b h = grind (arith, nat_tests)
 
--- the word with one bit cleared
+-- the words with one bit cleared
 abbrev pub cleared : List ℕ → ℕ → ℕ
 cleared ws p = bit_and (slice_index ws (p / 64)) (bit_not w64 (1 * 2 ^ (p % 64) % 2 ^ 64))
 
@@ -90,7 +90,7 @@ removed_bit ws p q a h =
       ]
     ]
 
--- to clear the bit of p takes p out of the set that the words show
+-- clearing bit p removes p from the set
 pub removed : (ws : List ℕ) (p : ℕ) → AreWords ws → p < 256 → shown (set ws (p / 64) (cleared ws p)) ≡ remove (shown ws) p
 removed ws p a h =
     shown_is _ _ (λ q. removed_bit ws p q a h
@@ -137,7 +137,7 @@ united_at ws vs q =
       | inr g ↦ rw g.0 refl
     ]
 
--- the bits that are set in either of two lists of words show the union
+-- a bitwise or represents the union
 pub united : (ws vs : List ℕ) → shown (or_words ws vs) ≡ union (shown ws) (shown vs)
 united ws vs =
     shown_is _ _ (λ q. united_at ws vs q
@@ -154,13 +154,13 @@ without_at ws vs q a =
       | inr g ↦ rw g.0 refl
     ]
 
--- the bits of one list of words that are not set in the other show the difference
+-- the bits of one list that are not set in the other represent the difference
 pub without : (ws vs : List ℕ) → AreWords vs → shown (without_words ws vs) ≡ difference (shown ws) (shown vs)
 without ws vs a =
     shown_is _ _ (λ q. without_at ws vs q a
     ∙ sym (contains-difference nat_cmp_total (shown ws) (shown vs) q ∙ (λ i. contains-shown ws q i && not (contains-shown vs q i))))
 
--- ---- how many
+-- ---- number of members
 
 ones_of_bit : (x : ℕ) → x < 2 → ones x ≡ (if nat_lt 0 x then 1 else 0)
 ones_of_bit zero h = ones-ones 0
@@ -174,7 +174,7 @@ len-one_more false s n h = omega arith
 not_below_itself : (n : ℕ) (b : Bool) → (nat_lt n n && b) ≡ false
 not_below_itself n b = grind (arith, nat_tests)
 
--- the numbers of a word that stands behind others
+-- the members of one word, after those of the words before it
 len-part : (n base w : ℕ) (p : ℕ → Bool) → ((k : ℕ) → k < n → p (base + k) ≡ has_bit w k) → len (numbers_below (base + n) p) ≡ len (numbers_below base p) + ones (w % 2 ^ n)
 unfolding numbers_below
 len-part zero base w p h =
@@ -203,7 +203,7 @@ none_below_zero : (p : ℕ → Bool) → len (numbers_below 0 p) ≡ 0
 unfolding numbers_below
 none_below_zero p = len-empty nat_cmp
 
--- the words have as many ones as the set has members
+-- the words have as many set bits as the set has members
 pub len-shown : (ws : List ℕ) → AreWords ws → ones (slice_index ws 0) + ones (slice_index ws 1) + ones (slice_index ws 2) + ones (slice_index ws 3) ≡ len (shown ws)
 len-shown ws a = omega (arith, none_below_zero (has_member ws), len-word ws 0 a, len-word ws 1 a, len-word ws 2 a, len-word ws 3 a)
 
@@ -220,13 +220,13 @@ never : (b : Bool) → (b && false) ≡ false
 never true = refl
 never false = refl
 
--- words of zeros show the empty set
+-- zero words represent the empty set
 pub shown_none : shown (0 ∷ 0 ∷ 0 ∷ 0 ∷ []) ≡ empty
 shown_none =
     shown_is (0 ∷ 0 ∷ 0 ∷ 0 ∷ []) _ (λ q. ap (λ (w : ℕ). nat_lt q 256 && has_bit w (q % 64)) (zero_word (q / 64))
     ∙ ap (λ n. nat_lt q 256 && nat_lt 0 n) (bit_at-zero (q % 64)) ∙ never (nat_lt q 256) ∙ sym (contains-empty nat_cmp q))
 
--- words united with words are words
+-- a bitwise or of words gives words
 pub or_are_words : (ws vs : List ℕ) → AreWords ws → AreWords vs → AreWords (or_words ws vs)
 unfolding or_words
 or_are_words ws vs a b = record { count = refl; small = small }
@@ -238,7 +238,7 @@ or_are_words ws vs a b = record { count = refl; small = small }
     small (suc (suc (suc zero))) = or_lt 64 _ _ (a.small 3) (b.small 3)
     small (suc (suc (suc (suc i)))) = omega arith
 
--- words of which one is replaced by a word are words
+-- replacing one word by a word leaves words
 pub set_are_words : (ws : List ℕ) (p w : ℕ) → AreWords ws → p < 4 → w < 2 ^ 64 → AreWords (set ws p w)
 set_are_words ws p w a there h = record {
   count = length-set ws p w ∙ a.count;
@@ -254,7 +254,7 @@ one_is_set x h = grind (arith, nat_tests)
 when_inside : (q n : ℕ) (b : Bool) → q < n → (nat_lt q n && b) ≡ b
 when_inside q n b h = grind (arith, nat_tests)
 
--- the bit of p is set just where p is a member
+-- bit p is set if and only if p is a member
 pub bit_is : (ws : List ℕ) (p : ℕ) → p < 256 → nat_eq (bit_and (slice_index ws (p / 64) / 2 ^ (p % 64)) 1) 1 ≡ contains (shown ws) p
 bit_is ws p h =
     ap (λ n. nat_eq n 1) (shr_and_one (slice_index ws (p / 64)) (p % 64)) ∙ one_is_set (bit_at (slice_index ws (p / 64)) (p % 64)) (bit_at-lt (slice_index ws (p / 64)) (p % 64))
@@ -283,7 +283,7 @@ not_set n e h = grind (arith, nat_tests)
 not_less : {a b : ℕ} → (a < b → ⊥) → b ≤ a
 not_less {a} {b} h = omega arith
 
--- with no word that is not 0 there is no member
+-- if no word is other than 0, the set is empty
 pub shown_empty : (ws : List ℕ) → AreWords ws → ((i : ℕ) → i < 4 → slice_index ws i ≡ 0) → shown ws ≡ empty
 shown_empty ws a none =
     shown_is ws _ (λ q. no_member q ∙ sym (contains-empty nat_cmp q))
@@ -295,7 +295,7 @@ shown_empty ws a none =
           | inr g ↦ rw g.0 refl
         ]
 
--- the place of the lowest bit of the first word that is not 0
+-- the lowest bit of the first word that is not 0 is the least member
 pub lowest : (ws : List ℕ) (i : ℕ) → AreWords ws → i < 4 → 0 < slice_index ws i → ((k : ℕ) → k < i → slice_index ws k ≡ 0) → IsLeast (shown ws) (64 * i + trailing_zeros w64 (slice_index ws i))
 lowest ws i a there pos none =
     let w = slice_index ws i in
@@ -315,7 +315,7 @@ lowest ws i a there pos none =
               not_set (bit_at (slice_index ws (q / 64)) (q % 64)) (ap (λ (k : ℕ). bit_at (slice_index ws k) (q % 64)) same ∙ at.2 (q % 64) (omega (arith, same))) h
         ]
 
--- words are equal where their sets have the same members
+-- words whose sets have the same members are equal
 pub same_words : (ws vs : List ℕ) → AreWords ws → AreWords vs → pointwise nat_eq ws vs ≡ have_same_members (shown ws) (shown vs)
 same_words ws vs a b =
     both_ways _ _
@@ -328,7 +328,7 @@ same_words ws vs a b =
         ∙ ap (λ s. words_of (contains s)) (same_members_equal (shown ws) (shown vs) h)
         ∙ words_shown vs b
 
--- ---- a part leaves nothing
+-- ---- the difference of a subset is empty
 
 in_other : (b c : Bool) → b ≡ true → (b && not c) ≡ false → c ≡ true
 in_other b c h e = grind arith
@@ -338,7 +338,7 @@ in_both true true h = refl
 in_both true false h = sym (h refl)
 in_both false c h = refl
 
--- a set less another is empty where it is a part of the other
+-- a difference is empty if and only if the first set is a subset of the second
 pub nothing_left : (s t : FinSet nat_cmp) → have_same_members (difference s t) empty ≡ is_subset s t
 nothing_left s t =
     both_ways _ _

@@ -1,3 +1,3 @@
--- What models and private functions keep; no public clause cites it.
+-- Definitions that only models and private functions cite.
 pub mod Words
-pub mod WordsTold
+pub mod WordLemmas

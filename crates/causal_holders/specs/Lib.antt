@@ -1,3 +1,3 @@
 pub mod Inside
 pub mod Members
-pub mod Same
+pub mod SameMembers

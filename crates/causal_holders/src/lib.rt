@@ -1,10 +1,10 @@
-//! Sets of processes by their numbers. Begin at [`Holders`]; [`laws`] says what its sets are to tests of numbers.
+//! Sets of processes by their numbers. Begin at [`Holders`]; [`laws`] relates the sets to tests of numbers.
 //!
-//! A set is four words of which each bit is one number, so that union, difference and number of members are a few word
-//! operations, and a set is copied like a number.
+//! A set is four words with one bit for each number, so union, difference and length are a few word operations, and a
+//! set is copied like a number.
 #![tactic(auto)]
 
-/// What its sets are to tests of numbers.
+/// Laws that relate the sets to tests of numbers.
 pub mod laws;
 
 ghost use Rattle.std.specs.Prelude.{◌≡◌, MatchOption};
@@ -13,21 +13,21 @@ ghost use Rattle.causal_holders.specs.Members.{AreProcesses, IsLeast};
 
 use std::marker::Model;
 
-/// How many processes there can be: they are numbered from 0, below this.
+/// The greatest number of processes; they are numbered from 0.
 pub const PROCESSES: u16 = 256;
 
-/// How many numbers one word stands for.
+/// The number of bits in a word.
 const WORD: u8 = 64;
 
-/// How many words stand for all numbers.
+/// The number of words with a bit for each number.
 const WORDS: usize = PROCESSES as usize / WORD as usize;
 
-/// A set of processes: the holders of a determinant, those that are down, that depend on a delivery, or that may crash.
+/// A set of processes, for example the holders of a determinant, the down processes, or a crash set.
 pub type Holders = ByteSet;
 
-/// A set of bytes, which number as many processes, or as many places in a table.
+/// A set of bytes: of process numbers, or of slots in a table.
 ///
-/// Contracts see it as the finite set of its members, each below [`PROCESSES`]. No call fails, and none takes memory.
+/// Contracts see it as the finite set of its members, each below [`PROCESSES`]. No call fails or allocates.
 #[derive(Clone, Copy, Debug)]
 pub struct ByteSet {
     words: [u64; WORDS],
@@ -40,7 +40,7 @@ impl Model for ByteSet {
     ghost use Rattle.causal_holders.specs.declared.TheConstants.{PROCESSES};
     ghost use Rattle.causal_holders.specs.Members.{numbers_below};
     ghost use Rattle.causal_holders.specs.Inside.Words.{has_member, words_of, AreWords};
-    ghost use Rattle.causal_holders.specs.Inside.WordsTold.{words_shown};
+    ghost use Rattle.causal_holders.specs.Inside.WordLemmas.{words_shown};
 
     ghost Value = { set.FinSet nat_cmp };
 
@@ -56,35 +56,35 @@ impl Model for ByteSet {
 }
 
 impl ByteSet {
-    /// The empty set.
+    /// Returns the empty set.
     pub fn none() -> Self
         ensures { result ≡ set.empty }
     {
         Self { words: [0; WORDS] }
     }
 
-    /// Puts a number in; one that is in already stays.
+    /// Adds a number; does nothing if it is a member.
     pub fn insert(&mut self, number: u8)
         ensures { self.new ≡ set.insert self.old number }
     {
         self.words[usize::from(number / WORD)] |= 1 << (number % WORD);
     }
 
-    /// Takes a number out, if it is in.
+    /// Removes a number; does nothing if it is not a member.
     pub fn remove(&mut self, number: u8)
         ensures { self.new ≡ set.remove self.old number }
     {
         self.words[usize::from(number / WORD)] &= !(1 << (number % WORD));
     }
 
-    /// Whether the number is in the set.
+    /// Returns whether the number is a member.
     pub fn contains(self, number: u8) -> bool
         ensures { result ≡ set.contains self number }
     {
         self.words[usize::from(number / WORD)] >> (number % WORD) & 1 == 1
     }
 
-    /// The numbers that are in this set, in the other, or in both.
+    /// Returns the numbers that are in this set or in the other.
     pub fn union(self, other: Self) -> Self
         ensures { result ≡ set.union self other }
     {
@@ -98,7 +98,7 @@ impl ByteSet {
         }
     }
 
-    /// The numbers that are in this set and not in the other.
+    /// Returns the numbers that are in this set and not in the other.
     pub fn minus(self, other: Self) -> Self
         ensures { result ≡ set.difference self other }
     {
@@ -112,7 +112,7 @@ impl ByteSet {
         }
     }
 
-    /// How many numbers are in the set: from 0 to [`PROCESSES`].
+    /// Returns the number of members, from 0 to [`PROCESSES`].
     pub fn len(self) -> u32
         ensures counted { result ≡ set.len self }
         ensures members { AreProcesses self }
@@ -123,14 +123,14 @@ impl ByteSet {
             + self.words[3].count_ones()
     }
 
-    /// Whether each number of this set is in the other.
+    /// Returns whether each member of this set is a member of the other.
     pub fn is_subset(self, other: Self) -> bool
         ensures { result ≡ set.is_subset self other }
     {
         self.minus(other) == Self::none()
     }
 
-    /// The least number of the set, or `None` where it is empty.
+    /// Returns the least member, or `None` if the set is empty.
     pub fn least(self) -> Option<u8>
         ensures { MatchOption result (self ≡ set.empty) (λ number. IsLeast self number) }
     {
@@ -138,7 +138,7 @@ impl ByteSet {
         Some(WORD * word as u8 + self.words[word].trailing_zeros() as u8)
     }
 
-    /// The numbers of the set in ascending order, each once.
+    /// Returns an iterator over the members, in ascending order.
     pub fn iter(self) -> Iter
         ensures { result ≡ self }
     {
@@ -147,7 +147,7 @@ impl ByteSet {
 }
 
 impl PartialEq for ByteSet {
-    ghost use Rattle.causal_holders.specs.Same.{have_same_members, same_members_laws};
+    ghost use Rattle.causal_holders.specs.SameMembers.{have_same_members, same_members_laws};
 
     ghost eq = { have_same_members };
 
@@ -159,12 +159,12 @@ impl PartialEq for ByteSet {
 }
 
 impl Eq for ByteSet {
-    ghost use Rattle.causal_holders.specs.Same.{same_members_equivalence};
+    ghost use Rattle.causal_holders.specs.SameMembers.{same_members_equivalence};
 
     ghost laws = { same_members_equivalence };
 }
 
-/// The numbers of a set that are still to come, the least of them next.
+/// An iterator over the members of a set, in ascending order.
 #[derive(Clone, Debug, Drop)]
 pub struct Iter {
     rest: ByteSet,

@@ -1,28 +1,28 @@
--- What is read of all entries.
+-- Values computed by a scan of all entries.
 use Rattle.std.proofs.Common.{◌≡◌, ◌<◌, ◌+◌, ◌∙◌, ℕ, List, ◌∷◌, length, get_or, Option, subst, arith}
 use Rattle.causal_name.specs.declared.MsgName.{MsgName}
 use Rattle.std.specs.Prelude.{reverse}
 use Rattle.std.proofs.lemmas.List.{reverse-reverse}
 use Rattle.causal_trace.specs.declared.entry.Entry.{Entry}
 use Rattle.causal_trace.specs.Past.{det_of, det_at}
-use Rattle.causal_line.specs.Deliveries.{delivered_at}
+use Rattle.causal_line.specs.Deliveries.{delivery_position}
 use Rattle.causal_name.specs.declared.Det.{Det}
 use Rattle.causal_trace.specs.State.{past_at}
 use Rattle.causal_trace.proofs.Lemmas.Instants.{past_more, past_length, past_whole, det_there}
 
--- all entries of a run make its past
+-- all entries of a run are its past
 pub whole : (past : List Entry) → past_at (reverse past) (length (reverse past)) ≡ past
 whole past = past_whole (reverse past) ∙ reverse-reverse past
 
--- the determinant at a position is that of the entry there, by the entries before it
+-- the determinant at a position is that of the entry there, given the entries before it
 pub own_at : (past : List Entry) (i : ℕ) (e : Entry) → i < length (reverse past) → e ≡ get_or (reverse past) i e → det_at past i ≡ det_of (past_at (reverse past) i) e
 own_at past i e below is = grind (arith, whole past, det_there)
 
--- where a message was delivered, after one more entry
+-- the position of a message's delivery after one more entry
 pub found_next : (past es : List Entry) (i : ℕ) (e : Entry) (p : ℕ) (m : MsgName) (found next : Option ℕ) (own : Option Det) → es ≡ reverse past → i < length es → e ≡ get_or es i e
-    → own ≡ det_at past i → found ≡ delivered_at (past_at (reverse past) i) p m
-    → ((before : List Entry) → i ≡ length before → own ≡ det_of before e → found ≡ delivered_at before p m → next ≡ delivered_at (e ∷ before) p m)
-    → next ≡ delivered_at (past_at (reverse past) (i + 1)) p m
+    → own ≡ det_at past i → found ≡ delivery_position (past_at (reverse past) i) p m
+    → ((before : List Entry) → i ≡ length before → own ≡ det_of before e → found ≡ delivery_position before p m → next ≡ delivery_position (e ∷ before) p m)
+    → next ≡ delivery_position (past_at (reverse past) (i + 1)) p m
 found_next past es i e p m found next own same below is own_is so step =
     grind (
       arith,

@@ -1,4 +1,4 @@
--- The grammar's loops over a value that is passed, a turn at a time: what was read of it, as data.
+-- The grammar's loops over a skipped value, one iteration at a time, and the data that they read.
 use Rattle.std.proofs.Common.{◌≡◌, ◌≢◌, ℕ, zero, suc, ◌-◌, ◌<◌, ◌≤◌, List, ◌∷◌, length, Bool, true, false, Option, Some, None, option_map, option_and_then, refl, ap, ◌∙◌}
 use Rattle.std.specs.Prelude.{◌&&◌, is_some, Result, Ok, Err, OnErr}
 use Rattle.json.specs.Token.{Token}
@@ -10,9 +10,9 @@ use Rattle.json.specs.Json.{Parse, parse_map, after_end_array, read_key, items_s
 use Rattle.json.proofs.Grammar.{value_is, items_end, items_more, members_end, members_no_key, members_more}
 use Rattle.serde_json.specs.Data.{Num, Data, null, boolean, number, string, array, object, Items, no_items, item, Members, no_members, put}
 use Rattle.serde_json.specs.Read.{number_of, of_json, of_items, of_members, converted}
-use Rattle.causal_line.specs.Outline.{one_more, is_plain, fits, items_fit}
+use Rattle.causal_line.specs.Prescan.{count_capped, is_plain, value_fits, items_fit}
 
--- ---- one read
+-- ---- one item or member
 
 abbrev pick : {A : Type 0} → A → Option A → A
 pick d None = d
@@ -34,17 +34,17 @@ twice : {A B : Type 0} (g : A → B) (r : List Token) (x : Option A) → option_
 twice g r None = refl
 twice g r (Some a) = refl
 
--- an array that was read is converted by its items
+-- an array is converted item by item
 pub converted-array : (o : Option (json.Items × List Token)) → converted of_json (parse_map json.array o) ≡ parse_map array (converted of_items o)
 converted-array None = refl
 converted-array (Some p) = twice array p.1 (of_items p.0)
 
--- an object that was read is converted by its members
+-- an object is converted member by member
 pub converted-object : (o : Option (json.Members × List Token)) → converted of_json (parse_map json.object o) ≡ parse_map object (converted (λ ms. of_members ms no_members) o)
 converted-object None = refl
 converted-object (Some p) = twice object p.1 (of_members p.0 no_members)
 
--- ---- one turn
+-- ---- one iteration
 
 with_item : (j : json.Json) (d : Data) → of_json j ≡ Some d → (o : Option (json.Items × List Token)) → converted of_items (parse_map (json.item j) o) ≡ parse_map (item d) (converted of_items o)
 with_item j d e None = refl
@@ -72,18 +72,18 @@ module _ (p : Parse json.Json) where
   no_item more None e = refl
   no_item more (Some q) e = without_item q.0 (refused q.1 (of_json q.0) e) (more q.1)
 
-  -- where an item is refused, so are the items
+  -- if an item is an error, the items are
   pub item_refused : (n : ℕ) (ts : List Token) → after_end_array ts ≡ None → converted of_json (p ts) ≡ None → converted of_items (items p n ts) ≡ None
   unfolding items
   item_refused zero ts going e = refl
   item_refused (suc n) ts going e = ap (λ o. converted of_items (items_step p (items p n) ts o)) going ∙ no_item (items p n) (p ts) e
 
-  -- after the last item no more items are read
+  -- after the last item, the items end
   pub items_over : (n : ℕ) (ts r : List Token) → length ts ≤ n → after_end_array ts ≡ Some r → converted of_items (items p n ts) ≡ Some (no_items, r)
   items_over n ts r enough e = ap (converted of_items) (items_end p n ts r enough e)
 
   module _ (old : Members) where
-    -- a member that was read is put to those before it, and the rest is read on
+    -- a member is added to those before it, and reading continues
     pub member_read : (n : ℕ) (k : List ℕ) (ts s r : List Token) (d : Data) → 0 < n → read_key ts ≡ Some (Some k, s) → converted of_json (p s) ≡ Some (d, r)
         → converted (λ ms. of_members ms old) (members p n ts) ≡ converted (λ ms. of_members ms (put k d old)) (members p (n - 1) r)
     member_read n k ts s r d some key e =
@@ -95,23 +95,23 @@ module _ (p : Parse json.Json) where
     no_member k more None e = refl
     no_member k more (Some q) e = without_member k q.0 old (refused q.1 (of_json q.0) e) (more q.1)
 
-    -- where the value of a member is refused, so are the members
+    -- if the value of a member is an error, the members are
     pub member_refused : (n : ℕ) (k : List ℕ) (ts s : List Token) → read_key ts ≡ Some (Some k, s) → converted of_json (p s) ≡ None → converted (λ ms. of_members ms old) (members p n ts) ≡ None
     unfolding members
     member_refused zero k ts s key e = refl
     member_refused (suc n) k ts s key e = rw key (no_member k (members p n) (p s) e)
 
-    -- where the key of a member is refused, so are the members
+    -- if the key of a member is an error, the members are
     pub key_refused : (n : ℕ) (ts : List Token) → read_key ts ≡ None → converted (λ ms. of_members ms old) (members p n ts) ≡ None
     key_refused n ts e = ap (converted (λ ms. of_members ms old)) (members_no_key p n ts e)
 
-    -- after the last member no more members are read
+    -- after the last member, the members end
     pub members_over : (n : ℕ) (ts r : List Token) → length ts ≤ n → read_key ts ≡ Some (None, r) → converted (λ ms. of_members ms old) (members p n ts) ≡ Some (old, r)
     members_over n ts r enough e = ap (converted (λ ms. of_members ms old)) (members_end p n ts r enough e)
 
--- ---- whether items fit, one more at a time
+-- ---- whether items fit, one by one
 
--- the items fit where those before them do, which are n
+-- the items fit if the n items before them do
 abbrev pub AllFit : ℕ → Bool → ℕ → Items → Bool
 AllFit left fit n ds = fit && items_fit left n ds
 
@@ -119,21 +119,21 @@ grouped : (a b c : Bool) → (a && (b && c)) ≡ ((a && b) && c)
 grouped true b c = refl
 grouped false b c = refl
 
-next_item : (left n : ℕ) (fit : Bool) (d : Data) (o : Option (Items × List Token)) → parse_map (AllFit left fit n) (parse_map (item d) o) ≡ parse_map (AllFit left (fit && fits (left - 1) d) (one_more n)) o
+next_item : (left n : ℕ) (fit : Bool) (d : Data) (o : Option (Items × List Token)) → parse_map (AllFit left fit n) (parse_map (item d) o) ≡ parse_map (AllFit left (fit && value_fits (left - 1) d) (count_capped n)) o
 next_item left n fit d None = refl
-next_item left n fit d (Some q) = ap (λ b. Some (b, q.1)) (grouped fit (fits (left - 1) d) (items_fit left (one_more n) q.0))
+next_item left n fit d (Some q) = ap (λ b. Some (b, q.1)) (grouped fit (value_fits (left - 1) d) (items_fit left (count_capped n) q.0))
 
--- items fit where those before do, the next one does, and then the rest do
+-- the items fit if those before do, the next one does, and the rest do
 pub turn : (p : Parse json.Json) (n : ℕ) (ts r : List Token) (left count : ℕ) (fit : Bool) (d : Data) → 0 < n → after_end_array ts ≡ None → converted of_json (p ts) ≡ Some (d, r)
-    → parse_map (AllFit left fit count) (converted of_items (items p n ts)) ≡ parse_map (AllFit left (fit && fits (left - 1) d) (one_more count)) (converted of_items (items p (n - 1) r))
+    → parse_map (AllFit left fit count) (converted of_items (items p n ts)) ≡ parse_map (AllFit left (fit && value_fits (left - 1) d) (count_capped count)) (converted of_items (items p (n - 1) r))
 turn p n ts r left count fit d some going e = ap (parse_map (AllFit left fit count)) (item_read p n ts r d some going e) ∙ next_item left count fit d _
 
--- what was mapped was read
+-- if mapping a result succeeds, the result was read
 pub mapped : {A B : Type 0} (f : A → B) (o : Option (A × List Token)) (b : B) (r : List Token) → parse_map f o ≡ Some (b, r) → (a : A) × (o ≡ Some (a, r)) × (f a ≡ b)
 mapped f None b r e = absurd (cc)
 mapped f (Some p) b r e = let same = ap (pick (f p.0, p.1)) e in (p.0, ap (λ s. Some (p.0, s)) (ap (λ q. q.1) same), ap (λ q. q.0) same)
 
--- where what is made of what was read is missing, nothing was read
+-- if the mapped result is missing, nothing was read
 pub unmapped : {A B : Type 0} (f : A → B) (o : Option (A × List Token)) → parse_map f o ≡ None → o ≡ None
 unmapped f None e = refl
 unmapped f (Some p) e = absurd (cc)
@@ -151,10 +151,10 @@ number_refused : (n : Option Num) → is_some n ≡ false → n ≡ None
 number_refused None e = refl
 number_refused (Some x) e = absurd (cc)
 
--- ---- values by themselves
+-- ---- whole values of one token
 
--- a token that is a value by itself is read as one that fits at any level
-pub plain_read : (depth left : ℕ) (t : Token) (r : List Token) → is_plain t ≡ true → (d : Data) × (converted of_json (value depth (t ∷ r)) ≡ Some (d, r)) × (fits left d ≡ true)
+-- a token that is a whole value fits at any level
+pub plain_read : (depth left : ℕ) (t : Token) (r : List Token) → is_plain t ≡ true → (d : Data) × (converted of_json (value depth (t ∷ r)) ≡ Some (d, r)) × (value_fits left d ≡ true)
 plain_read depth left Token.begin_object r h = absurd (cc)
 plain_read depth left Token.end_object r h = absurd (cc)
 plain_read depth left Token.begin_array r h = absurd (cc)
@@ -166,7 +166,7 @@ plain_read depth left (Token.boolean b) r h = (boolean b, ap (converted of_json)
 plain_read depth left Token.null r h = (null, ap (converted of_json) (value_is depth _), refl)
 plain_read depth left Token.bad r h = absurd (cc)
 
--- neither a value by itself nor the beginning of one
+-- a token that neither is nor begins a value is an error
 pub no_value : (depth : ℕ) (t : Read) (r : List Token) → t ≢ read.BeginArray → t ≢ read.BeginObject → is_plain (token_of t) ≡ false → converted of_json (value depth (token_of t ∷ r)) ≡ None
 no_value depth read.BeginObject r a o h = absurd (o refl)
 no_value depth read.EndObject r a o h = ap (converted of_json) (value_is depth _)
@@ -181,17 +181,17 @@ no_value depth read.Bad r a o h = ap (converted of_json) (value_is depth _)
 
 -- ---- results
 
--- what holds anyway holds where there is a fault
+-- a fact holds, in particular, after an error
 pub on_err : {A E : Type 0} {P : Type 0} (r : Result A E) → P → OnErr r P
 on_err (Ok x) p = tt
 on_err (Err e) p = p
 
--- what follows of what holds where there is a fault holds there too
+-- a consequence of a fact after an error holds after that error
 pub on_err_weaker : {A E : Type 0} {P Q : Type 0} (r : Result A E) → (P → Q) → OnErr r P → OnErr r Q
 on_err_weaker (Ok x) f h = tt
 on_err_weaker (Err e) f h = f h
 
--- nothing is made of what was not read
+-- a missing result stays missing
 pub none_mapped : {A B : Type 0} (f : A → B) (o : Option (A × List Token)) → o ≡ None → parse_map f o ≡ None
 none_mapped f o e = ap (parse_map f) e
 

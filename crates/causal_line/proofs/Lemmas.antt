@@ -1,7 +1,7 @@
--- What crates above may cite of this crate's proofs.
+-- Lemmas that the crates above may cite.
 pub mod CompleteLines
 pub mod LineBytes
 pub mod Passed
-pub mod Told
+pub mod DefinedErrors
 pub mod Unfit
 pub mod Values

@@ -1,4 +1,4 @@
--- A value that does not fit the outline of a line has none of the shapes.
+-- A value that does not fit the outline of a line is a `Form` error.
 use Rattle.std.proofs.Common.{◌≡◌, ◌^◌, true, false, Err, refl}
 use Rattle.std.specs.Prelude.{ℕ, List, [], bytes_eq, codes, Ok}
 use Rattle.serde_json.specs.Data.{Data, array, no_items, item}
@@ -7,61 +7,61 @@ use Rattle.causal_name.specs.declared.Det.{Det}
 use Rattle.causal_trace.specs.declared.entry.Entry.{Entry}
 use Rattle.causal_trace.specs.declared.entry.Entry.TheVariants.{Restart, Forget}
 use Rattle.causal_line.specs.declared.kind.TextKind.TheVariants.{Form}
-use Rattle.causal_line.specs.declared.shape.Shape.TheVariants as shape
+use Rattle.causal_line.specs.declared.parsed_line.ParsedLine.TheVariants as parsed
 use Rattle.causal_line.specs.Reading.{◌>>=◌}
-use Rattle.causal_line.specs.Shapes.{pid_at, u32_at, det_of, dets_at, begins, header_of, send_of, deliver_of, stable_of, crash_of, restart_of, forget_of, end_of, shape_of}
-use Rattle.causal_line.specs.Outline.{levels, fits}
+use Rattle.causal_line.specs.ParsedLines.{pid_at, u32_at, det_of, dets_at, is_array_named, header_of, send_of, deliver_of, stable_of, crash_of, restart_of, forget_of, end_of, parse_value}
+use Rattle.causal_line.specs.Prescan.{levels, value_fits}
 use Rattle.causal_line.proofs.Lemmas.Unfit.{process_or, number_or, last_false, stops, number_bad, pid_bad, det_bad, dets_bad, of_line, fields, either}
 
-crash_bad : (d : Data) → fits levels d ≡ false → begins d (codes "crash") 2 ≡ true → crash_of d ≡ Err Form
+crash_bad : (d : Data) → value_fits levels d ≡ false → is_array_named d (codes "crash") 2 ≡ true → crash_of d ≡ Err Form
 unfolding crash_of
 crash_bad d h is = of_line 1 (codes "crash") (λ x. crash_of x ≡ Err Form) d h is (λ a b bad name.
     let l : Data = array (item a (item b no_items)) in
-    stops (pid_at 1 l) _ (pid_bad 2 1 l b refl (last_false (fits 2 b) true refl (fields (codes "crash") a _ refl bad name))))
+    stops (pid_at 1 l) _ (pid_bad 2 1 l b refl (last_false (value_fits 2 b) true refl (fields (codes "crash") a _ refl bad name))))
 
-stable_bad : (d : Data) → fits levels d ≡ false → begins d (codes "stable") 2 ≡ true → stable_of d ≡ Err Form
+stable_bad : (d : Data) → value_fits levels d ≡ false → is_array_named d (codes "stable") 2 ≡ true → stable_of d ≡ Err Form
 unfolding stable_of
 stable_bad d h is = of_line 1 (codes "stable") (λ x. stable_of x ≡ Err Form) d h is (λ a b bad name.
-    stops (det_of b) _ (det_bad 2 b refl (last_false (fits 2 b) true refl (fields (codes "stable") a _ refl bad name))))
+    stops (det_of b) _ (det_bad 2 b refl (last_false (value_fits 2 b) true refl (fields (codes "stable") a _ refl bad name))))
 
-end_bad : (d : Data) → fits levels d ≡ false → begins d (codes "end") 2 ≡ true → end_of d ≡ Err Form
+end_bad : (d : Data) → value_fits levels d ≡ false → is_array_named d (codes "end") 2 ≡ true → end_of d ≡ Err Form
 unfolding end_of
 end_bad d h is = of_line 1 (codes "end") (λ x. end_of x ≡ Err Form) d h is (λ a b bad name.
     let l : Data = array (item a (item b no_items)) in
-    stops (u32_at 1 l) _ (number_bad (2 ^ 32) 2 1 l b refl (last_false (fits 2 b) true refl (fields (codes "end") a _ refl bad name))))
+    stops (u32_at 1 l) _ (number_bad (2 ^ 32) 2 1 l b refl (last_false (value_fits 2 b) true refl (fields (codes "end") a _ refl bad name))))
 
-header_bad : (d : Data) → fits levels d ≡ false → begins d (codes "trace") 3 ≡ true → header_of d ≡ Err Form
+header_bad : (d : Data) → value_fits levels d ≡ false → is_array_named d (codes "trace") 3 ≡ true → header_of d ≡ Err Form
 unfolding header_of
 header_bad d h is = of_line 2 (codes "trace") (λ x. header_of x ≡ Err Form) d h is (λ a b c bad name.
     let l : Data = array (item a (item b (item c no_items))) in
     number_or 1 l b _ _ refl (fields (codes "trace") a _ refl bad name) (λ more version.
-    stops (u32_at 2 l) _ (number_bad (2 ^ 32) 2 2 l c refl (last_false (fits 2 c) true refl more))))
+    stops (u32_at 2 l) _ (number_bad (2 ^ 32) 2 2 l c refl (last_false (value_fits 2 c) true refl more))))
 
--- a process, and a list of determinants of whatever they say
-listing_bad : (name : List ℕ) (say : Pid → List Det → Entry) (d : Data) → bytes_eq [] name ≡ false → fits levels d ≡ false → begins d name 3 ≡ true
-    → (pid_at 1 d >>= λ who. dets_at 2 d >>= λ listed. Ok (shape.Entry (say who listed))) ≡ Err Form
-listing_bad name say d none h is = of_line 2 name (λ x. (pid_at 1 x >>= λ who. dets_at 2 x >>= λ listed. Ok (shape.Entry (say who listed))) ≡ Err Form) d h is (λ a b c bad begun.
+-- a process and a list of determinants, whatever they contain
+listing_bad : (name : List ℕ) (say : Pid → List Det → Entry) (d : Data) → bytes_eq [] name ≡ false → value_fits levels d ≡ false → is_array_named d name 3 ≡ true
+    → (pid_at 1 d >>= λ who. dets_at 2 d >>= λ listed. Ok (parsed.Entry (say who listed))) ≡ Err Form
+listing_bad name say d none h is = of_line 2 name (λ x. (pid_at 1 x >>= λ who. dets_at 2 x >>= λ listed. Ok (parsed.Entry (say who listed))) ≡ Err Form) d h is (λ a b c bad begun.
     let l : Data = array (item a (item b (item c no_items))) in
     process_or 1 l b _ _ refl (fields name a _ none bad begun) (λ more who.
-    stops (dets_at 2 l) _ (dets_bad 2 l c refl (last_false (fits 2 c) true refl more))))
+    stops (dets_at 2 l) _ (dets_bad 2 l c refl (last_false (value_fits 2 c) true refl more))))
 
-send_bad : (d : Data) → fits levels d ≡ false → begins d (codes "send") 4 ≡ true → send_of d ≡ Err Form
+send_bad : (d : Data) → value_fits levels d ≡ false → is_array_named d (codes "send") 4 ≡ true → send_of d ≡ Err Form
 unfolding send_of
 send_bad d h is = of_line 3 (codes "send") (λ x. send_of x ≡ Err Form) d h is (λ a b c e bad name.
     let l : Data = array (item a (item b (item c (item e no_items)))) in
     process_or 1 l b _ _ refl (fields (codes "send") a _ refl bad name) (λ more from.
-    process_or 2 l c _ _ refl more (λ last to. stops (u32_at 3 l) _ (number_bad (2 ^ 32) 2 3 l e refl (last_false (fits 2 e) true refl last)))))
+    process_or 2 l c _ _ refl more (λ last to. stops (u32_at 3 l) _ (number_bad (2 ^ 32) 2 3 l e refl (last_false (value_fits 2 e) true refl last)))))
 
-deliver_bad : (d : Data) → fits levels d ≡ false → begins d (codes "deliver") 5 ≡ true → deliver_of d ≡ Err Form
+deliver_bad : (d : Data) → value_fits levels d ≡ false → is_array_named d (codes "deliver") 5 ≡ true → deliver_of d ≡ Err Form
 unfolding deliver_of
 deliver_bad d h is = of_line 4 (codes "deliver") (λ x. deliver_of x ≡ Err Form) d h is (λ a b c e x bad name.
     let l : Data = array (item a (item b (item c (item e (item x no_items))))) in
     process_or 1 l b _ _ refl (fields (codes "deliver") a _ refl bad name) (λ h2 to.
-    number_or 2 l c _ _ refl h2 (λ h3 send. number_or 3 l e _ _ refl h3 (λ h4 rsn. stops (dets_at 4 l) _ (dets_bad 4 l x refl (last_false (fits 2 x) true refl h4))))))
+    number_or 2 l c _ _ refl h2 (λ h3 send. number_or 3 l e _ _ refl h3 (λ h4 rsn. stops (dets_at 4 l) _ (dets_bad 4 l x refl (last_false (value_fits 2 x) true refl h4))))))
 
--- a value that does not fit the outline of a line is refused for its form
-pub no_shape : (d : Data) → fits levels d ≡ false → shape_of d ≡ Err Form
-unfolding shape_of restart_of forget_of
+-- a value that does not fit the outline of a line is a `Form` error
+pub no_shape : (d : Data) → value_fits levels d ≡ false → parse_value d ≡ Err Form
+unfolding parse_value restart_of forget_of
 no_shape d h =
     either _ _ _ (header_bad d h) (either _ _ _ (send_bad d h) (either _ _ _ (deliver_bad d h) (either _ _ _ (stable_bad d h)
     (either _ _ _ (crash_bad d h) (either _ _ _ (listing_bad (codes "restart") Restart d refl h) (either _ _ _ (listing_bad (codes "forget") Forget d refl h) (either _ _ _ (end_bad d h) refl)))))))

@@ -1,10 +1,10 @@
--- How a fault prints.
+-- The printed error.
 use Rattle.std.specs.Prelude.{ℕ, List, ◌++◌, codes, decimal}
 use Rattle.causal_line.specs.declared.kind.TextKind.{TextKind}
 use Rattle.causal_line.specs.declared.kind.TextKind.TheVariants as kind
 use Rattle.causal_line.specs.declared.kind.TextFault.{TextFault}
 
--- the name of each kind
+-- the name of each error kind
 abbrev pub kind_name : TextKind → List ℕ
 kind_name kind.After = codes "After"
 kind_name kind.Big = codes "Big"

@@ -1,2 +1,2 @@
--- What private functions keep. No public clause cites these.
+-- Definitions of private functions; no public contract uses them.
 pub mod Messages

@@ -1,9 +1,9 @@
--- What is wrong with a line, in words.
+-- The error message of each kind.
 use Rattle.std.specs.Prelude.{ℕ, List, codes}
 use Rattle.causal_line.specs.declared.kind.TextKind.{TextKind}
 use Rattle.causal_line.specs.declared.kind.TextKind.TheVariants as kind
 
--- the sentence of each kind
+-- the error message of a kind
 abbrev pub kind_sentence : TextKind → List ℕ
 kind_sentence kind.After = codes "a line follows the end line"
 kind_sentence kind.Big = codes "the text is too long"

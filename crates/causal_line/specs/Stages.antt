@@ -1,4 +1,4 @@
--- What the lines so far have said, and what one more line adds or is refused for.
+-- The stage after the lines so far, and the next stage, or the error, of one more line.
 use Rattle.std.specs.Prelude.{ℕ, ◌*◌, ◌&&◌, ◌==◌, List, [], ◌∷◌, ◌++◌, length, map, nat_lt, nat_le, if◌then◌else◌, Option, Some, None, Result, Ok, Err}
 use Rattle.causal_trace.specs.Rows.{Recording, fault_within}
 use Rattle.causal_trace.specs.State.{with_entry, entries_of}
@@ -6,60 +6,62 @@ use Rattle.causal_trace.specs.declared.entry.Entry.{Entry}
 use Rattle.causal_trace.specs.declared.fault.TraceFault.{TraceFault}
 use Rattle.causal_line.specs.declared.kind.TextKind.{TextKind}
 use Rattle.causal_line.specs.declared.kind.TextKind.TheVariants as kind
-use Rattle.causal_line.specs.declared.shape.Shape.{Shape}
-use Rattle.causal_line.specs.declared.shape.Shape.TheVariants as shape
+use Rattle.causal_line.specs.declared.parsed_line.ParsedLine.{ParsedLine}
+use Rattle.causal_line.specs.declared.parsed_line.ParsedLine.TheVariants as parsed
 use Rattle.causal_line.specs.declared.version.Version.{Version}
-use Rattle.causal_line.specs.Kinds.{kind_of}
+use Rattle.causal_line.specs.Kinds.{text_kind_of}
 use Rattle.causal_line.specs.Reading.{◌>>=◌}
-use Rattle.causal_line.specs.Values.{line_shape}
-use Rattle.causal_line.specs.Versions.{number_of, version_of, most_processes, has_line}
+use Rattle.causal_line.specs.Values.{parse_line}
+use Rattle.causal_line.specs.Versions.{number_of, version_of, max_processes_in, allows}
 use Rattle.causal_line.specs.declared.stage.Stage.{Stage}
 use Rattle.causal_line.specs.declared.stage.Stage.TheVariants.{Opening, Within, Ended}
 
--- how many bytes a text has at most whose trace is to have so many entries at most
-abbrev pub text_within : ℕ → ℕ
-text_within most = 512 * most
+-- the maximum size in bytes of a text, by the limit on its entries
+abbrev pub max_text_len : ℕ → ℕ
+max_text_len most = 512 * most
 
--- and whatever that number is, which has 32 bits
+-- that maximum for the greatest number of 32 bits
 abbrev pub longest_text : ℕ
-longest_text = text_within 4294967295
+longest_text = max_text_len 4294967295
 
--- a recording of no entries
-abbrev pub opened : ℕ → Recording
-opened n = record { processes = n; past = [] }
+-- a recording of n processes with no entries
+abbrev pub empty_recording : ℕ → Recording
+empty_recording n = record { processes = n; past = [] }
 
--- a header begins a text of its version
-abbrev pub begun : Option Version → ℕ → Result Stage TextKind
-begun None n = Err kind.Version
-begun (Some version) n = if nat_le 1 n && nat_le n (most_processes version) then Ok (Within version (opened n)) else Err kind.Processes
+-- the stage after a header with this version and number of processes
+abbrev pub open_text : Option Version → ℕ → Result Stage TextKind
+open_text None n = Err kind.Version
+open_text (Some version) n = if nat_le 1 n && nat_le n (max_processes_in version) then Ok (Within version (empty_recording n)) else Err kind.Processes
 
--- an entry comes next, where nothing stands against it
-abbrev pub admitted : Version → Recording → Entry → Option TraceFault → Result Stage TextKind
-admitted version r e None = Ok (Within version (with_entry r e))
-admitted version r e (Some f) = Err (kind_of f)
+-- the stage after an entry, if the trace has no error for it
+abbrev pub push_entry : Version → Recording → Entry → Option TraceFault → Result Stage TextKind
+push_entry version r e None = Ok (Within version (with_entry r e))
+push_entry version r e (Some f) = Err (text_kind_of f)
 
--- what a line adds to those before it, by what it says, where the trace is to have so many entries at most
-abbrev pub follow : ℕ → Stage → Shape → Result Stage TextKind
-follow most Opening (shape.Header number n) = begun (version_of number) n
-follow most Opening (shape.Entry e) = Err kind.Header
-follow most Opening (shape.End count) = Err kind.Header
-follow most (Within version r) (shape.Header number n) = Err kind.Header
-follow most (Within version r) (shape.Entry e) = if has_line version e then admitted version r e (fault_within most r e) else Err kind.Form
-follow most (Within version r) (shape.End count) = if count == length r.past then Ok (Ended version r) else Err kind.Count
-follow most (Ended version r) s = Err kind.After
+-- the stage after a parsed line, by the limit on entries
+abbrev pub apply_line : ℕ → Stage → ParsedLine → Result Stage TextKind
+apply_line most Opening (parsed.Header number n) = open_text (version_of number) n
+apply_line most Opening (parsed.Entry e) = Err kind.Header
+apply_line most Opening (parsed.End count) = Err kind.Header
+apply_line most (Within version r) (parsed.Header number n) = Err kind.Header
+apply_line most (Within version r) (parsed.Entry e) = if allows version e then push_entry version r e (fault_within most r e) else Err kind.Form
+apply_line most (Within version r) (parsed.End count) = if count == length r.past then Ok (Ended version r) else Err kind.Count
+apply_line most (Ended version r) s = Err kind.After
 
-abbrev pub within_limit : ℕ → ℕ → Result Stage TextKind → Result Stage TextKind
-within_limit most end next = if nat_lt (text_within most) end then Err kind.Big else next
+-- `Big` if byte number `end` is beyond the text's limit, otherwise the given result
+abbrev pub check_limit : ℕ → ℕ → Result Stage TextKind → Result Stage TextKind
+check_limit most end next = if nat_lt (max_text_len most) end then Err kind.Big else next
 
--- What the next line adds, where it goes up to byte number `end` of the text. Nothing follows an end line, whatever it
--- holds; then the text's limit is asked for, then that the line is a JSON value, then that it has one of the shapes.
-abbrev pub after_line : ℕ → Stage → ℕ → List ℕ → Result Stage TextKind
-after_line most Opening end line = within_limit most end (line_shape line >>= follow most Opening)
-after_line most (Within version r) end line = within_limit most end (line_shape line >>= follow most (Within version r))
-after_line most (Ended version r) end line = Err kind.After
+-- the stage after one more line, which ends at byte number `end` of the text
+-- Checked in this order: no end line before, the text's limit, the JSON value, the form of the line, and its place in
+-- the text.
+abbrev pub advance_stage : ℕ → Stage → ℕ → List ℕ → Result Stage TextKind
+advance_stage most Opening end line = check_limit most end (parse_line line >>= apply_line most Opening)
+advance_stage most (Within version r) end line = check_limit most end (parse_line line >>= apply_line most (Within version r))
+advance_stage most (Ended version r) end line = Err kind.After
 
--- what the lines up to a stage say: the header, a line for each entry in order, and the end line
-abbrev pub said : Stage → List Shape
-said Opening = []
-said (Within version r) = shape.Header (number_of version) r.processes ∷ map shape.Entry (entries_of r)
-said (Ended version r) = shape.Header (number_of version) r.processes ∷ map shape.Entry (entries_of r) ++ shape.End (length r.past) ∷ []
+-- the parsed lines up to a stage: the header, the entries in order, and the end line
+abbrev pub lines_up_to : Stage → List ParsedLine
+lines_up_to Opening = []
+lines_up_to (Within version r) = parsed.Header (number_of version) r.processes ∷ map parsed.Entry (entries_of r)
+lines_up_to (Ended version r) = parsed.Header (number_of version) r.processes ∷ map parsed.Entry (entries_of r) ++ parsed.End (length r.past) ∷ []

@@ -1,31 +1,31 @@
-//! What a process's present lane has sent and delivered, read from all entries.
+//! What a process's present lane (incarnation) has sent and delivered, by one scan of all entries.
 ghost use Rattle.std.specs.Prelude.{◌≡◌, ◌≤◌, ◌∷◌, List, length};
 ghost use Rattle.causal_trace.specs.declared.entry.Entry.{Entry};
 ghost use Rattle.causal_trace.specs.Limits.{max_entries};
 ghost use Rattle.causal_trace.specs.Past as past;
 ghost use Rattle.causal_trace.specs.State.{past_at};
-ghost use Rattle.causal_line.specs.Deliveries.{delivered_at};
+ghost use Rattle.causal_line.specs.Deliveries.{delivery_position};
 ghost use Rattle.causal_line.specs.Inside.Messages.{is_of};
 
 use causal_name::{Det, MsgName, Pid};
 use causal_trace::entry::Entry;
 use causal_trace::trace::Trace;
 
-/// How many messages the process's present lane has sent.
+/// Returns how many messages the process's present lane has sent. O(entries) time.
 pub(crate) fn sends(trace: &Trace, p: Pid) -> u32
     ensures { result ≡ past.sends trace.now.recording.past p.0 }
 {
     counts_in(trace.entries(), p).sends
 }
 
-/// How many messages it has delivered.
+/// Returns how many messages the process's present lane has delivered. O(entries) time.
 pub(crate) fn deliveries(trace: &Trace, p: Pid) -> u32
     ensures { result ≡ past.deliveries trace.now.recording.past p.0 }
 {
     counts_in(trace.entries(), p).deliveries
 }
 
-/// What a process's present lane has sent and delivered, in numbers.
+/// How many messages a process's present lane has sent and delivered.
 #[derive(Clone, Copy)]
 struct Counts {
     sends: u32,
@@ -53,20 +53,21 @@ fn counts_in(entries: &[Entry], p: Pid) -> Counts
     Counts { sends, deliveries }
 }
 
-/// The position of the delivery of the message by the process's present lane; None where it has not delivered it.
+/// Returns the position of the delivery of the message by the process's present lane; None if the lane has not
+/// delivered it. O(entries) time.
 pub(crate) fn delivery_of(trace: &Trace, p: Pid, message: MsgName) -> Option<u32>
-    ensures { result ≡ delivered_at trace.now.recording.past p.0 message }
+    ensures { result ≡ delivery_position trace.now.recording.past p.0 message }
 {
     let mut found = None;
     for (i, e) in trace.entries().iter().enumerate() {
         let position = i as u32;
-        found = found_after(found, position, e, trace.det_at(position), p, message);
+        found = find_step(found, position, e, trace.det_at(position), p, message);
     }
     found
 }
 
-/// The same after one more entry, with its own determinant where it is a delivery.
-fn found_after(
+/// Updates the position by one more entry, whose own determinant is `own` if it is a delivery.
+fn find_step(
     found: Option<u32>,
     position: u32,
     e: &Entry,
@@ -75,7 +76,8 @@ fn found_after(
     message: MsgName,
 ) -> Option<u32>
     ensures { (before : List Entry) → position ≡ length before → own ≡ past.det_of before e.now
-        → found ≡ delivered_at before p.0 message → result ≡ delivered_at (e.now ∷ before) p.0 message }
+        → found ≡ delivery_position before p.0 message →
+        result ≡ delivery_position (e.now ∷ before) p.0 message }
 {
     match e {
         Entry::Restart { who, .. } => { if who.0 == p.0 { None } else { found } }
@@ -90,7 +92,7 @@ fn found_after(
     }
 }
 
-/// Whether an optional determinant is that of a delivery of the message.
+/// Checks whether an optional determinant is that of a delivery of the message.
 fn is_of(own: Option<Det>, message: MsgName) -> bool
     ensures { result ≡ is_of own message }
 {

@@ -1,9 +1,9 @@
-//! The fields of a line, which is an array: its name, and numbers, processes and determinants. What is not there, or is
-//! another thing, is `Form`.
+//! The fields of a line, which is a JSON array: its name, numbers, processes and determinants. A missing field, or
+//! one of another type, is a `Form` error.
 ghost use Rattle.std.specs.Prelude.{◌≡◌};
 ghost use Rattle.serde_json.specs.View.{view, items_view};
-ghost use Rattle.causal_line.specs.Given.{Gives};
-ghost use Rattle.causal_line.specs.Shapes.{size, number_at, u8_at, u32_at, u64_at, pid_at, det_of, dets_of, dets_at, begins};
+ghost use Rattle.causal_line.specs.Returns.{Returns};
+ghost use Rattle.causal_line.specs.ParsedLines.{array_len, number_at, u8_at, u32_at, u64_at, pid_at, det_of, dets_of, dets_at, is_array_named};
 
 use crate::kind::TextKind;
 use causal_name::{Det, Pid};
@@ -11,10 +11,10 @@ use causal_trace::entry::Dets;
 use serde_json::Value;
 use std::alloc::Global;
 
-/// How many items an array has; 0 where the value is none.
+/// Returns the length of an array; 0 if the value is not an array.
 #[tactic(auto, using(crate::proofs::ItemCounts::items_len_of_view))]
-pub fn size(value: &Value) -> usize
-    ensures { result ≡ size (view value.now) }
+pub fn array_len(value: &Value) -> usize
+    ensures { result ≡ array_len (view value.now) }
 {
     match value.as_array() {
         Some(items) => items.as_slice().len(),
@@ -31,7 +31,10 @@ fn number_at(value: &Value, i: usize, limit: u64) -> Result<u64, TextKind>
     }
 }
 
-/// A number below 2^8.
+/// Returns the number at index i, if it is below 2^8.
+///
+/// # Errors
+/// `Form` if the item is missing or is not such a number.
 pub fn u8_at(value: &Value, i: usize) -> Result<u8, TextKind>
     ensures { result ≡ u8_at i (view value.now) }
 {
@@ -41,7 +44,10 @@ pub fn u8_at(value: &Value, i: usize) -> Result<u8, TextKind>
     }
 }
 
-/// A number below 2^32.
+/// Returns the number at index i, if it is below 2^32.
+///
+/// # Errors
+/// `Form` if the item is missing or is not such a number.
 pub fn u32_at(value: &Value, i: usize) -> Result<u32, TextKind>
     ensures { result ≡ u32_at i (view value.now) }
 {
@@ -51,7 +57,10 @@ pub fn u32_at(value: &Value, i: usize) -> Result<u32, TextKind>
     }
 }
 
-/// A number below 2^64.
+/// Returns the number at index i, if it is an integer below 2^64.
+///
+/// # Errors
+/// `Form` if the item is missing or is not such a number.
 pub fn u64_at(value: &Value, i: usize) -> Result<u64, TextKind>
     ensures { result ≡ u64_at i (view value.now) }
 {
@@ -61,20 +70,26 @@ pub fn u64_at(value: &Value, i: usize) -> Result<u64, TextKind>
     }
 }
 
-/// A process.
-#[tactic(auto, unfolding(crate::specs::Shapes::pid_at))]
+/// Returns the process at index i, a number below 2^8.
+///
+/// # Errors
+/// `Form` if the item is missing or is not such a number.
+#[tactic(auto, unfolding(crate::specs::ParsedLines::pid_at))]
 pub fn pid_at(value: &Value, i: usize) -> Result<Pid, TextKind>
     ensures { result ≡ pid_at i (view value.now) }
 {
     Ok(Pid(u8_at(value, i)?))
 }
 
-/// The determinant that a value is: `[source,ssn,dest,rsn]`.
-#[tactic(auto, unfolding(crate::specs::Shapes::det_of))]
+/// Returns the determinant `[source,ssn,dest,rsn]`.
+///
+/// # Errors
+/// `Form` if the value is not a determinant.
+#[tactic(auto, unfolding(crate::specs::ParsedLines::det_of))]
 pub fn det_of(value: &Value) -> Result<Det, TextKind>
     ensures { result ≡ det_of (view value.now) }
 {
-    if size(value) != 4 {
+    if array_len(value) != 4 {
         return Err(TextKind::Form);
     }
     Ok(Det {
@@ -86,7 +101,7 @@ pub fn det_of(value: &Value) -> Result<Det, TextKind>
 }
 
 fn dets_of(alloc: Global, values: &[Value]) -> Result<Dets, TextKind>
-    ensures { Gives result (dets_of (items_view values.now)) }
+    ensures { Returns result (dets_of (items_view values.now)) }
 {
     if let [value] = values {
         return Ok(Dets::one(det_of(value)?));
@@ -98,13 +113,13 @@ fn dets_of(alloc: Global, values: &[Value]) -> Result<Dets, TextKind>
     Ok(Dets::new(dets))
 }
 
-/// A list of determinants.
+/// Returns the list of determinants at index i.
 ///
 /// # Errors
-/// `Form`, or `NoMemory` where memory was refused.
-#[tactic(auto, unfolding(crate::specs::Shapes::dets_at))]
+/// `Form` if the item is missing or is not such a list, `NoMemory` if an allocation failed.
+#[tactic(auto, unfolding(crate::specs::ParsedLines::dets_at))]
 pub fn dets_at(alloc: Global, value: &Value, i: usize) -> Result<Dets, TextKind>
-    ensures { Gives result (dets_at i (view value.now)) }
+    ensures { Returns result (dets_at i (view value.now)) }
 {
     match value.get(i).and_then(Value::as_array) {
         Some(values) => dets_of(alloc, values.as_slice()),
@@ -112,9 +127,9 @@ pub fn dets_at(alloc: Global, value: &Value, i: usize) -> Result<Dets, TextKind>
     }
 }
 
-/// Whether a value is an array of n items, the first of which is the name.
-pub fn begins(value: &Value, name: &str, n: usize) -> bool
-    ensures { result ≡ begins (view value.now) name.now n }
+/// Checks whether the value is an array of n items, the first of which is the name.
+pub fn is_array_named(value: &Value, name: &str, n: usize) -> bool
+    ensures { result ≡ is_array_named (view value.now) name.now n }
 {
-    value.get(0).and_then(Value::as_str).unwrap_or("") == name && size(value) == n
+    value.get(0).and_then(Value::as_str).unwrap_or("") == name && array_len(value) == n
 }

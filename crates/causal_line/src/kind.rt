@@ -1,28 +1,28 @@
-//! Why a text is no trace.
+//! Error kinds of a text.
 use causal_trace::fault::TraceFault;
 use std::alloc::{AllocError, AllocFailed};
 use std::fmt;
 use thiserror::Error;
 
-/// What is wrong with a line. Where several things are, the first in this order is told.
+/// An error kind of a line. If several kinds apply, the first in this order is returned.
 #[derive(Clone, Copy, Debug, PartialEq, Eq, Error)]
 pub enum TextKind {
-    /// A line follows the end line, whatever it holds.
+    /// A line follows the end line, whatever it contains.
     After,
-    /// The line has byte number 33,554,433 of the text, its line feed counted; or the first byte beyond another limit that
-    /// the reader was given.
+    /// The line contains byte number 33,554,433 of the text, its line feed included; or the first byte beyond another
+    /// limit that the caller set.
     Big,
-    /// The line is not one JSON value. Bytes that are no UTF-8 and an empty line are none.
+    /// The line is not one JSON value. An empty line, or a line that is not UTF-8, is not one.
     Syntax,
-    /// The value has none of the shapes of a line, or not in this version.
+    /// The value is not a header, an entry or an end line, or its version has no such entry.
     Form,
-    /// The first line is no header, or a later line is one.
+    /// The first line is not a header, or a later line is one.
     Header,
     /// The version is not 1 or 2.
     Version,
     /// The number of processes is not from 1 to 64, or to 256 in version 2.
     Processes,
-    /// A trace has at most 65,536 entries, which list at most 1,048,576 determinants in all, unless the reader was given
+    /// A trace has at most 65,536 entries, which list at most 1,048,576 determinants in all, unless the caller set
     /// other limits.
     TooLong,
     /// The entry names a process that the trace does not have.
@@ -33,7 +33,7 @@ pub enum TextKind {
     NotDown,
     /// A trace has at most 192 restarts.
     Lanes,
-    /// A lane numbers its sends from 0, one by one.
+    /// A lane (incarnation) numbers its sends from 0, one by one.
     WrongSsn,
     /// A delivery names the position of an earlier send to its receiver.
     NoSend,
@@ -43,17 +43,17 @@ pub enum TextKind {
     Doubled,
     /// Each listed determinant comes before the next.
     Unsorted,
-    /// Each determinant named is that of a delivery so far, or of the entry itself.
+    /// Each determinant that the entry mentions is that of an earlier delivery, or of the entry itself.
     NoDelivery,
-    /// The end line's number is not that of the entries.
+    /// The end line's number is not the number of entries.
     Count,
-    /// The text ends without an end line; the line is the one that would have come next.
+    /// The text ends without an end line. The error's line is the one after the last.
     Cut,
-    /// Memory was asked for and refused, at the line that was being read.
+    /// An allocation failed, at the line that was being read.
     NoMemory,
 }
 
-// A derived `Display` of so many messages takes ten times as long to prove.
+// A derived `Display` of this many messages takes ten times as long to prove.
 impl fmt::Display for TextKind {
     fn fmt<W: fmt::Write>(&self, f: &mut fmt::Formatter<W>) -> fmt::Result {
         f.write_str(self.sentence())
@@ -64,7 +64,7 @@ impl TextKind {
     ghost use Rattle.std.specs.Prelude.{◌≡◌};
     ghost use Rattle.causal_line.specs.Sentences.{kind_sentence};
 
-    /// What is wrong, for people.
+    /// Returns the error message of the kind.
     pub fn sentence(self) -> &'static str
         ensures { result.now ≡ kind_sentence self }
     {
@@ -94,7 +94,7 @@ impl TextKind {
     }
 }
 
-/// Why a text is no trace: a line, counted from 1, and what is wrong with it.
+/// An error of a text: the line's number, counted from 1, and the kind.
 #[derive(Clone, Copy, Debug, PartialEq, Eq, Error)]
 #[error("line {line}: {kind}")]
 pub struct TextFault {
@@ -103,10 +103,10 @@ pub struct TextFault {
 }
 
 impl From<TraceFault> for TextKind {
-    ghost use Rattle.causal_line.specs.Kinds.{kind_of};
+    ghost use Rattle.causal_line.specs.Kinds.{text_kind_of};
     ghost use Rattle.std.specs.Prelude.{◌≡◌};
 
-    ghost from_gives = { λ f e. e ≡ kind_of f };
+    ghost from_gives = { λ f e. e ≡ text_kind_of f };
 
     fn from(fault: TraceFault) -> TextKind {
         match fault {

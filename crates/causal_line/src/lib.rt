@@ -1,47 +1,48 @@
-//! A line of the text of a trace: what it is, what it says and adds, and what may be wrong with it.
+//! One line of a trace's text: how it is parsed, what it adds to the trace, and its errors.
 //!
-//! A line is a JSON value, [`json_of`](line_value::json_of) of its [`content`](line_value::content), and says what [`line_shape`]
-//! reads of it: a header, an entry or the end, a [`Shape`]. [`after_line`](stage::after_line) adds that to what the lines before have
-//! said. What is no line, or may not follow them, is refused by a [`TextKind`]. [`wrong_with`] tells what is wrong with what a line
-//! says, by the trace of the lines before it, and [`sentence`] says so.
+//! The [`without_line_feed`](line_value::content) of a line is a JSON value, which [`parse_json`](line_value::json_of) parses.
+//! [`parse_line`] parses the line as a [`ParsedLine`]: a header, an entry or an end line.
+//! [`advance_stage`](stage::after_line) applies it to the lines before. It returns a [`TextKind`] for a line that is
+//! malformed or may not follow them. [`fault_detail`] returns the values that explain an error, from the trace of the
+//! lines before, and [`sentence`] prints them.
 #![tactic(auto)]
 
-/// The first fault of a text, and what stands before its line.
-pub mod before;
-/// What a lane has sent and delivered.
+/// The first error of a text, with its context.
+pub mod text_refusal;
+/// Counts of a process's present lane.
 mod counts;
-/// Which determinants have been delivered.
-mod delivered;
+/// Determinants that no delivery has.
+mod deliveries;
 /// The fields of a line.
 pub mod fields;
-/// The faults of a text.
+/// Error kinds.
 pub mod kind;
-/// The JSON value that a line is.
+/// The JSON value of a line.
 pub mod line_value;
-/// Where a line ends.
+/// Splitting a text into lines.
 pub mod lines;
-/// A look at a long line before a tree is built of it.
-pub mod outline;
-/// A trace of which clauses see the recording alone.
-pub mod recorded;
-/// How a fault prints.
+/// A scan of a long line before its JSON tree is built.
+pub mod prescan;
+/// A trace under construction, whose contracts see only the recording.
+pub mod trace_builder;
+/// The printed error.
 pub mod report;
-/// What is wrong with a line, in words.
+/// The error message with values.
 pub mod sentences;
-/// What a line says.
-pub mod shape;
-/// What the lines so far have said, and what one more adds.
+/// Parsing a line.
+pub mod parsed_line;
+/// The stage after the lines so far, and the transition by one more line.
 pub mod stage;
-/// The two versions.
+/// The two versions of the format.
 pub mod version;
-/// What is wrong with a line, in numbers.
-pub mod wrong;
+/// The values that explain an error.
+pub mod fault_details;
 
-pub use before::{Before, Rejected};
+pub use fault_details::{FaultDetail, fault_detail};
 pub use kind::{TextFault, TextKind};
+pub use parsed_line::{ParsedLine, parse_line};
 pub use report::fault_line;
 pub use sentences::sentence;
-pub use shape::{Shape, line_shape};
-pub use stage::text_within;
+pub use stage::max_text_len;
+pub use text_refusal::{FaultContext, TextRefusal};
 pub use version::Version;
-pub use wrong::{Wrong, wrong_with};

@@ -1,17 +1,17 @@
-//! The JSON value that a line is.
+//! The JSON value of a line.
 ghost use Rattle.std.specs.Prelude.{◌≡◌};
 ghost use Rattle.serde_json.specs.View.{view};
-ghost use Rattle.causal_line.specs.Given.{GivesBy};
-ghost use Rattle.causal_line.specs.Values.{content, json_of};
+ghost use Rattle.causal_line.specs.Returns.{ReturnsBy};
+ghost use Rattle.causal_line.specs.Values.{without_line_feed, parse_json};
 
 use crate::kind::TextKind;
 use serde_json::Value;
 use std::alloc::Global;
 
-/// The line without its line feed.
-#[tactic(auto, unfolding(crate::specs::Values::content))]
-pub fn content(line: &[u8]) -> &[u8]
-    ensures { result.now ≡ content line.now }
+/// Returns the line without its line feed.
+#[tactic(auto, unfolding(crate::specs::Values::without_line_feed))]
+pub fn without_line_feed(line: &[u8]) -> &[u8]
+    ensures { result.now ≡ without_line_feed line.now }
 {
     let n = line.len();
     if n > 0 && line[n - 1] == b'\n' {
@@ -21,12 +21,12 @@ pub fn content(line: &[u8]) -> &[u8]
     }
 }
 
-/// The JSON value that these bytes are. Bytes that are no UTF-8 are none.
+/// Parses the bytes as a JSON value. Bytes that are not UTF-8 are not one.
 ///
 /// # Errors
-/// `Syntax` where they are none, or `NoMemory` where memory was refused.
-pub fn json_of(alloc: Global, bytes: &[u8]) -> Result<Value, TextKind>
-    ensures { GivesBy view result (json_of bytes.now) }
+/// `Syntax` if they are not a JSON value, `NoMemory` if an allocation failed.
+pub fn parse_json(alloc: Global, bytes: &[u8]) -> Result<Value, TextKind>
+    ensures { ReturnsBy view result (parse_json bytes.now) }
 {
     match Value::from_slice(alloc, bytes) {
         Ok(value) => Ok(value),

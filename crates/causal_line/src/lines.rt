@@ -1,10 +1,10 @@
-//! The lines of a text.
+//! Splitting a text into lines.
 ghost use Rattle.std.specs.Prelude.{◌≡◌, ◌<◌, ◌∷◌, ◌++◌, [], length, true, IfSome, IfNone};
 ghost use Rattle.causal_line.specs.Lines.{lines, IsComplete, no_feed};
 
 use memchr::memchr;
 
-/// The first line, with its line feed, and what follows it; None where no line feed has come.
+/// Splits off the first line with its line feed, and returns it and the rest; None without a line feed.
 pub fn split_complete(text: &[u8]) -> Option<(&[u8], &[u8])>
     ensures some { IfSome result
         (λ parts. IsComplete parts.0.now × (text.now ≡ parts.0.now ++ parts.1.now)) }
@@ -17,7 +17,8 @@ pub fn split_complete(text: &[u8]) -> Option<(&[u8], &[u8])>
     }
 }
 
-/// The first line, with its line feed where it has one, and what follows it; None where the text is empty.
+/// Splits off the first line, with its line feed if it has one, and returns it and the rest; None if the text is
+/// empty.
 pub fn split_line(text: &[u8]) -> Option<(&[u8], &[u8])>
     ensures line { IfSome result (λ parts. lines text.now ≡ parts.0.now ∷ lines parts.1.now) }
     ensures whole { IfSome result (λ parts. text.now ≡ parts.0.now ++ parts.1.now) }

@@ -1,4 +1,4 @@
-//! How a fault prints.
+//! The printed error.
 ghost use Rattle.std.specs.Prelude.{◌≡◌, IfOk};
 ghost use Rattle.causal_line.specs.FaultLine.{kind_name, fault_line};
 
@@ -34,8 +34,10 @@ fn kind_name(kind: TextKind) -> &'static str
     }
 }
 
-/// The line that a fault prints as: `fault line=3 WrongSsn`, with a line feed. `NoMemory` is answered only where a
-/// growth was refused.
+/// Returns the line that an error prints as, with a line feed: `fault line=3 WrongSsn`.
+///
+/// # Errors
+/// `NoMemory`, only if an allocation failed.
 pub fn fault_line(alloc: Global, fault: &TextFault) -> Result<Vec<u8>, NoMemory>
     ensures { IfOk result (λ text. text.items ≡ fault_line fault.now) }
 {

@@ -1,60 +1,64 @@
-//! What is wrong with a line, in words.
+//! The error message with values.
 ghost use Rattle.std.specs.Prelude.{◌≡◌, IfOk};
 ghost use Rattle.std.specs.String.{string_bytes};
-ghost use Rattle.causal_line.specs.Wordings as told;
+ghost use Rattle.causal_line.specs.DetailTexts as texts;
 
+use crate::fault_details::FaultDetail;
 use crate::kind::TextFault;
-use crate::wrong::Wrong;
 use causal_name::{Det, MsgName, NoMemory, Pid};
 use std::alloc::Global;
 
-/// A sentence that says what is wrong with the line of a fault: the number that stands there and the one that would be right, or what
-/// is named there and is not; where that is not known, what the fault's kind says.
+/// Returns the error message of a faulty line: the wrong number and the correct one, or the send, delivery or
+/// determinant in question. Without such values it is the message of the error's kind.
 ///
 /// # Errors
-/// `NoMemory` where memory was refused.
-pub fn sentence(alloc: Global, fault: TextFault, wrong: Option<Wrong>) -> Result<String, NoMemory>
-    ensures { IfOk result (λ text. string_bytes text ≡ told.sentence fault wrong) }
+/// `NoMemory` if an allocation failed.
+pub fn sentence(
+    alloc: Global,
+    fault: TextFault,
+    wrong: Option<FaultDetail>,
+) -> Result<String, NoMemory>
+    ensures { IfOk result (λ text. string_bytes text ≡ texts.sentence fault wrong) }
 {
     match wrong {
-        Some(wrong) => in_numbers(alloc, fault.line, wrong),
-        None => plain(alloc, fault),
+        Some(wrong) => detail_text(alloc, fault.line, wrong),
+        None => kind_text(alloc, fault),
     }
 }
 
-fn in_numbers(alloc: Global, line: u32, wrong: Wrong) -> Result<String, NoMemory>
-    ensures { IfOk result (λ text. string_bytes text ≡ told.in_numbers line wrong) }
+fn detail_text(alloc: Global, line: u32, wrong: FaultDetail) -> Result<String, NoMemory>
+    ensures { IfOk result (λ text. string_bytes text ≡ texts.detail_text line wrong) }
 {
     match wrong {
-        Wrong::Ssn {
+        FaultDetail::Ssn {
             process,
             given,
             next,
-        } => wrong_number(alloc, line, process, "sends", given, next),
-        Wrong::Send { position, process } => no_send(alloc, line, position, process),
-        Wrong::Rsn {
+        } => number_text(alloc, line, process, "sends", given, next),
+        FaultDetail::Send { position, process } => no_send_text(alloc, line, position, process),
+        FaultDetail::Rsn {
             process,
             given,
             next,
-        } => wrong_number(alloc, line, process, "delivers", given, next),
-        Wrong::Again {
+        } => number_text(alloc, line, process, "delivers", given, next),
+        FaultDetail::Again {
             process,
             message,
             position,
-        } => again(alloc, line, process, message, position),
-        Wrong::Undelivered { det } => undelivered(alloc, line, det),
-        Wrong::Entries { given, entries } => wrong_count(alloc, line, given, entries),
+        } => duplicate_text(alloc, line, process, message, position),
+        FaultDetail::Undelivered { det } => undelivered_text(alloc, line, det),
+        FaultDetail::Entries { given, entries } => count_text(alloc, line, given, entries),
     }
 }
 
-fn plain(alloc: Global, fault: TextFault) -> Result<String, NoMemory>
-    ensures { IfOk result (λ text. string_bytes text ≡ told.plain fault) }
+fn kind_text(alloc: Global, fault: TextFault) -> Result<String, NoMemory>
+    ensures { IfOk result (λ text. string_bytes text ≡ texts.kind_text fault) }
 {
     let (line, sentence) = (fault.line, fault.kind.sentence());
     Ok(format!(in alloc; "line {line}: {sentence}")?)
 }
 
-fn wrong_number(
+fn number_text(
     alloc: Global,
     line: u32,
     process: Pid,
@@ -63,7 +67,7 @@ fn wrong_number(
     next: u32,
 ) -> Result<String, NoMemory>
     ensures { IfOk result (λ text. string_bytes text
-        ≡ told.wrong_number line process.0 does.now given next) }
+        ≡ texts.number_text line process.0 does.now given next) }
 {
     let p = process.0;
     Ok(format!(in alloc;
@@ -71,8 +75,8 @@ fn wrong_number(
     )?)
 }
 
-fn no_send(alloc: Global, line: u32, position: u32, process: Pid) -> Result<String, NoMemory>
-    ensures { IfOk result (λ text. string_bytes text ≡ told.no_send line position process.0) }
+fn no_send_text(alloc: Global, line: u32, position: u32, process: Pid) -> Result<String, NoMemory>
+    ensures { IfOk result (λ text. string_bytes text ≡ texts.no_send_text line position process.0) }
 {
     let p = process.0;
     // the line of the entry at that position
@@ -82,14 +86,15 @@ fn no_send(alloc: Global, line: u32, position: u32, process: Pid) -> Result<Stri
     )?)
 }
 
-fn again(
+fn duplicate_text(
     alloc: Global,
     line: u32,
     process: Pid,
     message: MsgName,
     position: u32,
 ) -> Result<String, NoMemory>
-    ensures { IfOk result (λ text. string_bytes text ≡ told.again line process.0 message position) }
+    ensures { IfOk result (λ text. string_bytes text
+        ≡ texts.duplicate_text line process.0 message position) }
 {
     let p = process.0;
     let (source, ssn) = (message.source.0, message.ssn);
@@ -99,8 +104,8 @@ fn again(
     )?)
 }
 
-fn undelivered(alloc: Global, line: u32, det: Det) -> Result<String, NoMemory>
-    ensures { IfOk result (λ text. string_bytes text ≡ told.undelivered line det) }
+fn undelivered_text(alloc: Global, line: u32, det: Det) -> Result<String, NoMemory>
+    ensures { IfOk result (λ text. string_bytes text ≡ texts.undelivered_text line det) }
 {
     let (source, ssn) = (det.source.0, det.ssn);
     let (dest, rsn) = (det.dest.0, det.rsn);
@@ -109,8 +114,8 @@ fn undelivered(alloc: Global, line: u32, det: Det) -> Result<String, NoMemory>
     )?)
 }
 
-fn wrong_count(alloc: Global, line: u32, given: u32, entries: u32) -> Result<String, NoMemory>
-    ensures { IfOk result (λ text. string_bytes text ≡ told.wrong_count line given entries) }
+fn count_text(alloc: Global, line: u32, given: u32, entries: u32) -> Result<String, NoMemory>
+    ensures { IfOk result (λ text. string_bytes text ≡ texts.count_text line given entries) }
 {
     Ok(format!(in alloc;
         "line {line}: the end line counts {given} entries, and there are {entries}"

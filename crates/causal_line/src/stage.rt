@@ -1,175 +1,196 @@
-//! What the lines so far have said, and what one more line adds.
+//! The stage after the lines so far, and the transition by one more line.
 ghost use Rattle.std.specs.Prelude.{◌≡◌, ◌≤◌, None, IfErr, IfSome, OnOk};
-ghost use Rattle.causal_line.specs.Given.{Gives};
-ghost use Rattle.causal_line.specs.Refusals.{GivesRefused, IsKeptAt, IsKeptBefore};
-ghost use Rattle.causal_line.specs.Stages.{text_within, longest_text, begun, follow, after_line};
+ghost use Rattle.causal_line.specs.Returns.{Returns};
+ghost use Rattle.causal_line.specs.Refusals.{ReturnsLineRefusal, IsContextAt, IsContextOf};
+ghost use Rattle.causal_line.specs.Stages.{max_text_len, longest_text, open_text, apply_line, advance_stage};
 ghost use Rattle.causal_line.specs.Versions.{version_of};
 
-use crate::before::Before;
 use crate::kind::TextKind;
-use crate::recorded::Recorded;
-use crate::shape::{Shape, line_shape};
+use crate::parsed_line::{ParsedLine, parse_line};
+use crate::text_refusal::FaultContext;
+use crate::trace_builder::TraceBuilder;
 use crate::version::Version;
 use causal_trace::entry::Entry;
 use causal_trace::fault::{RefusedEntry, TraceFault};
 use causal_trace::limits::Limits;
 use std::alloc::Global;
 
-/// How many bytes a text has at most whose trace is to keep these limits: 512 for each entry.
-pub fn text_within(limits: Limits) -> usize
-    ensures value { result ≡ text_within limits.entries }
+/// Returns the maximum size in bytes of a text under these limits: 512 for each entry.
+pub fn max_text_len(limits: Limits) -> usize
+    ensures value { result ≡ max_text_len limits.entries }
     ensures few { result ≤ longest_text }
 {
     limits.entries as usize * 512
 }
 
-/// No line, a trace that goes on, or a trace with its end line.
+/// The stage of a text: before its first line, within its entries, or after its end line.
 #[derive(Drop)]
 pub enum Stage {
     Opening,
-    Within { version: Version, trace: Recorded },
-    Ended { version: Version, trace: Recorded },
+    Within {
+        version: Version,
+        trace: TraceBuilder,
+    },
+    Ended {
+        version: Version,
+        trace: TraceBuilder,
+    },
 }
 
-fn begun(alloc: Global, number: u32, processes: u32) -> Result<Stage, TextKind>
-    ensures { Gives result (begun (version_of number) processes) }
+fn open_text(alloc: Global, number: u32, processes: u32) -> Result<Stage, TextKind>
+    ensures { Returns result (open_text (version_of number) processes) }
 {
     let Some(version) = Version::of(number) else {
         return Err(TextKind::Version);
     };
-    if processes < 1 || processes > version.most_processes() {
+    if processes < 1 || processes > version.max_processes() {
         return Err(TextKind::Processes);
     }
-    let trace = Recorded::new(alloc, processes as u16)?;
+    let trace = TraceBuilder::new(alloc, processes as u16)?;
     Ok(Stage::Within { version, trace })
 }
 
-/// Why a line is refused, and what stands before it, where a trace does that goes on and the line has one of the shapes.
+/// Why a line is refused, with its context if the text was within its entries and the line was parsed.
 #[derive(Drop)]
-pub struct Refused {
+pub struct LineRefusal {
     pub kind: TextKind,
-    pub before: Option<Before>,
+    pub context: Option<FaultContext>,
 }
 
-fn alone(kind: TextKind) -> Refused
+fn refusal_without_context(kind: TextKind) -> LineRefusal
     ensures kind { result.kind ≡ kind }
-    ensures before { result.before ≡ None }
+    ensures before { result.context ≡ None }
 {
-    Refused { kind, before: None }
-}
-
-// with the trace of the lines before it, and what it says
-fn after(trace: Recorded, says: Shape, kind: TextKind) -> Refused
-    ensures kind { result.kind ≡ kind }
-    ensures before { IfSome result.before
-        (λ at. (at.trace.recording ≡ trace) × (at.says ≡ says)) }
-{
-    let trace = trace.into_trace();
-    Refused {
+    LineRefusal {
         kind,
-        before: Some(Before { trace, says }),
+        context: None,
     }
 }
 
-// the first line
-fn opening(alloc: Global, limits: Limits, shape: Shape) -> Result<Stage, TextKind>
-    ensures { Gives result (follow limits.entries Stage.Opening shape) }
+// with the trace of the lines before, and the parsed line
+fn refusal_with_context(trace: TraceBuilder, parsed_line: ParsedLine, kind: TextKind) -> LineRefusal
+    ensures kind { result.kind ≡ kind }
+    ensures before { IfSome result.context
+        (λ at. (at.trace.recording ≡ trace) × (at.parsed_line ≡ parsed_line)) }
+{
+    let trace = trace.into_trace();
+    LineRefusal {
+        kind,
+        context: Some(FaultContext {
+            trace,
+            parsed_line: parsed_line,
+        }),
+    }
+}
+
+// applies the first line
+fn apply_first_line(alloc: Global, limits: Limits, shape: ParsedLine) -> Result<Stage, TextKind>
+    ensures { Returns result (apply_line limits.entries Stage.Opening shape) }
 {
     match shape {
-        Shape::Header { version, processes } => begun(alloc, version, processes),
+        ParsedLine::Header { version, processes } => open_text(alloc, version, processes),
         _ => Err(TextKind::Header),
     }
 }
 
-// an entry where a text goes on
-fn admitted(
+// applies an entry within a text
+fn push_entry(
     limits: Limits,
     version: Version,
-    mut trace: Recorded,
+    mut trace: TraceBuilder,
     entry: Entry,
-) -> Result<Stage, Refused>
-    ensures value { GivesRefused result
-        (follow limits.entries (Stage.Within version trace) (Shape.Entry entry)) }
+) -> Result<Stage, LineRefusal>
+    ensures value { ReturnsLineRefusal result
+        (apply_line limits.entries (Stage.Within version trace) (ParsedLine.Entry entry)) }
     ensures before { IfErr result (λ refused.
-        IsKeptBefore (Stage.Within version trace) (Shape.Entry entry) refused.before) }
+        IsContextOf (Stage.Within version trace) (ParsedLine.Entry entry) refused.context) }
 {
-    if !version.has_line(&entry) {
-        return Err(after(trace, Shape::Entry { entry }, TextKind::Form));
+    if !version.allows(&entry) {
+        return Err(refusal_with_context(trace, ParsedLine::Entry { entry }, TextKind::Form));
     }
-    match trace.offer(limits, entry) {
+    match trace.try_push(limits, entry) {
         Ok(()) => Ok(Stage::Within { version, trace }),
         Err(RefusedEntry { fault, entry }) => {
             let kind = TextKind::from(fault);
             match entry {
-                Some(entry) => Err(after(trace, Shape::Entry { entry }, kind)),
-                None => Err(alone(kind)),
+                Some(entry) => Err(refusal_with_context(trace, ParsedLine::Entry { entry }, kind)),
+                None => Err(refusal_without_context(kind)),
             }
         }
     }
 }
 
-// a line where a text goes on
-fn going_on(
+// applies a line within a text
+fn apply_later_line(
     limits: Limits,
     version: Version,
-    trace: Recorded,
-    shape: Shape,
-) -> Result<Stage, Refused>
-    ensures value { GivesRefused result
-        (follow limits.entries (Stage.Within version trace) shape) }
+    trace: TraceBuilder,
+    shape: ParsedLine,
+) -> Result<Stage, LineRefusal>
+    ensures value { ReturnsLineRefusal result
+        (apply_line limits.entries (Stage.Within version trace) shape) }
     ensures before { IfErr result
-        (λ refused. IsKeptBefore (Stage.Within version trace) shape refused.before) }
+        (λ refused. IsContextOf (Stage.Within version trace) shape refused.context) }
 {
     match shape {
-        Shape::Header { .. } => Err(after(trace, shape, TextKind::Header)),
-        Shape::Entry { entry } => admitted(limits, version, trace, entry),
-        Shape::End { entries } => {
+        ParsedLine::Header { .. } => Err(refusal_with_context(trace, shape, TextKind::Header)),
+        ParsedLine::Entry { entry } => push_entry(limits, version, trace, entry),
+        ParsedLine::End { entries } => {
             if entries == trace.len() {
                 Ok(Stage::Ended { version, trace })
             } else {
-                Err(after(trace, shape, TextKind::Count))
+                Err(refusal_with_context(trace, shape, TextKind::Count))
             }
         }
     }
 }
 
-fn follow(alloc: Global, limits: Limits, stage: Stage, shape: Shape) -> Result<Stage, Refused>
-    ensures value { GivesRefused result (follow limits.entries stage shape) }
-    ensures before { IfErr result (λ refused. IsKeptBefore stage shape refused.before) }
+fn apply_line(
+    alloc: Global,
+    limits: Limits,
+    stage: Stage,
+    shape: ParsedLine,
+) -> Result<Stage, LineRefusal>
+    ensures value { ReturnsLineRefusal result (apply_line limits.entries stage shape) }
+    ensures before { IfErr result (λ refused. IsContextOf stage shape refused.context) }
 {
     match stage {
-        Stage::Opening => match opening(alloc, limits, shape) {
+        Stage::Opening => match apply_first_line(alloc, limits, shape) {
             Ok(begun) => Ok(begun),
-            Err(kind) => Err(alone(kind)),
+            Err(kind) => Err(refusal_without_context(kind)),
         },
-        Stage::Within { version, trace } => going_on(limits, version, trace, shape),
-        Stage::Ended { .. } => Err(alone(TextKind::After)),
+        Stage::Within { version, trace } => apply_later_line(limits, version, trace, shape),
+        Stage::Ended { .. } => Err(refusal_without_context(TextKind::After)),
     }
 }
 
-/// Takes the next line, which goes up to byte number `end` of the text.
-pub fn after_line(
+/// Applies the next line, which ends at byte number `end` of the text.
+///
+/// # Errors
+/// The first error of the line in the order of [`TextKind`], or `NoMemory` if an allocation failed; with its context
+/// where there is one.
+pub fn advance_stage(
     alloc: Global,
     limits: Limits,
     stage: Stage,
     end: usize,
     line: &[u8],
-) -> Result<Stage, Refused>
-    ensures value { GivesRefused result (after_line limits.entries stage end line.now) }
-    ensures within { OnOk result (end ≤ text_within limits.entries) }
+) -> Result<Stage, LineRefusal>
+    ensures value { ReturnsLineRefusal result (advance_stage limits.entries stage end line.now) }
+    ensures within { OnOk result (end ≤ max_text_len limits.entries) }
     ensures few { OnOk result (end ≤ longest_text) }
-    ensures before { IfErr result (λ refused. IsKeptAt stage line.now refused.before) }
+    ensures context { IfErr result (λ refused. IsContextAt stage line.now refused.context) }
 {
     if let Stage::Ended { .. } = &stage {
-        return Err(alone(TextKind::After));
+        return Err(refusal_without_context(TextKind::After));
     }
-    let most = text_within(limits);
+    let most = max_text_len(limits);
     if end > most {
-        return Err(alone(TextKind::Big));
+        return Err(refusal_without_context(TextKind::Big));
     }
-    let shape = match line_shape(alloc, line) {
+    let shape = match parse_line(alloc, line) {
         Ok(shape) => shape,
-        Err(kind) => return Err(alone(kind)),
+        Err(kind) => return Err(refusal_without_context(kind)),
     };
-    follow(alloc, limits, stage, shape)
+    apply_line(alloc, limits, stage, shape)
 }

@@ -1,21 +1,21 @@
-//! The versions of the text.
+//! The versions of the format.
 ghost use Rattle.std.specs.Prelude.{◌≡◌, ◌≤◌};
 ghost use Rattle.std.specs.List.{list_all};
-ghost use Rattle.causal_line.specs.Versions.{number_of, version_of, most_processes, has_line};
+ghost use Rattle.causal_line.specs.Versions.{number_of, version_of, max_processes_in, allows};
 
 use causal_trace::entry::Entry;
 
-/// A version, as a header names it by its number.
+/// A version of the format; a header contains its number.
 #[derive(Clone, Copy)]
 pub enum Version {
-    /// Up to 64 processes, which lose what they log only by a crash.
+    /// Up to 64 processes; a process loses logged determinants only by a crash.
     One,
-    /// Up to 256 processes, which may also forget what they log.
+    /// Up to 256 processes, which may also forget logged determinants.
     Two,
 }
 
 impl Version {
-    /// The version that has this number.
+    /// Returns the version of this number; None if there is none.
     pub fn of(number: u32) -> Option<Version>
         ensures { result ≡ version_of number }
     {
@@ -26,7 +26,7 @@ impl Version {
         }
     }
 
-    /// Its number.
+    /// Returns the version's number.
     pub fn number(self) -> u32
         ensures { result ≡ number_of self }
     {
@@ -36,9 +36,9 @@ impl Version {
         }
     }
 
-    /// How many processes its texts may have.
-    pub fn most_processes(self) -> u32
-        ensures value { result ≡ most_processes self }
+    /// Returns the maximum number of processes of its texts.
+    pub fn max_processes(self) -> u32
+        ensures value { result ≡ max_processes_in self }
         ensures few { result ≤ 256 }
     {
         match self {
@@ -47,9 +47,9 @@ impl Version {
         }
     }
 
-    /// Whether it has lines for such an entry.
-    pub fn has_line(self, entry: &Entry) -> bool
-        ensures { result ≡ has_line self entry.now }
+    /// Checks whether the version has lines for this kind of entry.
+    pub fn allows(self, entry: &Entry) -> bool
+        ensures { result ≡ allows self entry.now }
     {
         match (self, entry) {
             (Version::One, Entry::Forget { .. }) => false,
@@ -57,12 +57,12 @@ impl Version {
         }
     }
 
-    /// Whether it has lines for all of them.
-    pub fn has_lines(self, entries: &[Entry]) -> bool
-        ensures { result ≡ list_all (has_line self) entries.now }
+    /// Checks whether the version has lines for all these entries.
+    pub fn allows_all(self, entries: &[Entry]) -> bool
+        ensures { result ≡ list_all (allows self) entries.now }
     {
         for entry in entries {
-            if !self.has_line(entry) {
+            if !self.allows(entry) {
                 return false;
             }
         }

@@ -1,4 +1,4 @@
--- The canonical text of a recording: its tokens with no byte between them, and a line feed after each line.
+-- The canonical text of a recording: tokens without spaces, a line feed after each line.
 use Rattle.std.specs.Prelude.{ℕ, ◌&&◌, nat_le, if◌then◌else◌, List, [], ◌∷◌, ◌++◌, codes, decimal, flat_map}
 use Rattle.std.specs.List.{list_all}
 use Rattle.causal_name.specs.declared.Det.{Det}
@@ -6,32 +6,32 @@ use Rattle.causal_trace.specs.declared.entry.Entry.{Entry}
 use Rattle.causal_trace.specs.declared.entry.Entry.TheVariants.{Send, Deliver, Stable, Crash, Restart, Forget}
 use Rattle.causal_trace.specs.Rows.{Recording}
 use Rattle.causal_trace.specs.State.{entries_of}
-use Rattle.causal_line.specs.declared.shape.Shape.{Shape}
-use Rattle.causal_line.specs.declared.shape.Shape.TheVariants as shape
+use Rattle.causal_line.specs.declared.parsed_line.ParsedLine.{ParsedLine}
+use Rattle.causal_line.specs.declared.parsed_line.ParsedLine.TheVariants as parsed
 use Rattle.causal_line.specs.declared.stage.Stage.TheVariants.{Ended}
 use Rattle.causal_line.specs.declared.version.Version.{Version}
 use Rattle.causal_line.specs.declared.version.Version.TheVariants.{One, Two}
-use Rattle.causal_line.specs.Stages.{said}
-use Rattle.causal_line.specs.Versions.{most_processes, has_line}
+use Rattle.causal_line.specs.Stages.{lines_up_to}
+use Rattle.causal_line.specs.Versions.{max_processes_in, allows}
 
--- the first version in which it can be written
+-- the first version that can express the recording
 abbrev pub canonical_version : Recording → Version
-canonical_version r = if nat_le r.processes (most_processes One) && list_all (has_line One) (entries_of r) then One else Two
+canonical_version r = if nat_le r.processes (max_processes_in One) && list_all (allows One) (entries_of r) then One else Two
 
--- `[source,ssn,dest,rsn]`
+-- the text of a determinant, `[source,ssn,dest,rsn]`
 abbrev pub det_text : Det → List ℕ
 det_text d = codes "[" ++ (decimal d.source.0 ++ (codes "," ++ (decimal d.ssn ++ (codes "," ++ (decimal d.dest.0 ++ (codes "," ++ (decimal d.rsn ++ codes "]")))))))
 
--- determinants with a comma before each
+-- the text of determinants, each after a comma
 abbrev pub more_dets_text : List Det → List ℕ
 more_dets_text ds = flat_map (λ d. codes "," ++ det_text d) ds
 
--- a list of determinants
+-- the text of a list of determinants
 abbrev pub dets_text : List Det → List ℕ
 dets_text [] = codes "[]"
 dets_text (d ∷ ds) = codes "[" ++ (det_text d ++ (more_dets_text ds ++ codes "]"))
 
--- an entry
+-- the text of an entry
 abbrev pub entry_text : Entry → List ℕ
 entry_text (Send from to ssn) = codes "[\"send\"," ++ (decimal from.0 ++ (codes "," ++ (decimal to.0 ++ (codes "," ++ (decimal ssn ++ codes "]")))))
 entry_text (Deliver to send rsn listed) = codes "[\"deliver\"," ++ (decimal to.0 ++ (codes "," ++ (decimal send ++ (codes "," ++ (decimal rsn ++ (codes "," ++ (dets_text listed ++ codes "]")))))))
@@ -40,20 +40,20 @@ entry_text (Crash who) = codes "[\"crash\"," ++ (decimal who.0 ++ codes "]")
 entry_text (Restart who listed) = codes "[\"restart\"," ++ (decimal who.0 ++ (codes "," ++ (dets_text listed ++ codes "]")))
 entry_text (Forget who listed) = codes "[\"forget\"," ++ (decimal who.0 ++ (codes "," ++ (dets_text listed ++ codes "]")))
 
--- what a line says
-abbrev pub shape_text : Shape → List ℕ
-shape_text (shape.Header version processes) = codes "[\"trace\"," ++ (decimal version ++ (codes "," ++ (decimal processes ++ codes "]")))
-shape_text (shape.Entry e) = entry_text e
-shape_text (shape.End entries) = codes "[\"end\"," ++ (decimal entries ++ codes "]")
+-- the text of a parsed line
+abbrev pub parsed_line_text : ParsedLine → List ℕ
+parsed_line_text (parsed.Header version processes) = codes "[\"trace\"," ++ (decimal version ++ (codes "," ++ (decimal processes ++ codes "]")))
+parsed_line_text (parsed.Entry e) = entry_text e
+parsed_line_text (parsed.End entries) = codes "[\"end\"," ++ (decimal entries ++ codes "]")
 
--- a line
-abbrev pub line_text : Shape → List ℕ
-line_text s = shape_text s ++ codes "\n"
+-- the text of a parsed line, and a line feed
+abbrev pub line_text : ParsedLine → List ℕ
+line_text s = parsed_line_text s ++ codes "\n"
 
--- a line for each entry
+-- the lines of the entries
 abbrev pub entries_text : List Entry → List ℕ
 entries_text es = flat_map (λ e. entry_text e ++ codes "\n") es
 
--- the header, a line for each entry, and the end line
-abbrev pub canonical : Recording → List ℕ
-canonical r = flat_map line_text (said (Ended (canonical_version r) r))
+-- the canonical text: the header, a line for each entry, and the end line
+abbrev pub canonical_text : Recording → List ℕ
+canonical_text r = flat_map line_text (lines_up_to (Ended (canonical_version r) r))

@@ -1,4 +1,4 @@
 pub mod Inside
-pub mod Places
+pub mod ReadPositions
 pub mod Canonical
-pub mod Written
+pub mod PartialWrites

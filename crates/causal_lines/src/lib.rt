@@ -1,16 +1,16 @@
-//! The text of a trace line by line: where a reader of lines stands, and the canonical lines of a trace.
+//! The text of a trace, line by line: a reader of lines, and the writer of the canonical text.
 //!
-//! A [`LineReader`] takes one line after another, and gives the trace once the end line has come. [`text_of`] and [`write_trace`]
-//! give the canonical text, [`write_whole`] writes any bytes.
+//! A [`LineReader`] reads one line after another, and returns the trace after the end line. [`text_of`] and
+//! [`write_trace`] write the canonical text, [`write_whole`] any bytes.
 #![tactic(auto)]
 
-/// Where a reading stands: the lines so far, and one more taken in.
+/// The reader of lines.
 pub mod line_reader;
-/// The canonical text.
+/// The writer of the canonical text.
 pub mod writer;
-/// Bytes to a writer, call by call.
-pub mod written;
+/// Writing all bytes to a writer that may accept fewer in a call.
+pub mod writing;
 
 pub use line_reader::LineReader;
 pub use writer::{text_of, write_trace};
-pub use written::{WriteCause, WriteFault, write_whole};
+pub use writing::{WriteCause, WriteFault, write_whole};

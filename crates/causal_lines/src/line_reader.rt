@@ -1,19 +1,19 @@
-//! A text line by line.
+//! The reader of lines.
 ghost use Rattle.std.specs.Prelude.{◌≡◌, ◌≢◌, ◌+◌, ◌<◌, ◌≤◌, length, None, IfSome, IfNone, IfErr};
 ghost use Rattle.causal_trace.specs.Rows.{Recording};
-ghost use Rattle.causal_lines.specs.Places.{start, next, ended, IsFaultFrom, HasRoomFor};
-ghost use Rattle.causal_line.specs.Refusals.{GivesRejected, IsGoingOn, IsKeptAt};
+ghost use Rattle.causal_lines.specs.ReadPositions.{start_position, position_after, finish_at, IsFaultFrom, HasRoomFor};
+ghost use Rattle.causal_line.specs.Refusals.{ReturnsTextRefusal, IsWithinText, IsContextAt};
 
-use causal_line::before::Rejected;
 use causal_line::kind::{TextFault, TextKind};
-use causal_line::recorded::Recorded;
-use causal_line::stage::{Refused, Stage, after_line, text_within};
+use causal_line::stage::{LineRefusal, Stage, advance_stage, max_text_len};
+use causal_line::text_refusal::TextRefusal;
+use causal_line::trace_builder::TraceBuilder;
 use causal_trace::limits::Limits;
 use causal_trace::trace::Trace;
 use std::alloc::Global;
 use std::marker::Model;
 
-/// What the lines so far have said, how many they are, and how many bytes they have.
+/// A reader of lines: the stage after the lines so far, their number, and their size in bytes.
 #[derive(Drop)]
 pub struct LineReader {
     stage: Stage,
@@ -24,11 +24,11 @@ pub struct LineReader {
 impl Model for LineReader {
     ghost use Rattle.std.specs.Prelude.{◌≡◌, ◌+◌, ◌≤◌};
     ghost use Rattle.causal_trace.specs.Limits.{max_entries};
-    ghost use Rattle.causal_lines.specs.Places.{Place};
-    ghost use Rattle.causal_lines.specs.Places.{lines_in, entries_in};
+    ghost use Rattle.causal_lines.specs.ReadPositions.{ReadPosition};
+    ghost use Rattle.causal_lines.specs.ReadPositions.{lines_in, entries_in};
     ghost use Rattle.causal_line.specs.Stages.{longest_text};
 
-    ghost Value = { Place };
+    ghost Value = { ReadPosition };
 
     ghost view = { λ r. record { stage = r.stage; count = r.count; size = r.size } };
 
@@ -36,9 +36,9 @@ impl Model for LineReader {
 }
 
 impl LineReader {
-    /// Before the first line.
+    /// Returns a reader before the first line.
     pub fn new() -> LineReader
-        ensures { result ≡ start }
+        ensures { result ≡ start_position }
     {
         LineReader {
             stage: Stage::Opening,
@@ -47,32 +47,46 @@ impl LineReader {
         }
     }
 
-    /// Takes the next line.
-    pub fn take(self, alloc: Global, limits: Limits, line: &[u8]) -> Result<LineReader, Rejected>
+    /// Reads the next line.
+    ///
+    /// # Errors
+    /// The first error of the line, or `NoMemory` if an allocation failed; with its context where there is one.
+    pub fn push_line(
+        self,
+        alloc: Global,
+        limits: Limits,
+        line: &[u8],
+    ) -> Result<LineReader, TextRefusal>
         requires { 0 < length line.now }
-        ensures value { GivesRejected result (next limits.entries self line.now) }
+        ensures value { ReturnsTextRefusal result (position_after limits.entries self line.now) }
         ensures line { IfErr result (λ rejected. rejected.fault.line ≡ self.count + 1) }
-        ensures before { IfErr result (λ rejected. IsKeptAt self.stage line.now rejected.before) }
+        ensures context { IfErr result
+            (λ rejected. IsContextAt self.stage line.now rejected.context) }
     {
         let LineReader { stage, count, size } = self;
         let end = size.saturating_add(line.len());
-        match after_line(alloc, limits, stage, end, line) {
+        match advance_stage(alloc, limits, stage, end, line) {
             Ok(stage) => Ok(LineReader {
                 stage,
                 count: count + 1,
                 size: end,
             }),
-            Err(Refused { kind, before }) => Err(Rejected {
+            Err(
+                LineRefusal {
+                    kind,
+                    context: before,
+                },
+            ) => Err(TextRefusal {
                 fault: TextFault {
                     line: count + 1,
                     kind,
                 },
-                before,
+                context: before,
             }),
         }
     }
 
-    /// Want of memory at the line that is being read.
+    /// Returns `NoMemory` as the error of the line that is being read.
     pub fn no_memory(&self) -> TextFault
         ensures kind { result.kind ≡ TextKind.NoMemory }
         ensures line { result.line ≡ self.now.count + 1 }
@@ -83,10 +97,10 @@ impl LineReader {
         }
     }
 
-    /// The fault of each line that has so many bytes or more, where it is known by their number: no byte follows an end
-    /// line, and none goes past the text's limit. So it is told before any of them is held.
-    pub fn past(&self, limits: Limits, len: usize) -> Option<TextFault>
-        ensures past { IfSome result
+    /// Returns the error that every line of `len` or more bytes has here, if there is one. No byte may follow the end
+    /// line, or exceed the text's limit. So a caller can check before it buffers the bytes.
+    pub fn limit_fault(&self, limits: Limits, len: usize) -> Option<TextFault>
+        ensures fault { IfSome result
             (λ fault. (0 < len) × IsFaultFrom limits.entries self.now len fault) }
         ensures line { IfSome result (λ fault. fault.line ≡ self.now.count + 1) }
         ensures room { IfNone result (HasRoomFor limits.entries self.now len) }
@@ -95,7 +109,7 @@ impl LineReader {
         if len == 0 {
             return None;
         }
-        let most = text_within(limits);
+        let most = max_text_len(limits);
         let kind = match self.stage {
             Stage::Ended { .. } => TextKind::After,
             _ if end > most => TextKind::Big,
@@ -107,10 +121,10 @@ impl LineReader {
         })
     }
 
-    /// The trace so far, where its header has come and its end line has not.
+    /// Returns the trace so far; None before the header and after the end line.
     pub fn trace(&self) -> Option<&Trace>
-        ensures some { IfSome result (λ trace. IsGoingOn self.now.stage trace.now.recording) }
-        ensures none { IfNone result ((r : Recording) → IsGoingOn self.now.stage r → ⊥) }
+        ensures some { IfSome result (λ trace. IsWithinText self.now.stage trace.now.recording) }
+        ensures none { IfNone result ((r : Recording) → IsWithinText self.now.stage r → ⊥) }
     {
         match &self.stage {
             Stage::Within { trace, .. } => Some(trace.trace()),
@@ -118,15 +132,18 @@ impl LineReader {
         }
     }
 
-    /// The trace, where its end line has come.
-    pub fn finish(self) -> Result<Recorded, Rejected>
-        ensures value { GivesRejected result (ended self self.stage) }
+    /// Returns the trace, if its end line was read.
+    ///
+    /// # Errors
+    /// `Cut` without an end line.
+    pub fn finish(self) -> Result<TraceBuilder, TextRefusal>
+        ensures value { ReturnsTextRefusal result (finish_at self self.stage) }
         ensures kind { IfErr result (λ rejected. rejected.fault.kind ≢ TextKind.NoMemory) }
-        ensures before { IfErr result (λ rejected. rejected.before ≡ None) }
+        ensures context { IfErr result (λ rejected. rejected.context ≡ None) }
     {
         match self.stage {
             Stage::Ended { trace, .. } => Ok(trace),
-            _ => Err(Rejected::alone(TextFault {
+            _ => Err(TextRefusal::without_context(TextFault {
                 line: self.count + 1,
                 kind: TextKind::Cut,
             })),

@@ -1,11 +1,11 @@
-//! The canonical text of a trace: its tokens with no byte between them, and a line feed after each line.
+//! The writer of the canonical text: the tokens of each line without spaces, and a line feed after each line.
 ghost use Rattle.std.specs.Prelude.{◌≡◌, ◌++◌, OnOk, IfOk, IfErr, string_bytes};
 ghost use Rattle.std.specs.Io.KnownBytes.{Appends};
-ghost use Rattle.causal_lines.specs.Canonical.{det_text, more_dets_text, dets_text, entry_text, entries_text, canonical, canonical_version};
-ghost use Rattle.causal_lines.specs.Written.{StopsInTrace};
+ghost use Rattle.causal_lines.specs.Canonical.{det_text, more_dets_text, dets_text, entry_text, entries_text, canonical_text, canonical_version};
+ghost use Rattle.causal_lines.specs.PartialWrites.{IsPartialTraceWrite};
 ghost use Rattle.causal_lines.specs.Inside.Texts.{numbers_text, named_text, listed_text};
 
-use crate::written::{WriteCause, WriteFault, write_whole};
+use crate::writing::{WriteCause, WriteFault, write_whole};
 use causal_line::version::Version;
 use causal_name::{Det, NoMemory, Pid};
 use causal_trace::entry::Entry;
@@ -13,19 +13,19 @@ use causal_trace::trace::Trace;
 use std::alloc::{AllocError, Global};
 use std::io::Write;
 
-// the first version in which the trace can be written
+// the first version that can express the trace
 fn canonical_version(trace: &Trace) -> Version
     ensures { result ≡ canonical_version trace.now.recording }
 {
-    let few = trace.processes() as u32 <= Version::One.most_processes();
-    if few && Version::One.has_lines(trace.entries()) {
+    let few = trace.processes() as u32 <= Version::One.max_processes();
+    if few && Version::One.allows_all(trace.entries()) {
         Version::One
     } else {
         Version::Two
     }
 }
 
-// numbers with a comma before each, and what ends them
+// appends the numbers, each after a comma, and then `end`
 fn push_numbers(out: &mut String, numbers: &[u32], end: &str) -> Result<(), AllocError>
     ensures { OnOk result
         (string_bytes out.new ≡ string_bytes out.old ++ numbers_text numbers.now end.now) }
@@ -37,7 +37,7 @@ fn push_numbers(out: &mut String, numbers: &[u32], end: &str) -> Result<(), Allo
     out.push_str(end)
 }
 
-// an array that begins with a name
+// appends an array that begins with a name
 fn push_named(out: &mut String, name: &str, numbers: &[u32], end: &str) -> Result<(), AllocError>
     ensures { OnOk result
         (string_bytes out.new ≡ string_bytes out.old ++ named_text name.now numbers.now end.now) }
@@ -81,7 +81,7 @@ fn push_dets(out: &mut String, dets: &[Det]) -> Result<(), AllocError>
     }
 }
 
-// an entry whose last item is a list
+// appends an entry whose last item is a list
 fn push_listed(
     out: &mut String,
     name: &str,
@@ -96,7 +96,7 @@ fn push_listed(
     out.push_str("]")
 }
 
-// an entry of one determinant
+// appends an entry of one determinant
 fn push_stable(out: &mut String, det: &Det) -> Result<(), AllocError>
     ensures { OnOk result
         (string_bytes out.new ≡ string_bytes out.old ++ entry_text (Entry.Stable det.now)) }
@@ -147,7 +147,7 @@ fn push_entries(out: &mut String, entries: &[Entry]) -> Result<(), AllocError>
 
 fn push_trace(out: &mut String, trace: &Trace) -> Result<(), AllocError>
     ensures { OnOk result
-        (string_bytes out.new ≡ string_bytes out.old ++ canonical trace.now.recording) }
+        (string_bytes out.new ≡ string_bytes out.old ++ canonical_text trace.now.recording) }
 {
     let version = canonical_version(trace).number();
     push_named(
@@ -161,24 +161,31 @@ fn push_trace(out: &mut String, trace: &Trace) -> Result<(), AllocError>
     Ok(())
 }
 
-/// The canonical text of a trace: in version 1 where the trace has at most 64 processes and no forget entry, else in
-/// version 2. `NoMemory` is answered only where a growth was refused.
+/// Returns the canonical text of a trace. It has version 1 if the trace has at most 64 processes and no forget entry,
+/// otherwise version 2. O(text) time and memory.
+///
+/// # Errors
+/// `NoMemory`, only if an allocation failed.
 pub fn text_of(alloc: Global, trace: &Trace) -> Result<Vec<u8>, NoMemory>
-    ensures { IfOk result (λ text. text.items ≡ canonical trace.now.recording) }
+    ensures { IfOk result (λ text. text.items ≡ canonical_text trace.now.recording) }
 {
     let mut out = String::new(alloc);
     push_trace(&mut out, trace)?;
     Ok(out.into_bytes())
 }
 
-/// Writes the canonical text of a trace. After a fault just the first `written` bytes of it went out. `Device` is
-/// answered only where a write answered an error, of any kind, or took no byte; `Memory` only where a growth was
-/// refused, before the first write.
+/// Writes the canonical text of a trace. After an error, exactly the first bytes of the text were written, the number
+/// that the error contains.
+///
+/// # Errors
+/// `Device`, only if a write returned an error of any kind or accepted no byte; `Memory`, only if an allocation
+/// failed, before the first write.
 pub fn write_trace<W: Write>(alloc: Global, trace: &Trace, writer: &mut W) -> Result<(), WriteFault>
     ensures ok { OnOk result
-        (Appends (W.contents writer.old) (W.contents writer.new) (canonical trace.now.recording)) }
+        (Appends (W.contents writer.old) (W.contents writer.new)
+        (canonical_text trace.now.recording)) }
     ensures err { IfErr result
-        (StopsInTrace trace.now.recording (W.contents writer.old) (W.contents writer.new)) }
+        (IsPartialTraceWrite trace.now.recording (W.contents writer.old) (W.contents writer.new)) }
     ensures cause { IfErr result (λ fault. fault.cause ≡ WriteCause.Memory → fault.written ≡ 0) }
 {
     match text_of(alloc, trace) {

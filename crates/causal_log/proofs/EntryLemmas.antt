@@ -1,4 +1,4 @@
--- What a log's entries say of the map that they make.
+-- The map that a log's entries make, and the order of determinants.
 use Rattle.std.proofs.Common.{◌≡◌, ◌∙◌, ◌+◌, ◌&&◌, true, false, cond, List, [], ◌∷◌, Some, slice_index_or, true≢false, refl, sym, ap, subst, arith, get_or, Option, None, is_some}
 use Rattle.std.specs.declared.cmp.Ordering.TheVariants.{Less}
 use Rattle.std.specs.Ordering.{is_lt}
@@ -20,17 +20,17 @@ use Rattle.std.proofs.lemmas.List.Sorted.{Contains-permutation, IsPermutation-ma
 use Rattle.std.proofs.lemmas.Map.Views.{Contains-from_lookup, lookup-from_Contains}
 use Rattle.std.specs.FinMap as fin
 
--- to be the same determinant is an equivalence
+-- `same_det` is an equivalence
 pub det_equiv : IsEquivalence same_det
 det_equiv = subst IsEquivalence (sym (λ i x y. det_ties x y i)) (eq_by_cmp_equiv dets_total)
 
 module _ {X : Type 0} where
-  -- a determinant is found by order where it is found by equality, with the same value
+  -- a search by order and a look-up by equality return the same value for a determinant
   pub find_lookup : (es : List (Det × X)) (q : Det) → find det_cmp q es ≡ lookup (same_det q) es
   find_lookup [] q = refl
   find_lookup (e ∷ es) q = grind (arith, find_lookup es q, det_ties)
 
-  -- what the map that the entries make has at a determinant
+  -- the map that entries make has at a determinant what a look-up in the entries returns
   pub get_log : (es : List (Det × X)) (q : Det) → get (from_entries {R = det_cmp} es) q ≡ lookup (same_det q) es
   get_log es q = get-from_entries dets_total es q ∙ find_lookup es q
 
@@ -42,11 +42,11 @@ module _ {X : Type 0} where
   pub inserted : (es fs : List (Det × X)) (d : Det) (x : X) → ((q : Det) → lookup (same_det q) fs ≡ cond (same_det d q) (Some x) (lookup (same_det q) es)) → from_entries {R = det_cmp} fs ≡ insert (from_entries es) d x
   inserted es fs d x h = same_map dets_total exact_dets _ _ (λ q. grind (arith, get_log, h q, det_ties, get-insert, dets_total, eq_by_cmp_equiv dets_total))
 
--- two determinants, of which the second isn't below the first and isn't equal to it
+-- if the second determinant neither precedes nor equals the first, the first precedes it
 pub below : (x y : Det) → is_lt (det_cmp y x) ≡ false → same_det x y ≡ false → det_cmp x y ≡ Less
 below x y low apart = grind (arith, det_ties x y, dets_total.antisymm y x)
 
--- sorted determinants, each there once, ascend
+-- sorted, distinct determinants ascend
 pub sorted_ascend : (ds : List Det) → IsSorted det_cmp ds → IsDistinct same_det ds → is_ascending ds ≡ true
 sorted_ascend ds sorted distinct =
     by ds
@@ -61,11 +61,11 @@ sorted_ascend ds sorted distinct =
     by (d ∷ []) h = refl
     by (d ∷ e ∷ ds) h = ap (λ r. is_lt r && is_ascending (e ∷ ds)) (sorted_head det_cmp d (e ∷ ds) h).0 ∙ by (e ∷ ds) (sorted_tail det_cmp d (e ∷ ds) h)
 
--- none comes before itself, nor before one that comes before it
+-- no determinant comes before itself
 pub not_itself : (d : Det) → is_before d d ≡ false
 not_itself d = false_from_ne_true (is_before d d) (λ h. true≢false (sym (same_itself d) ∙ before_apart d d h))
 
--- of two determinants only one comes before the other
+-- if d comes before e, e does not come before d
 pub not_after : (d e : Det) → is_before d e ≡ true → is_before e d ≡ false
 not_after d e h = false_from_ne_true (is_before e d) (λ k. true≢false (sym (before_trans d e d h k) ∙ not_itself d))
 
@@ -74,7 +74,7 @@ below_each : (d : Det) (ds : List Det) → is_ascending (d ∷ ds) ≡ true → 
 below_each d [] h = tt
 below_each d (e ∷ ds) h = (is_less (det_cmp d e) (both (is_before d e) (is_ascending (e ∷ ds)) h).0, below_each d ds (ascending_skip d e ds h))
 
--- determinants that ascend do so strictly
+-- ascending determinants are strictly sorted
 pub strict : (ds : List Det) → is_ascending ds ≡ true → IsStrictlySortedBy det_cmp ds
 unfolding IsStrictlySortedBy
 strict [] h = tt
@@ -89,13 +89,13 @@ module _ {X : Type 0} where
   pub nothing : entries (empty {X = X} {R = det_cmp}) ≡ []
   nothing = nil_from_length (entries (empty {X = X} {R = det_cmp})) (sym (len-entries (empty {X = X} {R = det_cmp})) ∙ len-empty det_cmp X)
 
-  -- entries whose determinants ascend are those of the map that they make
+  -- entries with ascending determinants are the entries of the map that they make
   pub own_entries : (es : List (Det × X)) → is_ascending (keys_of es) ≡ true → entries (from_entries {R = det_cmp} es) ≡ es
   own_entries [] h = nothing
   own_entries (e ∷ es) h = grind (arith, entries-insert dets_total (from_entries es) e.0 e.1, own_entries es (ascending_tail e.0 (keys_of es) h), put_first e es (below_each e.0 (keys_of es) h))
 
 module _ {V : Type 0} (es fs : List (Det × V)) (moved : IsPermutation es fs) (distinct : IsDistinct same_det (keys_of es)) where
-  -- entries that changed places still have each determinant once
+  -- a permutation of distinct entries is distinct
   pub still_distinct : IsDistinct same_det (keys_of fs)
   still_distinct = IsDistinct-IsPermutation same_det same_turned (keys_of es) (keys_of fs) (IsPermutation-map (λ e. e.0) es fs moved) distinct
 
@@ -111,11 +111,11 @@ module _ {V : Type 0} (es fs : List (Det × V)) (moved : IsPermutation es fs) (d
           (sym (lookup-from_Contains det_equiv q w es distinct (Contains-permutation fs es (q, w) (IsPermutation-sym es fs moved) (Contains-from_lookup same_is q w fs is)))
           ∙ none)))
 
-  -- entries that changed places make the same map
+  -- a permutation of entries makes the same map
   pub moved_log : fin.from_entries {R = det_cmp} fs ≡ fin.from_entries es
   moved_log = same_log fs es still_found
 
-  -- entries that are sorted have ascending determinants
+  -- sorted entries have ascending determinants
   pub moved_ascend : IsSortedByKey (λ e. e.0) det_cmp fs → is_ascending (keys_of fs) ≡ true
   moved_ascend sorted = sorted_ascend (keys_of fs) (by fs sorted) still_distinct
     where

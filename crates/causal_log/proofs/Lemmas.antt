@@ -1,4 +1,4 @@
--- What crates above may cite of this crate's proofs.
+-- Public lemmas, for the proofs of other crates.
 pub mod Searches
 pub mod Ascents
 pub mod ChosenLemmas

@@ -3,6 +3,7 @@ mod EntryLemmas
 mod PlaceLemmas
 mod KnownLemmas
 mod TableLemmas
-mod IndexLemmas
+mod LeastLemmas
+mod SlotKeyLemmas
 mod MergeLemmas
 mod Rules

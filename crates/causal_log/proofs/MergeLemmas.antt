@@ -1,4 +1,4 @@
--- Ascending items are what messages carry of a log where each is found so, and go on being it as determinants are heard of.
+-- Ascending items are recognised as those that messages carry, and stay so as determinants are learned.
 use Rattle.std.proofs.Common.{ℕ, zero, suc, ◌+◌, ◌-◌, ◌<◌, length, take, drop, get_or, slice_get, IfSome, ◌≡◌, ◌∙◌, ◌≤◌, ◌||◌, Bool, true, false, cond, not, nat_cmp, List, [], ◌∷◌, ◌++◌, map, filter, Option, Some, None, is_some, unwrap_or, true≢false, refl, sym, ap, subst, arith, ◌&&◌}
 use Rattle.std.proofs.lemmas.Bool.{and_from, or_from, or_right, false_from_ne_true}
 use Rattle.std.proofs.lemmas.Bool.Decides.{nat_tests}
@@ -19,10 +19,10 @@ use Rattle.causal_name.proofs.Lemmas.DetOrder.{dets_total, same_is, same_itself,
 use Rattle.causal_holders.proofs.Lemmas.Sets.{len-is_subset}
 use Rattle.causal_log.specs.declared.known.Known.{Known}
 use Rattle.causal_log.specs.declared.batch.Item.{Item}
-use Rattle.causal_log.specs.Knowledge.{nothing_known, joined, is_carried, told, as_stable}
-use Rattle.causal_log.specs.Logs.{LogMap, known_of, learned, absorbed, item_of, chosen, dets_of, names_det, marked}
-use Rattle.causal_log.specs.Inside.Carried.{known_of_item, with_carried, HearsNext, is_open, open_in, as_marked, Carries}
-use Rattle.causal_log.specs.Inside.Merges.{AreApart, HasMerged, are_known_to_hold}
+use Rattle.causal_log.specs.Knowledge.{unknown, union_with, is_carried, knowledge_from_item, as_stable}
+use Rattle.causal_log.specs.Logs.{LogMap, known_of, after_learn, after_absorb, item_of, batch_items, dets_of, names_det, after_mark}
+use Rattle.causal_log.specs.Inside.BatchCache.{known_of_item, with_carried, LearnsItem, is_open, open_items_of, cache_after_mark, CacheIsRight}
+use Rattle.causal_log.specs.Inside.Merges.{AreDisjoint, IsMergeState, are_known_to_hold}
 use Rattle.causal_log.proofs.EntryLemmas.{below, get_log, same_log, own_entries, not_itself}
 use Rattle.causal_log.proofs.TableLemmas.{lookup_missing}
 use Rattle.causal_log.proofs.Lemmas.Ascents.{before_trans, ascending_tail, ascending_skip, first_before, filter_ascends}
@@ -31,33 +31,33 @@ use Rattle.causal_log.proofs.Lemmas.KnowledgeGrows.{get_learned}
 use Rattle.causal_log.proofs.Lemmas.Searches.{any_map, before_apart, both, or_nothing, find_kept, kept_if, shown, same_turned}
 use Rattle.std.proofs.lemmas.Map.Entries.{lookup-filter-keys}
 use Rattle.std.specs.Arc.{arc_value}
-use Rattle.causal_log.specs.declared.log.Carried.{Carried}
+use Rattle.causal_log.specs.declared.log.CachedBatch.{CachedBatch}
 use Rattle.causal_log.proofs.Lemmas.LogLists.{get_marked}
 
 more_holders : (one : set.FinSet nat_cmp) (other : set.FinSet nat_cmp) → ((q : ℕ) → set.contains one q ≡ true → set.contains other q ≡ true) → set.len one ≤ set.len other
 more_holders one other h = len-is_subset one other (set.contains-is_subset nat_cmp_total one other h)
 
--- what is carried once more is known of it was carried before, and what is heard of it would be alone
-both_carried : (f : ℕ) (known heard : Known) → is_carried f (joined known heard) ≡ true → (is_carried f known ≡ true) × (is_carried f heard ≡ true)
-both_carried f known heard h =
-    let one = more_holders known.holders (joined known heard).holders (λ q there. grind (arith, set.contains-union, nat_cmp_total)) in
-    let other = more_holders heard.holders (joined known heard).holders (λ q there. grind (arith, set.contains-union, nat_cmp_total)) in
+-- what is carried after more is learned was carried before, and what is learned alone would be carried
+both_carried : (f : ℕ) (known news : Known) → is_carried f (union_with known news) ≡ true → (is_carried f known ≡ true) × (is_carried f news ≡ true)
+both_carried f known news h =
+    let one = more_holders known.holders (union_with known news).holders (λ q there. grind (arith, set.contains-union, nat_cmp_total)) in
+    let other = more_holders news.holders (union_with known news).holders (λ q there. grind (arith, set.contains-union, nat_cmp_total)) in
     grind (arith, nat_tests)
 
-joined_out : (f : ℕ) (known heard : Known) → is_carried f known ≡ false → is_carried f (joined known heard) ≡ false
-joined_out f known heard is = false_from_ne_true (is_carried f (joined known heard)) (λ h. true≢false (sym (both_carried f known heard h).0 ∙ is))
+joined_out : (f : ℕ) (known news : Known) → is_carried f known ≡ false → is_carried f (union_with known news) ≡ false
+joined_out f known news is = false_from_ne_true (is_carried f (union_with known news)) (λ h. true≢false (sym (both_carried f known news h).0 ∙ is))
 
-heard_out : (f : ℕ) (known heard : Known) → is_carried f heard ≡ false → is_carried f (joined known heard) ≡ false
-heard_out f known heard is = false_from_ne_true (is_carried f (joined known heard)) (λ h. true≢false (sym (both_carried f known heard h).1 ∙ is))
+heard_out : (f : ℕ) (known news : Known) → is_carried f news ≡ false → is_carried f (union_with known news) ≡ false
+heard_out f known news is = false_from_ne_true (is_carried f (union_with known news)) (λ h. true≢false (sym (both_carried f known news h).1 ∙ is))
 
--- items as entries
+-- items as log entries
 abbrev pub entry_of : Item → Det × Known
 entry_of item = (item.det, known_of_item item)
 
 abbrev pub entries_of : List Item → List (Det × Known)
 entries_of items = map entry_of items
 
--- what messages carry of what is known of a determinant
+-- what messages carry, of what is known of a determinant
 abbrev pub carried_of : ℕ → Option Known → Option Known
 carried_of f o = kept_if (is_carried f) o
 
@@ -72,7 +72,7 @@ items_back (i ∷ items) = ap (λ is. i ∷ is) (items_back items)
 dets_append : (xs ys : List Item) → dets_of (xs ++ ys) ≡ dets_of xs ++ dets_of ys
 dets_append xs ys = map-append (λ item. item.det) xs ys
 
--- what is carried is not marked
+-- a carried determinant has no mark
 pub carried_unmarked : (f : ℕ) (known : Known) → is_carried f known ≡ true → record { holders = known.holders; stable = false } ≡ known
 carried_unmarked f known h = grind (arith, both)
 
@@ -88,12 +88,12 @@ module _ (f : ℕ) where
       ∙ find_kept (is_carried f) q (fin.entries log) (shown _ (fin.entries_sorted log))
       ∙ ap (kept_if (is_carried f)) (sym (fin.get-entries log q))
 
-  -- each item of what messages carry is found, and no other
-  pub found_chosen : (log : LogMap) (q : Det) → lookup (same_det q) (entries_of (chosen f log)) ≡ carried_of f (fin.get log q)
+  -- a look-up in the items that messages carry finds each of them, and no other
+  pub found_chosen : (log : LogMap) (q : Det) → lookup (same_det q) (entries_of (batch_items f log)) ≡ carried_of f (fin.get log q)
   found_chosen log q = ap (lookup (same_det q)) (kept_entries (fin.entries log)) ∙ found_kept log q
 
-  -- ascending items of which this is so are what messages carry
-  pub recognized : (log : LogMap) (items : List Item) → is_ascending (dets_of items) ≡ true → ((q : Det) → lookup (same_det q) (entries_of items) ≡ carried_of f (fin.get log q)) → items ≡ chosen f log
+  -- ascending items with these look-ups are the items that messages carry
+  pub recognized : (log : LogMap) (items : List Item) → is_ascending (dets_of items) ≡ true → ((q : Det) → lookup (same_det q) (entries_of items) ≡ carried_of f (fin.get log q)) → items ≡ batch_items f log
   recognized log items ascend found =
       sym (items_back items)
       ∙ ap (map item_of)
@@ -101,7 +101,7 @@ module _ (f : ℕ) where
       ∙ ap fin.entries (same_log (entries_of items) (filter (λ e. is_carried f e.1) (fin.entries log)) (λ q. found q ∙ sym (found_kept log q)))
       ∙ own_entries (filter (λ e. is_carried f e.1) (fin.entries log)) (filter_ascends (λ e. is_carried f e.1) log))
 
--- ascending lists end to end
+-- two ascending lists that share one element, joined there, ascend
 pub glue : (xs : List Det) (d : Det) (ys : List Det) → is_ascending (xs ++ d ∷ []) ≡ true → is_ascending (d ∷ ys) ≡ true → is_ascending (xs ++ d ∷ ys) ≡ true
 glue [] d ys h k = k
 glue (x ∷ []) d ys h k = and_from (is_before x d) (is_ascending (d ∷ ys)) (both (is_before x d) true h).0 k
@@ -121,15 +121,15 @@ without [] d ys h = ascending_tail d ys h
 without (x ∷ []) d ys h = ascending_skip x d ys h
 without (x ∷ y ∷ xs) d ys h = grind (arith, without (y ∷ xs) d ys, both, and_from)
 
--- an ascending list may end in a later determinant instead
+-- the last element of an ascending list can be replaced by a later one
 pub raise : (xs : List Det) (d e : Det) → is_ascending (xs ++ d ∷ []) ≡ true → is_before d e ≡ true → is_ascending (xs ++ e ∷ []) ≡ true
 raise xs d e h low = without xs d (e ∷ []) (glue xs d (e ∷ []) h (and_from (is_before d e) true low refl))
 
--- the last of a list is one of it
+-- the last element of a list is in it
 last_there : (xs : List Det) (d : Det) → list_any (same_det d) (xs ++ d ∷ []) ≡ true
 last_there xs d = list_any-append (same_det d) xs (d ∷ []) ∙ or_right (list_any (same_det d) xs) (same_det d d || false) (ap (λ b. b || false) (same_itself d))
 
--- a determinant is none of those that all come before it, nor of those that all come after it
+-- a determinant is in neither a list before it nor a list after it
 none_front : (xs : List Det) (d : Det) → is_ascending (xs ++ d ∷ []) ≡ true → list_any (same_det d) xs ≡ false
 none_front [] d h = refl
 none_front (x ∷ xs) d h = or_from (same_det d x) (list_any (same_det d) xs) (false_from_ne_true (same_det d x) first) (none_front xs d (ascending_tail x (xs ++ d ∷ []) h))
@@ -150,11 +150,11 @@ found_append q xs ys = ap (lookup (same_det q)) (map-append entry_of xs ys) ∙ 
 none_found : (q : Det) (xs : List Item) → list_any (same_det q) (dets_of xs) ≡ false → lookup (same_det q) (entries_of xs) ≡ None
 none_found q xs h = lookup_missing (entries_of xs) q (ap (list_any (same_det q)) (keys_entries xs) ∙ h)
 
--- what messages carry of a log are these items, of which the first come before a determinant: what becomes of them as this is
--- heard of it
-module _ (f : ℕ) (log : LogMap) (det : Det) (heard : Known) (out rest : List Item) (is : out ++ rest ≡ chosen f log) (before : is_ascending (dets_of out ++ det ∷ []) ≡ true) where
+-- the items that messages carry of a log are `out` and `rest`, and `out` comes before a determinant: the items after
+-- that determinant is learned
+module _ (f : ℕ) (log : LogMap) (det : Det) (news : Known) (out rest : List Item) (is : out ++ rest ≡ batch_items f log) (before : is_ascending (dets_of out ++ det ∷ []) ≡ true) where
   abbrev pub now_known : Known
-  now_known = joined (known_of log det) heard
+  now_known = union_with (known_of log det) news
 
   not_out : lookup (same_det det) (entries_of out) ≡ None
   not_out = none_found det out (none_front (dets_of out) det before)
@@ -162,34 +162,34 @@ module _ (f : ℕ) (log : LogMap) (det : Det) (heard : Known) (out rest : List I
   found : (q : Det) → option_or (lookup (same_det q) (entries_of out)) (lookup (same_det q) (entries_of rest)) ≡ carried_of f (fin.get log q)
   found q = sym (found_append q out rest) ∙ ap (λ xs. lookup (same_det q) (entries_of xs)) is ∙ found_chosen f log q
 
-  -- what is carried of it is found in the rest
+  -- if the determinant is carried, it is in the rest
   pub in_rest : lookup (same_det det) (entries_of rest) ≡ carried_of f (fin.get log det)
   in_rest = sym (ap (λ o. option_or o (lookup (same_det det) (entries_of rest))) not_out) ∙ found det
 
-  -- other items with the same look-ups elsewhere, and at the determinant what is carried of it now
+  -- items that differ only at the determinant, and there have what is carried of it afterwards
   pub heard_now : (later : List Item) → is_ascending (dets_of (out ++ later)) ≡ true
       → lookup (same_det det) (entries_of later) ≡ carried_of f (Some now_known)
       → ((q : Det) → same_det q det ≡ false → lookup (same_det q) (entries_of later) ≡ lookup (same_det q) (entries_of rest))
-      → out ++ later ≡ chosen f (learned log det heard)
+      → out ++ later ≡ batch_items f (after_learn log det news)
   heard_now later ascend here elsewhere =
-      recognized f (learned log det heard) (out ++ later) ascend (λ q.
-      grind (arith, found_append q out later, get_learned log det heard q, found q, not_out, here, elsewhere q, same_is q det))
+      recognized f (after_learn log det news) (out ++ later) ascend (λ q.
+      grind (arith, found_append q out later, get_learned log det news q, found q, not_out, here, elsewhere q, same_is q det))
 
-  -- with this known of it, and other items after it
+  -- the items with this knowledge of the determinant, and other items after it
   pub become : (known : Known) (later : List Item) → now_known ≡ known → is_ascending (dets_of out ++ det ∷ dets_of later) ≡ true → lookup (same_det det) (entries_of later) ≡ None
       → ((q : Det) → same_det q det ≡ false → lookup (same_det q) (entries_of later) ≡ lookup (same_det q) (entries_of rest))
-      → with_carried f det known out ++ later ≡ chosen f (learned log det heard)
+      → with_carried f det known out ++ later ≡ batch_items f (after_learn log det news)
   become known later now ascend none elsewhere = grind (arith, append_assoc, heard_now, dets_append, same_itself, carried_unmarked, without)
 
--- one more that comes before a determinant is passed on
+-- one more item that comes before a determinant is copied
 pub passed_on : (out : List Item) (x : Item) (rest : List Item) (det : Det) → is_ascending (dets_of (out ++ x ∷ rest)) ≡ true → is_before x.det det ≡ true → is_ascending (dets_of (out ++ x ∷ []) ++ det ∷ []) ≡ true
 passed_on out x rest det ascend low = grind (arith, dets_append, append_assoc, glue, front, and_from)
 
--- the items from one place up to another, and the rest
+-- the items from one index to another, and the rest
 pub part_and_rest : (kept : List Item) (from next : ℕ) → from ≤ next → take (next - from) (drop from kept) ++ drop next kept ≡ drop from kept
 part_and_rest kept from next up = grind (arith, drop-drop (next - from) from kept, take-append-drop (next - from) (drop from kept))
 
--- more of them that come before a determinant are passed on, where the last of them does
+-- several items before a determinant are copied, if the last of them comes before it
 pub part_passed : (out kept : List Item) (from next : ℕ) (det : Det) → from ≤ next → next ≤ length kept → is_ascending (dets_of (out ++ drop from kept)) ≡ true
     → is_ascending (dets_of out ++ det ∷ []) ≡ true → (from < next → IfSome (slice_get kept (next - 1)) (λ item. is_before item.det det ≡ true))
     → is_ascending (dets_of (out ++ take (next - from) (drop from kept)) ++ det ∷ []) ≡ true
@@ -213,12 +213,12 @@ part_passed out kept from next det up within ascend before last = by (next - fro
         ∙ ap (λ xs. is_ascending (dets_of xs ++ det ∷ [])) (sym (append_assoc out (take m rest) (x ∷ [])))
         ∙ passed_on (out ++ take m rest) x (drop (m + 1) rest) det (ap (λ xs. is_ascending (dets_of xs)) (sym split) ∙ ascend) low
 
-some_carried : (f : ℕ) (o : Option Known) (known : Known) → Some known ≡ carried_of f o → unwrap_or o nothing_known ≡ known
+some_carried : (f : ℕ) (o : Option Known) (known : Known) → Some known ≡ carried_of f o → unwrap_or o unknown ≡ known
 some_carried f None known h = absurd (true≢false (ap is_some h))
 some_carried f (Some other) known h = grind arith
 
--- the next item is of the determinant of which this is heard
-module _ (f : ℕ) (log : LogMap) (det : Det) (heard : Known) (out : List Item) (item : Item) (rest : List Item) (is : out ++ item ∷ rest ≡ chosen f log) (before : is_ascending (dets_of out ++ det ∷ []) ≡ true) (here : item.det ≡ det) where
+-- if the next item is of the learned determinant
+module _ (f : ℕ) (log : LogMap) (det : Det) (news : Known) (out : List Item) (item : Item) (rest : List Item) (is : out ++ item ∷ rest ≡ batch_items f log) (before : is_ascending (dets_of out ++ det ∷ []) ≡ true) (here : item.det ≡ det) where
   ascend : is_ascending (dets_of out ++ item.det ∷ dets_of rest) ≡ true
   ascend = sym (ap is_ascending (dets_append out (item ∷ rest))) ∙ ap (λ xs. is_ascending (dets_of xs)) is ∙ chosen_ascend f log
 
@@ -226,68 +226,68 @@ module _ (f : ℕ) (log : LogMap) (det : Det) (heard : Known) (out : List Item) 
   same = ap (same_det det) here ∙ same_itself det
 
   known_now : known_of log det ≡ known_of_item item
-  known_now = some_carried f (fin.get log det) (known_of_item item) (sym (ap (λ b. cond b (Some (known_of_item item)) (lookup (same_det det) (entries_of rest))) same) ∙ in_rest f log det heard out (item ∷ rest) is before)
+  known_now = some_carried f (fin.get log det) (known_of_item item) (sym (ap (λ b. cond b (Some (known_of_item item)) (lookup (same_det det) (entries_of rest))) same) ∙ in_rest f log det news out (item ∷ rest) is before)
 
   not_later : lookup (same_det det) (entries_of rest) ≡ None
   not_later = grind (arith, none_found, none_back, back, ascend)
 
-  -- what is now known of an item's determinant stands in its place, if it is still carried
-  pub met : with_carried f det (joined (known_of_item item) heard) out ++ rest ≡ chosen f (learned log det heard)
-  met = grind (arith, become f log det heard out (item ∷ rest) is before (joined (known_of_item item) heard) rest, known_now, ascend, not_later, here)
+  -- the item is replaced by what is known afterwards, if that is still carried
+  pub met : with_carried f det (union_with (known_of_item item) news) out ++ rest ≡ batch_items f (after_learn log det news)
+  met = grind (arith, become f log det news out (item ∷ rest) is before (union_with (known_of_item item) news) rest, known_now, ascend, not_later, here)
 
--- the determinant is none of what is kept
-module _ (f : ℕ) (log : LogMap) (det : Det) (heard : Known) (out rest : List Item) (is : out ++ rest ≡ chosen f log) (before : is_ascending (dets_of out ++ det ∷ []) ≡ true) (after : is_ascending (det ∷ dets_of rest) ≡ true) where
+-- if no item is of the determinant
+module _ (f : ℕ) (log : LogMap) (det : Det) (news : Known) (out rest : List Item) (is : out ++ rest ≡ batch_items f log) (before : is_ascending (dets_of out ++ det ∷ []) ≡ true) (after : is_ascending (det ∷ dets_of rest) ≡ true) where
   none_there : lookup (same_det det) (entries_of rest) ≡ None
   none_there = none_found det rest (none_back det (dets_of rest) after)
 
-  becomes : (known : Known) → joined (known_of log det) heard ≡ known → with_carried f det known out ++ rest ≡ chosen f (learned log det heard)
+  becomes : (known : Known) → union_with (known_of log det) news ≡ known → with_carried f det known out ++ rest ≡ batch_items f (after_learn log det news)
   becomes known now = grind (arith, become, glue, none_there)
 
-  out_known : (o : Option Known) → None ≡ carried_of f o → is_some o ≡ true → is_carried f (unwrap_or o nothing_known) ≡ false
+  out_known : (o : Option Known) → None ≡ carried_of f o → is_some o ≡ true → is_carried f (unwrap_or o unknown) ≡ false
   out_known None h there = absurd (true≢false (sym there))
   out_known (Some known) h there = false_from_ne_true (is_carried f known) (λ k. true≢false (sym (ap is_some (h ∙ ap (λ b. cond b (Some known) None) k))))
 
-  stays : is_carried f (joined (known_of log det) heard) ≡ false → out ++ rest ≡ chosen f (learned log det heard)
-  stays never = ap (λ b. cond b (out ++ record { det = det; holders = (joined (known_of log det) heard).holders } ∷ []) out ++ rest) (sym never) ∙ becomes (joined (known_of log det) heard) refl
+  stays : is_carried f (union_with (known_of log det) news) ≡ false → out ++ rest ≡ batch_items f (after_learn log det news)
+  stays never = ap (λ b. cond b (out ++ record { det = det; holders = (union_with (known_of log det) news).holders } ∷ []) out ++ rest) (sym never) ∙ becomes (union_with (known_of log det) news) refl
 
-  -- it stays out where what is heard is not carried, and where it is logged
-  pub still_out : is_carried f heard ≡ false → out ++ rest ≡ chosen f (learned log det heard)
-  still_out never = stays (heard_out f (known_of log det) heard never)
+  -- it is not added if what is learned of it alone would not be carried
+  pub still_out : is_carried f news ≡ false → out ++ rest ≡ batch_items f (after_learn log det news)
+  still_out never = stays (heard_out f (known_of log det) news never)
 
-  -- a logged determinant that messages do not carry stays out, whatever is heard of it
-  pub logged_out : is_some (fin.get log det) ≡ true → out ++ rest ≡ chosen f (learned log det heard)
+  -- it is not added if it is logged, whatever is learned of it
+  pub logged_out : is_some (fin.get log det) ≡ true → out ++ rest ≡ batch_items f (after_learn log det news)
   logged_out there = grind (arith, stays, joined_out, out_known, none_there, in_rest)
 
-  -- and comes in where it is not logged
-  pub comes_in : is_some (fin.get log det) ≡ false → with_carried f det (joined nothing_known heard) out ++ rest ≡ chosen f (learned log det heard)
-  comes_in new = becomes (joined nothing_known heard) (grind arith)
+  -- it is added if it is not logged
+  pub comes_in : is_some (fin.get log det) ≡ false → with_carried f det (union_with unknown news) out ++ rest ≡ batch_items f (after_learn log det news)
+  comes_in new = becomes (union_with unknown news) (grind arith)
 
--- what is heard of determinants that messages do not carry, and of which they would carry none, changes nothing
-pub apart_carried : (f : ℕ) (from me : Pid) (kept items : List Item) (log : LogMap) → ((item : Item) → is_carried f (told from me item).1 ≡ false) → AreApart items kept → kept ≡ chosen f log → kept ≡ chosen f (absorbed items from me log)
+-- learning of determinants that messages do not carry, from items that would not be carried, changes nothing
+pub apart_carried : (f : ℕ) (from me : Pid) (kept items : List Item) (log : LogMap) → ((item : Item) → is_carried f (knowledge_from_item from me item).1 ≡ false) → AreDisjoint items kept → kept ≡ batch_items f log → kept ≡ batch_items f (after_absorb items from me log)
 apart_carried f from me kept [] log never apart is = is
 apart_carried f from me kept (x ∷ xs) log never apart is =
     let none : lookup (same_det x.det) (entries_of kept) ≡ None =
     none_found x.det kept (apart x.det (ap (λ b. b || list_any (same_det x.det) (dets_of xs)) (same_itself x.det))) in
-    apart_carried f from me kept xs (learned log x.det (told from me x).1) never
+    apart_carried f from me kept xs (after_learn log x.det (knowledge_from_item from me x).1) never
     (λ d there. apart d (or_right (same_det d x.det) (list_any (same_det d) (dets_of xs)) there))
-    (heard_now f log x.det (told from me x).1 [] kept is refl kept
+    (heard_now f log x.det (knowledge_from_item from me x).1 [] kept is refl kept
     (ap (λ ks. is_ascending (dets_of ks)) is ∙ chosen_ascend f log)
-    (none ∙ sym (ap (λ b. cond b (Some (joined (known_of log x.det) (told from me x).1)) None) (heard_out f (known_of log x.det) (told from me x).1 (never x))))
+    (none ∙ sym (ap (λ b. cond b (Some (union_with (known_of log x.det) (knowledge_from_item from me x).1)) None) (heard_out f (known_of log x.det) (knowledge_from_item from me x).1 (never x))))
     (λ q other. refl))
 
--- the items from a place on begin with the one that stands there
+-- the items from an index on begin with the item at that index
 pub drop_got : (xs : List Item) (i : ℕ) (x : Item) → slice_get xs i ≡ Some x → drop i xs ≡ x ∷ drop (i + 1) xs
 drop_got [] i x h = absurd (true≢false (sym (ap is_some h)))
 drop_got (y ∷ xs) zero x h = ap (λ o. unwrap_or o y ∷ xs) h
 drop_got (y ∷ xs) (suc i) x h = grind (arith, drop_got xs i x h)
 
--- an item that is found stands within the list
+-- an item's index is within the list
 pub got_within : (xs : List Item) (i : ℕ) (x : Item) → slice_get xs i ≡ Some x → i < length xs
 got_within [] i x h = absurd (true≢false (sym (ap is_some h)))
 got_within (y ∷ xs) zero x h = omega arith
 got_within (y ∷ xs) (suc i) x h = let k = got_within xs i x h in omega (arith, k)
 
--- what comes next is after a determinant that is none of it and before which nothing of it comes
+-- if no item before the next one, nor the next one, is of a determinant, the next one comes after it
 pub next_after : (kept : List Item) (place : ℕ) (det : Det) → is_ascending (dets_of (drop place kept)) ≡ true → IfSome (slice_get kept place) (λ item. is_before item.det det ≡ false)
     → IfSome (slice_get kept place) (λ item. same_det item.det det ≡ false) → is_ascending (det ∷ dets_of (drop place kept)) ≡ true
 next_after [] place det up low apart = ap (λ xs. is_ascending (det ∷ dets_of xs)) (drop_nothing place)
@@ -298,45 +298,45 @@ next_after [] place det up low apart = ap (λ xs. is_ascending (det ∷ dets_of 
 next_after (x ∷ xs) zero det up low apart = grind (arith, and_from, below, same_turned)
 next_after (x ∷ xs) (suc n) det up low apart = next_after xs n det up low apart
 
--- what was passed on comes before all that come after the determinant
+-- the copied items come before each determinant after this one
 pub before_later : (f : ℕ) (det : Det) (known : Known) (out : List Item) → is_ascending (dets_of out ++ det ∷ []) ≡ true → (d : Det) → is_before det d ≡ true → is_ascending (dets_of (with_carried f det known out) ++ d ∷ []) ≡ true
 before_later f det known out before d low = grind (arith, dets_append, append_assoc, glue, and_from, raise)
 
 module _ (f : ℕ) (items : List Item) (from me : Pid) (source : LogMap) where
-  -- before the first item, what is kept is what messages carry of the log
-  pub merged_none : (kept : List Item) → kept ≡ chosen f source → HasMerged f items items from me source [] kept
+  -- before the first item, what is left are the items that messages carry of the log
+  pub merged_none : (kept : List Item) → kept ≡ batch_items f source → IsMergeState f items items from me source [] kept
   merged_none kept is = record { log = source; carries = is; all = refl; same = λ q there. refl; before = λ x xs e. refl }
 
-  -- after the last item, what was passed on and what is kept is what messages carry
-  pub merged_all : (out kept : List Item) → HasMerged f items [] from me source out kept → out ++ kept ≡ chosen f (absorbed items from me source)
-  merged_all out kept h = h.carries ∙ ap (chosen f) h.all
+  -- after the last item, the copied items and the rest are what messages carry
+  pub merged_all : (out kept : List Item) → IsMergeState f items [] from me source out kept → out ++ kept ≡ batch_items f (after_absorb items from me source)
+  merged_all out kept h = h.carries ∙ ap (batch_items f) h.all
 
   first_named : (x : Item) (rest : List Item) → list_any (λ other. same_det x.det other.det) (x ∷ rest) ≡ true
   first_named x rest = ap (λ b. b || list_any (λ other. same_det x.det other.det) rest) (same_itself x.det)
 
-  -- one more item is taken in, once what comes before it was passed on
+  -- one more item is merged, once the items before it are copied
   pub merged_next : (x : Item) (rest out kept passed next later after : List Item) → is_ascending (dets_of (x ∷ rest)) ≡ true → passed ++ next ≡ out ++ kept
-      → ((log : LogMap) → is_some (fin.get log x.det) ≡ is_some (fin.get source x.det) → HearsNext f x.det (told from me x).1 log (passed ++ next) (later ++ after))
+      → ((log : LogMap) → is_some (fin.get log x.det) ≡ is_some (fin.get source x.det) → LearnsItem f x.det (knowledge_from_item from me x).1 log (passed ++ next) (later ++ after))
       → ((d : Det) → is_before x.det d ≡ true → is_ascending (dets_of later ++ d ∷ []) ≡ true)
-      → HasMerged f items (x ∷ rest) from me source out kept → HasMerged f items rest from me source later after
+      → IsMergeState f items (x ∷ rest) from me source out kept → IsMergeState f items rest from me source later after
   merged_next x rest out kept passed next later after ascend moved hears before h = record {
-    log = learned h.log x.det (told from me x).1;
+    log = after_learn h.log x.det (knowledge_from_item from me x).1;
     carries = hears h.log (ap is_some (h.same x.det (first_named x rest))) (moved ∙ h.carries);
     all = h.all;
     same = λ q there.
-        grind (arith, get_learned h.log x.det (told from me x).1 q, same_turned q x.det, before_apart x.det q, first_before x.det (dets_of rest) q ascend, any_map (λ other. other.det) (same_det q) (λ other. same_det q other.det) (λ other. refl) rest, h.same q);
+        grind (arith, get_learned h.log x.det (knowledge_from_item from me x).1 q, same_turned q x.det, before_apart x.det q, first_before x.det (dets_of rest) q ascend, any_map (λ other. other.det) (same_det q) (λ other. same_det q other.det) (λ other. refl) rest, h.same q);
     before = λ y ys e. before y.det (both (is_before x.det y.det) (is_ascending (y.det ∷ dets_of ys)) (ap (λ xs. is_ascending (dets_of (x ∷ xs))) (sym e) ∙ ascend)).0;
   }
 
--- the last of what messages carry ascend
-pub rest_ascends : (f : ℕ) (log : LogMap) (out rest : List Item) → out ++ rest ≡ chosen f log → is_ascending (dets_of rest) ≡ true
+-- the last of the items that messages carry ascend
+pub rest_ascends : (f : ℕ) (log : LogMap) (out rest : List Item) → out ++ rest ≡ batch_items f log → is_ascending (dets_of rest) ≡ true
 rest_ascends f log out rest is = back (dets_of out) (dets_of rest) (sym (ap is_ascending (dets_append out rest)) ∙ ap (λ xs. is_ascending (dets_of xs)) is ∙ chosen_ascend f log)
 
--- the rest of a list, as it is cut out
+-- the rest of a list, as a slice
 pub cut_rest : (xs : List Item) (n : ℕ) → take (length xs - n) (drop n xs) ≡ drop n xs
 cut_rest xs n = let len = length-drop n xs in take_all (length xs - n) (drop n xs) (omega (arith, len))
 
--- none of an ascending list comes before its first
+-- no element of an ascending list comes before its first
 not_sooner : (x : Det) (xs : List Det) (d : Det) → is_ascending (x ∷ xs) ≡ true → list_any (same_det d) (x ∷ xs) ≡ true → is_before d x ≡ true → ⊥
 not_sooner x xs d h there low = by (same_det d x) refl there
   where
@@ -344,7 +344,7 @@ not_sooner x xs d h there low = by (same_det d x) refl there
     by true is h2 = true≢false (sym low ∙ ap (λ y. is_before y x) (same_is d x is) ∙ not_itself x)
     by false is h2 = true≢false (sym (before_trans d x d low (first_before x xs d h h2)) ∙ not_itself d)
 
--- all that stand before the last of an ascending list come before it
+-- all elements before the last of an ascending list come before it
 ends_before : (xs : List Det) (e d : Det) → is_ascending (xs ++ e ∷ []) ≡ true → list_any (same_det d) xs ≡ true → is_before d e ≡ true
 ends_before [] e d h there = absurd (true≢false (sym there))
 ends_before (x ∷ xs) e d h there = by (same_det d x) refl there (ends_before xs e d (ascending_tail x (xs ++ e ∷ []) h))
@@ -353,7 +353,7 @@ ends_before (x ∷ xs) e d h there = by (same_det d x) refl there (ends_before x
     by true is h2 later = ap (λ y. is_before y e) (same_is d x is) ∙ first_before x (xs ++ e ∷ []) e h (last_there xs e)
     by false is h2 later = later h2
 
--- none of an ascending list comes after its last
+-- no element of an ascending list comes after its last
 none_after_last : (xs : List Det) (e d : Det) → is_ascending (xs ++ e ∷ []) ≡ true → list_any (same_det d) (xs ++ e ∷ []) ≡ true → is_before e d ≡ true → ⊥
 none_after_last xs e d h there low = by (list_any (same_det d) xs) refl (sym (list_any-append (same_det d) xs (e ∷ [])) ∙ there)
   where
@@ -361,7 +361,7 @@ none_after_last xs e d h there low = by (list_any (same_det d) xs) refl (sym (li
     by true is h2 = true≢false (sym (before_trans d e d (ends_before xs e d h is) low) ∙ not_itself d)
     by false is h2 = true≢false (sym low ∙ ap (is_before e) (same_is d e (or_nothing (same_det d e) ∙ h2)) ∙ not_itself e)
 
--- the items from a place on ascend
+-- the items from an index on ascend
 pub drop_ascends : (xs : List Item) (n : ℕ) → is_ascending (dets_of xs) ≡ true → is_ascending (dets_of (drop n xs)) ≡ true
 drop_ascends xs n h = grind (arith, back, dets_append (take n xs) (drop n xs), take-append-drop n xs)
 
@@ -375,9 +375,9 @@ ends_with xs x there =
     ∙ ap (λ ys. dets_of (take last xs ++ ys)) (sym (drop_got xs last x there))
     ∙ ap (λ ys. dets_of ys) (take-append-drop last xs)
 
--- items that come after all items before a place, and before the one that stands there, are none of them
+-- items between two neighbours of a list are none of that list
 pub apart_between : (items kept : List Item) (first last : Item) (place : ℕ) → is_ascending (dets_of items) ≡ true → slice_get items 0 ≡ Some first → slice_get items (length items - 1) ≡ Some last
-    → is_ascending (dets_of (take place kept) ++ first.det ∷ []) ≡ true → is_ascending (last.det ∷ dets_of (drop place kept)) ≡ true → AreApart items kept
+    → is_ascending (dets_of (take place kept) ++ first.det ∷ []) ≡ true → is_ascending (last.det ∷ dets_of (drop place kept)) ≡ true → AreDisjoint items kept
 apart_between items kept first last place ascend begins ends before after d there =
     sym (ap (λ ys. list_any (same_det d) (dets_of ys)) (take-append-drop place kept))
     ∙ ap (list_any (same_det d)) (dets_append (take place kept) (drop place kept))
@@ -396,7 +396,7 @@ apart_between items kept first last place ascend begins ends before after d ther
 pub named_at : (xs : List Item) (n : ℕ) (x : Item) (det : Det) → slice_get xs n ≡ Some x → x.det ≡ det → names_det det xs ≡ true
 named_at xs n x det there same = grind (arith, take-append-drop n xs, drop_got xs n x there, list_any-append, or_right, same_itself det)
 
--- one that comes after all items before a place and before all from it on is not
+-- a determinant after all items before an index, and before all items from it on, is not named
 pub unnamed_at : (xs : List Item) (n : ℕ) (det : Det) → is_ascending (dets_of (take n xs) ++ det ∷ []) ≡ true → is_ascending (det ∷ dets_of (drop n xs)) ≡ true → names_det det xs ≡ false
 unnamed_at xs n det before after =
     sym (any_map (λ item. item.det) (same_det det) (λ item. same_det det item.det) (λ item. refl) xs)
@@ -405,65 +405,65 @@ unnamed_at xs n det before after =
     ∙ list_any-append (same_det det) (dets_of (take n xs)) (dets_of (drop n xs))
     ∙ or_from (list_any (same_det det) (dets_of (take n xs))) (list_any (same_det det) (dets_of (drop n xs))) (none_front (dets_of (take n xs)) det before) (none_back det (dets_of (drop n xs)) after)
 
--- what is put in where one was taken out stands between what came before it and after it
+-- an item inserted where one was removed is between its neighbours
 pub in_its_place : (f : ℕ) (det : Det) (known : Known) (xs : List Item) (n : ℕ) → n ≤ length xs
     → with_carried f det known (take n (take n xs ++ drop (suc n) xs)) ++ drop n (take n xs ++ drop (suc n) xs) ≡ with_carried f det known (take n xs) ++ drop (n + 1) xs
 in_its_place f det known xs n within = grind (arith, length-take-le n xs within, take-append_seam, drop-append_seam)
 
--- the own determinant comes to what messages carry of a log, at the first item that does not come before it
-module _ (f : ℕ) (log : LogMap) (own : Det) (heard : Known) (xs : List Item) (place : ℕ) (is : xs ≡ chosen f log) (before : is_ascending (dets_of (take place xs) ++ own ∷ []) ≡ true) (next : IfSome (slice_get xs place) (λ item. is_before item.det own ≡ false)) where
-  split : take place xs ++ drop place xs ≡ chosen f log
+-- the own determinant is added at the first item that does not come before it
+module _ (f : ℕ) (log : LogMap) (own : Det) (news : Known) (xs : List Item) (place : ℕ) (is : xs ≡ batch_items f log) (before : is_ascending (dets_of (take place xs) ++ own ∷ []) ≡ true) (next : IfSome (slice_get xs place) (λ item. is_before item.det own ≡ false)) where
+  split : take place xs ++ drop place xs ≡ batch_items f log
   split = take-append-drop place xs ∙ is
 
   after_own : IfSome (slice_get xs place) (λ item. same_det item.det own ≡ false) → is_ascending (own ∷ dets_of (drop place xs)) ≡ true
   after_own apart = next_after xs place own (rest_ascends f log (take place xs) (drop place xs) split) next apart
 
-  -- it is there with what more is known of it, if messages carry that
-  pub own_met : (item : Item) → slice_get xs place ≡ Some item → item.det ≡ own → with_carried f own (joined (known_of_item item) heard) (take place xs) ++ drop (place + 1) xs ≡ chosen f (learned log own heard)
+  -- an item of it is replaced by what is known afterwards, if that is carried
+  pub own_met : (item : Item) → slice_get xs place ≡ Some item → item.det ≡ own → with_carried f own (union_with (known_of_item item) news) (take place xs) ++ drop (place + 1) xs ≡ batch_items f (after_learn log own news)
   own_met item there same = grind (arith, met, drop_got, split)
 
-  -- it stays out where it is logged
-  pub own_out : IfSome (slice_get xs place) (λ item. same_det item.det own ≡ false) → is_some (fin.get log own) ≡ true → xs ≡ chosen f (learned log own heard)
+  -- it is not added if it is logged
+  pub own_out : IfSome (slice_get xs place) (λ item. same_det item.det own ≡ false) → is_some (fin.get log own) ≡ true → xs ≡ batch_items f (after_learn log own news)
   own_out apart there = grind (arith, take-append-drop, logged_out, split, after_own)
 
-  -- and is new elsewhere
-  pub own_in : IfSome (slice_get xs place) (λ item. same_det item.det own ≡ false) → is_some (fin.get log own) ≡ false → with_carried f own (joined nothing_known heard) (take place xs) ++ drop place xs ≡ chosen f (learned log own heard)
-  own_in apart new = comes_in f log own heard (take place xs) (drop place xs) split before (after_own apart) new
+  -- otherwise it is added
+  pub own_in : IfSome (slice_get xs place) (λ item. same_det item.det own ≡ false) → is_some (fin.get log own) ≡ false → with_carried f own (union_with unknown news) (take place xs) ++ drop place xs ≡ batch_items f (after_learn log own news)
+  own_in apart new = comes_in f log own news (take place xs) (drop place xs) split before (after_own apart) new
 
--- a filter of determinants leaves ascending items of what messages carry
+-- a filter by determinants of the items that messages carry leaves ascending items
 kept_items : (p : Det → Bool) (q : Det × Known → Bool) (es : List (Det × Known)) → filter (λ item. p item.det) (map item_of (filter q es)) ≡ map item_of (filter (λ e. q e && p e.0) es)
 kept_items p q [] = refl
 kept_items p q (e ∷ es) = grind (arith, kept_items p q es)
 
-open_ascend : (f : ℕ) (log other : LogMap) → is_ascending (dets_of (open_in other (chosen f log))) ≡ true
+open_ascend : (f : ℕ) (log other : LogMap) → is_ascending (dets_of (open_items_of other (batch_items f log))) ≡ true
 open_ascend f log other = grind (arith, kept_items (is_open other) (λ e. is_carried f e.1) (fin.entries log), dets_of_items, filter_ascends (λ e. is_carried f e.1 && is_open other e.0) log)
 
 open_entries : (p : Det → Bool) (items : List Item) → entries_of (filter (λ item. p item.det) items) ≡ filter (λ e. p e.0) (entries_of items)
 open_entries p [] = refl
 open_entries p (i ∷ items) = grind (arith, open_entries p items)
 
-found_open : (f : ℕ) (log other : LogMap) (q : Det) → lookup (same_det q) (entries_of (open_in other (chosen f log))) ≡ cond (is_open other q) (carried_of f (fin.get log q)) None
-found_open f log other q = grind (arith, open_entries (is_open other) (chosen f log), lookup-filter-keys, same_is, found_chosen f log q)
+found_open : (f : ℕ) (log other : LogMap) (q : Det) → lookup (same_det q) (entries_of (open_items_of other (batch_items f log))) ≡ cond (is_open other q) (carried_of f (fin.get log q)) None
+found_open f log other q = grind (arith, open_entries (is_open other) (batch_items f log), lookup-filter-keys, same_is, found_chosen f log q)
 
 abbrev open_of : Option Known → Bool
 open_of o = option_map_or (λ known. not known.stable) o false
 
--- what messages carry is open
+-- what messages carry is logged and not known to be stable
 carried_open : (f : ℕ) (o : Option Known) → cond (open_of o) (carried_of f o) None ≡ carried_of f o
 carried_open f None = refl
 carried_open f (Some known) = grind arith
 
--- marked or not, messages carry of a log once a determinant is marked what is open of what they carried
+-- whether a determinant is marked or not, messages then carry what is open of what they carried
 marked_open : (f : ℕ) (b : Bool) (o : Option Known) → cond (open_of (cond b (option_map as_stable o) o)) (carried_of f o) None ≡ carried_of f (cond b (option_map as_stable o) o)
 marked_open f true None = refl
 marked_open f true (Some known) = refl
 marked_open f false o = carried_open f o
 
-pub chosen_marked : (f : ℕ) (log : LogMap) (det : Det) → open_in (marked log det) (chosen f log) ≡ chosen f (marked log det)
-chosen_marked f log det = grind (arith, recognized, open_ascend f log (marked log det), found_open, get_marked, marked_open)
+pub chosen_marked : (f : ℕ) (log : LogMap) (det : Det) → open_items_of (after_mark log det) (batch_items f log) ≡ batch_items f (after_mark log det)
+chosen_marked f log det = grind (arith, recognized, open_ascend f log (after_mark log det), found_open, get_marked, marked_open)
 
--- open is what is open in both
-open_twice : (log other : LogMap) (items : List Item) → ((q : Det) → is_open other q ≡ true → is_open log q ≡ true) → open_in other (open_in log items) ≡ open_in other items
+-- items that are open in one log and then in another are open in both
+open_twice : (log other : LogMap) (items : List Item) → ((q : Det) → is_open other q ≡ true → is_open log q ≡ true) → open_items_of other (open_items_of log items) ≡ open_items_of other items
 open_twice log other [] h = refl
 open_twice log other (i ∷ items) h = grind (arith, open_twice log other items h)
 
@@ -472,29 +472,29 @@ marked_was_open true None h = h
 marked_was_open true (Some known) h = absurd (true≢false (sym h))
 marked_was_open false o h = h
 
--- a batch goes on being what messages still carry, once a determinant is marked
-pub carried_marked : (f : ℕ) (items : List Item) (is_marked : Bool) (log : LogMap) (det : Det) → cond is_marked (open_in log items) items ≡ chosen f log → open_in (marked log det) items ≡ chosen f (marked log det)
+-- after a mark, the cached batch without its marked items is what messages carry
+pub carried_marked : (f : ℕ) (items : List Item) (is_marked : Bool) (log : LogMap) (det : Det) → cond is_marked (open_items_of log items) items ≡ batch_items f log → open_items_of (after_mark log det) items ≡ batch_items f (after_mark log det)
 carried_marked f items true log det is = grind (arith, open_twice, marked_was_open, get_marked, chosen_marked)
-carried_marked f items false log det is = ap (open_in (marked log det)) is ∙ chosen_marked f log det
+carried_marked f items false log det is = ap (open_items_of (after_mark log det)) is ∙ chosen_marked f log det
 
--- so does what a log keeps
-pub carries_marked : (kept : Option Carried) (log : LogMap) (det : Det) → Carries kept log → Carries (option_map as_marked kept) (marked log det)
+-- after a mark, the cache is still right
+pub carries_marked : (kept : Option CachedBatch) (log : LogMap) (det : Det) → CacheIsRight kept log → CacheIsRight (option_map cache_after_mark kept) (after_mark log det)
 carries_marked None log det is = is
 carries_marked (Some k) log det is = carried_marked k.f (arc_value k.batch) k.is_marked log det is
 
--- holders that are known add nothing
+-- a union with holders that are known adds nothing
 holders_in : (s t : set.FinSet nat_cmp) → set.is_subset s t ≡ true → set.union t s ≡ t
 holders_in s t h = set.same_set nat_cmp_total set.nat_cmp-IsAntisymmetric _ _ (λ q. grind (arith, set.contains-union, nat_cmp_total, set.is_subset-contains nat_cmp_total s t h q))
 
--- a log learns nothing from holders that it knows
-pub learned_known : (log : LogMap) (det : Det) (heard : Known) → heard.stable ≡ false → are_known_to_hold log det heard.holders ≡ true → learned log det heard ≡ log
-learned_known log det heard plain = by (fin.get log det) refl
+-- learning of holders that are known changes nothing
+pub learned_known : (log : LogMap) (det : Det) (news : Known) → news.stable ≡ false → are_known_to_hold log det news.holders ≡ true → after_learn log det news ≡ log
+learned_known log det news plain = by (fin.get log det) refl
   where
-    by : (o : Option Known) → fin.get log det ≡ o → option_map_or (λ known. set.is_subset heard.holders known.holders) o false ≡ true → learned log det heard ≡ log
+    by : (o : Option Known) → fin.get log det ≡ o → option_map_or (λ known. set.is_subset news.holders known.holders) o false ≡ true → after_learn log det news ≡ log
     by None is h = absurd (true≢false (sym h))
-    by (Some known) is h = fin.same_map dets_total exact_dets (learned log det heard) log (λ q. grind (arith, get_learned log det heard q, holders_in heard.holders known.holders h, same_is q det))
+    by (Some known) is h = fin.same_map dets_total exact_dets (after_learn log det news) log (λ q. grind (arith, get_learned log det news q, holders_in news.holders known.holders h, same_is q det))
 
--- nor from a message of whose items it knows all that they tell
-pub absorbed_known : (from me : Pid) (items : List Item) (log : LogMap) → list_all (λ item. are_known_to_hold log item.det (told from me item).1.holders) items ≡ true → absorbed items from me log ≡ log
+-- absorbing items whose holders are all known changes nothing
+pub absorbed_known : (from me : Pid) (items : List Item) (log : LogMap) → list_all (λ item. are_known_to_hold log item.det (knowledge_from_item from me item).1.holders) items ≡ true → after_absorb items from me log ≡ log
 absorbed_known from me [] log h = refl
-absorbed_known from me (x ∷ xs) log h = grind (arith, learned_known log x.det (told from me x).1 refl, absorbed_known from me xs log)
+absorbed_known from me (x ∷ xs) log h = grind (arith, learned_known log x.det (knowledge_from_item from me x).1 refl, absorbed_known from me xs log)

@@ -19,11 +19,11 @@ use Rattle.causal_name.specs.declared.Det.{Det}
 use Rattle.causal_name.specs.Names.{det_cmp, same_det, is_before, is_ascending}
 use Rattle.causal_name.proofs.Lemmas.DetOrder.{dets_total, exact_dets, det_ties, same_is, same_itself}
 use Rattle.causal_log.specs.declared.known.Known.{Known}
-use Rattle.causal_log.specs.Knowledge.{nothing_known, joined}
-use Rattle.causal_log.specs.Logs.{LogMap, learned_all}
+use Rattle.causal_log.specs.Knowledge.{unknown, union_with}
+use Rattle.causal_log.specs.Logs.{LogMap, after_learn_all}
 use Rattle.causal_log.specs.Inside.Ranks.{has_rank}
 use Rattle.causal_log.proofs.EntryLemmas.{det_equiv, find_lookup, get_log, same_log, strict, nothing, not_itself, not_after}
-use Rattle.causal_log.proofs.IndexLemmas.{stands}
+use Rattle.causal_log.proofs.LeastLemmas.{index_of_member}
 use Rattle.causal_log.proofs.Lemmas.Ascents.{ascending_tail, ascending_skip, first_before, map_ascends}
 use Rattle.causal_log.proofs.Lemmas.KnowledgeGrows.{get_learned}
 use Rattle.causal_log.proofs.Lemmas.LogLists.{place_shown}
@@ -35,7 +35,7 @@ none_later d [] h = refl
 none_later d (e ∷ es) h = ap (λ b. cond b (Some e.1) (lookup (same_det d) es)) h.0 ∙ none_later d es h.1
 
 module _ {X : Type 0} where
-  -- the entries in the order of the map that they make
+  -- the entries, sorted as in the map that they make
   abbrev pub in_order : List (Det × X) → List (Det × X)
   in_order es = fin.entries (fin.from_entries {R = det_cmp} es)
 
@@ -44,11 +44,11 @@ module _ {X : Type 0} where
       let ds = keys_of (in_order es) in
       subst (λ r. IsDistinct r ds) (sym (λ i x y. det_ties x y i)) (IsDistinct-from_sorted det_cmp ds (strict ds (map_ascends (fin.from_entries {R = det_cmp} es))))
 
-  -- each is found as before
+  -- a look-up in sorted entries returns what it returned before
   pub found_order : (es : List (Det × X)) (q : Det) → lookup (same_det q) (in_order es) ≡ lookup (same_det q) es
   found_order es q = sym (find_lookup (in_order es) q) ∙ sym (fin.get-entries (fin.from_entries {R = det_cmp} es) q) ∙ get_log es q
 
-  -- and there are none but these
+  -- the sorted entries have the same determinants
   pub same_members : (es : List (Det × X)) (q : Det) → list_any (same_det q) (keys_of es) ≡ list_any (same_det q) (keys_of (in_order es))
   same_members es q = grind (arith, is_some-lookup (same_det q) es, found_order es q, is_some-lookup)
 
@@ -65,7 +65,7 @@ module _ {X : Type 0} where
           (IsPermutation-swap (e ∷ f ∷ es) (f ∷ e ∷ es) 0 1 (omega arith) (omega arith) refl)
           (IsPermutation-cons f (e ∷ es) (put det_cmp e.0 e.1 es) (later none))
 
-  -- where each is there once, they only changed places
+  -- distinct entries and their sorted list are permutations of each other
   moved_order : (es : List (Det × X)) → IsDistinct same_det (keys_of es) → IsPermutation es (in_order es)
   unfolding IsDistinct
   moved_order [] distinct = subst (IsPermutation []) (sym nothing) (IsPermutation-refl [])
@@ -75,42 +75,42 @@ module _ {X : Type 0} where
       (put_moved e (in_order es) (find_lookup (in_order es) e.0 ∙ found_order es e.0 ∙ none_later e.0 es distinct.0)))
 
   module _ (es : List (Det × X)) (distinct : IsDistinct same_det (keys_of es)) where
-    -- in the order of the map that they make there are as many entries
+    -- the sorted list has as many entries
     pub same_length : length es ≡ length (in_order es)
     same_length = sym (length_permutation es (in_order es) (moved_order es distinct))
 
-    -- as many pass a test of what stands at the determinants, and they make the same map
+    -- as many sorted entries pass a test of their values
     pub same_count : (P : X → Bool) → length (filter (λ e. P e.1) es) ≡ length (filter (λ e. P e.1) (in_order es))
     same_count P = grind (arith, length-filter, sum_by-IsPermutation, moved_order)
 
-    -- those entries that pass a test make the same map in either order
+    -- the sorted entries that pass a test make the same map
     pub same_kept : (P : X → Bool) → fin.from_entries {R = det_cmp} (filter (λ e. P e.1) es) ≡ fin.from_entries (filter (λ e. P e.1) (in_order es))
     same_kept P = same_log (filter (λ e. P e.1) es) (filter (λ e. P e.1) (in_order es)) (λ q.
         grind (arith, lookup-filter-values det_equiv P q es distinct, lookup-filter-values det_equiv P q (in_order es) (order_distinct es), found_order es q))
 
-    -- and as many a test of the determinants
+    -- as many determinants pass a test
     pub same_counted : (P : Det → Bool) → count_by P (keys_of es) ≡ count_by P (keys_of (in_order es))
     same_counted P = grind (arith, sum_by-IsPermutation, IsPermutation-map, moved_order)
 
--- what is known of a determinant once this is heard of it
+-- what is known of a determinant once this is learned of it
 abbrev heard_at : Option Known → Option Known → Option Known
 heard_at None o = o
-heard_at (Some known) o = Some (joined (unwrap_or o nothing_known) known)
+heard_at (Some known) o = Some (union_with (unwrap_or o unknown) known)
 
-get_all : (es : List (Det × Known)) (log : LogMap) (q : Det) → IsDistinct same_det (keys_of es) → fin.get (learned_all es log) q ≡ heard_at (lookup (same_det q) es) (fin.get log q)
+get_all : (es : List (Det × Known)) (log : LogMap) (q : Det) → IsDistinct same_det (keys_of es) → fin.get (after_learn_all es log) q ≡ heard_at (lookup (same_det q) es) (fin.get log q)
 unfolding IsDistinct
 get_all [] log q distinct = refl
 get_all (e ∷ es) log q distinct = grind (arith, get_all es, get_learned, same_is, none_later)
 
--- entries are learned in any order alike
-pub same_learned : (es : List (Det × Known)) (log : LogMap) → IsDistinct same_det (keys_of es) → learned_all es log ≡ learned_all (in_order es) log
+-- the order in which entries are learned does not matter
+pub same_learned : (es : List (Det × Known)) (log : LogMap) → IsDistinct same_det (keys_of es) → after_learn_all es log ≡ after_learn_all (in_order es) log
 same_learned es log distinct = fin.same_map dets_total exact_dets _ _ (λ q. grind (arith, get_all, found_order, order_distinct es))
 
 none_before : (d : Det) (ds : List Det) → is_ascending (d ∷ ds) ≡ true → length (filter (λ x. is_before x d) ds) ≡ 0
 none_before d [] h = refl
 none_before d (e ∷ ds) h = grind (arith, none_before d ds, both, not_after, ascending_skip)
 
--- of an ascending list, as many come before one as its place says
+-- in an ascending list, as many elements come before one as its index
 rank_at : (ds : List Det) (i : ℕ) (d : Det) → is_ascending ds ≡ true → slice_get ds i ≡ Some d → length (filter (λ x. is_before x d) ds) ≡ i
 rank_at [] i d h at = absurd (true≢false (sym (ap is_some at)))
 rank_at (e ∷ ds) zero d h at = grind (arith, not_itself, none_before)
@@ -122,12 +122,12 @@ number_is a b h = grind (arith, nat_tests)
 same_number : (a b : ℕ) → a ≡ b → (a == b) ≡ true
 same_number a b h = grind (arith, nat_tests)
 
--- a determinant, where there is one, with what is known of it
+-- a determinant, if there is one, with what is known of it
 abbrev pub with_known : LogMap → Option Det → Option (Det × Known)
 with_known log None = None
 with_known log (Some d) = option_map (λ known. (d, known)) (fin.get log d)
 
--- as many determinants pass a test as there are entries whose determinants do
+-- as many determinants pass a test as entries whose determinants pass it
 count_keys : (P : Det → Bool) (es : List (Det × Known)) → length (filter P (keys_of es)) ≡ length (filter (λ e. P e.0) es)
 count_keys P [] = refl
 count_keys P (e ∷ es) = grind (arith, count_keys P es)
@@ -147,7 +147,7 @@ module _ (es : List (Det × Known)) (distinct : IsDistinct same_det (keys_of es)
         rank_at keys i d (map_ascends (fin.from_entries {R = det_cmp} es)) at,
       )
 
-  -- the determinant that so many come before is the one at that place of the map
+  -- the determinant of rank n is the one at index n of the map
   ranked_key : (n : ℕ) → find (λ d. has_rank es n d) (keys_of es) ≡ slice_get keys n
   ranked_key n = by (find (λ d. has_rank es n d) (keys_of es)) refl (slice_get keys n) refl
     where
@@ -158,11 +158,11 @@ module _ (es : List (Det × Known)) (distinct : IsDistinct same_det (keys_of es)
           absurd (true≢false (sym (same_number (length (filter (λ x. is_before x.0 d) es)) n (rank_order n d at)) ∙ none_fits (λ x. has_rank es n x) (keys_of es) d none there))
       by (Some d) found r at =
           let two = first_fits (λ x. has_rank es n x) (keys_of es) d found in
-          let there = stands d keys (sym (same_members es d) ∙ two.1) in
+          let there = index_of_member d keys (sym (same_members es d) ∙ two.1) in
           let place = sym (rank_order there.0 d there.1) ∙ number_is (length (filter (λ x. is_before x.0 d) es)) n two.0 in
           sym there.1 ∙ ap (slice_get keys) place ∙ at
 
-  -- with what is known of it, it is the entry there
+  -- with what is known of it, the determinant of rank n is the entry at index n
   pub ranked_entry : (n : ℕ) → with_known (fin.from_entries es) (find (λ d. has_rank es n d) (keys_of es)) ≡ slice_get (in_order es) n
   ranked_entry n = ap (with_known (fin.from_entries es)) (ranked_key n ∙ slice_get-map (λ e. e.0) (in_order es) n) ∙ by (slice_get (in_order es) n) refl
     where

@@ -1,11 +1,11 @@
--- Lemmas of which the tactic of a file of functions is told, beside the library's.
+-- Rule sets: the lemmas that the tactic of each source file uses, besides the library's.
 use Rattle.std.proofs.lemmas.Bool.{ltb-false}
 use Rattle.std.proofs.lemmas.List.{append_assoc, drop_more, length_push}
 use Rattle.std.proofs.lemmas.Map.Entries.{length-keys_of}
 use Rattle.std.proofs.lemmas.Result.{IfOk-weaker}
 use Rattle.std.specs.FinMap as fin
 use Rattle.causal_log.proofs.EntryLemmas.{own_entries}
-use Rattle.causal_log.proofs.IndexLemmas.{no_index, none_least, least_first}
+use Rattle.causal_log.proofs.LeastLemmas.{least_first}
 use Rattle.causal_log.proofs.KnownLemmas.{joined_nothing, told_both, told_out}
 use Rattle.causal_log.proofs.Lemmas.KnowledgeGrows.{absorbed_logged, absorbed_holders, absorbed_stable, absorbed_size, get_learned, size_one, united_logged, united_holders, united_stable, united_size}
 use Rattle.causal_log.proofs.Lemmas.Ascents.{map_ascends}
@@ -19,8 +19,6 @@ use Rattle.causal_log.proofs.TableLemmas.{none_distinct}
 
 pub ruleset of_batch = (named_at, next_after, drop_ascends)
 
-pub ruleset of_index = (length-keys_of)
-
 pub ruleset of_laws = (absorbed_logged, absorbed_holders, absorbed_stable, absorbed_size, get_learned, size_one, united_logged, united_holders, united_stable, united_size, get_marked, get_unmarked, chosen_ascend, carried_dets, carried_holders, left_out)
 
 pub ruleset of_lists = (keys_logged, stable_ascends, stable_listed, unstable_ascends, unstable_listed, stable_and_unstable, unmarked_keys, map_ascends, listed, stored, none_stored)
@@ -31,4 +29,4 @@ pub ruleset of_merging = (chosen_ascend, append_assoc, part_and_rest, part_passe
 
 pub ruleset of_store = (sorted_list, count_list, some_of, has_there, with_member, set_push, length-keys_of)
 
-pub ruleset of_table = (IfOk-weaker, own_entries, joined_nothing, drop_more, told_both, length_push, length-keys_of, none_distinct, no_index, none_least)
+pub ruleset of_table = (IfOk-weaker, own_entries, joined_nothing, drop_more, told_both, length_push, length-keys_of, none_distinct)

@@ -1,6 +1,6 @@
--- What a look-up finds after an entry was added, or the value of one was changed.
-use Rattle.std.proofs.Common.{ℕ, zero, suc, ◌≡◌, ◌∙◌, ◌+◌, ◌<◌, Bool, true, false, cond, get_or, List, [], ◌∷◌, ◌++◌, take, Some, None, is_some, unwrap_or, slice_get, set, length, true≢false, refl, sym, ap, subst, arith}
-use Rattle.std.proofs.lemmas.List.{map-append, map_more}
+-- What a look-up returns after an entry was added or its value changed.
+use Rattle.std.proofs.Common.{ℕ, zero, suc, ◌≡◌, ◌∙◌, Bool, true, false, cond, get_or, List, [], ◌∷◌, ◌++◌, Some, None, is_some, unwrap_or, slice_get, set, length, true≢false, refl, sym, ap, subst, arith}
+use Rattle.std.proofs.lemmas.List.{map-append}
 use Rattle.std.proofs.lemmas.List.Edits.{insert_end}
 use Rattle.std.proofs.lemmas.Map.{lookup-insert, none_passes_from_lookup}
 use Rattle.std.proofs.lemmas.Map.Made.{is_some-lookup}
@@ -8,16 +8,13 @@ use Rattle.std.proofs.lemmas.Option.{get_or_from_slice_get}
 use Rattle.std.specs.List.{AllByRecursion, IsDistinct, list_any}
 use Rattle.std.specs.Map.{lookup, keys_of}
 use Rattle.causal_name.specs.declared.Det.{Det}
-use Rattle.causal_name.specs.declared.Slot.{Slot}
-use Rattle.causal_name.specs.Names.{same_det, slot_of}
+use Rattle.causal_name.specs.Names.{same_det}
 use Rattle.causal_name.proofs.Lemmas.DetOrder.{same_is}
-use Rattle.causal_log.specs.declared.index.Index.{Index}
-use Rattle.causal_log.specs.Inside.Indexes.{IsIndexOf}
 use Rattle.causal_log.proofs.EntryLemmas.{det_equiv}
 use Rattle.causal_log.proofs.Lemmas.Searches.{same_turned}
 
 module _ {V : Type 0} where
-  -- with an entry of a new determinant, that is found, and all others as before
+  -- after an entry of a new determinant is added, a look-up finds it, and all others as before
   pub lookup_push : (es : List (Det × V)) (d : Det) (v : V) → lookup (same_det d) es ≡ None
       → (q : Det) → lookup (same_det q) (es ++ (d, v) ∷ []) ≡ cond (same_det d q) (Some v) (lookup (same_det q) es)
   lookup_push es d v none q = grind (arith, insert_end es (d, v), lookup-insert det_equiv d v q es (length es) (none_passes_from_lookup (same_det d) es none))
@@ -27,7 +24,7 @@ module _ {V : Type 0} where
   all_at P (e ∷ es) zero d v all at = subst P (ap (λ o. (unwrap_or o e).0) at) all.0
   all_at P (e ∷ es) (suc i) d v all at = all_at P es i d v all.1 at
 
-  -- with another value at the place of a determinant, that is found, and all others as before
+  -- after the value of an entry is changed, a look-up returns it, and all others as before
   pub lookup_set : (es : List (Det × V)) (i : ℕ) (d : Det) (was v : V) → IsDistinct same_det (keys_of es) → slice_get es i ≡ Some (d, was)
       → (q : Det) → lookup (same_det q) (set es i (d, v)) ≡ cond (same_det d q) (Some v) (lookup (same_det q) es)
   unfolding IsDistinct
@@ -41,32 +38,31 @@ module _ {V : Type 0} where
       by apart later true is = sym (ap (λ b. cond b (Some v) (Some e.1)) (ap (same_det d) (same_is q e.0 is) ∙ same_turned d e.0 ∙ apart))
       by apart later false is = later
 
-  -- one more entry is one more determinant
+  -- one more entry adds one determinant to the keys
   pub keys_push : (es : List (Det × V)) (d : Det) (v : V) → keys_of (es ++ (d, v) ∷ []) ≡ keys_of es ++ d ∷ []
   keys_push es d v = map-append (λ e. e.0) es ((d, v) ∷ [])
 
-  -- nothing is found for a determinant that no entry has
+  -- a look-up of a determinant without entry returns nothing
   pub lookup_missing : (es : List (Det × V)) (d : Det) → list_any (same_det d) (keys_of es) ≡ false → lookup (same_det d) es ≡ None
   lookup_missing es d h = grind (arith, is_some-lookup (same_det d) es)
 
-  -- the determinant that is read at a place, written back beside another value, leaves the keys
+  -- replacing the value of the entry at an index leaves the keys unchanged
+  pub keys_set : (es : List (Det × V)) (i : ℕ) (x : Det × V) (v : V) → slice_get es i ≡ Some x → keys_of (set es i (x.0, v)) ≡ keys_of es
+  keys_set [] i x v at = refl
+  keys_set (e ∷ es) zero x v at = ap (λ o. (unwrap_or o x).0 ∷ keys_of es) (sym at)
+  keys_set (e ∷ es) (suc i) x v at = ap (λ ds. e.0 ∷ ds) (keys_set es i x v at)
+
+  -- writing an entry back with its own determinant and another value leaves the keys unchanged
   pub keys_read : (es : List (Det × V)) (i : ℕ) (x : Det × V) (v : V) → x ≡ get_or es i x → keys_of (set es i (x.0, v)) ≡ keys_of es
   keys_read [] i x v read = refl
   keys_read (e ∷ es) zero x v read = ap (λ y. y.0 ∷ keys_of es) read
   keys_read (e ∷ es) (suc i) x v read = ap (λ ds. e.0 ∷ ds) (keys_read es i x v read)
 
-  -- the entry that is read at a place is the one that stands there
+  -- the entry read at an index is the entry there
   pub read_is : (es : List (Det × V)) (i : ℕ) (x : Det × V) (d : Det) (was : V) → slice_get es i ≡ Some (d, was) → x ≡ get_or es i x → x ≡ (d, was)
   read_is es i x d was at read = read ∙ get_or_from_slice_get es i (d, was) x at
 
--- no determinant stands twice in no entries
+-- an empty list is distinct
 pub none_distinct : IsDistinct same_det []
 unfolding IsDistinct
 none_distinct = tt
-
--- an index of the first i entries, and one more of the slot of the next one, is an index of one further
-pub one_further : {V : Type 0} (es : List (Det × V)) (i : ℕ) (x : Det × V) (slot : Slot) (index more : Index) → i < length es → x ≡ get_or es i x → slot ≡ slot_of x.0
-    → ((d : Det) → slot_of d ≡ slot → (ds : List Det) → IsIndexOf ds index → IsIndexOf (ds ++ d ∷ []) more)
-    → IsIndexOf (keys_of (take i es)) index → IsIndexOf (keys_of (take (i + 1) es)) more
-one_further es i x slot index more low read is adds known =
-    subst (λ ds. IsIndexOf ds more) (sym (map_more (λ e. e.0) es i x low ∙ ap (λ y. keys_of (take i es) ++ y.0 ∷ []) (sym read))) (adds x.0 (sym is) (keys_of (take i es)) known)

@@ -1,6 +1,5 @@
--- What only models and private functions cite.
-pub mod Carried
-pub mod Indexes
+-- Definitions that only models and private functions cite.
+pub mod BatchCache
 pub mod Merges
 pub mod Ranks
 pub mod Tables

@@ -1,5 +1,5 @@
--- What a process knows of a determinant: which processes hold it in volatile memory, and whether it is in stable storage
--- (`Log(e)` and `Stable(e)` of Elnozahy, Alvisi, Wang and Johnson 2002, as far as that process has heard).
+-- What a process knows of a determinant: its holders, and whether it is stable.
+-- After `Log(e)` and `Stable(e)` of Elnozahy, Alvisi, Wang and Johnson 2002, as far as the process knows them.
 use Rattle.std.specs.Prelude.{ℕ, Bool, true, false, not, ◌&&◌, ◌||◌, nat_le, refl}
 use Rattle.std.specs.Ordering.{nat_cmp}
 use Rattle.std.specs.FinSet as set
@@ -9,35 +9,35 @@ use Rattle.causal_name.specs.declared.Pid.{Pid}
 use Rattle.causal_log.specs.declared.known.Known.{Known}
 use Rattle.causal_log.specs.declared.batch.Item.{Item}
 
--- that no process holds it and it is not stable: what is known of a determinant before anything is heard of it
-abbrev pub nothing_known : Known
-nothing_known = record { holders = set.empty; stable = false }
+-- no holders, and not stable: what is known of a determinant that is not logged
+abbrev pub unknown : Known
+unknown = record { holders = set.empty; stable = false }
 
--- that this process holds it
+-- this process holds it
 abbrev pub held_by : Pid → Known
 held_by p = record { holders = set.insert set.empty p.0; stable = false }
 
--- that this process holds it and that it is stable
+-- this process holds it, and it is stable
 abbrev pub stable_and_held_by : Pid → Known
 stable_and_held_by p = record { holders = set.insert set.empty p.0; stable = true }
 
--- two pieces of knowledge together: the holders of both, and stable where either says so
-abbrev pub joined : Known → Known → Known
-joined one other = record { holders = set.union one.holders other.holders; stable = one.stable || other.stable }
+-- the union of two pieces of knowledge: the holders of both; stable if either is
+abbrev pub union_with : Known → Known → Known
+union_with one other = record { holders = set.union one.holders other.holders; stable = one.stable || other.stable }
 
--- the same, and that it is stable
+-- the knowledge with the mark that the determinant is stable
 abbrev pub as_stable : Known → Known
 as_stable known = record known { stable = true }
 
--- what an item of a message from one process tells another: its holders, the sender and the receiver hold its determinant
-abbrev pub told : Pid → Pid → Item → Det × Known
-told from me item = (item.det, record { holders = set.insert (set.insert item.holders from.0) me.0; stable = false })
+-- what an item gives the receiver of its message: its holders, the sender and the receiver hold its determinant
+abbrev pub knowledge_from_item : Pid → Pid → Item → Det × Known
+knowledge_from_item from me item = (item.det, record { holders = set.insert (set.insert item.holders from.0) me.0; stable = false })
 
--- whether a message carries what is known so: it is not known to be stable, and at most f holders are known
+-- whether a message carries a determinant of which this is known: not known to be stable, at most f known holders
 abbrev pub is_carried : ℕ → Known → Bool
 is_carried f known = not known.stable && nat_le (set.len known.holders) f
 
--- a determinant is stored as its four numbers, and knowledge as a set and a bit
+-- encodings: a determinant as its four numbers, knowledge as a set and a bit, an item as both
 abbrev pub coded_det : Coded Det
 coded_det =
     code_by (ℕ × (ℕ × (ℕ × ℕ))) (coded× coded_ℕ (coded× coded_ℕ (coded× coded_ℕ coded_ℕ)))

@@ -1,4 +1,5 @@
--- Stable storage as contracts see it: a set of determinants, which is a map with nothing at each of them.
+-- Stable storage as contracts see it: a finite set of determinants.
+-- The set is a map with the unit value at each member.
 use Rattle.std.specs.Prelude.{◌≡◌, ℕ, Bool, true, List, map}
 use Rattle.std.specs.FinMap as fin
 use Rattle.causal_name.specs.declared.Det.{Det}
@@ -11,17 +12,17 @@ DetSet = fin.FinMap det_cmp (Unit {0})
 abbrev pub set_of : List Det → DetSet
 set_of dets = fin.from_entries (map (λ d. (d, tt)) dets)
 
--- the set with one determinant put in; a member changes nothing
+-- the set with one determinant added; adding a member changes nothing
 abbrev pub with_det : DetSet → Det → DetSet
 with_det s det = fin.insert s det tt
 
 -- whether a determinant is a member
-abbrev pub has : DetSet → Det → Bool
-has s det = fin.contains_key s det
+abbrev pub set_has : DetSet → Det → Bool
+set_has s det = fin.contains_key s det
 
--- where a determinant is a member, the set and the count of faults stay as they are
+-- if a determinant is a member, the set and the count of device faults are unchanged
 abbrev pub KeepsMember : Det → DetSet → DetSet → ℕ → ℕ → Type 0
-KeepsMember det before after faults later = has before det ≡ true → (after ≡ before) × (later ≡ faults)
+KeepsMember det before after faults later = set_has before det ≡ true → (after ≡ before) × (later ≡ faults)
 
 -- how many members there are
 abbrev pub count_in : DetSet → ℕ

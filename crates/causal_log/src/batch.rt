@@ -1,12 +1,12 @@
-//! What a message carries.
+//! The piggyback of a message.
 #![tactic(auto, using(crate::proofs::Rules::of_batch))]
 
 ghost use Rattle.std.specs.Prelude.{◌≡◌, ◌≤◌, true, false, Some, take, drop, slice_get, length, IfOk, IfSome, IsNone};
 ghost use Rattle.causal_name.specs.Names.{is_ascending, same_det};
-ghost use Rattle.causal_log.specs.Knowledge.{joined};
-ghost use Rattle.causal_log.specs.Inside.Carried.{known_of_item};
-ghost use Rattle.causal_log.specs.Inside.Merges.{IsPassed};
-ghost use Rattle.causal_log.specs.Logs.{dets_of, names_det, EndBefore, BeginAfter};
+ghost use Rattle.causal_log.specs.Knowledge.{union_with};
+ghost use Rattle.causal_log.specs.Inside.BatchCache.{known_of_item};
+ghost use Rattle.causal_log.specs.Inside.Merges.{NextIsNotBefore};
+ghost use Rattle.causal_log.specs.Logs.{dets_of, names_det, AllBefore, AllAfter};
 
 use crate::known::Known;
 use causal_holders::Holders;
@@ -21,8 +21,8 @@ pub struct Item {
 }
 
 impl Item {
-    /// What its sender knew of the determinant.
-    pub(crate) fn known(&self) -> Known
+    /// Returns what the sender knew of the determinant.
+    pub(crate) fn sender_knowledge(&self) -> Known
         ensures { result ≡ known_of_item self.now }
     {
         Known {
@@ -31,18 +31,20 @@ impl Item {
         }
     }
 
-    /// What it tells, where both its sender and its receiver hold the determinant.
-    pub(crate) fn told(&self, both: &Known) -> Known
-        ensures { result ≡ joined (known_of_item self.now) both.now }
+    /// Returns what the receiver learns from the item, if `both` says that the sender and the receiver hold its
+    /// determinant.
+    pub(crate) fn receiver_knowledge(&self, both: &Known) -> Known
+        ensures { result ≡ union_with (known_of_item self.now) both.now }
     {
-        self.known().joined(*both)
+        self.sender_knowledge().union_with(*both)
     }
 }
 
-/// The piggyback of a message: items whose determinants strictly ascend. `Log::choose` and `Log::choose_grown` make it.
+/// The piggyback of a message: items whose determinants strictly ascend. `Log::choose` and `Log::choose_after_delivery` return
+/// one.
 ///
-/// All messages of a step carry the same batch. So a runtime keeps one for each step, and not one for each message: batches
-/// kept for each message would multiply the memory of a long one.
+/// All messages of a step carry the same batch, so a runtime stores one batch for each step. A copy for each message
+/// would multiply the memory of a long batch.
 #[derive(Drop)]
 pub struct Batch {
     items: Vec<Item>,
@@ -74,7 +76,7 @@ impl Batch {
         Batch { items }
     }
 
-    /// The items, by strictly ascending determinant.
+    /// Returns the items, by strictly ascending determinant.
     pub fn as_slice(&self) -> &[Item]
         ensures items { result.now ≡ self.now }
         ensures ascending { is_ascending (dets_of self.now) ≡ true }
@@ -82,12 +84,13 @@ impl Batch {
         self.items.as_slice()
     }
 
-    /// Where a determinant would stand among the items, unless one of them names it.
+    /// Returns the index at which a determinant would be inserted, or `None` if an item names it. Takes O(log items)
+    /// time.
     pub fn place_for(&self, det: Det) -> Option<usize>
         ensures named { IsNone result → names_det det self.now ≡ true }
         ensures within { IfSome result (λ place. place ≤ length self.now) }
-        ensures before { IfSome result (λ place. EndBefore (take place self.now) det) }
-        ensures after { IfSome result (λ place. BeginAfter det (drop place self.now)) }
+        ensures before { IfSome result (λ place. AllBefore (take place self.now) det) }
+        ensures after { IfSome result (λ place. AllAfter det (drop place self.now)) }
     {
         let items = self.items.as_slice();
         let place = place_of(items, det);
@@ -98,12 +101,12 @@ impl Batch {
     }
 }
 
-/// The place of the first of ascending items that does not come before a determinant.
+/// Returns the index of the first of ascending items that does not come before a determinant.
 pub(crate) fn place_of(items: &[Item], det: Det) -> usize
     requires { is_ascending (dets_of items.now) ≡ true }
     ensures within { result ≤ length items.now }
-    ensures before { EndBefore (take result items.now) det }
-    ensures next { IsPassed items.now result det }
+    ensures before { AllBefore (take result items.now) det }
+    ensures next { NextIsNotBefore items.now result det }
 {
     let mut place = 0;
     let mut end = items.len();
@@ -118,7 +121,7 @@ pub(crate) fn place_of(items: &[Item], det: Det) -> usize
     place
 }
 
-/// The item at a place, where it is of a determinant.
+/// Returns the item at an index, if it names this determinant.
 pub(crate) fn next_of(kept: &[Item], place: usize, det: Det) -> Option<Item>
     ensures found { IfSome result (λ item. slice_get kept.now place ≡ Some item) }
     ensures same { IfSome result (λ item. item.det ≡ det) }
@@ -129,9 +132,9 @@ pub(crate) fn next_of(kept: &[Item], place: usize, det: Det) -> Option<Item>
     if item.det == det { Some(item) } else { None }
 }
 
-/// Whether one of ascending items is of a determinant.
+/// Whether one of ascending items names a determinant.
 #[tactic(auto, using(crate::proofs::Rules::of_batch, crate::proofs::MergeLemmas::unnamed_at))]
-pub(crate) fn name(items: &[Item], det: Det) -> bool
+pub(crate) fn names_det(items: &[Item], det: Det) -> bool
     requires { is_ascending (dets_of items.now) ≡ true }
     ensures { result ≡ names_det det items.now }
 {

@@ -1,7 +1,7 @@
 //! What a process knows of a determinant.
 ghost use Rattle.std.specs.Prelude.{◌≡◌};
-ghost use Rattle.causal_log.specs.Knowledge.{nothing_known, held_by, joined, as_stable, told, is_carried};
-ghost use Rattle.causal_log.specs.Inside.Carried.{both_hold};
+ghost use Rattle.causal_log.specs.Knowledge.{unknown, held_by, union_with, as_stable, knowledge_from_item, is_carried};
+ghost use Rattle.causal_log.specs.Inside.BatchCache.{held_by_both};
 
 use crate::batch::Item;
 use causal_holders::Holders;
@@ -15,8 +15,8 @@ pub struct Known {
 }
 
 impl Known {
-    pub(crate) fn nothing() -> Known
-        ensures { result ≡ nothing_known }
+    pub(crate) fn unknown() -> Known
+        ensures { result ≡ unknown }
     {
         Known {
             holders: Holders::none(),
@@ -24,23 +24,23 @@ impl Known {
         }
     }
 
-    pub(crate) fn held(process: Pid) -> Known
+    pub(crate) fn held_by(process: Pid) -> Known
         ensures { result ≡ held_by process }
     {
-        let mut known = Known::nothing();
+        let mut known = Known::unknown();
         known.holders.insert(process.0);
         known
     }
 
-    /// That two processes hold it, as a message from one to the other tells of what it carries.
+    /// Returns the knowledge that both ends of a message have of a determinant that it carries: both hold it.
     pub(crate) fn held_by_both(from: Pid, me: Pid) -> Known
-        ensures { result ≡ both_hold from me }
+        ensures { result ≡ held_by_both from me }
     {
-        Known::held(from).joined(Known::held(me))
+        Known::held_by(from).union_with(Known::held_by(me))
     }
 
-    pub(crate) fn joined(self, other: Known) -> Known
-        ensures { result ≡ joined self other }
+    pub(crate) fn union_with(self, other: Known) -> Known
+        ensures { result ≡ union_with self other }
     {
         Known {
             holders: self.holders.union(other.holders),
@@ -48,8 +48,8 @@ impl Known {
         }
     }
 
-    /// The same, and that it is stable.
-    pub(crate) fn marked(self) -> Known
+    /// Returns this knowledge with the mark that the determinant is stable.
+    pub(crate) fn as_stable(self) -> Known
         ensures { result ≡ as_stable self }
     {
         Known {
@@ -65,12 +65,13 @@ impl Known {
     }
 }
 
-/// What an item of a message from one process tells another of its determinant.
-pub(crate) fn told(from: Pid, me: Pid, item: &Item) -> Known
-    ensures { result ≡ (told from me item.now).1 }
+/// Returns what an item of a message gives the receiver: the item's holders, the sender and the receiver hold its
+/// determinant.
+pub(crate) fn knowledge_from_item(from: Pid, me: Pid, item: &Item) -> Known
+    ensures { result ≡ (knowledge_from_item from me item.now).1 }
 {
-    let mut heard = item.known();
-    heard.holders.insert(from.0);
-    heard.holders.insert(me.0);
-    heard
+    let mut news = item.sender_knowledge();
+    news.holders.insert(from.0);
+    news.holders.insert(me.0);
+    news
 }

@@ -1,37 +1,40 @@
-//! The volatile log of determinants that each process keeps, the piggyback that its messages carry, and stable storage.
+//! The volatile log of determinants of each process, the piggyback of its messages, and stable storage.
 //!
-//! In causal message logging a process adds to each message the determinants that it knows of and that are not yet known
-//! to be safe (Alvisi and Marzullo, "Message Logging: Pessimistic, Optimistic, Causal, and Optimal", IEEE TSE 24(2),
-//! 1998). Here a determinant is safe once it is in stable storage or more than f processes are known to hold it.
+//! In causal message logging a process adds to each message the determinants that it knows of and that are not yet
+//! known to be safe (Alvisi and Marzullo, "Message Logging: Pessimistic, Optimistic, Causal, and Optimal", IEEE TSE
+//! 24(2), 1998). Here a determinant is known to be safe once it is known to be in stable storage, or more than f
+//! processes are known to hold it.
 //!
 //! # A delivery
 //!
-//! What a delivery may be refused for comes before its step, and what changes the log comes after it and can't fail:
+//! All calls that may fail come before the process's step; the call that changes the log comes after it and cannot
+//! fail:
 //!
-//! 1. `Log::choose_grown` gives what the messages of the step will carry, and leaves the log as it is.
-//! 2. `Log::reserve` makes room for the determinants of the message's batch and for the delivery's own.
-//! 3. Once the process has stepped, `Log::grow` takes both in, in that room, and `Log::carry` keeps what messages carry then.
+//! 1. `Log::choose_after_delivery` returns what the messages of the step will carry, and leaves the log unchanged.
+//! 2. `Log::reserve` reserves capacity for the determinants of the message's batch and for the delivery's own.
+//! 3. Once the process has stepped, `Log::grow` adds both in the reserved capacity, and `Log::carry` caches what
+//!    messages then carry.
 //!
-//! [`Stable`] is what a store of one's own owes; the README tells how to write one.
+//! [`Stable`] is what an implementation of a store must guarantee; the README shows how to write one.
 #![tactic(auto)]
 
-/// What a message carries.
+/// The piggyback of a message.
 mod batch;
-/// Where the entries of a log stand.
-mod index;
+/// How the keys of a log's entries are hashed.
+mod hashing;
 /// What a process knows of a determinant.
 mod known;
-/// Laws of logs, piggybacks and stable storage, in plain words.
+/// Laws of logs, piggybacks and stable storage.
 pub mod laws;
 /// The volatile log of a process.
 mod log;
 /// Stable storage in memory, for programs that need no device.
 mod memory;
-/// What messages will carry once a delivery is taken in, worked out beside the log.
-mod merging;
+/// What messages carry after a delivery, computed without changing the log.
+mod next_batch_merge;
 /// Stable storage.
 mod stable;
-/// Entries of determinants in the order in which they came, each found by its slot.
+/// Log entries in insertion order, found by the slot of their determinant.
 mod table;
 
 pub use batch::{Batch, Item};

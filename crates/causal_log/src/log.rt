@@ -7,39 +7,40 @@ ghost use Rattle.std.specs.FinMap as fin;
 ghost use Rattle.std.specs.Arc.{arc_value};
 ghost use Rattle.causal_name.specs.Names.{is_ascending};
 ghost use Rattle.causal_log.specs.Knowledge.{held_by, stable_and_held_by};
-ghost use Rattle.causal_log.specs.Logs.{log_of, learned, dets_of, absorbed, grown, united, marked, stable_in, unstable_in, unmarked, chosen, named, HaveSame};
-ghost use Rattle.causal_log.specs.Inside.Carried.{open_in, still_carried};
+ghost use Rattle.causal_log.specs.Logs.{log_of, after_learn, dets_of, after_absorb, after_delivery, after_union, after_mark, stable_in, unstable_in, after_drop_stable, batch_items, named_message, SameMultiset};
+ghost use Rattle.causal_log.specs.Inside.BatchCache.{open_items_of, open_cached_items};
 
 use crate::batch::{Batch, Item};
 use crate::known::Known;
-use crate::merging::{Delivery, next_batch};
+use crate::next_batch_merge::{Delivery, next_batch};
 use crate::table::{
-    Table, carried, chosen, dets, in_order, learn, learn_entries, learn_items, ranked, unstable_len,
+    Table, chosen_items, det_at_rank, dets, in_order, learn, learn_entries, learn_items,
+    sorted_chosen_items, unstable_len,
 };
 use causal_name::{Det, MsgName, NoMemory, Pid, Slot};
 use std::alloc::Global;
 use std::marker::Model;
 use std::sync::Arc;
 
-/// The volatile log of a process: what it knows of each determinant that it logs (`Log(e)` of Elnozahy, Alvisi, Wang and
-/// Johnson 2002, from one process's side).
+/// The volatile log of a process: what it knows of each determinant that it logs (`Log(e)` of Elnozahy, Alvisi, Wang
+/// and Johnson 2002, from one process's side).
 ///
-/// It is seen as a finite map, and as the number of insertions that are sure of their memory, of which equality does not
-/// speak. It has at most 4,294,967,295 entries: further ones are refused as want of memory.
+/// Contracts see a finite map, and the number of insertions that cannot fail to allocate, which equality ignores. A
+/// log has at most 2,415,919,104 entries; `NoMemory` refuses further ones.
 #[derive(Drop)]
 pub struct Log {
-    /// In the order in which they came, unless they were sorted since.
+    /// In insertion order, or sorted.
     entries: Table,
-    /// Whether they ascend.
+    /// Whether the entries ascend.
     sorted: bool,
-    /// What messages carry, where that is known without reading the entries.
-    carried: Option<Carried>,
+    /// What messages carry, if that is known without reading the entries.
+    cached_batch: Option<CachedBatch>,
 }
 
 impl Model for Log {
     ghost use Rattle.std.specs.Map.{keys_of};
     ghost use Rattle.causal_log.specs.Logs.{LogState, coded_log, log_of};
-    ghost use Rattle.causal_log.specs.Inside.Carried.{IsKept};
+    ghost use Rattle.causal_log.specs.Inside.BatchCache.{IsLogState};
 
     ghost Value = { LogState };
 
@@ -48,48 +49,57 @@ impl Model for Log {
     ghost view = { λ log. record { map = log_of log.entries.entries; spare = log.entries.spare } };
 
     ghost invariant = { λ log.
-        IsKept (keys_of log.entries.entries) log.sorted log.carried (log_of log.entries.entries) };
+        IsLogState (keys_of log.entries.entries) log.sorted log.cached_batch (log_of log.entries.entries) };
 }
 
 impl Log {
-    /// A log of nothing.
+    /// Returns an empty log.
     pub fn new(alloc: Global) -> Log
         ensures { result.map ≡ fin.empty }
     {
+        Log::with_seed(alloc, 0)
+    }
+
+    /// Returns an empty log whose entries are hashed with this seed. Only costs depend on it: a caller who does not
+    /// know the seed cannot pick determinants whose hashes collide.
+    pub fn with_seed(alloc: Global, seed: u64) -> Log
+        ensures { result.map ≡ fin.empty }
+    {
         Log {
-            entries: Table::new(alloc),
+            entries: Table::new(alloc, seed),
             sorted: true,
-            carried: None,
+            cached_batch: None,
         }
     }
 
-    /// What is known of a determinant, if it is logged.
+    /// Returns what is known of a determinant, if it is logged. Takes one look-up.
     pub fn known(&self, det: Det) -> Option<Known>
         ensures { result ≡ fin.get self.now.map det }
     {
         self.entries.find(det).map(|(_, known)| known)
     }
 
-    /// The number of determinants.
+    /// Returns the number of determinants. Takes O(1) time.
     pub fn len(&self) -> u32
         ensures { result ≡ fin.len self.now.map }
     {
         self.entries.entries().len() as u32
     }
 
-    /// The entry at a place, in ascending order of determinants; none from `len` on. Takes no memory. In a log that is not
-    /// sorted, entries are compared with each other: who asks for many places sorts it first.
+    /// Returns the entry at an index, in ascending order of determinants, or `None` if the index is `len` or more.
+    /// Allocates nothing. Takes O(1) time in a sorted log, and O(entries²) in any other; a caller that reads many
+    /// indexes calls `sort` first.
     pub fn at(&self, i: u32) -> Option<(Det, Known)>
         ensures { result ≡ slice_get (fin.entries self.now.map) i }
     {
         if self.sorted {
             return self.entries.entries().get(i as usize).copied();
         }
-        let det = ranked(self.entries.entries(), i)?;
+        let det = det_at_rank(self.entries.entries(), i)?;
         self.known(det).map(|known| (det, known))
     }
 
-    /// The determinants, ascending. Its only error is want of memory.
+    /// Returns the determinants, ascending. Fails only if out of memory.
     pub fn dets(&self, alloc: Global) -> Result<Vec<Det>, NoMemory>
         ensures { IfOk result (λ dets. dets.items ≡ fin.keys self.now.map) }
     {
@@ -100,16 +110,16 @@ impl Log {
         dets(alloc, sorted.as_slice())
     }
 
-    /// The entries, one of each determinant, in no order that is promised. It takes neither memory nor time.
-    pub fn unordered(&self) -> &[(Det, Known)]
+    /// Returns the entries, one for each determinant, in an unspecified order. Allocates nothing; takes O(1) time.
+    pub fn entries_unordered(&self) -> &[(Det, Known)]
         ensures entries { log_of result.now ≡ self.now.map }
-        ensures counted { HaveSame (keys_of result.now) (fin.keys self.now.map) }
+        ensures counted { SameMultiset (keys_of result.now) (fin.keys self.now.map) }
         ensures few { length result.now < 2 ^ 32 }
     {
         self.entries.entries()
     }
 
-    /// A copy. Its only error is want of memory.
+    /// Returns a copy. Fails only if out of memory.
     pub fn try_clone(&self) -> Result<Log, NoMemory>
         ensures { IfOk result (λ copy. copy.map ≡ self.now.map) }
     {
@@ -117,47 +127,47 @@ impl Log {
         Ok(Log {
             entries,
             sorted: self.sorted,
-            carried: None,
+            cached_batch: None,
         })
     }
 
-    /// What the messages of a step carry: the determinants that are not known to be stable and of which at most `f`
-    /// holders are known, ascending. All others are safe where at most `f` processes fail. Its only error is want of
-    /// memory.
+    /// Returns what the messages of a step carry: the determinants that are not known to be stable and have at most
+    /// `f` known holders, ascending. All other logged determinants are safe if at most `f` processes fail. Fails only
+    /// if out of memory.
     pub fn choose(&self, alloc: Global, f: u16) -> Result<Batch, NoMemory>
-        ensures { IfOk result (λ batch. batch ≡ chosen f self.now.map) }
+        ensures { IfOk result (λ batch. batch ≡ batch_items f self.now.map) }
     {
-        Ok(Batch::new(self.carried(alloc, f)?))
+        Ok(Batch::new(self.piggyback_items(alloc, f)?))
     }
 
-    /// The items of what messages carry.
-    fn carried(&self, alloc: Global, f: u16) -> Result<Vec<Item>, NoMemory>
-        ensures { IfOk result (λ items. items.items ≡ chosen f self.now.map) }
+    /// Returns the items that messages carry.
+    fn piggyback_items(&self, alloc: Global, f: u16) -> Result<Vec<Item>, NoMemory>
+        ensures { IfOk result (λ items. items.items ≡ batch_items f self.now.map) }
     {
-        match &self.carried {
-            Some(carried) if carried.f == f => carried.still(alloc, &self.entries),
-            _ if self.sorted => carried(alloc, self.entries.entries(), f),
-            _ => chosen(alloc, self.entries.entries(), f),
+        match &self.cached_batch {
+            Some(carried) if carried.f == f => carried.open_items(alloc, &self.entries),
+            _ if self.sorted => chosen_items(alloc, self.entries.entries(), f),
+            _ => sorted_chosen_items(alloc, self.entries.entries(), f),
         }
     }
 
-    /// Keeps what messages carry, which is what `choose` gives, so that the next `choose` or `choose_grown` for as many
-    /// failures need not read the log. A runtime shares with it the batch of the messages that it sends.
-    pub fn carry(&mut self, f: u16, batch: Arc<Batch>)
-        requires { arc_value batch ≡ chosen f self.old.map }
+    /// Caches what messages carry, which is what `choose` returns, so that the next `choose` or `choose_after_delivery` with
+    /// the same `f` need not read the log. A runtime shares the batch between the log and the messages that it sends.
+    pub fn cache_batch(&mut self, f: u16, batch: Arc<Batch>)
+        requires { arc_value batch ≡ batch_items f self.old.map }
         ensures map { self.new.map ≡ self.old.map }
         ensures spare { self.new.spare ≡ self.old.spare }
     {
-        self.carried = Some(Carried {
+        self.cached_batch = Some(CachedBatch {
             f,
             batch,
             is_marked: false,
         });
     }
 
-    /// What the messages of a step would carry once `grow` has taken in a delivery, as a batch to share: the one that they carry
-    /// now, where it is seen to stay. Its only error is want of memory.
-    pub fn choose_grown(
+    /// Returns what the messages of a step will carry once `apply_delivery` has added a delivery, as a shared batch. It is the
+    /// cached batch if that is found to stay the same. Fails only if out of memory.
+    pub fn choose_after_delivery(
         &self,
         alloc: Global,
         carried: &Batch,
@@ -167,7 +177,7 @@ impl Log {
         f: u16,
     ) -> Result<Arc<Batch>, NoMemory>
         ensures { IfOk result (λ batch. arc_value batch ≡
-            chosen f (grown carried.now own from me self.now.map)) }
+            batch_items f (after_delivery carried.now own from me self.now.map)) }
     {
         let delivery = Delivery {
             entries: &self.entries,
@@ -177,7 +187,7 @@ impl Log {
             me,
             f,
         };
-        match &self.carried {
+        match &self.cached_batch {
             Some(now) if now.f == f && !now.is_marked => next_batch(alloc, &now.batch, &delivery),
             _ => {
                 let batch = Arc::new(alloc, self.choose(alloc, f)?)?;
@@ -186,7 +196,7 @@ impl Log {
         }
     }
 
-    /// The determinants that are known to be stable, ascending. Its only error is want of memory.
+    /// Returns the determinants that are known to be stable, ascending. Fails only if out of memory.
     pub fn stable_dets(&self, alloc: Global) -> Result<Vec<Det>, NoMemory>
         ensures { IfOk result (λ dets. dets.items ≡ stable_in self.now.map) }
     {
@@ -195,7 +205,7 @@ impl Log {
         Ok(stable.map(|(det, _)| *det).collect(alloc)?)
     }
 
-    /// The determinants that are not known to be stable, ascending. Its only error is want of memory.
+    /// Returns the determinants that are not known to be stable, ascending. Fails only if out of memory.
     pub fn unstable_dets(&self, alloc: Global) -> Result<Vec<Det>, NoMemory>
         ensures { IfOk result (λ dets. dets.items ≡ unstable_in self.now.map) }
     {
@@ -204,29 +214,31 @@ impl Log {
         Ok(unstable.map(|(det, _)| *det).collect(alloc)?)
     }
 
-    /// How many determinants are known to be stable. Takes no memory.
+    /// Returns how many determinants are known to be stable. Allocates nothing.
     pub fn stable_len(&self) -> u32
         ensures { result ≡ length (stable_in self.now.map) }
     {
         self.len() - self.unstable_len()
     }
 
-    /// How many determinants are not known to be stable. Takes no memory.
+    /// Returns how many determinants are not known to be stable. Allocates nothing.
     pub fn unstable_len(&self) -> u32
         ensures { result ≡ length (unstable_in self.now.map) }
     {
         unstable_len(self.entries.entries())
     }
 
-    /// The message that the log names for a slot, number `rsn` of `dest`: that of the least determinant logged for it.
+    /// Returns the message that the log names for the slot (`dest`, `rsn`): that of the least determinant logged for
+    /// it.
     pub fn for_slot(&self, dest: Pid, rsn: u32) -> Option<MsgName>
-        ensures { result ≡ named dest rsn self.now.map }
+        ensures { result ≡ named_message dest rsn self.now.map }
     {
         let least = self.entries.least_of(Slot { dest, rsn });
         least.map(|det| det.message())
     }
 
-    /// Makes the next `more` insertions sure of their memory. Its only error is want of memory, and then nothing changes.
+    /// Reserves capacity for `more` insertions, which then cannot fail to allocate. Fails only if out of memory, and
+    /// then changes nothing.
     pub fn reserve(&mut self, more: u32) -> Result<(), NoMemory>
         ensures map { self.new.map ≡ self.old.map }
         ensures ok { OnOk result (more ≤ self.new.spare) }
@@ -236,7 +248,8 @@ impl Log {
         self.entries.reserve(more as usize)
     }
 
-    /// Puts the entries in order, so that `at` takes constant time until a determinant comes in, unless memory is refused.
+    /// Sorts the entries, so that `at` takes O(1) time until a determinant is added. If out of memory, leaves them
+    /// unsorted.
     pub fn sort(&mut self) -> Result<(), NoMemory>
         ensures map { self.new.map ≡ self.old.map }
         ensures spare { self.new.spare ≡ self.old.spare }
@@ -249,9 +262,10 @@ impl Log {
         Ok(())
     }
 
-    /// Learns something of one determinant. The only error is want of memory, for a determinant that is not logged yet.
-    fn learn(&mut self, det: Det, heard: Known) -> Result<(), NoMemory>
-        ensures ok { OnOk result (self.new.map ≡ learned self.old.map det heard) }
+    /// Learns something of one determinant. Fails only if out of memory, and only for a determinant that is not
+    /// logged yet.
+    fn learn(&mut self, det: Det, news: Known) -> Result<(), NoMemory>
+        ensures ok { OnOk result (self.new.map ≡ after_learn self.old.map det news) }
         ensures err { OnErr result (self.new.map ≡ self.old.map) }
         ensures logged { IsSome (fin.get self.old.map det) → IsOk result }
         ensures succeeds { 1 ≤ self.old.spare → IsOk result }
@@ -260,41 +274,42 @@ impl Log {
         if self.entries.find(det).is_none() {
             self.entries.reserve(1)?;
         }
-        learn(&mut self.entries, det, heard);
+        learn(&mut self.entries, det, news);
         self.sorted = false;
-        self.carried = None;
+        self.cached_batch = None;
         Ok(())
     }
 
-    /// Adds a determinant that process `me` has made by a delivery: that it holds the determinant becomes known. The only
-    /// error is want of memory, which comes for a determinant that is not logged yet and for which no room was made.
+    /// Adds a determinant that process `me` has created by a delivery; `me` becomes a known holder. Fails only if out
+    /// of memory, and never for a logged determinant or in reserved capacity.
     pub fn add_own(&mut self, det: Det, me: Pid) -> Result<(), NoMemory>
-        ensures ok { OnOk result (self.new.map ≡ learned self.old.map det (held_by me)) }
+        ensures ok { OnOk result (self.new.map ≡ after_learn self.old.map det (held_by me)) }
         ensures err { OnErr result (self.new.map ≡ self.old.map) }
         ensures logged { IsSome (fin.get self.old.map det) → IsOk result }
         ensures succeeds { 1 ≤ self.old.spare → IsOk result }
         ensures spare { self.old.spare ≤ self.new.spare + 1 }
     {
-        self.learn(det, Known::held(me))
+        self.learn(det, Known::held_by(me))
     }
 
-    /// Adds a determinant that process `me` has read from stable storage: that it holds it, and that it is stable, become
-    /// known. The only error is want of memory, as of `add_own`.
+    /// Adds a determinant that process `me` has read from stable storage: `me` becomes a known holder, and the
+    /// determinant is known to be stable. Fails only if out of memory, and never for a logged determinant or in
+    /// reserved capacity.
     pub fn add_stable(&mut self, det: Det, me: Pid) -> Result<(), NoMemory>
         ensures ok { OnOk result
-            (self.new.map ≡ learned self.old.map det (stable_and_held_by me)) }
+            (self.new.map ≡ after_learn self.old.map det (stable_and_held_by me)) }
         ensures err { OnErr result (self.new.map ≡ self.old.map) }
         ensures logged { IsSome (fin.get self.old.map det) → IsOk result }
         ensures succeeds { 1 ≤ self.old.spare → IsOk result }
         ensures spare { self.old.spare ≤ self.new.spare + 1 }
     {
-        self.learn(det, Known::held(me).marked())
+        self.learn(det, Known::held_by(me).as_stable())
     }
 
-    /// Takes in what a message from process `from` carries to process `me`: the known holders of each of its determinants
-    /// grow by the item's holders, the sender and the receiver. On want of memory nothing changes.
+    /// Adds what a message from process `from` carries to process `me`: the known holders of each of its determinants
+    /// grow by the item's holders, the sender and the receiver. If out of memory, changes nothing.
     pub fn absorb(&mut self, batch: &Batch, from: Pid, me: Pid) -> Result<(), NoMemory>
-        ensures ok { OnOk result (self.new.map ≡ absorbed batch.now from me self.old.map) }
+        ensures ok { OnOk result (self.new.map ≡ after_absorb batch.now from me self.old.map) }
         ensures err { OnErr result (self.new.map ≡ self.old.map) }
         ensures succeeds { length batch.now ≤ self.old.spare → IsOk result }
         ensures spare { self.old.spare ≤ self.new.spare + length batch.now }
@@ -303,28 +318,28 @@ impl Log {
         self.entries.reserve(items.len())?;
         learn_items(&mut self.entries, items, from, me);
         self.sorted = false;
-        self.carried = None;
+        self.cached_batch = None;
         Ok(())
     }
 
-    /// Takes in a delivery to process `me`, in room made by `reserve`: what the message from process `from` carries, as
-    /// `absorb` does, and then the delivery's own determinant, as `add_own` does. It takes no memory, so that it can follow
-    /// all that may be refused.
-    pub fn grow(&mut self, carried: &Batch, own: Det, from: Pid, me: Pid)
+    /// Adds a delivery to process `me`, in capacity that `reserve` made: what the message from process `from`
+    /// carries, as `absorb` does, and then the delivery's own determinant, as `add_own` does. It allocates nothing
+    /// and cannot fail, so it can follow all calls that may be refused.
+    pub fn apply_delivery(&mut self, carried: &Batch, own: Det, from: Pid, me: Pid)
         requires room { length carried.now + 1 ≤ self.old.spare }
-        ensures map { self.new.map ≡ grown carried.now own from me self.old.map }
+        ensures map { self.new.map ≡ after_delivery carried.now own from me self.old.map }
         ensures spare { self.old.spare ≤ self.new.spare + (length carried.now + 1) }
     {
         learn_items(&mut self.entries, carried.as_slice(), from, me);
-        learn(&mut self.entries, own, Known::held(me));
+        learn(&mut self.entries, own, Known::held_by(me));
         self.sorted = false;
-        self.carried = None;
+        self.cached_batch = None;
     }
 
-    /// Takes in all that another log knows: holders are united, and a determinant is known to be stable where either log
-    /// says so. On want of memory nothing changes.
+    /// Adds all that another log knows: the union of the holders, and the mark if either log has it. If out of
+    /// memory, changes nothing.
     pub fn union_from(&mut self, other: &Log) -> Result<(), NoMemory>
-        ensures ok { OnOk result (self.new.map ≡ united self.old.map other.now.map) }
+        ensures ok { OnOk result (self.new.map ≡ after_union self.old.map other.now.map) }
         ensures err { OnErr result (self.new.map ≡ self.old.map) }
         ensures succeeds { fin.len other.now.map ≤ self.old.spare → IsOk result }
         ensures spare { self.old.spare ≤ self.new.spare + fin.len other.now.map }
@@ -333,62 +348,66 @@ impl Log {
         self.entries.reserve(others.len())?;
         learn_entries(&mut self.entries, others);
         self.sorted = false;
-        self.carried = None;
+        self.cached_batch = None;
         Ok(())
     }
 
-    /// Marks a determinant as stable, and says whether it is logged; where it is not, nothing changes. Takes no memory.
+    /// Marks a determinant as stable, and returns whether it is logged; if it is not, changes nothing. Allocates
+    /// nothing.
     pub fn mark_stable(&mut self, det: Det) -> bool
         ensures found { IsTrue result ↔ IsSome (fin.get self.old.map det) }
-        ensures marked { self.new.map ≡ marked self.old.map det }
+        ensures marked { self.new.map ≡ after_mark self.old.map det }
         ensures spare { self.new.spare ≡ self.old.spare }
     {
         let Some((place, _)) = self.entries.find(det) else {
             return false;
         };
-        self.entries.join(place, Known::nothing().marked());
-        if let Some(carried) = &mut self.carried {
+        self.entries.merge_at(place, Known::unknown().as_stable());
+        if let Some(carried) = &mut self.cached_batch {
             carried.is_marked = true;
         }
         true
     }
 
-    /// Takes out the determinants that are known to be stable, and says how many. It reads the whole log, with no memory.
+    /// Removes the determinants that are known to be stable, and returns how many there were. Takes O(entries) time
+    /// and allocates nothing.
     pub fn drop_stable(&mut self) -> u32
-        ensures left { self.new.map ≡ unmarked self.old.map }
+        ensures left { self.new.map ≡ after_drop_stable self.old.map }
         ensures count { result ≡ length (stable_in self.old.map) }
         ensures spare { self.new.spare ≡ self.old.spare }
     {
-        self.carried = None;
+        self.cached_batch = None;
         self.entries.drop_stable()
     }
 }
 
-/// The batch that messages carry for a number of failures, which the messages of the last step share.
+/// The cached batch that messages carry for a bound `f`, shared with the messages of the last step.
 #[derive(Drop)]
-pub(crate) struct Carried {
+pub(crate) struct CachedBatch {
     pub f: u16,
     pub batch: Arc<Batch>,
-    /// Whether a determinant was marked as stable since. Messages carry it no more.
+    /// Whether a determinant was marked as stable after the batch was cached. Messages do not carry marked
+    /// determinants.
     pub is_marked: bool,
 }
 
-impl Carried {
-    /// The items that messages still carry.
-    fn still(&self, alloc: Global, entries: &Table) -> Result<Vec<Item>, NoMemory>
+impl CachedBatch {
+    /// Returns the items of the batch that messages still carry.
+    fn open_items(&self, alloc: Global, entries: &Table) -> Result<Vec<Item>, NoMemory>
         ensures { IfOk result (λ items. items.items ≡
-            still_carried self.now (log_of entries.now.entries)) }
+            open_cached_items self.now (log_of entries.now.entries)) }
     {
         let items = self.batch.as_slice();
         if !self.is_marked {
             return Ok(Vec::from_slice(alloc, items)?);
         }
-        open_of(alloc, items, entries)
+        open_items_of(alloc, items, entries)
     }
 }
 
-fn open_of(alloc: Global, items: &[Item], entries: &Table) -> Result<Vec<Item>, NoMemory>
-    ensures { IfOk result (λ kept. kept.items ≡ open_in (log_of entries.now.entries) items.now) }
+fn open_items_of(alloc: Global, items: &[Item], entries: &Table) -> Result<Vec<Item>, NoMemory>
+    ensures { IfOk result (λ kept. kept.items
+        ≡ open_items_of (log_of entries.now.entries) items.now) }
 {
     let kept = items.iter().filter(|item| entries.is_open(item.det));
     Ok(kept.copied().collect(alloc)?)

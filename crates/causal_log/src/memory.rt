@@ -11,10 +11,10 @@ use causal_name::{Det, NoMemory, Slot};
 use std::alloc::Global;
 use std::marker::Model;
 
-/// Stable storage that has no device, and so no faults but want of memory.
+/// Stable storage without a device; a `put` fails only if out of memory.
 #[derive(Drop)]
 pub struct MemStable {
-    /// Of its members nothing else is known.
+    /// A table whose entries carry no knowledge.
     members: Table,
 }
 
@@ -33,12 +33,19 @@ impl Model for MemStable {
 }
 
 impl MemStable {
-    /// With no member.
+    /// Returns an empty store.
     pub fn new(alloc: Global) -> MemStable
         ensures { result ≡ fin.empty }
     {
+        MemStable::with_seed(alloc, 0)
+    }
+
+    /// Returns an empty store whose entries are hashed with this seed, as in `Log::with_seed`.
+    pub fn with_seed(alloc: Global, seed: u64) -> MemStable
+        ensures { result ≡ fin.empty }
+    {
         MemStable {
-            members: Table::new(alloc),
+            members: Table::new(alloc, seed),
         }
     }
 }
@@ -53,7 +60,7 @@ impl Stable for MemStable {
             return Ok(());
         }
         self.members.reserve(1).map_err(|_| PutFault::NoMemory)?;
-        self.members.add(det, Known::nothing());
+        self.members.add(det, Known::unknown());
         Ok(())
     }
 

@@ -1,63 +1,68 @@
-//! Entries of determinants in the order in which they came, each found by its slot, and what is asked of all of them.
+//! Log entries in insertion order, found by the slot of their determinant, and scans of all of them.
 #![tactic(auto, using(crate::proofs::Rules::of_table))]
 
-ghost use Rattle.std.specs.Prelude.{◌≡◌, ◌<◌, ◌≤◌, ◌+◌, ◌^◌, ◌++◌, ◌∷◌, [], not, filter, find, map, true, Some, None, IfSome, IfOk, OnOk, OnErr, length, slice_get, vec_len, vec_capacity};
-ghost use Rattle.std.specs.List.{IsDistinct};
+ghost use Rattle.std.specs.Prelude.{◌≡◌, ◌<◌, ◌≤◌, ◌+◌, ◌^◌, ◌++◌, ◌∷◌, [], not, filter, find, map, true, false, All, Some, None, IfSome, IsNone, IfOk, OnOk, OnErr, length, slice_get};
+ghost use Rattle.std.specs.List.{IsDistinct, list_any};
 ghost use Rattle.std.specs.Map.{keys_of};
 ghost use Rattle.std.specs.FinMap as fin;
 ghost use Rattle.std.specs.Option.{option_map};
+ghost use Rattle.indexmap.specs.IndexMap.{get, spare, values};
 ghost use Rattle.causal_name.specs.declared.Det.{Det};
 ghost use Rattle.causal_name.specs.Names.{same_det, is_ascending, is_before};
 ghost use Rattle.causal_log.specs.declared.known.Known.{Known};
-ghost use Rattle.causal_log.specs.Knowledge.{joined, is_carried};
-ghost use Rattle.causal_log.specs.Logs.{log_of, item_of, chosen, learned, IsLogged, absorbed, learned_all};
-ghost use Rattle.causal_log.specs.Inside.Carried.{is_open};
-ghost use Rattle.causal_log.specs.Inside.Ranks.{IsLeastOfSlot, has_rank};
+ghost use Rattle.causal_log.specs.Knowledge.{union_with, is_carried};
+ghost use Rattle.causal_log.specs.Logs.{log_of, item_of, batch_items, after_learn, IsLogged, after_absorb, after_learn_all};
+ghost use Rattle.causal_log.specs.Inside.BatchCache.{is_open};
+ghost use Rattle.causal_log.specs.Inside.Ranks.{IsLeastOfSlot, has_rank, lesser_det};
+ghost use Rattle.causal_log.specs.Inside.Tables.{HasSlotKey, slot_key, same_slot_key};
 
 use crate::batch::Item;
-use crate::index::Index;
+use crate::hashing::SeededState;
 use crate::known::Known;
 use causal_name::{Det, NoMemory, Pid, Slot};
+use indexmap::IndexMap;
 use std::alloc::Global;
 use std::marker::Model;
 
-/// From how many entries on a log's heads are led anew some time after its entries have moved, so that no delivery waits for both.
-const LARGE: usize = 4096;
+/// The key of an entry: its determinant's slot, and a number that tells apart entries of one slot. In a run each slot
+/// has one entry, whose number is 0.
+#[derive(Clone, Copy, PartialEq, Eq, Hash)]
+pub(crate) struct SlotKey {
+    pub slot: Slot,
+    pub number: u32,
+}
 
-/// Entries, with the heads that lead to them, of which there are no fewer than there is room for entries, and mostly twice as many.
+/// Entries in insertion order, unless they were sorted since.
 #[derive(Drop)]
 pub(crate) struct Table {
-    entries: Vec<(Det, Known)>,
-    index: Index,
-    /// For how many more there is room.
+    entries: IndexMap<SlotKey, (Det, Known), SeededState>,
+    /// The number of each entry's key is less than this; at most 1 in a run.
+    numbers: u32,
+    /// How many more entries can be added without allocation.
     room: usize,
 }
 
 impl Model for Table {
-    ghost use Rattle.std.specs.Prelude.{vec_capacity};
-    ghost use Rattle.std.specs.Map.{keys_of};
+    ghost use Rattle.std.specs.Map.{values_of};
+    ghost use Rattle.indexmap.specs.IndexMap.{spare};
     ghost use Rattle.causal_log.specs.Inside.Tables.{TableState, IsTable, coded_table};
 
     ghost Value = { TableState };
 
     ghost coded = { coded_table };
 
-    ghost view = { λ t. record { entries = t.entries.items; spare = t.room } };
+    ghost view = { λ t. record { entries = values_of t.entries.entries; spare = t.room } };
 
-    ghost invariant = { λ t. IsTable (keys_of t.entries.items) t.index t.room (vec_capacity t.entries) };
+    ghost invariant = { λ t. IsTable t.entries.entries t.numbers t.room (spare t.entries) };
 }
 
 impl Table {
-    pub(crate) fn new(alloc: Global) -> Table
+    pub(crate) fn new(alloc: Global, seed: u64) -> Table
         ensures entries { result.entries ≡ [] }
     {
         Table {
-            entries: Vec::new(alloc),
-            index: Index {
-                heads: Vec::new(alloc),
-                older: Vec::new(alloc),
-                turn: 0,
-            },
+            entries: IndexMap::with_hasher(alloc, SeededState::new(seed)),
+            numbers: 0,
             room: 0,
         }
     }
@@ -67,10 +72,10 @@ impl Table {
         ensures distinct { IsDistinct same_det (keys_of self.now.entries) }
         ensures few { length self.now.entries + self.now.spare < 2 ^ 32 }
     {
-        self.entries.as_slice()
+        self.entries.values().as_slice()
     }
 
-    /// The place of a determinant's entry, and what is known of it.
+    /// Returns the index of a determinant's entry, and what is known of it.
     pub(crate) fn find(&self, det: Det) -> Option<(usize, Known)>
         ensures known { option_map (λ found. found.1) result ≡
             fin.get (log_of self.now.entries) det }
@@ -78,10 +83,10 @@ impl Table {
             Some (det, found.1)) }
         ensures within { IfSome result (λ found. found.0 < length self.now.entries) }
     {
-        self.index.search(self.entries.as_slice(), det)
+        search(&self.entries, self.numbers, det)
     }
 
-    /// What is known of a determinant whose entry stands at this place.
+    /// Returns what is known of a determinant, if its entry is at this index.
     fn known_at(&self, place: usize, det: Det) -> Option<Known>
         ensures known { IfSome result (IsLogged (log_of self.now.entries) det) }
         ensures place { IfSome result
@@ -105,27 +110,26 @@ impl Table {
     pub(crate) fn least_of(&self, slot: Slot) -> Option<Det>
         ensures { IsLeastOfSlot slot.dest slot.rsn (keys_of self.now.entries) result }
     {
-        if self.index.newest(slot) == 0 {
-            return None;
-        }
-        self.index.least_of_slot(self.entries.as_slice(), slot)
+        least_of_slot(&self.entries, self.numbers, slot)
     }
 
-    /// Joins what is heard to an entry, and tells its place.
-    pub(crate) fn join(&mut self, place: usize, heard: Known) -> usize
+    /// Adds knowledge to the entry at an index, and returns the index.
+    pub(crate) fn merge_at(&mut self, place: usize, news: Known) -> usize
         requires { place < length self.old.entries }
         ensures place { result ≡ place }
         ensures put { (det : Det) (was : Known) →
             slice_get self.old.entries place ≡ Some (det, was) →
-            log_of self.new.entries ≡ fin.insert (log_of self.old.entries) det (joined was heard) }
+            log_of self.new.entries ≡ fin.insert (log_of self.old.entries) det
+            (union_with was news) }
         ensures keys { keys_of self.new.entries ≡ keys_of self.old.entries }
         ensures spare { self.new.spare ≡ self.old.spare }
     {
-        self.entries[place].1 = self.entries[place].1.joined(heard);
+        let entry = &mut self.entries[place];
+        entry.1 = entry.1.union_with(news);
         place
     }
 
-    /// Adds an entry behind the others, in room made before, and tells its place.
+    /// Appends an entry in reserved capacity, and returns its index.
     pub(crate) fn add(&mut self, det: Det, known: Known) -> usize
         requires room { 1 ≤ self.old.spare }
         requires new { fin.get (log_of self.old.entries) det ≡ None }
@@ -134,8 +138,10 @@ impl Table {
         ensures spare { self.old.spare ≡ self.new.spare + 1 }
         ensures place { result ≡ length self.old.entries }
     {
-        self.index.link(det.slot());
-        self.entries.push_reserved((det, known));
+        let slot = det.slot();
+        let number = unused_number(&self.entries, self.numbers, slot);
+        insert_new(&mut self.entries, SlotKey { slot, number }, (det, known));
+        self.numbers = self.numbers.max(number + 1);
         self.room -= 1;
         self.entries.len() - 1
     }
@@ -149,38 +155,24 @@ impl Table {
         if more <= self.room {
             return Ok(());
         }
-        // a number of 32 bits counts them
-        if more > u32::MAX as usize - self.entries.len() {
+        // entries are counted in 32 bits, and so are numbers
+        let count = self.entries.len().max(self.numbers as usize);
+        if more > u32::MAX as usize - count {
             return Err(NoMemory);
         }
         self.entries.reserve(more)?;
-        let len = self.entries.len();
-        let count = self.entries.capacity().min(u32::MAX as usize);
-        self.index.older.reserve(count - len)?;
-        let most = count / 8 * 7;
-        let is_early = count >= LARGE && len + more <= most;
-        let (end, heads) = if is_early {
-            (most, count)
-        } else {
-            (count, 2 * count)
-        };
-        self.index.widen(self.entries.as_slice(), heads)?;
-        self.room = end - len;
+        let room = self.entries.capacity() - self.entries.len();
+        self.room = room.min(u32::MAX as usize - count);
         Ok(())
     }
 
-    /// The same entries, with no room for more.
+    /// Returns a copy of the entries, with no reserved capacity.
     pub(crate) fn try_clone(&self) -> Result<Table, NoMemory>
         ensures { IfOk result (λ copy. copy.entries ≡ self.now.entries) }
     {
-        let alloc = *self.entries.allocator();
         Ok(Table {
-            entries: Vec::from_slice(alloc, self.entries.as_slice())?,
-            index: Index {
-                heads: Vec::from_slice(alloc, self.index.heads.as_slice())?,
-                older: Vec::from_slice(alloc, self.index.older.as_slice())?,
-                turn: self.index.turn,
-            },
+            entries: self.entries.clone()?,
+            numbers: self.numbers,
             room: 0,
         })
     }
@@ -193,11 +185,10 @@ impl Table {
     {
         let before = self.entries.len();
         self.entries.retain(
-            |entry: &(Det, Known)| -> bool
-                ensures { result ≡ not entry.now.1.stable }
+            |_key: &SlotKey, entry: &mut (Det, Known)| -> bool
+                ensures { (result ≡ not entry.old.1.stable) × (entry.new ≡ entry.old) }
             { !entry.1.stable },
         );
-        self.index.lead(self.entries.as_slice());
         (before - self.entries.len()) as u32
     }
 
@@ -207,31 +198,122 @@ impl Table {
         ensures spare { self.new.spare ≡ self.old.spare }
         ensures err { OnErr result (self.new.entries ≡ self.old.entries) }
     {
-        sort(&mut self.entries)?;
-        self.index.lead(self.entries.as_slice());
+        self.entries.sort_by_key(
+            |_key: &SlotKey, entry: &(Det, Known)| -> Det
+                ensures { result ≡ entry.now.0 }
+            { entry.0 },
+        )?;
         Ok(())
     }
 }
 
-/// Learns something of one determinant, in room that there is where it is not logged, and tells where its entry stands.
-#[inline(never)]
-pub(crate) fn learn(entries: &mut Table, det: Det, heard: Known) -> usize
-    requires room { fin.get (log_of entries.old.entries) det ≡ None → 1 ≤ entries.old.spare }
-    ensures learned { log_of entries.new.entries ≡ learned (log_of entries.old.entries) det heard }
-    ensures spare { entries.old.spare ≤ entries.new.spare + 1 }
+/// Entries by slot and number.
+type Entries = IndexMap<SlotKey, (Det, Known), SeededState>;
+
+/// Returns the index of a determinant's entry, and what is known of it. Each entry's number is less than `numbers`.
+fn search(entries: &Entries, numbers: u32, det: Det) -> Option<(usize, Known)>
+    requires { All (HasSlotKey numbers) entries.now.entries }
+    ensures place { IfSome result (λ found. slice_get (values entries.now) found.0 ≡
+        Some (det, found.1)) }
+    ensures within { IfSome result (λ found. found.0 < length (values entries.now)) }
+    ensures absent { IsNone result →
+        list_any (same_det det) (keys_of (values entries.now)) ≡ false }
 {
-    match entries.find(det) {
-        Some((place, _)) => entries.join(place, heard),
-        None => entries.add(det, heard),
+    // for the proof: the contract of `len` states that keys are unique
+    let _len = entries.len();
+    let slot = det.slot();
+    for number in 0..numbers {
+        if let Some(index) = entries.get_index_of(&SlotKey { slot, number }) {
+            let (other, known) = entries[index];
+            if other == det {
+                return Some((index, known));
+            }
+        }
+    }
+    None
+}
+
+/// Returns the determinant of the entry with this slot and number.
+fn det_of_key(entries: &Entries, slot: Slot, number: u32) -> Option<Det>
+    ensures { result ≡ option_map (λ e. e.0)
+        (get same_slot_key entries.now (slot_key slot number)) }
+{
+    let (det, _) = *entries.get(&SlotKey { slot, number })?;
+    Some(det)
+}
+
+/// Returns the lesser of two determinants, or the only one.
+fn lesser_det(found: Option<Det>, other: Option<Det>) -> Option<Det>
+    ensures { result ≡ lesser_det found other }
+{
+    let Some(det) = found else {
+        return other;
+    };
+    match other {
+        Some(lower) if lower.comes_before(&det) => Some(lower),
+        _ => Some(det),
     }
 }
 
-/// Learns what the items of a message from one process tell another, in room made before. Mostly the entries of a list came in
-/// as its determinants do, and stand as far from each other: so each is guessed from the two before it.
+/// Returns the least determinant of a slot. Each entry's number is less than `numbers`.
+fn least_of_slot(entries: &Entries, numbers: u32, slot: Slot) -> Option<Det>
+    requires { All (HasSlotKey numbers) entries.now.entries }
+    ensures { IsLeastOfSlot slot.dest slot.rsn (keys_of (values entries.now)) result }
+{
+    // for the proof: the contract of `len` states that keys are unique
+    let _len = entries.len();
+    let mut least = None;
+    for number in 0..numbers {
+        least = lesser_det(least, det_of_key(entries, slot, number));
+    }
+    least
+}
+
+/// Appends an entry under a new key, in reserved capacity.
+fn insert_new(entries: &mut Entries, key: SlotKey, entry: (Det, Known))
+    requires room { 0 < spare entries.old }
+    requires new { get same_slot_key entries.old key ≡ None }
+    ensures entries { entries.new.entries ≡ entries.old.entries ++ (key, entry) ∷ [] }
+    ensures room { spare entries.old ≤ spare entries.new + 1 }
+{
+    entries.insert(key, entry).unwrap();
+}
+
+/// Returns the least number that no entry of this slot has.
+fn unused_number(entries: &Entries, numbers: u32, slot: Slot) -> u32
+    requires { All (HasSlotKey numbers) entries.now.entries }
+    ensures within { result ≤ numbers }
+    ensures unused { get same_slot_key entries.now (slot_key slot result) ≡ None }
+{
+    for number in 0..numbers {
+        if det_of_key(entries, slot, number).is_none() {
+            return number;
+        }
+    }
+    numbers
+}
+
+/// Learns something of one determinant, in reserved capacity if it is not logged; returns the index of its entry.
+#[inline(never)]
+pub(crate) fn learn(entries: &mut Table, det: Det, news: Known) -> usize
+    requires room { fin.get (log_of entries.old.entries) det ≡ None → 1 ≤ entries.old.spare }
+    ensures learned { log_of entries.new.entries
+        ≡ after_learn (log_of entries.old.entries) det news }
+    ensures spare { entries.old.spare ≤ entries.new.spare + 1 }
+{
+    match entries.find(det) {
+        Some((place, _)) => entries.merge_at(place, news),
+        None => entries.add(det, news),
+    }
+}
+
+/// Learns the items of a message, in reserved capacity. Entries of a list were usually added in the order of its
+/// determinants, at a constant distance. So the index of each is guessed from the two before it, and looked up if the
+/// guess is wrong.
 pub(crate) fn learn_items(entries: &mut Table, items: &[Item], from: Pid, me: Pid)
     requires room { length items.now ≤ entries.old.spare }
     ensures learned { log_of entries.new.entries ≡
-        absorbed items.now from me (log_of entries.old.entries) }
+        after_absorb items.now from me (log_of entries.old.entries) }
     ensures spare { entries.old.spare ≤ entries.new.spare + length items.now }
 {
     if items.is_empty() {
@@ -242,10 +324,10 @@ pub(crate) fn learn_items(entries: &mut Table, items: &[Item], from: Pid, me: Pi
     for item in items {
         let guess = place.wrapping_mul(2).wrapping_sub(last);
         last = place;
-        let heard = item.told(&both);
+        let news = item.receiver_knowledge(&both);
         place = match entries.known_at(guess, item.det) {
-            Some(_) => entries.join(guess, heard),
-            None => learn(entries, item.det, heard),
+            Some(_) => entries.merge_at(guess, news),
+            None => learn(entries, item.det, news),
         };
     }
 }
@@ -253,11 +335,11 @@ pub(crate) fn learn_items(entries: &mut Table, items: &[Item], from: Pid, me: Pi
 pub(crate) fn learn_entries(entries: &mut Table, others: &[(Det, Known)])
     requires room { length others.now ≤ entries.old.spare }
     ensures learned { log_of entries.new.entries ≡
-        learned_all others.now (log_of entries.old.entries) }
+        after_learn_all others.now (log_of entries.old.entries) }
     ensures spare { entries.old.spare ≤ entries.new.spare + length others.now }
 {
-    for (det, heard) in others {
-        learn(entries, *det, *heard);
+    for (det, news) in others {
+        learn(entries, *det, *news);
     }
 }
 
@@ -274,7 +356,7 @@ pub(crate) fn unstable_len(entries: &[(Det, Known)]) -> u32
     entries.iter().filter(|(_, known)| !known.stable).count() as u32
 }
 
-pub(crate) fn carried(
+pub(crate) fn chosen_items(
     alloc: Global,
     entries: &[(Det, Known)],
     f: u16,
@@ -290,15 +372,19 @@ pub(crate) fn carried(
     Ok(items.collect(alloc)?)
 }
 
-pub(crate) fn chosen(alloc: Global, entries: &[(Det, Known)], f: u16) -> Result<Vec<Item>, NoMemory>
+pub(crate) fn sorted_chosen_items(
+    alloc: Global,
+    entries: &[(Det, Known)],
+    f: u16,
+) -> Result<Vec<Item>, NoMemory>
     requires { IsDistinct same_det (keys_of entries.now) }
-    ensures { IfOk result (λ items. items.items ≡ chosen f (log_of entries.now)) }
+    ensures { IfOk result (λ items. items.items ≡ batch_items f (log_of entries.now)) }
 {
     let copy = in_order(alloc, entries)?;
-    carried(alloc, copy.as_slice(), f)
+    chosen_items(alloc, copy.as_slice(), f)
 }
 
-/// A copy of the entries in ascending order.
+/// Returns a copy of the entries in ascending order.
 pub(crate) fn in_order(
     alloc: Global,
     entries: &[(Det, Known)],
@@ -311,15 +397,11 @@ pub(crate) fn in_order(
     Ok(copy)
 }
 
-/// Puts entries in order: in the time of their number where they are a few runs that ascend.
-pub(crate) fn sort(entries: &mut Vec<(Det, Known)>) -> Result<(), NoMemory>
+/// Sorts entries; takes O(entries) time if they are a few ascending runs.
+fn sort(entries: &mut Vec<(Det, Known)>) -> Result<(), NoMemory>
     requires { IsDistinct same_det (keys_of entries.old.items) }
     ensures same { log_of entries.new.items ≡ log_of entries.old.items }
     ensures ascending { OnOk result (is_ascending (keys_of entries.new.items) ≡ true) }
-    ensures distinct { IsDistinct same_det (keys_of entries.new.items) }
-    ensures len { vec_len entries.new ≡ vec_len entries.old }
-    ensures capacity { vec_capacity entries.new ≡ vec_capacity entries.old }
-    ensures err { OnErr result (entries.new.items ≡ entries.old.items) }
 {
     entries.sort_by_key(
         |entry: &(Det, Known)| -> Det
@@ -338,8 +420,8 @@ fn rank(entries: &[(Det, Known)], det: &Det) -> usize
         .count()
 }
 
-/// The determinant that so many come before.
-pub(crate) fn ranked(entries: &[(Det, Known)], place: u32) -> Option<Det>
+/// Returns the determinant that exactly `place` others come before.
+pub(crate) fn det_at_rank(entries: &[(Det, Known)], place: u32) -> Option<Det>
     ensures { result ≡ find (λ d. has_rank entries.now place d) (keys_of entries.now) }
 {
     for (det, _) in entries {

@@ -2,4 +2,5 @@ mod Looks
 mod Outlines
 mod Prefixes
 mod SendLemmas
+pub mod TornLemmas
 mod Wholes

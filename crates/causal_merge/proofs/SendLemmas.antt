@@ -1,4 +1,4 @@
--- What is kept of the sends of a past, against what is said of it.
+-- The invariant of `Sends`, after one more entry.
 use Rattle.std.proofs.Common.{◌≡◌, ℕ, ◌+◌, ◌<◌, ◌≤◌, List, [], ◌∷◌, length, Bool, true, false, cond, arith, get_or, set, ⊎_elim}
 use Rattle.std.specs.Prelude.{◌==◌}
 use Rattle.std.proofs.lemmas.Grind.{common_steps}
@@ -11,7 +11,7 @@ lane_step : (b : Bool) (n m : ℕ) → n ≤ m → cond b (n + 1) n ≤ m + 1
 lane_step true n m h = omega (arith, h)
 lane_step false n m h = omega (arith, h)
 
--- no process has begun more incarnations than there are entries
+-- the present lane (incarnation) of a process is at most the number of entries
 pub lane-le : (past : List Entry) (p : ℕ) → lane past p ≤ length past
 lane-le [] p = omega arith
 lane-le (Send from to ssn ∷ past) p = omega (arith, lane-le past p)
@@ -21,6 +21,6 @@ lane-le (Crash who ∷ past) p = omega (arith, lane-le past p)
 lane-le (Restart who listed ∷ past) p = (let h = lane_step (who.0 == p) (lane past p) (length past) (lane-le past p) in omega (arith, h))
 lane-le (Forget who listed ∷ past) p = omega (arith, lane-le past p)
 
--- one more incarnation of a process
+-- the lanes after one more restart
 pub lane_after : (lanes : List ℕ) (w p v : ℕ) (past : List Entry) → w < length lanes → v ≡ lane past w + 1 → get_or lanes p 0 ≡ lane past p → get_or (set lanes w v) p 0 ≡ cond (w == p) (lane past p + 1) (lane past p)
 lane_after lanes w p v past within is was = ⊎_elim (λ e. grind (arith, common_steps, within, is, was, e)) (λ ne. grind (arith, common_steps, was, ne)) (cases_eq w p)

@@ -1,5 +1,5 @@
--- What private functions keep. No public clause cites these.
-pub mod Gathering
+-- Definitions for private contracts; no public contract cites them.
+pub mod ParsedFiles
 pub mod Sends
 pub mod Values
 pub mod Merger

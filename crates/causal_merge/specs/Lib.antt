@@ -1,10 +1,11 @@
 pub mod Shapes
-pub mod Torn
-pub mod Said
+pub mod TornLines
+pub mod ReadLines
 pub mod Reading
 pub mod Order
-pub mod Merged
-pub mod Merging
+pub mod EventMerge
+pub mod Merges
 pub mod FaultLine
 pub mod Hints
+pub mod Laws
 pub mod Inside

@@ -3,14 +3,14 @@ use Rattle.std.specs.Prelude.{List, IsPermutation}
 use Rattle.std.specs.Ordering.{nat_cmp, ordering_then}
 use Rattle.std.specs.List.Sorted.{IsSorted}
 use Rattle.std.specs.declared.cmp.Ordering.{Ordering}
-use Rattle.causal_merge.specs.declared.event.Placed.{Placed}
+use Rattle.causal_merge.specs.declared.event.EventAtLine.{EventAtLine}
 
 -- by clock, then process, then line of the input
-abbrev pub placed_cmp : Placed → Placed → Ordering
+abbrev pub placed_cmp : EventAtLine → EventAtLine → Ordering
 placed_cmp a b =
     ordering_then (ordering_then (nat_cmp a.event.clock b.event.clock) (nat_cmp a.event.process.0 b.event.process.0)) (nat_cmp a.line b.line)
 
--- the same events, and none comes before the one that it follows
-pub record IsMergedOrder (events order : List Placed) : Type 0 where
+-- the same events, sorted into the merge order
+pub record IsMergedOrder (events order : List EventAtLine) : Type 0 where
   pub same : IsPermutation events order
   pub ascends : IsSorted placed_cmp order

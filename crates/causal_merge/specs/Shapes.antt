@@ -1,4 +1,4 @@
--- What a line's JSON value says: a header, an event, or what another process was heard to say.
+-- The content of a line's JSON value: a header, an event, or another process's clock that was heard.
 use Rattle.std.specs.Prelude.{ℕ, ◌==◌, codes, if◌then◌else◌, Result, Ok, Err}
 use Rattle.serde_json.specs.Data.{Data}
 use Rattle.causal_name.specs.declared.Pid.{Pid}
@@ -6,71 +6,71 @@ use Rattle.causal_trace.specs.Limits.{is_process_count}
 use Rattle.causal_line.specs.declared.kind.TextKind.{TextKind}
 use Rattle.causal_line.specs.declared.kind.TextKind.TheVariants.{Form, Version, Processes}
 use Rattle.causal_line.specs.Reading.{◌>>=◌}
-use Rattle.causal_line.specs.Shapes.{field, u32_at, u64_at, pid_at, det_of, dets_at, begins}
-use Rattle.causal_merge.specs.declared.event.Act.{Act}
-use Rattle.causal_merge.specs.declared.event.Act.TheVariants.{Send, Deliver, Stable, Crash, Restart, Forget}
-use Rattle.causal_merge.specs.declared.event.Line.{Line}
-use Rattle.causal_merge.specs.declared.event.Line.TheVariants as says
+use Rattle.causal_line.specs.ParsedLines.{field, u32_at, u64_at, pid_at, det_of, dets_at, is_array_named}
+use Rattle.causal_merge.specs.declared.event.Action.{Action}
+use Rattle.causal_merge.specs.declared.event.Action.TheVariants.{Send, Deliver, Stable, Crash, Restart, Forget}
+use Rattle.causal_merge.specs.declared.event.RecorderLine.{RecorderLine}
+use Rattle.causal_merge.specs.declared.event.RecorderLine.TheVariants as says
 
 -- a header's version is 1, and a run has 1 to 256 processes
-abbrev pub header_with : Pid → ℕ → ℕ → ℕ → Result Line TextKind
-header_with process version processes number =
+abbrev pub check_header_values : Pid → ℕ → ℕ → ℕ → Result RecorderLine TextKind
+check_header_values process version processes number =
     if version == 1 then (if is_process_count processes then Ok (says.Header process (record { processes = processes; number = number })) else Err Processes) else Err Version
 
 -- `["recording",process,version,processes,run]`
-unfoldable pub header_of : Data → Result Line TextKind
+unfoldable pub header_of : Data → Result RecorderLine TextKind
 header_of d = do
   process ← pid_at 1 d
   version ← u32_at 2 d
   processes ← u32_at 3 d
   number ← u64_at 4 d
-  header_with process version processes number
+  check_header_values process version processes number
 
 -- `[word,process,clock,..]`
-unfoldable pub event_with : Data → Act → Result Line TextKind
-event_with d act = do
+unfoldable pub parse_event : Data → Action → Result RecorderLine TextKind
+parse_event d act = do
   process ← pid_at 1 d
   clock ← u64_at 2 d
   Ok (says.Event (record { process = process; clock = clock; act = act }))
 
 -- `["send",process,clock,to,ssn]`
-unfoldable pub send_of : Data → Result Line TextKind
+unfoldable pub send_of : Data → Result RecorderLine TextKind
 send_of d = do
   to ← pid_at 3 d
   ssn ← u32_at 4 d
-  event_with d (Send to ssn)
+  parse_event d (Send to ssn)
 
 -- `["deliver",process,clock,source,lane,ssn,rsn,[dets]]`
-unfoldable pub deliver_of : Data → Result Line TextKind
+unfoldable pub deliver_of : Data → Result RecorderLine TextKind
 deliver_of d = do
   source ← pid_at 3 d
   lane ← u32_at 4 d
   ssn ← u32_at 5 d
   rsn ← u32_at 6 d
   listed ← dets_at 7 d
-  event_with d (Deliver source lane ssn rsn listed)
+  parse_event d (Deliver source lane ssn rsn listed)
 
 -- `["stable",process,clock,det]`
-unfoldable pub stable_of : Data → Result Line TextKind
+unfoldable pub stable_of : Data → Result RecorderLine TextKind
 stable_of d = do
   named ← field 3 d
   det ← det_of named
-  event_with d (Stable det)
+  parse_event d (Stable det)
 
 -- `["restart",process,clock,[dets]]`
-unfoldable pub restart_of : Data → Result Line TextKind
+unfoldable pub restart_of : Data → Result RecorderLine TextKind
 restart_of d = do
   listed ← dets_at 3 d
-  event_with d (Restart listed)
+  parse_event d (Restart listed)
 
 -- `["forget",process,clock,[dets]]`
-unfoldable pub forget_of : Data → Result Line TextKind
+unfoldable pub forget_of : Data → Result RecorderLine TextKind
 forget_of d = do
   listed ← dets_at 3 d
-  event_with d (Forget listed)
+  parse_event d (Forget listed)
 
--- `["heard",process,clock,from,its clock]`: only its shape is asked
-unfoldable pub heard_of : Data → Result Line TextKind
+-- `["heard",process,clock,from,its clock]`: only its shape is checked
+unfoldable pub heard_of : Data → Result RecorderLine TextKind
 heard_of d = do
   process ← pid_at 1 d
   clock ← u64_at 2 d
@@ -78,15 +78,15 @@ heard_of d = do
   sent ← u64_at 4 d
   Ok says.Heard
 
--- the shapes; a value that has none of them is refused
-unfoldable pub line_of : Data → Result Line TextKind
+-- the shapes of a line; a value that has none of them is refused
+unfoldable pub line_of : Data → Result RecorderLine TextKind
 line_of d =
-    if begins d (codes "recording") 5 then header_of d else
-    if begins d (codes "send") 5 then send_of d else
-    if begins d (codes "deliver") 8 then deliver_of d else
-    if begins d (codes "stable") 4 then stable_of d else
-    if begins d (codes "crash") 3 then event_with d Crash else
-    if begins d (codes "restart") 4 then restart_of d else
-    if begins d (codes "forget") 4 then forget_of d else
-    if begins d (codes "heard") 5 then heard_of d else
+    if is_array_named d (codes "recording") 5 then header_of d else
+    if is_array_named d (codes "send") 5 then send_of d else
+    if is_array_named d (codes "deliver") 8 then deliver_of d else
+    if is_array_named d (codes "stable") 4 then stable_of d else
+    if is_array_named d (codes "crash") 3 then parse_event d Crash else
+    if is_array_named d (codes "restart") 4 then restart_of d else
+    if is_array_named d (codes "forget") 4 then forget_of d else
+    if is_array_named d (codes "heard") 5 then heard_of d else
     Err Form

@@ -1,20 +1,20 @@
-//! What a line of a recording says.
+//! The content of a line of a recorder file.
 ghost use Rattle.std.specs.Prelude.{◌≡◌, length};
-ghost use Rattle.causal_merge.specs.Merged.{listed_by};
+ghost use Rattle.causal_merge.specs.EventMerge.{listed_by};
 
 use causal_name::{Det, Pid};
 use causal_trace::entry::Dets;
 
 /// What a process did.
 #[derive(Drop)]
-pub(crate) enum Act {
-    /// It sends its incarnation's message number `ssn` to `to`.
+pub(crate) enum Action {
+    /// It sends message number `ssn` of its lane (incarnation) to `to`.
     Send {
         to: Pid,
         ssn: u32,
     },
-    /// It delivers message number `ssn` of the source's incarnation `lane`, as its own incarnation's delivery number
-    /// `rsn`, and logs the listed determinants.
+    /// It delivers message number `ssn` of the source's lane `lane`, as delivery number `rsn` of its own lane, and logs
+    /// the listed determinants.
     Deliver {
         source: Pid,
         lane: u32,
@@ -28,58 +28,58 @@ pub(crate) enum Act {
     },
     /// It goes down.
     Crash,
-    /// It comes up in its next incarnation, with the listed determinants in its log.
+    /// It comes up in its next lane, with the listed determinants in its log.
     Restart {
         listed: Dets,
     },
-    /// It takes the listed determinants out of its log.
+    /// It removes the listed determinants from its log.
     Forget {
         listed: Dets,
     },
 }
 
-impl Act {
-    /// How many determinants it lists.
-    pub(crate) fn listed(&self) -> usize
+impl Action {
+    /// Returns the number of determinants that it lists.
+    pub(crate) fn listed_count(&self) -> usize
         ensures { result ≡ length (listed_by self.now) }
     {
         match self {
-            Act::Deliver { listed, .. } => listed.as_slice().len(),
-            Act::Restart { listed } => listed.as_slice().len(),
-            Act::Forget { listed } => listed.as_slice().len(),
+            Action::Deliver { listed, .. } => listed.as_slice().len(),
+            Action::Restart { listed } => listed.as_slice().len(),
+            Action::Forget { listed } => listed.as_slice().len(),
             _ => 0,
         }
     }
 }
 
-/// What a process did, by its clock.
+/// What a process did, and its clock then.
 #[derive(Drop)]
-pub(crate) struct Event {
+pub(crate) struct RecordedEvent {
     pub process: Pid,
     pub clock: u64,
-    pub act: Act,
+    pub act: Action,
 }
 
 /// An event, and the number of its line in the input, from 1.
 #[derive(Drop)]
-pub(crate) struct Placed {
+pub(crate) struct EventAtLine {
     pub line: u32,
-    pub event: Event,
+    pub event: RecordedEvent,
 }
 
-/// What all headers of a run say alike: how many processes it has, 1 to 256, and its number.
+/// The run, on which all its headers agree: its number of processes, 1 to 256, and its run number.
 #[derive(Clone, Copy)]
-pub(crate) struct Run {
+pub(crate) struct RunHeader {
     pub processes: u16,
     pub number: u64,
 }
 
-/// What a line says.
+/// The content of a line.
 #[derive(Drop)]
-pub(crate) enum Line {
+pub(crate) enum RecorderLine {
     Blank,
     Torn,
     Heard,
-    Header { process: Pid, run: Run },
-    Event { event: Event },
+    Header { process: Pid, run: RunHeader },
+    Event { event: RecordedEvent },
 }

@@ -1,22 +1,22 @@
-//! Why recordings make no trace.
+//! Why recorder files cannot be merged.
 use causal_line::kind::TextKind;
 use thiserror::Error;
 
-/// What is wrong with recordings. A line has a kind of a trace's text where it means the same.
+/// What is wrong with recorder files. An error of a line has its kind from a trace's text, if the meaning is the same.
 #[derive(Clone, Copy, Debug, PartialEq, Eq, Error)]
 pub enum MergeKind {
-    /// Some process of the run, or every process, has no header. The line is the one that would come next.
+    /// Some process of the run, or every process, has no header. The error's line is the one after the last.
     #[error("some process has no header")]
     NoHeader,
-    /// The event before this one, in the merged order, has the same clock and process.
+    /// The previous event in the merge order has the same clock and process.
     #[error("another line of this process has the same clock")]
     Twice,
-    /// As in the text of a trace. `Header` is told of a header that differs from the first one.
+    /// An error as in the text of a trace. `Header` is a header that differs from the first one.
     #[error(transparent)]
     Line(TextKind),
 }
 
-/// Why recordings make no trace: a line of the input, counted from 1, and what is wrong with it.
+/// Why recorder files cannot be merged: a line of the input, counted from 1, and what is wrong with it.
 #[derive(Clone, Copy, Debug, PartialEq, Eq, Error)]
 #[error("line {line}: {kind}")]
 pub struct MergeFault {

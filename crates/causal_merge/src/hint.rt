@@ -1,4 +1,4 @@
-//! What a fault of recordings may come from.
+//! Possible causes of an error of recorder files.
 ghost use Rattle.std.specs.Prelude.{◌≡◌, option_map};
 ghost use Rattle.causal_merge.specs.Hints.{hint_of, line_hint};
 
@@ -6,7 +6,7 @@ use crate::fault::MergeKind;
 use causal_line::kind::TextKind;
 
 impl MergeKind {
-    /// What a fault of this kind may come from, for people; None where its sentence says all.
+    /// Returns a possible cause of an error of this kind, for people; None if its sentence is enough.
     pub fn hint(self) -> Option<&'static str>
         ensures { option_map (λ text. text.now) result ≡ hint_of self }
     {

@@ -1,40 +1,42 @@
-//! The recordings of the processes of one run, merged into one trace.
+//! Merges the recorder files of the processes of one run into one trace.
 //!
-//! Begin at [`merge_text`]: it reads the lines of all recordings, in any order, and gives the trace that they make, or the
-//! first fault; [`fault_line`] is the line that it prints as. [`merge_within`] does so by limits that the caller sets, and
-//! [`bytes_within`] tells how many bytes recordings then have at most.
+//! Start at [`merge_text`]: it reads the lines of all files, in any order, and returns the trace or the first error;
+//! [`fault_line`] returns the line that prints the error. [`merge_within`] merges within limits that the caller sets,
+//! and [`max_input_len`] returns the maximum size of recorder files for them.
 #![tactic(auto)]
 
-/// What a line says.
+/// The content of a line.
 mod event;
-/// The faults of recordings.
+/// The errors of recorder files.
 pub mod fault;
-/// What the lines so far have said.
-mod gathered;
-/// What a fault may come from.
+/// The content of the lines read so far.
+mod parsed_files;
+/// Possible causes of an error.
 mod hint;
-/// How many bytes recordings may have.
+/// The maximum size of recorder files.
 pub mod limits;
-/// From the bytes of a line to what it says.
-mod line;
-/// From the recordings to the trace.
+/// Laws of torn lines.
+pub mod laws;
+/// Parses the bytes of a line.
+mod line_parser;
+/// Merges recorder files into a trace.
 pub mod merge;
-/// From events in the merged order to entries.
+/// Converts events in the merge order to entries.
 mod merger;
-/// The merged order.
+/// The merge order of events.
 mod order;
-/// The lines of a text.
-mod reading;
-/// How a fault prints.
+/// Reads the lines of a text.
+mod input_reader;
+/// The printed line of an error.
 pub mod report;
-/// Where each message was sent.
+/// The position of each send.
 mod sends;
-/// Lines that say nothing.
-mod torn;
+/// Blank and torn lines.
+mod torn_lines;
 /// The JSON value of a line.
 mod value;
 
 pub use fault::{MergeFault, MergeKind};
-pub use limits::bytes_within;
-pub use merge::{Merged, merge_text, merge_within};
+pub use limits::max_input_len;
+pub use merge::{MergedTrace, merge_text, merge_within};
 pub use report::fault_line;

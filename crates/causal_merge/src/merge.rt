@@ -1,32 +1,34 @@
-//! The recordings of a run, merged.
+//! Merges the recorder files of a run.
 ghost use Rattle.std.specs.Prelude.{◌≢◌, IfOk, IfErr};
-ghost use Rattle.causal_merge.specs.Merging.{Merges, MergesWithin, IsFirstFault, IsFirstFaultWithin};
+ghost use Rattle.causal_merge.specs.Merges.{Merges, MergesWithin, IsFirstFault, IsFirstFaultWithin};
 
 use crate::fault::{MergeFault, MergeKind};
-use crate::gathered::Gathered;
+use crate::input_reader::read_lines;
 use crate::merger::merge_events;
-use crate::order::put_in_order;
-use crate::reading::read_lines;
+use crate::order::sort_events;
+use crate::parsed_files::ParsedFiles;
 use causal_line::kind::TextKind;
 use causal_trace::limits::{DEFAULT_LIMITS, Limits};
 use causal_trace::trace::Trace;
 use std::alloc::Global;
 
-/// The trace of a run, and the lines that say nothing because a kill has cut them.
+/// The trace of a run, and the torn lines, which a kill cut short and which are skipped.
 #[derive(Drop)]
-pub struct Merged {
+pub struct MergedTrace {
     pub trace: Trace,
     /// Their numbers in the input, from 1, ascending.
     pub torn: Vec<u32>,
 }
 
-/// The trace that the recordings of all processes of one run make, by the usual limits. The text has their lines in any order, in
-/// 67,108,864 bytes at most. A fault other than `NoMemory` is the first one: of the lines as they stand, else that a recording is
-/// missing, else of the events in the merged order. `NoMemory` is answered only where a growth was refused.
+/// Returns the trace merged from the recorder files of all processes of one run, within the default limits. The text
+/// has their lines in any order, in at most 67,108,864 bytes.
 ///
-/// It reads each line once and sorts the events. Beyond that an event costs the logarithm of the number of sends, and
-/// what a push of its entry costs.
-pub fn merge_text(alloc: Global, text: &[u8]) -> Result<Merged, MergeFault>
+/// An error other than `NoMemory` is the first: of the lines in the order of the input, else a missing file, else of
+/// the events in the merge order. `NoMemory` is returned only if an allocation failed.
+///
+/// Each line is read once, and the n events are sorted in O(n log n) time. Then each event costs O(log sends) time and
+/// one push of its entry.
+pub fn merge_text(alloc: Global, text: &[u8]) -> Result<MergedTrace, MergeFault>
     ensures ok { IfOk result (λ merged. Merges text.now merged.trace.recording merged.torn.items) }
     ensures err { IfErr result
         (λ fault. fault.kind ≢ MergeKind.Line TextKind.NoMemory → IsFirstFault text.now fault) }
@@ -34,9 +36,9 @@ pub fn merge_text(alloc: Global, text: &[u8]) -> Result<Merged, MergeFault>
     merge_within(alloc, text, DEFAULT_LIMITS)
 }
 
-/// `merge_text` by these limits in place of the usual ones: a trace of up to `limits.entries` entries, which list up to 16
-/// determinants for each of them in all, and recordings of up to [`bytes_within`](crate::bytes_within) bytes.
-pub fn merge_within(alloc: Global, text: &[u8], limits: Limits) -> Result<Merged, MergeFault>
+/// Merges as `merge_text` does, within the given limits. The trace has at most `limits.entries` entries, which together
+/// list at most 16 determinants per entry. The files have at most [`max_input_len`](crate::bytes_within) bytes.
+pub fn merge_within(alloc: Global, text: &[u8], limits: Limits) -> Result<MergedTrace, MergeFault>
     ensures ok { IfOk result
         (λ merged. MergesWithin limits.entries text.now merged.trace.recording merged.torn.items) }
     ensures err { IfErr result (λ fault. fault.kind ≢ MergeKind.Line TextKind.NoMemory
@@ -44,12 +46,12 @@ pub fn merge_within(alloc: Global, text: &[u8], limits: Limits) -> Result<Merged
 {
     let gathered = read_lines(alloc, limits, text)?;
     let run = gathered.whole_run()?;
-    let Gathered {
+    let ParsedFiles {
         mut events,
         torn,
         ..
     } = gathered;
-    put_in_order(&mut events);
+    sort_events(&mut events);
     let trace = merge_events(alloc, limits, run.processes, events)?;
-    Ok(Merged { trace, torn })
+    Ok(MergedTrace { trace, torn })
 }

@@ -1,16 +1,16 @@
-//! From events in the merged order to the entries of a trace.
+//! Converts events in the merge order to the entries of a trace.
 ghost use Rattle.std.specs.Prelude.{◌≡◌, ◌≢◌, ◌∷◌, [], ℕ, List, length, Some, None, Ok, IfOk, OnOk, IfErr, reverse, option_map, unwrap_or};
 ghost use Rattle.causal_trace.specs.declared.fault.TraceFault.{TraceFault};
 ghost use Rattle.causal_trace.specs.Limits.{IsProcessCount};
 ghost use Rattle.causal_trace.specs.Rows.{fault_within};
 ghost use Rattle.causal_trace.specs.State.{with_entry};
-ghost use Rattle.causal_line.specs.Kinds.{kind_of};
-ghost use Rattle.causal_merge.specs.declared.event.Placed.{Placed};
-ghost use Rattle.causal_merge.specs.Merged.{has_processes, send_position, entry_of, early_fault, event_fault, merged};
-ghost use Rattle.causal_merge.specs.Inside.Sends.{IsOf};
+ghost use Rattle.causal_line.specs.Kinds.{text_kind_of};
+ghost use Rattle.causal_merge.specs.declared.event.EventAtLine.{EventAtLine};
+ghost use Rattle.causal_merge.specs.EventMerge.{has_processes, send_position, entry_of, event_fault_before_push, event_fault, merge_events_of};
+ghost use Rattle.causal_merge.specs.Inside.Sends.{IsSendsOf};
 ghost use Rattle.causal_merge.specs.Inside.Merger.{HasMerged, IsFaultOf, newest, is_newest};
 
-use crate::event::{Act, Event, Placed};
+use crate::event::{Action, EventAtLine, RecordedEvent};
 use crate::fault::{MergeFault, MergeKind};
 use crate::sends::{SendName, Sends};
 use causal_line::kind::TextKind;
@@ -20,7 +20,7 @@ use causal_trace::limits::Limits;
 use causal_trace::trace::Trace;
 use std::alloc::Global;
 
-/// The trace of the events so far, where each message was sent, and the clock and process of the newest event.
+/// The trace of the events so far, the position of each send, and the clock and process of the newest event.
 #[derive(Drop)]
 pub(crate) struct Merger {
     trace: Trace,
@@ -29,7 +29,7 @@ pub(crate) struct Merger {
 }
 
 impl Merger {
-    /// Of no events.
+    /// Starts without events.
     pub(crate) fn new(alloc: Global, processes: u16) -> Result<Merger, TextKind>
         requires { IsProcessCount processes }
         ensures ok { IfOk result (λ m. ((most : ℕ) → HasMerged most m [])
@@ -44,7 +44,7 @@ impl Merger {
     }
 
     // whether the newest event has the clock and the process of the next one
-    fn is_twice(&self, event: &Event) -> bool
+    fn is_duplicate(&self, event: &RecordedEvent) -> bool
         ensures { result ≡ is_newest self.now.last event.now }
     {
         match self.last {
@@ -53,29 +53,29 @@ impl Merger {
         }
     }
 
-    // whether each process that an event names is one of the run
-    fn has_processes(&self, event: &Event) -> bool
+    // whether each process that an event names is in the run
+    fn has_processes(&self, event: &RecordedEvent) -> bool
         ensures { result ≡ has_processes self.now.trace.recording.processes event.now }
     {
         let n = self.trace.processes();
         let other = match &event.act {
-            Act::Send { to, .. } => u16::from(to.0) < n,
-            Act::Deliver { source, .. } => u16::from(source.0) < n,
+            Action::Send { to, .. } => u16::from(to.0) < n,
+            Action::Deliver { source, .. } => u16::from(source.0) < n,
             _ => true,
         };
         u16::from(event.process.0) < n && other
     }
 
-    // what stands against the next event, before it is an entry
-    fn early_fault(&self, limits: Limits, event: &Event) -> Option<MergeKind>
-        ensures { (before : List Placed) → self.now.last ≡ newest before
-            → result ≡ early_fault limits.entries self.now.trace.recording.processes before
+    // the first error of the next event that does not depend on its entry
+    fn event_fault_before_push(&self, limits: Limits, event: &RecordedEvent) -> Option<MergeKind>
+        ensures { (before : List EventAtLine) → self.now.last ≡ newest before
+            → result ≡ event_fault_before_push limits.entries self.now.trace.recording.processes before
             self.now.trace.recording.past event.now }
     {
-        if self.is_twice(event) {
+        if self.is_duplicate(event) {
             return Some(MergeKind::Twice);
         }
-        if self.trace.passes(limits, event.act.listed()) {
+        if self.trace.exceeds(limits, event.act.listed_count()) {
             return Some(MergeKind::Line(TextKind::TooLong));
         }
         if !self.has_processes(event) {
@@ -84,26 +84,27 @@ impl Merger {
         None
     }
 
-    // the position of a send, or that of the next entry where there is no such send
+    // the position of a send, or that of the next entry if the send is missing
     fn send_position(&self, name: SendName) -> u32
-        ensures { IsOf self.now.sends self.now.trace.recording.past → result
-            ≡ unwrap_or (send_position self.now.trace.recording.past name) (length self.now.trace.recording.past) }
+        ensures { IsSendsOf self.now.sends self.now.trace.recording.past → result
+            ≡ unwrap_or (send_position self.now.trace.recording.past name)
+            (length self.now.trace.recording.past) }
     {
         self.sends.position(name).unwrap_or(self.trace.len())
     }
 
-    // the entry that the next event becomes
-    fn entry_of(&self, process: Pid, act: Act) -> Entry
-        ensures { IsOf self.now.sends self.now.trace.recording.past
+    // the entry for the next event
+    fn entry_of(&self, process: Pid, act: Action) -> Entry
+        ensures { IsSendsOf self.now.sends self.now.trace.recording.past
             → result ≡ entry_of self.now.trace.recording.past process act }
     {
         match act {
-            Act::Send { to, ssn } => Entry::Send {
+            Action::Send { to, ssn } => Entry::Send {
                 from: process,
                 to,
                 ssn,
             },
-            Act::Deliver {
+            Action::Deliver {
                 source,
                 lane,
                 ssn,
@@ -115,28 +116,28 @@ impl Merger {
                 rsn,
                 listed,
             },
-            Act::Stable { det } => Entry::Stable { det },
-            Act::Crash => Entry::Crash { who: process },
-            Act::Restart { listed } => Entry::Restart {
+            Action::Stable { det } => Entry::Stable { det },
+            Action::Crash => Entry::Crash { who: process },
+            Action::Restart { listed } => Entry::Restart {
                 who: process,
                 listed,
             },
-            Act::Forget { listed } => Entry::Forget {
+            Action::Forget { listed } => Entry::Forget {
                 who: process,
                 listed,
             },
         }
     }
 
-    // takes one more entry, where nothing stands against it
+    // appends an entry, unless the trace refuses it
     fn push(&mut self, limits: Limits, entry: Entry) -> Result<(), TextKind>
         ensures legal { OnOk result
             (fault_within limits.entries self.old.trace.recording entry ≡ None) }
         ensures ok { OnOk result
             (self.new.trace.recording ≡ with_entry self.old.trace.recording entry) }
-        ensures sends { OnOk result (IsOf self.old.sends self.old.trace.recording.past
-            → IsOf self.new.sends self.new.trace.recording.past) }
-        ensures err { IfErr result (λ kind. kind ≢ TextKind.NoMemory → option_map kind_of
+        ensures sends { OnOk result (IsSendsOf self.old.sends self.old.trace.recording.past
+            → IsSendsOf self.new.sends self.new.trace.recording.past) }
+        ensures err { IfErr result (λ kind. kind ≢ TextKind.NoMemory → option_map text_kind_of
             (fault_within limits.entries self.old.trace.recording entry) ≡ Some kind) }
     {
         self.sends.note(&entry, self.trace.len())?;
@@ -144,22 +145,22 @@ impl Merger {
         Ok(())
     }
 
-    // takes the next event, where nothing stands against it
-    fn admit(&mut self, limits: Limits, event: Event) -> Result<(), MergeKind>
-        ensures ok { OnOk result ((before : List Placed) (line : ℕ)
+    // merges the next event, unless it has an error
+    fn push_event(&mut self, limits: Limits, event: RecordedEvent) -> Result<(), MergeKind>
+        ensures ok { OnOk result ((before : List EventAtLine) (line : ℕ)
             → HasMerged limits.entries self.old before
             → HasMerged limits.entries self.new (record { line = line; event = event } ∷ before)) }
         ensures err { IfErr result (λ kind. kind ≢ MergeKind.Line TextKind.NoMemory
-            → (before : List Placed) → HasMerged limits.entries self.old before
+            → (before : List EventAtLine) → HasMerged limits.entries self.old before
             → event_fault limits.entries self.old.trace.recording.processes before
             self.old.trace.recording.past event ≡ Some kind) }
         ensures processes { OnOk result
             (self.new.trace.recording.processes ≡ self.old.trace.recording.processes) }
     {
-        if let Some(kind) = self.early_fault(limits, &event) {
+        if let Some(kind) = self.event_fault_before_push(limits, &event) {
             return Err(kind);
         }
-        let Event {
+        let RecordedEvent {
             process,
             clock,
             act,
@@ -172,24 +173,29 @@ impl Merger {
         Ok(())
     }
 
-    /// Takes the next event in the merged order.
-    pub(crate) fn take(&mut self, limits: Limits, placed: Placed) -> Result<(), MergeFault>
-        ensures ok { OnOk result ((before : List Placed) → HasMerged limits.entries self.old before
+    /// Merges the next event in the merge order.
+    pub(crate) fn merge_event(
+        &mut self,
+        limits: Limits,
+        placed: EventAtLine,
+    ) -> Result<(), MergeFault>
+        ensures ok { OnOk result ((before : List EventAtLine) →
+            HasMerged limits.entries self.old before
             → HasMerged limits.entries self.new (placed ∷ before)) }
-        ensures err { IfErr result (λ fault. (before : List Placed)
+        ensures err { IfErr result (λ fault. (before : List EventAtLine)
             → HasMerged limits.entries self.old before
             → IsFaultOf limits.entries self.old.trace.recording.processes fault (placed ∷ before)) }
         ensures processes { OnOk result
             (self.new.trace.recording.processes ≡ self.old.trace.recording.processes) }
     {
-        let Placed { line, event } = placed;
-        match self.admit(limits, event) {
+        let EventAtLine { line, event } = placed;
+        match self.push_event(limits, event) {
             Ok(()) => Ok(()),
             Err(kind) => Err(MergeFault { line, kind }),
         }
     }
 
-    /// The trace of the events.
+    /// Returns the trace of the events.
     pub(crate) fn into_trace(self) -> Trace
         ensures { result ≡ self.trace }
     {
@@ -197,15 +203,16 @@ impl Merger {
     }
 }
 
-/// The trace of these events, which stand in the merged order, or the first fault of one of them.
+/// Returns the trace of these events, which are in the merge order, or the first error of one of them.
 pub(crate) fn merge_events(
     alloc: Global,
     limits: Limits,
     processes: u16,
-    events: Vec<Placed>,
+    events: Vec<EventAtLine>,
 ) -> Result<Trace, MergeFault>
     requires { IsProcessCount processes }
-    ensures ok { IfOk result (λ trace. merged limits.entries processes (reverse events.items)
+    ensures ok { IfOk result (λ trace. merge_events_of limits.entries processes
+        (reverse events.items)
         ≡ Ok trace.recording.past) }
     ensures processes { IfOk result (λ trace. trace.recording.processes ≡ processes) }
     ensures err { IfErr result
@@ -221,7 +228,7 @@ pub(crate) fn merge_events(
         }
     };
     for placed in events {
-        merger.take(limits, placed)?;
+        merger.merge_event(limits, placed)?;
     }
     Ok(merger.into_trace())
 }

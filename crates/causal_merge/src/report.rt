@@ -1,4 +1,4 @@
-//! How a fault prints.
+//! The printed line of an error.
 ghost use Rattle.std.specs.Prelude.{◌≡◌, IfOk};
 ghost use Rattle.causal_merge.specs.FaultLine.{named_line, fault_line};
 
@@ -15,8 +15,8 @@ fn named_line(alloc: Global, line: u32, name: &str) -> Result<Vec<u8>, NoMemory>
     Ok(text.into_bytes())
 }
 
-/// The line that a fault prints as: `fault line=3 Twice`, with a line feed. `NoMemory` is answered only where a growth
-/// was refused.
+/// Returns the line that prints an error: `fault line=3 Twice`, with a line feed. `NoMemory` is returned only if an
+/// allocation failed.
 pub fn fault_line(alloc: Global, fault: &MergeFault) -> Result<Vec<u8>, NoMemory>
     ensures { IfOk result (λ text. text.items ≡ fault_line fault.now) }
 {

@@ -1,9 +1,9 @@
-//! Where each message was sent: found in a sorted index, so that no search passes over the run.
+//! The position of each send, in a sorted index, so that no lookup scans the run.
 ghost use Rattle.std.specs.Prelude.{◌≡◌, ◌∷◌, ◌<◌, ◌≤◌, [], List, ℕ, length, OnOk, IfErr};
 ghost use Rattle.causal_trace.specs.declared.entry.Entry.{Entry};
 ghost use Rattle.causal_trace.specs.Limits.{max_entries};
-ghost use Rattle.causal_merge.specs.Merged.{send_position};
-ghost use Rattle.causal_merge.specs.Inside.Sends.{IsOf};
+ghost use Rattle.causal_merge.specs.EventMerge.{send_position};
+ghost use Rattle.causal_merge.specs.Inside.Sends.{IsSendsOf};
 
 use causal_line::kind::TextKind;
 use causal_name::Pid;
@@ -11,7 +11,7 @@ use causal_trace::entry::Entry;
 use std::alloc::Global;
 use std::collections::BTreeMap;
 
-/// A send: its process, the process's incarnation, and its number there.
+/// A send: its process, the lane (incarnation) of that process, and its number there.
 #[derive(Clone, Copy, Debug, PartialEq, Eq, PartialOrd, Ord)]
 pub(crate) struct SendName {
     pub source: Pid,
@@ -19,8 +19,7 @@ pub(crate) struct SendName {
     pub ssn: u32,
 }
 
-/// The position of each send, and the present incarnation of each process. A look-up and an entry more take a time that
-/// grows as the logarithm of the number of sends.
+/// The position of each send, and the present lane of each process. A lookup and an insertion cost O(log sends).
 #[derive(Drop)]
 pub(crate) struct Sends {
     positions: BTreeMap<SendName, u32>,
@@ -28,9 +27,9 @@ pub(crate) struct Sends {
 }
 
 impl Sends {
-    /// Of no entries.
+    /// Starts without entries.
     pub(crate) fn new(alloc: Global) -> Sends
-        ensures { IsOf result [] }
+        ensures { IsSendsOf result [] }
     {
         Sends {
             positions: BTreeMap::new(alloc),
@@ -38,18 +37,19 @@ impl Sends {
         }
     }
 
-    /// The position of a send.
+    /// Returns the position of a send; None if it is missing.
     pub(crate) fn position(&self, name: SendName) -> Option<u32>
-        ensures { (past : List Entry) → IsOf self.now past → result ≡ send_position past name }
+        ensures { (past : List Entry) → IsSendsOf self.now past → result ≡ send_position past name }
     {
         self.positions.get(&name).copied()
     }
 
-    /// Notes the entry that comes next, at this position.
+    /// Records the next entry, at this position.
     pub(crate) fn note(&mut self, entry: &Entry, position: u32) -> Result<(), TextKind>
         requires { position ≤ max_entries }
-        ensures ok { OnOk result ((past : List Entry) → IsOf self.old past → position ≡ length past
-            → IsOf self.new (entry.now ∷ past)) }
+        ensures ok { OnOk result ((past : List Entry) → IsSendsOf self.old past →
+            position ≡ length past
+            → IsSendsOf self.new (entry.now ∷ past)) }
         ensures err { IfErr result (λ kind. kind ≡ TextKind.NoMemory) }
     {
         match entry {

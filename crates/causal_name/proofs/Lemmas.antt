@@ -1,2 +1,2 @@
--- What crates above may cite of this crate's proofs.
+-- Lemmas that the crates above may cite.
 pub mod DetOrder

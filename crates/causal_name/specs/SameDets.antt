@@ -1,8 +1,8 @@
--- That `==` on determinants is an equivalence.
+-- Equality of determinants as an equivalence relation.
 use Rattle.std.specs.Cmp.{IsEquivalence, nat_eq_equiv, on_equiv, and_equiv}
 use Rattle.causal_name.specs.Names.{same_det}
 
--- `==` goes both ways, from one to the next and to itself
+-- `==` is reflexive, symmetric and transitive
 pub same_det_equiv : IsEquivalence same_det
 same_det_equiv =
     and_equiv (on_equiv (λ d. d.source.0) nat_eq_equiv)

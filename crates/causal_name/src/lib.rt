@@ -1,14 +1,15 @@
-//! The names that message logging is about: processes, messages, determinants and the places that they fill.
+//! The names of message logging: processes, messages, determinants and slots.
 //!
-//! The determinant of a delivery is what a replay needs to repeat it: the message's sender and send sequence number,
-//! its receiver and receive sequence number (Alvisi and Marzullo, "Message Logging: Pessimistic, Optimistic, Causal,
-//! and Optimal", IEEE TSE 24(2), 1998). Sequence numbers count from 0 in each incarnation of a process.
+//! The determinant of a delivery contains what a replay needs to repeat it: source and send sequence number,
+//! destination and receive sequence number. The term is that of Alvisi and Marzullo, "Message Logging: Pessimistic,
+//! Optimistic, Causal, and Optimal", IEEE TSE 24(2), 1998. Sequence numbers count from 0 in each incarnation of a
+//! process.
 //!
-//! Begin at [`Det`]: its `message` and `slot` say what was delivered and where it stands, and `comes_before` is the order in which
-//! lists of determinants ascend.
+//! Start at [`Det`]: its `message` and `slot` return the delivered message and the receiver's slot. `comes_before` is
+//! the order of all sorted lists of determinants.
 #![tactic(auto)]
 
-/// The derived orders and equalities are those of the definitions.
+/// Contracts of the derived orders and equalities.
 pub mod order;
 
 ghost use Rattle.std.specs.Prelude.{◌≡◌};
@@ -17,18 +18,18 @@ ghost use Rattle.causal_name.specs.Names.{message_of, slot_of, is_before};
 use std::alloc::{AllocError, AllocFailed};
 use thiserror::Error;
 
-/// A process, by its number; the processes of a run are numbered from 0.
+/// A process, by number; a run numbers its processes from 0.
 #[derive(Clone, Copy, Debug, PartialEq, Eq, PartialOrd, Ord, Hash)]
 pub struct Pid(pub u8);
 
-/// A message: its sender and its send sequence number, which is its place among the sends of that incarnation.
+/// A message: its source and its send sequence number, which is its index among the sends of that incarnation.
 #[derive(Clone, Copy, Debug, PartialEq, Eq, PartialOrd, Ord, Hash)]
 pub struct MsgName {
     pub source: Pid,
     pub ssn: u32,
 }
 
-/// The determinant of a delivery: which message, delivered where, and at which place in the receiver's order.
+/// The determinant of a delivery: the message, its destination, and its index among the receiver's deliveries.
 #[derive(Clone, Copy, Debug, PartialEq, Eq, PartialOrd, Ord, Hash)]
 pub struct Det {
     pub source: Pid,
@@ -37,14 +38,14 @@ pub struct Det {
     pub rsn: u32,
 }
 
-/// A place in a receiver's order of deliveries.
+/// A slot: the index of a delivery among those of a receiver.
 #[derive(Clone, Copy, Debug, PartialEq, Eq, PartialOrd, Ord, Hash)]
 pub struct Slot {
     pub dest: Pid,
     pub rsn: u32,
 }
 
-/// The fault that all crates share: memory was asked for and refused.
+/// The error that all crates share: an allocation failed.
 #[derive(Clone, Copy, Debug, PartialEq, Eq, Error)]
 #[error("no memory")]
 pub struct NoMemory;
@@ -62,7 +63,7 @@ impl<T: Drop> From<AllocFailed<T>> for NoMemory {
 }
 
 impl Det {
-    /// The message that was delivered.
+    /// Returns the delivered message.
     pub fn message(&self) -> MsgName
         ensures { result ≡ message_of self.now }
     {
@@ -72,7 +73,7 @@ impl Det {
         }
     }
 
-    /// The place that the delivery filled.
+    /// Returns the slot of the delivery.
     pub fn slot(&self) -> Slot
         ensures { result ≡ slot_of self.now }
     {
@@ -82,7 +83,7 @@ impl Det {
         }
     }
 
-    /// Whether this one comes before the other: by sender, send sequence number, receiver and receive sequence number.
+    /// Checks whether this determinant precedes the other, by source, ssn, dest and rsn.
     pub fn comes_before(&self, other: &Det) -> bool
         ensures { result ≡ is_before self.now other.now }
     {

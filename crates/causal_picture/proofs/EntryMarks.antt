@@ -1,4 +1,4 @@
--- Each entry of a run has its mark.
+-- Each entry of a run has an event to draw.
 use Rattle.std.proofs.Common.{◌≡◌, ℕ, ◌+◌, ◌<◌, ◌≤◌, zero, suc, inl, inr, true, false, List, [], ◌∷◌, length, refl, ap, ◌∙◌, arith}
 use Rattle.std.specs.Prelude.{◌==◌, map, Option, Some, None}
 use Rattle.std.specs.List.{filter_map, range_with_len}
@@ -9,15 +9,15 @@ use Rattle.causal_name.specs.declared.Pid.{Pid}
 use Rattle.causal_trace.specs.declared.entry.Entry.{Entry}
 use Rattle.causal_trace.specs.declared.entry.Entry.TheVariants.{Send, Deliver, Stable, Crash, Restart, Forget}
 use Rattle.causal_trace.specs.Past.{entry_at, is_send_to, is_sent_to, message_sent, det_from}
-use Rattle.causal_trace.specs.Rows.{AreAccepted, first_fault}
+use Rattle.causal_trace.specs.Rows.{AreLegalEntries, first_fault}
 use Rattle.causal_trace.proofs.Lemmas.EntryFacts.{delivers_sent, sent_within}
-use Rattle.causal_picture.specs.declared.marks.Event.{Event}
-use Rattle.causal_picture.specs.declared.marks.Event.TheVariants as shown
+use Rattle.causal_picture.specs.declared.marks.MarkEvent.{MarkEvent}
+use Rattle.causal_picture.specs.declared.marks.MarkEvent.TheVariants as shown
 use Rattle.causal_picture.specs.declared.marks.Mark.{Mark}
-use Rattle.causal_picture.specs.declared.stretch.Stretch.{Stretch}
-use Rattle.causal_picture.specs.Marks.{event_of, mark_at, marks_of, ShowsEach}
+use Rattle.causal_picture.specs.declared.entry_range.EntryRange.{EntryRange}
+use Rattle.causal_picture.specs.Marks.{event_of, mark_at, marks_of, HasAllMarks}
 
--- what an entry delivers is sent
+-- the delivered message was sent
 abbrev IsSupplied : List Entry → Entry → Type 0
 IsSupplied past (Deliver to send rsn listed) = is_sent_to past send to.0 ≡ true
 IsSupplied past _ = Unit {0}
@@ -30,7 +30,7 @@ supplied_next n past (Crash who) h = tt
 supplied_next n past (Restart who listed) h = tt
 supplied_next n past (Forget who listed) h = tt
 
--- it stays so with one entry more
+-- it was sent also after one more entry
 supplied_then : (e : Entry) (past : List Entry) (x : Entry) → IsSupplied past x → IsSupplied (e ∷ past) x
 supplied_then e past (Send from to ssn) h = tt
 supplied_then e past (Deliver to send rsn listed) h = grind (arith, sent_within past send to.0 h, cond-false, ne_eqb)
@@ -39,8 +39,8 @@ supplied_then e past (Crash who) h = tt
 supplied_then e past (Restart who listed) h = tt
 supplied_then e past (Forget who listed) h = tt
 
--- so it is of the entry at each position of a well-formed run
-supplied_at : (n : ℕ) (past : List Entry) → AreAccepted n past → (k : ℕ) → k < length past
+-- each delivery in a well-formed run has a send
+supplied_at : (n : ℕ) (past : List Entry) → AreLegalEntries n past → (k : ℕ) → k < length past
     → (x : Entry) × (entry_at past k ≡ Some x) × IsSupplied past x
 supplied_at n [] all k h = absurd (omega arith)
 supplied_at n (e ∷ past) all k h =
@@ -55,9 +55,9 @@ supplied_at n (e ∷ past) all k h =
           (rest.0, at, supplied_then e past rest.0 rest.2)
     ]
 
--- a delivery of what is sent is an event
+-- a delivery of a sent message has an event
 delivery_told : (to : Pid) (send rsn : ℕ) (e : Entry) → is_send_to to.0 e ≡ true
-    → (what : Event) × (option_map (λ m. shown.Delivery (det_from to rsn m) send) (message_sent e) ≡ Some what)
+    → (what : MarkEvent) × (option_map (λ m. shown.Delivery (det_from to rsn m) send) (message_sent e) ≡ Some what)
 delivery_told to send rsn (Send from other ssn) h =
     (shown.Delivery (det_from to rsn (record { source = from; ssn = ssn })) send, refl)
 delivery_told to send rsn (Deliver other sent place listed) h = absurd (false≢true h)
@@ -66,11 +66,11 @@ delivery_told to send rsn (Crash who) h = absurd (false≢true h)
 delivery_told to send rsn (Restart who listed) h = absurd (false≢true h)
 delivery_told to send rsn (Forget who listed) h = absurd (false≢true h)
 
-event_told : (past : List Entry) (x : Entry) → IsSupplied past x → (what : Event) × (event_of past x ≡ Some what)
+event_told : (past : List Entry) (x : Entry) → IsSupplied past x → (what : MarkEvent) × (event_of past x ≡ Some what)
 event_told past (Send from to ssn) h = (shown.Send from to ssn, refl)
 event_told past (Deliver to send rsn listed) h =
     elim (entry_at past send) as (λ o. option_map_or (is_send_to to.0) o false ≡ true
-    → (what : Event)
+    → (what : MarkEvent)
     × (option_map (λ m. shown.Delivery (det_from to rsn m) send) (option_and_then message_sent o) ≡ Some what)) [
       | None ↦ λ k. absurd (false≢true k)
       | Some e ↦ λ k. delivery_told to send rsn e k
@@ -80,15 +80,15 @@ event_told past (Crash who) h = (shown.Crash who, refl)
 event_told past (Restart who listed) h = (shown.Restart who, refl)
 event_told past (Forget who listed) h = (shown.Forget who (length listed), refl)
 
--- there is a mark at each position of a well-formed run
-mark_there : (n : ℕ) (past : List Entry) → AreAccepted n past → (k : ℕ) → k < length past
+-- each position of a well-formed run has an event
+mark_there : (n : ℕ) (past : List Entry) → AreLegalEntries n past → (k : ℕ) → k < length past
     → (m : Mark) × (mark_at past k ≡ Some m) × (m.position ≡ k)
 mark_there n past all k h =
     let at = supplied_at n past all k h in
     let what = event_told past at.0 at.2 in
     let told : option_and_then (event_of past) (entry_at past k) ≡ Some what.0 =
     ap (option_and_then (event_of past)) at.1 ∙ what.1 in
-    let mark : Event → Mark = λ e. record { position = k; event = e } in
+    let mark : MarkEvent → Mark = λ e. record { position = k; event = e } in
     (record { position = k; event = what.0 }, ap (option_map mark) told, refl)
 
 positions_shown : (h : ℕ → Option Mark) (a c : ℕ)
@@ -102,8 +102,8 @@ positions_shown h a (suc c) each =
     positions_shown h (a + 1) c (λ k low high. each k (omega arith) (omega arith)) in
     rw (first.1, own, rest) refl
 
--- so the marks of a stretch are those of its entries, one of each
-pub each_shown : (n : ℕ) (past : List Entry) (s : Stretch) (marks : List Mark)
-    → AreAccepted n past → s.first + s.count ≤ length past → marks ≡ marks_of past s → ShowsEach s marks
+-- the events drawn for a range are those of its entries, one for each
+pub each_shown : (n : ℕ) (past : List Entry) (s : EntryRange) (marks : List Mark)
+    → AreLegalEntries n past → s.first + s.count ≤ length past → marks ≡ marks_of past s → HasAllMarks s marks
 each_shown n past s marks all within is =
     rw is (positions_shown (mark_at past) s.first s.count (λ k low high. mark_there n past all k (omega arith)))

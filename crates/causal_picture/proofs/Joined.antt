@@ -1,4 +1,4 @@
--- Texts that are written one after another.
+-- Texts appended one after another.
 use Rattle.std.proofs.Common.{◌≡◌, ◌++◌, List, ℕ, append_assoc}
 
 pub two_texts : (x y z a b : List ℕ) → y ≡ x ++ a → z ≡ y ++ b → z ≡ x ++ (a ++ b)

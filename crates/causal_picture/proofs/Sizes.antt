@@ -1,11 +1,11 @@
--- How large a picture is.
+-- Bounds on the size of a picture.
 use Rattle.std.proofs.Common.{ℕ, ◌+◌, ◌*◌, ◌/◌, ◌<◌, ◌≤◌, ◌^◌, arith}
 use Rattle.std.specs.Prelude.{min, max}
 use Rattle.std.proofs.lemmas.Bool.Decides.{leb_tells}
 use Rattle.std.proofs.Math.Nat.{div-mul-le_self, mul-le-mul_right}
 use Rattle.std.proofs.lemmas.Nat.{mul-le}
 
--- so many columns of at most 30 are no wider than a u64 holds
+-- the width of these columns fits into a u64
 pub columns_small : (a b : ℕ) → a ≤ 30 → b ≤ 2 ^ 33 → a * b ≤ 30 * 2 ^ 33
 columns_small a b narrow few = mul-le a b 30 (2 ^ 33) narrow few
 
@@ -13,10 +13,10 @@ columns_small a b narrow few = mul-le a b 30 (2 ^ 33) narrow few
 pub columns_fit : (c : ℕ) → min 30 (2200 / (c + 1)) * (c + 1) ≤ 2200
 columns_fit c = grind (arith, div-mul-le_self 2200 (c + 1), mul-le-mul_right)
 
--- so many rows of at most 40 are no higher than a u32 holds
+-- the height of these rows fits into a u32
 pub rows_small : (a p : ℕ) → a ≤ 40 → p < 2 ^ 16 → a * p ≤ 40 * 2 ^ 16
 rows_small a p low few = mul-le a p 40 (2 ^ 16) low (omega (arith, few))
 
--- twenty rows are at most 560 high
+-- at most 20 rows are at most 560 high
 pub rows_fit : (p : ℕ) → p ≤ 20 → max 16 (min 40 (560 / (p + 1))) * p ≤ 560
 rows_fit p few = grind (arith, div-mul-le_self 560 (p + 1), leb_tells (560 / (p + 1)) 16, mul-le)

@@ -1,32 +1,32 @@
--- What stands around the events.
+-- The SVG text around the events: head, rows of the processes, and marks of hidden entries.
 use Rattle.std.specs.Prelude.{ℕ, ◌+◌, ◌-◌, Bool, if◌then◌else◌, ◌==◌, nat_lt, List, [], ◌++◌, codes, decimal}
-use Rattle.causal_picture.specs.declared.stretch.Grid.{Grid}
+use Rattle.causal_picture.specs.declared.entry_range.Grid.{Grid}
 use Rattle.causal_picture.specs.Layout.{width_of, height_of, columns_of, right_of, row_of, bottom_of, x_of_instant, y_of}
 use Rattle.causal_picture.specs.Titles.{line_of}
-use Rattle.causal_picture.specs.Shapes.{level_text, upright_text}
-use Rattle.causal_picture.specs.declared.shapes.Label.TheVariants.{Name, NameAgain}
+use Rattle.causal_picture.specs.Glyphs.{level_text, upright_text}
+use Rattle.causal_picture.specs.declared.glyphs.Label.TheVariants.{Name, NameAgain}
 use Rattle.causal_picture.specs.Labels.{label_text}
 
--- the root's tag, and what the picture is, in words
+-- the root's tag, with the picture's title
 unfoldable pub root_text : ℕ → ℕ → List ℕ
 root_text width height =
     codes "<svg xmlns='http://www.w3.org/2000/svg' version='1.1' role='img' width='" ++ (decimal width ++ (codes "' height='" ++ (decimal height
     ++ (codes "' viewBox='0 0 " ++ (decimal width ++ (codes " " ++ (decimal height ++ codes "' font-family='sans-serif' font-size='12'>\n<title>Space-time diagram of a recorded run</title>\n")))))))
 
--- what the picture shows, in words
+-- the picture's description
 unfoldable pub description_text : ℕ → ℕ → ℕ → ℕ → List ℕ
 description_text processes count entries line =
     codes "<desc>All " ++ (decimal processes ++ (codes " processes; " ++ (decimal count ++ (codes " of " ++ (decimal entries ++ (codes " entries, from line "
     ++ (decimal line ++ codes " of the trace's text on.</desc>\n")))))))
 
--- what the picture begins with: what it is, what it shows, a white ground, and the head of an arrow
+-- the head of the picture: its title, its description, a white background, and the arrow head
 unfoldable pub head_text : Grid → ℕ → List ℕ
 head_text g entries =
     root_text (width_of g) (height_of g.processes)
     ++ (description_text g.processes (columns_of g) entries (line_of g.early.first)
     ++ codes "<defs><marker id='arrowhead' viewBox='0 0 10 10' refX='16' refY='5' markerWidth='8' markerHeight='8' markerUnits='userSpaceOnUse' orient='auto'><path d='M0 0L10 5L0 10z' fill='#555'/></marker></defs>\n<rect width='100%' height='100%' fill='white'/>\n")
 
--- the shade behind the line of a process of the crash set
+-- the shade behind the line of a process in the crash set
 abbrev pub shade_text : Grid → ℕ → Bool → List ℕ
 shade_text g p is_shaded =
     if is_shaded
@@ -34,19 +34,20 @@ shade_text g p is_shaded =
     ++ (decimal (row_of g.processes - 6) ++ codes "'/>\n")))))
     else []
 
+-- the start of a process's group, with its title
 unfoldable pub process_title : ℕ → List ℕ
 process_title p = codes "<g><title>process " ++ (decimal p ++ codes "</title>\n")
 
--- the name of a process above its line, where the line reaches so far
-abbrev pub name_again : Grid → ℕ → ℕ → List ℕ
-name_again g p x =
+-- the name of a process above its line, if the line is long enough
+abbrev pub repeated_name : Grid → ℕ → ℕ → List ℕ
+repeated_name g p x =
     if nat_lt x (right_of g)
     then label_text x (y_of g p) NameAgain p
     else []
 
--- the name of a process at the left end of its line, and again where that is far
+-- the name of a process at the left end of its line, and repeated at intervals
 unfoldable pub names_text : Grid → ℕ → List ℕ
-names_text g p = label_text 72 (y_of g p) Name p ++ (name_again g p 680 ++ (name_again g p 1280 ++ name_again g p 1880))
+names_text g p = label_text 72 (y_of g p) Name p ++ (repeated_name g p 680 ++ (repeated_name g p 1280 ++ repeated_name g p 1880))
 
 -- the row of a process: its shade, its dotted line, and its names
 unfoldable pub row_text : Grid → ℕ → Bool → List ℕ
@@ -54,21 +55,22 @@ row_text g p is_shaded =
     process_title p ++ (shade_text g p is_shaded ++ (level_text 80 (right_of g) (y_of g p) (codes "stroke='#999' stroke-dasharray='1 5'")
     ++ (names_text g p ++ codes "</g>\n")))
 
+-- the start of a mark for hidden entries, with its title
 unfoldable pub cut_title : ℕ → List ℕ → List ℕ
 cut_title hidden side = codes "<g><title>" ++ (decimal hidden ++ (codes " entries " ++ (side ++ codes " are not shown</title>\n")))
 
--- a mark where so many entries are hidden: a dotted line and the words
+-- a mark for hidden entries: a dotted line and their number
 unfoldable pub cut_mark : ℕ → List ℕ → ℕ → List ℕ → ℕ → List ℕ
 cut_mark hidden side x anchor bottom =
     cut_title hidden side ++ (upright_text x bottom (codes "stroke='#555' stroke-dasharray='2 4'")
     ++ (codes "<text x='" ++ (decimal x ++ (codes "' y='38' text-anchor='" ++ (anchor ++ (codes "' fill='#555'>" ++ (decimal hidden ++ (codes " entries "
     ++ (side ++ codes "</text>\n</g>\n")))))))))
 
--- the same, if there are any
+-- a mark for hidden entries, if there are any
 abbrev pub cut_text : ℕ → List ℕ → ℕ → List ℕ → ℕ → List ℕ
 cut_text hidden side x anchor bottom = if hidden == 0 then [] else cut_mark hidden side x anchor bottom
 
--- the marks where the run is cut: before the entries that are shown, between them and after them
+-- the marks for hidden entries: before the shown entries, between the ranges and after them
 unfoldable pub cuts_text : Grid → ℕ → List ℕ
 cuts_text g entries =
     cut_text g.early.first (codes "before") (x_of_instant g g.early.first) (codes "start") (bottom_of g.processes)

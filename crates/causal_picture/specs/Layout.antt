@@ -1,31 +1,31 @@
--- Where things stand in a picture: x grows to the right and y downwards.
+-- Coordinates in a picture: x grows to the right and y downwards.
 use Rattle.std.specs.Prelude.{ℕ, ◌+◌, ◌-◌, ◌*◌, ◌/◌, ◌==◌, min, max, if◌then◌else◌}
 use Rattle.causal_picture.specs.declared.layout.Panel.{Panel}
-use Rattle.causal_picture.specs.declared.stretch.Grid.{Grid}
-use Rattle.causal_picture.specs.declared.stretch.Stretch.{Stretch}
-use Rattle.causal_picture.specs.Stretches.{is_shown}
+use Rattle.causal_picture.specs.declared.entry_range.Grid.{Grid}
+use Rattle.causal_picture.specs.declared.entry_range.EntryRange.{EntryRange}
+use Rattle.causal_picture.specs.EntryRanges.{is_shown}
 
--- how many entries of a stretch stand before a position
-abbrev pub passed : Stretch → ℕ → ℕ
-passed s position = min (position - s.first) s.count
+-- the number of entries of a range before a position
+abbrev pub count_before : EntryRange → ℕ → ℕ
+count_before s position = min (position - s.first) s.count
 
--- how many of the entries shown stand before a position
+-- the number of shown entries before a position
 abbrev pub columns_before : Grid → ℕ → ℕ
-columns_before g position = passed g.early position + passed g.late position
+columns_before g position = count_before g.early position + count_before g.late position
 
--- how many entries are shown
+-- the number of shown entries
 abbrev pub columns_of : Grid → ℕ
 columns_of g = g.early.count + g.late.count
 
--- one entry stands 30 from the next, or less where all together would be wider than 2,200
+-- the distance between entries: 30, or less if all columns would be wider than 2,200
 abbrev pub column_of : Grid → ℕ
 column_of g = min 30 (2200 / (columns_of g + 1))
 
--- an instant stands in the middle between the entries before and after it
+-- the x of an instant: halfway between the entries before and after it
 abbrev pub x_of_instant : Grid → ℕ → ℕ
 x_of_instant g t = 80 + column_of g / 2 + column_of g * columns_before g t
 
--- an entry stands in its column; one that is not shown where the run is cut
+-- the x of an entry: its column; for a hidden entry, the x of the cut
 abbrev pub x_of : Grid → ℕ → ℕ
 x_of g position = if is_shown g position then 80 + column_of g * (columns_before g position + 1) else x_of_instant g position
 
@@ -33,34 +33,34 @@ x_of g position = if is_shown g position then 80 + column_of g * (columns_before
 abbrev pub right_of : Grid → ℕ
 right_of g = 80 + column_of g * (columns_of g + 1)
 
--- a picture is as wide as its lines or its words need
+-- the width of a picture: as its lines or its words require
 abbrev pub width_of : Grid → ℕ
 width_of g = max (right_of g + 120) 600
 
--- where the lines of the entries up to the cut end
+-- the right end of the lines up to the cut
 abbrev pub early_right : Grid → ℕ
 early_right g = if g.late.count == 0 then right_of g else x_of_instant g g.late.first
 
--- the entries up to the cut, or all where there is none
+-- the entries up to the cut, or all if there is none
 abbrev pub early_panel : Grid → Panel
-early_panel g = record { stretch = g.early; left = 80; right = early_right g }
+early_panel g = record { range = g.early; left = 80; right = early_right g }
 
 -- the entries from the cut on
 abbrev pub late_panel : Grid → Panel
-late_panel g = record { stretch = g.late; left = x_of_instant g g.late.first; right = right_of g }
+late_panel g = record { range = g.late; left = x_of_instant g g.late.first; right = right_of g }
 
--- one process's line stands 40 from the next, or less where all together would be higher than 560, but no less than 16
+-- the distance between processes' lines: 40, or less if all rows would be higher than 560, but at least 16
 abbrev pub row_of : ℕ → ℕ
 row_of processes = max 16 (min 40 (560 / (processes + 1)))
 
--- each process has a row
+-- the y of a process's row
 abbrev pub y_of : Grid → ℕ → ℕ
 y_of g process = 92 + row_of g.processes * process
 
--- the lower end of what stands above the legend
+-- the y at which the legend begins
 abbrev pub bottom_of : ℕ → ℕ
 bottom_of processes = 92 + row_of processes * processes
 
--- the legend stands below the rows
+-- the height of a picture, with the legend below the rows
 abbrev pub height_of : ℕ → ℕ
 height_of processes = bottom_of processes + 80

@@ -1,6 +1,6 @@
-pub mod Appended
+pub mod Appends
 pub mod Captions
-pub mod Drawn
+pub mod MarkTexts
 pub mod Frames
 pub mod Inside
 pub mod Labels
@@ -12,6 +12,6 @@ pub mod Panels
 pub mod Pictures
 pub mod Resent
 pub mod Roles
-pub mod Shapes
-pub mod Stretches
+pub mod Glyphs
+pub mod EntryRanges
 pub mod Titles

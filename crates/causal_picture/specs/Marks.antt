@@ -1,4 +1,4 @@
--- What a picture shows of each entry.
+-- The event that a picture shows for each entry.
 use Rattle.std.specs.Prelude.{◌≡◌, ℕ, List, length, map, Option, Some}
 use Rattle.std.specs.List.{filter_map, range_with_len}
 use Rattle.std.specs.Option.{option_map, option_and_then}
@@ -6,13 +6,13 @@ use Rattle.causal_name.specs.declared.Pid.{Pid}
 use Rattle.causal_trace.specs.declared.entry.Entry.{Entry}
 use Rattle.causal_trace.specs.declared.entry.Entry.TheVariants.{Send, Deliver, Stable, Crash, Restart, Forget}
 use Rattle.causal_trace.specs.Past.{entry_at, message_at, det_from}
-use Rattle.causal_picture.specs.declared.marks.Event.{Event}
-use Rattle.causal_picture.specs.declared.marks.Event.TheVariants as shown
+use Rattle.causal_picture.specs.declared.marks.MarkEvent.{MarkEvent}
+use Rattle.causal_picture.specs.declared.marks.MarkEvent.TheVariants as shown
 use Rattle.causal_picture.specs.declared.marks.Mark.{Mark}
-use Rattle.causal_picture.specs.declared.stretch.Stretch.{Stretch}
+use Rattle.causal_picture.specs.declared.entry_range.EntryRange.{EntryRange}
 
--- the process on whose line an event is shown; of a stable determinant its receiver
-abbrev pub process_of : Event → Pid
+-- the process on whose line an event is shown; for a stable determinant, its receiver
+abbrev pub process_of : MarkEvent → Pid
 process_of (shown.Send from to ssn) = from
 process_of (shown.Delivery det send) = det.dest
 process_of (shown.Stable det) = det.dest
@@ -20,12 +20,12 @@ process_of (shown.Crash who) = who
 process_of (shown.Restart who) = who
 process_of (shown.Forget who count) = who
 
--- a delivery, with the determinant that its message makes
-abbrev pub delivery_of : List Entry → Pid → ℕ → ℕ → Option Event
+-- a delivery, with its determinant
+abbrev pub delivery_of : List Entry → Pid → ℕ → ℕ → Option MarkEvent
 delivery_of past to send rsn = option_map (λ m. shown.Delivery (det_from to rsn m) send) (message_at past send)
 
--- what happens by an entry; none where it delivers what no entry sends
-abbrev pub event_of : List Entry → Entry → Option Event
+-- the event of an entry; none for a delivery whose send does not exist
+abbrev pub event_of : List Entry → Entry → Option MarkEvent
 event_of past (Send from to ssn) = Some (shown.Send from to ssn)
 event_of past (Deliver to send rsn listed) = delivery_of past to send rsn
 event_of past (Stable det) = Some (shown.Stable det)
@@ -37,10 +37,10 @@ event_of past (Forget who listed) = Some (shown.Forget who (length listed))
 abbrev pub mark_at : List Entry → ℕ → Option Mark
 mark_at past position = option_map (λ what. record { position = position; event = what }) (option_and_then (event_of past) (entry_at past position))
 
--- the events of a stretch's entries, in their order
-abbrev pub marks_of : List Entry → Stretch → List Mark
+-- the events of a range's entries, in order
+abbrev pub marks_of : List Entry → EntryRange → List Mark
 marks_of past s = filter_map (mark_at past) (range_with_len s.first s.count)
 
--- these are marks of all its entries, one of each, in their order
-abbrev pub ShowsEach : Stretch → List Mark → Type 0
-ShowsEach s marks = map (λ (m : Mark). m.position) marks ≡ range_with_len s.first s.count
+-- these are the marks of all entries in the range, one for each, in order
+abbrev pub HasAllMarks : EntryRange → List Mark → Type 0
+HasAllMarks s marks = map (λ (m : Mark). m.position) marks ≡ range_with_len s.first s.count

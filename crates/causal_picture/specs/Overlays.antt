@@ -1,4 +1,4 @@
--- What is drawn over the events.
+-- The SVG text over the events: the chain and the instant.
 use Rattle.std.specs.Prelude.{ℕ, if◌then◌else◌, List, [], ◌∷◌, ◌++◌, codes, decimal, flat_map, Option, None}
 use Rattle.std.specs.List.{filter_map}
 use Rattle.std.specs.Option.{option_map}
@@ -6,25 +6,25 @@ use Rattle.causal_trace.specs.declared.entry.Entry.{Entry}
 use Rattle.causal_picture.specs.declared.overlay.Point.{Point}
 use Rattle.causal_picture.specs.declared.marks.Mark.{Mark}
 use Rattle.causal_picture.specs.declared.focus.Orphan.{Orphan}
-use Rattle.causal_picture.specs.declared.stretch.Grid.{Grid}
-use Rattle.causal_picture.specs.declared.shapes.Label.TheVariants.{Instant}
+use Rattle.causal_picture.specs.declared.entry_range.Grid.{Grid}
+use Rattle.causal_picture.specs.declared.glyphs.Label.TheVariants.{Instant}
 use Rattle.causal_picture.specs.Labels.{label_text}
 use Rattle.causal_picture.specs.Layout.{x_of, x_of_instant, y_of, bottom_of}
 use Rattle.causal_picture.specs.Roles.{processes_text}
-use Rattle.causal_picture.specs.Stretches.{is_shown}
+use Rattle.causal_picture.specs.EntryRanges.{is_shown}
 use Rattle.causal_picture.specs.Marks.{mark_at, process_of}
-use Rattle.causal_picture.specs.declared.shapes.Shape.TheVariants.{Halo}
-use Rattle.causal_picture.specs.Shapes.{shape_text, upright_text}
+use Rattle.causal_picture.specs.declared.glyphs.Glyph.TheVariants.{Halo}
+use Rattle.causal_picture.specs.Glyphs.{glyph_text, upright_text}
 
--- where an event stands
+-- the point of an event
 unfoldable pub point_of : Grid → Mark → Point
 point_of g m = record { x = x_of g m.position; y = y_of g (process_of m.event).0 }
 
--- where the entry at a position stands, if it is shown
+-- the point of the entry at a position, if it is shown
 unfoldable pub point_at : List Entry → Grid → ℕ → Option Point
 point_at past g position = if is_shown g position then option_map (point_of g) (mark_at past position) else None
 
--- where the entries of a chain stand that are shown
+-- the points of a chain's shown entries
 abbrev pub points_of : List Entry → Grid → List ℕ → List Point
 points_of past g chain = filter_map (point_at past g) chain
 
@@ -32,31 +32,34 @@ points_of past g chain = filter_map (point_at past g) chain
 abbrev pub corner_text : Point → List ℕ
 corner_text p = decimal p.x ++ (codes "," ++ (decimal p.y ++ codes " "))
 
+-- the corners of a line
 abbrev pub corners_text : List Point → List ℕ
 corners_text points = flat_map corner_text points
 
--- a ring about a place
+-- a ring around a point
 abbrev pub ring_text : Point → List ℕ
-ring_text p = shape_text p.x p.y Halo
+ring_text p = glyph_text p.x p.y Halo
 
+-- a ring around each point
 abbrev pub rings_text : List Point → List ℕ
 rings_text points = flat_map ring_text points
 
--- the chain: a thick line from entry to entry, and a ring about each
+-- the chain: a thick line from entry to entry, and a ring around each
 unfoldable pub chain_text : List Point → List ℕ
 chain_text points =
     codes "<g pointer-events='none'><title>chain</title>\n<polyline points='" ++ (corners_text points
     ++ (codes "' fill='none' stroke='#d55e00' stroke-width='4' stroke-opacity='0.75'/>\n" ++ (rings_text points ++ codes "</g>\n")))
 
+-- the start of the instant's group, with its title
 unfoldable pub instant_title : ℕ → List ℕ
 instant_title instant = codes "<g><title>instant " ++ (decimal instant ++ codes "</title>\n")
 
--- the same, where some of it is shown
+-- the chain, if some of it is shown
 abbrev pub shown_chain : List Point → List ℕ
 shown_chain [] = []
 shown_chain (p ∷ ps) = chain_text (p ∷ ps)
 
--- the instant: a vertical line between the entries before and after it, and beside it the processes
+-- the instant: a vertical line between the entries before and after it, and the processes' names next to it
 unfoldable pub instant_text : Grid → ℕ → Option Orphan → List ℕ
 instant_text g t orphan =
     instant_title t

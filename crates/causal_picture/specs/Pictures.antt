@@ -1,20 +1,20 @@
--- A whole picture.
+-- The SVG text of a whole picture.
 use Rattle.std.specs.Prelude.{ℕ, ◌+◌, List, [], ◌++◌, codes, flat_map, length, Option, Some, None}
 use Rattle.std.specs.List.{range_with_len}
 use Rattle.std.specs.Ordering.{nat_cmp}
 use Rattle.std.specs.FinSet.{FinSet, contains, empty}
 use Rattle.causal_trace.specs.Rows.{Recording}
 use Rattle.causal_picture.specs.declared.focus.Focus.{Focus}
-use Rattle.causal_picture.specs.declared.stretch.Grid.{Grid}
+use Rattle.causal_picture.specs.declared.entry_range.Grid.{Grid}
 use Rattle.causal_picture.specs.Captions.{caption_text}
 use Rattle.causal_picture.specs.Frames.{head_text, row_text, cuts_text}
 use Rattle.causal_picture.specs.Layout.{bottom_of}
 use Rattle.causal_picture.specs.Legends.{legend_text}
 use Rattle.causal_picture.specs.Overlays.{points_of, shown_chain, instant_text}
 use Rattle.causal_picture.specs.Panels.{early_text, late_text}
-use Rattle.causal_picture.specs.Stretches.{grid_around, instant_of}
+use Rattle.causal_picture.specs.EntryRanges.{grid_around, instant_of}
 
--- the row of one process, shaded where it is in the crash set
+-- the row of one process, shaded if it is in the crash set
 abbrev pub shaded_row : Grid → FinSet nat_cmp → ℕ → List ℕ
 shaded_row g crash p = row_text g p (contains crash p)
 
@@ -31,25 +31,25 @@ crash_of (Some f) = f.crash
 unfoldable pub focus_text : Recording → Grid → Focus → List ℕ
 focus_text r g f = shown_chain (points_of r.past g f.chain.now) ++ instant_text g (instant_of (length r.past) f) f.orphan
 
--- the same, if there is a focus
+-- the chain and the instant of a focus, if there is one
 abbrev pub any_focus_text : Recording → Grid → Option Focus → List ℕ
 any_focus_text r g None = []
 any_focus_text r g (Some f) = focus_text r g f
 
--- what is drawn of the run: its processes' rows, then its events over these
+-- the drawing of the run: its processes' rows, then its events over them
 unfoldable pub run_text : Recording → Grid → FinSet nat_cmp → List ℕ
 run_text r g crash = rows_text r g crash ++ (early_text r g ++ late_text r g)
 
--- the marks where the run is cut, the verdict, the legend, and the end
+-- the marks for hidden entries, the caption, the legend, and the end of the text
 unfoldable pub close_text : Grid → ℕ → ℕ → Option Focus → List ℕ
 close_text g entries faults focus =
     cuts_text g entries ++ (caption_text faults focus ++ (legend_text (bottom_of g.processes + 38) (bottom_of g.processes + 62) ++ codes "</svg>\n"))
 
--- the same, with its entries in these places
+-- the picture of a recorded run on this grid
 abbrev pub picture_at : Recording → ℕ → Option Focus → Grid → List ℕ
 picture_at r faults focus g =
     head_text g (length r.past) ++ (run_text r g (crash_of focus) ++ (any_focus_text r g focus ++ close_text g (length r.past) faults focus))
 
--- a recorded run's picture: its head, the run, the focus over it, and what stands around
+-- the picture of a recorded run: the head, the run, the focus over it, and the caption and legend
 unfoldable pub picture : Recording → ℕ → Option Focus → List ℕ
 picture r faults focus = picture_at r faults focus (grid_around r focus)

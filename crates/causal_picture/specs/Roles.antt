@@ -1,37 +1,37 @@
--- The processes at the instant.
+-- The processes and their roles at the instant.
 use Rattle.std.specs.Prelude.{ℕ, ◌==◌, if◌then◌else◌, List, [], ◌++◌, codes, decimal, flat_map, Option, Some, None}
 use Rattle.std.specs.List.{range_with_len}
 use Rattle.std.specs.FinSet.{contains}
 use Rattle.causal_picture.specs.declared.focus.Orphan.{Orphan}
 use Rattle.causal_picture.specs.declared.roles.Role.{Role}
 use Rattle.causal_picture.specs.declared.roles.Role.TheVariants as role
-use Rattle.causal_picture.specs.declared.shapes.Shape.TheVariants.{Diamond, OpenDiamond}
-use Rattle.causal_picture.specs.declared.stretch.Grid.{Grid}
+use Rattle.causal_picture.specs.declared.glyphs.Glyph.TheVariants.{Diamond, OpenDiamond}
+use Rattle.causal_picture.specs.declared.entry_range.Grid.{Grid}
 use Rattle.causal_picture.specs.Layout.{y_of}
-use Rattle.causal_picture.specs.Shapes.{shape_text}
+use Rattle.causal_picture.specs.Glyphs.{glyph_text}
 
--- what a process's name is followed by
+-- the words after a process's name
 abbrev pub words_of : Role → List ℕ
 words_of role.Orphan = codes ": orphan"
 words_of role.Holder = codes ": holder"
 words_of role.Other = codes ""
 
--- the orphan, one that holds the determinant, or neither
+-- the role of a process for an orphan: the orphan, a holder of the determinant, or neither
 abbrev pub role_beside : Orphan → ℕ → Role
 role_beside o p = if o.process == p then role.Orphan else (if contains o.holders p then role.Holder else role.Other)
 
--- the same, where a delivery has an orphan
+-- the role of a process, if there is an orphan
 abbrev pub role_of : Option Orphan → ℕ → Role
 role_of (Some o) p = role_beside o p
 role_of None p = role.Other
 
--- the sign of a role
+-- the glyph of a role
 abbrev pub sign_text : ℕ → ℕ → Role → List ℕ
-sign_text x y role.Orphan = shape_text x y OpenDiamond
-sign_text x y role.Holder = shape_text x y Diamond
+sign_text x y role.Orphan = glyph_text x y OpenDiamond
+sign_text x y role.Holder = glyph_text x y Diamond
 sign_text x y role.Other = []
 
--- a process at the instant: its sign, and its name beside this, with its role
+-- a process at the instant: its glyph, and next to it its name with its role
 unfoldable pub process_text : Grid → ℕ → Option Orphan → ℕ → List ℕ
 process_text g x o p =
     sign_text x (y_of g p) (role_of o p) ++ (codes "<text x='" ++ (decimal x ++ (codes "' y='" ++ (decimal (y_of g p)

@@ -1,6 +1,6 @@
-//! The verdict, above the picture.
+//! The caption of a picture: the verdict and the bound f.
 ghost use Rattle.std.specs.Option.{option_copied};
-ghost use Rattle.causal_picture.specs.Appended.{Appends};
+ghost use Rattle.causal_picture.specs.Appends.{Appends};
 ghost use Rattle.causal_picture.specs.Captions as captions;
 
 use crate::focus::Focus;
@@ -8,8 +8,8 @@ use crate::titles::line_of;
 use crate::words::push_words;
 use std::alloc::AllocError;
 
-/// The verdict: `orphan f=1: process 2 depends on the delivery of line 3`, or that too many processes are down; that of no
-/// focus is that the run is safe.
+/// Appends the verdict: `orphan f=1: process 2 depends on the delivery of line 3`, or too many processes down. Without
+/// a focus the run is safe.
 #[tactic(auto, unfolding(crate::specs::Captions::verdict_text))]
 fn push_verdict(out: &mut String, faults: u16, focus: Option<&Focus<'_>>) -> Result<(), AllocError>
     ensures { Appends result out.old out.new
@@ -30,7 +30,7 @@ fn push_verdict(out: &mut String, faults: u16, focus: Option<&Focus<'_>>) -> Res
     }
 }
 
-/// The verdict, in the picture's upper left corner.
+/// Appends the caption, in the picture's upper left corner.
 #[tactic(auto, unfolding(crate::specs::Captions::caption_text))]
 pub fn push_caption(
     out: &mut String,

@@ -1,4 +1,4 @@
-//! Who is down as a stretch begins.
+//! The processes that are down at the start of a range.
 ghost use Rattle.std.specs.Prelude.{◌∷◌, length, List};
 ghost use Rattle.causal_trace.specs.declared.entry.Entry.{Entry};
 ghost use Rattle.causal_trace.specs.State.{past_at};
@@ -7,8 +7,8 @@ ghost use Rattle.causal_picture.specs.Inside.Downs.{ShowsDown};
 use causal_holders::Holders;
 use causal_trace::Entry;
 
-/// Who is down after one more entry.
-fn noted(mut down: Holders, entry: &Entry) -> Holders
+/// The down processes after one more entry.
+fn down_after_entry(mut down: Holders, entry: &Entry) -> Holders
     ensures { (past : List Entry) → ShowsDown past down → ShowsDown (entry.now ∷ past) result }
 {
     match entry {
@@ -27,13 +27,13 @@ fn noted(mut down: Holders, entry: &Entry) -> Holders
     }
 }
 
-/// Who is down after these entries. It reads each of them once.
+/// The down processes after these entries. O(entries) time.
 pub fn down_after(entries: &[Entry]) -> Holders
     ensures { ShowsDown (past_at entries.now (length entries.now)) result }
 {
     let mut down = Holders::none();
     for entry in entries {
-        down = noted(down, entry);
+        down = down_after_entry(down, entry);
     }
     down
 }

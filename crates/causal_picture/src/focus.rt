@@ -1,21 +1,21 @@
-//! What a picture shows beside the run.
+//! What a picture shows besides the run.
 use causal_holders::Holders;
 
 /// A delivery that has an orphan.
 #[derive(Clone, Copy)]
 pub struct Orphan {
-    /// The process that is the orphan.
+    /// The orphan.
     pub process: u8,
     /// The position of the delivery.
     pub delivery: u32,
-    /// Those that hold its determinant at the instant.
+    /// The processes that hold its determinant at the instant.
     pub holders: Holders,
 }
 
-/// What is shown beside the run itself: the instant, as a vertical line; a crash set, whose processes' lines are
-/// shaded; a chain of entries by their positions, as a thick line, which may be empty; and an orphan and the holders,
-/// as signs at the instant. An instant after the last is the last; of the crash set, the holders and the orphan only
-/// processes of the run are shown, and of the chain only entries that the picture shows.
+/// What a picture shows besides the run: the instant, as a vertical line; a crash set, with shaded lines; a chain of
+/// entries, by their positions, as a thick line, possibly empty; and an orphan and the holders, as glyphs at the
+/// instant. An instant after the last means the last. Processes of the sets that are not in the run, and entries of the
+/// chain that the picture hides, are not shown.
 #[derive(Clone, Copy)]
 pub struct Focus<'a> {
     pub instant: u32,

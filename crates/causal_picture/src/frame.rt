@@ -1,22 +1,22 @@
-//! What stands around the events: the head of the picture, the processes' rows, the marks where the run is cut.
+//! The parts around the events: the head, the processes' rows, the marks for hidden entries.
 ghost use Rattle.std.specs.Prelude.{◌≤◌, ◌<◌, ◌+◌};
 ghost use Rattle.std.specs.FinSet.{contains};
-ghost use Rattle.causal_picture.specs.Appended.{Appends};
+ghost use Rattle.causal_picture.specs.Appends.{Appends};
 ghost use Rattle.causal_picture.specs.Frames as frames;
-ghost use Rattle.causal_picture.specs.Stretches as stretches;
+ghost use Rattle.causal_picture.specs.EntryRanges as stretches;
 
+use crate::entry_range::Grid;
+use crate::glyphs::{Label, push_label, push_level, push_upright};
 use crate::layout::{
     bottom_of, columns_of, height_of, right_of, row_of, width_of, x_of_instant, y_of,
 };
-use crate::shapes::{Label, push_label, push_level, push_upright};
-use crate::stretch::Grid;
 use crate::titles::line_of;
 use crate::words::push_words;
 use causal_holders::Holders;
 use std::alloc::AllocError;
 
-/// What the picture begins with: what it is and shows, in words; a white ground; and the head of an arrow, whose tip stands
-/// before the end of the arrow's line, outside of the delivery's dot. Only numbers are put among the words of this file, so
+/// Appends the head of the picture: its title and description; a white background; and the arrow head, whose tip is
+/// before the end of the arrow's line, outside the delivery's dot. The only variable parts in this file are numbers, so
 /// nothing needs escaping.
 #[tactic(auto, unfolding(crate::specs::Frames::head_text))]
 pub fn push_head(out: &mut String, grid: Grid, entries: u32) -> Result<(), AllocError>
@@ -39,7 +39,7 @@ pub fn push_head(out: &mut String, grid: Grid, entries: u32) -> Result<(), Alloc
     )
 }
 
-/// The shade behind the line of a process of the crash set.
+/// Appends the shade behind the line of a process in the crash set.
 fn push_shade(out: &mut String, grid: Grid, process: u16, is_shaded: bool) -> Result<(), AllocError>
     ensures { Appends result out.old out.new (frames.shade_text grid process is_shaded) }
 {
@@ -57,7 +57,7 @@ fn push_shade(out: &mut String, grid: Grid, process: u16, is_shaded: bool) -> Re
     )
 }
 
-/// The beginning of what is drawn of a process.
+/// Appends the start of a process's group.
 #[tactic(auto, unfolding(crate::specs::Frames::process_title))]
 pub fn push_process_title(out: &mut String, process: u16) -> Result<(), AllocError>
     ensures { Appends result out.old out.new (frames.process_title process) }
@@ -65,9 +65,9 @@ pub fn push_process_title(out: &mut String, process: u16) -> Result<(), AllocErr
     write!(out, "<g><title>process {process}</title>\n")
 }
 
-/// The name of a process above its line, where the line reaches so far.
-fn push_name_again(out: &mut String, grid: Grid, process: u16, x: u64) -> Result<(), AllocError>
-    ensures { Appends result out.old out.new (frames.name_again grid process x) }
+/// Appends the name of a process above its line, if the line is long enough.
+fn push_repeated_name(out: &mut String, grid: Grid, process: u16, x: u64) -> Result<(), AllocError>
+    ensures { Appends result out.old out.new (frames.repeated_name grid process x) }
 {
     if x >= right_of(grid) {
         return Ok(());
@@ -76,20 +76,20 @@ fn push_name_again(out: &mut String, grid: Grid, process: u16, x: u64) -> Result
     push_label(out, x, y, Label::NameAgain, u64::from(process))
 }
 
-/// The name of a process at the left end of its line, and again where that is far.
+/// Appends the name of a process at the left end of its line, and repeats it at intervals.
 #[tactic(auto, unfolding(crate::specs::Frames::names_text))]
 fn push_names(out: &mut String, grid: Grid, process: u16) -> Result<(), AllocError>
     ensures { Appends result out.old out.new (frames.names_text grid process) }
 {
     let y = y_of(grid, process);
     push_label(out, 72, y, Label::Name, u64::from(process))?;
-    push_name_again(out, grid, process, 680)?;
-    push_name_again(out, grid, process, 1280)?;
-    push_name_again(out, grid, process, 1880)
+    push_repeated_name(out, grid, process, 680)?;
+    push_repeated_name(out, grid, process, 1280)?;
+    push_repeated_name(out, grid, process, 1880)
 }
 
-/// The row of a process: its shade, if it is in the crash set, its dotted line, and its names. Where the process is up, its line is drawn solid
-/// over this.
+/// Appends the row of a process: its shade if it is in the crash set, its dotted line, and its names. While the process
+/// is up, a solid line is drawn over the dotted one.
 #[tactic(auto, unfolding(crate::specs::Frames::row_text))]
 pub fn push_row(
     out: &mut String,
@@ -124,7 +124,7 @@ fn push_cut_title(out: &mut String, hidden: u32, side: &str) -> Result<(), Alloc
     )
 }
 
-/// A mark where the run is cut, if it is: a dotted line and the words.
+/// Appends a mark for hidden entries, if there are any: a dotted line and their number.
 #[tactic(auto, unfolding(crate::specs::Frames::cut_mark))]
 fn push_cut(
     out: &mut String,
@@ -147,10 +147,10 @@ fn push_cut(
     )
 }
 
-/// The marks where the run is cut: before the entries that are shown, between them and after them.
+/// Appends the marks for hidden entries: before the shown entries, between the ranges and after them.
 #[tactic(auto, unfolding(crate::specs::Frames::cuts_text))]
 pub fn push_cuts(out: &mut String, grid: Grid, entries: u32) -> Result<(), AllocError>
-    requires { stretches.IsWithin entries grid }
+    requires { stretches.GridFits entries grid }
     ensures { Appends result out.old out.new (frames.cuts_text grid entries) }
 {
     let Grid {

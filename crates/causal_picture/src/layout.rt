@@ -1,69 +1,69 @@
-//! Where things stand in a picture, in its units: x grows to the right and y downwards.
+//! Coordinates in a picture, in its units: x grows to the right and y downwards.
 ghost use Rattle.std.specs.Prelude.{◌≡◌, ◌≤◌, ◌<◌, ◌^◌};
 ghost use Rattle.causal_picture.specs.Layout as layout;
-ghost use Rattle.causal_picture.specs.Stretches as stretches;
+ghost use Rattle.causal_picture.specs.EntryRanges as stretches;
 
-use crate::stretch::{Grid, Stretch};
+use crate::entry_range::{EntryRange, Grid};
 
 /// The left end of the processes' lines.
 const LEFT: u64 = 80;
 
-/// How far one entry stands from the next at most.
+/// The maximum distance between entries.
 const WIDEST_COLUMN: u64 = 30;
 
-/// How wide all columns are at most.
+/// The maximum width of all columns.
 const ALL_COLUMNS: u64 = 2200;
 
 /// The line of the first process.
 const TOP: u32 = 92;
 
-/// How far one process's line stands from the next at most, and at least.
+/// The maximum and minimum distance between processes' lines.
 const HIGHEST_ROW: u32 = 40;
 
 const LOWEST_ROW: u32 = 16;
 
-/// How high all rows are at most, as far as they are no lower than the lowest.
+/// The maximum height of all rows, unless the minimum distance exceeds it.
 const ALL_ROWS: u32 = 560;
 
-/// A part of the picture whose entries follow one another: these entries, and where its lines begin and end.
+/// A part of the picture with consecutive entries: their range, and the left and right ends of its lines.
 #[derive(Clone, Copy)]
 pub struct Panel {
-    pub stretch: Stretch,
+    pub range: EntryRange,
     pub left: u64,
     pub right: u64,
 }
 
-/// Whether the entry at a position is one of a stretch.
-fn is_within(stretch: Stretch, position: u32) -> bool
-    ensures { result ≡ stretches.is_within stretch position }
+/// Returns whether a position is in a range.
+fn is_within(range: EntryRange, position: u32) -> bool
+    ensures { result ≡ stretches.is_within range position }
 {
-    stretch.first <= position && position - stretch.first < stretch.count
+    range.first <= position && position - range.first < range.count
 }
 
-/// Whether the entry at a position is shown.
+/// Returns whether the entry at a position is shown.
 pub fn is_shown(grid: Grid, position: u32) -> bool
     ensures { result ≡ stretches.is_shown grid position }
 {
     is_within(grid.early, position) || is_within(grid.late, position)
 }
 
-/// How many entries of a stretch stand before a position.
-fn passed(stretch: Stretch, position: u32) -> u64
-    ensures value { result ≡ layout.passed stretch position }
+/// The number of entries of a range before a position.
+fn count_before(range: EntryRange, position: u32) -> u64
+    ensures value { result ≡ layout.count_before range position }
     ensures small { result < 2 ^ 32 }
 {
-    u64::from(position.saturating_sub(stretch.first).min(stretch.count))
+    u64::from(position.saturating_sub(range.first).min(range.count))
 }
 
-/// How many of the entries shown stand before a position.
+/// The number of shown entries before a position.
 fn columns_before(grid: Grid, position: u32) -> u64
     ensures value { result ≡ layout.columns_before grid position }
     ensures small { result < 2 ^ 33 }
 {
-    passed(grid.early, position) + passed(grid.late, position)
+    count_before(grid.early, position) + count_before(grid.late, position)
 }
 
-/// How many entries are shown.
+/// The number of shown entries.
 pub fn columns_of(grid: Grid) -> u64
     ensures value { result ≡ layout.columns_of grid }
     ensures small { result < 2 ^ 33 }
@@ -71,7 +71,7 @@ pub fn columns_of(grid: Grid) -> u64
     u64::from(grid.early.count) + u64::from(grid.late.count)
 }
 
-/// How far one entry stands from the next: 30, or less where all together would be wider than 2,200.
+/// The distance between entries: 30, or less if all columns would be wider than 2,200.
 pub fn column_of(grid: Grid) -> u64
     ensures value { result ≡ layout.column_of grid }
     ensures narrow { result ≤ 30 }
@@ -79,7 +79,7 @@ pub fn column_of(grid: Grid) -> u64
     WIDEST_COLUMN.min(ALL_COLUMNS / (columns_of(grid) + 1))
 }
 
-/// The x of an instant: in the middle between the entries before and after it.
+/// The x of an instant: halfway between the entries before and after it.
 #[tactic(auto, using(crate::proofs::Sizes::columns_small))]
 pub fn x_of_instant(grid: Grid, instant: u32) -> u64
     ensures value { result ≡ layout.x_of_instant grid instant }
@@ -89,7 +89,7 @@ pub fn x_of_instant(grid: Grid, instant: u32) -> u64
     LEFT + column / 2 + column * columns_before(grid, instant)
 }
 
-/// The x of the entry at a position; of one that is not shown where the run is cut.
+/// The x of the entry at a position; for a hidden entry, the x of the cut.
 #[tactic(auto, using(crate::proofs::Sizes::columns_small))]
 pub fn x_of(grid: Grid, position: u32) -> u64
     ensures value { result ≡ layout.x_of grid position }
@@ -111,7 +111,7 @@ pub fn right_of(grid: Grid) -> u64
     LEFT + column_of(grid) * (columns_of(grid) + 1)
 }
 
-/// How wide the picture is: as its lines or its words need.
+/// The width of the picture: as its lines or its words require.
 pub fn width_of(grid: Grid) -> u64
     ensures value { result ≡ layout.width_of grid }
     ensures narrow { result ≤ 2400 }
@@ -119,7 +119,7 @@ pub fn width_of(grid: Grid) -> u64
     (right_of(grid) + 120).max(600)
 }
 
-/// The entries up to the cut, or all where there is none.
+/// The entries up to the cut, or all if there is none.
 pub fn early_panel(grid: Grid) -> Panel
     ensures { result ≡ layout.early_panel grid }
 {
@@ -129,7 +129,7 @@ pub fn early_panel(grid: Grid) -> Panel
         x_of_instant(grid, grid.late.first)
     };
     Panel {
-        stretch: grid.early,
+        range: grid.early,
         left: LEFT,
         right,
     }
@@ -140,14 +140,13 @@ pub fn late_panel(grid: Grid) -> Panel
     ensures { result ≡ layout.late_panel grid }
 {
     Panel {
-        stretch: grid.late,
+        range: grid.late,
         left: x_of_instant(grid, grid.late.first),
         right: right_of(grid),
     }
 }
 
-/// How far one process's line stands from the next: 40, or less where all together would be higher than 560, but no
-/// less than 16.
+/// The distance between processes' lines: 40, or less if all rows would be higher than 560, but at least 16.
 pub fn row_of(processes: u16) -> u32
     ensures value { result ≡ layout.row_of processes }
     ensures low { result ≤ 40 }
@@ -165,7 +164,7 @@ pub fn y_of(grid: Grid, process: u16) -> u32
     TOP + row_of(grid.processes) * u32::from(process)
 }
 
-/// The lower end of what stands above the legend.
+/// The y at which the legend begins.
 #[tactic(auto, using(crate::proofs::Sizes::rows_small))]
 pub fn bottom_of(processes: u16) -> u32
     ensures value { result ≡ layout.bottom_of processes }
@@ -174,7 +173,7 @@ pub fn bottom_of(processes: u16) -> u32
     TOP + row_of(processes) * u32::from(processes)
 }
 
-/// How high the picture is: with 20 processes and fewer at most 740.
+/// The height of the picture; at most 740 for up to 20 processes.
 #[tactic(auto, using(crate::proofs::Sizes::rows_fit))]
 pub fn height_of(processes: u16) -> u32
     ensures value { result ≡ layout.height_of processes }

@@ -1,42 +1,42 @@
-//! A recorded run's space-time diagram, as the text of a picture in SVG 1.1: a line for each process from left to
-//! right, marks for what happens there, and arrows for messages (Lamport 1978).
+//! The space-time diagram of a recorded run in SVG 1.1: a line for each process from left to right, marks for its
+//! events, and arrows for messages (Lamport 1978).
 //!
-//! Begin at [`picture_of`]; a [`Focus`] says what is shown beside the run itself.
+//! Begin at [`picture_of`]; a [`Focus`] selects what is shown besides the run.
 #![tactic(auto)]
 
-/// The verdict, above the picture.
+/// The caption: the verdict and the bound f.
 mod caption;
-/// Who is down as a stretch begins.
+/// The processes that are down at the start of a range.
 mod down;
-/// What is shown beside the run: an instant, a crash set, a chain, an orphan.
+/// What is shown besides the run: an instant, a crash set, a chain, an orphan.
 pub mod focus;
-/// What stands around the marks.
+/// The parts around the marks.
 mod frame;
-/// Where things stand in a picture.
+/// Coordinates in a picture.
 mod layout;
-/// What each sign means, below the picture.
+/// The legend below the picture.
 mod legend;
-/// A mark as text: its shape, its title, its arrow.
-mod marked;
-/// What happens by each entry that is shown.
+/// The SVG text of a mark: its glyph, its title, its arrow.
+mod mark_text;
+/// The events of the shown entries.
 pub mod marks;
-/// What lies over the marks.
+/// The parts over the marks.
 mod overlay;
-/// The lines and the marks of entries that follow one another.
+/// The lines and marks of consecutive entries.
 mod panel;
 /// The whole text of a picture.
 pub mod picture;
-/// Which messages are sent again.
+/// Messages that are sent again.
 mod resent;
 /// The processes at the instant.
 mod roles;
-/// The shape of each mark, and words with a number.
-mod shapes;
-/// Which entries are shown.
-pub mod stretch;
+/// Glyphs, lines and labels.
+mod glyphs;
+/// The entries that a picture shows.
+pub mod entry_range;
 /// The title of each mark.
 mod titles;
-/// Words that stand in the picture as they are.
+/// Fixed words in the picture.
 mod words;
 
 pub use focus::{Focus, Orphan};

@@ -1,25 +1,25 @@
-//! What a picture shows of each entry.
+//! The event that a picture shows for each entry.
 ghost use Rattle.std.specs.Prelude.{◌≡◌, ◌≤◌, ◌+◌, IfOk, length};
 ghost use Rattle.causal_trace.specs.Rows.{IsWellFormed};
 ghost use Rattle.causal_picture.specs.Marks as marks;
 
-use crate::stretch::Stretch;
+use crate::entry_range::EntryRange;
 use causal_name::{Det, NoMemory, Pid};
 use causal_trace::{Entry, Trace};
 use std::alloc::Global;
 
-/// What happens by an entry, as a picture tells it.
+/// The event of an entry, as a picture shows it.
 #[derive(Clone, Copy)]
-pub enum Event {
+pub enum MarkEvent {
     /// `from` sends its message number `ssn` to `to`.
     Send { from: Pid, to: Pid, ssn: u32 },
-    /// The delivery of this determinant, whose message the entry at position `send` sends.
+    /// The delivery with this determinant; the entry at position `send` sends the message.
     Delivery { det: Det, send: u32 },
-    /// The determinant is in stable storage from here on.
+    /// The determinant is in stable storage from this entry on.
     Stable { det: Det },
     Crash { who: Pid },
     Restart { who: Pid },
-    /// `who` takes so many determinants out of its volatile log.
+    /// `who` removes `count` determinants from its volatile log.
     Forget { who: Pid, count: usize },
 }
 
@@ -27,38 +27,38 @@ pub enum Event {
 #[derive(Clone, Copy)]
 pub struct Mark {
     pub position: u32,
-    pub event: Event,
+    pub event: MarkEvent,
 }
 
-impl Event {
-    /// The process on whose line it is shown; of a stable determinant its receiver.
+impl MarkEvent {
+    /// The process on whose line it is shown; for a stable determinant, its receiver.
     pub fn process(&self) -> Pid
         ensures { result ≡ marks.process_of self.now }
     {
         match self {
-            Event::Send { from, .. } => *from,
-            Event::Delivery { det, .. } => det.dest,
-            Event::Stable { det } => det.dest,
-            Event::Crash { who } => *who,
-            Event::Restart { who } => *who,
-            Event::Forget { who, .. } => *who,
+            MarkEvent::Send { from, .. } => *from,
+            MarkEvent::Delivery { det, .. } => det.dest,
+            MarkEvent::Stable { det } => det.dest,
+            MarkEvent::Crash { who } => *who,
+            MarkEvent::Restart { who } => *who,
+            MarkEvent::Forget { who, .. } => *who,
         }
     }
 }
 
-/// The events of the stretch's entries, one of each, in their order.
+/// The events of the range's entries, one for each, in order.
 ///
 /// # Errors
-/// `NoMemory` where memory was refused.
-pub fn marks_of(alloc: Global, trace: &Trace, stretch: Stretch) -> Result<Vec<Mark>, NoMemory>
-    requires { stretch.first + stretch.count ≤ length trace.now.recording.past }
+/// `NoMemory` if allocation failed.
+pub fn marks_of(alloc: Global, trace: &Trace, range: EntryRange) -> Result<Vec<Mark>, NoMemory>
+    requires { range.first + range.count ≤ length trace.now.recording.past }
     ensures value { IfOk result
-        (λ found. found.items ≡ marks.marks_of trace.now.recording.past stretch) }
-    ensures each { IfOk result (λ found. marks.ShowsEach stretch found.items) }
+        (λ found. found.items ≡ marks.marks_of trace.now.recording.past range) }
+    ensures each { IfOk result (λ found. marks.HasAllMarks range found.items) }
 {
     let mut marks = Vec::new(alloc);
-    let end = end_of(trace, stretch);
-    for position in stretch.first..end {
+    let end = end_of(trace, range);
+    for position in range.first..end {
         if let Some(mark) = mark_at(trace, position) {
             marks.push(mark)?;
         }
@@ -66,13 +66,13 @@ pub fn marks_of(alloc: Global, trace: &Trace, stretch: Stretch) -> Result<Vec<Ma
     Ok(marks)
 }
 
-/// The position after a stretch.
-fn end_of(trace: &Trace, stretch: Stretch) -> u32
-    requires { stretch.first + stretch.count ≤ length trace.now.recording.past }
-    ensures value { result ≡ stretch.first + stretch.count }
+/// The position after a range.
+fn end_of(trace: &Trace, range: EntryRange) -> u32
+    requires { range.first + range.count ≤ length trace.now.recording.past }
+    ensures value { result ≡ range.first + range.count }
     ensures formed { IsWellFormed trace.now.recording }
 {
-    trace.len().min(stretch.first + stretch.count)
+    trace.len().min(range.first + range.count)
 }
 
 /// The event of the entry at a position.
@@ -83,27 +83,27 @@ pub fn mark_at(trace: &Trace, position: u32) -> Option<Mark>
     Some(Mark { position, event })
 }
 
-fn event_of(trace: &Trace, entry: &Entry) -> Option<Event>
+fn event_of(trace: &Trace, entry: &Entry) -> Option<MarkEvent>
     ensures { result ≡ marks.event_of trace.now.recording.past entry.now }
 {
     match entry {
-        Entry::Send { from, to, ssn } => Some(Event::Send {
+        Entry::Send { from, to, ssn } => Some(MarkEvent::Send {
             from: *from,
             to: *to,
             ssn: *ssn,
         }),
         Entry::Deliver { to, send, rsn, .. } => delivery_of(trace, *to, *send, *rsn),
-        Entry::Stable { det } => Some(Event::Stable { det: *det }),
-        Entry::Crash { who } => Some(Event::Crash { who: *who }),
-        Entry::Restart { who, .. } => Some(Event::Restart { who: *who }),
-        Entry::Forget { who, listed } => Some(Event::Forget {
+        Entry::Stable { det } => Some(MarkEvent::Stable { det: *det }),
+        Entry::Crash { who } => Some(MarkEvent::Crash { who: *who }),
+        Entry::Restart { who, .. } => Some(MarkEvent::Restart { who: *who }),
+        Entry::Forget { who, listed } => Some(MarkEvent::Forget {
             who: *who,
             count: listed.as_slice().len(),
         }),
     }
 }
 
-fn delivery_of(trace: &Trace, to: Pid, send: u32, rsn: u32) -> Option<Event>
+fn delivery_of(trace: &Trace, to: Pid, send: u32, rsn: u32) -> Option<MarkEvent>
     ensures { result ≡ marks.delivery_of trace.now.recording.past to send rsn }
 {
     match trace.entry(send)? {
@@ -114,7 +114,7 @@ fn delivery_of(trace: &Trace, to: Pid, send: u32, rsn: u32) -> Option<Event>
                 dest: to,
                 rsn,
             };
-            Some(Event::Delivery { det, send })
+            Some(MarkEvent::Delivery { det, send })
         }
         _ => None,
     }

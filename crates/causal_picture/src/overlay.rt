@@ -1,27 +1,27 @@
-//! What is drawn over the events: the chain and the instant.
+//! The parts over the events: the chain and the instant.
 ghost use Rattle.std.specs.Prelude.{◌≡◌, ◌<◌, IfOk};
-ghost use Rattle.causal_picture.specs.Appended.{Appends};
+ghost use Rattle.causal_picture.specs.Appends.{Appends};
 ghost use Rattle.causal_picture.specs.Overlays as overlays;
 
+use crate::entry_range::Grid;
 use crate::focus::Focus;
+use crate::glyphs::{Glyph, Label, push_glyph, push_label, push_upright};
 use crate::layout::{bottom_of, is_shown, x_of, x_of_instant, y_of};
 use crate::marks::{Mark, mark_at};
 use crate::roles::push_processes;
-use crate::shapes::{Label, Shape, push_label, push_shape, push_upright};
-use crate::stretch::Grid;
 use crate::words::push_words;
 use causal_name::NoMemory;
 use causal_trace::Trace;
 use std::alloc::{AllocError, Global};
 
-/// A place in the picture.
+/// A point in the picture.
 #[derive(Clone, Copy)]
 pub struct Point {
     pub x: u64,
     pub y: u32,
 }
 
-/// Where an event stands.
+/// The point of an event.
 #[tactic(auto, unfolding(crate::specs::Overlays::point_of))]
 fn point_of(grid: Grid, mark: &Mark) -> Point
     ensures { result ≡ overlays.point_of grid mark.now }
@@ -32,7 +32,7 @@ fn point_of(grid: Grid, mark: &Mark) -> Point
     }
 }
 
-/// Where the entry at a position stands, if it is shown.
+/// The point of the entry at a position, if it is shown.
 #[tactic(auto, unfolding(crate::specs::Overlays::point_at))]
 fn point_at(trace: &Trace, grid: Grid, position: u32) -> Option<Point>
     ensures { result ≡ overlays.point_at trace.now.recording.past grid position }
@@ -44,7 +44,7 @@ fn point_at(trace: &Trace, grid: Grid, position: u32) -> Option<Point>
     Some(point_of(grid, &mark))
 }
 
-/// Where the entries of a chain stand that are shown.
+/// The points of a chain's shown entries.
 pub fn points_of(
     alloc: Global,
     trace: &Trace,
@@ -84,13 +84,13 @@ fn push_rings(out: &mut String, points: &[Point]) -> Result<(), AllocError>
     ensures { Appends result out.old out.new (overlays.rings_text points.now) }
 {
     for point in points {
-        push_shape(out, point.x, point.y, Shape::Halo)?;
+        push_glyph(out, point.x, point.y, Glyph::Halo)?;
     }
     Ok(())
 }
 
-/// The chain: a thick line from entry to entry, and a ring about each. It takes no pointer, so that the titles of the
-/// events below can still be read.
+/// Appends the chain: a thick line from entry to entry, and a ring around each. It receives no pointer events, so the
+/// titles of the events below it stay readable.
 #[tactic(auto, unfolding(crate::specs::Overlays::chain_text))]
 fn push_chain(out: &mut String, points: &[Point]) -> Result<(), AllocError>
     ensures { Appends result out.old out.new (overlays.chain_text points.now) }
@@ -108,7 +108,7 @@ fn push_chain(out: &mut String, points: &[Point]) -> Result<(), AllocError>
     push_words(out, "</g>\n")
 }
 
-/// The instant: a vertical line between the entries before and after it, and beside it the processes.
+/// Appends the instant: a vertical line between the entries before and after it, and the processes' names next to it.
 #[tactic(auto, unfolding(crate::specs::Overlays::instant_text))]
 pub fn push_instant(
     out: &mut String,
@@ -133,7 +133,7 @@ pub fn push_instant(
     push_words(out, "</g>\n")
 }
 
-/// The chain, where some of it is shown.
+/// Appends the chain, if some of it is shown.
 pub fn push_shown_chain(out: &mut String, points: &[Point]) -> Result<(), AllocError>
     ensures { Appends result out.old out.new (overlays.shown_chain points.now) }
 {

@@ -1,25 +1,25 @@
-//! A part of the picture whose entries follow one another: the lines of the processes that are up, and the events.
+//! A part of the picture with consecutive entries: the lines of the processes that are up, and the events.
 ghost use Rattle.std.specs.Prelude.{◌≤◌, ◌<◌, ◌+◌, length};
 ghost use Rattle.std.specs.FinSet.{contains};
 ghost use Rattle.causal_trace.specs.State.{entries_of, past_at};
-ghost use Rattle.causal_picture.specs.Appended.{Appends};
+ghost use Rattle.causal_picture.specs.Appends.{Appends};
 ghost use Rattle.causal_picture.specs.Inside.Downs.{ShowsDown};
 ghost use Rattle.causal_picture.specs.Panels as panels;
-ghost use Rattle.causal_picture.specs.Stretches as stretches;
+ghost use Rattle.causal_picture.specs.EntryRanges as stretches;
 
 use crate::down::down_after;
+use crate::entry_range::{EntryRange, Grid};
 use crate::frame::push_process_title;
 use crate::layout::{Panel, late_panel, y_of};
-use crate::marked::{push_marks, push_up, up_until};
+use crate::mark_text::{line_end_x, push_marks, push_up};
 use crate::marks::{Mark, marks_of};
-use crate::stretch::{Grid, Stretch};
 use crate::words::push_words;
 use causal_holders::Holders;
 use causal_name::NoMemory;
 use causal_trace::Trace;
 use std::alloc::{AllocError, Global};
 
-/// The line of a process that is up, with its title.
+/// Appends the line of a process that is up, with its title.
 #[tactic(auto, unfolding(crate::specs::Panels::line_text))]
 fn push_line(out: &mut String, process: u16, from: u64, to: u64, y: u32) -> Result<(), AllocError>
     ensures { Appends result out.old out.new (panels.line_text process from to y) }
@@ -29,7 +29,7 @@ fn push_line(out: &mut String, process: u16, from: u64, to: u64, y: u32) -> Resu
     push_words(out, "</g>\n")
 }
 
-/// The same, from the panel's left end to the process's crash or the right end, where the process is up as it begins.
+/// Appends the line of a process that is up at the panel's left end, to its crash or the right end.
 fn push_unless_down(
     out: &mut String,
     grid: Grid,
@@ -40,24 +40,24 @@ fn push_unless_down(
 ) -> Result<(), AllocError>
     requires { process < 256 }
     ensures { Appends result out.old out.new
-        (panels.unless_down grid panel marks.now (contains down) process) }
+        (panels.line_unless_down grid panel marks.now (contains down) process) }
 {
     if down.contains(process as u8) {
         return Ok(());
     }
-    let to = up_until(grid, panel, marks, process, 0);
+    let to = line_end_x(grid, panel, marks, process, 0);
     push_line(out, process, panel.left, to, y_of(grid, process))
 }
 
-/// Who is down as the stretch begins.
-fn down_before(trace: &Trace, stretch: Stretch) -> Holders
-    requires { stretch.first + stretch.count ≤ length trace.now.recording.past }
-    ensures { ShowsDown (past_at (entries_of trace.now.recording) stretch.first) result }
+/// The processes that are down at the start of the range.
+fn down_before(trace: &Trace, range: EntryRange) -> Holders
+    requires { range.first + range.count ≤ length trace.now.recording.past }
+    ensures { ShowsDown (past_at (entries_of trace.now.recording) range.first) result }
 {
-    down_after(&trace.entries()[..stretch.first as usize])
+    down_after(&trace.entries()[..range.first as usize])
 }
 
-/// The lines of the processes that are up as the panel begins.
+/// Appends the lines of the processes that are up at the panel's left end.
 #[tactic(auto, unfolding(crate::specs::Panels::ups_text))]
 fn push_ups(
     out: &mut String,
@@ -66,18 +66,18 @@ fn push_ups(
     panel: Panel,
     marks: &[Mark],
 ) -> Result<(), AllocError>
-    requires { panel.stretch.first + panel.stretch.count ≤ length trace.now.recording.past }
+    requires { panel.range.first + panel.range.count ≤ length trace.now.recording.past }
     ensures { Appends result out.old out.new
         (panels.ups_text trace.now.recording grid panel marks.now) }
 {
-    let down = down_before(trace, panel.stretch);
+    let down = down_before(trace, panel.range);
     for process in 0..trace.processes() {
         push_unless_down(out, grid, panel, marks, down, process)?;
     }
     Ok(())
 }
 
-/// The lines of the processes that are up, and the events over these.
+/// Appends the lines of the processes that are up, and the events over them.
 #[tactic(auto, unfolding(crate::specs::Panels::panel_text))]
 pub fn push_panel(
     alloc: Global,
@@ -86,18 +86,18 @@ pub fn push_panel(
     grid: Grid,
     panel: Panel,
 ) -> Result<(), NoMemory>
-    requires { panel.stretch.first + panel.stretch.count ≤ length trace.now.recording.past }
+    requires { panel.range.first + panel.range.count ≤ length trace.now.recording.past }
     ensures { Appends result out.old out.new (panels.panel_text trace.now.recording grid panel) }
 {
-    let marks = marks_of(alloc, trace, panel.stretch)?;
+    let marks = marks_of(alloc, trace, panel.range)?;
     push_ups(out, trace, grid, panel, &marks)?;
     push_marks(out, trace, grid, panel, &marks)?;
     Ok(())
 }
 
-/// The part from the cut on, where the run is cut.
+/// Appends the part from the cut on, if there is a cut.
 pub fn push_late(alloc: Global, out: &mut String, trace: &Trace, grid: Grid) -> Result<(), NoMemory>
-    requires { stretches.IsWithin (length trace.now.recording.past) grid }
+    requires { stretches.GridFits (length trace.now.recording.past) grid }
     ensures { Appends result out.old out.new (panels.late_text trace.now.recording grid) }
 {
     if grid.late.count == 0 {

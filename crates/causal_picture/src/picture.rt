@@ -1,25 +1,25 @@
-//! A whole picture.
+//! The SVG text of a whole picture.
 ghost use Rattle.std.specs.Prelude.{◌≡◌, ◌<◌, IfOk, length};
 ghost use Rattle.std.specs.Option.{option_copied};
-ghost use Rattle.causal_picture.specs.Appended.{Appends};
+ghost use Rattle.causal_picture.specs.Appends.{Appends};
 ghost use Rattle.causal_picture.specs.Pictures as pictures;
-ghost use Rattle.causal_picture.specs.Stretches as stretches;
+ghost use Rattle.causal_picture.specs.EntryRanges as stretches;
 
 use crate::caption::push_caption;
+use crate::entry_range::{Grid, grid_around};
 use crate::focus::Focus;
 use crate::frame::{push_cuts, push_head, push_row};
 use crate::layout::{bottom_of, early_panel};
 use crate::legend::push_legend;
 use crate::overlay::{points_of, push_instant, push_shown_chain};
 use crate::panel::{push_late, push_panel};
-use crate::stretch::{Grid, grid_around};
 use crate::words::push_words;
 use causal_holders::Holders;
 use causal_name::NoMemory;
 use causal_trace::Trace;
 use std::alloc::{AllocError, Global};
 
-/// The rows of all processes.
+/// Appends the rows of all processes.
 #[tactic(auto, unfolding(crate::specs::Pictures::rows_text))]
 fn push_rows(out: &mut String, trace: &Trace, grid: Grid, crash: Holders) -> Result<(), AllocError>
     ensures { Appends result out.old out.new (pictures.rows_text trace.now.recording grid crash) }
@@ -40,7 +40,7 @@ fn crash_of(focus: Option<&Focus<'_>>) -> Holders
     }
 }
 
-/// The chain and the instant of a focus, if there is one.
+/// Appends the chain and the instant of a focus, if there is one.
 #[tactic(auto, unfolding(crate::specs::Pictures::focus_text))]
 fn push_focus(
     alloc: Global,
@@ -63,7 +63,7 @@ fn push_focus(
     Ok(())
 }
 
-/// What lies over the lines and the events: the marks where the run is cut, the verdict, and the legend.
+/// Appends the parts over the lines and events: the marks for hidden entries, the caption, and the legend.
 #[tactic(auto, unfolding(crate::specs::Pictures::close_text))]
 fn push_close(
     out: &mut String,
@@ -72,7 +72,7 @@ fn push_close(
     faults: u16,
     focus: Option<&Focus<'_>>,
 ) -> Result<(), AllocError>
-    requires { stretches.IsWithin entries grid }
+    requires { stretches.GridFits entries grid }
     ensures { Appends result out.old out.new
         (pictures.close_text grid entries faults (option_copied focus.entry)) }
 {
@@ -83,7 +83,7 @@ fn push_close(
     push_words(out, "</svg>\n")
 }
 
-/// What is drawn of the run: its processes' rows, then its events over these.
+/// Appends the drawing of the run: its processes' rows, then its events over them.
 #[tactic(auto, unfolding(crate::specs::Pictures::run_text))]
 fn push_run(
     alloc: Global,
@@ -92,7 +92,7 @@ fn push_run(
     grid: Grid,
     crash: Holders,
 ) -> Result<(), NoMemory>
-    requires { stretches.IsWithin (length trace.now.recording.past) grid }
+    requires { stretches.GridFits (length trace.now.recording.past) grid }
     ensures { Appends result out.old out.new (pictures.run_text trace.now.recording grid crash) }
 {
     push_rows(out, trace, grid, crash)?;
@@ -120,16 +120,16 @@ fn push_picture(
     Ok(())
 }
 
-/// The space-time diagram of a recorded run that is audited for so many faults, as the text of a picture in SVG 1.1. All
-/// processes are shown, one below the other, and at most 200 entries ([`grid_around`]); where the run is cut, a mark says
-/// how many entries are hidden there. Each entry shown has a title that begins with the line on which it stands in the
-/// trace's text. No focus says that the run is accepted, a focus without an orphan that too many processes are down.
+/// Draws the space-time diagram of a recorded run, audited with failure bound `faults`, in SVG 1.1. It shows all
+/// processes, one below the other, and at most 200 entries ([`grid_around`]); marks contain the numbers of hidden
+/// entries. Each shown entry has a title that begins with the entry's line in the trace's text. Without a focus, the
+/// caption is that the run is accepted; with a focus without an orphan, that too many processes are down.
 ///
-/// It takes time as the entries, once for each of them that is shown and sends or delivers a message, and as the chain.
-/// The text is as long as the processes, the entries shown and the chain.
+/// O(entries · shown sends and deliveries + processes · shown entries + chain) time. The text has O(processes + shown
+/// entries + chain) bytes.
 ///
 /// # Errors
-/// `NoMemory` where memory was refused.
+/// `NoMemory` if allocation failed.
 pub fn picture_of(
     alloc: Global,
     trace: &Trace,

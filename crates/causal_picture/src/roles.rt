@@ -1,25 +1,25 @@
-//! The processes at the instant: the name of each again, and a sign at the orphan and at each holder.
+//! The processes at the instant: each name again, and a glyph for the orphan and for each holder.
 ghost use Rattle.std.specs.Prelude.{◌≡◌, ◌<◌};
-ghost use Rattle.causal_picture.specs.Appended.{Appends};
+ghost use Rattle.causal_picture.specs.Appends.{Appends};
 ghost use Rattle.causal_picture.specs.Roles as roles;
 
+use crate::entry_range::Grid;
 use crate::focus::{Focus, Orphan};
+use crate::glyphs::{Glyph, push_glyph};
 use crate::layout::y_of;
-use crate::shapes::{Shape, push_shape};
-use crate::stretch::Grid;
 use std::alloc::AllocError;
 
-/// What a process is at the instant, where a delivery has an orphan.
+/// The role of a process at the instant, if a delivery has an orphan.
 #[derive(Clone, Copy)]
 pub enum Role {
-    /// It depends on the delivery, and would be left without the determinant.
+    /// It depends on the delivery, and its log lacks the determinant.
     Orphan,
-    /// Its volatile log has the determinant.
+    /// Its volatile log contains the determinant.
     Holder,
     Other,
 }
 
-/// What the name of a process in that role is followed by.
+/// The words after the name of a process in that role.
 fn words_of(role: Role) -> &'static str
     ensures { result.now ≡ roles.words_of role }
 {
@@ -42,18 +42,18 @@ fn role_of(focus: &Focus<'_>, process: u16) -> Role
     }
 }
 
-/// The sign of a role.
+/// Appends the glyph of a role.
 fn push_sign(out: &mut String, x: u64, y: u32, role: Role) -> Result<(), AllocError>
     ensures { Appends result out.old out.new (roles.sign_text x y role) }
 {
     match role {
-        Role::Orphan => push_shape(out, x, y, Shape::OpenDiamond),
-        Role::Holder => push_shape(out, x, y, Shape::Diamond),
+        Role::Orphan => push_glyph(out, x, y, Glyph::OpenDiamond),
+        Role::Holder => push_glyph(out, x, y, Glyph::Diamond),
         Role::Other => Ok(()),
     }
 }
 
-/// A process at the instant: its sign, and its name beside this, with its role.
+/// Appends a process at the instant: its glyph, and next to it its name with its role.
 #[tactic(auto, unfolding(crate::specs::Roles::process_text))]
 fn push_process(
     out: &mut String,
@@ -75,7 +75,7 @@ fn push_process(
     )
 }
 
-/// All processes at the instant.
+/// Appends all processes at the instant.
 #[tactic(auto, unfolding(crate::specs::Roles::processes_text))]
 pub fn push_processes(
     out: &mut String,

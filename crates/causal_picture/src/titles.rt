@@ -1,30 +1,30 @@
-//! What the marks are called, for whoever points at one or has the picture read out.
+//! The titles of the events, for tooltips and screen readers.
 ghost use Rattle.std.specs.Prelude.{◌≡◌};
-ghost use Rattle.causal_picture.specs.Appended.{Appends};
+ghost use Rattle.causal_picture.specs.Appends.{Appends};
 ghost use Rattle.causal_picture.specs.Titles as titles;
 
-use crate::marks::{Event, Mark};
+use crate::marks::{Mark, MarkEvent};
 use crate::words::push_words;
 use causal_name::{Det, Pid};
 use causal_trace::{Entry, Trace};
 use std::alloc::AllocError;
 
-/// At most so many determinants are named in a title.
-pub const MOST_NAMED: usize = 8;
+/// The maximum number of determinants that a title names.
+pub const MAX_NAMED: usize = 8;
 
-/// What happens by an event: `process 1 sends message 0 to process 2`, `process 1 delivers message 0 of process 0`,
-/// `delivery 0 of process 1, of message 0 of process 0, is in stable storage`, `process 1 crashes`, `process 1 restarts`,
-/// `process 1 forgets 3 determinants`.
-fn push_event(out: &mut String, event: Event) -> Result<(), AllocError>
+/// Appends the title of an event: `process 1 sends message 0 to process 2`, `process 1 delivers message 0 of process
+/// 0`, `delivery 0 of process 1, of message 0 of process 0, is in stable storage`, `process 1 crashes`, `process 1
+/// restarts`, `process 1 forgets 3 determinants`.
+fn push_event(out: &mut String, event: MarkEvent) -> Result<(), AllocError>
     ensures { Appends result out.old out.new (titles.event_title event) }
 {
     match event {
-        Event::Send {
+        MarkEvent::Send {
             from: Pid(from),
             to: Pid(to),
             ssn,
         } => write!(out, "process {from} sends message {ssn} to process {to}"),
-        Event::Delivery {
+        MarkEvent::Delivery {
             det: Det {
                 source: Pid(source),
                 ssn,
@@ -36,7 +36,7 @@ fn push_event(out: &mut String, event: Event) -> Result<(), AllocError>
             out,
             "process {dest} delivers message {ssn} of process {source}"
         ),
-        Event::Stable {
+        MarkEvent::Stable {
             det: Det {
                 source: Pid(source),
                 ssn,
@@ -47,16 +47,16 @@ fn push_event(out: &mut String, event: Event) -> Result<(), AllocError>
             out,
             "delivery {rsn} of process {dest}, of message {ssn} of process {source}, is in stable storage"
         ),
-        Event::Crash { who: Pid(who) } => write!(out, "process {who} crashes"),
-        Event::Restart { who: Pid(who) } => write!(out, "process {who} restarts"),
-        Event::Forget {
+        MarkEvent::Crash { who: Pid(who) } => write!(out, "process {who} crashes"),
+        MarkEvent::Restart { who: Pid(who) } => write!(out, "process {who} restarts"),
+        MarkEvent::Forget {
             who: Pid(who),
             count,
         } => write!(out, "process {who} forgets {count} determinants"),
     }
 }
 
-/// ` [0,0,1,0]`: source, send number, receiver and place there, as the trace's text has a determinant.
+/// Appends ` [0,0,1,0]`: source, ssn, receiver and rsn, as in the trace's text.
 fn push_det(out: &mut String, det: &Det) -> Result<(), AllocError>
     ensures { Appends result out.old out.new (titles.det_title det.now) }
 {
@@ -76,7 +76,7 @@ fn push_dets(out: &mut String, dets: &[Det]) -> Result<(), AllocError>
     Ok(())
 }
 
-/// ` and 3 more`, if there are any.
+/// Appends ` and 3 more`, if there are more.
 fn push_more(out: &mut String, more: usize) -> Result<(), AllocError>
     ensures { Appends result out.old out.new (titles.more_title more) }
 {
@@ -87,18 +87,18 @@ fn push_more(out: &mut String, more: usize) -> Result<(), AllocError>
     }
 }
 
-/// `, and logs [0,0,1,0] [1,0,2,0]`: the first eight of a list, and how many more there are.
+/// Appends `, and logs [0,0,1,0] [1,0,2,0]`: the first eight determinants of a list, and the number of the others.
 #[tactic(auto, unfolding(crate::specs::Titles::named_title))]
 fn push_named(out: &mut String, listed: &[Det]) -> Result<(), AllocError>
     ensures { Appends result out.old out.new (titles.named_title listed.now) }
 {
-    let named = listed.len().min(MOST_NAMED);
+    let named = listed.len().min(MAX_NAMED);
     push_words(out, ", and logs")?;
     push_dets(out, &listed[..named])?;
     push_more(out, listed.len() - named)
 }
 
-/// What is put into a volatile log.
+/// Appends the determinants that an entry adds to a volatile log.
 fn push_logged(out: &mut String, listed: &[Det]) -> Result<(), AllocError>
     ensures { Appends result out.old out.new (titles.logged_title listed.now) }
 {
@@ -109,8 +109,8 @@ fn push_logged(out: &mut String, listed: &[Det]) -> Result<(), AllocError>
     }
 }
 
-/// What the entry at a position puts into a volatile log: a delivery what came with its message, and a restart what it
-/// gathers.
+/// Appends the determinants that the entry at a position adds to a volatile log: a delivery those of its batch, a
+/// restart those that it gathers.
 fn push_list(out: &mut String, trace: &Trace, position: u32) -> Result<(), AllocError>
     ensures { Appends result out.old out.new
         (titles.list_title_at trace.now.recording.past position) }
@@ -122,8 +122,8 @@ fn push_list(out: &mut String, trace: &Trace, position: u32) -> Result<(), Alloc
     }
 }
 
-/// `<title>line 6: process 1 delivers message 0 of process 0, and logs [0,0,1,0]</title>`: the entry at position k stands
-/// on line k + 2 of the trace's text. Of a list at most eight determinants are named.
+/// Appends `<title>line 6: process 1 delivers message 0 of process 0, and logs [0,0,1,0]</title>`. The entry at
+/// position k is on line k + 2 of the trace's text. At most eight determinants are named.
 #[tactic(auto, unfolding(crate::specs::Titles::title_text))]
 pub fn push_title(out: &mut String, trace: &Trace, mark: &Mark) -> Result<(), AllocError>
     ensures { Appends result out.old out.new (titles.title_text trace.now.recording.past mark.now) }
@@ -135,7 +135,7 @@ pub fn push_title(out: &mut String, trace: &Trace, mark: &Mark) -> Result<(), Al
     push_words(out, "</title>\n")
 }
 
-/// The line of the trace's text on which the entry at a position stands: line 1 is the header, and lines count from 1.
+/// The line of the trace's text for the entry at a position. Lines count from 1; line 1 is the header.
 pub fn line_of(position: u32) -> u64
     ensures { result ≡ titles.line_of position }
 {

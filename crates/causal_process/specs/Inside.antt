@@ -1,2 +1,2 @@
--- What private functions keep; no public clause cites it.
+-- Definitions of the crate's documentation example; no public clause uses them.
 pub mod Example

@@ -2,6 +2,6 @@ pub mod Bodies
 pub mod Inside
 pub mod Kinds
 pub mod Laws
-pub mod LawsKept
+pub mod ReactionLaws
 pub mod Limits
 pub mod Reactions

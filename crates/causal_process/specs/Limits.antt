@@ -1,12 +1,12 @@
--- How much a process may send.
+-- The limits on what a process sends in one step.
 use Rattle.std.specs.Prelude.{◌≤◌, List, length, All}
 use Rattle.causal_process.specs.declared.message.Outgoing.{Outgoing}
 
--- a message has a body of at most 1,024 bytes
+-- the message's body has at most 1,024 bytes
 abbrev pub IsShort : Outgoing → Type 0
 IsShort message = length message.body ≤ 1024
 
--- the sends of one step: at most eight, each of them short
+-- the sends of one step: at most eight, each with a short body
 pub record IsWithinLimits (sends : List Outgoing) : Type 0 where
   pub few : length sends ≤ 8
   pub short : All IsShort sends

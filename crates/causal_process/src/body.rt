@@ -1,4 +1,4 @@
-//! The bytes of a message.
+//! The body of a message.
 ghost use Rattle.std.specs.Prelude.{◌≡◌};
 ghost use Rattle.causal_process.specs.Bodies.{first_byte};
 
@@ -7,8 +7,8 @@ use smallvec::SmallVec;
 use std::alloc::Global;
 use std::marker::Model;
 
-/// The bytes of a message, any number of them. Contracts see a body as the list of its bytes. A short one, of at most 16
-/// bytes, is made without memory.
+/// A message body: any number of bytes. Its model is the list of its bytes. A body of at most 16 bytes needs no heap
+/// memory.
 #[derive(Drop)]
 pub struct Body {
     bytes: SmallVec<u8, 16>,
@@ -25,7 +25,7 @@ impl Model for Body {
 impl Body {
     ghost use Rattle.std.specs.Prelude.{[], IfOk};
 
-    /// A body of no bytes. It takes no memory.
+    /// Returns an empty body. It allocates nothing.
     pub fn empty(alloc: Global) -> Body
         ensures { result ≡ [] }
     {
@@ -34,7 +34,7 @@ impl Body {
         }
     }
 
-    /// A body that has these bytes. It takes no memory.
+    /// Returns the body with these bytes. It allocates nothing.
     pub fn new(bytes: Vec<u8>) -> Body
         ensures { result ≡ bytes.items }
     {
@@ -43,7 +43,10 @@ impl Body {
         }
     }
 
-    /// A body that has a copy of these bytes. Its only error is want of memory.
+    /// Returns a body with a copy of these bytes.
+    ///
+    /// # Errors
+    /// `NoMemory` if allocation failed.
     pub fn of(alloc: Global, bytes: &[u8]) -> Result<Body, NoMemory>
         ensures { IfOk result (λ body. body ≡ bytes.now) }
     {
@@ -52,7 +55,7 @@ impl Body {
         })
     }
 
-    /// The bytes, in order. It takes no memory.
+    /// Returns the bytes, in order. It allocates nothing.
     pub fn as_slice(&self) -> &[u8]
         ensures { result.now ≡ self.now }
     {
@@ -60,7 +63,7 @@ impl Body {
     }
 }
 
-/// The first byte, or 0 where there is none.
+/// Returns the first byte, or 0 if the body is empty.
 pub(crate) fn first_or_zero(body: &Body) -> u8
     ensures { result ≡ first_byte body.now }
 {

@@ -1,4 +1,4 @@
-//! A process that counts that it is dropped.
+//! A process wrapper that counts drops.
 ghost use Rattle.std.specs.Prelude.{◌≡◌, List};
 ghost use Rattle.causal_process.specs.declared.message.Input.{Input};
 
@@ -10,8 +10,9 @@ use std::marker::Model;
 use std::sync::Arc;
 use std::sync::atomic::{AtomicU64, Ordering};
 
-/// Reacts as the process inside, and adds one to a counter when it is dropped, so that a test can see whether a process
-/// was let go. Contracts see it as the process inside. That the counter grows by one is tested, and in no contract.
+/// Wraps a process. It reacts as the inner process does, and adds 1 to a counter when it is dropped, so a test can
+/// check that a process was dropped. Its model is the inner process. That the counter grows by one is tested; no
+/// contract states it.
 pub struct Counted<P> {
     inner: P,
     drops: Arc<AtomicU64>,
@@ -24,7 +25,7 @@ impl<P> Model for Counted<P> {
 }
 
 impl<P: Process> Counted<P> {
-    /// The process `inner`, whose drop `drops` counts. It takes no memory.
+    /// Returns a wrapper of `inner` whose drop is counted in `drops`. It allocates nothing.
     pub fn new(inner: P, drops: Arc<AtomicU64>) -> Counted<P>
         ensures { result ≡ inner }
     {

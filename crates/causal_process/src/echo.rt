@@ -1,4 +1,4 @@
-//! Two partners send a count back and forth, and it falls by one each time.
+//! A process that exchanges a count with its partner; each message lowers it by one.
 use crate::body::first_or_zero;
 use crate::message::{Input, Outgoing};
 use crate::process::Process;
@@ -7,10 +7,10 @@ use causal_name::{NoMemory, Pid};
 use std::alloc::Global;
 use std::marker::Model;
 
-/// One of two partners, among n processes. The partner of an even number is the one after it, and of an odd number the
-/// one before. When it begins, a process sends its count to its partner, as one byte, where the partner is below n.
-/// Whoever gets a count above 0, as the first byte of a body, sends that count less one back to the sender; an empty
-/// body counts as 0.
+/// One of two partners, among n processes. The partner of an even number is the next number; of an odd number, the
+/// previous one. When a process begins, it sends its count to its partner as one byte, if the partner's number is below
+/// n. A process that receives a count above 0, as the first byte of a body, sends the count less 1 back to the sender.
+/// An empty body counts as 0.
 #[derive(Drop)]
 pub struct Echo {
     n: u16,
@@ -30,7 +30,7 @@ impl Echo {
     ghost use Rattle.std.specs.Prelude.{◌≡◌, ◌<◌};
     ghost use Rattle.causal_process.specs.Kinds.{partner_of};
 
-    /// Process `me`, 0 to n - 1, of n processes, which starts its count at `rounds`.
+    /// Returns process `me`, 0 to n - 1, of n processes, with the initial count `rounds`.
     pub fn new(n: u16, me: u8, rounds: u8) -> Echo
         requires { me < n }
         ensures { result ≡ record { n = n; me = me; start = rounds } }
@@ -38,7 +38,7 @@ impl Echo {
         Echo { n, me, rounds }
     }
 
-    // The number of its partner, which may be no process.
+    // Returns the partner's number, which may not be a process of the run.
     fn partner(&self) -> u8
         ensures { result ≡ partner_of self.now.me }
     {
@@ -54,7 +54,7 @@ impl Process for Echo {
     ghost use Rattle.std.specs.Prelude.{List, map};
     ghost use Rattle.causal_process.specs.declared.message.Input.{Input};
     ghost use Rattle.causal_process.specs.Kinds.{echo_reaction};
-    ghost use Rattle.causal_process.specs.LawsKept.{map_each, map_in_order};
+    ghost use Rattle.causal_process.specs.ReactionLaws.{map_each, map_in_order};
 
     ghost answers = { λ echo. map (echo_reaction echo) };
 

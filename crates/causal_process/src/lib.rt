@@ -1,47 +1,48 @@
 //! The interface of a process, and the kinds of process that come with the runtime.
 //!
 //! A process is piecewise deterministic (Elnozahy, Alvisi, Wang, Johnson, "A Survey of Rollback-Recovery Protocols in
-//! Message-Passing Systems", ACM Computing Surveys 34(3), 2002): its state and its sends are a function of its opening
-//! state and of the inputs that it was given, in their order. So a process that lost its state gets it back by replay:
-//! one in the same opening state, given the same inputs in the same order, sends the same messages.
+//! Message-Passing Systems", ACM Computing Surveys 34(3), 2002): its state and its sends are a function of its initial
+//! state and of its inputs, in order. So a process that lost its state recovers by replay: a process in the same
+//! initial state, given the same inputs in the same order, sends the same messages.
 //!
 //! # Writing a process
 //!
-//! Implement [`Process`]. Whoever does owes this, and the check refuses an `impl` that does not keep it:
+//! Implement [`Process`]. An implementation must guarantee the following; the proof check rejects one that does not:
 //!
-//! - The sends of a step are a function of the process's value and of the input alone. There is no clock, no
-//!   randomness, and no counter, lock or file that others write too.
-//! - A step that answers `NoMemory` changes nothing that shows in a later answer. So do first what can fail, and change
+//! - The sends of a step are a function of the process's value and of the input alone. A step uses no clock, no
+//!   randomness, and no counter, lock or file that others also write.
+//! - A step that returns `NoMemory` changes nothing that affects later answers. So do first what can fail, and change
 //!   the state last.
-//! - A step sends at most eight messages, each of at most 1,024 bytes. A body that comes in may be longer, so whoever
-//!   sends one on has to look at its length.
-//! - `answers` says, for a value of the process and a list of inputs, what it sends to each of them. There is one list
-//!   of sends for each input, and the answers to a prefix of a list are a prefix of the answers to the list.
+//! - A step sends at most eight messages, each of at most 1,024 bytes. The body of a received message may be longer, so
+//!   a process that sends one on must check its length.
+//! - `answers` defines, for a value of the process and a list of inputs, what the process sends to each of them. It
+//!   contains one list of sends for each input, and the answers to a prefix of a list are a prefix of the answers to
+//!   the list.
 //!
-//! Not part of any proof: that a process that is handed over as a spare is in its opening state.
+//! Not part of any proof: that a process passed as a spare is in its initial state.
 //!
-//! Say in `specs/` how the process reacts to one input, and the rest is given. Where it has no state, its answers are
-//! `map reaction`; where it has one, they are `answers_from reaction next`, with the state after each input. The lemmas
-//! of `specs/LawsKept.antt` prove the laws of both.
+//! Define in `specs/` how the process reacts to one input; the rest follows. The answers of a process without state are
+//! `map reaction`. Those of a process with state are `answers_from reaction next`, where `next` is the state after an
+//! input. The lemmas of `specs/ReactionLaws.antt` prove the laws of both.
 //!
 //! # Example
 //!
-//! A process that tells each sender which number its message has. Its definitions, a file of `specs/`:
+//! A process that returns to each sender the number of its message. Its definitions, a file of `specs/`:
 //!
 //! ```text
-//! -- how many messages it got, after an input; 255 is followed by 0
+//! -- the number of messages received, after an input; 255 is followed by 0
 //! abbrev pub count_after : ℕ → Input → ℕ
 //! count_after count Begin = count
 //! count_after count (Message from body) = (count + 1) % 2 ^ 8
 //!
-//! -- the sender of a message is told its number, as one byte
+//! -- the sender of a message gets its number back, as one byte
 //! abbrev pub numbering_reaction : ℕ → Input → List Outgoing
 //! numbering_reaction count Begin = []
 //! numbering_reaction count (Message from body) =
 //!     record { to = from; body = count_after count (Message from body) ∷ [] } ∷ []
 //! ```
 //!
-//! And its code:
+//! Its code:
 //!
 //! ```text
 //! #[derive(Drop)]
@@ -69,25 +70,25 @@
 //! }
 //! ```
 //!
-//! Both stand, with their imports, in `specs/Inside/Example.antt` and in `src/example.rt` of `causal_runtime_testing`, compiled and
-//! proved.
+//! Both are compiled and proved, with their imports, in `specs/Inside/Example.antt` and in `src/example.rt` of
+//! `causal_runtime_testing`.
 #![tactic(auto)]
 
-/// The bytes of a message.
+/// The body of a message.
 mod body;
-/// A process that counts its drops.
+/// A process wrapper that counts drops.
 mod counted;
-/// A count between two partners.
+/// A count that two partners exchange.
 mod echo;
-/// What a process is told, and what it sends.
+/// The inputs of a process and the messages that it sends.
 mod message;
 /// The interface of a process.
 mod process;
-/// A count that goes round.
+/// A count that goes round a ring.
 mod ring;
-/// The answers of the kinds: one message or none.
+/// The sends of the kinds: one message, or none.
 mod sending;
-/// Values in order, which contracts see as their list.
+/// A list of values of any type.
 mod sequence;
 /// A sum that depends on the order of its deliveries.
 mod tally;

@@ -1,17 +1,17 @@
-//! What a process is told, and what it sends.
+//! The inputs of a process and the messages that it sends.
 use crate::body::Body;
 use causal_name::Pid;
 
-/// What a process is told.
+/// An input of a process.
 #[derive(Drop)]
 pub enum Input {
-    /// It begins, in its opening state. A run gives this once, before all else.
+    /// The process begins, in its initial state. A run gives this input once, before all others.
     Begin,
-    /// A message is delivered to it: whose it is, and its bytes.
+    /// A message is delivered to the process: its sender and its body.
     Message { from: Pid, body: Body },
 }
 
-/// A message that a process sends. The receiver may be the process itself, or no process of the run.
+/// A message that a process sends. The receiver may be the sender itself, or a number that is not a process of the run.
 #[derive(Drop)]
 pub struct Outgoing {
     pub to: Pid,

@@ -1,4 +1,4 @@
-//! A count goes round a ring of processes, and falls by one at each.
+//! A process of a ring, round which a count goes; each process lowers it by one.
 use crate::body::first_or_zero;
 use crate::message::{Input, Outgoing};
 use crate::process::Process;
@@ -7,10 +7,11 @@ use causal_name::{NoMemory, Pid};
 use std::alloc::Global;
 use std::marker::Model;
 
-/// One process of a ring of n. When they begin, process 0 sends its count to the next one, as one byte. Whoever gets a
-/// count above 0, as the first byte of a body, sends the next one that count less one; an empty body counts as 0.
+/// One process of a ring of n. When the processes begin, process 0 sends its count to the next one, as one byte. A
+/// process that receives a count above 0, as the first byte of a body, sends the count less 1 to the next one. An empty
+/// body counts as 0.
 ///
-/// The next of process `me` is `(me + 1) % n`. A process's number is a byte, so a ring of more than 256 closes at 256.
+/// The process after `me` is `(me + 1) % n`. A process number is a byte, so a ring of more than 256 closes at 256.
 #[derive(Drop)]
 pub struct Ring {
     n: u16,
@@ -33,7 +34,7 @@ impl Ring {
     ghost use Rattle.causal_process.specs.Kinds.{next_of};
     ghost use Rattle.std.specs.Prelude.{◌≡◌, ◌<◌};
 
-    /// Process `me`, 0 to n - 1, of a ring of n. Process 0 starts its count at `hops`; the others start none.
+    /// Returns process `me`, 0 to n - 1, of a ring of n. Process 0 starts the count at `hops`; the others start none.
     pub fn new(n: u16, me: u8, hops: u8) -> Ring
         requires { me < n }
         ensures { result ≡ record { n = n; me = me; start = hops } }
@@ -41,7 +42,7 @@ impl Ring {
         Ring { n, me, hops }
     }
 
-    // The process after this one in the ring.
+    // Returns the next process of the ring.
     fn next(&self) -> Pid
         ensures { result ≡ next_of self.now }
     {
@@ -52,7 +53,7 @@ impl Ring {
 
 impl Process for Ring {
     ghost use Rattle.causal_process.specs.Kinds.{ring_reaction};
-    ghost use Rattle.causal_process.specs.LawsKept.{map_each, map_in_order};
+    ghost use Rattle.causal_process.specs.ReactionLaws.{map_each, map_in_order};
     ghost use Rattle.causal_process.specs.declared.message.Input.{Input};
     ghost use Rattle.std.specs.Prelude.{List, map};
 

@@ -1,4 +1,4 @@
-//! The answers that the kinds give: one message, or none.
+//! The sends of the kinds: one message, or none.
 ghost use Rattle.std.specs.Prelude.{◌≡◌, IfOk};
 ghost use Rattle.causal_process.specs.Kinds.{one_message, count_less_one};
 
@@ -7,7 +7,7 @@ use crate::message::Outgoing;
 use causal_name::{NoMemory, Pid};
 use std::alloc::Global;
 
-// One message.
+// Returns the sends of one message with these bytes.
 pub(crate) fn send_one(alloc: Global, to: Pid, bytes: &[u8]) -> Result<Vec<Outgoing>, NoMemory>
     ensures { IfOk result (λ sends. sends.items ≡ one_message to bytes.now) }
 {
@@ -15,7 +15,7 @@ pub(crate) fn send_one(alloc: Global, to: Pid, bytes: &[u8]) -> Result<Vec<Outgo
     Ok(vec![in alloc; Outgoing { to, body }]?)
 }
 
-// The count less one, or nothing where it is 0.
+// Returns the sends of one message with the count less 1, or no sends if the count is 0.
 pub(crate) fn count_down(alloc: Global, to: Pid, count: u8) -> Result<Vec<Outgoing>, NoMemory>
     ensures { IfOk result (λ sends. sends.items ≡ count_less_one to count) }
 {

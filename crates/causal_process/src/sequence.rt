@@ -1,7 +1,7 @@
-//! Values in order.
+//! A list of values of any type.
 use std::marker::Model;
 
-/// Values in order, any number of them. Contracts see a sequence as the list of its values.
+/// Any number of values, in order. Its model is the list of its values.
 #[derive(Drop)]
 pub struct Sequence<T> {
     values: Vec<T>,
@@ -18,14 +18,14 @@ impl<T> Model for Sequence<T> {
 impl<T> Sequence<T> {
     ghost use Rattle.std.specs.Prelude.{◌≡◌};
 
-    /// The sequence that has these values. It takes no memory.
+    /// Returns the sequence of these values. It allocates nothing.
     pub fn new(values: Vec<T>) -> Sequence<T>
         ensures { result ≡ values.items }
     {
         Sequence { values }
     }
 
-    /// The values, in order. It takes no memory.
+    /// Returns the values, in order. It allocates nothing.
     pub fn as_slice(&self) -> &[T]
         ensures { result.now ≡ self.now }
     {

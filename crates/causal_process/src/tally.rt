@@ -1,9 +1,9 @@
-//! Process 0 adds up what it is told, and tells each sender the total.
+//! A process of a tally: process 0 sums the bytes that it receives and returns the total to each sender.
 ghost use Rattle.std.specs.Prelude.{◌≡◌, ◌<◌, List};
 ghost use Rattle.causal_process.specs.declared.message.Input.{Input};
 ghost use Rattle.causal_process.specs.Kinds.{adder_after, tally_reaction};
 ghost use Rattle.causal_process.specs.Reactions.{answers_from};
-ghost use Rattle.causal_process.specs.LawsKept.{from_each, from_in_order};
+ghost use Rattle.causal_process.specs.ReactionLaws.{from_each, from_in_order};
 
 use crate::body::first_or_zero;
 use crate::message::{Input, Outgoing};
@@ -13,9 +13,10 @@ use causal_name::{NoMemory, Pid};
 use std::alloc::Global;
 use std::marker::Model;
 
-/// One process of a tally. When they begin, each process but 0 sends its number to process 0, as one byte. Process 0
-/// adds the first byte of each body that it gets to its total, from 0 and modulo 2 to the 64th, and sends the sender the
-/// new total, as eight bytes with the most significant first; an empty body adds 0. The others answer no message.
+/// One process of a tally. When the processes begin, each one but process 0 sends its number to process 0, as one byte.
+/// Process 0 adds the first byte of each body that it receives to its total, modulo 2 to the 64th, starting from 0. It
+/// sends the new total to the sender, as eight bytes, most significant first. An empty body adds 0. The other processes
+/// send nothing in response to a message.
 ///
 /// So what it sends depends on the order of its deliveries.
 #[derive(Drop)]
@@ -33,7 +34,8 @@ impl Model for Tally {
 }
 
 impl Tally {
-    /// Process `me`, 0 to n - 1, of n processes. The other kinds depend on n; of a tally all n are alike.
+    /// Returns process `me`, 0 to n - 1, of n processes, with the total 0. Unlike the other kinds, it does not depend
+    /// on n.
     pub fn new(n: u16, me: u8) -> Tally
         requires { me < n }
         ensures { result ≡ record { me = me; total = 0 } }

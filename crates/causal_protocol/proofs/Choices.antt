@@ -1,4 +1,4 @@
--- What lists that are made of logs have.
+-- Members of the lists that are made from logs.
 use Rattle.std.proofs.Common.{ℕ, ◌≡◌, ◌<◌, Bool, true, cond, not, ◌&&◌, ◌||◌, List, [], ◌∷◌, find, Option, Some, None, is_some, unwrap_or, refl, sym, ap, ◌∙◌, arith, true≢false}
 use Rattle.std.specs.Prelude.{◌⊎◌}
 use Rattle.std.specs.Option.{option_map}
@@ -13,110 +13,110 @@ use Rattle.causal_name.specs.Names.{det_cmp, same_det}
 use Rattle.causal_name.proofs.Lemmas.DetOrder.{dets_total, exact_dets, det_ties, same_is, same_itself}
 use Rattle.causal_trace.specs.declared.entry.Entry.{Entry}
 use Rattle.causal_trace.specs.declared.entry.Entry.TheVariants.{Send, Deliver, Stable, Crash, Restart, Forget}
-use Rattle.causal_trace.specs.Past.{has, is_stable}
+use Rattle.causal_trace.specs.Past.{list_has, is_stable}
 use Rattle.causal_log.specs.declared.known.Known.{Known}
 use Rattle.causal_log.specs.declared.batch.Item.{Item}
-use Rattle.causal_log.specs.Knowledge.{nothing_known, is_carried, as_stable}
-use Rattle.causal_log.specs.Logs.{LogMap, known_of, item_of, is_chosen, chosen, stable_in, marked, mark, dets_of, unstable_in}
+use Rattle.causal_log.specs.Knowledge.{unknown, is_carried, as_stable}
+use Rattle.causal_log.specs.Logs.{LogMap, known_of, item_of, is_in_batch, batch_items, stable_in, after_mark, mark, dets_of, unstable_in}
 use Rattle.causal_log.specs.Stores as store
 use Rattle.causal_log.proofs.Lemmas.MessageItems.{carried, swap_first}
 use Rattle.causal_log.proofs.Lemmas.Searches.{any_map, any_kept, any_logged, passes}
-use Rattle.causal_protocol.specs.Gathering.{stable_set, without}
-use Rattle.causal_protocol.specs.Naming.{with_own, by_order}
-use Rattle.causal_protocol.specs.Sight.{has_entry, tells_holder, tells_stable, has_item, item_holder}
+use Rattle.causal_protocol.specs.Gathering.{stable_set, without_dets}
+use Rattle.causal_protocol.specs.Naming.{with_own, match_ordering}
+use Rattle.causal_protocol.specs.MemoryQueries.{has_entry, log_knows_holder, log_knows_stable, has_item, item_holder}
 
 swap : (a b : Bool) → (a && b) ≡ (b && a)
 swap a b = grind arith
 
--- what a log chooses
+-- membership in what a log chooses for a message
 module _ (f : ℕ) (log : LogMap) (d : Det) where
-  pub chosen_item : has_item d (chosen f log) ≡ is_chosen f (fin.get log d)
+  pub chosen_item : has_item d (batch_items f log) ≡ is_in_batch f (fin.get log d)
   chosen_item = grind (arith, any_kept, swap, any_logged (is_carried f) d log, carried f (fin.get log d))
 
-  pub chosen_holder : (q : ℕ) → item_holder d q (chosen f log) ≡ passes (λ k. is_carried f k && set.contains k.holders q) (fin.get log d)
+  pub chosen_holder : (q : ℕ) → item_holder d q (batch_items f log) ≡ passes (λ k. is_carried f k && set.contains k.holders q) (fin.get log d)
   chosen_holder q =
       any_kept item_of (λ e. is_carried f e.1) (λ item. same_det d item.det && set.contains item.holders q) (λ e. same_det d e.0 && (is_carried f e.1 && set.contains e.1.holders q)) (λ e. swap_first (is_carried f e.1) (same_det d e.0) (set.contains e.1.holders q)) (fin.entries log)
       ∙ any_logged (λ k. is_carried f k && set.contains k.holders q) d log
 
-  -- a message carries only what its sender's log has
-  pub chosen_logged : has_item d (chosen f log) ≡ true → has_entry d log ≡ true
+  -- a message carries only determinants that its sender's log has
+  pub chosen_logged : has_item d (batch_items f log) ≡ true → has_entry d log ≡ true
   chosen_logged h = grind (arith, chosen_item, false≢true)
 
-  -- whom a message names as a holder its sender's log knows as one
-  pub chosen_known : (q : ℕ) → item_holder d q (chosen f log) ≡ true → tells_holder d q log ≡ true
+  -- the sender's log has each holder that the message names
+  pub chosen_known : (q : ℕ) → item_holder d q (batch_items f log) ≡ true → log_knows_holder d q log ≡ true
   chosen_known q h = grind (arith, chosen_holder q, passes, false≢true, and_parts)
 
-  -- what a log has is carried, or is known to be stable, or to have more than f holders
-  pub chosen_left : has_entry d log ≡ true → (has_item d (chosen f log) ≡ true) ⊎ ((tells_stable d log ≡ true) ⊎ (f < set.len (known_of log d).holders))
+  -- what a log has is carried, or is known to be stable, or has more than f known holders
+  pub chosen_left : has_entry d log ≡ true → (has_item d (batch_items f log) ≡ true) ⊎ ((log_knows_stable d log ≡ true) ⊎ (f < set.len (known_of log d).holders))
   chosen_left h = grind (arith, not_from_false, nat_tests, false≢true, chosen_item)
 
-passes_stable : (o : Option Known) → passes (λ k. k.stable) o ≡ (unwrap_or o nothing_known).stable
+passes_stable : (o : Option Known) → passes (λ k. k.stable) o ≡ (unwrap_or o unknown).stable
 passes_stable o = grind arith
 
--- what a log knows to be stable, and what it does not
-pub stable_have : (log : LogMap) (d : Det) → has (stable_in log) d ≡ tells_stable d log
+-- membership in the lists of what a log knows to be stable, and of the rest
+pub stable_have : (log : LogMap) (d : Det) → list_has (stable_in log) d ≡ log_knows_stable d log
 stable_have log d =
     any_kept (λ e. e.0) (λ e. e.1.stable) (same_det d) (λ e. same_det d e.0 && e.1.stable) (λ e. swap e.1.stable (same_det d e.0)) (fin.entries log)
     ∙ any_logged (λ k. k.stable) d log
     ∙ passes_stable (fin.get log d)
 
 -- a flush writes only what the log has
-pub unstable_logged : (log : LogMap) (d : Det) → has (unstable_in log) d ≡ true → has_entry d log ≡ true
+pub unstable_logged : (log : LogMap) (d : Det) → list_has (unstable_in log) d ≡ true → has_entry d log ≡ true
 unstable_logged log d h =
     let kept = any_kept (λ e. e.0) (λ e. not e.1.stable) (same_det d) (λ e. same_det d e.0 && not e.1.stable) (λ e. swap (not e.1.stable) (same_det d e.0)) (fin.entries log) in
     grind (arith, kept, any_logged (λ k. not k.stable) d log)
 
--- a mark
+-- a look-up after a mark
 get_mark : (log : LogMap) (det other : Det) (o : Option Known) → fin.get log det ≡ o → (b : Bool) → same_det other det ≡ b → fin.get (mark log det o) other ≡ cond b (option_map as_stable (fin.get log other)) (fin.get log other)
 get_mark log det other o was b is = grind (arith, fin.get-insert dets_total log det, det_ties other det, same_is other det)
 
 module _ (log : LogMap) (det d : Det) where
-  marked_get : fin.get (marked log det) d ≡ cond (same_det d det) (option_map as_stable (fin.get log d)) (fin.get log d)
+  marked_get : fin.get (after_mark log det) d ≡ cond (same_det d det) (option_map as_stable (fin.get log d)) (fin.get log d)
   marked_get = get_mark log det d (fin.get log det) refl (same_det d det) refl
 
-  -- to mark a determinant leaves what the log has
-  pub marked_entry : has_entry d (marked log det) ≡ has_entry d log
+  -- a mark does not change what the log has
+  pub marked_entry : has_entry d (after_mark log det) ≡ has_entry d log
   marked_entry = grind (arith, marked_get)
 
-  -- to mark a determinant leaves whom the log knows as holders
-  pub marked_holder : (q : ℕ) → tells_holder d q (marked log det) ≡ tells_holder d q log
+  -- a mark does not change the known holders
+  pub marked_holder : (q : ℕ) → log_knows_holder d q (after_mark log det) ≡ log_knows_holder d q log
   marked_holder q = grind (arith, marked_get)
 
-  -- what is known to be stable after a mark was marked, or was known so before
-  pub marked_mark : tells_stable d (marked log det) ≡ true → (same_det d det ≡ true) ⊎ (tells_stable d log ≡ true)
+  -- what is known to be stable after a mark was marked, or was known before
+  pub marked_mark : log_knows_stable d (after_mark log det) ≡ true → (same_det d det ≡ true) ⊎ (log_knows_stable d log ≡ true)
   marked_mark h = grind (arith, marked_get)
 
-  -- a logged determinant that was marked is known to be stable
-  pub marked_new : same_det d det ≡ true → has_entry d log ≡ true → tells_stable d (marked log det) ≡ true
+  -- a logged determinant is known to be stable after it is marked
+  pub marked_new : same_det d det ≡ true → has_entry d log ≡ true → log_knows_stable d (after_mark log det) ≡ true
   marked_new same there = grind (arith, marked_get, false≢true)
 
   -- what was known to be stable is so after a mark
-  pub marked_old : tells_stable d log ≡ true → tells_stable d (marked log det) ≡ true
+  pub marked_old : log_knows_stable d log ≡ true → log_knows_stable d (after_mark log det) ≡ true
   marked_old h = grind (arith, marked_get, false≢true)
 
 -- a log without some determinants
 module _ (listed : List Det) (log : LogMap) (d : Det) where
-  without_get : fin.get (without listed log) d ≡ cond (not (has listed d)) (fin.get log d) None
-  without_get = fin.get-retain_keys log (λ x. not (has listed x)) d (λ x ties. ap (λ y. not (has listed y)) (sym (exact_dets d x ties)))
+  without_get : fin.get (without_dets listed log) d ≡ cond (not (list_has listed d)) (fin.get log d) None
+  without_get = fin.get-retain_keys log (λ x. not (list_has listed x)) d (λ x ties. ap (λ y. not (list_has listed y)) (sym (exact_dets d x ties)))
 
-  -- a log without some determinants still has the others
-  pub without_entry : has_entry d (without listed log) ≡ (not (has listed d) && has_entry d log)
+  -- a log without some determinants has the others
+  pub without_entry : has_entry d (without_dets listed log) ≡ (not (list_has listed d) && has_entry d log)
   without_entry = grind (arith, without_get)
 
-  -- a log without some determinants still knows the holders of the others
-  pub without_holder : (q : ℕ) → tells_holder d q (without listed log) ≡ (not (has listed d) && tells_holder d q log)
+  -- a log without some determinants has the known holders of the others
+  pub without_holder : (q : ℕ) → log_knows_holder d q (without_dets listed log) ≡ (not (list_has listed d) && log_knows_holder d q log)
   without_holder q = grind (arith, without_get, set.contains-empty)
 
-  -- a log without some determinants still knows which of the others are stable
-  pub without_stable : tells_stable d (without listed log) ≡ (not (has listed d) && tells_stable d log)
+  -- a log without some determinants has the marks of the others
+  pub without_stable : log_knows_stable d (without_dets listed log) ≡ (not (list_has listed d) && log_knows_stable d log)
   without_stable = grind (arith, without_get)
 
-  -- a log without some determinants knows only that to be stable which it knew so
-  pub without_mark : tells_stable d (without listed log) ≡ true → tells_stable d log ≡ true
+  -- a log without some determinants has no new marks
+  pub without_mark : log_knows_stable d (without_dets listed log) ≡ true → log_knows_stable d log ≡ true
   without_mark h = grind (arith, without_get, false≢true)
 
--- the store of a past has what is stable
-pub stable_has : (past : List Entry) (d : Det) → store.has (stable_set past) d ≡ is_stable past d
+-- the stable set of a past has exactly the determinants of its stable entries
+pub stable_has : (past : List Entry) (d : Det) → store.set_has (stable_set past) d ≡ is_stable past d
 unfolding stable_set
 stable_has [] d = ap is_some (fin.get-empty det_cmp d)
 stable_has (Stable det ∷ past) d = grind (arith, fin.get-insert dets_total (stable_set past) det tt d, det_ties d det, stable_has past d)
@@ -126,27 +126,27 @@ stable_has (Crash who ∷ past) d = stable_has past d
 stable_has (Restart who listed ∷ past) d = stable_has past d
 stable_has (Forget who listed ∷ past) d = stable_has past d
 
--- one more in its place
-pub own_have : (own : Det) (ds : List Det) (d : Det) → has (with_own own ds) d ≡ (same_det d own || has ds d)
+-- membership after one more determinant is inserted
+pub own_have : (own : Det) (ds : List Det) (d : Det) → list_has (with_own own ds) d ≡ (same_det d own || list_has ds d)
 unfolding with_own
 own_have own [] d = refl
 own_have own (x ∷ ds) d = by (det_cmp own x) refl (own_have own ds d)
   where
-    by : (o : Ordering) → det_cmp own x ≡ o → has (with_own own ds) d ≡ (same_det d own || has ds d) → has (by_order o (own ∷ x ∷ ds) (x ∷ ds) (x ∷ with_own own ds)) d ≡ (same_det d own || (same_det d x || has ds d))
+    by : (o : Ordering) → det_cmp own x ≡ o → list_has (with_own own ds) d ≡ (same_det d own || list_has ds d) → list_has (match_ordering o (own ∷ x ∷ ds) (x ∷ ds) (x ∷ with_own own ds)) d ≡ (same_det d own || (same_det d x || list_has ds d))
     by Less is rest = refl
     by Equal is rest = grind (arith, exact_dets own x is)
     by Greater is rest = grind arith
 
--- the determinants of items
-pub items_have : (items : List Item) (d : Det) → has (dets_of items) d ≡ has_item d items
+-- membership in the determinants of items
+pub items_have : (items : List Item) (d : Det) → list_has (dets_of items) d ≡ has_item d items
 items_have items d = any_map (λ item. item.det) (same_det d) (λ item. same_det d item.det) (λ x. refl) items
 
--- what a search finds
-pub first_passes : (p : Det → Bool) (ds : List Det) (d : Det) → find p ds ≡ Some d → (p d ≡ true) × (has ds d ≡ true)
+-- what a search returns is in the list and passes the test
+pub first_passes : (p : Det → Bool) (ds : List Det) (d : Det) → find p ds ≡ Some d → (p d ≡ true) × (list_has ds d ≡ true)
 first_passes p [] d h = absurd (true≢false (sym (ap is_some h)))
 first_passes p (x ∷ ds) d h = grind (arith, first_passes p ds d, same_itself)
 
--- where a member of a list passes, a first one is found
-pub first_there : (p : Det → Bool) (ds : List Det) (d : Det) → has ds d ≡ true → p d ≡ true → is_some (find p ds) ≡ true
+-- if a member of a list passes, a search returns one
+pub first_there : (p : Det → Bool) (ds : List Det) (d : Det) → list_has ds d ≡ true → p d ≡ true → is_some (find p ds) ≡ true
 first_there p [] d h fit = absurd (false≢true h)
-first_there p (x ∷ ds) d h fit = grind (arith, or_cases (same_det d x) (has ds d) h, first_there p ds d, both_ways, same_is)
+first_there p (x ∷ ds) d h fit = grind (arith, or_cases (same_det d x) (list_has ds d) h, first_there p ds d, both_ways, same_is)

@@ -1,4 +1,4 @@
--- What an up process knows is what its present lane contributed: entry by entry.
+-- An up process knows what its present lane contributed: a proof entry by entry.
 use Rattle.std.proofs.Common.{arith, ℕ, zero, suc, ◌≡◌, inl, inr, Bool, true, false, ◌&&◌, ◌||◌, not, List, [], ◌∷◌, replicate, take, slice_get, slice_set, Option, Some, None, is_some, refl, sym, ap, subst, ◌∙◌}
 use Rattle.std.specs.Prelude.{◌==◌, ◌⊎◌}
 use Rattle.std.specs.List.{list_any}
@@ -11,18 +11,18 @@ use Rattle.causal_name.specs.declared.MsgName.{MsgName}
 use Rattle.causal_name.specs.declared.Det.{Det}
 use Rattle.causal_trace.specs.declared.entry.Entry.{Entry}
 use Rattle.causal_trace.specs.declared.entry.Entry.TheVariants.{Send, Deliver, Stable, Crash, Restart, Forget}
-use Rattle.causal_trace.specs.Past.{has, message_at, det_from}
-use Rattle.causal_log.specs.Logs.{LogMap, marked}
-use Rattle.causal_protocol.specs.Memory.{Memory, Memories, at, changed, fresh, gained, batch_of, with_received}
-use Rattle.causal_protocol.specs.Gathering.{gathered_log, without}
-use Rattle.causal_protocol.specs.Run.{Run, memories, memories_of, stable_of, receive, after, older}
-use Rattle.causal_protocol.specs.Sight.{log_at, tells_holder, tells_stable}
-use Rattle.causal_protocol.specs.Contributions.{GivesHolder, GivesMark, HoldersAreContributed, IsContributed, MarksAreContributed, ends, run_before, writers_before}
+use Rattle.causal_trace.specs.Past.{list_has, message_at, det_from}
+use Rattle.causal_log.specs.Logs.{LogMap, after_mark}
+use Rattle.causal_protocol.specs.Memory.{Memory, Memories, present_at, update_at, new_memory, log_after_delivery, batch_of, with_received}
+use Rattle.causal_protocol.specs.Gathering.{restart_log, without_dets}
+use Rattle.causal_protocol.specs.Run.{Run, memories, memories_of, stable_of, after_receive, memories_after, older_writers}
+use Rattle.causal_protocol.specs.MemoryQueries.{log_at, log_knows_holder, log_knows_stable}
+use Rattle.causal_protocol.specs.Contributions.{ContributesHolder, ContributesMark, HoldersAreContributed, IsContributed, MarksAreContributed, erases_knowledge, run_before, writers_before}
 use Rattle.causal_protocol.proofs.Places.{log_here, set_other}
 use Rattle.causal_protocol.proofs.LearnedLogs
 use Rattle.causal_protocol.proofs.Choices
 
--- what a log tells of a determinant before and after an entry that contributes to it or ends it
+-- a fact in a log before and after an entry that contributes it or ends it
 pub record Grows (Given : Type 0) (ended old new : Bool) : Type 0 where
   pub found : new ≡ true → Given ⊎ ((ended ≡ false) × (old ≡ true))
   pub fresh : Given → new ≡ true
@@ -31,42 +31,43 @@ pub record Grows (Given : Type 0) (ended old new : Bool) : Type 0 where
 steady : (Given : Type 0) (old new : Bool) → (Given → ⊥) → new ≡ old → Grows Given false old new
 steady Given old new nothing same = record { found = λ h. inr (refl, sym same ∙ h); fresh = λ g. absurd (nothing g); kept = λ _ h. same ∙ h }
 
--- where a memory is changed or put
-changed_here : (g : Memory → Memory) (ms : Memories) (w : ℕ) → at (changed g ms w) w ≡ option_map g (at ms w)
+-- the memory at an index after it is changed or set
+changed_here : (g : Memory → Memory) (ms : Memories) (w : ℕ) → present_at (update_at g ms w) w ≡ option_map g (present_at ms w)
 changed_here g [] w = refl
 changed_here g (m ∷ ms) zero = refl
 changed_here g (m ∷ ms) (suc w) = changed_here g ms w
 
-none_here : (ms : Memories) (w : ℕ) → at (slice_set ms w None) w ≡ None
+none_here : (ms : Memories) (w : ℕ) → present_at (slice_set ms w None) w ≡ None
 none_here [] w = refl
 none_here (m ∷ ms) zero = refl
 none_here (m ∷ ms) (suc w) = none_here ms w
 
-put_here : (m : Memory) (ms : Memories) (w : ℕ) → (at (slice_set ms w (Some m)) w ≡ None) ⊎ (at (slice_set ms w (Some m)) w ≡ Some m)
+put_here : (m : Memory) (ms : Memories) (w : ℕ) → (present_at (slice_set ms w (Some m)) w ≡ None) ⊎ (present_at (slice_set ms w (Some m)) w ≡ Some m)
 put_here m [] w = inl refl
 put_here m (x ∷ ms) zero = inr refl
 put_here m (x ∷ ms) (suc w) = put_here m ms w
 
-set_elsewhere : (ms : Memories) (w : ℕ) (x : Option Memory) (p : ℕ) → (w ≡ p → ⊥) → at (slice_set ms w x) p ≡ at ms p
+set_elsewhere : (ms : Memories) (w : ℕ) (x : Option Memory) (p : ℕ) → (w ≡ p → ⊥) → present_at (slice_set ms w x) p ≡ present_at ms p
 set_elsewhere ms w x p other = ap (option_and_then (λ z. z)) (set_other ms w x p other)
 
 module _ (p : ℕ) (tells : LogMap → Bool) where
-  -- the same of p's log; p is up after an entry that ends nothing only if it was before
+  -- the fact in p's log before and after an entry; p is up after it only if it was up before, or the entry ends the
+  -- fact
   pub record Steps (Given : Type 0) (ended : Bool) (ms next : Memories) : Type 0 where
-    pub up : ended ≡ false → is_some (at next p) ≡ true → is_some (at ms p) ≡ true
-    pub log : is_some (at next p) ≡ true → Grows Given ended (tells (log_at ms p)) (tells (log_at next p))
+    pub up : ended ≡ false → is_some (present_at next p) ≡ true → is_some (present_at ms p) ≡ true
+    pub log : is_some (present_at next p) ≡ true → Grows Given ended (tells (log_at ms p)) (tells (log_at next p))
 
-  keeps : (Given : Type 0) (ended : Bool) (ms next : Memories) → (Given → ⊥) → ended ≡ false → at next p ≡ at ms p → Steps Given ended ms next
+  keeps : (Given : Type 0) (ended : Bool) (ms next : Memories) → (Given → ⊥) → ended ≡ false → present_at next p ≡ present_at ms p → Steps Given ended ms next
   unfolding log_at
   keeps Given ended ms next nothing is same = grind (arith, steady)
 
-  loses : (Given : Type 0) (ended : Bool) (ms next : Memories) → at next p ≡ None → Steps Given ended ms next
+  loses : (Given : Type 0) (ended : Bool) (ms next : Memories) → present_at next p ≡ None → Steps Given ended ms next
   loses Given ended ms next none = grind (arith, false≢true)
 
-  changes : (Given : Type 0) (ended : Bool) (g : Memory → Memory) (ms next : Memories) → at next p ≡ option_map g (at ms p) → ((m : Memory) → at ms p ≡ Some m → Grows Given ended (tells m.log) (tells ((g m).log))) → Steps Given ended ms next
+  changes : (Given : Type 0) (ended : Bool) (g : Memory → Memory) (ms next : Memories) → present_at next p ≡ option_map g (present_at ms p) → ((m : Memory) → present_at ms p ≡ Some m → Grows Given ended (tells m.log) (tells ((g m).log))) → Steps Given ended ms next
   changes Given ended g ms next is grows = grind (arith, loses, log_here)
 
--- what must be known of what entries contribute
+-- what the proof needs of each kind of entry
 pub record Facts (p : ℕ) (d : Det) (tells : LogMap → Bool) (Gives : Run → Option Pid → Entry → Type 0) : Type 0 where
   pub lacks : tells fin.empty ≡ false
   pub sent : (r : Run) (by : Option Pid) (from to : Pid) (ssn : ℕ) → Gives r by (Send from to ssn) → ⊥
@@ -75,20 +76,20 @@ pub record Facts (p : ℕ) (d : Det) (tells : LogMap → Bool) (Gives : Run → 
   pub receiver : (r : Run) (by : Option Pid) (to : Pid) (send rsn : ℕ) (listed : List Det) → Gives r by (Deliver to send rsn listed) → (to.0 ≡ p) × ((m : MsgName) × (message_at r.recording.past send ≡ Some m))
   pub writer : (r : Run) (by : Option Pid) (det : Det) → Gives r by (Stable det) → (w : Pid) × (by ≡ Some w) × (w.0 ≡ p)
   pub restarter : (r : Run) (by : Option Pid) (who : Pid) (listed : List Det) → Gives r by (Restart who listed) → who.0 ≡ p
-  pub delivered : (r : Run) (by : Option Pid) (to : Pid) (send rsn : ℕ) (listed : List Det) (x : MsgName) (m : Memory) → to.0 ≡ p → message_at r.recording.past send ≡ Some x → Grows (Gives r by (Deliver to send rsn listed)) false (tells m.log) (tells (gained (batch_of (memories_of r) x) (det_from to rsn x) m.log))
-  pub written : (r : Run) (w : Pid) (det : Det) (m : Memory) → w.0 ≡ p → at (memories_of r) p ≡ Some m → Grows (Gives r (Some w) (Stable det)) false (tells m.log) (tells (marked m.log det))
-  pub restarted : (r : Run) (by : Option Pid) (who : Pid) (listed : List Det) (old : Bool) → who.0 ≡ p → Grows (Gives r by (Restart who listed)) true old (tells (gathered_log (memories_of r) (stable_of r) who))
-  pub left : (listed : List Det) (log : LogMap) → tells (without listed log) ≡ (not (has listed d) && tells log)
+  pub delivered : (r : Run) (by : Option Pid) (to : Pid) (send rsn : ℕ) (listed : List Det) (x : MsgName) (m : Memory) → to.0 ≡ p → message_at r.recording.past send ≡ Some x → Grows (Gives r by (Deliver to send rsn listed)) false (tells m.log) (tells (log_after_delivery (batch_of (memories_of r) x) (det_from to rsn x) m.log))
+  pub written : (r : Run) (w : Pid) (det : Det) (m : Memory) → w.0 ≡ p → present_at (memories_of r) p ≡ Some m → Grows (Gives r (Some w) (Stable det)) false (tells m.log) (tells (after_mark m.log det))
+  pub restarted : (r : Run) (by : Option Pid) (who : Pid) (listed : List Det) (old : Bool) → who.0 ≡ p → Grows (Gives r by (Restart who listed)) true old (tells (restart_log (memories_of r) (stable_of r) who))
+  pub left : (listed : List Det) (log : LogMap) → tells (without_dets listed log) ≡ (not (list_has listed d) && tells log)
 
 module _ (p : ℕ) (d : Det) (tells : LogMap → Bool) (Gives : Run → Option Pid → Entry → Type 0) (facts : Facts p d tells Gives) where
   abbrev Stepped : Run → Option Pid → Entry → Type 0
-  Stepped r by e = Steps p tells (Gives r by e) (ends p d e) (memories_of r) (after r.faults by r.recording.past e (memories_of r))
+  Stepped r by e = Steps p tells (Gives r by e) (erases_knowledge p d e) (memories_of r) (memories_after r.faults by r.recording.past e (memories_of r))
 
-  elsewhere : (g : Memory → Memory) (ms : Memories) (w : ℕ) → (w ≡ p → ⊥) → at (changed g ms w) p ≡ at ms p
-  elsewhere g ms w other = set_elsewhere ms w (option_map g (at ms w)) p other
+  elsewhere : (g : Memory → Memory) (ms : Memories) (w : ℕ) → (w ≡ p → ⊥) → present_at (update_at g ms w) p ≡ present_at ms p
+  elsewhere g ms w other = set_elsewhere ms w (option_map g (present_at ms w)) p other
 
-  at_it : (g : Memory → Memory) (ms : Memories) (w : ℕ) → w ≡ p → at (changed g ms w) p ≡ option_map g (at ms p)
-  at_it g ms w is = subst (λ x. at (changed g ms x) p ≡ option_map g (at ms p)) (sym is) (changed_here g ms p)
+  at_it : (g : Memory → Memory) (ms : Memories) (w : ℕ) → w ≡ p → present_at (update_at g ms w) p ≡ option_map g (present_at ms p)
+  at_it g ms w is = subst (λ x. present_at (update_at g ms x) p ≡ option_map g (present_at ms p)) (sym is) (changed_here g ms p)
 
   -- a delivery
   received : (r : Run) (by : Option Pid) (to : Pid) (send rsn : ℕ) (listed : List Det) (x : Option MsgName) → message_at r.recording.past send ≡ x → Stepped r by (Deliver to send rsn listed)
@@ -96,7 +97,7 @@ module _ (p : ℕ) (d : Det) (tells : LogMap → Bool) (Gives : Run → Option P
   received r by to send rsn listed (Some x) sent =
       let ms = memories_of r in
       let g = with_received (batch_of ms x) (det_from to rsn x) in
-      let next = ap (λ o. at (receive ms to rsn o) p) sent in
+      let next = ap (λ o. present_at (after_receive ms to rsn o) p) sent in
       elim (eqb_tells to.0 p) [
         | inl is ↦ changes p tells _ false g ms _ (next ∙ at_it g ms to.0 is.1) (λ m _. facts.delivered r by to send rsn listed x m is.1 sent)
         | inr other ↦ keeps p tells _ false ms _ (λ given. other.1 (facts.receiver r by to send rsn listed given).0) refl (next ∙ elsewhere g ms to.0 other.1)
@@ -106,19 +107,19 @@ module _ (p : ℕ) (d : Det) (tells : LogMap → Bool) (Gives : Run → Option P
   returned : (r : Run) (by : Option Pid) (who : Pid) (listed : List Det) → (who.0 == p) ≡ true → who.0 ≡ p → Stepped r by (Restart who listed)
   returned r by who listed ended is =
       let ms = memories_of r in
-      let log = gathered_log ms (stable_of r) who in
-      elim (put_here (fresh log) ms who.0) [
-        | inl none ↦ loses p tells _ _ ms _ (subst (λ x. at (slice_set ms who.0 (Some (fresh log))) x ≡ None) is none)
+      let log = restart_log ms (stable_of r) who in
+      elim (put_here (new_memory log) ms who.0) [
+        | inl none ↦ loses p tells _ _ ms _ (subst (λ x. present_at (slice_set ms who.0 (Some (new_memory log))) x ≡ None) is none)
         | inr some ↦ record {
           up = λ lives _. absurd (both_ways (who.0 == p) lives ended);
           log = λ _.
-              subst (λ b. Grows (Gives r by (Restart who listed)) b (tells (log_at ms p)) (tells (log_at (slice_set ms who.0 (Some (fresh log))) p))) (sym ended)
-              (subst (λ l. Grows (Gives r by (Restart who listed)) true (tells (log_at ms p)) (tells l)) (sym (log_here (slice_set ms who.0 (Some (fresh log))) p (fresh log) (subst (λ x. at (slice_set ms who.0 (Some (fresh log))) x ≡ Some (fresh log)) is some))) (facts.restarted r by who listed (tells (log_at ms p)) is));
+              subst (λ b. Grows (Gives r by (Restart who listed)) b (tells (log_at ms p)) (tells (log_at (slice_set ms who.0 (Some (new_memory log))) p))) (sym ended)
+              (subst (λ l. Grows (Gives r by (Restart who listed)) true (tells (log_at ms p)) (tells l)) (sym (log_here (slice_set ms who.0 (Some (new_memory log))) p (new_memory log) (subst (λ x. present_at (slice_set ms who.0 (Some (new_memory log))) x ≡ Some (new_memory log)) is some))) (facts.restarted r by who listed (tells (log_at ms p)) is));
         }
       ]
 
-  -- a forgetting of p
-  less : (r : Run) (by : Option Pid) (who : Pid) (listed : List Det) (log : LogMap) → (who.0 == p) ≡ true → (b : Bool) → has listed d ≡ b → Grows (Gives r by (Forget who listed)) (ends p d (Forget who listed)) (tells log) (tells (without listed log))
+  -- p forgets determinants
+  less : (r : Run) (by : Option Pid) (who : Pid) (listed : List Det) (log : LogMap) → (who.0 == p) ≡ true → (b : Bool) → list_has listed d ≡ b → Grows (Gives r by (Forget who listed)) (erases_knowledge p d (Forget who listed)) (tells log) (tells (without_dets listed log))
   less r by who listed log here b gone = grind (arith, steady)
 
   step : (r : Run) (by : Option Pid) (e : Entry) → Stepped r by e
@@ -143,58 +144,58 @@ module _ (p : ℕ) (d : Det) (tells : LogMap → Bool) (Gives : Run → Option P
   abbrev run : ℕ → ℕ → List Pid → List Entry → Run
   run n f writers past = record { recording = record { processes = n; past = past }; faults = f; writers = writers }
 
-  -- nobody knows anything at first
-  nothing_at : (n q : ℕ) → tells (log_at (replicate n (Some (fresh fin.empty))) q) ≡ false
+  -- in the initial state no process knows anything
+  nothing_at : (n q : ℕ) → tells (log_at (replicate n (Some (new_memory fin.empty))) q) ≡ false
   unfolding log_at
   nothing_at zero q = facts.lacks
   nothing_at (suc n) zero = facts.lacks
   nothing_at (suc n) (suc q) = nothing_at n q
 
-  -- what was contributed before is so still, where the newest entry does not end it
-  later : (n f : ℕ) (writers : List Pid) (e : Entry) (past : List Entry) → ends p d e ≡ false → IsContributed Gives p d (run n f (older e writers) past) → IsContributed Gives p d (run n f writers (e ∷ past))
+  -- what was contributed stays contributed if the newest entry does not end it
+  later : (n f : ℕ) (writers : List Pid) (e : Entry) (past : List Entry) → erases_knowledge p d e ≡ false → IsContributed Gives p d (run n f (older_writers e writers) past) → IsContributed Gives p d (run n f writers (e ∷ past))
   unfolding writers_before
   later n f writers e past lives c = record {
     since = suc c.since;
     entry = c.entry;
-    stands = c.stands;
+    at_since = c.at_since;
     gives = c.gives;
-    lasts = ap (λ b. b || list_any (ends p d) (take c.since past)) lives ∙ c.lasts;
+    lasts = ap (λ b. b || list_any (erases_knowledge p d) (take c.since past)) lives ∙ c.lasts;
   }
 
-  pub known_contributed : (n f : ℕ) (writers : List Pid) (past : List Entry) → is_some (at (memories n f writers past) p) ≡ true → tells (log_at (memories n f writers past) p) ≡ true → IsContributed Gives p d (run n f writers past)
+  pub known_contributed : (n f : ℕ) (writers : List Pid) (past : List Entry) → is_some (present_at (memories n f writers past) p) ≡ true → tells (log_at (memories n f writers past) p) ≡ true → IsContributed Gives p d (run n f writers past)
   unfolding memories writers_before
   known_contributed n f writers [] up h = absurd (both_ways _ (nothing_at n p) h)
   known_contributed n f writers (e ∷ past) up h =
-      let s = step (run n f (older e writers) past) (slice_get writers 0) e in
+      let s = step (run n f (older_writers e writers) past) (slice_get writers 0) e in
       elim ((s.log up).found h) [
-        | inl given ↦ record { since = 0; entry = e; stands = refl; gives = given; lasts = refl }
-        | inr old ↦ later n f writers e past old.0 (known_contributed n f (older e writers) past (s.up old.0 up) old.1)
+        | inl given ↦ record { since = 0; entry = e; at_since = refl; gives = given; lasts = refl }
+        | inr old ↦ later n f writers e past old.0 (known_contributed n f (older_writers e writers) past (s.up old.0 up) old.1)
       ]
 
-  given_known : (n f : ℕ) (writers : List Pid) (past : List Entry) (k : ℕ) (entry : Entry) → is_some (at (memories n f writers past) p) ≡ true → slice_get past k ≡ Some entry
-      → Gives (run_before (suc k) (run n f writers past)) (slice_get (writers_before k past writers) 0) entry → list_any (ends p d) (take k past) ≡ false → tells (log_at (memories n f writers past) p) ≡ true
+  given_known : (n f : ℕ) (writers : List Pid) (past : List Entry) (k : ℕ) (entry : Entry) → is_some (present_at (memories n f writers past) p) ≡ true → slice_get past k ≡ Some entry
+      → Gives (run_before (suc k) (run n f writers past)) (slice_get (writers_before k past writers) 0) entry → list_any (erases_knowledge p d) (take k past) ≡ false → tells (log_at (memories n f writers past) p) ≡ true
   unfolding memories writers_before
   given_known n f writers [] k entry up is given lasts = absurd (let no : None ≡ Some entry = is in cc)
-  given_known n f writers (e ∷ past) zero entry up is given lasts = grind (arith, step (run n f (older e writers) past) (slice_get writers 0) e)
+  given_known n f writers (e ∷ past) zero entry up is given lasts = grind (arith, step (run n f (older_writers e writers) past) (slice_get writers 0) e)
   given_known n f writers (e ∷ past) (suc k) entry up is given lasts =
-      grind (arith, step (run n f (older e writers) past) (slice_get writers 0) e, given_known n f (older e writers) past k entry)
+      grind (arith, step (run n f (older_writers e writers) past) (slice_get writers 0) e, given_known n f (older_writers e writers) past k entry)
 
-  pub contributed_known : (r : Run) → is_some (at (memories_of r) p) ≡ true → IsContributed Gives p d r → tells (log_at (memories_of r) p) ≡ true
-  contributed_known r up c = given_known r.recording.processes r.faults r.writers r.recording.past c.since c.entry up c.stands c.gives c.lasts
+  pub contributed_known : (r : Run) → is_some (present_at (memories_of r) p) ≡ true → IsContributed Gives p d r → tells (log_at (memories_of r) p) ≡ true
+  contributed_known r up c = given_known r.recording.processes r.faults r.writers r.recording.past c.since c.entry up c.at_since c.gives c.lasts
 
--- holders
-holder_facts : (p : ℕ) (d : Det) (q : ℕ) → Facts p d (tells_holder d q) (GivesHolder p d q)
+-- the facts for holders
+holder_facts : (p : ℕ) (d : Det) (q : ℕ) → Facts p d (log_knows_holder d q) (ContributesHolder p d q)
 holder_facts p d q = grind (arith, steady, LearnedLogs.none_holds, LearnedLogs.told_holders_of, Choices.marked_holder, Choices.without_holder)
 
--- an up process knows just the holders that its present lane was told of
+-- an up process knows exactly the holders that its present lane contributed
 pub holders_are_contributed : HoldersAreContributed
 holders_are_contributed r p d q up = (
-  λ h. known_contributed p d (tells_holder d q) (GivesHolder p d q) (holder_facts p d q) r.recording.processes r.faults r.writers r.recording.past up h,
-  λ c. contributed_known p d (tells_holder d q) (GivesHolder p d q) (holder_facts p d q) r up c,
+  λ h. known_contributed p d (log_knows_holder d q) (ContributesHolder p d q) (holder_facts p d q) r.recording.processes r.faults r.writers r.recording.past up h,
+  λ c. contributed_known p d (log_knows_holder d q) (ContributesHolder p d q) (holder_facts p d q) r up c,
 )
 
--- marks
-mark_facts : (p : ℕ) (d : Det) → Facts p d (tells_stable d) (GivesMark p d)
+-- the facts for marks
+mark_facts : (p : ℕ) (d : Det) → Facts p d (log_knows_stable d) (ContributesMark p d)
 mark_facts p d = record {
   lacks = LearnedLogs.none_stable d;
   sent = λ r by from to ssn g. g;
@@ -211,9 +212,9 @@ mark_facts p d = record {
   left = λ listed log. Choices.without_stable listed log d;
 }
 
--- an up process knows just that to be stable of which its lane was told so
+-- an up process knows to be stable exactly what its present lane contributed as stable
 pub marks_are_contributed : MarksAreContributed
 marks_are_contributed r p d up = (
-  λ h. known_contributed p d (tells_stable d) (GivesMark p d) (mark_facts p d) r.recording.processes r.faults r.writers r.recording.past up h,
-  λ c. contributed_known p d (tells_stable d) (GivesMark p d) (mark_facts p d) r up c,
+  λ h. known_contributed p d (log_knows_stable d) (ContributesMark p d) (mark_facts p d) r.recording.processes r.faults r.writers r.recording.past up h,
+  λ c. contributed_known p d (log_knows_stable d) (ContributesMark p d) (mark_facts p d) r up c,
 )

@@ -1,4 +1,4 @@
--- What logs tell after they learned.
+-- What logs have after a delivery, after a union, and after a restart.
 use Rattle.std.proofs.Common.{ℕ, zero, suc, ◌≡◌, ◌<◌, inl, inr, Bool, true, false, ◌&&◌, ◌||◌, List, [], ◌∷◌, map, length, Option, Some, None, is_some, unwrap_or, refl, sym, ap, ◌∙◌, arith}
 use Rattle.std.specs.Prelude.{◌==◌, ◌⊎◌}
 use Rattle.std.specs.List.{list_any}
@@ -11,38 +11,38 @@ use Rattle.causal_name.specs.declared.Pid.{Pid}
 use Rattle.causal_name.specs.declared.Det.{Det}
 use Rattle.causal_name.specs.Names.{det_cmp, same_det}
 use Rattle.causal_name.proofs.Lemmas.DetOrder.{det_ties, same_is, same_itself, nat_ties}
-use Rattle.causal_trace.specs.Past.{has}
+use Rattle.causal_trace.specs.Past.{list_has}
 use Rattle.causal_log.specs.declared.known.Known.{Known}
 use Rattle.causal_log.specs.declared.batch.Item.{Item}
-use Rattle.causal_log.specs.Knowledge.{nothing_known, held_by, stable_and_held_by, joined, told}
-use Rattle.causal_log.specs.Logs.{LogMap, known_of, learned, learned_all, absorbed, united}
+use Rattle.causal_log.specs.Knowledge.{unknown, held_by, stable_and_held_by, union_with, knowledge_from_item}
+use Rattle.causal_log.specs.Logs.{LogMap, known_of, after_learn, after_learn_all, after_absorb, after_union}
 use Rattle.causal_log.specs.Stores.{DetSet, dets_in}
 use Rattle.causal_log.specs.Stores as store
 use Rattle.causal_log.proofs.Lemmas.KnowledgeGrows.{logged_all, known_all, holds_either, stable_either, told_dets, told_holders, told_stable}
 use Rattle.causal_log.proofs.Lemmas.Searches.{any_map, any_logged, any_dets, passes}
-use Rattle.causal_protocol.specs.Memory.{Memories, gained}
-use Rattle.causal_protocol.specs.Gathering.{united_all, held_all, stable_all, known_together, gathered_log}
-use Rattle.causal_protocol.specs.Contributions.{TellsHolder}
-use Rattle.causal_protocol.specs.Sight.{log_at, has_entry, tells_holder, tells_stable, has_logged, knows, marks, has_item, item_holder}
+use Rattle.causal_protocol.specs.Memory.{Memories, log_after_delivery}
+use Rattle.causal_protocol.specs.Gathering.{with_logs_of, with_held, with_stored, union_of_logs, restart_log}
+use Rattle.causal_protocol.specs.Contributions.{MessageImpliesHolder}
+use Rattle.causal_protocol.specs.MemoryQueries.{log_at, has_entry, log_knows_holder, log_knows_stable, memory_logs, knows_holder, knows_stable, has_item, item_holder}
 
--- what is known of nothing, and by one process
-pub none_holds : (d : Det) (q : ℕ) → tells_holder d q fin.empty ≡ false
-none_holds d q = ap (λ o. set.contains (unwrap_or o nothing_known).holders q) (fin.get-empty det_cmp d) ∙ set.contains-empty nat_cmp q
+-- an empty log knows no holders
+pub none_holds : (d : Det) (q : ℕ) → log_knows_holder d q fin.empty ≡ false
+none_holds d q = ap (λ o. set.contains (unwrap_or o unknown).holders q) (fin.get-empty det_cmp d) ∙ set.contains-empty nat_cmp q
 
 -- an empty log knows nothing to be stable
-pub none_stable : (d : Det) → tells_stable d fin.empty ≡ false
-none_stable d = ap (λ o. (unwrap_or o nothing_known).stable) (fin.get-empty det_cmp d)
+pub none_stable : (d : Det) → log_knows_stable d fin.empty ≡ false
+none_stable d = ap (λ o. (unwrap_or o unknown).stable) (fin.get-empty det_cmp d)
 
 -- an empty log has no determinant
 pub none_entry : (d : Det) → has_entry d fin.empty ≡ false
 none_entry d = ap is_some (fin.get-empty det_cmp d)
 
--- who is told to hold a determinant has it told in an entry
-pub entry_of_holder : (log : LogMap) (d : Det) (q : ℕ) → tells_holder d q log ≡ true → has_entry d log ≡ true
+-- a determinant with a known holder is logged
+pub entry_of_holder : (log : LogMap) (d : Det) (q : ℕ) → log_knows_holder d q log ≡ true → has_entry d log ≡ true
 entry_of_holder log d q h = grind (arith, both_ways, set.contains-empty)
 
--- and so has what is told to be stable
-pub entry_of_mark : (log : LogMap) (d : Det) → tells_stable d log ≡ true → has_entry d log ≡ true
+-- a determinant that is known to be stable is logged
+pub entry_of_mark : (log : LogMap) (d : Det) → log_knows_stable d log ≡ true → has_entry d log ≡ true
 entry_of_mark log d h = grind (arith, false≢true)
 
 -- an item that names a holder is an item
@@ -56,40 +56,40 @@ alone_holds p q h = grind (arith, set.contains-insert nat_cmp_total set.empty p 
 pub itself_holds : (p : ℕ) → set.contains (set.insert (set.empty {R = nat_cmp}) p) p ≡ true
 itself_holds p = set.contains-insert nat_cmp_total set.empty p p ∙ or_left _ _ (sym (nat_ties p p) ∙ eq-eqb p p refl)
 
--- one entry more or known better
+-- after one determinant is learned
 module _ (log : LogMap) (own : Det) (k : Known) (d : Det) where
-  pub one_entry : has_entry d (learned log own k) ≡ (has_entry d log || (same_det d own || false))
+  pub one_entry : has_entry d (after_learn log own k) ≡ (has_entry d log || (same_det d own || false))
   one_entry = logged_all ((own, k) ∷ []) log d
 
-  pub one_holder : (q : ℕ) → tells_holder d q (learned log own k) ≡ (tells_holder d q log || ((same_det d own && set.contains k.holders q) || false))
+  pub one_holder : (q : ℕ) → log_knows_holder d q (after_learn log own k) ≡ (log_knows_holder d q log || ((same_det d own && set.contains k.holders q) || false))
   one_holder q = known_all (λ k. set.contains k.holders q) (holds_either q) ((own, k) ∷ []) log d
 
-  pub one_stable : tells_stable d (learned log own k) ≡ (tells_stable d log || ((same_det d own && k.stable) || false))
+  pub one_stable : log_knows_stable d (after_learn log own k) ≡ (log_knows_stable d log || ((same_det d own && k.stable) || false))
   one_stable = known_all (λ k. k.stable) stable_either ((own, k) ∷ []) log d
 
--- a delivery's gains
+-- what a delivery adds to a log
 module _ (batch : List Item) (own : Det) (log : LogMap) (d : Det) where
   abbrev absorbs : LogMap
-  absorbs = absorbed batch own.source own.dest log
+  absorbs = after_absorb batch own.source own.dest log
 
   or_lone : (a b c : Bool) → ((a || b) || (c || false)) ≡ (a || (c || b))
   or_lone a b c = grind arith
 
-  -- after a delivery the log has its own determinant and what the message carries, too
-  pub gained_entry : has_entry d (gained batch own log) ≡ (has_entry d log || (same_det d own || has_item d batch))
+  -- after a delivery the log also has its own determinant and what the message carries
+  pub gained_entry : has_entry d (log_after_delivery batch own log) ≡ (has_entry d log || (same_det d own || has_item d batch))
   gained_entry =
       one_entry absorbs own (held_by own.dest) d
-      ∙ ap (λ b. b || (same_det d own || false)) (logged_all (map (told own.source own.dest) batch) log d ∙ ap (λ b. has_entry d log || b) (told_dets own.source own.dest d batch))
+      ∙ ap (λ b. b || (same_det d own || false)) (logged_all (map (knowledge_from_item own.source own.dest) batch) log d ∙ ap (λ b. has_entry d log || b) (told_dets own.source own.dest d batch))
       ∙ or_lone (has_entry d log) (has_item d batch) (same_det d own)
 
-  -- what an item with these holders and two more tells
+  -- whether an item makes q a holder of d: q is one of its holders, the sender or the receiver
   abbrev tells_item : ℕ → Item → Bool
   tells_item q item = same_det d item.det && (set.contains item.holders q || (q == own.source.0 || q == own.dest.0))
 
-  gained_known : (q : ℕ) → tells_holder d q (gained batch own log) ≡ ((tells_holder d q log || list_any (tells_item q) batch) || ((same_det d own && set.contains (held_by own.dest).holders q) || false))
+  gained_known : (q : ℕ) → log_knows_holder d q (log_after_delivery batch own log) ≡ ((log_knows_holder d q log || list_any (tells_item q) batch) || ((same_det d own && set.contains (held_by own.dest).holders q) || false))
   gained_known q =
       one_holder absorbs own (held_by own.dest) d q
-      ∙ ap (λ b. b || ((same_det d own && set.contains (held_by own.dest).holders q) || false)) (known_all (λ k. set.contains k.holders q) (holds_either q) (map (told own.source own.dest) batch) log d ∙ ap (λ b. tells_holder d q log || b) (told_holders own.source own.dest d q batch))
+      ∙ ap (λ b. b || ((same_det d own && set.contains (held_by own.dest).holders q) || false)) (known_all (λ k. set.contains k.holders q) (holds_either q) (map (knowledge_from_item own.source own.dest) batch) log d ∙ ap (λ b. log_knows_holder d q log || b) (told_holders own.source own.dest d q batch))
 
   item_split : (q : ℕ) (items : List Item) → list_any (tells_item q) items ≡ true → (item_holder d q items ≡ true) ⊎ ((has_item d items ≡ true) × ((q ≡ own.source.0) ⊎ (q ≡ own.dest.0)))
   item_split q [] h = absurd (false≢true h)
@@ -99,7 +99,7 @@ module _ (batch : List Item) (own : Det) (log : LogMap) (d : Det) where
   item_named q [] h = absurd (false≢true h)
   item_named q (item ∷ items) h = grind (arith, item_named q items)
 
-  -- an item that comes tells that both ends of its message hold it
+  -- each item makes both ends of its message holders
   item_at : (q : ℕ) → (q == own.source.0 || q == own.dest.0) ≡ true → (items : List Item) → has_item d items ≡ true → list_any (tells_item q) items ≡ true
   item_at q end [] h = absurd (false≢true h)
   item_at q end (item ∷ items) h = grind (arith, item_at q end items)
@@ -110,39 +110,40 @@ module _ (batch : List Item) (own : Det) (log : LogMap) (d : Det) where
   item_received : (items : List Item) → has_item d items ≡ true → list_any (tells_item own.dest.0) items ≡ true
   item_received = item_at own.dest.0 (or_right _ _ (eq-eqb own.dest.0 own.dest.0 refl))
 
-  -- who is told to hold it was before, or the message says so, or is its sender or receiver; or it is the receiver's own
-  pub gained_holder : (q : ℕ) → tells_holder d q (gained batch own log) ≡ true
-      → (tells_holder d q log ≡ true) ⊎ ((item_holder d q batch ≡ true) ⊎ (((has_item d batch ≡ true) × ((q ≡ own.source.0) ⊎ (q ≡ own.dest.0))) ⊎ ((d ≡ own) × (q ≡ own.dest.0))))
+  -- a known holder after a delivery was known before, or the message names it, or it is the sender or receiver of an
+  -- item's message, or the receiver of the delivery
+  pub gained_holder : (q : ℕ) → log_knows_holder d q (log_after_delivery batch own log) ≡ true
+      → (log_knows_holder d q log ≡ true) ⊎ ((item_holder d q batch ≡ true) ⊎ (((has_item d batch ≡ true) × ((q ≡ own.source.0) ⊎ (q ≡ own.dest.0))) ⊎ ((d ≡ own) × (q ≡ own.dest.0))))
   gained_holder q h = grind (arith, or_cases, gained_known q, item_split, and_parts, same_is, alone_holds, false≢true)
 
-  -- the receiver is told that it holds what it had, if it knew so, and what it gained
-  pub gained_old : (q : ℕ) → tells_holder d q log ≡ true → tells_holder d q (gained batch own log) ≡ true
+  -- holders known before a delivery are known after it
+  pub gained_old : (q : ℕ) → log_knows_holder d q log ≡ true → log_knows_holder d q (log_after_delivery batch own log) ≡ true
   gained_old q h = gained_known q ∙ or_left _ _ (or_left _ _ h)
 
-  -- the receiver is known to hold what a delivery brings
-  pub gained_new : (same_det d own || has_item d batch) ≡ true → tells_holder d own.dest.0 (gained batch own log) ≡ true
+  -- after a delivery the receiver is a known holder of what it brings
+  pub gained_new : (same_det d own || has_item d batch) ≡ true → log_knows_holder d own.dest.0 (log_after_delivery batch own log) ≡ true
   gained_new h = grind (arith, gained_known own.dest.0, or_cases (same_det d own) (has_item d batch) h, itself_holds own.dest.0, item_received)
 
-  -- whom the message tells to hold it is told so
-  pub gained_told : (q : ℕ) → TellsHolder batch own d q → tells_holder d q (gained batch own log) ≡ true
+  -- after a delivery each holder that the message names is known
+  pub gained_told : (q : ℕ) → MessageImpliesHolder batch own d q → log_knows_holder d q (log_after_delivery batch own log) ≡ true
   gained_told q h = grind (arith, gained_known, item_named, item_sent, gained_new, same_itself)
 
-  -- what is told to be stable is so still
-  pub gained_still : tells_stable d log ≡ true → tells_stable d (gained batch own log) ≡ true
+  -- what is known to be stable before a delivery is known after it
+  pub gained_still : log_knows_stable d log ≡ true → log_knows_stable d (log_after_delivery batch own log) ≡ true
   gained_still h =
       one_stable absorbs own (held_by own.dest) d
-      ∙ or_left _ _ (known_all (λ k. k.stable) stable_either (map (told own.source own.dest) batch) log d ∙ or_left _ _ h)
+      ∙ or_left _ _ (known_all (λ k. k.stable) stable_either (map (knowledge_from_item own.source own.dest) batch) log d ∙ or_left _ _ h)
 
-  -- by a delivery nothing new is known to be stable
-  pub gained_stable : tells_stable d (gained batch own log) ≡ true → tells_stable d log ≡ true
+  -- after a delivery nothing new is known to be stable
+  pub gained_stable : log_knows_stable d (log_after_delivery batch own log) ≡ true → log_knows_stable d log ≡ true
   gained_stable h =
-      let before = known_all (λ k. k.stable) stable_either (map (told own.source own.dest) batch) log d in
+      let before = known_all (λ k. k.stable) stable_either (map (knowledge_from_item own.source own.dest) batch) log d in
       grind (arith, before, one_stable absorbs own (held_by own.dest) d, told_stable own.source own.dest d batch)
 
--- a property of a log that two logs have together where either has it, and that the empty one has not
-module _ (tells : LogMap → Bool) (either : (log other : LogMap) → tells (united log other) ≡ (tells log || tells other)) (lacks : tells fin.empty ≡ false) where
-  pub united_found : (ms : Memories) (log : LogMap) → tells (united_all ms log) ≡ true → (tells log ≡ true) ⊎ ((r : ℕ) × (r < length ms) × (tells (log_at ms r) ≡ true))
-  unfolding united_all log_at
+-- a property of logs that a union has if either operand has it, and that the empty log lacks
+module _ (tells : LogMap → Bool) (either : (log other : LogMap) → tells (after_union log other) ≡ (tells log || tells other)) (lacks : tells fin.empty ≡ false) where
+  pub united_found : (ms : Memories) (log : LogMap) → tells (with_logs_of ms log) ≡ true → (tells log ≡ true) ⊎ ((r : ℕ) × (r < length ms) × (tells (log_at ms r) ≡ true))
+  unfolding with_logs_of log_at
   united_found [] log h = inl h
   united_found (None ∷ ms) log h =
       elim (united_found ms log h) [
@@ -150,7 +151,7 @@ module _ (tells : LogMap → Bool) (either : (log other : LogMap) → tells (uni
         | inr some ↦ inr (suc some.0, omega (arith, some.1), some.2)
       ]
   united_found (Some m ∷ ms) log h =
-      elim (united_found ms (united log m.log) h) [
+      elim (united_found ms (after_union log m.log) h) [
         | inl old ↦ elim (or_cases (tells log) (tells m.log) (sym (either log m.log) ∙ old)) [
           | inl first ↦ inl first
           | inr here ↦ inr (zero, omega arith, here)
@@ -158,142 +159,142 @@ module _ (tells : LogMap → Bool) (either : (log other : LogMap) → tells (uni
         | inr some ↦ inr (suc some.0, omega (arith, some.1), some.2)
       ]
 
-  pub united_first : (ms : Memories) (log : LogMap) → tells log ≡ true → tells (united_all ms log) ≡ true
-  unfolding united_all
+  pub united_first : (ms : Memories) (log : LogMap) → tells log ≡ true → tells (with_logs_of ms log) ≡ true
+  unfolding with_logs_of
   united_first [] log h = h
   united_first (None ∷ ms) log h = united_first ms log h
-  united_first (Some m ∷ ms) log h = united_first ms (united log m.log) (either log m.log ∙ or_left _ _ h)
+  united_first (Some m ∷ ms) log h = united_first ms (after_union log m.log) (either log m.log ∙ or_left _ _ h)
 
-  pub united_each : (ms : Memories) (log : LogMap) (r : ℕ) → tells (log_at ms r) ≡ true → tells (united_all ms log) ≡ true
-  unfolding united_all log_at
+  pub united_each : (ms : Memories) (log : LogMap) (r : ℕ) → tells (log_at ms r) ≡ true → tells (with_logs_of ms log) ≡ true
+  unfolding with_logs_of log_at
   united_each [] log r h = absurd (both_ways _ lacks h)
   united_each (None ∷ ms) log zero h = absurd (both_ways _ lacks h)
   united_each (None ∷ ms) log (suc r) h = united_each ms log r h
-  united_each (Some m ∷ ms) log zero h = united_first ms (united log m.log) (either log m.log ∙ or_right _ _ h)
-  united_each (Some m ∷ ms) log (suc r) h = united_each ms (united log m.log) r h
+  united_each (Some m ∷ ms) log zero h = united_first ms (after_union log m.log) (either log m.log ∙ or_right _ _ h)
+  united_each (Some m ∷ ms) log (suc r) h = united_each ms (after_union log m.log) r h
 
 -- the three properties
-pub entry_either : (d : Det) (log other : LogMap) → has_entry d (united log other) ≡ (has_entry d log || has_entry d other)
+pub entry_either : (d : Det) (log other : LogMap) → has_entry d (after_union log other) ≡ (has_entry d log || has_entry d other)
 entry_either d log other = logged_all (fin.entries other) log d ∙ ap (λ b. has_entry d log || b) (any_dets d other)
 
-known_passes : (P : Known → Bool) → P nothing_known ≡ false → (o : Option Known) → passes P o ≡ P (unwrap_or o nothing_known)
+known_passes : (P : Known → Bool) → P unknown ≡ false → (o : Option Known) → passes P o ≡ P (unwrap_or o unknown)
 known_passes P lacks o = grind arith
 
-pub holder_either : (d : Det) (q : ℕ) (log other : LogMap) → tells_holder d q (united log other) ≡ (tells_holder d q log || tells_holder d q other)
+pub holder_either : (d : Det) (q : ℕ) (log other : LogMap) → log_knows_holder d q (after_union log other) ≡ (log_knows_holder d q log || log_knows_holder d q other)
 holder_either d q log other =
     known_all (λ k. set.contains k.holders q) (holds_either q) (fin.entries other) log d
-    ∙ ap (λ b. tells_holder d q log || b) (any_logged (λ k. set.contains k.holders q) d other ∙ known_passes (λ k. set.contains k.holders q) (set.contains-empty nat_cmp q) (fin.get other d))
+    ∙ ap (λ b. log_knows_holder d q log || b) (any_logged (λ k. set.contains k.holders q) d other ∙ known_passes (λ k. set.contains k.holders q) (set.contains-empty nat_cmp q) (fin.get other d))
 
-pub mark_either : (d : Det) (log other : LogMap) → tells_stable d (united log other) ≡ (tells_stable d log || tells_stable d other)
+pub mark_either : (d : Det) (log other : LogMap) → log_knows_stable d (after_union log other) ≡ (log_knows_stable d log || log_knows_stable d other)
 mark_either d log other =
     known_all (λ k. k.stable) stable_either (fin.entries other) log d
-    ∙ ap (λ b. tells_stable d log || b) (any_logged (λ k. k.stable) d other ∙ known_passes (λ k. k.stable) refl (fin.get other d))
+    ∙ ap (λ b. log_knows_stable d log || b) (any_logged (λ k. k.stable) d other ∙ known_passes (λ k. k.stable) refl (fin.get other d))
 
--- a log in which p holds these
-held_is : (ds : List Det) (p : Pid) (log : LogMap) → held_all ds p log ≡ learned_all (map (λ d. (d, held_by p)) ds) log
-unfolding held_all
+-- a log in which p is a known holder of these
+held_is : (ds : List Det) (p : Pid) (log : LogMap) → with_held ds p log ≡ after_learn_all (map (λ d. (d, held_by p)) ds) log
+unfolding with_held
 held_is [] p log = refl
-held_is (d ∷ ds) p log = held_is ds p (learned log d (held_by p))
+held_is (d ∷ ds) p log = held_is ds p (after_learn log d (held_by p))
 
-stable_is : (ds : List Det) (p : Pid) (log : LogMap) → stable_all ds p log ≡ learned_all (map (λ d. (d, stable_and_held_by p)) ds) log
-unfolding stable_all
+stable_is : (ds : List Det) (p : Pid) (log : LogMap) → with_stored ds p log ≡ after_learn_all (map (λ d. (d, stable_and_held_by p)) ds) log
+unfolding with_stored
 stable_is [] p log = refl
-stable_is (d ∷ ds) p log = stable_is ds p (learned log d (stable_and_held_by p))
+stable_is (d ∷ ds) p log = stable_is ds p (after_learn log d (stable_and_held_by p))
 
-any_of : (d : Det) (g : Det → Bool) (ds : List Det) → list_any (λ x. same_det d x && g x) ds ≡ true → (has ds d ≡ true) × (g d ≡ true)
+any_of : (d : Det) (g : Det → Bool) (ds : List Det) → list_any (λ x. same_det d x && g x) ds ≡ true → (list_has ds d ≡ true) × (g d ≡ true)
 any_of d g [] h = absurd (false≢true h)
 any_of d g (x ∷ ds) h = grind (arith, or_cases, and_parts, same_is, any_of d g ds)
 
-any_for : (d : Det) (g : Det → Bool) (ds : List Det) → has ds d ≡ true → g d ≡ true → list_any (λ x. same_det d x && g x) ds ≡ true
+any_for : (d : Det) (g : Det → Bool) (ds : List Det) → list_has ds d ≡ true → g d ≡ true → list_any (λ x. same_det d x && g x) ds ≡ true
 any_for d g [] h k = absurd (false≢true h)
-any_for d g (x ∷ ds) h k = grind (arith, or_cases (same_det d x) (has ds d) h, same_is, any_for d g ds)
+any_for d g (x ∷ ds) h k = grind (arith, or_cases (same_det d x) (list_has ds d) h, same_is, any_for d g ds)
 
--- the keys of a log, and the members of a store
-pub keys_have : (m : LogMap) (d : Det) → has (fin.keys m) d ≡ has_entry d m
+-- membership in the keys of a log and in the members of a store
+pub keys_have : (m : LogMap) (d : Det) → list_has (fin.keys m) d ≡ has_entry d m
 keys_have m d = any_map (λ e. e.0) (same_det d) (λ e. same_det d e.0) (λ x. refl) (fin.entries m) ∙ any_dets d m
 
 -- a set and the list of its members have the same determinants
-pub stored_have : (s : DetSet) (d : Det) → has (dets_in s) d ≡ store.has s d
+pub stored_have : (s : DetSet) (d : Det) → list_has (dets_in s) d ≡ store.set_has s d
 stored_have s d = grind (arith, fin.contains_key-keys s d, det_ties)
 
--- these are learned of p, each the same
+-- after the same knowledge is learned of each determinant of a list
 module _ (p : Pid) (k : Known) (d : Det) where
   abbrev each : List Det → List (Det × Known)
   each ds = map (λ x. (x, k)) ds
 
-  each_entry : (ds : List Det) (log : LogMap) → has_entry d (learned_all (each ds) log) ≡ (has_entry d log || has ds d)
+  each_entry : (ds : List Det) (log : LogMap) → has_entry d (after_learn_all (each ds) log) ≡ (has_entry d log || list_has ds d)
   each_entry ds log = logged_all (each ds) log d ∙ ap (λ b. has_entry d log || b) (any_map (λ x. (x, k)) (λ e. same_det d e.0) (same_det d) (λ x. refl) ds)
 
-  each_known : (has : Known → Bool) (either : (one other : Known) → has (joined one other) ≡ (has one || has other)) (ds : List Det) (log : LogMap)
-      → has (known_of (learned_all (each ds) log) d) ≡ (has (known_of log d) || list_any (λ x. same_det d x && has k) ds)
-  each_known has either ds log = known_all has either (each ds) log d ∙ ap (λ b. has (known_of log d) || b) (any_map (λ x. (x, k)) (λ e. same_det d e.0 && has e.1) (λ x. same_det d x && has k) (λ x. refl) ds)
+  each_known : (list_has : Known → Bool) (either : (one other : Known) → list_has (union_with one other) ≡ (list_has one || list_has other)) (ds : List Det) (log : LogMap)
+      → list_has (known_of (after_learn_all (each ds) log) d) ≡ (list_has (known_of log d) || list_any (λ x. same_det d x && list_has k) ds)
+  each_known list_has either ds log = known_all list_has either (each ds) log d ∙ ap (λ b. list_has (known_of log d) || b) (any_map (λ x. (x, k)) (λ e. same_det d e.0 && list_has e.1) (λ x. same_det d x && list_has k) (λ x. refl) ds)
 
--- what a log tells that has gathered what up processes and stable storage have
+-- a restart's log, made of the logs of up processes and of stable storage
 module _ (ms : Memories) (stored : DetSet) (p : Pid) (d : Det) where
   abbrev together : LogMap
-  together = known_together ms
+  together = union_of_logs ms
 
   abbrev held : LogMap
-  held = held_all (fin.keys together) p together
+  held = with_held (fin.keys together) p together
 
   abbrev gathered : LogMap
-  gathered = gathered_log ms stored p
+  gathered = restart_log ms stored p
 
-  held_entry : has_entry d held ≡ (has_entry d together || has (fin.keys together) d)
+  held_entry : has_entry d held ≡ (has_entry d together || list_has (fin.keys together) d)
   held_entry = ap (has_entry d) (held_is (fin.keys together) p together) ∙ each_entry p (held_by p) d (fin.keys together) together
 
-  all_entry : has_entry d gathered ≡ (has_entry d held || has (dets_in stored) d)
+  all_entry : has_entry d gathered ≡ (has_entry d held || list_has (dets_in stored) d)
   all_entry = ap (has_entry d) (stable_is (dets_in stored) p held) ∙ each_entry p (stable_and_held_by p) d (dets_in stored) held
 
-  held_known : (tells : Known → Bool) (either : (one other : Known) → tells (joined one other) ≡ (tells one || tells other)) → tells (known_of held d) ≡ (tells (known_of together d) || list_any (λ x. same_det d x && tells (held_by p)) (fin.keys together))
+  held_known : (tells : Known → Bool) (either : (one other : Known) → tells (union_with one other) ≡ (tells one || tells other)) → tells (known_of held d) ≡ (tells (known_of together d) || list_any (λ x. same_det d x && tells (held_by p)) (fin.keys together))
   held_known tells either = ap (λ log. tells (known_of log d)) (held_is (fin.keys together) p together) ∙ each_known p (held_by p) d tells either (fin.keys together) together
 
-  all_known : (tells : Known → Bool) (either : (one other : Known) → tells (joined one other) ≡ (tells one || tells other)) → tells (known_of gathered d) ≡ (tells (known_of held d) || list_any (λ x. same_det d x && tells (stable_and_held_by p)) (dets_in stored))
+  all_known : (tells : Known → Bool) (either : (one other : Known) → tells (union_with one other) ≡ (tells one || tells other)) → tells (known_of gathered d) ≡ (tells (known_of held d) || list_any (λ x. same_det d x && tells (stable_and_held_by p)) (dets_in stored))
   all_known tells either = ap (λ log. tells (known_of log d)) (stable_is (dets_in stored) p held) ∙ each_known p (stable_and_held_by p) d tells either (dets_in stored) held
 
-  together_entry : has_entry d together ≡ true → (r : ℕ) × (r < length ms) × (has_logged ms r d ≡ true)
+  together_entry : has_entry d together ≡ true → (r : ℕ) × (r < length ms) × (memory_logs ms r d ≡ true)
   together_entry h = elim (united_found (has_entry d) (entry_either d) (none_entry d) ms fin.empty h) [ inl none ↦ absurd (both_ways _ (none_entry d) none) | inr some ↦ some ]
 
-  -- what is gathered is stored, or a process that is up logs it
-  pub gathered_found : has_entry d gathered ≡ true → (store.has stored d ≡ true) ⊎ ((r : ℕ) × (r < length ms) × (has_logged ms r d ≡ true))
+  -- what the restart's log has is stored, or an up process logs it
+  pub gathered_found : has_entry d gathered ≡ true → (store.set_has stored d ≡ true) ⊎ ((r : ℕ) × (r < length ms) × (memory_logs ms r d ≡ true))
   gathered_found h = grind (arith, or_cases, all_entry, held_entry, together_entry, keys_have, stored_have stored d)
 
-  -- what is stored is gathered
-  pub gathered_stored : store.has stored d ≡ true → has_entry d gathered ≡ true
+  -- what is stored is in the restart's log
+  pub gathered_stored : store.set_has stored d ≡ true → has_entry d gathered ≡ true
   gathered_stored h = all_entry ∙ or_right _ _ (stored_have stored d ∙ h)
 
-  -- what a process that is up logs is gathered
-  pub gathered_logged : (r : ℕ) → has_logged ms r d ≡ true → has_entry d gathered ≡ true
+  -- what an up process logs is in the restart's log
+  pub gathered_logged : (r : ℕ) → memory_logs ms r d ≡ true → has_entry d gathered ≡ true
   gathered_logged r h = all_entry ∙ or_left _ _ (held_entry ∙ or_left _ _ (united_each (has_entry d) (entry_either d) (none_entry d) ms fin.empty r h))
 
-  -- of what is gathered a known holder is p itself, or a process that is up knew of it
-  pub gathered_holder : (q : ℕ) → tells_holder d q gathered ≡ true → (q ≡ p.0) ⊎ ((r : ℕ) × (r < length ms) × (knows ms r d q ≡ true))
+  -- a known holder in the restart's log is p itself, or an up process knew it
+  pub gathered_holder : (q : ℕ) → log_knows_holder d q gathered ≡ true → (q ≡ p.0) ⊎ ((r : ℕ) × (r < length ms) × (knows_holder ms r d q ≡ true))
   gathered_holder q h =
       let all = all_known (λ k. set.contains k.holders q) (holds_either q) in
       let some = held_known (λ k. set.contains k.holders q) (holds_either q) in
-      let united = united_found (tells_holder d q) (holder_either d q) (none_holds d q) ms fin.empty in
+      let after_union = united_found (log_knows_holder d q) (holder_either d q) (none_holds d q) ms fin.empty in
       let mine = any_of d (λ x. set.contains (held_by p).holders q) (fin.keys together) in
       let kept = any_of d (λ x. set.contains (stable_and_held_by p).holders q) (dets_in stored) in
-      grind (arith, all, some, united, none_holds d q, mine, kept, alone_holds p.0 q)
+      grind (arith, all, some, after_union, none_holds d q, mine, kept, alone_holds p.0 q)
 
-  -- holders of which a process that is up knew are known in what is gathered
-  pub gathered_known : (r q : ℕ) → knows ms r d q ≡ true → tells_holder d q gathered ≡ true
+  -- holders that an up process knew are known in the restart's log
+  pub gathered_known : (r q : ℕ) → knows_holder ms r d q ≡ true → log_knows_holder d q gathered ≡ true
   gathered_known r q h =
       all_known (λ k. set.contains k.holders q) (holds_either q)
-      ∙ or_left _ _ (held_known (λ k. set.contains k.holders q) (holds_either q) ∙ or_left _ _ (united_each (tells_holder d q) (holder_either d q) (none_holds d q) ms fin.empty r h))
+      ∙ or_left _ _ (held_known (λ k. set.contains k.holders q) (holds_either q) ∙ or_left _ _ (united_each (log_knows_holder d q) (holder_either d q) (none_holds d q) ms fin.empty r h))
 
-  -- what a process that is up knew to be stable is known so in what is gathered
-  pub gathered_marks : (r : ℕ) → marks ms r d ≡ true → tells_stable d gathered ≡ true
+  -- what an up process knew to be stable is known so in the restart's log
+  pub gathered_marks : (r : ℕ) → knows_stable ms r d ≡ true → log_knows_stable d gathered ≡ true
   gathered_marks r h =
       all_known (λ k. k.stable) stable_either
-      ∙ or_left _ _ (held_known (λ k. k.stable) stable_either ∙ or_left _ _ (united_each (tells_stable d) (mark_either d) (none_stable d) ms fin.empty r h))
+      ∙ or_left _ _ (held_known (λ k. k.stable) stable_either ∙ or_left _ _ (united_each (log_knows_stable d) (mark_either d) (none_stable d) ms fin.empty r h))
 
-  -- what is stored is known to be stable in what is gathered
-  pub stored_marks : store.has stored d ≡ true → tells_stable d gathered ≡ true
+  -- what is stored is known to be stable in the restart's log
+  pub stored_marks : store.set_has stored d ≡ true → log_knows_stable d gathered ≡ true
   stored_marks h = all_known (λ k. k.stable) stable_either ∙ or_right _ _ (any_for d (λ x. true) (dets_in stored) (stored_have stored d ∙ h) refl)
 
-  -- p is known to hold all that is gathered
-  pub gathered_itself : has_entry d gathered ≡ true → tells_holder d p.0 gathered ≡ true
+  -- p is a known holder of all that the restart's log has
+  pub gathered_itself : has_entry d gathered ≡ true → log_knows_holder d p.0 gathered ≡ true
   gathered_itself h =
       let all = all_known (λ k. set.contains k.holders p.0) (holds_either p.0) in
       let some = held_known (λ k. set.contains k.holders p.0) (holds_either p.0) in
@@ -301,16 +302,16 @@ module _ (ms : Memories) (stored : DetSet) (p : Pid) (d : Det) where
       let kept = any_for d (λ x. set.contains (stable_and_held_by p).holders p.0) (dets_in stored) in
       grind (arith, all, some, mine, kept, all_entry, held_entry, keys_have together d, itself_holds p.0)
 
-  -- what is gathered as stable is stored, or a process that is up knew it so
-  pub gathered_mark : tells_stable d gathered ≡ true → (store.has stored d ≡ true) ⊎ ((r : ℕ) × (r < length ms) × (marks ms r d ≡ true))
+  -- what the restart's log knows to be stable is stored, or an up process knew it
+  pub gathered_mark : log_knows_stable d gathered ≡ true → (store.set_has stored d ≡ true) ⊎ ((r : ℕ) × (r < length ms) × (knows_stable ms r d ≡ true))
   gathered_mark h =
       let all = all_known (λ k. k.stable) stable_either in
       let some = held_known (λ k. k.stable) stable_either in
-      let united = united_found (tells_stable d) (mark_either d) (none_stable d) ms fin.empty in
+      let after_union = united_found (log_knows_stable d) (mark_either d) (none_stable d) ms fin.empty in
       let marked = any_of d (λ x. true) (dets_in stored) in
-      grind (arith, all, some, united, none_stable d, marked, any_of d (λ x. false) (fin.keys together), stored_have stored d)
+      grind (arith, all, some, after_union, none_stable d, marked, any_of d (λ x. false) (fin.keys together), stored_have stored d)
 
--- what is told of holders, and of what is stable, after a delivery and after a restart
+-- known holders and marks after a delivery and after a restart
 pub ruleset told_holders_of = (gained_holder, gained_told, gained_old, gathered_holder, gathered_itself, gathered_known, keys_have, entry_of_holder)
 
 pub ruleset told_marks_of = (gained_stable, gained_still, gathered_mark, gathered_marks, stored_marks, entry_of_mark)

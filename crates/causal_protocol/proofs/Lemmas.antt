@@ -1,4 +1,4 @@
--- What crates above may cite of this crate's proofs.
+-- Public lemmas, for the proofs of other crates.
 pub mod KeptByType
 pub mod StepAppends
 pub mod StepProps

@@ -3,12 +3,7 @@ mod Places
 mod LearnedLogs
 mod Choices
 mod Sets
-mod SendKeeps
-mod StableKeeps
-mod CrashKeeps
-mod ForgetKeeps
-mod RestartKeeps
-mod DeliveryKeeps
+mod Facts
 mod SoundSteps
 mod Refusals
 mod StepKeeps

@@ -1,92 +1,68 @@
--- One more entry, with what it does to the memories, leaves a sound state.
-use Rattle.std.proofs.Common.{ℕ, ◌≡◌, ◌<◌, inl, inr, Bool, true, false, not, ◌&&◌, ◌||◌, List, ◌∷◌, length, slice_get, slice_set, Some, None, is_none, refl, sym, ap, subst, ◌∙◌, arith, ◌+◌, ◌-◌, ◌≤◌, [], drop, add-one}
+-- Each kind of entry, with what it does to the memories, is a legal step of the general protocol, and the memories
+-- match it again.
+use Rattle.std.proofs.Common.{ℕ, ◌≡◌, ◌<◌, inl, inr, Bool, true, false, not, ◌&&◌, ◌||◌, List, ◌∷◌, length, slice_get, slice_set, Some, None, is_none, refl, sym, ap, subst, ◌∙◌, arith}
 use Rattle.std.specs.Prelude.{◌==◌, ◌⊎◌}
 use Rattle.std.specs.Option.{option_map, option_and_then}
 use Rattle.std.specs.FinMap as fin
 use Rattle.std.specs.FinSet as set
-use Rattle.std.proofs.lemmas.Bool.{both_ways, and_parts, eqb-true, eq-eqb, cases_Bool}
+use Rattle.std.proofs.lemmas.Bool.{false≢true, both_ways, or_cases, or_left, or_right, and_from, and_parts, eqb-true, eq-eqb}
 use Rattle.causal_name.specs.declared.Pid.{Pid}
 use Rattle.causal_name.specs.declared.MsgName.{MsgName}
 use Rattle.causal_name.specs.declared.Det.{Det}
 use Rattle.causal_name.specs.Names.{same_det, message_of}
+use Rattle.causal_name.proofs.Lemmas.DetOrder.{same_itself}
 use Rattle.causal_name.specs.Sets.{count_below}
 use Rattle.causal_trace.specs.declared.entry.Entry.{Entry}
 use Rattle.causal_trace.specs.declared.entry.Entry.TheVariants.{Send, Deliver, Stable, Crash, Restart, Forget}
-use Rattle.causal_trace.specs.Past.{has, is_down, entry_at, message_sent, message_at, det_from, instant, logs, is_stable}
-use Rattle.causal_trace.specs.Dependence.{AreForward, is_delivery_of}
-use Rattle.causal_holders.proofs.Lemmas.MemberCounts.{len_counted, count_below-within}
-use Rattle.causal_log.specs.Logs.{LogMap, known_of, chosen, marked}
-use Rattle.causal_protocol.specs.Memory.{Kept, Memory, Memories, at, changed, fresh, with_sent, with_received, with_log, gained}
-use Rattle.causal_protocol.specs.Gathering.{stable_set, gathered_log, without}
-use Rattle.causal_protocol.specs.Sight.{log_at, messages, has_entry, tells_holder, tells_stable, has_logged, marks, has_item}
-use Rattle.causal_protocol.specs.Kept.{survives, finds, IsSpread, Keeping}
-use Rattle.causal_protocol.specs.Runs.{Matches, IsSound}
+use Rattle.causal_trace.specs.Past.{list_has, is_down, entry_at, message_sent, message_at, det_from, logs, is_stable}
+use Rattle.causal_holders.proofs.Lemmas.MemberCounts.{len_counted}
+use Rattle.causal_log.specs.Logs.{LogMap, known_of, batch_items, after_mark}
+use Rattle.causal_steps.specs.Transit.{Parcel, IsInTransit, IsCarried, Survives}
+use Rattle.causal_steps.specs.Steps.{IsSendStep, IsDeliverStep, IsCrashStep, IsRestartStep, IsStableStep, IsForgetStep, IsStep, sends, delivers, crashes, restarts, writes, forgets}
+use Rattle.causal_steps.specs.Reachable.{next_state}
+use Rattle.causal_steps.proofs.Lemmas.Positions.{at_newest, at_older, message_below}
+use Rattle.causal_protocol.specs.Memory.{SentMessage, Memory, Memories, present_at, update_at, new_memory, with_sent, with_received, with_log, log_after_delivery}
+use Rattle.causal_protocol.specs.Gathering.{stable_set, restart_log, without_dets}
+use Rattle.causal_protocol.specs.Naming.{message_name}
+use Rattle.causal_protocol.specs.MemoryQueries.{log_at, messages, has_entry, log_knows_holder, log_knows_stable, memory_logs, knows_holder, knows_stable, has_item, item_holder, parcel_of, volatile_of}
+use Rattle.causal_protocol.specs.Invariant.{survives, logs_or_stable}
+use Rattle.causal_protocol.specs.Runs.{MemoriesMatchEntries, IsInvariantState}
 use Rattle.causal_protocol.proofs.Places.{set_cases, changed_cases, changed_state, set_state, length_set, kept_more, log_here, log_none, grown, shrunk, log_changed}
 use Rattle.causal_protocol.proofs.LearnedLogs
 use Rattle.causal_protocol.proofs.Choices
 use Rattle.causal_protocol.proofs.Sets.{survives_log, survives_stable, survives_found}
-use Rattle.causal_protocol.proofs.SendKeeps.{at_newest, at_older, IsSent, keeps_send}
-use Rattle.causal_protocol.proofs.StableKeeps.{IsWritten, keeps_stable}
-use Rattle.causal_protocol.proofs.CrashKeeps.{IsCrashed, keeps_crash}
-use Rattle.causal_protocol.proofs.RestartKeeps.{IsRestarted, keeps_restart}
-use Rattle.causal_protocol.proofs.ForgetKeeps.{IsForgotten, keeps_forget}
-use Rattle.causal_protocol.proofs.DeliveryKeeps.{message_below, IsDelivered, keeps_delivery}
-use Rattle.std.proofs.lemmas.Bool.Decides.{eqb_tells}
-use Rattle.causal_trace.specs.Judgement.{IsCrashSet, IsSafe, IsSafeTrace}
+use Rattle.causal_protocol.proofs.Facts.{message_of_parcel, keeps_within, invariant, found_up, senders_have_carried}
 
--- what is spread has no orphan
-spread_kept : (n f : ℕ) (past : List Entry) (d : Det) (crash : ℕ → Bool) → IsSpread n f past d → IsCrashSet n f past crash → is_stable past d ≡ false → ((q : ℕ) → q < n → crash q ≡ false → logs past q d ≡ false) → ⊥
-spread_kept n f past d crash h may unstable lost = grind (arith, count_below-within, cases_Bool)
+-- a legal step to memories that match its entry leads to a sound state
+next_sound : (n f : ℕ) (e : Entry) (past : List Entry) (ms next : Memories) → IsInvariantState n f past ms → IsStep n f past (volatile_of ms) (e ∷ past) (volatile_of next) → MemoriesMatchEntries n (e ∷ past) next → IsInvariantState n f (e ∷ past) next
+next_sound n f e past ms next s step fit = record { fit = fit; reached = next_state past (e ∷ past) (volatile_of ms) (volatile_of next) s.reached step }
 
-pub kept_safe : (n f : ℕ) (past : List Entry) (ms : Memories) → Keeping n f past ms → IsSafe n f past
-kept_safe n f past ms k = record {
-  few_down = k.few_down;
-  no_orphan = λ i h. grind (arith, h.is_orphan.lost h.orphan, spread_kept n f past h.is_orphan.det h.crash);
-}
+-- if all messages in memories were there before, nothing new is in transit
+none_new : (ms next : Memories) → ((p ssn : ℕ) (k : SentMessage) → slice_get (messages next p) ssn ≡ Some k → slice_get (messages ms p) ssn ≡ Some k) → (t : Parcel) → IsInTransit (volatile_of next) t → IsInTransit (volatile_of ms) t
+none_new ms next old t there =
+    let found = message_of_parcel next t there in
+    (found.0, found.1, ap (option_map (parcel_of found.0)) (old found.0 found.1 found.2 found.3) ∙ ap Some (sym found.4))
 
--- one more entry leaves the instants that there were, and makes one more
-instants_stay : (e : Entry) (past : List Entry) (t : ℕ) → t ≤ length past → instant (e ∷ past) t ≡ instant past t
-instants_stay e past t within = grind (arith, add-one)
-
-last_instant : (past : List Entry) (t : ℕ) → t ≡ length past → instant past t ≡ past
-last_instant past t whole = ap (λ n. drop n past) (let none : length past - t ≡ 0 = omega (arith, whole) in none)
-
--- what is kept by one more entry, which made a sound state, is a sound state
-pub next_sound : (n f : ℕ) (e : Entry) (past : List Entry) (ms next : Memories) → IsSound n f past ms → AreForward (e ∷ past) → Keeping n f (e ∷ past) next → Matches n (e ∷ past) next → IsSound n f (e ∷ past) next
-next_sound n f e past ms next s forward facts fit = record {
-  facts = facts;
-  fit = fit;
-  forward = forward;
-  safe = λ t within. grind (arith, eqb_tells t (length past + 1), last_instant, kept_safe n f (e ∷ past) next facts, instants_stay);
-}
-
--- what is kept makes a run safe in which nothing has happened
-pub first_safe : (n f : ℕ) (ms : Memories) → Keeping n f [] ms → IsSafeTrace (record { processes = n; past = [] }) f
-first_safe n f ms k t within = subst (λ x. IsSafe n f x) (sym (last_instant [] t (omega (arith, within)))) (kept_safe n f [] ms k)
-
--- the message at a position stays, and the newest entry's is at the newest one
+-- the message at an older position is unchanged, and the newest entry's is at the newest one
 message_older : (e : Entry) (past : List Entry) (send : ℕ) (x : MsgName) → message_at past send ≡ Some x → message_at (e ∷ past) send ≡ Some x
 message_older e past send x h = ap (λ o. option_and_then message_sent o) (at_older send (length past) (Some e) (entry_at past send) (message_below past send x h)) ∙ h
 
 message_newest : (e : Entry) (past : List Entry) (send : ℕ) → send ≡ length past → message_at (e ∷ past) send ≡ message_sent e
 message_newest e past send is = ap (λ o. option_and_then message_sent o) (at_newest send (length past) (Some e) (entry_at past send) is)
 
-no_delivery : (e : Entry) (past : List Entry) → ((i : ℕ) → is_delivery_of i e ≡ false) → AreForward past → AreForward (e ∷ past)
-no_delivery e past none forward j i h = grind arith
-
-is_up : (n : ℕ) (past : List Entry) (ms : Memories) (p : ℕ) (m : Memory) → Matches n past ms → p < n → at ms p ≡ Some m → is_down past p ≡ false
+is_up : (n : ℕ) (past : List Entry) (ms : Memories) (p : ℕ) (m : Memory) → MemoriesMatchEntries n past ms → p < n → present_at ms p ≡ Some m → is_down past p ≡ false
 is_up n past ms p m fit low here = sym (fit.state p low) ∙ ap is_none here
 
 -- a send
-module _ (n f : ℕ) (past : List Entry) (ms : Memories) (from to : Pid) (m : Memory) (here : at ms from.0 ≡ Some m) (low : from.0 < n) (s : IsSound n f past ms) where
+module _ (n f : ℕ) (past : List Entry) (ms : Memories) (from to : Pid) (m : Memory) (here : present_at ms from.0 ≡ Some m) (low : from.0 < n) (s : IsInvariantState n f past ms) where
   abbrev sent_to : Memory → Memory
   sent_to = with_sent f to (length past)
 
   abbrev sent_memories : Memories
-  sent_memories = changed sent_to ms from.0
+  sent_memories = update_at sent_to ms from.0
 
-  abbrev new_message : Kept
-  new_message = record { to = to; send = length past; batch = chosen f m.log }
+  abbrev new_message : SentMessage
+  new_message = record { to = to; send = length past; batch = batch_items f m.log }
 
   abbrev sent_entry : Entry
   sent_entry = Send from to (length m.sent)
@@ -94,39 +70,75 @@ module _ (n f : ℕ) (past : List Entry) (ms : Memories) (from to : Pid) (m : Me
   there : log_at ms from.0 ≡ m.log
   there = log_here ms from.0 m here
 
-  sent_kept : (p ssn : ℕ) (k : Kept) → slice_get (messages sent_memories p) ssn ≡ Some k → (slice_get (messages ms p) ssn ≡ Some k) ⊎ ((from.0 ≡ p) × (ssn ≡ length m.sent) × (k ≡ new_message))
+  sent_kept : (p ssn : ℕ) (k : SentMessage) → slice_get (messages sent_memories p) ssn ≡ Some k → (slice_get (messages ms p) ssn ≡ Some k) ⊎ ((from.0 ≡ p) × (ssn ≡ length m.sent) × (k ≡ new_message))
   sent_kept p ssn k h = grind (arith, changed_cases sent_to ms from.0 m here p, kept_more)
 
-  is_sent : IsSent n f past from.0 ms sent_memories new_message
+  sent_log : (p : ℕ) → log_at sent_memories p ≡ log_at ms p
+  sent_log p = elim (changed_cases sent_to ms from.0 m here p) [ inl is ↦ is.2 ∙ sym is.4 | inr other ↦ other.1 ]
+
+  sender_logs : (d : Det) → has_item d (batch_items f m.log) ≡ true → logs past from.0 d ≡ true
+  sender_logs d h = sym (s.fit.logged from.0 d low) ∙ ap (has_entry d) there ∙ Choices.chosen_logged f m.log d h
+
+  sender_knows : (d : Det) (q : ℕ) → (item_holder d q (batch_items f m.log) || (has_item d (batch_items f m.log) && q == from.0)) ≡ true → (knows_holder ms from.0 d q ≡ true) × (has_item d (batch_items f m.log) ≡ true)
+  sender_knows d q h = elim (or_cases _ _ h) [
+    | inl named ↦ (ap (log_knows_holder d q) there ∙ Choices.chosen_known f m.log d q named, LearnedLogs.item_of_holder d q (batch_items f m.log) named)
+    | inr itself ↦
+        let parts = and_parts (has_item d (batch_items f m.log)) (q == from.0) itself in
+        (subst (λ x. knows_holder ms from.0 d x ≡ true) (sym (eqb-true q from.0 parts.1)) ((invariant n f past ms s).knows_itself from.0 d low (sender_logs d parts.0)), parts.0)
+  ]
+
+  one_new : (t : Parcel) → IsInTransit (volatile_of sent_memories) t → IsInTransit (volatile_of ms) t ⊎ (t ≡ parcel_of from.0 new_message)
+  one_new t in_transit =
+      let found = message_of_parcel sent_memories t in_transit in
+      elim (sent_kept found.0 found.1 found.2 found.3) [
+        | inl old ↦ inl (found.0, found.1, ap (option_map (parcel_of found.0)) old ∙ ap Some (sym found.4))
+        | inr new ↦ inr (found.4 ∙ ap (λ p. parcel_of p found.2) (sym new.0) ∙ ap (parcel_of from.0) new.2)
+      ]
+
+  is_sent : IsSendStep n f past from.0 (volatile_of ms) (volatile_of sent_memories) (parcel_of from.0 new_message)
   is_sent = record {
-    process = low;
-    up = is_up n past ms from.0 m s.fit low here;
-    same = λ p. elim (changed_cases sent_to ms from.0 m here p) [ inl is ↦ is.2 ∙ sym is.4 | inr other ↦ other.1 ];
-    kept = λ p k keeps. elim (sent_kept p keeps.0 k keeps.1) [ inl old ↦ inl (keeps.0, old) | inr new ↦ inr (new.0, new.2) ];
-    place = refl;
-    carried = λ d h. ap (has_entry d) there ∙ Choices.chosen_logged f m.log d h;
-    named = λ d q h. ap (tells_holder d q) there ∙ Choices.chosen_known f m.log d q h;
-    left_out = λ d h. elim (Choices.chosen_left f m.log d (ap (has_entry d) (sym there) ∙ h)) [
+    of_log = record {
+      process = low;
+      up = is_up n past ms from.0 m s.fit low here;
+      from = refl;
+      logged = sender_logs;
+      known_holders = sender_knows;
+      known_stable = λ d h. absurd (false≢true h);
+      names_sender = λ d h. or_right _ _ (and_from _ _ h (eq-eqb from.0 from.0 refl));
+    };
+    position = refl;
+    left_out = λ d h. elim (Choices.chosen_left f m.log d (ap (has_entry d) (sym there) ∙ s.fit.logged from.0 d low ∙ h)) [
       | inl goes ↦ inl goes
-      | inr (inl mark) ↦ inr (inl (ap (tells_stable d) there ∙ mark))
-      | inr (inr many) ↦ inr (inr (subst (λ x. f < x) (len_counted n (known_of (log_at ms from.0) d).holders (λ q known. s.facts.known_processes from.0 d q low known)) (subst (λ log. f < set.len (known_of log d).holders) (sym there) many)))
+      | inr (inl mark) ↦ inr (inl (ap (log_knows_stable d) there ∙ mark))
+      | inr (inr many) ↦ inr (inr (subst (λ x. f < x) (len_counted n (known_of (log_at ms from.0) d).holders (λ q known. ((invariant n f past ms s).known_logged from.0 d q low known).0)) (subst (λ log. f < set.len (known_of log d).holders) (sym there) many)))
     ];
+    same_knowledge = record { holders = λ p d q. ap (log_knows_holder d q) (sent_log p); stable = λ p d h. ap (log_knows_stable d) (sym (sent_log p)) ∙ h };
+    one_new = one_new;
   }
 
-  sent_fits : Matches n (sent_entry ∷ past) sent_memories
-  sent_fits = grind (arith, length_set, changed_state, sent_kept, message_older, message_newest)
+  sent_fits : MemoriesMatchEntries n (sent_entry ∷ past) sent_memories
+  sent_fits = record {
+    count = length_set ms from.0 (option_map sent_to (present_at ms from.0)) ∙ s.fit.count;
+    state = λ p small. changed_state sent_to ms from.0 m here p ∙ s.fit.state p small;
+    placed = λ p ssn k h. elim (sent_kept p ssn k h) [
+      | inl old ↦ message_older sent_entry past k.send _ (s.fit.placed p ssn k old)
+      | inr new ↦
+          message_newest sent_entry past k.send (ap (λ (x : SentMessage). x.send) new.2)
+          ∙ ap (λ q. Some (message_name (record { 0 = q }) (length m.sent))) new.0
+          ∙ ap (λ x. Some (message_name (record { 0 = p }) x)) (sym new.1)
+    ];
+    logged = λ p d small. ap (has_entry d) (sent_log p) ∙ s.fit.logged p d small;
+  }
 
   -- the state after a send is sound
-  pub send_sound : IsSound n f (Send from to (length m.sent) ∷ past) (changed (with_sent f to (length past)) ms from.0)
-  send_sound =
-      let forward = no_delivery sent_entry past (λ i. refl) s.forward in
-      next_sound n f sent_entry past ms sent_memories s forward (keeps_send n f past ms sent_memories from to (length m.sent) new_message is_sent forward s.facts) sent_fits
+  pub send_sound : IsInvariantState n f (Send from to (length m.sent) ∷ past) (update_at (with_sent f to (length past)) ms from.0)
+  send_sound = next_sound n f sent_entry past ms sent_memories s (sends from to (length m.sent) (parcel_of from.0 new_message) is_sent) sent_fits
 
 -- a delivery
-module _ (n f : ℕ) (past : List Entry) (ms : Memories) (to : Pid) (rsn : ℕ) (asked : MsgName) (m : Memory) (k : Kept) (listed : List Det) (here : at ms to.0 ≡ Some m) (low : to.0 < n) (source : asked.source.0 < n)
+module _ (n f : ℕ) (past : List Entry) (ms : Memories) (to : Pid) (rsn : ℕ) (asked : MsgName) (m : Memory) (k : SentMessage) (listed : List Det) (here : present_at ms to.0 ≡ Some m) (low : to.0 < n) (source : asked.source.0 < n)
     (found : slice_get (messages ms asked.source.0) asked.ssn ≡ Some k)
-    (only : (d : Det) → finds past to.0 d ≡ true → d.dest ≡ to → d.rsn ≡ rsn → message_of d ≡ asked)
-    (lists : (d : Det) → has listed d ≡ (same_det d (det_from to rsn asked) || has_item d k.batch)) (s : IsSound n f past ms) where
+    (only : (d : Det) → logs_or_stable past to.0 d ≡ true → d.dest ≡ to → d.rsn ≡ rsn → message_of d ≡ asked)
+    (lists : (d : Det) → list_has listed d ≡ (same_det d (det_from to rsn asked) || has_item d k.batch)) (s : IsInvariantState n f past ms) where
   abbrev own : Det
   own = det_from to rsn asked
 
@@ -134,107 +146,135 @@ module _ (n f : ℕ) (past : List Entry) (ms : Memories) (to : Pid) (rsn : ℕ) 
   receiving = with_received k.batch own
 
   abbrev received_memories : Memories
-  received_memories = changed receiving ms to.0
+  received_memories = update_at receiving ms to.0
 
   abbrev delivery : Entry
   delivery = Deliver to k.send rsn listed
 
-  -- the message was sent at the position that its sender keeps
+  -- the message was sent at the position in its sender's memory
   pub was_sent : message_at past k.send ≡ Some asked
   was_sent = s.fit.placed asked.source.0 asked.ssn k found
 
-  received_kept : (p ssn : ℕ) (x : Kept) → slice_get (messages received_memories p) ssn ≡ Some x → slice_get (messages ms p) ssn ≡ Some x
+  received_kept : (p ssn : ℕ) (x : SentMessage) → slice_get (messages received_memories p) ssn ≡ Some x → slice_get (messages ms p) ssn ≡ Some x
   received_kept p ssn x h = grind (arith, changed_cases receiving ms to.0 m here p)
 
-  is_delivered : IsDelivered n past to k.send rsn listed ms received_memories
+  has_as : (p : ℕ) (d : Det) → memory_logs received_memories p d ≡ ((to.0 == p && list_has listed d) || memory_logs ms p d)
+  has_as p d =
+      ap (has_entry d) (log_changed receiving ms to.0 m here p)
+      ∙ grown ms to.0 p (has_entry d) (log_after_delivery k.batch own m.log) (list_has listed d) (LearnedLogs.gained_entry k.batch own m.log d ∙ (λ i. has_entry d (sym (log_here ms to.0 m here) i) || sym (lists d) i))
+
+  lists_carried : (d : Det) → has_item d k.batch ≡ true → list_has listed d ≡ true
+  lists_carried d h = lists d ∙ or_right _ _ h
+
+  lists_own : (d : Det) → d ≡ own → list_has listed d ≡ true
+  lists_own d is = grind (arith, lists d, same_itself d)
+
+  new_holders : (p : ℕ) (d : Det) (q : ℕ) → knows_holder received_memories p d q ≡ true
+      → (knows_holder ms p d q ≡ true) ⊎ ((to.0 ≡ p) × (list_has listed d ≡ true) × (((item_holder d q k.batch || (has_item d k.batch && q == asked.source.0)) ≡ true) ⊎ (q ≡ to.0)))
+  new_holders p d q h = elim (changed_cases receiving ms to.0 m here p) [
+    | inl is ↦ elim (LearnedLogs.gained_holder k.batch own m.log d q (ap (log_knows_holder d q) (sym is.2) ∙ h)) [
+      | inl old ↦ inl (ap (log_knows_holder d q) is.4 ∙ old)
+      | inr (inl named) ↦ inr (is.1, lists_carried d (LearnedLogs.item_of_holder d q k.batch named), inl (or_left _ _ named))
+      | inr (inr (inl (goes, inl sender))) ↦ inr (is.1, lists_carried d goes, inl (or_right _ _ (and_from _ _ goes (eq-eqb q asked.source.0 sender))))
+      | inr (inr (inl (goes, inr me))) ↦ inr (is.1, lists_carried d goes, inr me)
+      | inr (inr (inr (itself, me))) ↦ inr (is.1, lists_own d itself, inr me)
+    ]
+    | inr other ↦ inl (ap (log_knows_holder d q) (sym other.1) ∙ h)
+  ]
+
+  is_delivered : IsDeliverStep n past to k.send rsn listed (volatile_of ms) (volatile_of received_memories)
   is_delivered = record {
     process = low;
     up = is_up n past ms to.0 m s.fit low here;
     message = asked;
     sent = was_sent;
-    sender = source;
-    delivered = k;
-    keeps = (asked.ssn, found);
-    place = refl;
-    only = only;
+    delivered = parcel_of asked.source.0 k;
+    in_transit = (asked.source.0, asked.ssn, ap (option_map (parcel_of asked.source.0)) found);
+    position = refl;
+    only = λ d has_d. only d (found_up n f past ms s to.0 d (is_up n past ms to.0 m s.fit low here) has_d);
     lists = lists;
-    has_as = λ p d. ap (has_entry d) (log_changed receiving ms to.0 m here p)
-        ∙ grown ms to.0 p (has_entry d) (gained k.batch own m.log) (has listed d) (LearnedLogs.gained_entry k.batch own m.log d ∙ (λ i. has_entry d (sym (log_here ms to.0 m here) i) || sym (lists d) i));
-    heard = λ p d q h. grind (arith, changed_cases receiving ms to.0 m here p, LearnedLogs.gained_holder);
-    own = λ d h. grind (arith, changed_cases, LearnedLogs.gained_new, both_ways, eq-eqb to.0 to.0 refl);
-    before = λ p d q h. grind (arith, changed_cases receiving ms to.0 m here p, LearnedLogs.gained_old);
-    marked = λ p d h. grind (arith, changed_cases receiving ms to.0 m here p, LearnedLogs.gained_stable);
-    kept = λ p x keeps. (keeps.0, received_kept p keeps.0 x keeps.1);
+    new_holders = new_holders;
+    knows_itself = λ d h. grind (arith, changed_cases, LearnedLogs.gained_new, both_ways, eq-eqb to.0 to.0 refl);
+    keeps_holders = λ p d q h. grind (arith, changed_cases receiving ms to.0 m here p, LearnedLogs.gained_old);
+    new_stable = λ p d h. grind (arith, changed_cases receiving ms to.0 m here p, LearnedLogs.gained_stable);
+    nothing_new = none_new ms received_memories received_kept;
   }
 
-  received_forward : AreForward (delivery ∷ past)
-  received_forward j i h = grind (arith, eqb-true, message_below, was_sent)
-
-  received_fits : Matches n (delivery ∷ past) received_memories
-  received_fits = grind (arith, length_set, changed_state, message_older, received_kept)
+  received_fits : MemoriesMatchEntries n (delivery ∷ past) received_memories
+  received_fits = record {
+    count = length_set ms to.0 (option_map receiving (present_at ms to.0)) ∙ s.fit.count;
+    state = λ p small. changed_state receiving ms to.0 m here p ∙ s.fit.state p small;
+    placed = λ p ssn x h. message_older delivery past x.send _ (s.fit.placed p ssn x (received_kept p ssn x h));
+    logged = λ p d small. has_as p d ∙ ap (λ b. (to.0 == p && list_has listed d) || b) (s.fit.logged p d small);
+  }
 
   -- the state after a delivery is sound
-  pub delivery_sound : IsSound n f (Deliver to k.send rsn listed ∷ past) (changed (with_received k.batch (det_from to rsn asked)) ms to.0)
-  delivery_sound = next_sound n f delivery past ms received_memories s received_forward (keeps_delivery n f past ms received_memories to k.send rsn listed is_delivered received_forward s.facts) received_fits
+  pub delivery_sound : IsInvariantState n f (Deliver to k.send rsn listed ∷ past) (update_at (with_received k.batch (det_from to rsn asked)) ms to.0)
+  delivery_sound = next_sound n f delivery past ms received_memories s (delivers to k.send rsn listed is_delivered) received_fits
 
--- a change of one log that leaves the messages
-module _ (n : ℕ) (past : List Entry) (ms : Memories) (w : ℕ) (m : Memory) (g : LogMap → LogMap) (here : at ms w ≡ Some m) (fit : Matches n past ms) where
-  log_kept : (p ssn : ℕ) (x : Kept) → slice_get (messages (changed (with_log g) ms w) p) ssn ≡ Some x → slice_get (messages ms p) ssn ≡ Some x
+-- a change of one log that leaves the messages unchanged
+module _ (n : ℕ) (past : List Entry) (ms : Memories) (w : ℕ) (m : Memory) (g : LogMap → LogMap) (here : present_at ms w ≡ Some m) (fit : MemoriesMatchEntries n past ms) where
+  log_kept : (p ssn : ℕ) (x : SentMessage) → slice_get (messages (update_at (with_log g) ms w) p) ssn ≡ Some x → slice_get (messages ms p) ssn ≡ Some x
   log_kept p ssn x h = grind (arith, changed_cases (with_log g) ms w m here p)
 
-  log_fits : (e : Entry) → ((p : ℕ) → is_down (e ∷ past) p ≡ is_down past p) → Matches n (e ∷ past) (changed (with_log g) ms w)
-  log_fits e down = grind (arith, length_set ms w (option_map (with_log g) (at ms w)), changed_state, message_older, log_kept)
+  log_fits : (e : Entry) → ((p : ℕ) → is_down (e ∷ past) p ≡ is_down past p) → ((p : ℕ) (d : Det) → p < n → memory_logs (update_at (with_log g) ms w) p d ≡ logs (e ∷ past) p d) → MemoriesMatchEntries n (e ∷ past) (update_at (with_log g) ms w)
+  log_fits e down logged = record {
+    count = length_set ms w (option_map (with_log g) (present_at ms w)) ∙ fit.count;
+    state = λ p small. changed_state (with_log g) ms w m here p ∙ fit.state p small ∙ sym (down p);
+    placed = λ p ssn x h. message_older e past x.send _ (fit.placed p ssn x (log_kept p ssn x h));
+    logged = logged;
+  }
 
 -- a stable entry
-module _ (n f : ℕ) (past : List Entry) (ms : Memories) (p : Pid) (m : Memory) (det : Det) (here : at ms p.0 ≡ Some m) (low : p.0 < n) (logged : has_logged ms p.0 det ≡ true) (s : IsSound n f past ms) where
+module _ (n f : ℕ) (past : List Entry) (ms : Memories) (p : Pid) (m : Memory) (det : Det) (here : present_at ms p.0 ≡ Some m) (low : p.0 < n) (logged : memory_logs ms p.0 det ≡ true) (s : IsInvariantState n f past ms) where
   abbrev marking : LogMap → LogMap
-  marking log = marked log det
+  marking log = after_mark log det
 
   abbrev written_memories : Memories
-  written_memories = changed (with_log marking) ms p.0
+  written_memories = update_at (with_log marking) ms p.0
 
-  is_written : IsWritten n past det ms written_memories
-  is_written = record {
-    process = p.0;
-    below = low;
-    logged = logged;
-    has_as = λ x d. grind (arith, changed_cases (with_log marking) ms p.0 m here x, Choices.marked_entry m.log det d);
-    holds_as = λ x d q. grind (arith, changed_cases (with_log marking) ms p.0 m here x, Choices.marked_holder m.log det d q);
-    marked = λ x d h. grind (arith, changed_cases (with_log marking) ms p.0 m here x, Choices.marked_mark);
-    kept = λ x k keeps. (keeps.0, log_kept n past ms p.0 m marking here s.fit x keeps.0 k keeps.1);
+  marked_as : (x : ℕ) (d : Det) → memory_logs written_memories x d ≡ memory_logs ms x d
+  marked_as x d = grind (arith, changed_cases (with_log marking) ms p.0 m here x, Choices.marked_entry m.log det d)
+
+  is_stable_entry : IsStableStep n past det (volatile_of ms) (volatile_of written_memories)
+  is_stable_entry = record {
+    survived = inr (inl (p.0, low, sym (s.fit.logged p.0 det low) ∙ logged));
+    same_holders = λ x d q. grind (arith, changed_cases (with_log marking) ms p.0 m here x, Choices.marked_holder m.log det d q);
+    new_stable = λ x d h. grind (arith, changed_cases (with_log marking) ms p.0 m here x, Choices.marked_mark);
+    nothing_new = none_new ms written_memories (log_kept n past ms p.0 m marking here s.fit);
   }
 
   -- the state after a stable entry is sound
-  pub stable_sound : IsSound n f (Stable det ∷ past) (changed (with_log (λ log. marked log det)) ms p.0)
-  stable_sound =
-      let forward = no_delivery (Stable det) past (λ i. refl) s.forward in
-      next_sound n f (Stable det) past ms written_memories s forward (keeps_stable n f past ms written_memories det is_written forward s.facts) (log_fits n past ms p.0 m marking here s.fit (Stable det) (λ x. refl))
+  pub stable_sound : IsInvariantState n f (Stable det ∷ past) (update_at (with_log (λ log. after_mark log det)) ms p.0)
+  stable_sound = next_sound n f (Stable det) past ms written_memories s (writes det is_stable_entry) (log_fits n past ms p.0 m marking here s.fit (Stable det) (λ x. refl) (λ x d small. marked_as x d ∙ s.fit.logged x d small))
 
 -- a forgetting
-module _ (n f : ℕ) (past : List Entry) (ms : Memories) (p : Pid) (m : Memory) (listed : List Det) (here : at ms p.0 ≡ Some m) (low : p.0 < n) (known : (d : Det) → has listed d ≡ true → marks ms p.0 d ≡ true) (s : IsSound n f past ms) where
+module _ (n f : ℕ) (past : List Entry) (ms : Memories) (p : Pid) (m : Memory) (listed : List Det) (here : present_at ms p.0 ≡ Some m) (low : p.0 < n) (known : (d : Det) → list_has listed d ≡ true → knows_stable ms p.0 d ≡ true) (s : IsInvariantState n f past ms) where
   abbrev lessened : Memories
-  lessened = changed (with_log (without listed)) ms p.0
+  lessened = update_at (with_log (without_dets listed)) ms p.0
 
-  is_forgotten : IsForgotten n past p.0 listed ms lessened
+  lessened_as : (tells : LogMap → Bool) (d : Det) → tells (without_dets listed m.log) ≡ (not (list_has listed d) && tells m.log) → (x : ℕ) → tells (log_at lessened x) ≡ (not (p.0 == x && list_has listed d) && tells (log_at ms x))
+  lessened_as tells d less x =
+      ap tells (log_changed (with_log (without_dets listed)) ms p.0 m here x)
+      ∙ shrunk ms p.0 x tells (without_dets listed m.log) (list_has listed d) (less ∙ ap (λ log. not (list_has listed d) && tells log) (sym (log_here ms p.0 m here)))
+
+  is_forgotten : IsForgetStep n past p.0 listed (volatile_of ms) (volatile_of lessened)
   is_forgotten = record {
     process = low;
-    known = known;
-    has_as = λ x d. ap (has_entry d) (log_changed (with_log (without listed)) ms p.0 m here x)
-        ∙ shrunk ms p.0 x (has_entry d) (without listed m.log) (has listed d) (Choices.without_entry listed m.log d ∙ (λ i. not (has listed d) && has_entry d (sym (log_here ms p.0 m here) i)));
-    holds_as = λ x d q. ap (tells_holder d q) (log_changed (with_log (without listed)) ms p.0 m here x)
-        ∙ shrunk ms p.0 x (tells_holder d q) (without listed m.log) (has listed d) (Choices.without_holder listed m.log d q ∙ (λ i. not (has listed d) && tells_holder d q (sym (log_here ms p.0 m here) i)));
-    marked = λ x d h. grind (arith, changed_cases (with_log (without listed)) ms p.0 m here x, Choices.without_mark);
-    kept = λ x k keeps. (keeps.0, log_kept n past ms p.0 m (without listed) here s.fit x keeps.0 k keeps.1);
+    known_stable = known;
+    holders = λ x d q. lessened_as (log_knows_holder d q) d (Choices.without_holder listed m.log d q) x;
+    new_stable = λ x d h. grind (arith, changed_cases (with_log (without_dets listed)) ms p.0 m here x, Choices.without_mark);
+    nothing_new = none_new ms lessened (log_kept n past ms p.0 m (without_dets listed) here s.fit);
   }
 
   -- the state after a forgetting is sound
-  pub forget_sound : IsSound n f (Forget p listed ∷ past) (changed (with_log (without listed)) ms p.0)
+  pub forget_sound : IsInvariantState n f (Forget p listed ∷ past) (update_at (with_log (without_dets listed)) ms p.0)
   forget_sound =
-      let forward = no_delivery (Forget p listed) past (λ i. refl) s.forward in
-      next_sound n f (Forget p listed) past ms lessened s forward (keeps_forget n f past ms lessened p listed is_forgotten forward s.facts) (log_fits n past ms p.0 m (without listed) here s.fit (Forget p listed) (λ x. refl))
+      next_sound n f (Forget p listed) past ms lessened s (forgets p listed is_forgotten)
+      (log_fits n past ms p.0 m (without_dets listed) here s.fit (Forget p listed) (λ x. refl) (λ x d small. lessened_as (has_entry d) d (Choices.without_entry listed m.log d) x ∙ ap (λ b. not (p.0 == x && list_has listed d) && b) (s.fit.logged x d small)))
 
 -- a crash
-module _ (n f : ℕ) (past : List Entry) (ms : Memories) (who : Pid) (low : who.0 < n) (few : count_below n (is_down past) < f) (s : IsSound n f past ms) where
+module _ (n f : ℕ) (past : List Entry) (ms : Memories) (who : Pid) (low : who.0 < n) (few : count_below n (is_down past) < f) (s : IsInvariantState n f past ms) where
   abbrev left_memories : Memories
   left_memories = slice_set ms who.0 None
 
@@ -244,79 +284,119 @@ module _ (n f : ℕ) (past : List Entry) (ms : Memories) (who : Pid) (low : who.
   lost_one : (tells : LogMap → Bool) → tells fin.empty ≡ false → (p : ℕ) → tells (log_at left_memories p) ≡ (not (who.0 == p) && tells (log_at ms p))
   lost_one tells lacks p = grind (arith, set_cases ms who.0 None p within, within)
 
-  lost_kept : (p ssn : ℕ) (x : Kept) → slice_get (messages left_memories p) ssn ≡ Some x → ((who.0 == p) ≡ false) × (slice_get (messages ms p) ssn ≡ Some x)
+  lost_kept : (p ssn : ℕ) (x : SentMessage) → slice_get (messages left_memories p) ssn ≡ Some x → slice_get (messages ms p) ssn ≡ Some x
   lost_kept p ssn x h = grind (arith, set_cases ms who.0 None p within, within)
 
-  is_crashed : IsCrashed n f past who.0 ms left_memories
+  is_crashed : IsCrashStep n f past who.0 (volatile_of ms) (volatile_of left_memories)
   is_crashed = record {
     few = few;
-    has_as = λ p d. lost_one (has_entry d) (LearnedLogs.none_entry d) p;
-    holds_as = λ p d q. lost_one (tells_holder d q) (LearnedLogs.none_holds d q) p;
-    marked = λ p d h. (and_parts (not (who.0 == p)) (marks ms p d) (sym (lost_one (tells_stable d) (LearnedLogs.none_stable d) p) ∙ h)).1;
-    kept = λ p x keeps. let old = lost_kept p keeps.0 x keeps.1 in (old.0, (keeps.0, old.1));
+    holders = λ p d q. lost_one (log_knows_holder d q) (LearnedLogs.none_holds d q) p;
+    new_stable = λ p d h. (and_parts (not (who.0 == p)) (knows_stable ms p d) (sym (lost_one (log_knows_stable d) (LearnedLogs.none_stable d) p) ∙ h)).1;
+    nothing_new = none_new ms left_memories lost_kept;
   }
 
-  crash_fits : Matches n (Crash who ∷ past) left_memories
-  crash_fits = grind (arith, length_set ms who.0 None, set_state, within, message_older, lost_kept)
+  crash_fits : MemoriesMatchEntries n (Crash who ∷ past) left_memories
+  crash_fits = record {
+    count = length_set ms who.0 None ∙ s.fit.count;
+    state = λ p small. grind (arith, set_state ms who.0 None p within, s.fit.state p small);
+    placed = λ p ssn x h. message_older (Crash who) past x.send _ (s.fit.placed p ssn x (lost_kept p ssn x h));
+    logged = λ p d small. lost_one (has_entry d) (LearnedLogs.none_entry d) p ∙ ap (λ b. not (who.0 == p) && b) (s.fit.logged p d small);
+  }
 
   -- the state after a crash is sound
-  pub crash_sound : IsSound n f (Crash who ∷ past) (slice_set ms who.0 None)
-  crash_sound =
-      let forward = no_delivery (Crash who) past (λ i. refl) s.forward in
-      next_sound n f (Crash who) past ms left_memories s forward (keeps_crash n f past ms left_memories who is_crashed forward s.facts) crash_fits
+  pub crash_sound : IsInvariantState n f (Crash who ∷ past) (slice_set ms who.0 None)
+  crash_sound = next_sound n f (Crash who) past ms left_memories s (crashes who is_crashed) crash_fits
 
--- what a process gathers is what survives
-module _ (n f : ℕ) (past : List Entry) (ms : Memories) (who : Pid) (s : IsSound n f past ms) where
+-- a restart gathers what survives
+module _ (n f : ℕ) (past : List Entry) (ms : Memories) (who : Pid) (s : IsInvariantState n f past ms) where
   under : (r : ℕ) → r < length ms → r < n
   under r h = omega (arith, h, s.fit.count)
 
-  -- a restart gathers just what survives
-  pub gathered_survivors : (d : Det) → has_entry d (gathered_log ms (stable_set past) who) ≡ survives n past d
+  logged_past : (r : ℕ) (d : Det) → r < length ms → memory_logs ms r d ≡ true → logs past r d ≡ true
+  logged_past r d small h = sym (s.fit.logged r d (under r small)) ∙ h
+
+  -- a restart gathers exactly what survives
+  pub gathered_survivors : (d : Det) → has_entry d (restart_log ms (stable_set past) who) ≡ survives n past d
   gathered_survivors d =
       let found = LearnedLogs.gathered_found ms (stable_set past) who d in
       let stored = LearnedLogs.gathered_stored ms (stable_set past) who d in
       let held = LearnedLogs.gathered_logged ms (stable_set past) who d in
-      grind (arith, found, stored, held, survives_stable n past d, Choices.stable_has past d, survives_log n past, under, survives_found n past d)
+      grind (arith, found, stored, held, survives_stable n past d, Choices.stable_has past d, survives_log n past, under, survives_found n past d, logged_past, s.fit.logged)
 
 -- a restart
-module _ (n f : ℕ) (past : List Entry) (ms : Memories) (who : Pid) (listed : List Det) (low : who.0 < n) (down : at ms who.0 ≡ None) (lists : (d : Det) → has listed d ≡ has_entry d (gathered_log ms (stable_set past) who)) (s : IsSound n f past ms) where
+module _ (n f : ℕ) (past : List Entry) (ms : Memories) (who : Pid) (listed : List Det) (low : who.0 < n) (down : present_at ms who.0 ≡ None) (lists : (d : Det) → list_has listed d ≡ has_entry d (restart_log ms (stable_set past) who)) (s : IsInvariantState n f past ms) where
   abbrev gathered : LogMap
-  gathered = gathered_log ms (stable_set past) who
+  gathered = restart_log ms (stable_set past) who
 
   abbrev restarted : Memories
-  restarted = slice_set ms who.0 (Some (fresh gathered))
+  restarted = slice_set ms who.0 (Some (new_memory gathered))
 
   bound : who.0 < length ms
   bound = omega (arith, low, s.fit.count)
 
-  lists_survivors : (d : Det) → has listed d ≡ survives n past d
+  lists_survivors : (d : Det) → list_has listed d ≡ survives n past d
   lists_survivors d = lists d ∙ gathered_survivors n f past ms who s d
 
   nothing_there : (tells : LogMap → Bool) → tells fin.empty ≡ false → (p : ℕ) → who.0 ≡ p → tells (log_at ms p) ≡ false
-  nothing_there tells lacks p is = ap tells (log_none ms p (ap (at ms) (sym is) ∙ down)) ∙ lacks
+  nothing_there tells lacks p is = ap tells (log_none ms p (ap (present_at ms) (sym is) ∙ down)) ∙ lacks
 
-  restarted_kept : (p ssn : ℕ) (x : Kept) → slice_get (messages restarted p) ssn ≡ Some x → slice_get (messages ms p) ssn ≡ Some x
-  restarted_kept p ssn x h = grind (arith, set_cases ms who.0 (Some (fresh gathered)) p bound, bound)
+  restarted_kept : (p ssn : ℕ) (x : SentMessage) → slice_get (messages restarted p) ssn ≡ Some x → slice_get (messages ms p) ssn ≡ Some x
+  restarted_kept p ssn x h = grind (arith, set_cases ms who.0 (Some (new_memory gathered)) p bound, bound)
 
-  is_restarted : IsRestarted n past who.0 listed ms restarted
+  restarted_as : (p : ℕ) (d : Det) → memory_logs restarted p d ≡ ((who.0 == p && list_has listed d) || memory_logs ms p d)
+  restarted_as p d =
+      let empty = nothing_there (has_entry d) (LearnedLogs.none_entry d) p in
+      grind (arith, set_cases ms who.0 (Some (new_memory gathered)) p bound, lists d, empty)
+
+  -- whoever has sent what carries d logs it, so the restart lists it
+  carried_listed : (d : Det) → IsCarried (volatile_of restarted) d → (list_has listed d ≡ true) ⊎ (is_stable past d ≡ true)
+  carried_listed d (t, there, has_d) =
+      let found = message_of_parcel ms t (none_new ms restarted restarted_kept t there) in
+      let small : found.0 < n = under n f past ms who s found.0 (keeps_within ms found.0 found.1 found.2 found.3) in
+      let goes : has_item d found.2.batch ≡ true = ap (λ (x : Parcel). x.carries d) (sym found.4) ∙ has_d in
+      elim (or_cases (logs past found.0 d) (is_stable past d) (senders_have_carried n f past ms s found.0 found.2 d small (found.1, found.3) goes)) [
+        | inl logs_d ↦ inl (lists_survivors d ∙ survives_log n past found.0 d small logs_d)
+        | inr stable ↦ inr stable
+      ]
+
+  listed_alive : (d : Det) → list_has listed d ≡ true → Survives n past (volatile_of ms) d
+  listed_alive d h = elim (survives_found n past d (sym (lists_survivors d) ∙ h)) [ inl stable ↦ inl stable | inr held ↦ inr (inl held) ]
+
+  is_restarted : IsRestartStep n past who.0 listed (volatile_of ms) (volatile_of restarted)
   is_restarted = record {
     process = low;
-    lists = lists_survivors;
-    has_as = λ p d.
-        let empty = nothing_there (has_entry d) (LearnedLogs.none_entry d) p in
-        grind (arith, set_cases ms who.0 (Some (fresh gathered)) p bound, lists d, empty);
-    heard = λ p d q h. grind (arith, set_cases, bound, LearnedLogs.gathered_holder, under);
-    own = λ d h. grind (arith, set_cases, bound, LearnedLogs.gathered_itself);
-    before = λ p d q away h. grind (arith, set_cases, bound, both_ways);
-    marked = λ p d h. grind (arith, set_cases, bound, LearnedLogs.gathered_mark, Choices.stable_has past d, under);
-    kept = λ p x keeps. (keeps.0, restarted_kept p keeps.0 x keeps.1);
+    down = sym (s.fit.state who.0 low) ∙ ap is_none down;
+    lists_survivors = listed_alive;
+    recovers = λ d lost there. elim there [ inl held ↦ inl (lists_survivors d ∙ survives_log n past held.0 d held.1 held.2) | inr goes ↦ carried_listed d goes ];
+    new_holders = λ p d q h. elim (set_cases ms who.0 (Some (new_memory gathered)) p bound) [
+      | inl is ↦
+          let knows_it : log_knows_holder d q gathered ≡ true = ap (log_knows_holder d q) (sym is.2) ∙ h in
+          inr (is.1, lists d ∙ LearnedLogs.entry_of_holder gathered d q knows_it, elim (LearnedLogs.gathered_holder ms (stable_set past) who d q knows_it) [ inl me ↦ inl me | inr old ↦ inr (inl (old.0, under n f past ms who s old.0 old.1, old.2)) ])
+      | inr other ↦ inl (ap (log_knows_holder d q) (sym other.1) ∙ h)
+    ];
+    knows_itself = λ d h. grind (arith, set_cases, bound, LearnedLogs.gathered_itself, lists d);
+    keeps_holders = λ p d q h. elim (set_cases ms who.0 (Some (new_memory gathered)) p bound) [
+      | inl is ↦ absurd (both_ways _ (nothing_there (log_knows_holder d q) (LearnedLogs.none_holds d q) p is.1) h)
+      | inr other ↦ ap (log_knows_holder d q) other.1 ∙ h
+    ];
+    new_stable = λ p d h. elim (set_cases ms who.0 (Some (new_memory gathered)) p bound) [
+      | inl is ↦ elim (LearnedLogs.gathered_mark ms (stable_set past) who d (ap (log_knows_stable d) (sym is.2) ∙ h)) [
+        | inl stored ↦ inr (sym (Choices.stable_has past d) ∙ stored)
+        | inr old ↦ inr ((invariant n f past ms s).known_stable_true old.0 d (under n f past ms who s old.0 old.1) old.2)
+      ]
+      | inr other ↦ inl (ap (log_knows_stable d) (sym other.1) ∙ h)
+    ];
+    nothing_new = none_new ms restarted restarted_kept;
   }
 
-  restart_fits : Matches n (Restart who listed ∷ past) restarted
-  restart_fits = grind (arith, length_set, set_state, bound, message_older, restarted_kept)
+  restart_fits : MemoriesMatchEntries n (Restart who listed ∷ past) restarted
+  restart_fits = record {
+    count = length_set ms who.0 (Some (new_memory gathered)) ∙ s.fit.count;
+    state = λ p small. grind (arith, set_state ms who.0 (Some (new_memory gathered)) p bound, s.fit.state p small);
+    placed = λ p ssn x h. message_older (Restart who listed) past x.send _ (s.fit.placed p ssn x (restarted_kept p ssn x h));
+    logged = λ p d small. restarted_as p d ∙ ap (λ b. (who.0 == p && list_has listed d) || b) (s.fit.logged p d small);
+  }
 
   -- the state after a restart is sound
-  pub restart_sound : IsSound n f (Restart who listed ∷ past) (slice_set ms who.0 (Some (fresh (gathered_log ms (stable_set past) who))))
-  restart_sound =
-      let forward = no_delivery (Restart who listed) past (λ i. refl) s.forward in
-      next_sound n f (Restart who listed) past ms restarted s forward (keeps_restart n f past ms restarted who listed is_restarted forward s.facts) restart_fits
+  pub restart_sound : IsInvariantState n f (Restart who listed ∷ past) (slice_set ms who.0 (Some (new_memory (restart_log ms (stable_set past) who))))
+  restart_sound = next_sound n f (Restart who listed) past ms restarted s (restarts who listed is_restarted) restart_fits

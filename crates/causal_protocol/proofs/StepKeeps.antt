@@ -1,4 +1,4 @@
--- Each legal step keeps what a run keeps.
+-- Each legal step preserves the invariant.
 use Rattle.std.proofs.Common.{ℕ, zero, suc, ◌≡◌, ◌+◌, ◌<◌, inl, inr, true, not, ◌&&◌, ◌||◌, nat_lt, List, [], ◌∷◌, ◌++◌, length, map, take, drop, replicate, slice_set, Option, Some, None, is_none, refl, sym, ap, subst, ◌∙◌, arith}
 use Rattle.std.specs.Prelude.{◌==◌}
 use Rattle.std.specs.List.{filter_map}
@@ -12,87 +12,87 @@ use Rattle.causal_name.specs.Names.{same_det, message_of}
 use Rattle.causal_name.proofs.Lemmas.DetOrder.{same_itself}
 use Rattle.causal_trace.specs.declared.entry.Entry.{Entry}
 use Rattle.causal_trace.specs.declared.entry.Entry.TheVariants.{Send, Deliver, Stable, Crash, Restart}
-use Rattle.causal_trace.specs.Past.{has, message_at}
-use Rattle.causal_log.specs.Logs.{marked, dets_of}
+use Rattle.causal_trace.specs.Past.{list_has, message_at}
+use Rattle.causal_log.specs.Logs.{after_mark, dets_of}
 use Rattle.causal_protocol.specs.declared.request.CoreFault.{CoreFault}
-use Rattle.causal_protocol.specs.declared.request.CoreFault.TheVariants as Why
+use Rattle.causal_protocol.specs.declared.request.CoreFault.TheVariants as Faults
 use Rattle.causal_protocol.specs.declared.request.Request.{Request}
-use Rattle.causal_protocol.specs.declared.request.Request.TheVariants as Ask
+use Rattle.causal_protocol.specs.declared.request.Request.TheVariants as Requests
 use Rattle.causal_protocol.specs.declared.request.Reply.{Reply}
-use Rattle.causal_protocol.specs.declared.request.Reply.TheVariants as Told
-use Rattle.causal_protocol.specs.Memory.{Kept, Memory, Memories, at, changed, fresh, with_sent, with_received, with_log, kept_by, batch_of}
-use Rattle.causal_protocol.specs.Gathering.{stable_set, gathered_log}
-use Rattle.causal_protocol.specs.Run.{Run, receive, memories, memories_of, stable_of}
-use Rattle.causal_protocol.specs.Naming.{name, named_for, kept_for, send_of, next_rsn, next_ssn, own_det, listed_for}
-use Rattle.causal_protocol.specs.Refusals.{when, unless, rows, first_fault, gathered, unwritten, forgettable}
-use Rattle.causal_protocol.specs.Steps.{pushed, extended, receiver_of, sends_of, AreSends, delivery_of, forget_entries, LegalStep, flush_reason_of, IsPart}
-use Rattle.causal_protocol.specs.Sight.{has_logged, marks, has_item}
-use Rattle.causal_protocol.specs.Kept.{finds}
-use Rattle.causal_protocol.specs.Runs.{IsSound, IsRun, StepsKeepRuns, RefusalsChangeNothing, Of, After}
+use Rattle.causal_protocol.specs.declared.request.Reply.TheVariants as Replies
+use Rattle.causal_protocol.specs.Memory.{SentMessage, Memory, Memories, present_at, update_at, new_memory, with_sent, with_received, with_log, sent_message_of, batch_of}
+use Rattle.causal_protocol.specs.Gathering.{stable_set, restart_log}
+use Rattle.causal_protocol.specs.Run.{Run, after_receive, memories, memories_of, stable_of}
+use Rattle.causal_protocol.specs.Naming.{message_name, named_for, sent_message_for, send_of, next_rsn, next_ssn, own_det, listed_for}
+use Rattle.causal_protocol.specs.Refusals.{fault_if, fault_unless_named, refusal_rows, first_fault, restart_list, dets_to_flush, dets_to_forget}
+use Rattle.causal_protocol.specs.Steps.{append_all, extend_run, receiver_of, sends_of, AreSends, delivery_of, forget_entries, LegalStep, flush_reason_of, IsPartialFlush}
+use Rattle.causal_protocol.specs.MemoryQueries.{memory_logs, knows_stable, has_item}
+use Rattle.causal_protocol.specs.Invariant.{logs_or_stable}
+use Rattle.causal_protocol.specs.Runs.{IsInvariantState, SatisfiesInvariant, StepsPreserveInvariant, RefusalsChangeNothing, HoldsInState, StepsEstablish}
 use Rattle.causal_protocol.proofs.Places.{at_set, at_within, log_here}
 use Rattle.causal_protocol.proofs.LearnedLogs.{keys_have}
 use Rattle.causal_protocol.proofs.Choices.{own_have, items_have, unstable_logged, stable_have, marked_entry}
 use Rattle.causal_protocol.proofs.Refusals.{first_none, when_none, not_not, is_there, kept_for-is, kept_message, only_named, down_counted}
 use Rattle.causal_protocol.proofs.SoundSteps.{send_sound, was_sent, delivery_sound, stable_sound, forget_sound, crash_sound, restart_sound}
 
--- what a state keeps, with the memories that the run makes
+-- the invariant of a state, with the memories that the run makes
 abbrev pub IsKept : ℕ → ℕ → List Pid → List Entry → Type 0
-IsKept n f writers past = IsSound n f past (memories n f writers past)
+IsKept n f writers past = IsInvariantState n f past (memories n f writers past)
 
-set_here : {X : Type 0} (xs : List (Option X)) (w : ℕ) (x : Option X) → w < length xs → at (slice_set xs w x) w ≡ x
-set_here xs w x low = at_set xs w x w low ∙ elim (eqb_tells w w) [ inl is ↦ cond-true (w == w) x (at xs w) is.0 | inr other ↦ absurd (other.1 refl) ]
+set_here : {X : Type 0} (xs : List (Option X)) (w : ℕ) (x : Option X) → w < length xs → present_at (slice_set xs w x) w ≡ x
+set_here xs w x low = at_set xs w x w low ∙ elim (eqb_tells w w) [ inl is ↦ cond-true (w == w) x (present_at xs w) is.0 | inr other ↦ absurd (other.1 refl) ]
 
-set_other : {X : Type 0} (xs : List (Option X)) (w : ℕ) (x : Option X) (p : ℕ) → w < length xs → (w ≡ p → ⊥) → at (slice_set xs w x) p ≡ at xs p
-set_other xs w x p low away = at_set xs w x p low ∙ elim (eqb_tells w p) [ inl is ↦ absurd (away is.1) | inr other ↦ cond-false (w == p) x (at xs p) other.0 ]
+set_other : {X : Type 0} (xs : List (Option X)) (w : ℕ) (x : Option X) (p : ℕ) → w < length xs → (w ≡ p → ⊥) → present_at (slice_set xs w x) p ≡ present_at xs p
+set_other xs w x p low away = at_set xs w x p low ∙ elim (eqb_tells w p) [ inl is ↦ absurd (away is.1) | inr other ↦ cond-false (w == p) x (present_at xs p) other.0 ]
 
 length_more : {X : Type 0} (xs : List X) (x : X) → length (xs ++ x ∷ []) ≡ length xs + 1
 length_more [] x = refl
 length_more (y ∷ xs) x = omega (arith, length_more xs x)
 
--- sends of an up process, one after the other
-sends_kept : (n f : ℕ) (writers : List Pid) (past : List Entry) (q : Pid) (ssn : ℕ) (tos : List Pid) (m : Memory) → at (memories n f writers past) q.0 ≡ Some m → q.0 < n → ssn ≡ length m.sent → IsKept n f writers past
-    → IsKept n f writers (pushed (sends_of q ssn tos) past) × ((p : ℕ) → (q.0 ≡ p → ⊥) → at (memories n f writers (pushed (sends_of q ssn tos) past)) p ≡ at (memories n f writers past) p)
+-- the sends of an up process preserve it, one after the other
+sends_kept : (n f : ℕ) (writers : List Pid) (past : List Entry) (q : Pid) (ssn : ℕ) (tos : List Pid) (m : Memory) → present_at (memories n f writers past) q.0 ≡ Some m → q.0 < n → ssn ≡ length m.sent → IsKept n f writers past
+    → IsKept n f writers (append_all (sends_of q ssn tos) past) × ((p : ℕ) → (q.0 ≡ p → ⊥) → present_at (memories n f writers (append_all (sends_of q ssn tos) past)) p ≡ present_at (memories n f writers past) p)
 unfolding memories sends_of
 sends_kept n f writers past q ssn [] m here low is s = (s, λ p away. refl)
 sends_kept n f writers past q ssn (to ∷ tos) m here low is s =
     let ms = memories n f writers past in
     let bound : q.0 < length ms = at_within ms q.0 m here in
-    let next : IsSound n f (Send q to ssn ∷ past) (changed (with_sent f to (length past)) ms q.0) = subst (λ x. IsSound n f (Send q to x ∷ past) (changed (with_sent f to (length past)) ms q.0)) (sym is) (send_sound n f past ms q to m here low s) in
-    let there : at (changed (with_sent f to (length past)) ms q.0) q.0 ≡ Some (with_sent f to (length past) m) = set_here ms q.0 (option_map (with_sent f to (length past)) (at ms q.0)) bound ∙ ap (option_map (with_sent f to (length past))) here in
+    let next : IsInvariantState n f (Send q to ssn ∷ past) (update_at (with_sent f to (length past)) ms q.0) = subst (λ x. IsInvariantState n f (Send q to x ∷ past) (update_at (with_sent f to (length past)) ms q.0)) (sym is) (send_sound n f past ms q to m here low s) in
+    let there : present_at (update_at (with_sent f to (length past)) ms q.0) q.0 ≡ Some (with_sent f to (length past) m) = set_here ms q.0 (option_map (with_sent f to (length past)) (present_at ms q.0)) bound ∙ ap (option_map (with_sent f to (length past))) here in
     let rest = sends_kept n f writers (Send q to ssn ∷ past) q (ssn + 1) tos (with_sent f to (length past) m) there low (ap (λ x. x + 1) is ∙ sym (length_more m.sent _)) next in
-    (rest.0, λ p away. rest.1 p away ∙ set_other ms q.0 (option_map (with_sent f to (length past)) (at ms q.0)) p bound away)
+    (rest.0, λ p away. rest.1 p away ∙ set_other ms q.0 (option_map (with_sent f to (length past)) (present_at ms q.0)) p bound away)
 
--- the same, as a step tells them
-pub are_sends_kept : (n f : ℕ) (writers : List Pid) (past : List Entry) (q : Pid) (ssn number : ℕ) (entries : List Entry) (m : Memory) → AreSends n q ssn number entries → at (memories n f writers past) q.0 ≡ Some m → q.0 < n → ssn ≡ length m.sent → IsKept n f writers past
-    → IsKept n f writers (pushed entries past) × ((p : ℕ) → (q.0 ≡ p → ⊥) → at (memories n f writers (pushed entries past)) p ≡ at (memories n f writers past) p)
+-- the sends of a step preserve it
+pub are_sends_kept : (n f : ℕ) (writers : List Pid) (past : List Entry) (q : Pid) (ssn number : ℕ) (entries : List Entry) (m : Memory) → AreSends n q ssn number entries → present_at (memories n f writers past) q.0 ≡ Some m → q.0 < n → ssn ≡ length m.sent → IsKept n f writers past
+    → IsKept n f writers (append_all entries past) × ((p : ℕ) → (q.0 ≡ p → ⊥) → present_at (memories n f writers (append_all entries past)) p ≡ present_at (memories n f writers past) p)
 are_sends_kept n f writers past q ssn number entries m sends here low is s =
-    subst (λ es. IsKept n f writers (pushed es past) × ((p : ℕ) → (q.0 ≡ p → ⊥) → at (memories n f writers (pushed es past)) p ≡ at (memories n f writers past) p)) (sym sends.sends) (sends_kept n f writers past q ssn (filter_map receiver_of entries) m here low is s)
+    subst (λ es. IsKept n f writers (append_all es past) × ((p : ℕ) → (q.0 ≡ p → ⊥) → present_at (memories n f writers (append_all es past)) p ≡ present_at (memories n f writers past) p)) (sym sends.sends) (sends_kept n f writers past q ssn (filter_map receiver_of entries) m here low is s)
 
--- stable entries of a flush, one after the other
-flush_kept : (n f : ℕ) (writers : List Pid) (past : List Entry) (p : Pid) (ds : List Det) (m : Memory) → at (memories n f writers past) p.0 ≡ Some m → p.0 < n → ((d : Det) → has ds d ≡ true → has_logged (memories n f writers past) p.0 d ≡ true) → IsKept n f writers past
-    → IsKept n f (replicate (length (map Stable ds)) p ++ writers) (pushed (map Stable ds) past)
+-- the stable entries of a flush preserve it, one after the other
+flush_kept : (n f : ℕ) (writers : List Pid) (past : List Entry) (p : Pid) (ds : List Det) (m : Memory) → present_at (memories n f writers past) p.0 ≡ Some m → p.0 < n → ((d : Det) → list_has ds d ≡ true → memory_logs (memories n f writers past) p.0 d ≡ true) → IsKept n f writers past
+    → IsKept n f (replicate (length (map Stable ds)) p ++ writers) (append_all (map Stable ds) past)
 unfolding memories
 flush_kept n f writers past p [] m here low logged s = s
 flush_kept n f writers past p (d ∷ ds) m here low logged s =
     let ms = memories n f writers past in
     let bound : p.0 < length ms = at_within ms p.0 m here in
     let next : IsKept n f (p ∷ writers) (Stable d ∷ past) = stable_sound n f past ms p m d here low (logged d (or_left _ _ (same_itself d))) s in
-    let there : at (memories n f (p ∷ writers) (Stable d ∷ past)) p.0 ≡ Some (with_log (λ log. marked log d) m) = set_here ms p.0 (option_map (with_log (λ log. marked log d)) (at ms p.0)) bound ∙ ap (option_map (with_log (λ log. marked log d))) here in
-    let still : (x : Det) → has ds x ≡ true → has_logged (memories n f (p ∷ writers) (Stable d ∷ past)) p.0 x ≡ true = λ x h.
-    let new = log_here (memories n f (p ∷ writers) (Stable d ∷ past)) p.0 (with_log (λ log. marked log d) m) there in
+    let there : present_at (memories n f (p ∷ writers) (Stable d ∷ past)) p.0 ≡ Some (with_log (λ log. after_mark log d) m) = set_here ms p.0 (option_map (with_log (λ log. after_mark log d)) (present_at ms p.0)) bound ∙ ap (option_map (with_log (λ log. after_mark log d))) here in
+    let still : (x : Det) → list_has ds x ≡ true → memory_logs (memories n f (p ∷ writers) (Stable d ∷ past)) p.0 x ≡ true = λ x h.
+    let new = log_here (memories n f (p ∷ writers) (Stable d ∷ past)) p.0 (with_log (λ log. after_mark log d) m) there in
     grind (arith, new, log_here ms p.0 m here, marked_entry m.log d x, logged x) in
-    subst (λ ws. IsKept n f ws (pushed (map Stable ds) (Stable d ∷ past))) (slide (length (map Stable ds)) p writers) (flush_kept n f (p ∷ writers) (Stable d ∷ past) p ds (with_log (λ log. marked log d) m) there low still next)
+    subst (λ ws. IsKept n f ws (append_all (map Stable ds) (Stable d ∷ past))) (slide (length (map Stable ds)) p writers) (flush_kept n f (p ∷ writers) (Stable d ∷ past) p ds (with_log (λ log. after_mark log d) m) there low still next)
   where
     slide : (k : ℕ) (p : Pid) (ws : List Pid) → replicate k p ++ (p ∷ ws) ≡ p ∷ (replicate k p ++ ws)
     slide zero p ws = refl
     slide (suc k) p ws = ap (λ xs. p ∷ xs) (slide k p ws)
 
-has_taken : (k : ℕ) (ds : List Det) (d : Det) → has (take k ds) d ≡ true → has ds d ≡ true
+has_taken : (k : ℕ) (ds : List Det) (d : Det) → list_has (take k ds) d ≡ true → list_has ds d ≡ true
 has_taken zero ds d h = absurd (false≢true h)
 has_taken (suc k) [] d h = absurd (false≢true h)
-has_taken (suc k) (x ∷ ds) d h = elim (or_cases (same_det d x) (has (take k ds) d) h) [ inl is ↦ or_left _ _ is | inr more ↦ or_right _ _ (has_taken k ds d more) ]
+has_taken (suc k) (x ∷ ds) d h = elim (or_cases (same_det d x) (list_has (take k ds) d) h) [ inl is ↦ or_left _ _ is | inr more ↦ or_right _ _ (has_taken k ds d more) ]
 
-module _ (r : Run) (s : IsRun r) where
+module _ (r : Run) (s : SatisfiesInvariant r) where
   abbrev n : ℕ
   n = r.recording.processes
 
@@ -102,110 +102,110 @@ module _ (r : Run) (s : IsRun r) where
   abbrev ms : Memories
   ms = memories_of r
 
-  delivers : (q source : Pid) (ssn first : ℕ) (det : Det) (number : ℕ) (appended : List Entry) → first_fault r (Ask.Deliver q source ssn) ≡ None → appended ≡ delivery_of r q (name source ssn) ∷ drop 1 appended → AreSends n q (next_ssn ms q) number (drop 1 appended) → IsRun (extended r (Ask.Deliver q source ssn) appended)
-  unfolding rows memories
+  delivers : (q source : Pid) (ssn first : ℕ) (det : Det) (number : ℕ) (appended : List Entry) → first_fault r (Requests.Deliver q source ssn) ≡ None → appended ≡ delivery_of r q (message_name source ssn) ∷ drop 1 appended → AreSends n q (next_ssn ms q) number (drop 1 appended) → SatisfiesInvariant (extend_run r (Requests.Deliver q source ssn) appended)
+  unfolding refusal_rows memories
   delivers q source ssn first det number appended none is sends =
-      let asked : MsgName = name source ssn in
-      let row1 = first_none (when (not (nat_lt q.0 n && nat_lt source.0 n)) Why.NoProcess) _ none in
-      let row2 = first_none (when (is_none (at ms q.0)) Why.Down) _ row1.1 in
-      let row3 = first_none (unless asked (named_for ms (stable_of r) q)) _ row2.1 in
-      let row4 = first_none (when (is_none (kept_for ms q asked)) Why.NotAvailable) _ row3.1 in
-      let low = and_parts (nat_lt q.0 n) (nat_lt source.0 n) (not_not _ (when_none _ Why.NoProcess row1.0)) in
-      let up = is_there (at ms q.0) (when_none _ Why.Down row2.0) in
-      let kept = is_there (kept_for ms q asked) (when_none _ Why.NotAvailable row4.0) in
+      let asked : MsgName = message_name source ssn in
+      let row1 = first_none (fault_if (not (nat_lt q.0 n && nat_lt source.0 n)) Faults.NoProcess) _ none in
+      let row2 = first_none (fault_if (is_none (present_at ms q.0)) Faults.Down) _ row1.1 in
+      let row3 = first_none (fault_unless_named asked (named_for ms (stable_of r) q)) _ row2.1 in
+      let row4 = first_none (fault_if (is_none (sent_message_for ms q asked)) Faults.NotAvailable) _ row3.1 in
+      let low = and_parts (nat_lt q.0 n) (nat_lt source.0 n) (not_not _ (when_none _ Faults.NoProcess row1.0)) in
+      let up = is_there (present_at ms q.0) (when_none _ Faults.Down row2.0) in
+      let kept = is_there (sent_message_for ms q asked) (when_none _ Faults.NotAvailable row4.0) in
       let by = kept_for-is ms q asked kept.0 kept.1 in
-      subst (λ es. IsKept n r.faults r.writers (pushed es past)) (sym is) (then_sends up.0 kept.0 (ltb-true q.0 n low.0) (ltb-true source.0 n low.1) up.1 by row3.0)
+      subst (λ es. IsKept n r.faults r.writers (append_all es past)) (sym is) (then_sends up.0 kept.0 (ltb-true q.0 n low.0) (ltb-true source.0 n low.1) up.1 by row3.0)
     where
-      then_sends : (m : Memory) (k : Kept) → q.0 < n → source.0 < n → at ms q.0 ≡ Some m → kept_by ms (name source ssn) ≡ Some k → unless (name source ssn) (named_for ms (stable_of r) q) ≡ None → IsKept n r.faults r.writers (pushed (drop 1 appended) (delivery_of r q (name source ssn) ∷ past))
+      then_sends : (m : Memory) (k : SentMessage) → q.0 < n → source.0 < n → present_at ms q.0 ≡ Some m → sent_message_of ms (message_name source ssn) ≡ Some k → fault_unless_named (message_name source ssn) (named_for ms (stable_of r) q) ≡ None → IsKept n r.faults r.writers (append_all (drop 1 appended) (delivery_of r q (message_name source ssn) ∷ past))
       then_sends m k low from here by only =
-          let asked : MsgName = name source ssn in
+          let asked : MsgName = message_name source ssn in
           let found = kept_message ms asked k by in
           let place : next_rsn ms q ≡ length m.received = ap (λ o. option_map_or (λ m. length m.received) o 0) here in
-          let named : (d : Det) → finds past q.0 d ≡ true → d.dest ≡ q → d.rsn ≡ next_rsn ms q → message_of d ≡ asked = λ d found dest rsn. only_named n r.faults past ms q m here low s asked only d found dest (rsn ∙ place) in
-          let lists : (d : Det) → has (listed_for ms q asked) d ≡ (same_det d (own_det ms q asked) || has_item d k.batch) = λ d.
+          let named : (d : Det) → logs_or_stable past q.0 d ≡ true → d.dest ≡ q → d.rsn ≡ next_rsn ms q → message_of d ≡ asked = λ d found dest rsn. only_named n r.faults past ms q m here low s asked only d found dest (rsn ∙ place) in
+          let lists : (d : Det) → list_has (listed_for ms q asked) d ≡ (same_det d (own_det ms q asked) || has_item d k.batch) = λ d.
           grind (arith, own_have (own_det ms q asked) (dets_of (batch_of ms asked)) d, items_have (batch_of ms asked) d) in
           let sound = delivery_sound n r.faults past ms q (next_rsn ms q) asked m k (listed_for ms q asked) here low from found named lists s in
           let sent = was_sent n r.faults past ms q (next_rsn ms q) asked m k (listed_for ms q asked) here low from found named lists s in
-          let given : receive ms q (next_rsn ms q) (message_at past (send_of ms asked)) ≡ changed (with_received k.batch (own_det ms q asked)) ms q.0 =
+          let given : after_receive ms q (next_rsn ms q) (message_at past (send_of ms asked)) ≡ update_at (with_received k.batch (own_det ms q asked)) ms q.0 =
           grind (arith, sent) in
           let next : IsKept n r.faults r.writers (delivery_of r q asked ∷ past) =
-          subst (λ x. IsSound n r.faults (delivery_of r q asked ∷ past) x) (sym given)
-          (subst (λ x. IsSound n r.faults (Deliver q x (next_rsn ms q) (listed_for ms q asked) ∷ past) (changed (with_received k.batch (own_det ms q asked)) ms q.0)) (ap (λ o. option_map_or (λ k. k.send) o 0) (sym by)) sound) in
+          subst (λ x. IsInvariantState n r.faults (delivery_of r q asked ∷ past) x) (sym given)
+          (subst (λ x. IsInvariantState n r.faults (Deliver q x (next_rsn ms q) (listed_for ms q asked) ∷ past) (update_at (with_received k.batch (own_det ms q asked)) ms q.0)) (ap (λ o. option_map_or (λ k. k.send) o 0) (sym by)) sound) in
           let bound : q.0 < length ms = at_within ms q.0 m here in
-          let there : at (memories n r.faults r.writers (delivery_of r q asked ∷ past)) q.0 ≡ Some (with_received k.batch (own_det ms q asked) m) =
-          grind (arith, given, set_here ms q.0 (option_map (with_received k.batch (own_det ms q asked)) (at ms q.0)) bound) in
+          let there : present_at (memories n r.faults r.writers (delivery_of r q asked ∷ past)) q.0 ≡ Some (with_received k.batch (own_det ms q asked) m) =
+          grind (arith, given, set_here ms q.0 (option_map (with_received k.batch (own_det ms q asked)) (present_at ms q.0)) bound) in
           (are_sends_kept n r.faults r.writers (delivery_of r q asked ∷ past) q (next_ssn ms q) number (drop 1 appended) (with_received k.batch (own_det ms q asked) m) sends there low (ap (λ o. option_map_or (λ m. length m.sent) o 0) here) next).0
 
-  crashes : (p : Pid) (appended : List Entry) → first_fault r (Ask.Crash p) ≡ None → appended ≡ Crash p ∷ [] → IsRun (extended r (Ask.Crash p) appended)
-  unfolding rows memories
+  crashes : (p : Pid) (appended : List Entry) → first_fault r (Requests.Crash p) ≡ None → appended ≡ Crash p ∷ [] → SatisfiesInvariant (extend_run r (Requests.Crash p) appended)
+  unfolding refusal_rows memories
   crashes p appended none is = grind (arith, crash_sound n r.faults past ms p, down_counted n past ms s.fit.count s.fit.state)
 
-  restarts_kept : (p : Pid) (number : ℕ) (appended : List Entry) → first_fault r (Ask.Restart p) ≡ None → appended ≡ Restart p (gathered r p) ∷ drop 1 appended → AreSends n p 0 number (drop 1 appended) → IsRun (extended r (Ask.Restart p) appended)
-  unfolding rows memories
+  restarts_kept : (p : Pid) (number : ℕ) (appended : List Entry) → first_fault r (Requests.Restart p) ≡ None → appended ≡ Restart p (restart_list r p) ∷ drop 1 appended → AreSends n p 0 number (drop 1 appended) → SatisfiesInvariant (extend_run r (Requests.Restart p) appended)
+  unfolding refusal_rows memories
   restarts_kept p number appended none is sends =
       let low : p.0 < n = grind arith in
-      let down : at ms p.0 ≡ None = grind arith in
+      let down : present_at ms p.0 ≡ None = grind arith in
       let bound : p.0 < length ms = omega (arith, low, s.fit.count) in
-      let next : IsKept n r.faults r.writers (Restart p (gathered r p) ∷ past) = restart_sound n r.faults past ms p (gathered r p) low down (λ d. keys_have (gathered_log ms (stable_set past) p) d) s in
-      let there : at (memories n r.faults r.writers (Restart p (gathered r p) ∷ past)) p.0 ≡ Some (fresh (gathered_log ms (stable_set past) p)) = set_here ms p.0 (Some (fresh (gathered_log ms (stable_set past) p))) bound in
-      subst (λ es. IsKept n r.faults r.writers (pushed es past)) (sym is) (are_sends_kept n r.faults r.writers (Restart p (gathered r p) ∷ past) p 0 number (drop 1 appended) (fresh (gathered_log ms (stable_set past) p)) sends there low refl next).0
+      let next : IsKept n r.faults r.writers (Restart p (restart_list r p) ∷ past) = restart_sound n r.faults past ms p (restart_list r p) low down (λ d. keys_have (restart_log ms (stable_set past) p) d) s in
+      let there : present_at (memories n r.faults r.writers (Restart p (restart_list r p) ∷ past)) p.0 ≡ Some (new_memory (restart_log ms (stable_set past) p)) = set_here ms p.0 (Some (new_memory (restart_log ms (stable_set past) p))) bound in
+      subst (λ es. IsKept n r.faults r.writers (append_all es past)) (sym is) (are_sends_kept n r.faults r.writers (Restart p (restart_list r p) ∷ past) p 0 number (drop 1 appended) (new_memory (restart_log ms (stable_set past) p)) sends there low refl next).0
 
-  flushes : (p : Pid) (ds : List Det) (appended : List Entry) → first_fault r (Ask.Flush p) ≡ None → ((d : Det) → has ds d ≡ true → has (unwritten r p) d ≡ true) → appended ≡ map Stable ds → IsRun (extended r (Ask.Flush p) appended)
-  unfolding rows
+  flushes : (p : Pid) (ds : List Det) (appended : List Entry) → first_fault r (Requests.Flush p) ≡ None → ((d : Det) → list_has ds d ≡ true → list_has (dets_to_flush r p) d ≡ true) → appended ≡ map Stable ds → SatisfiesInvariant (extend_run r (Requests.Flush p) appended)
+  unfolding refusal_rows
   flushes p ds appended none within is =
       let low : p.0 < n = grind arith in
-      let up = is_there (at ms p.0) (grind arith) in
-      let logged : (d : Det) → has ds d ≡ true → has_logged ms p.0 d ≡ true = λ d h.
+      let up = is_there (present_at ms p.0) (grind arith) in
+      let logged : (d : Det) → list_has ds d ≡ true → memory_logs ms p.0 d ≡ true = λ d h.
       grind (arith, within d h, log_here ms p.0 up.0 up.1, unstable_logged up.0.log d) in
-      subst (λ es. IsKept n r.faults (replicate (length es) p ++ r.writers) (pushed es past)) (sym is) (flush_kept n r.faults r.writers past p ds up.0 up.1 low logged s)
+      subst (λ es. IsKept n r.faults (replicate (length es) p ++ r.writers) (append_all es past)) (sym is) (flush_kept n r.faults r.writers past p ds up.0 up.1 low logged s)
 
-  forgets : (p : Pid) (appended : List Entry) → first_fault r (Ask.Forget p) ≡ None → appended ≡ forget_entries p (forgettable r p) → IsRun (extended r (Ask.Forget p) appended)
-  unfolding rows memories
+  forgets : (p : Pid) (appended : List Entry) → first_fault r (Requests.Forget p) ≡ None → appended ≡ forget_entries p (dets_to_forget r p) → SatisfiesInvariant (extend_run r (Requests.Forget p) appended)
+  unfolding refusal_rows memories
   forgets p appended none is =
       let low : p.0 < n = grind arith in
-      let up = is_there (at ms p.0) (grind arith) in
-      let known : (d : Det) → has (forgettable r p) d ≡ true → marks ms p.0 d ≡ true = λ d h.
+      let up = is_there (present_at ms p.0) (grind arith) in
+      let known : (d : Det) → list_has (dets_to_forget r p) d ≡ true → knows_stable ms p.0 d ≡ true = λ d h.
       grind (arith, log_here ms p.0 up.0 up.1, stable_have up.0.log d) in
-      subst (λ es. IsKept n r.faults r.writers (pushed es past)) (sym is) (by_list (forgettable r p) low up.0 up.1 known)
+      subst (λ es. IsKept n r.faults r.writers (append_all es past)) (sym is) (by_list (dets_to_forget r p) low up.0 up.1 known)
     where
-      by_list : (ds : List Det) → p.0 < n → (m : Memory) → at ms p.0 ≡ Some m → ((d : Det) → has ds d ≡ true → marks ms p.0 d ≡ true) → IsKept n r.faults r.writers (pushed (forget_entries p ds) past)
+      by_list : (ds : List Det) → p.0 < n → (m : Memory) → present_at ms p.0 ≡ Some m → ((d : Det) → list_has ds d ≡ true → knows_stable ms p.0 d ≡ true) → IsKept n r.faults r.writers (append_all (forget_entries p ds) past)
       by_list [] low m here known = s
       by_list (d ∷ ds) low m here known = forget_sound n r.faults past ms p m (d ∷ ds) here low known s
 
-  nothing_appended : (request : Request) (appended : List Entry) → appended ≡ [] → IsRun (extended r request appended)
+  nothing_appended : (request : Request) (appended : List Entry) → appended ≡ [] → SatisfiesInvariant (extend_run r request appended)
   nothing_appended request appended is = grind arith
 
-none_written : (fault reason : CoreFault) (done all : ℕ) → flush_reason_of fault ≡ Some reason → IsPart fault done all → done ≡ 0
+none_written : (fault reason : CoreFault) (done all : ℕ) → flush_reason_of fault ≡ Some reason → IsPartialFlush fault done all → done ≡ 0
 none_written fault reason done all is part = grind arith
 
-legal_kept : (r : Run) (request : Request) (reply : Reply) (appended : List Entry) → LegalStep r request reply appended → IsRun r → IsRun (extended r request appended)
+legal_kept : (r : Run) (request : Request) (reply : Reply) (appended : List Entry) → LegalStep r request reply appended → SatisfiesInvariant r → SatisfiesInvariant (extend_run r request appended)
 unfolding LegalStep
-legal_kept r (Ask.Deliver q source ssn) (Told.Delivered d) appended h s = delivers r s q source ssn d.first d.det d.sends appended h.0 h.3 h.4
-legal_kept r (Ask.Deliver q source ssn) (Told.Refused fault) appended h s = nothing_appended r s (Ask.Deliver q source ssn) appended h.1
-legal_kept r (Ask.Crash p) (Told.Crashed first) appended h s = crashes r s p appended h.0 h.2
-legal_kept r (Ask.Crash p) (Told.Refused fault) appended h s = nothing_appended r s (Ask.Crash p) appended h.1
-legal_kept r (Ask.Restart p) (Told.Restarted d) appended h s = restarts_kept r s p d.sends appended h.0 h.3 h.4
-legal_kept r (Ask.Restart p) (Told.Refused fault) appended h s = nothing_appended r s (Ask.Restart p) appended h.1
-legal_kept r (Ask.Flush p) (Told.Flushed count) appended h s = flushes r s p (unwritten r p) appended h.0 (λ d x. x) h.2
-legal_kept r (Ask.Flush p) (Told.FlushRefused f) appended h s = by (flush_reason_of f.fault) refl
+legal_kept r (Requests.Deliver q source ssn) (Replies.Delivered d) appended h s = delivers r s q source ssn d.first d.det d.sends appended h.0 h.3 h.4
+legal_kept r (Requests.Deliver q source ssn) (Replies.Refused fault) appended h s = nothing_appended r s (Requests.Deliver q source ssn) appended h.1
+legal_kept r (Requests.Crash p) (Replies.Crashed first) appended h s = crashes r s p appended h.0 h.2
+legal_kept r (Requests.Crash p) (Replies.Refused fault) appended h s = nothing_appended r s (Requests.Crash p) appended h.1
+legal_kept r (Requests.Restart p) (Replies.Restarted d) appended h s = restarts_kept r s p d.sends appended h.0 h.3 h.4
+legal_kept r (Requests.Restart p) (Replies.Refused fault) appended h s = nothing_appended r s (Requests.Restart p) appended h.1
+legal_kept r (Requests.Flush p) (Replies.Flushed count) appended h s = flushes r s p (dets_to_flush r p) appended h.0 (λ d x. x) h.2
+legal_kept r (Requests.Flush p) (Replies.FlushRefused f) appended h s = by (flush_reason_of f.fault) refl
   where
-    by : (reason : Option CoreFault) → flush_reason_of f.fault ≡ reason → IsRun (extended r (Ask.Flush p) appended)
-    by None is = flushes r s p (take f.done (unwritten r p)) appended (h.0 ∙ is) (has_taken f.done (unwritten r p)) h.2
+    by : (reason : Option CoreFault) → flush_reason_of f.fault ≡ reason → SatisfiesInvariant (extend_run r (Requests.Flush p) appended)
+    by None is = flushes r s p (take f.done (dets_to_flush r p)) appended (h.0 ∙ is) (has_taken f.done (dets_to_flush r p)) h.2
     by (Some fault) is =
-        nothing_appended r s (Ask.Flush p) appended (h.2 ∙ ap (λ k. map Stable (take k (unwritten r p))) (none_written f.fault fault f.done (length (unwritten r p)) is h.1))
-legal_kept r (Ask.Forget p) (Told.Forgotten count) appended h s = forgets r s p appended h.0 h.2
-legal_kept r (Ask.Forget p) (Told.Refused fault) appended h s = nothing_appended r s (Ask.Forget p) appended h.1
+        nothing_appended r s (Requests.Flush p) appended (h.2 ∙ ap (λ k. map Stable (take k (dets_to_flush r p))) (none_written f.fault fault f.done (length (dets_to_flush r p)) is h.1))
+legal_kept r (Requests.Forget p) (Replies.Forgotten count) appended h s = forgets r s p appended h.0 h.2
+legal_kept r (Requests.Forget p) (Replies.Refused fault) appended h s = nothing_appended r s (Requests.Forget p) appended h.1
 legal_kept r request reply appended h s = absurd h
 
--- each legal step keeps what a run keeps
-pub steps_keep_runs : StepsKeepRuns
-steps_keep_runs old new request reply step s = subst IsRun (sym step.grown) (legal_kept old request reply step.appended step.legal s)
+-- each legal step preserves the invariant of runs
+pub steps_keep_runs : StepsPreserveInvariant
+steps_keep_runs old new request reply step s = subst SatisfiesInvariant (sym step.grown) (legal_kept old request reply step.appended step.legal s)
 
--- a refusal, but a flush that stopped part way, leaves the run as it was
+-- a refusal of a call other than a flush leaves the run unchanged
 pub refusals_change_nothing : RefusalsChangeNothing
 unfolding LegalStep
 refusals_change_nothing old new request fault step = grind arith
 
--- a fact of all runs holds after each legal step
-pub after : (IsAsked : Request → Type 0) (Fact : ℕ → ℕ → List Entry → Memories → Type 0) → ((r : Run) → IsRun r → Of Fact r) → After IsAsked Fact
+-- a fact that all invariant runs have holds after each legal step
+pub after : (IsAsked : Request → Type 0) (Fact : ℕ → ℕ → List Entry → Memories → Type 0) → ((r : Run) → SatisfiesInvariant r → HoldsInState Fact r) → StepsEstablish IsAsked Fact
 after IsAsked Fact from old new request reply asked step s = from new (steps_keep_runs old new request reply step s)

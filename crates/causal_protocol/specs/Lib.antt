@@ -5,9 +5,9 @@ pub mod Run
 pub mod Naming
 pub mod Refusals
 pub mod Steps
-pub mod Telling
-pub mod Sight
-pub mod Kept
-pub mod Listed
+pub mod ReplyEntries
+pub mod MemoryQueries
+pub mod Invariant
+pub mod EntryLists
 pub mod Runs
 pub mod Contributions

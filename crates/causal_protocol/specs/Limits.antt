@@ -1,10 +1,10 @@
--- How long a run that a core makes may be.
+-- Limits on the length of a core's run.
 use Rattle.std.specs.Prelude.{ℕ}
 
--- how many entries
+-- the greatest number of entries
 abbrev pub max_entries : ℕ
 max_entries = 65536
 
--- how many determinants its entries list in all
+-- the greatest number of determinants that the entries list in total
 abbrev pub max_listed : ℕ
 max_listed = 1048576

@@ -1,108 +1,110 @@
-//! Laws over the definitions. Each function does nothing: what it ensures is the law.
-ghost use Rattle.causal_protocol.specs.Runs.{OpeningsAreRuns, StepsKeepRuns, RefusalsChangeNothing, RepliesTellEntries, IfKept, IfMade};
-ghost use Rattle.causal_protocol.specs.Runs.{IsSafeRun, HasSingleSlots, HasDeliveredSurvivors, After};
+//! Laws over the definitions. Each function has an empty body: its contract is the law.
+ghost use Rattle.causal_protocol.specs.Runs.{StartSatisfiesInvariant, StepsPreserveInvariant, RefusalsChangeNothing, RepliesMatchEntries, OfInvariantRuns, OfReachableRuns};
+ghost use Rattle.causal_protocol.specs.Runs.{IsSafeRun, HasSingleSlots, HasDeliveredSurvivors, StepsEstablish};
 ghost use Rattle.causal_protocol.specs.Runs.{IsDelivery, IsCrash, IsRestart, IsFlush, IsForgetting};
 ghost use Rattle.causal_protocol.specs.Contributions.{HoldersAreContributed, MarksAreContributed};
-ghost use Rattle.causal_protocol.specs.Listed.{DeliveriesListThese, RestartsListSurvivors};
-ghost use Rattle.causal_protocol.specs.Kept.{FewAreDown, HoldersHold, NamedHold, MarksAreTrue, DependentsHold, MessagesCarry, ReceiversFind, SendersFind};
+ghost use Rattle.causal_protocol.specs.EntryLists.{DeliveryListsAreExact, RestartListsAreExact};
+ghost use Rattle.causal_protocol.specs.Invariant.{FewAreDown, KnownHoldersAreTrue, CarriedHoldersAreTrue, MarksAreTrue, DependentsLog, MessagesCarry, ReceiversHaveSurvivors, SendersHaveCarried};
 
-/// Each run that the runtime makes is safe at each of its instants for its number of failures (no crash that this number
-/// allows leaves an orphan), no two determinants that survive it fill one slot, and each that survives is that of a delivery.
-pub fn made_runs_are_safe()
-    ensures safe { IfMade IsSafeRun }
-    ensures single { IfMade HasSingleSlots }
-    ensures delivered { IfMade HasDeliveredSurvivors }
+/// Each reachable run is safe at each of its instants for its bound f: no crash that f allows leaves an orphan. No
+/// two surviving determinants fill one slot, and each surviving determinant is that of a delivery.
+pub fn reachable_runs_are_safe()
+    ensures safe { OfReachableRuns IsSafeRun }
+    ensures single { OfReachableRuns HasSingleSlots }
+    ensures delivered { OfReachableRuns HasDeliveredSurvivors }
 {}
 
-/// The same of each run that has what the protocol keeps.
-pub fn kept_runs_are_safe()
-    ensures safe { IfKept IsSafeRun }
-    ensures single { IfKept HasSingleSlots }
-    ensures delivered { IfKept HasDeliveredSurvivors }
+/// Each run that satisfies the invariant is safe at each of its instants; no two surviving determinants fill one
+/// slot; each surviving determinant is that of a delivery.
+pub fn invariant_implies_safe()
+    ensures safe { OfInvariantRuns IsSafeRun }
+    ensures single { OfInvariantRuns HasSingleSlots }
+    ensures delivered { OfInvariantRuns HasDeliveredSurvivors }
 {}
 
-/// A run has what the protocol keeps once its processes have begun, and each legal step keeps that.
-pub fn steps_keep_runs()
-    ensures begun { OpeningsAreRuns }
-    ensures stepped { StepsKeepRuns }
+/// The initial state, in which all processes have begun, satisfies the invariant, and each legal step preserves it.
+pub fn steps_preserve_invariant()
+    ensures start { StartSatisfiesInvariant }
+    ensures steps { StepsPreserveInvariant }
 {}
 
-/// A refused call leaves the run as it was; each reply tells how many entries its step appended.
-pub fn replies_are_true()
+/// A refused call other than a flush leaves the run unchanged; each reply gives the number of entries that
+/// its step appended.
+pub fn replies_match_entries()
     ensures refused { RefusalsChangeNothing }
-    ensures entries { RepliesTellEntries }
+    ensures entries { RepliesMatchEntries }
 {}
 
-/// A delivery lists its own determinant and what the message carries; a restart lists what survives, in the log of a process
-/// that is up or in stable storage. Neither lists anything else.
-pub fn lists_have_these()
-    ensures delivery { DeliveriesListThese }
-    ensures restart { IfKept RestartsListSurvivors }
+/// A delivery lists exactly its own determinant and what the message carries. A restart lists exactly what survives,
+/// in the log of an up process or in stable storage.
+pub fn entry_lists_are_exact()
+    ensures delivery { DeliveryListsAreExact }
+    ensures restart { OfInvariantRuns RestartListsAreExact }
 {}
 
-/// What an up process knows of who holds a determinant, and of what is stable, is just what its present lane contributed, by its
+/// What an up process knows of holders and marks is exactly what its present lane (incarnation) contributed by its
 /// deliveries, its restart and its flushes, since it last forgot the determinant.
 pub fn knowledge_is_contributed()
     ensures holders { HoldersAreContributed }
     ensures marks { MarksAreContributed }
 {}
 
-/// Each delivery keeps each of the eight facts; so does its refusal.
-pub fn deliveries_keep()
-    ensures few { After IsDelivery FewAreDown }
-    ensures holders { After IsDelivery HoldersHold }
-    ensures named { After IsDelivery NamedHold }
-    ensures marks { After IsDelivery MarksAreTrue }
-    ensures dependents { After IsDelivery DependentsHold }
-    ensures messages { After IsDelivery MessagesCarry }
-    ensures receivers { After IsDelivery ReceiversFind }
-    ensures senders { After IsDelivery SendersFind }
+/// Each delivery, refused or not, preserves each of the eight facts of the invariant.
+pub fn deliveries_preserve_invariant()
+    ensures few { StepsEstablish IsDelivery FewAreDown }
+    ensures holders { StepsEstablish IsDelivery KnownHoldersAreTrue }
+    ensures named { StepsEstablish IsDelivery CarriedHoldersAreTrue }
+    ensures marks { StepsEstablish IsDelivery MarksAreTrue }
+    ensures dependents { StepsEstablish IsDelivery DependentsLog }
+    ensures messages { StepsEstablish IsDelivery MessagesCarry }
+    ensures receivers { StepsEstablish IsDelivery ReceiversHaveSurvivors }
+    ensures senders { StepsEstablish IsDelivery SendersHaveCarried }
 {}
 
-/// Each crash keeps each of the eight facts; so does its refusal.
-pub fn crashes_keep()
-    ensures few { After IsCrash FewAreDown }
-    ensures holders { After IsCrash HoldersHold }
-    ensures named { After IsCrash NamedHold }
-    ensures marks { After IsCrash MarksAreTrue }
-    ensures dependents { After IsCrash DependentsHold }
-    ensures messages { After IsCrash MessagesCarry }
-    ensures receivers { After IsCrash ReceiversFind }
-    ensures senders { After IsCrash SendersFind }
+/// Each crash, refused or not, preserves each of the eight facts of the invariant.
+pub fn crashes_preserve_invariant()
+    ensures few { StepsEstablish IsCrash FewAreDown }
+    ensures holders { StepsEstablish IsCrash KnownHoldersAreTrue }
+    ensures named { StepsEstablish IsCrash CarriedHoldersAreTrue }
+    ensures marks { StepsEstablish IsCrash MarksAreTrue }
+    ensures dependents { StepsEstablish IsCrash DependentsLog }
+    ensures messages { StepsEstablish IsCrash MessagesCarry }
+    ensures receivers { StepsEstablish IsCrash ReceiversHaveSurvivors }
+    ensures senders { StepsEstablish IsCrash SendersHaveCarried }
 {}
 
-/// Each restart keeps each of the eight facts; so does its refusal.
-pub fn restarts_keep()
-    ensures few { After IsRestart FewAreDown }
-    ensures holders { After IsRestart HoldersHold }
-    ensures named { After IsRestart NamedHold }
-    ensures marks { After IsRestart MarksAreTrue }
-    ensures dependents { After IsRestart DependentsHold }
-    ensures messages { After IsRestart MessagesCarry }
-    ensures receivers { After IsRestart ReceiversFind }
-    ensures senders { After IsRestart SendersFind }
+/// Each restart, refused or not, preserves each of the eight facts of the invariant.
+pub fn restarts_preserve_invariant()
+    ensures few { StepsEstablish IsRestart FewAreDown }
+    ensures holders { StepsEstablish IsRestart KnownHoldersAreTrue }
+    ensures named { StepsEstablish IsRestart CarriedHoldersAreTrue }
+    ensures marks { StepsEstablish IsRestart MarksAreTrue }
+    ensures dependents { StepsEstablish IsRestart DependentsLog }
+    ensures messages { StepsEstablish IsRestart MessagesCarry }
+    ensures receivers { StepsEstablish IsRestart ReceiversHaveSurvivors }
+    ensures senders { StepsEstablish IsRestart SendersHaveCarried }
 {}
 
-/// Each flush keeps each of the eight facts; so does its refusal.
-pub fn flushes_keep()
-    ensures few { After IsFlush FewAreDown }
-    ensures holders { After IsFlush HoldersHold }
-    ensures named { After IsFlush NamedHold }
-    ensures marks { After IsFlush MarksAreTrue }
-    ensures dependents { After IsFlush DependentsHold }
-    ensures messages { After IsFlush MessagesCarry }
-    ensures receivers { After IsFlush ReceiversFind }
-    ensures senders { After IsFlush SendersFind }
+/// Each flush, complete, partial or refused, preserves each of the eight facts of the invariant.
+pub fn flushes_preserve_invariant()
+    ensures few { StepsEstablish IsFlush FewAreDown }
+    ensures holders { StepsEstablish IsFlush KnownHoldersAreTrue }
+    ensures named { StepsEstablish IsFlush CarriedHoldersAreTrue }
+    ensures marks { StepsEstablish IsFlush MarksAreTrue }
+    ensures dependents { StepsEstablish IsFlush DependentsLog }
+    ensures messages { StepsEstablish IsFlush MessagesCarry }
+    ensures receivers { StepsEstablish IsFlush ReceiversHaveSurvivors }
+    ensures senders { StepsEstablish IsFlush SendersHaveCarried }
 {}
 
-/// Each forgetting keeps each of the eight facts; so does its refusal.
-pub fn forgettings_keep()
-    ensures few { After IsForgetting FewAreDown }
-    ensures holders { After IsForgetting HoldersHold }
-    ensures named { After IsForgetting NamedHold }
-    ensures marks { After IsForgetting MarksAreTrue }
-    ensures dependents { After IsForgetting DependentsHold }
-    ensures messages { After IsForgetting MessagesCarry }
-    ensures receivers { After IsForgetting ReceiversFind }
-    ensures senders { After IsForgetting SendersFind }
+/// Each forgetting, refused or not, preserves each of the eight facts of the invariant.
+pub fn forgets_preserve_invariant()
+    ensures few { StepsEstablish IsForgetting FewAreDown }
+    ensures holders { StepsEstablish IsForgetting KnownHoldersAreTrue }
+    ensures named { StepsEstablish IsForgetting CarriedHoldersAreTrue }
+    ensures marks { StepsEstablish IsForgetting MarksAreTrue }
+    ensures dependents { StepsEstablish IsForgetting DependentsLog }
+    ensures messages { StepsEstablish IsForgetting MessagesCarry }
+    ensures receivers { StepsEstablish IsForgetting ReceiversHaveSurvivors }
+    ensures senders { StepsEstablish IsForgetting SendersHaveCarried }
 {}

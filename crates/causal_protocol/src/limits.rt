@@ -1,7 +1,7 @@
-//! How long a run that a core makes may be.
+//! Limits on the length of a core's run.
 
 /// The greatest number of entries.
 pub const MAX_ENTRIES: u32 = 65_536;
 
-/// The greatest number of determinants that the entries list in all.
+/// The greatest number of determinants that the entries list in total.
 pub const MAX_LISTED: usize = 1_048_576;

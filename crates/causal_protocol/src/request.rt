@@ -1,23 +1,23 @@
-//! What is asked of the runtime, and what it tells.
+//! Requests to the runtime, and their replies.
 use causal_name::{Det, MsgName, Pid};
 use thiserror::Error;
 
-/// What a caller asks.
+/// A request of a caller.
 #[derive(Clone, Copy, PartialEq, Eq)]
 pub enum Request {
-    /// That `q` delivers the message of that sender and number.
+    /// `q` delivers the message of that sender and number.
     Deliver { q: Pid, source: Pid, ssn: u32 },
-    /// That `p` goes down.
+    /// `p` crashes.
     Crash { p: Pid },
-    /// That `p` comes up again.
+    /// `p` restarts.
     Restart { p: Pid },
-    /// That the determinants that `p` logs and does not know to be stable become stable.
+    /// The determinants that `p` logs and does not know to be stable become stable.
     Flush { p: Pid },
-    /// That `p` takes out of its log what it knows to be stable.
+    /// `p` removes from its log what it knows to be stable.
     Forget { p: Pid },
 }
 
-/// Why the runtime refuses; where several reasons stand, the first in this order is told.
+/// Why the runtime refuses a request. If several reasons hold, the first in this order is returned.
 #[derive(Clone, Copy, Debug, PartialEq, Eq, Error)]
 pub enum CoreFault {
     /// The request names a process that the run does not have.
@@ -29,7 +29,7 @@ pub enum CoreFault {
     /// Only a process that is down restarts.
     #[error("the process is up")]
     NotDown,
-    /// As many processes are down as may be.
+    /// One more down process would exceed the bound f.
     #[error("too many processes would be down")]
     OverFaults,
     /// Another message is named for the process's next delivery.
@@ -41,47 +41,47 @@ pub enum CoreFault {
     /// The process's present lane has delivered the message.
     #[error("the message has been delivered")]
     AlreadyDelivered,
-    /// The trace has no room for what the call may append.
+    /// The call could exceed a limit on the trace.
     #[error("the trace is full")]
     Full,
     /// Stable storage failed.
     #[error("stable storage failed")]
     StoreFault,
-    /// Memory was asked for and refused.
+    /// Allocation failed.
     #[error("no memory")]
     NoMemory,
 }
 
-/// What is told of a delivery.
+/// The result of a delivery.
 #[derive(Clone, Copy, PartialEq, Eq)]
 pub struct Delivered {
     /// The position of the deliver entry.
     pub first: u32,
     /// The delivery's determinant.
     pub det: Det,
-    /// How many send entries follow it.
+    /// How many send entries follow the deliver entry.
     pub sends: u32,
 }
 
-/// What is told of a restart.
+/// The result of a restart.
 #[derive(Clone, Copy, PartialEq, Eq)]
 pub struct Restarted {
     /// The position of the restart entry.
     pub first: u32,
-    /// How many determinants it lists.
+    /// How many determinants the restart entry lists.
     pub listed: u32,
-    /// How many send entries follow it.
+    /// How many send entries follow the restart entry.
     pub sends: u32,
 }
 
-/// Why a flush stopped, and how many determinants were stored and recorded before.
+/// Why a flush stopped, and how many determinants it had stored and recorded before.
 #[derive(Clone, Copy, Debug, PartialEq, Eq)]
 pub struct FlushFault {
     pub fault: CoreFault,
     pub done: u32,
 }
 
-/// What is told of a call.
+/// The reply to a request.
 #[derive(Clone, Copy, PartialEq, Eq)]
 pub enum Reply {
     Delivered(Delivered),
@@ -90,7 +90,8 @@ pub enum Reply {
     Restarted(Restarted),
     /// How many determinants became stable, an entry each.
     Flushed { count: u32 },
-    /// How many determinants were taken out of the log, in one entry; where there were none, there is no entry.
+    /// How many determinants were removed from the log, listed in one entry; if there were none, no entry was
+    /// appended.
     Forgotten { count: u32 },
     Refused(CoreFault),
     FlushRefused(FlushFault),
@@ -98,39 +99,40 @@ pub enum Reply {
 
 impl Reply {
     ghost use Rattle.std.specs.Prelude.{◌≡◌};
-    ghost use Rattle.causal_protocol.specs.Steps.{told_delivery, told_crash, told_restart, told_flush, told_forget};
+    ghost use Rattle.causal_protocol.specs.Steps.{reply_of_delivery, reply_of_crash, reply_of_restart, reply_of_flush, reply_of_forget};
 
-    /// What a delivery that answers so tells.
+    /// Returns the reply of a delivery that returned `answer`.
     pub fn of_delivery(answer: Result<Delivered, CoreFault>) -> Reply
-        ensures { result ≡ told_delivery answer }
+        ensures { result ≡ reply_of_delivery answer }
     {
         answer.map_or_else(Reply::Refused, Reply::Delivered)
     }
 
-    /// What a crash that answers so tells.
+    /// Returns the reply of a crash that returned `answer`.
     pub fn of_crash(answer: Result<u32, CoreFault>) -> Reply
-        ensures { result ≡ told_crash answer }
+        ensures { result ≡ reply_of_crash answer }
     {
         answer.map_or_else(Reply::Refused, |first| Reply::Crashed { first })
     }
 
-    /// What a restart that answers so tells; a refused one hands the spare back beside its fault.
+    /// Returns the reply of a restart that returned `answer`. The error that the runtime returns with a refused
+    /// restart also contains the spare; only its fault is passed here.
     pub fn of_restart(answer: Result<Restarted, CoreFault>) -> Reply
-        ensures { result ≡ told_restart (λ fault. fault) answer }
+        ensures { result ≡ reply_of_restart (λ fault. fault) answer }
     {
         answer.map_or_else(Reply::Refused, Reply::Restarted)
     }
 
-    /// What a flush that answers so tells.
+    /// Returns the reply of a flush that returned `answer`.
     pub fn of_flush(answer: Result<u32, FlushFault>) -> Reply
-        ensures { result ≡ told_flush answer }
+        ensures { result ≡ reply_of_flush answer }
     {
         answer.map_or_else(Reply::FlushRefused, |count| Reply::Flushed { count })
     }
 
-    /// What a forgetting that answers so tells.
+    /// Returns the reply of a forgetting that returned `answer`.
     pub fn of_forget(answer: Result<u32, CoreFault>) -> Reply
-        ensures { result ≡ told_forget answer }
+        ensures { result ≡ reply_of_forget answer }
     {
         answer.map_or_else(Reply::Refused, |count| Reply::Forgotten { count })
     }

@@ -1,2 +1,2 @@
--- What private functions keep; no public clause cites it.
-pub mod Added
+-- Contracts of private functions; no public clause cites them.
+pub mod Appends

@@ -1,21 +1,21 @@
-//! By what entry an instant fails, as text.
+//! The text that names the entry by which an instant fails.
 ghost use Rattle.std.specs.Prelude.{◌≡◌, OnOk};
-ghost use Rattle.causal_report.specs.Inside.Added.{Adds};
-ghost use Rattle.causal_report.specs.Causes.{actor_of, cause_act, cause_line, cause_place};
+ghost use Rattle.causal_report.specs.Inside.Appends.{Appends};
+ghost use Rattle.causal_report.specs.Causes.{actor_of, cause_act, cause_line, cause_fields};
 
 use crate::place::{line_at, line_before};
 use causal_explain::Cause;
 use std::alloc::AllocError;
 
-/// Adds the line of the entry before an instant, by which it fails.
+/// Appends the line of the entry before an instant, by which the instant fails.
 pub(crate) fn push_cause(out: &mut String, instant: u32, cause: Cause) -> Result<(), AllocError>
-    ensures { OnOk result (Adds out.old out.new (cause_line instant cause)) }
+    ensures { OnOk result (Appends out.old out.new (cause_line instant cause)) }
 {
-    push_place(out, instant, actor_of(cause))?;
+    push_cause_fields(out, instant, actor_of(cause))?;
     push_act(out, cause)
 }
 
-/// Whose entry it is.
+/// The process of the entry.
 fn actor_of(cause: Cause) -> u8
     ensures { result ≡ actor_of cause }
 {
@@ -27,16 +27,16 @@ fn actor_of(cause: Cause) -> u8
     }
 }
 
-fn push_place(out: &mut String, instant: u32, process: u8) -> Result<(), AllocError>
-    ensures { OnOk result (Adds out.old out.new (cause_place instant process)) }
+fn push_cause_fields(out: &mut String, instant: u32, process: u8) -> Result<(), AllocError>
+    ensures { OnOk result (Appends out.old out.new (cause_fields instant process)) }
 {
     let line = line_before(instant);
     write!(out, "cause line={line} process={process}")
 }
 
-/// Adds what the entry does.
+/// Appends what the entry does.
 fn push_act(out: &mut String, cause: Cause) -> Result<(), AllocError>
-    ensures { OnOk result (Adds out.old out.new (cause_act cause)) }
+    ensures { OnOk result (Appends out.old out.new (cause_act cause)) }
 {
     match cause {
         Cause::Delivery { process, send } => {

@@ -1,16 +1,17 @@
-//! A chain of dependence, as text.
+//! The text of a chain of dependence.
 ghost use Rattle.std.specs.Prelude.{OnOk};
-ghost use Rattle.causal_report.specs.Inside.Added.{Adds};
+ghost use Rattle.causal_report.specs.Inside.Appends.{Appends};
 ghost use Rattle.causal_report.specs.Chains as chains;
 
-use crate::event::{Event, event_at};
+use crate::event::{ChainEvent, event_at};
 use crate::place::line_at;
 use causal_trace::trace::Trace;
 use std::alloc::AllocError;
 
-/// Adds a line for each event of a chain.
+/// Appends a line for each event of a chain.
 pub(crate) fn push_chain(out: &mut String, trace: &Trace, chain: &[u32]) -> Result<(), AllocError>
-    ensures { OnOk result (Adds out.old out.new (chains.chain_text trace.now.recording chain.now)) }
+    ensures { OnOk result (Appends out.old out.new
+        (chains.chain_text trace.now.recording chain.now)) }
 {
     for position in chain {
         push_event(out, *position, event_at(trace, *position))?;
@@ -18,27 +19,27 @@ pub(crate) fn push_chain(out: &mut String, trace: &Trace, chain: &[u32]) -> Resu
     Ok(())
 }
 
-fn push_event(out: &mut String, position: u32, event: Event) -> Result<(), AllocError>
-    ensures { OnOk result (Adds out.old out.new (chains.chain_line position event)) }
+fn push_event(out: &mut String, position: u32, event: ChainEvent) -> Result<(), AllocError>
+    ensures { OnOk result (Appends out.old out.new (chains.chain_line position event)) }
 {
     let line = line_at(position);
     match event {
-        Event::Send { from, to, ssn } => write!(
+        ChainEvent::Send { from, to, ssn } => write!(
             out,
             "chain line={line} process={from}: process {from} sends message {ssn} to process {to}\n"
         ),
-        Event::Delivery { to, send } => {
+        ChainEvent::Delivery { to, send } => {
             let send = line_at(send);
             write!(
                 out,
                 "chain line={line} process={to}: process {to} delivers what line {send} sends\n"
             )
         }
-        Event::Other => write!(out, "chain line={line}: no event\n"),
+        ChainEvent::Other => write!(out, "chain line={line}: no event\n"),
     }
 }
 
-/// Adds the line that tells after which delivery of a chain its receiver's log lacks the determinant of the one at `delivery`.
+/// Appends the line of the chain's first delivery after which the receiver's log lacks the determinant of `delivery`.
 pub(crate) fn push_unlisted(
     out: &mut String,
     trace: &Trace,
@@ -46,7 +47,7 @@ pub(crate) fn push_unlisted(
     unlisted: Option<u32>,
 ) -> Result<(), AllocError>
     ensures { OnOk result
-        (Adds out.old out.new (chains.unlisted_text trace.now.recording delivery unlisted)) }
+        (Appends out.old out.new (chains.unlisted_text trace.now.recording delivery unlisted)) }
 {
     let Some(position) = unlisted else {
         return write!(
@@ -55,7 +56,7 @@ pub(crate) fn push_unlisted(
         );
     };
     match event_at(trace, position) {
-        Event::Delivery { to, send } => {
+        ChainEvent::Delivery { to, send } => {
             push_lacking(
                 out,
                 line_at(position),
@@ -68,7 +69,7 @@ pub(crate) fn push_unlisted(
     }
 }
 
-/// Adds the line of a delivery after which its receiver's log lacks its own determinant, or that of another one.
+/// Appends the line of a delivery after which the receiver's log lacks the delivery's own determinant, or another one.
 fn push_lacking(
     out: &mut String,
     line: u64,
@@ -76,22 +77,27 @@ fn push_lacking(
     to: u8,
     is_own: bool,
 ) -> Result<(), AllocError>
-    ensures { OnOk result (Adds out.old out.new (chains.delivery_line line send to is_own)) }
+    ensures { OnOk result (Appends out.old out.new (chains.delivery_line line send to is_own)) }
 {
-    push_place(out, line, send, to)?;
-    push_lack(out, send, to, is_own)
+    push_lacking_fields(out, line, send, to)?;
+    push_missing_sentence(out, send, to, is_own)
 }
 
-#[tactic(auto, unfolding(crate::specs::Chains::delivery_place))]
-fn push_place(out: &mut String, line: u64, send: u64, to: u8) -> Result<(), AllocError>
-    ensures { OnOk result (Adds out.old out.new (chains.delivery_place line send to)) }
+#[tactic(auto, unfolding(crate::specs::Chains::lacking_fields))]
+fn push_lacking_fields(out: &mut String, line: u64, send: u64, to: u8) -> Result<(), AllocError>
+    ensures { OnOk result (Appends out.old out.new (chains.lacking_fields line send to)) }
 {
     write!(out, "unlisted line={line} send={send} process={to}: ")
 }
 
-#[tactic(auto, unfolding(crate::specs::Chains::lack))]
-fn push_lack(out: &mut String, send: u64, to: u8, is_own: bool) -> Result<(), AllocError>
-    ensures { OnOk result (Adds out.old out.new (chains.lack send to is_own)) }
+#[tactic(auto, unfolding(crate::specs::Chains::missing_sentence))]
+fn push_missing_sentence(
+    out: &mut String,
+    send: u64,
+    to: u8,
+    is_own: bool,
+) -> Result<(), AllocError>
+    ensures { OnOk result (Appends out.old out.new (chains.missing_sentence send to is_own)) }
 {
     if is_own {
         write!(
@@ -108,7 +114,7 @@ fn push_lack(out: &mut String, send: u64, to: u8, is_own: bool) -> Result<(), Al
 
 #[tactic(auto, unfolding(crate::specs::Chains::no_delivery_line))]
 fn push_no_delivery(out: &mut String, line: u64) -> Result<(), AllocError>
-    ensures { OnOk result (Adds out.old out.new (chains.no_delivery_line line)) }
+    ensures { OnOk result (Appends out.old out.new (chains.no_delivery_line line)) }
 {
     write!(out, "unlisted line={line}: no delivery\n")
 }

@@ -1,7 +1,7 @@
-//! Which delivery comes closest to failing, as text.
+//! The text that names the delivery which comes closest to having an orphan.
 ghost use Rattle.std.specs.Prelude.{◌≡◌, OnOk, IfOk};
-ghost use Rattle.causal_report.specs.Inside.Added.{Adds};
-ghost use Rattle.causal_report.specs.Closest as told;
+ghost use Rattle.causal_report.specs.Inside.Appends.{Appends};
+ghost use Rattle.causal_report.specs.Closest as closest_words;
 
 use crate::place::{line_at, line_before};
 use causal_audit::Breach;
@@ -9,13 +9,13 @@ use causal_explain::Closest;
 use causal_name::NoMemory;
 use std::alloc::{AllocError, Global};
 
-/// A line that tells which delivery of a run comes closest to failing: for how many faults, the lines of the delivery
-/// and of the last entry before the instant, and the orphan; or that none ever fails.
+/// Formats a line on the delivery that comes closest to having an orphan: the lowest bound f for which it has one, the
+/// lines of the delivery and of the last entry before the instant, and the orphan; or that no delivery ever has one.
 ///
 /// # Errors
-/// `NoMemory` where memory was refused.
+/// `NoMemory` if allocation failed.
 pub fn closest_text(alloc: Global, closest: Closest) -> Result<Vec<u8>, NoMemory>
-    ensures { IfOk result (λ text. text.items ≡ told.closest_text closest) }
+    ensures { IfOk result (λ text. text.items ≡ closest_words.closest_text closest) }
 {
     let mut out = String::new(alloc);
     push_closest(&mut out, closest)?;
@@ -23,7 +23,7 @@ pub fn closest_text(alloc: Global, closest: Closest) -> Result<Vec<u8>, NoMemory
 }
 
 fn push_closest(out: &mut String, closest: Closest) -> Result<(), AllocError>
-    ensures { OnOk result (Adds out.old out.new (told.closest_text closest)) }
+    ensures { OnOk result (Appends out.old out.new (closest_words.closest_text closest)) }
 {
     match closest {
         Closest::Never => write!(
@@ -35,14 +35,15 @@ fn push_closest(out: &mut String, closest: Closest) -> Result<(), AllocError>
 }
 
 fn push_failure(out: &mut String, faults: u16, breach: &Breach) -> Result<(), AllocError>
-    ensures { OnOk result (Adds out.old out.new (told.failure_line faults breach.now)) }
+    ensures { OnOk result (Appends out.old out.new (closest_words.failure_line faults breach.now)) }
 {
-    push_words(out, faults, breach)?;
+    push_failure_fields(out, faults, breach)?;
     push_sentence(out, faults, breach)
 }
 
-fn push_words(out: &mut String, faults: u16, breach: &Breach) -> Result<(), AllocError>
-    ensures { OnOk result (Adds out.old out.new (told.failure_words faults breach.now)) }
+fn push_failure_fields(out: &mut String, faults: u16, breach: &Breach) -> Result<(), AllocError>
+    ensures { OnOk result (Appends out.old out.new
+        (closest_words.failure_fields faults breach.now)) }
 {
     let line = line_at(breach.delivery);
     let last = line_before(breach.instant);
@@ -54,7 +55,8 @@ fn push_words(out: &mut String, faults: u16, breach: &Breach) -> Result<(), Allo
 }
 
 fn push_sentence(out: &mut String, faults: u16, breach: &Breach) -> Result<(), AllocError>
-    ensures { OnOk result (Adds out.old out.new (told.failure_sentence faults breach.now)) }
+    ensures { OnOk result (Appends out.old out.new
+        (closest_words.failure_sentence faults breach.now)) }
 {
     let line = line_at(breach.delivery);
     let orphan = breach.orphan;

@@ -12,25 +12,25 @@ use causal_picture::{Focus, Orphan, picture_of};
 use causal_trace::trace::Trace;
 use std::alloc::Global;
 
-fn with(mut members: Holders, process: u8) -> Holders
+fn insert_process(mut members: Holders, process: u8) -> Holders
     ensures { result ≡ set.insert members process }
 {
     members.insert(process);
     members
 }
 
-/// The processes that hold a determinant, as a set.
+/// The set of the processes that hold a determinant.
 fn holders_of(holdings: &[Holding]) -> Holders
     ensures { result ≡ holders_of holdings.now }
 {
     holdings.iter().fold(
         Holders::none(),
-        |members, holding| with(members, holding.process),
+        |members, holding| insert_process(members, holding.process),
     )
 }
 
-/// The diagram of a delivery that has an orphan: the chain by which that comes to depend on it, the crash set, those
-/// that hold the determinant, and the instant.
+/// The diagram of a delivery with an orphan: the chain to the orphan, the crash set, the holders of the determinant,
+/// and the instant.
 fn breach_drawing(
     alloc: Global,
     trace: &Trace,
@@ -56,14 +56,14 @@ fn breach_drawing(
     picture_of(alloc, trace, f, Some(&focus))
 }
 
-/// The space-time diagram of a trace with its verdict for f, as the text of a picture in SVG: where more than f processes
-/// are down, these and the instant; where a delivery has an orphan, the chain by which the orphan comes to depend on it,
-/// the crash set, those that hold the determinant, and the instant; the run alone where it is accepted.
+/// Draws the space-time diagram of a trace with its verdict for f, in SVG. For an excess it shows the down processes
+/// and the instant; for an orphan, a shortest chain from the delivery to it, the crash set, the holders of the
+/// determinant and the instant; if the verdict is accept, the run alone.
 ///
-/// It takes time as the entries and the determinants that they list.
+/// O(entries + listed determinants) time.
 ///
 /// # Errors
-/// `NoMemory` where memory was refused.
+/// `NoMemory` if allocation failed.
 pub fn drawing_of(
     alloc: Global,
     trace: &Trace,

@@ -1,4 +1,4 @@
-//! What an entry of a trace does as an event.
+//! The event of a trace entry.
 ghost use Rattle.std.specs.Prelude.{◌≡◌};
 ghost use Rattle.causal_report.specs.Events.{event_at};
 
@@ -6,19 +6,19 @@ use causal_name::Pid;
 use causal_trace::entry::Entry;
 use causal_trace::trace::Trace;
 
-/// What an entry does as an event: events are sends and deliveries.
+/// The event of an entry; events are sends and deliveries.
 #[derive(Clone, Copy)]
-pub(crate) enum Event {
+pub(crate) enum ChainEvent {
     /// `from` sends its message number `ssn` to `to`.
     Send { from: u8, to: u8, ssn: u32 },
-    /// `to` delivers what the entry at the position `send` sends.
+    /// `to` delivers the message of the entry at the position `send`.
     Delivery { to: u8, send: u32 },
-    /// It is no event, or no entry.
+    /// The entry is not an event, or does not exist.
     Other,
 }
 
 /// The event at a position.
-pub(crate) fn event_at(trace: &Trace, position: u32) -> Event
+pub(crate) fn event_at(trace: &Trace, position: u32) -> ChainEvent
     ensures { result ≡ event_at trace.now.recording position }
 {
     match trace.entry(position) {
@@ -28,7 +28,7 @@ pub(crate) fn event_at(trace: &Trace, position: u32) -> Event
                 to: Pid(to),
                 ssn,
             },
-        ) => Event::Send {
+        ) => ChainEvent::Send {
             from: *from,
             to: *to,
             ssn: *ssn,
@@ -39,10 +39,10 @@ pub(crate) fn event_at(trace: &Trace, position: u32) -> Event
                 send,
                 ..
             },
-        ) => Event::Delivery {
+        ) => ChainEvent::Delivery {
             to: *to,
             send: *send,
         },
-        _ => Event::Other,
+        _ => ChainEvent::Other,
     }
 }

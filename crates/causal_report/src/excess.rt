@@ -1,36 +1,35 @@
-//! How too many processes come to be down, as text.
+//! The text of an excess: the crash that exceeded f, and the down processes.
 ghost use Rattle.std.specs.Prelude.{◌≡◌, OnOk, IfOk};
-ghost use Rattle.causal_report.specs.Inside.Added.{Adds};
+ghost use Rattle.causal_report.specs.Inside.Appends.{Appends};
 ghost use Rattle.causal_report.specs.Excesses.{down_line, downs_text, excess_text};
 
 use crate::cause::push_cause;
 use crate::place::line_at;
-use causal_explain::{Cause, Down};
+use causal_explain::{Cause, DownProcess};
 use causal_name::NoMemory;
 use std::alloc::{AllocError, Global};
 
-/// How too many processes come to be down at an instant: the crash that was one too many, and a line for each process that
-/// is down, in their order, with the line of the trace since which it is.
+/// Formats the crash that exceeded f, and a line for each down process, in list order, with the line of its crash.
 ///
 /// # Errors
-/// `NoMemory` where memory was refused.
+/// `NoMemory` if allocation failed.
 pub fn excess_text(
     alloc: Global,
     instant: u32,
     cause: Cause,
-    down: &[Down],
+    down: &[DownProcess],
 ) -> Result<Vec<u8>, NoMemory>
     ensures { IfOk result (λ text. text.items ≡ excess_text instant cause down.now) }
 {
     let mut out = String::new(alloc);
     push_cause(&mut out, instant, cause)?;
-    push_downs(&mut out, down)?;
+    push_down_processes(&mut out, down)?;
     Ok(out.into_bytes())
 }
 
-/// Adds a line for each process that is down.
-pub(crate) fn push_downs(out: &mut String, downs: &[Down]) -> Result<(), AllocError>
-    ensures { OnOk result (Adds out.old out.new (downs_text downs.now)) }
+/// Appends a line for each down process.
+pub(crate) fn push_down_processes(out: &mut String, downs: &[DownProcess]) -> Result<(), AllocError>
+    ensures { OnOk result (Appends out.old out.new (downs_text downs.now)) }
 {
     for down in downs {
         push_down(out, down)?;
@@ -38,8 +37,8 @@ pub(crate) fn push_downs(out: &mut String, downs: &[Down]) -> Result<(), AllocEr
     Ok(())
 }
 
-fn push_down(out: &mut String, down: &Down) -> Result<(), AllocError>
-    ensures { OnOk result (Adds out.old out.new (down_line down.now)) }
+fn push_down(out: &mut String, down: &DownProcess) -> Result<(), AllocError>
+    ensures { OnOk result (Appends out.old out.new (down_line down.now)) }
 {
     let (process, line) = (down.process, line_at(down.since));
     write!(

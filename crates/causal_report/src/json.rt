@@ -1,13 +1,14 @@
-//! Answers whose lines are fields, as JSON: each object says what the lines say, but for their sentences.
+//! JSON objects of printed lines, without their sentences.
 //!
-//! A line is a word, fields `key=value` behind a space each and, behind a colon, a sentence for people. [`verdict_object`] is for the
-//! lines of a verdict and its reason or of a fault, [`ranges_object`] for those of the numbers of faults.
+//! A line is a word, fields `key=value`, each after a space, and after a colon a sentence for people.
+//! [`verdict_object`] takes the lines of a verdict with its reason, or of an error; [`ranges_object`] those of the
+//! ranges of f.
 
-/// The member of an object that a field makes.
+/// The member for a field.
 mod member;
-/// The objects of answers.
+/// The objects for a command's output.
 mod object;
-/// The parts of a text.
+/// Splitting of a text.
 mod parts;
 
 pub use object::{ranges_object, verdict_object};

@@ -1,34 +1,35 @@
-//! Why a verdict on a recorded run is so: as text, one fact a line, with the lines of the trace's text, and as a picture.
+//! Explanations of a verdict on a recorded run: as text, one fact a line, with the lines of the trace's text; as JSON;
+//! and as a picture.
 //!
-//! Begin at [`reason_text`] and [`drawing_of`]. The text is that of [`explanation_text`] for a delivery that has an orphan,
-//! that of [`excess_text`] for too many processes that are down, and that of [`closest_text`] for a trace that is accepted; each
-//! takes time and memory as its text is long. [`verdict_object`] and [`ranges_object`] say the same as JSON.
+//! Begin at [`reason_text`] and [`drawing_of`]. [`reason_text`] returns [`explanation_text`] for an orphan,
+//! [`excess_text`] if too many processes are down, and [`closest_text`] for an accepted trace; each of the last three
+//! needs time and memory linear in its text. [`verdict_object`] and [`ranges_object`] format the same lines as JSON.
 #![tactic(auto)]
 
-/// By what entry an instant fails, as text.
+/// The text that names the entry by which an instant fails.
 mod cause;
-/// A chain of dependence, as text.
+/// The text of a chain of dependence.
 mod chain;
-/// Which delivery comes closest to failing, as text.
+/// The text that names the delivery which comes closest to having an orphan.
 pub mod closest;
 /// The space-time diagram of a trace, with its verdict.
 pub mod drawing;
-/// What an entry of a trace does as an event.
+/// The event of a trace entry.
 mod event;
-/// How too many processes come to be down, as text.
+/// The text of an excess.
 pub mod excess;
-/// How a delivery comes to have an orphan, as text.
-pub mod explained;
-/// Answers whose lines are fields, as JSON: each object says what the lines say, but for their sentences.
+/// The text that explains how a delivery gets an orphan.
+pub mod explanation;
+/// JSON objects of printed lines, without their sentences.
 mod json;
-/// Where an entry stands in the text of its trace.
+/// The line of an entry in its trace's text.
 mod place;
-/// Why a verdict on a trace is so, as text.
+/// The text that explains a verdict on a trace.
 pub mod reason;
 
 pub use closest::closest_text;
 pub use drawing::drawing_of;
 pub use excess::excess_text;
-pub use explained::explanation_text;
+pub use explanation::explanation_text;
 pub use json::{ranges_object, verdict_object};
 pub use reason::{line_with_reason, reason_text};

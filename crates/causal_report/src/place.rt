@@ -1,4 +1,4 @@
-//! Where an entry stands in the text of its trace. Lines count from 1, and the first is the header.
+//! The line of an entry in its trace's text. Lines count from 1; line 1 is the header.
 ghost use Rattle.std.specs.Prelude.{◌≡◌};
 ghost use Rattle.causal_report.specs.Places.{line_at, line_before};
 
@@ -9,7 +9,7 @@ pub(crate) fn line_at(position: u32) -> u64
     u64::from(position) + 2
 }
 
-/// The line of the last entry before an instant; the header's where there is none.
+/// The line of the last entry before an instant; the header's if there is none.
 pub(crate) fn line_before(instant: u32) -> u64
     ensures { result ≡ line_before instant }
 {

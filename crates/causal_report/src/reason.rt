@@ -1,21 +1,21 @@
-//! Why a verdict on a trace is so, as text.
+//! The text that explains a verdict on a trace.
 ghost use Rattle.std.specs.Prelude.{◌≡◌, ◌++◌, ℕ, List, IfOk};
 ghost use Rattle.causal_audit.specs.Verdicts.{IsVerdict};
 ghost use Rattle.causal_report.specs.Reasons.{IsReason};
 
 use crate::closest::closest_text;
 use crate::excess::excess_text;
-use crate::explained::explanation_text;
+use crate::explanation::explanation_text;
 use causal_audit::Verdict;
 use causal_explain::{cause_of, closest_failure, down_since, explain};
 use causal_name::NoMemory;
 use causal_trace::trace::Trace;
 use std::alloc::Global;
 
-/// The line of the verdict on a trace for f, and below it what tells why it is so: [`reason_text`].
+/// Appends [`reason_text`] to the line of the verdict on a trace for f.
 ///
 /// # Errors
-/// `NoMemory` where memory was refused.
+/// `NoMemory` if allocation failed.
 pub fn line_with_reason(
     alloc: Global,
     line: Vec<u8>,
@@ -33,13 +33,13 @@ pub fn line_with_reason(
     Ok(text)
 }
 
-/// What tells why the verdict on a trace for f is so: of more than f processes that are down the crash that was one too many,
-/// and each of them with the line since which it is; of a delivery with an orphan by what entry and how it comes to have it;
-/// of a trace that is accepted which delivery comes closest to failing, and so for which greater numbers of faults it would be
+/// Formats the explanation of the verdict on a trace for f. For an excess: the crash that exceeded f, and each down
+/// process with the line of its crash. For an orphan: the entry that caused it, and its explanation. For an accepted
+/// trace: the delivery that comes closest to having an orphan, and so the greater bounds f for which the trace is
 /// accepted.
 ///
 /// # Errors
-/// `NoMemory` where memory was refused.
+/// `NoMemory` if allocation failed.
 pub fn reason_text(
     alloc: Global,
     trace: &Trace,

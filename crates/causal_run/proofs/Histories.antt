@@ -1,4 +1,4 @@
--- A legal history whose items tell that commands were done is a run of the commands.
+-- A legal history whose items show that the commands were performed is a run of the commands.
 use Rattle.std.proofs.Common.{◌≡◌, ◌<◌, ◌-◌, ◌∙◌, sym, refl, ap, ap₂, subst, ℕ, zero, suc, true, List, [], ◌∷◌, ◌++◌, length, get_or, slice_set, arith}
 use Rattle.std.specs.Prelude.{◌==◌, All}
 use Rattle.std.proofs.lemmas.Bool.Decides.{nat_tests}
@@ -14,44 +14,44 @@ use Rattle.causal_protocol.specs.Steps.{Steps}
 use Rattle.causal_core.specs.CoreView.{CoreState}
 use Rattle.causal_core.specs.Starts.{Starts}
 use Rattle.causal_shared.specs.declared.item.Item.{Item}
-use Rattle.causal_shared.specs.History.{instant, shortened, cut, since, IsStep, AllLegal, opening_in, items_of}
+use Rattle.causal_shared.specs.History.{run_length, drop_newest, run_at, entries_since, IsCallStep, AllLegal, opening_in, items_of}
 use Rattle.causal_shared.specs.Shared.{Opening, opening_from}
-use Rattle.causal_shared.specs.Seat.{SeatState}
-use Rattle.causal_shared.specs.Finish.{Agrees, AllSeated, before_items}
+use Rattle.causal_shared.specs.Seat.{SeatMemory}
+use Rattle.causal_shared.specs.Finish.{HasSeatHistory, AllHaveSeats, before_items}
 use Rattle.causal_script.specs.declared.script.Command.{Command}
 use Rattle.causal_run.specs.declared.fault.RunFault.{RunFault}
 use Rattle.causal_run.specs.declared.fault.RunFault.TheVariants as Fault
-use Rattle.causal_run.specs.Runs.{Does, Performs, IsStarted, IsRunFrom, IsRefusedFrom, Tells}
-use Rattle.causal_run.specs.Inside.Asking.{IsDone, AreDone, IsStopped, IsStoppedAt}
+use Rattle.causal_run.specs.Runs.{PerformsOne, Performs, IsStarted, IsRunFrom, IsRefusedFrom, ExplainsRunFault}
+use Rattle.causal_run.specs.Inside.IssuedRequests.{IsPerformed, ArePerformed, IsRefusedRun, IsRefusedRunAt}
 use Rattle.causal_run.proofs.Refusals.{stands}
 
-cut-end : (r : Run) → cut r (instant r) ≡ r
-unfolding cut
-cut-end r = let none : instant r - instant r ≡ 0 = omega arith in ap (λ k. shortened k r) none
+cut-end : (r : Run) → run_at r (run_length r) ≡ r
+unfolding run_at
+cut-end r = let none : run_length r - run_length r ≡ 0 = omega arith in ap (λ k. drop_newest k r) none
 
-Does-item : (old new : Run) (command : Command) (item : Item) → IsDone command item → IsStep old item.request item.reply new → Does old command new
+Does-item : (old new : Run) (command : Command) (item : Item) → IsPerformed command item → IsCallStep old item.request item.reply new → PerformsOne old command new
 Does-item old new command item done step =
-    (item.reply, done.1, subst (λ (request : Request). Steps old request item.reply new) done.0 record { appended = since (instant old) new; grown = step.grown; legal = step.legal })
+    (item.reply, done.1, subst (λ (request : Request). Steps old request item.reply new) done.0 record { appended = entries_since (run_length old) new; grown = step.grown; legal = step.legal })
 
-pub performed : (r : Run) (commands : List Command) (items : List Item) → AllLegal r items → AreDone commands items → Performs (opening_in r items) commands r
+pub performed : (r : Run) (commands : List Command) (items : List Item) → AllLegal r items → ArePerformed commands items → Performs (opening_in r items) commands r
 performed r [] [] legal done = cut-end r
 performed r [] (item ∷ items) legal done = absurd done
 performed r (command ∷ commands) [] legal done = absurd done
 performed r (command ∷ commands) (item ∷ items) legal done =
-    (opening_in r items, Does-item (cut r item.first) (opening_in r items) command item done.0 legal.1, performed r commands items legal.2 done.1)
+    (opening_in r items, Does-item (run_at r item.first) (opening_in r items) command item done.0 legal.1, performed r commands items legal.2 done.1)
 
--- the same up to the last item
-pub performed-before : (r : Run) (commands : List Command) (items : List Item) (last : Item) → AllLegal r (items ++ last ∷ []) → AreDone commands items
-    → Performs (opening_in r (items ++ last ∷ [])) commands (cut r last.first) × IsStep (cut r last.first) last.request last.reply (cut r (instant r))
+-- the items before the last perform the commands, and the last item is a legal step from there
+pub performed-before : (r : Run) (commands : List Command) (items : List Item) (last : Item) → AllLegal r (items ++ last ∷ []) → ArePerformed commands items
+    → Performs (opening_in r (items ++ last ∷ [])) commands (run_at r last.first) × IsCallStep (run_at r last.first) last.request last.reply (run_at r (run_length r))
 performed-before r [] [] last legal done = (refl, legal.1)
 performed-before r [] (item ∷ items) last legal done = absurd done
 performed-before r (command ∷ commands) [] last legal done = absurd done
 performed-before r (command ∷ commands) (item ∷ items) last legal done =
     let rest = performed-before r commands items last legal.2 done.1 in
-    ((opening_in r (items ++ last ∷ []), Does-item (cut r item.first) (opening_in r (items ++ last ∷ [])) command item done.0 legal.1, rest.0), rest.1)
+    ((opening_in r (items ++ last ∷ []), Does-item (run_at r item.first) (opening_in r (items ++ last ∷ [])) command item done.0 legal.1, rest.0), rest.1)
 
-faults-cut : (r : Run) (n : ℕ) → (cut r n).faults ≡ r.faults
-unfolding cut
+faults-cut : (r : Run) (n : ℕ) → (run_at r n).faults ≡ r.faults
+unfolding run_at
 faults-cut r n = refl
 
 module _ {B : Type 0} (answers : B → List Input → List (List Outgoing)) where
@@ -65,9 +65,9 @@ module _ {B : Type 0} (answers : B → List Input → List (List Outgoing)) wher
     faults = faults-cut r _ ∙ (ap (λ (o : Opening). o.faults) opens ∙ ap (λ (run : Run). run.faults) starts.run);
   }
 
-  -- a legal history from a start, in which all commands were done, is a run of them
+  -- a legal history from a start, in which all commands were performed, is a run of them
   pub run-of : (f : ℕ) (boxes : List B) (commands : List Command) (core : CoreState B) (r : Run) (items : List Item) (recording : Recording) → Starts answers f boxes core
-      → before_items r items ≡ opening_from core.run.recording core.run.faults → AllLegal r items → AreDone commands items → recording ≡ r.recording
+      → before_items r items ≡ opening_from core.run.recording core.run.faults → AllLegal r items → ArePerformed commands items → recording ≡ r.recording
       → IsRunFrom (IsStarted answers f boxes) commands recording
   run-of f boxes commands core r items recording starts opens legal done recorded = record {
     start = opening_in r items;
@@ -78,45 +78,45 @@ module _ {B : Type 0} (answers : B → List Input → List (List Outgoing)) wher
   }
 
   pub refused-at : (f : ℕ) (boxes : List B) (commands : List Command) (core : CoreState B) (r : Run) (items : List Item) (line : ℕ) (fault : CoreFault) → Starts answers f boxes core
-      → before_items r items ≡ opening_from core.run.recording core.run.faults → AllLegal r items → IsStoppedAt commands items line fault
+      → before_items r items ≡ opening_from core.run.recording core.run.faults → AllLegal r items → IsRefusedRunAt commands items line fault
       → IsRefusedFrom (IsStarted answers f boxes) commands line fault
   refused-at f boxes commands core r items line fault starts opens legal stopped =
-      let all : AllLegal r (stopped.done ++ stopped.last ∷ []) = subst (AllLegal r) stopped.told legal in
-      let both = performed-before r stopped.before stopped.done stopped.last all stopped.each in record {
+      let all : AllLegal r (stopped.performed ++ stopped.last ∷ []) = subst (AllLegal r) stopped.all_items legal in
+      let both = performed-before r stopped.before stopped.performed stopped.last all stopped.each in record {
         before = stopped.before;
         command = stopped.command;
         after = stopped.after;
         split = stopped.split;
         here = stopped.here;
         start = opening_in r items;
-        end = cut r stopped.last.first;
+        end = run_at r stopped.last.first;
         started = started f boxes core r items starts opens;
-        performed = subst (λ (is : List Item). Performs (opening_in r is) stopped.before (cut r stopped.last.first)) (sym stopped.told) both.0;
-        refused = stands (cut r stopped.last.first) (cut r (instant r)) stopped.last stopped.command fault both.1 stopped.request stopped.refused stopped.known;
+        performed = subst (λ (is : List Item). Performs (opening_in r is) stopped.before (run_at r stopped.last.first)) (sym stopped.all_items) both.0;
+        refused = stands (run_at r stopped.last.first) (run_at r (run_length r)) stopped.last stopped.command fault both.1 stopped.request stopped.refused stopped.known;
       }
 
-  -- where a legal history from a start stopped, its fault is true of the commands
+  -- if a legal history from a start ends with an error, the error is true of the commands
   pub refused-as : (f : ℕ) (boxes : List B) (commands : List Command) (core : CoreState B) (r : Run) (items : List Item) (fault : RunFault) → Starts answers f boxes core
-      → before_items r items ≡ opening_from core.run.recording core.run.faults → AllLegal r items → IsStopped commands items fault
-      → Tells (IsStarted answers f boxes) commands fault
+      → before_items r items ≡ opening_from core.run.recording core.run.faults → AllLegal r items → IsRefusedRun commands items fault
+      → ExplainsRunFault (IsStarted answers f boxes) commands fault
   refused-as f boxes commands core r items (Fault.Refused line fault) starts opens legal stopped = refused-at f boxes commands core r items line fault starts opens legal stopped
   refused-as f boxes commands core r items Fault.Memory starts opens legal stopped = tt
   refused-as f boxes commands core r items Fault.Lock starts opens legal stopped = tt
   refused-as f boxes commands core r items (Fault.Finish fault) starts opens legal stopped = tt
 
-  -- a run is safe for the failures for which its core started
+  -- a run is safe for the bound f with which its core started
   pub safe-as : (f : ℕ) (boxes : List B) (core : CoreState B) (r : Run) (items : List Item) (recording : Recording) → Starts answers f boxes core
       → before_items r items ≡ opening_from core.run.recording core.run.faults → IsSafeRun r → recording ≡ r.recording → IsSafeTrace recording f
   safe-as f boxes core r items recording starts opens safe recorded =
       let few : r.faults ≡ f = ap (λ (o : Opening). o.faults) opens ∙ ap (λ (run : Run). run.faults) starts.run in
       rw recorded (subst (IsSafeTrace r.recording) few safe)
 
--- the opening of a shared runtime is that of the core that it was handed
+-- a new shared runtime has the initial state of the core that it was given
 pub opened-as : (r : Run) (items : List Item) (opening : Opening) (run : Run) → before_items r items ≡ opening → opening.recording ≡ run.recording → opening.faults ≡ run.faults → before_items r items ≡ opening_from run.recording run.faults
 opened-as r items opening run is recording faults = is ∙ ap₂ opening_from recording faults
 
-seat-of : (s x : SeatState) (item : Item) (k : ℕ) → k < 1 → get_or (s ∷ []) k x ≡ x → x.sitting.number ≡ item.seat → s.sitting.number ≡ item.seat
-seat-of s x item zero lt is here = ap (λ (s : SeatState). s.sitting.number) is ∙ here
+seat-of : (s x : SeatMemory) (item : Item) (k : ℕ) → k < 1 → get_or (s ∷ []) k x ≡ x → x.view.number ≡ item.seat → s.view.number ≡ item.seat
+seat-of s x item zero lt is here = ap (λ (s : SeatMemory). s.view.number) is ∙ here
 seat-of s x item (suc k) lt is here = absurd (omega arith)
 
 all-of : (n : ℕ) (items : List Item) → ((k : ℕ) (d : Item) → k < length items → n ≡ (get_or items k d).seat) → items_of n items ≡ items
@@ -127,14 +127,14 @@ all-of n (item ∷ items) each =
     let same : (item.seat == n) ≡ true = grind (arith, nat_tests) in
     rw same (ap (λ (is : List Item). item ∷ is) rest)
 
--- where all items are of one seat, the seat's own list is the history
-pub one-seat : (history : List Item) (seats : List SeatState) (s : SeatState) → seats ≡ s ∷ [] → All (Agrees history) seats → AllSeated seats history → s.sitting.items ≡ history
+-- if all items are of one seat, the seat's own list is the history
+pub one-seat : (history : List Item) (seats : List SeatMemory) (s : SeatMemory) → seats ≡ s ∷ [] → All (HasSeatHistory history) seats → AllHaveSeats seats history → s.view.items ≡ history
 one-seat history seats s is agree seated =
-    let agrees : All (Agrees history) (s ∷ []) = subst (All (Agrees history)) is agree in
-    let all : AllSeated (s ∷ []) history = subst (λ (ss : List SeatState). AllSeated ss history) is seated in
-    sym (agrees 0 s (omega arith)) ∙ all-of s.sitting.number history (λ k d lt. let h = (all.each k d lt).seat in seat-of s h.1 (get_or history k d) h.0 h.2 h.3 h.4)
+    let agrees : All (HasSeatHistory history) (s ∷ []) = subst (All (HasSeatHistory history)) is agree in
+    let all : AllHaveSeats (s ∷ []) history = subst (λ (ss : List SeatMemory). AllHaveSeats ss history) is seated in
+    sym (agrees 0 s (omega arith)) ∙ all-of s.view.number history (λ k d lt. let h = (all.each k d lt).seat in seat-of s h.1 (get_or history k d) h.0 h.2 h.3 h.4)
 
--- to set the only element of a list leaves just what it was set to
+-- setting the only element of a list leaves exactly the new element
 pub set-one : {X : Type 0} (xs : List X) (x : X) → length xs ≡ 1 → slice_set xs 0 x ≡ x ∷ []
 set-one [] x is = absurd (omega (arith, is))
 set-one (y ∷ []) x is = refl

@@ -1,4 +1,4 @@
--- Boxes of a trait object that were all made of values of one type, so that there is one vtable.
+-- Boxes of a trait object that were all made of values of one type, so they share one vtable.
 use Rattle.std.proofs.Common.{◌≡◌, ◌∙◌, ◌⊎◌, inl, inr, sym}
 use Rattle.std.specs.declared.dyn_box.DynBox.{DynBox}
 use base.Stored.{Gv}

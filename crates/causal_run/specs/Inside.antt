@@ -1,3 +1,3 @@
--- What private functions keep; no public clause cites it.
-pub mod Asking
-pub mod MembersKept
+-- Definitions of private contracts; no public clause uses them.
+pub mod IssuedRequests
+pub mod ScriptProcessLaws

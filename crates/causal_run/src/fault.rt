@@ -1,6 +1,6 @@
-//! Why a script's run gives no trace.
+//! The error of a script's run.
 ghost use Rattle.std.specs.Prelude.{◌≡◌};
-ghost use Rattle.causal_run.specs.declared.fault.RunFault.TheVariants as told;
+ghost use Rattle.causal_run.specs.declared.fault.RunFault.TheVariants as run_fault;
 
 use causal_core::StartFault;
 use causal_name::NoMemory;
@@ -9,16 +9,16 @@ use causal_shared::fault::FinishFault;
 use std::alloc::AllocFailed;
 use thiserror::Error;
 
-/// Why a script's run gives no trace.
+/// Why a script's run returned no trace.
 #[derive(Clone, Copy, PartialEq, Eq, Debug, Error)]
 pub enum RunFault {
-    /// The command of this line was refused; for a flush that stopped part way, with the fault at which it stopped.
+    /// The command of this line was refused; for a flush that failed before it finished, with the fault that ended it.
     #[error("line {line} is refused: {fault}")]
     Refused { line: u32, fault: CoreFault },
-    /// Memory was asked for and refused.
+    /// Allocation failed.
     #[error("no memory")]
     Memory,
-    /// The shared runtime took the seat for another one's, or its history is full.
+    /// The shared runtime rejected the call: the seat belongs to another runtime, or the history is full.
     #[error("the shared runtime did not take the call")]
     Lock,
     /// The shared runtime could not be finished.
@@ -27,7 +27,7 @@ pub enum RunFault {
 }
 
 impl<T: Drop> From<AllocFailed<T>> for RunFault {
-    ghost from_gives = { λ fault gives. gives ≡ told.Memory };
+    ghost from_gives = { λ fault gives. gives ≡ run_fault.Memory };
 
     fn from(_refused: AllocFailed<T>) -> RunFault {
         RunFault::Memory
@@ -35,16 +35,16 @@ impl<T: Drop> From<AllocFailed<T>> for RunFault {
 }
 
 impl From<NoMemory> for RunFault {
-    ghost from_gives = { λ fault gives. gives ≡ told.Memory };
+    ghost from_gives = { λ fault gives. gives ≡ run_fault.Memory };
 
     fn from(_fault: NoMemory) -> RunFault {
         RunFault::Memory
     }
 }
 
-/// A core of as many boxes as a run may have processes, over an empty store, is refused for want of memory alone.
+/// `Core::start` fails only with `NoMemory` here: a run has 1 to 256 processes, and the store is empty.
 impl From<StartFault> for RunFault {
-    ghost from_gives = { λ fault gives. gives ≡ told.Memory };
+    ghost from_gives = { λ fault gives. gives ≡ run_fault.Memory };
 
     fn from(_fault: StartFault) -> RunFault {
         RunFault::Memory
@@ -52,7 +52,7 @@ impl From<StartFault> for RunFault {
 }
 
 impl From<FinishFault> for RunFault {
-    ghost from_gives = { λ fault gives. gives ≡ told.Finish fault };
+    ghost from_gives = { λ fault gives. gives ≡ run_fault.Finish fault };
 
     fn from(fault: FinishFault) -> RunFault {
         RunFault::Finish(fault)

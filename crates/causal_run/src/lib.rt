@@ -1,20 +1,20 @@
-//! A script, run through the shared runtime by one seat.
+//! Runs a script through the shared runtime, by one seat.
 //!
-//! Begin at [`run_script`], which makes the script's own processes and answers the trace of the run, or a [`RunFault`].
-//! [`perform`] does the same with processes and spares that it is handed.
+//! Start at [`run_script`], which makes the script's own processes and returns the trace of the run, or a [`RunFault`].
+//! [`perform`] does the same with processes and spares that the caller passes.
 #![tactic(auto)]
 
-/// Why a script's run gives no trace.
+/// The error of a script's run.
 mod fault;
 /// The processes of a script.
-mod member;
-/// A script's commands, asked for in their order by one seat.
-mod performing;
-/// A script run by processes of its kind.
-mod scripted;
-/// What a run tells of a call that was not done.
-mod stopping;
+mod script_process;
+/// A script's commands, issued in order by one seat.
+mod script_commands;
+/// A script, run by processes of its kind.
+mod script_run;
+/// The run's error for a call that failed.
+mod run_refusals;
 
 pub use fault::RunFault;
-pub use performing::perform;
-pub use scripted::run_script;
+pub use script_commands::perform;
+pub use script_run::run_script;

@@ -1,5 +1,5 @@
-//! What is told between a crash and the end of its replay, faults of memory and of stores, and the limit on entries, on cores of the
-//! kinds of process that come with the runtime.
+//! Recovery from crash to end of replay, failures of allocation and of stores, and the limit on entries, on cores of
+//! the runtime's process kinds.
 use crate::failing::FailingStore;
 use crate::runtime::*;
 use causal_core::{Core, CoreFault, Delivered, FlushFault, Reply, Restarted, StartFault};
@@ -7,15 +7,17 @@ use causal_log::MemStable;
 use causal_name::{NoMemory, Pid};
 use std::alloc::Global;
 
-/// How a core begins or does not, and what is left where memory or the store failed.
+/// Entries of a trace in short form.
+mod entries;
+/// The start of a core, and its state after a failed allocation or write.
 mod faults;
-/// What is told between a crash and the end of its replay.
+/// Recovery from crash to end of replay.
 mod recovery;
 
-/// Cores here have a store that may fail, also where it never does, so that one function owns all of them.
+/// All cores here have a store that may fail, so that one function owns all of them.
 type Runtime = Core<FailingStore>;
 
-/// A store that never fails, and that has failed so often.
+/// A store that never fails, with this count of failures so far.
 fn steady(alloc: Global, failures: u64) -> FailingStore {
     FailingStore {
         store: MemStable::new(alloc),
@@ -33,12 +35,14 @@ fn ring_with(alloc: Global, second: Result<Boxed, NoMemory>) -> Result<Vec<Boxed
     Ok(boxes)
 }
 
-/// What happens on a core.
+/// A test case on a core.
 #[derive(Clone, Copy)]
 enum Scene {
     ReplayOfFive,
     ReplayThatStops,
     ReplayThatWaits,
+    ReplayOfATally,
+    DeliveredTwice,
     SpareThatComesBack,
     DeliveryMadeAgain,
     FlushMadeAgain,
@@ -47,7 +51,7 @@ enum Scene {
 }
 
 impl Scene {
-    /// How many may fail.
+    /// The failure bound.
     fn faults(self) -> u16 {
         match self {
             Scene::ReplayThatStops | Scene::ReplayThatWaits => 2,
@@ -60,11 +64,13 @@ impl Scene {
         match self {
             Scene::ReplayOfFive => processes(alloc, Kind::Ring(9), 1),
             Scene::ReplayThatWaits => processes(alloc, Kind::Ring(9), 3),
-            Scene::ReplayThatStops | Scene::SpareThatComesBack => {
+            Scene::ReplayThatStops | Scene::DeliveredTwice | Scene::SpareThatComesBack => {
                 processes(alloc, Kind::Ring(2), 3)
             }
             Scene::DeliveryMadeAgain => faults::refusing_ring(alloc, 1),
-            Scene::FlushMadeAgain | Scene::FlushOfAWearyStore => processes(alloc, Kind::Tally, 3),
+            Scene::ReplayOfATally | Scene::FlushMadeAgain | Scene::FlushOfAWearyStore => {
+                processes(alloc, Kind::Tally, 3)
+            }
             Scene::Flood => processes(alloc, Kind::Flood, 1),
         }
     }
@@ -82,6 +88,8 @@ impl Scene {
             Scene::ReplayOfFive => recovery::makes_five(alloc, core),
             Scene::ReplayThatStops => recovery::stops(alloc, core),
             Scene::ReplayThatWaits => recovery::waits_for_the_sender(alloc, core),
+            Scene::ReplayOfATally => recovery::tally_replays(alloc, core),
+            Scene::DeliveredTwice => recovery::refuses_second(alloc, core),
             Scene::SpareThatComesBack => faults::spare_comes_back(alloc, core),
             Scene::DeliveryMadeAgain => faults::delivers_again(alloc, core),
             Scene::FlushMadeAgain => faults::flushes_again(alloc, core),
@@ -90,26 +98,28 @@ impl Scene {
         }
     }
 
-    fn begun(self, alloc: Global) -> Result<Runtime, StartFault> {
+    fn start_core(self, alloc: Global) -> Result<Runtime, StartFault> {
         match self.processes(alloc) {
             Ok(boxes) => Core::start(alloc, self.faults(), boxes, self.store(alloc)),
             Err(NoMemory) => Err(StartFault::NoMemory),
         }
     }
 
-    /// Whether all is answered, shown and recorded as it has to be.
+    /// Returns whether all results, states and entries are as expected.
     fn is_right(self, alloc: Global) -> bool {
-        match self.begun(alloc) {
+        match self.start_core(alloc) {
             Ok(mut core) => self.is_right_on(alloc, &mut core),
             Err(_) => false,
         }
     }
 }
 
-const SCENES: [Scene; 8] = [
+const SCENES: [Scene; 10] = [
     Scene::ReplayOfFive,
     Scene::ReplayThatStops,
     Scene::ReplayThatWaits,
+    Scene::ReplayOfATally,
+    Scene::DeliveredTwice,
     Scene::SpareThatComesBack,
     Scene::DeliveryMadeAgain,
     Scene::FlushMadeAgain,
@@ -118,52 +128,52 @@ const SCENES: [Scene; 8] = [
 ];
 
 #[test]
-fn scenes_are_right(rt: HostRuntime) {
+fn core_scenes(rt: HostRuntime) {
     for (number, scene) in SCENES.iter().enumerate() {
         assert!(rt; scene.is_right(rt.alloc()), "scene {number}");
     }
 }
 
-/// A call of a core, with its numbers in their order; a restart is by a process of a ring of three, or of one, with so many hops.
+/// A call of a core, with its arguments in order. A restart is by a process of that kind.
 #[derive(Clone, Copy)]
 enum Call {
     Deliver(u8, u8, u32),
     Crash(u8),
-    Restart(u8, u8),
+    Restart(u8, Kind),
     Flush(u8),
 }
 
-fn restarted(core: &mut Runtime, p: u8, spare: Boxed) -> Reply {
+fn restart(core: &mut Runtime, p: u8, spare: Boxed) -> Reply {
     match core.restart(Pid(p), spare) {
         Ok(restarted) => Reply::Restarted(restarted),
         Err(refused) => Reply::Refused(refused.fault),
     }
 }
 
-/// A restart by a new process of a ring.
-fn restarted_by(alloc: Global, core: &mut Runtime, p: u8, hops: u8) -> Option<Reply> {
-    match process(alloc, Kind::Ring(hops), core.trace().processes(), p) {
-        Ok(spare) => Some(restarted(core, p, spare)),
+/// Restarts p with a new process of a kind.
+fn restarted_by(alloc: Global, core: &mut Runtime, p: u8, kind: Kind) -> Option<Reply> {
+    match process(alloc, kind, core.trace().processes(), p) {
+        Ok(spare) => Some(restart(core, p, spare)),
         Err(NoMemory) => None,
     }
 }
 
-/// Makes one call, and tells the answer.
-fn asked(alloc: Global, core: &mut Runtime, call: Call) -> Option<Reply> {
+/// Performs one call and returns its result.
+fn call_core(alloc: Global, core: &mut Runtime, call: Call) -> Option<Reply> {
     match call {
         Call::Deliver(q, source, ssn) => {
             let answer = core.deliver(Pid(q), Pid(source), ssn);
             Some(Reply::of_delivery(answer))
         }
         Call::Crash(p) => Some(Reply::of_crash(core.crash(Pid(p)))),
-        Call::Restart(p, hops) => restarted_by(alloc, core, p, hops),
+        Call::Restart(p, kind) => restarted_by(alloc, core, p, kind),
         Call::Flush(p) => Some(Reply::of_flush(core.flush(Pid(p)))),
     }
 }
 
-/// What a call answers, with its numbers in their order; `Stopped` is a flush that wrote so many determinants.
+/// The expected result of a call, with its values in order; `Stopped` is a flush that wrote that many determinants.
 #[derive(Clone, Copy)]
-enum Answer {
+enum ExpectedReply {
     Delivered(u32, Fields, u32),
     Crashed(u32),
     Restarted(u32, u32, u32),
@@ -172,42 +182,43 @@ enum Answer {
     Stopped(CoreFault, u32),
 }
 
-impl Answer {
+impl ExpectedReply {
     fn reply(self) -> Reply {
         match self {
-            Answer::Delivered(first, fields, sends) => Reply::Delivered(Delivered {
+            ExpectedReply::Delivered(first, fields, sends) => Reply::Delivered(Delivered {
                 first,
                 det: det(fields),
                 sends,
             }),
-            Answer::Crashed(first) => Reply::Crashed { first },
-            Answer::Restarted(first, listed, sends) => Reply::Restarted(Restarted {
+            ExpectedReply::Crashed(first) => Reply::Crashed { first },
+            ExpectedReply::Restarted(first, listed, sends) => Reply::Restarted(Restarted {
                 first,
                 listed,
                 sends,
             }),
-            Answer::Flushed(count) => Reply::Flushed { count },
-            Answer::Refused(fault) => Reply::Refused(fault),
-            Answer::Stopped(fault, done) => Reply::FlushRefused(FlushFault { fault, done }),
+            ExpectedReply::Flushed(count) => Reply::Flushed { count },
+            ExpectedReply::Refused(fault) => Reply::Refused(fault),
+            ExpectedReply::Stopped(fault, done) => Reply::FlushRefused(FlushFault { fault, done }),
         }
     }
 }
 
-/// Whether calls that are made one after the other are answered so.
-fn are_answered(alloc: Global, core: &mut Runtime, calls: &[(Call, Answer)]) -> bool {
+/// Returns whether the calls, performed in order, return these results.
+fn are_answered(alloc: Global, core: &mut Runtime, calls: &[(Call, ExpectedReply)]) -> bool {
     for (call, answer) in calls {
-        if asked(alloc, core, *call) != Some(answer.reply()) {
+        if call_core(alloc, core, *call) != Some(answer.reply()) {
             return false;
         }
     }
     true
 }
 
-/// Whether a restart of p is refused for that fault, and one of `then`, by the spare that came back, is answered so.
+/// Returns whether a restart of p is refused with that error, and a restart of `then` with the returned spare has this
+/// result.
 fn gives_back(
     core: &mut Runtime,
     (p, fault): (u8, CoreFault),
-    (then, answer): (u8, Answer),
+    (then, answer): (u8, ExpectedReply),
     spare: Result<Boxed, NoMemory>,
 ) -> bool {
     let Ok(spare) = spare else {
@@ -216,21 +227,21 @@ fn gives_back(
     match core.restart(Pid(p), spare) {
         Ok(_) => false,
         Err(refused) => {
-            refused.fault == fault && restarted(core, then, refused.spare) == answer.reply()
+            refused.fault == fault && restart(core, then, refused.spare) == answer.reply()
         }
     }
 }
 
-/// Whether a trace runs full, of a process that answers each message by eight. Its beginning records eight entries, and each delivery
-/// nine: no ninth entry is left after 7,280. That a run ends there, and after so many restarts, are rows for the built program
-/// (`examples/commands/`).
+/// Returns whether a trace fills up, with a process that answers each message by eight. Its start records eight
+/// entries, each delivery nine; after 7,280 deliveries the ninth entry does not fit. That a run ends there, and after
+/// the maximum number of restarts, are rows for the built program (`examples/commands/`).
 fn fills(core: &mut Runtime) -> bool {
     are_delivered(core, 7_280)
         && core.deliver(Pid(0), Pid(0), 7_280).err() == Some(CoreFault::Full)
         && core.trace().len() == 65_528
 }
 
-/// Whether so many deliveries to process 0 of its own messages are made, in their order.
+/// Returns whether `count` deliveries to process 0 of its own messages succeed, in order.
 fn are_delivered(core: &mut Runtime, count: u32) -> bool {
     for ssn in 0..count {
         if core.deliver(Pid(0), Pid(0), ssn).is_err() {

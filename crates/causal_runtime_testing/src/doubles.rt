@@ -1,12 +1,13 @@
-//! Processes for tests: one that sends all that it may, and one whose memory is refused once.
+//! Processes for tests: one that sends as much as it may, one whose messages are as long as they may be, and one that
+//! returns `NoMemory` once.
 ghost use Rattle.std.specs.Prelude.{◌≡◌, [], map, replicate};
-ghost use Rattle.causal_process.specs.LawsKept.{map_each, map_in_order};
+ghost use Rattle.causal_process.specs.ReactionLaws.{map_each, map_in_order};
 
 use causal_name::{NoMemory, Pid};
 use causal_process::{Body, Input, Outgoing, Process};
 use std::alloc::Global;
 
-/// Answers every input by eight empty messages to itself.
+/// Returns eight empty messages to itself for each input.
 #[derive(Drop)]
 pub struct Flood {
     pub me: Pid,
@@ -44,7 +45,7 @@ impl Process for Flood {
     ghost in_order = { λ it. map_in_order (λ input. replicate 8 (record { to = it.me; body = [] })) };
 }
 
-/// Reacts as the process inside, but answers once that memory was refused, after so many steps.
+/// Reacts as the process inside, but returns `NoMemory` once, after a number of steps.
 #[derive(Drop)]
 pub struct Refusing<P> {
     pub inner: P,

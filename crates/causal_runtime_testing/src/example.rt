@@ -1,13 +1,13 @@
-//! The process of the documentation of `causal_process`, compiled and proved.
+//! The process from the documentation of `causal_process`, compiled and proved.
 ghost use Rattle.causal_process.specs.Inside.Example.{count_after, numbering_reaction};
-ghost use Rattle.causal_process.specs.LawsKept.{from_each, from_in_order};
+ghost use Rattle.causal_process.specs.ReactionLaws.{from_each, from_in_order};
 ghost use Rattle.causal_process.specs.Reactions.{answers_from};
 
 use causal_name::NoMemory;
 use causal_process::{Body, Input, Outgoing, Process};
 use std::alloc::Global;
 
-/// Tells each sender which number its message has.
+/// Sends to each sender the number of its message.
 #[derive(Drop)]
 pub struct Numbering {
     pub count: u8,

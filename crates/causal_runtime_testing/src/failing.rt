@@ -9,16 +9,16 @@ use std::alloc::Global;
 /// Stable storage in memory whose device fails once.
 #[derive(Drop)]
 pub struct FailingStore {
-    /// What it has stored.
+    /// The stored determinants.
     pub store: MemStable,
-    /// How many determinants it still takes before the fault; none, and it takes all.
+    /// The number of determinants that it accepts before the failure; if None, it accepts all.
     pub before_fault: Option<u64>,
-    /// How many faults there have been.
+    /// The number of failures so far.
     pub failures: u64,
 }
 
 impl FailingStore {
-    /// With no member. Its device takes this many determinants, fails at the next one, and takes all from then on.
+    /// An empty store. Its device accepts `before_fault` determinants, fails at the next one, and then accepts all.
     pub fn new(alloc: Global, before_fault: u64) -> FailingStore
         ensures { result ≡
             record { store = fin.empty; before_fault = Some before_fault; failures = 0 } }

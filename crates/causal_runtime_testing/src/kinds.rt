@@ -1,17 +1,17 @@
-//! What the kinds of process answer, and the process of the documentation, on values worked out by hand. That a counted process is
-//! dropped once is seen on a core (`cores`).
+//! The outputs of the process kinds and of the documented process, on hand-computed values. Drops of a counted process
+//! are tested on a core (`cores`).
 use crate::runtime::{Kind, process};
 use causal_name::{NoMemory, Pid};
 use causal_process::{Body, Input, Outgoing, Process};
 use std::alloc::Global;
 
-/// A process and the bytes of a message that comes from it or goes to it; None for a beginning, or for no message.
+/// A sender or receiver and the bytes of its message; None for the start, or for no message.
 type Told = Option<(u8, &'static [u8])>;
 
-/// Process `me` of n of a kind, and what it answers to each of these in turn.
+/// Process `me` of n of a kind, and its expected output for each of these inputs in turn.
 type Case = (Kind, u16, u8, &'static [(Told, Told)]);
 
-// 255 + 255 + 3 is twice 256 and 1 more.
+// 255 + 255 + 3 is twice 256 plus 1.
 const CASES: [Case; 11] = [
     (
         Kind::Ring(2),
@@ -101,7 +101,7 @@ fn input(alloc: Global, given: Told) -> Result<Input, NoMemory> {
     })
 }
 
-/// Whether these are just the sends that are expected.
+/// Returns whether the sends are exactly the expected ones.
 fn are_expected(sends: &[Outgoing], expected: Told) -> bool {
     match (sends, expected) {
         ([], None) => true,
@@ -110,8 +110,8 @@ fn are_expected(sends: &[Outgoing], expected: Told) -> bool {
     }
 }
 
-/// Whether a process answers each of these in turn as is said beside it. Where memory is refused it is asked a second time, and
-/// has to answer as if it had been asked once.
+/// Returns whether a process gives the expected output for each input in turn. After `NoMemory` the same input is given
+/// again and must have the output of a single step.
 fn answers(alloc: Global, (kind, n, me, rows): Case) -> Result<bool, NoMemory> {
     let mut process = process(alloc, kind, n, me)?;
     for (given, expected) in rows {

@@ -1,30 +1,31 @@
-//! The tests of the runtime, as a crate that stands on it sees it: a proof of its tests proves none of the runtime again.
+//! Tests of the runtime, in a crate of their own: proving these tests does not prove the runtime again.
 #![tactic(auto)]
 
-/// What is told of cores: recovery, faults of memory and of stores, and the limit on entries.
+/// Cores: recovery, failures of allocation and of stores, the longest body, and the limit on entries.
 #[cfg(test)]
 mod cores;
-/// Processes for tests: one that sends all that it may, and one whose memory is refused once.
+/// Processes for tests: one that sends as much as it may, one with the longest messages, and one that returns
+/// `NoMemory` once.
 #[cfg(test)]
 mod doubles;
-/// The process of the documentation of `causal_process`, compiled and proved.
+/// The process from the documentation of `causal_process`, compiled and proved.
 #[cfg(test)]
 mod example;
 /// Stable storage whose device fails once.
 #[cfg(test)]
 mod failing;
-/// What the kinds of process answer.
+/// The outputs of the process kinds.
 #[cfg(test)]
 mod kinds;
-/// Each call once, on values worked out by hand: logs and the batches that they choose, and the store in memory.
+/// Logs, their batches, and the store in memory: each call once, on hand-computed values.
 #[cfg(test)]
 mod logs;
-/// Numbers that look random, and are the same each time.
+/// Reproducible pseudorandom numbers.
 #[cfg(test)]
 mod numbers;
-/// The processes with which tests begin a core, or a runtime that is shared, and determinants written short.
+/// The processes that start a core or a shared runtime in tests, and determinants in short form.
 #[cfg(test)]
 mod runtime;
-/// Seats on threads of their own, calls that were worked out by hand, random calls, and a history that is full.
+/// Seats on their own threads, hand-computed calls, random calls, and a full history.
 #[cfg(test)]
 mod seats;

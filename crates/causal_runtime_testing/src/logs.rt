@@ -1,14 +1,14 @@
-//! Each call once, on values worked out by hand: logs and the batches that they choose, and the store in memory.
+//! Logs, their batches, and the store in memory: each call once, on hand-computed values.
 use crate::runtime::{Fields, det, name};
 use causal_holders::Holders;
 use causal_log::{Batch, Item, Known, Log, MemStable, Stable};
 use causal_name::{Det, Pid, Slot};
 use std::alloc::Global;
 
-/// The first message from 0 to 1, the first that 1 delivers.
+/// The first message from 0 to 1, which is the first that 1 delivers.
 const FIRST: Fields = (0, 0, 1, 0);
 
-/// A message from 2 to 1, of the same slot as the first.
+/// A message from 2 to 1, with the same slot as the first.
 const RIVAL: Fields = (2, 0, 1, 0);
 
 /// A message from 2 to 0.
@@ -29,7 +29,7 @@ fn item(fields: Fields, processes: &[u8]) -> Item {
     }
 }
 
-/// Whether a log has these entries in this order, and no further one.
+/// Returns whether a log has exactly these entries in this order.
 fn shows(log: &Log, entries: &[(Fields, Known)]) -> bool {
     let mut place: u32 = 0;
     for (fields, known) in entries {
@@ -41,7 +41,7 @@ fn shows(log: &Log, entries: &[(Fields, Known)]) -> bool {
     log.len() == place && log.at(place).is_none()
 }
 
-/// Whether a log chooses just these items where so many may fail.
+/// Returns whether a log chooses exactly these items for failure bound f.
 fn chooses(alloc: Global, log: &Log, f: u16, items: &[Item]) -> bool {
     match log.choose(alloc, f) {
         Ok(batch) => batch.as_slice() == items,
@@ -49,7 +49,7 @@ fn chooses(alloc: Global, log: &Log, f: u16, items: &[Item]) -> bool {
     }
 }
 
-/// Whether the determinants of a log, or the stable ones of these, are just those.
+/// Returns whether the log's determinants, or the stable ones among them, are exactly these.
 fn lists(alloc: Global, log: &Log, stable: bool, dets: &[Det]) -> bool {
     let listed = if stable {
         log.stable_dets(alloc)
@@ -62,8 +62,9 @@ fn lists(alloc: Global, log: &Log, stable: bool, dets: &[Det]) -> bool {
     }
 }
 
-/// Whether process 1 logs two deliveries of one slot, for which the lesser message is named, and tells both, ascending.
-fn tells(alloc: Global, log: &mut Log) -> bool {
+/// Returns whether process 1 logs two deliveries of one slot, for which the lesser message is named, and sends both in
+/// ascending order.
+fn logs_two_deliveries(alloc: Global, log: &mut Log) -> bool {
     log.add_own(det(RIVAL), Pid(1)).is_ok()
         && log.add_own(det(FIRST), Pid(1)).is_ok()
         && log.for_slot(Pid(1), 0) == Some(name(0, 0))
@@ -72,16 +73,16 @@ fn tells(alloc: Global, log: &mut Log) -> bool {
         && chooses(alloc, log, 1, &[item(FIRST, &[1]), item(RIVAL, &[1])])
 }
 
-fn hears(alloc: Global, log: &mut Log, teller: &Log) -> bool {
+fn absorbs_batch(alloc: Global, log: &mut Log, teller: &Log) -> bool {
     match teller.choose(alloc, 1) {
         Ok(batch) => log.absorb(&batch, Pid(1), Pid(2)).is_ok(),
         Err(_) => false,
     }
 }
 
-/// Whether what was heard is known to be held by both, is passed on where both may fail, and not once it is stable; and what a log
-/// lacks is not marked.
-fn is_heard(alloc: Global, log: &mut Log) -> bool {
+/// Returns whether the received determinants have both holders, are in the batch for f = 2 but not once they are
+/// stable; and a missing determinant is not marked.
+fn is_absorbed(alloc: Global, log: &mut Log) -> bool {
     log.known(det(FIRST)) == Some(known_by(&[1, 2], false))
         && chooses(alloc, log, 1, &[])
         && chooses(alloc, log, 2, &[item(FIRST, &[1, 2]), item(RIVAL, &[1, 2])])
@@ -90,8 +91,8 @@ fn is_heard(alloc: Global, log: &mut Log) -> bool {
         && chooses(alloc, log, 2, &[item(RIVAL, &[1, 2])])
 }
 
-/// Whether what is stable from the start is known by its reader and not told, and a log and its copy show all in order, also once
-/// process 1's is united with it.
+/// Returns whether the log and its copy have the expected entries after the union with process 1's log. A determinant
+/// that is stable from the start must have its reader as a holder, and must not be in the batch.
 fn is_united(alloc: Global, log: &mut Log, teller: &Log) -> bool {
     let shown = [
         (FIRST, known_by(&[1, 2], true)),
@@ -108,7 +109,7 @@ fn is_united(alloc: Global, log: &mut Log, teller: &Log) -> bool {
         }
 }
 
-/// Whether a log lists its determinants and the stable ones of these, and drops just the stable ones.
+/// Returns whether a log lists its determinants and the stable ones among them, and drops exactly the stable ones.
 fn drops_stable(alloc: Global, log: &mut Log) -> bool {
     lists(alloc, log, false, &[det(FIRST), det(OTHER), det(RIVAL)])
         && lists(alloc, log, true, &[det(FIRST), det(OTHER)])
@@ -117,48 +118,79 @@ fn drops_stable(alloc: Global, log: &mut Log) -> bool {
         && lists(alloc, log, false, &[det(RIVAL)])
 }
 
-/// Whether process 2 hears what process 1 tells.
-fn is_told(alloc: Global, teller: &Log) -> bool {
+/// Returns whether a log of process 1's own determinant and a log of it with holder 2 and a mark each have both holders
+/// and the mark after the union with the other.
+fn is_united_both_ways(alloc: Global, own: &mut Log, marked: &mut Log) -> bool {
+    let united = [(FIRST, known_by(&[1, 2], true))];
+    let Ok(copy) = own.try_clone() else {
+        return false;
+    };
+    own.union_from(marked).is_ok()
+        && shows(own, &united)
+        && marked.union_from(&copy).is_ok()
+        && shows(marked, &united)
+        && chooses(alloc, own, 9, &[])
+}
+
+/// Returns whether that holds of two new logs.
+fn unites_both_ways(alloc: Global) -> bool {
+    let mut own = Log::new(alloc);
+    let mut marked = Log::new(alloc);
+    own.add_own(det(FIRST), Pid(1)).is_ok()
+        && marked.add_stable(det(FIRST), Pid(2)).is_ok()
+        && shows(&own, &[(FIRST, known_by(&[1], false))])
+        && shows(&marked, &[(FIRST, known_by(&[2], true))])
+        && is_united_both_ways(alloc, &mut own, &mut marked)
+}
+
+#[test]
+fn union_marks_both_ways(rt: HostRuntime) {
+    assert!(rt; unites_both_ways(rt.alloc()));
+}
+
+/// Returns whether process 2 records the batch of process 1.
+fn passes_to_process_2(alloc: Global, teller: &Log) -> bool {
     let mut log = Log::new(alloc);
-    hears(alloc, &mut log, teller)
-        && is_heard(alloc, &mut log)
+    absorbs_batch(alloc, &mut log, teller)
+        && is_absorbed(alloc, &mut log)
         && is_united(alloc, &mut log, teller)
         && drops_stable(alloc, &mut log)
 }
 
 #[test]
-fn what_one_process_logs_another_hears(rt: HostRuntime) {
+fn batches_carry_knowledge(rt: HostRuntime) {
     let mut log = Log::new(rt.alloc());
-    assert!(rt; tells(rt.alloc(), &mut log) && is_told(rt.alloc(), &log));
+    assert!(rt; logs_two_deliveries(rt.alloc(), &mut log) && passes_to_process_2(rt.alloc(), &log));
 }
 
-/// The first message from 1 to 2, the first that 2 delivers.
+/// The first message from 1 to 2, which is the first that 2 delivers.
 const OWN: Fields = (1, 0, 2, 0);
 
-/// Whether messages carry just these items once process 2 has delivered what process 1 tells, where two may fail.
+/// Returns whether messages carry exactly these items for f = 2 after process 2 has delivered a message with this
+/// batch.
 fn would_carry(alloc: Global, log: &Log, told: &Batch, items: &[Item]) -> bool {
-    match log.choose_grown(alloc, told, det(OWN), Pid(1), Pid(2), 2) {
+    match log.choose_after_delivery(alloc, told, det(OWN), Pid(1), Pid(2), 2) {
         Ok(next) => next.as_slice() == items,
         Err(_) => false,
     }
 }
 
-/// Whether a log takes in that delivery, in room made before, and keeps what messages carry then.
+/// Returns whether a log adds that delivery in reserved capacity, and stores the batch of later messages.
 fn grows(alloc: Global, log: &mut Log, told: &Batch) -> bool {
     let own = det(OWN);
-    let Ok(next) = log.choose_grown(alloc, told, own, Pid(1), Pid(2), 2) else {
+    let Ok(next) = log.choose_after_delivery(alloc, told, own, Pid(1), Pid(2), 2) else {
         return false;
     };
     if told.as_slice().len() != 2 || log.reserve(3).is_err() {
         return false;
     }
-    log.grow(told, own, Pid(1), Pid(2));
-    log.carry(2, next);
+    log.apply_delivery(told, own, Pid(1), Pid(2));
+    log.cache_batch(2, next);
     true
 }
 
-/// Whether a log of three determinants, none of them stable, tells them.
-fn tells_three(alloc: Global, log: &mut Log) -> bool {
+/// Returns whether a log of three determinants, none of them stable, returns them.
+fn lists_three(alloc: Global, log: &mut Log) -> bool {
     let unstable = match log.unstable_dets(alloc) {
         Ok(dets) => dets.as_slice() == [det(FIRST), det(OWN), det(RIVAL)].as_slice(),
         Err(_) => false,
@@ -166,13 +198,13 @@ fn tells_three(alloc: Global, log: &mut Log) -> bool {
     unstable
         && log.unstable_len() == 3
         && log.stable_len() == 0
-        && log.unordered().len() == 3
+        && log.entries_unordered().len() == 3
         && log.sort().is_ok()
         && log.at(1) == Some((det(OWN), known_by(&[2], false)))
 }
 
-/// Whether process 2 takes in what process 1 tells as a runtime does, and messages carry what was worked out before: its sender's and
-/// its own where two may fail, also of the same delivery in a replay, and its own where one may.
+/// Returns whether process 2 delivers a message with this batch as a runtime does, and later messages carry the planned
+/// batch: the sender's items and its own for f = 2, also after a replay of the delivery, and only its own for f = 1.
 fn is_delivered(alloc: Global, told: &Batch) -> bool {
     let carried = [item(FIRST, &[1, 2]), item(OWN, &[2]), item(RIVAL, &[1, 2])];
     let mut log = Log::new(alloc);
@@ -182,10 +214,10 @@ fn is_delivered(alloc: Global, told: &Batch) -> bool {
         && chooses(alloc, &log, 2, &carried)
         && would_carry(alloc, &log, told, &carried)
         && chooses(alloc, &log, 1, &[item(OWN, &[2])])
-        && tells_three(alloc, &mut log)
+        && lists_three(alloc, &mut log)
 }
 
-/// Whether what process 1 tells names its own determinants alone, and is delivered.
+/// Returns whether the batch of process 1 contains its own determinants only, and is delivered.
 fn is_carried(alloc: Global, teller: &Log) -> bool {
     match teller.choose(alloc, 1) {
         Ok(told) => {
@@ -198,12 +230,12 @@ fn is_carried(alloc: Global, teller: &Log) -> bool {
 }
 
 #[test]
-fn what_a_delivery_brings(rt: HostRuntime) {
+fn delivery_updates_log(rt: HostRuntime) {
     let mut log = Log::new(rt.alloc());
-    assert!(rt; tells(rt.alloc(), &mut log) && is_carried(rt.alloc(), &log));
+    assert!(rt; logs_two_deliveries(rt.alloc(), &mut log) && is_carried(rt.alloc(), &log));
 }
 
-/// The slot of the first message that 1 delivers, and the next.
+/// The slots of the first two messages that 1 delivers.
 const SLOTS: [Slot; 2] = [
     Slot {
         dest: Pid(1),
@@ -215,7 +247,7 @@ const SLOTS: [Slot; 2] = [
     },
 ];
 
-/// Whether a store has just these members, by its interface alone.
+/// Returns whether a store has exactly these members, by its interface alone.
 fn stores(alloc: Global, store: &MemStable, dets: &[Det]) -> bool {
     match store.all(alloc) {
         Ok(all) => all.as_slice() == dets && store.len() == dets.len() as u64,
@@ -223,7 +255,8 @@ fn stores(alloc: Global, store: &MemStable, dets: &[Det]) -> bool {
     }
 }
 
-/// Whether a store takes a determinant twice, which is one member, and then its rival, and names the lesser for their slot.
+/// Returns whether a store accepts a determinant twice as one member, then its rival, and names the lesser for their
+/// slot.
 fn takes_both(alloc: Global, store: &mut MemStable) -> bool {
     store.put(det(RIVAL)).is_ok()
         && store.put(det(RIVAL)).is_ok()

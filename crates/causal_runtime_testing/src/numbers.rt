@@ -1,14 +1,14 @@
-//! Numbers that look random, and are the same each time.
+//! Reproducible pseudorandom numbers.
 ghost use Rattle.std.specs.Prelude.{◌<◌};
 
-/// A walk over numbers: each seed has its own.
+/// A generator; its state is the seed.
 #[derive(Clone, Copy)]
 pub struct Numbers {
     pub state: u64,
 }
 
 impl Numbers {
-    /// The next number below the bound, which is above 0 (Knuth's linear congruence, MMIX).
+    /// The next number below the bound, which must be positive (Knuth's linear congruential generator, MMIX).
     pub fn below(&mut self, bound: u32) -> u32
         requires { 0 < bound }
         ensures { result < bound }

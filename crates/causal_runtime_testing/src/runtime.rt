@@ -1,4 +1,4 @@
-//! The processes with which tests begin a core, or a runtime that is shared, and determinants written short.
+//! The processes that start a core or a shared runtime in tests, and determinants in short form.
 use crate::doubles::{Flood, Refusing};
 use crate::example::Numbering;
 use causal_name::{Det, MsgName, NoMemory, Pid};
@@ -7,11 +7,11 @@ use std::alloc::Global;
 
 pub(crate) type Boxed = Box<dyn Process + Send>;
 
-/// Sender, send sequence number, receiver and receive sequence number.
+/// Source, ssn, receiver and rsn.
 pub(crate) type Fields = (u8, u32, u8, u32);
 
-/// Which kind of process runs, with its first count: one that comes with the runtime, the process of the documentation, one that sends
-/// all that it may, or one of a ring whose memory is refused once, after so many steps.
+/// The kind of process, with its first count: one of the runtime's kinds, the documented process, or a test double.
+/// `Flood` sends as much as it may. `Refusing` is one of a ring that returns `NoMemory` once, after a number of steps.
 #[derive(Clone, Copy)]
 pub(crate) enum Kind {
     Ring(u8),
@@ -29,7 +29,7 @@ pub(crate) fn name(source: u8, ssn: u32) -> MsgName {
     }
 }
 
-/// The determinant of these fields.
+/// The determinant with these fields.
 pub(crate) fn det((source, ssn, dest, rsn): Fields) -> Det {
     Det {
         source: Pid(source),
@@ -39,7 +39,7 @@ pub(crate) fn det((source, ssn, dest, rsn): Fields) -> Det {
     }
 }
 
-/// Process `me` of n, which are taken to be enough to have it.
+/// Process `me` of n; n is raised to `me` + 1 if it is smaller.
 pub(crate) fn process(alloc: Global, kind: Kind, n: u16, me: u8) -> Result<Boxed, NoMemory> {
     let n = n.max(u16::from(me) + 1);
     let boxed: Boxed = match kind {
@@ -59,7 +59,7 @@ pub(crate) fn process(alloc: Global, kind: Kind, n: u16, me: u8) -> Result<Boxed
     Ok(boxed)
 }
 
-/// All processes of n.
+/// All n processes.
 pub(crate) fn processes(alloc: Global, kind: Kind, n: u8) -> Result<Vec<Boxed>, NoMemory> {
     let mut boxes = Vec::new(alloc);
     for me in 0..n {

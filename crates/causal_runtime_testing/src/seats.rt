@@ -1,4 +1,4 @@
-//! Seats on threads of their own, calls that were worked out by hand, random calls, and a history that is full.
+//! Seats on their own threads, hand-computed calls, random calls, and a full history.
 use crate::runtime::{Kind, process, processes};
 use causal_audit::{Verdict, verdict_of};
 use causal_core::{Core, CoreFault, Reply};
@@ -10,27 +10,31 @@ use causal_shared::shared::{Finished, Shared, finish};
 use std::alloc::Global;
 use std::sync::Wait;
 
-/// What single calls answer, and what the seats then know.
+/// A snapshot and its audit beside a seat that goes on delivering.
+mod beside;
+/// Single calls: their results, and the seats' views after them.
 mod calls;
-/// A history that takes no further item.
+/// A full history.
 mod full;
-/// Eight seats on eight threads that ask for what comes up.
+/// A new value under the lock.
+mod locked;
+/// Eight seats on eight threads that make random calls.
 mod random;
-/// A step that is refused memory once.
+/// A step that returns `NoMemory` once.
 mod refusals;
-/// Two seats on two threads, neither of which gets on without the other.
+/// Two and 64 seats, each on its own thread, none of which can finish alone.
 mod threads;
 
-/// A core of n processes of a kind, for f failures.
-fn begun(alloc: Global, kind: Kind, n: u8, f: u16) -> Option<Core<MemStable>> {
+/// A core of n processes of a kind, with failure bound f.
+fn start_core(alloc: Global, kind: Kind, n: u8, f: u16) -> Option<Core<MemStable>> {
     match processes(alloc, kind, n) {
         Ok(boxes) => Core::start(alloc, f, boxes, MemStable::new(alloc)).ok(),
         Err(NoMemory) => None,
     }
 }
 
-/// That core behind a lock, with one to 64 seats.
-fn opened(
+/// Opens a shared runtime over the core, with 1 to 64 seats.
+fn open_shared(
     alloc: Global,
     core: Core<MemStable>,
     seats: u32,
@@ -39,15 +43,15 @@ fn opened(
     Shared::open(alloc, core, seats.clamp(1, 64), tag).ok()
 }
 
-/// So many processes that echo a count, for f failures, with a seat for each.
+/// Opens a shared runtime of n processes that echo a count, with failure bound f and a seat for each process.
 fn echoing(alloc: Global, count: u8, n: u8, f: u16) -> Option<(Shared<MemStable>, Vec<Seat>)> {
-    match begun(alloc, Kind::Echo(count), n, f) {
-        Some(core) => opened(alloc, core, u32::from(n), 7),
+    match start_core(alloc, Kind::Echo(count), n, f) {
+        Some(core) => open_shared(alloc, core, u32::from(n), 7),
         None => None,
     }
 }
 
-/// Delivers the first message that is pending at q; tells whether there was one and it was delivered.
+/// Delivers the first message that is pending at q. Returns whether there was one and the delivery succeeded.
 fn deliver_first<R: Wait>(rt: &R, shared: &Shared<MemStable>, seat: &mut Seat, q: Pid) -> bool {
     let Ok(names) = shared.pending(rt, seat, q) else {
         return false;
@@ -58,7 +62,7 @@ fn deliver_first<R: Wait>(rt: &R, shared: &Shared<MemStable>, seat: &mut Seat, q
     }
 }
 
-/// Asks for the crash of a process: the fault of the answer.
+/// Crashes a process and returns the error, if any.
 fn crash<R: Wait>(
     rt: &R,
     shared: &Shared<MemStable>,
@@ -68,7 +72,7 @@ fn crash<R: Wait>(
     shared.crash(rt, seat, Pid(p)).err()
 }
 
-/// How many items a runtime's history and how many entries its trace has, which is accepted.
+/// The number of history items and of trace entries, if the trace is accepted.
 fn extent(end: &Finished<MemStable>, alloc: Global) -> Option<(usize, u32)> {
     match verdict_of(alloc, end.core.trace(), end.core.faults()) {
         Ok(Verdict::Accept) => Some((end.history.as_slice().len(), end.core.trace().len())),
@@ -76,8 +80,8 @@ fn extent(end: &Finished<MemStable>, alloc: Global) -> Option<(usize, u32)> {
     }
 }
 
-/// Ends a runtime with these seats: its extent, or why it does not end.
-fn ended(
+/// Finishes a runtime with these seats. Returns its numbers of items and entries, or the error.
+fn finish_extent(
     alloc: Global,
     shared: Shared<MemStable>,
     seats: Vec<Seat>,
@@ -88,18 +92,18 @@ fn ended(
     }
 }
 
-/// Ends a runtime of one seat.
-fn left(
+/// Finishes a runtime of one seat.
+fn finish_one_seat(
     alloc: Global,
     shared: Shared<MemStable>,
     seat: Seat,
 ) -> Option<Result<Option<(usize, u32)>, FinishFault>> {
     let mut seats = Vec::new(alloc);
     seats.push(seat).ok()?;
-    Some(ended(alloc, shared, seats))
+    Some(finish_extent(alloc, shared, seats))
 }
 
-/// What happens on a runtime of one seat.
+/// A test case on a runtime with one seat.
 #[derive(Clone, Copy)]
 enum Scene {
     Refusal,
@@ -109,28 +113,23 @@ enum Scene {
     StepMadeAgain,
 }
 
-// A history that fills up has a test of its own, since it takes seconds.
-const SCENES: [Scene; 4] = [
-    Scene::Refusal,
-    Scene::Strangers,
-    Scene::AllPending,
-    Scene::StepMadeAgain,
-];
+// A foreign seat and a full history have their own tests.
+const SCENES: [Scene; 3] = [Scene::Refusal, Scene::AllPending, Scene::StepMadeAgain];
 
 #[test]
-fn scenes_are_right(rt: HostRuntime) {
+fn seat_scenes(rt: HostRuntime) {
     for (number, scene) in SCENES.iter().enumerate() {
         assert!(rt; scene.is_right(&rt, rt.alloc()), "scene {number}");
     }
 }
 
 impl Scene {
-    fn begun(self, alloc: Global) -> Option<Core<MemStable>> {
+    fn start_core(self, alloc: Global) -> Option<Core<MemStable>> {
         match self {
-            Scene::Refusal | Scene::FullHistory => begun(alloc, Kind::Ring(0), 1, 0),
-            Scene::Strangers => begun(alloc, Kind::Echo(3), 2, 1),
-            Scene::AllPending => begun(alloc, Kind::Tally, 3, 1),
-            Scene::StepMadeAgain => begun(alloc, Kind::Refusing(1, 1), 1, 0),
+            Scene::Refusal | Scene::FullHistory => start_core(alloc, Kind::Ring(0), 1, 0),
+            Scene::Strangers => start_core(alloc, Kind::Echo(3), 2, 1),
+            Scene::AllPending => start_core(alloc, Kind::Tally, 3, 1),
+            Scene::StepMadeAgain => start_core(alloc, Kind::Refusing(1, 1), 1, 0),
         }
     }
 
@@ -150,7 +149,7 @@ impl Scene {
         }
     }
 
-    /// How many items and how many entries there are in the end.
+    /// The number of items and of entries at the end.
     fn extent(self) -> (usize, u32) {
         match self {
             Scene::Refusal => (1, 1),
@@ -160,18 +159,19 @@ impl Scene {
         }
     }
 
-    /// Behind a lock with one seat, which bears that tag.
-    fn opened(self, alloc: Global, tag: u64) -> Option<(Shared<MemStable>, Seat)> {
-        let (shared, mut seats) = opened(alloc, self.begun(alloc)?, 1, tag)?;
+    /// Opens the runtime with one seat, which has that tag.
+    fn open_scene(self, alloc: Global, tag: u64) -> Option<(Shared<MemStable>, Seat)> {
+        let (shared, mut seats) = open_shared(alloc, self.start_core(alloc)?, 1, tag)?;
         Some((shared, seats.pop()?))
     }
 
-    /// Whether all is answered as it has to be, and the runtime then ends with what was made.
+    /// Returns whether all results are as expected, and the runtime finishes with the expected numbers of items and
+    /// entries.
     fn is_right<R: Wait>(self, rt: &R, alloc: Global) -> bool {
-        match self.opened(alloc, 7) {
+        match self.open_scene(alloc, 7) {
             Some((shared, mut seat)) => {
                 self.is_right_on(rt, alloc, &shared, &mut seat)
-                    && left(alloc, shared, seat) == Some(Ok(Some(self.extent())))
+                    && finish_one_seat(alloc, shared, seat) == Some(Ok(Some(self.extent())))
             }
             None => false,
         }

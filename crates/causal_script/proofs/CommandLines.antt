@@ -7,23 +7,23 @@ use Rattle.causal_protocol.specs.declared.request.Request.{Request}
 use Rattle.causal_protocol.specs.declared.request.Request.TheVariants.{Deliver}
 use Rattle.causal_script.specs.Spelling.{command_line, IsRequest}
 use Rattle.causal_script.specs.Faults.{IsCommandLine}
-use Rattle.causal_script.specs.Inside.Reading.{◌>>=◌, cut, number_of, process_of, delivery_of, of_process, named_request, request_of}
+use Rattle.causal_script.specs.Inside.Reading.{◌>>=◌, split_at_byte, number_of, process_of, delivery_of, parse_process_command, named_request, request_of}
 use Rattle.causal_script.proofs.Cuts.{IsCut, cut_whole}
 use Rattle.causal_script.proofs.Numbers.{number_of-decimal, decimal-number_of, process_of-decimal, decimal-process_of, cut_number}
 
--- where two steps of reading give something, both do
+-- if two chained parsing steps return a value, each of them does
 pub bind_some : {A B : Type 0} (r : Option A) (f : A → Option B) (y : B) → (r >>= f) ≡ Some y → (x : A) × (r ≡ Some x) × (f x ≡ Some y)
 bind_some r f y e = grind (arith, none-some)
 
--- what is read behind a cut is said where it is said of the two parts
-pub behind_cut : {A P : Type 0} (line : List ℕ) (f : List ℕ × List ℕ → Option A) (y : A) → (cut 32 line >>= f) ≡ Some y → ((parts : List ℕ × List ℕ) → line ≡ parts.0 ++ 32 ∷ parts.1 → f parts ≡ Some y → P) → P
-behind_cut line f y e said = let a = bind_some (cut 32 line) f y e in said a.0 (cut_whole 32 line a.0 a.1).whole a.2
+-- a property of what is parsed after a split holds if it holds of the split's two parts
+pub behind_cut : {A P : Type 0} (line : List ℕ) (f : List ℕ × List ℕ → Option A) (y : A) → (split_at_byte 32 line >>= f) ≡ Some y → ((parts : List ℕ × List ℕ) → line ≡ parts.0 ++ 32 ∷ parts.1 → f parts ≡ Some y → P) → P
+behind_cut line f y e said = let a = bind_some (split_at_byte 32 line) f y e in said a.0 (cut_whole 32 line a.0 a.1).whole a.2
 
--- what a choice by a name gives is given for that name, or by the other choices
+-- the value of a choice by name belongs to that name, or to one of the other names
 pub chosen : {A : Type 0} (name word : List ℕ) (x y : Option A) (z : A) {P : Type 0} → (name ≡ word → x ≡ Some z → P) → (y ≡ Some z → P) → cond (bytes_eq name word) x y ≡ Some z → P
 chosen name word x y z {P} this other e = grind (arith, bytes_eq-Decides name word)
 
--- ---- from the line
+-- ---- from the line to the request
 
 -- the arguments of a delivery
 record IsDelivery (words : List ℕ) (r : Request) : Type 0 where
@@ -37,8 +37,8 @@ record IsDelivery (words : List ℕ) (r : Request) : Type 0 where
 delivered : (words : List ℕ) (r : Request) → delivery_of words ≡ Some r → IsDelivery words r
 unfolding delivery_of
 delivered words r e =
-    let a = bind_some (cut 32 words) _ r e in
-    let b = bind_some (cut 32 a.0.1) _ r a.2 in
+    let a = bind_some (split_at_byte 32 words) _ r e in
+    let b = bind_some (split_at_byte 32 a.0.1) _ r a.2 in
     let q = bind_some (process_of a.0.0) _ r b.2 in
     let source = bind_some (process_of b.0.0) _ r q.2 in
     let ssn = bind_some (number_of 4294967295 b.0.1) _ r source.2 in
@@ -57,53 +57,53 @@ delivered words r e =
       spelled = first.whole ∙ ap (λ xs. xs ++ 32 ∷ a.0.1) to.0 ∙ ap (λ xs. decimal q.0.0 ++ (32 ∷ xs)) rest;
     }
 
--- the line says this
+-- the line spells the request
 abbrev pub Says : List ℕ → Request → Type 0
 Says line r = IsRequest r × (line ≡ command_line r)
 
 says_delivery : (name words line : List ℕ) (r : Request) → line ≡ name ++ 32 ∷ words → name ≡ codes "deliver" → delivery_of words ≡ Some r → Says line r
 says_delivery name words line r whole named e = grind (arith, delivered words r e)
 
-says_of_process : (name words line : List ℕ) (p : Pid) (r : Request) → line ≡ name ++ 32 ∷ words → words ≡ decimal p.0 → p.0 < 2 ^ 8 → of_process name p ≡ Some r → Says line r
-unfolding of_process
+says_of_process : (name words line : List ℕ) (p : Pid) (r : Request) → line ≡ name ++ 32 ∷ words → words ≡ decimal p.0 → p.0 < 2 ^ 8 → parse_process_command name p ≡ Some r → Says line r
+unfolding parse_process_command
 says_of_process name words line p r whole number small e = grind (arith, bytes_eq-Decides name)
 
 says_named : (name words line : List ℕ) (r : Request) → line ≡ name ++ 32 ∷ words → named_request name words ≡ Some r → Says line r
 unfolding named_request
 says_named name words line r whole e =
     chosen name (codes "deliver") _ _ r (λ named is. says_delivery name words line r whole named is) behind e where
-      behind : (process_of words >>= λ p. of_process name p) ≡ Some r → Says line r
+      behind : (process_of words >>= λ p. parse_process_command name p) ≡ Some r → Says line r
       behind is =
           let p = bind_some (process_of words) _ r is in
           let number = decimal-process_of p.0 words p.1 in
           says_of_process name words line p.0 r whole number.0 number.1 p.2
 
--- a request that is read of a line is spelled by that line
+-- if a line is parsed as a request, it spells that request
 pub says_request : (line : List ℕ) (r : Request) → request_of line ≡ Some r → Says line r
 unfolding request_of
 says_request line r e = behind_cut line _ r e (λ parts whole is. says_named parts.0 parts.1 line r whole is)
 
--- ---- and back
+-- ---- from the request to the line
 
 delivery_back : (q source : Pid) (ssn : ℕ) → q.0 < 2 ^ 8 → source.0 < 2 ^ 8 → ssn < 2 ^ 32 → delivery_of (decimal q.0 ++ (32 ∷ (decimal source.0 ++ (32 ∷ decimal ssn)))) ≡ Some (Deliver q source ssn)
 unfolding delivery_of
 delivery_back q source ssn a b s = grind (arith, cut_number, process_of-decimal q a, process_of-decimal source b, number_of-decimal)
 
--- the line of a command is read as its request
+-- the line of a request is parsed as that request
 pub request_back : (r : Request) → IsRequest r → request_of (command_line r) ≡ Some r
-unfolding request_of named_request of_process
+unfolding request_of named_request parse_process_command
 request_back r h = grind (arith, delivery_back, process_of-decimal)
 
--- ---- in place
+-- ---- valid and invalid lines
 
--- a line of which a request is read has a command
+-- a line that is parsed as a request is a command line
 pub commanded : (line : List ℕ) (r : Request) → request_of line ≡ Some r → IsCommandLine line
 commanded line r e = let says = says_request line r e in (r, says.0, says.1)
 
--- of what a line spells, and what spells is read again, something is read
+-- if the spelling of each value is parsed again, a line that is not parsed spells no value
 pub none_spelled : {A : Type 0} (read : List ℕ → Option A) (spell : A → List ℕ) (line : List ℕ) (x : A) → read line ≡ None → read (spell x) ≡ Some x → line ≡ spell x → ⊥
 none_spelled read spell line x none back is = none-some x (sym none ∙ ap read is ∙ back)
 
--- a line of which no request is read has no command
+-- a line that is not parsed as a request is not a command line
 pub not_commanded : (line : List ℕ) → request_of line ≡ None → IsCommandLine line → ⊥
 not_commanded line e h = none_spelled request_of command_line line h.0 e (request_back h.0 h.1) h.2

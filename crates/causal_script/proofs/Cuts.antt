@@ -1,66 +1,66 @@
--- A text that is cut at the first such byte.
+-- Splitting a text at the first occurrence of a byte.
 use Rattle.std.proofs.Common.{◌≡◌, ℕ, zero, suc, ◌+◌, ◌-◌, ◌<◌, List, [], ◌∷◌, ◌++◌, length, take, drop, Bool, true, false, cond, eqb, ltb, Option, Some, None, refl, ap, sym, ◌∙◌, arith, option_map, length-append}
 use Rattle.std.specs.List.{position_or_len}
 use Rattle.std.proofs.Math.Seq.{take-length}
 use Rattle.std.proofs.lemmas.Bool.{eqb-true, eq-eqb, lt-ltb}
 use Rattle.std.proofs.lemmas.Option.{none-some}
-use Rattle.causal_script.specs.Inside.Reading.{cut}
+use Rattle.causal_script.specs.Inside.Reading.{split_at_byte}
 
--- no byte is this one
+-- the byte does not occur
 abbrev pub Lacks : ℕ → List ℕ → Type 0
 Lacks byte [] = Unit {0}
 Lacks byte (x ∷ xs) = (eqb x byte ≡ false) × Lacks byte xs
 
--- a text is cut at a byte that its front lacks
-pub cut_front : (byte : ℕ) (xs ys : List ℕ) → Lacks byte xs → cut byte (xs ++ byte ∷ ys) ≡ Some (xs, ys)
+-- a text is split at a byte that does not occur before it
+pub cut_front : (byte : ℕ) (xs ys : List ℕ) → Lacks byte xs → split_at_byte byte (xs ++ byte ∷ ys) ≡ Some (xs, ys)
 cut_front byte [] ys h = let same : eqb byte byte ≡ true = eq-eqb byte byte refl in rw same refl
 cut_front byte (x ∷ xs) ys h = rw (h.0, cut_front byte xs ys h.1) refl
 
--- the front, the byte and the rest are the text
+-- the text is the front, the byte and the rest
 pub record IsCut (byte : ℕ) (text : List ℕ) (parts : List ℕ × List ℕ) : Type 0 where
-  -- together they are the text
+  -- the three parts together are the text
   pub whole : text ≡ parts.0 ++ byte ∷ parts.1
   pub lacks : Lacks byte parts.0
 
--- what a cut gives is the front, which lacks the byte, and the rest
-pub cut_whole : (byte : ℕ) (xs : List ℕ) (parts : List ℕ × List ℕ) → cut byte xs ≡ Some parts → IsCut byte xs parts
+-- a split returns the front, which does not contain the byte, and the rest
+pub cut_whole : (byte : ℕ) (xs : List ℕ) (parts : List ℕ × List ℕ) → split_at_byte byte xs ≡ Some parts → IsCut byte xs parts
 cut_whole byte [] parts e = absurd (none-some parts e)
 cut_whole byte (x ∷ xs) parts e = by_test (eqb x byte) refl (cut_whole byte xs) e where
   later : (r : Option (List ℕ × List ℕ)) → eqb x byte ≡ false → ((q : List ℕ × List ℕ) → r ≡ Some q → IsCut byte xs q) → option_map (λ q. (x ∷ q.0, q.1)) r ≡ Some parts → IsCut byte (x ∷ xs) parts
   later None t ih e = absurd (none-some parts e)
   later (Some q) t ih e = grind (arith, (ih q refl).whole, (ih q refl).lacks)
 
-  by_test : (b : Bool) → eqb x byte ≡ b → ((q : List ℕ × List ℕ) → cut byte xs ≡ Some q → IsCut byte xs q) → cond b (Some ([], xs)) (option_map (λ q. (x ∷ q.0, q.1)) (cut byte xs)) ≡ Some parts → IsCut byte (x ∷ xs) parts
+  by_test : (b : Bool) → eqb x byte ≡ b → ((q : List ℕ × List ℕ) → split_at_byte byte xs ≡ Some q → IsCut byte xs q) → cond b (Some ([], xs)) (option_map (λ q. (x ∷ q.0, q.1)) (split_at_byte byte xs)) ≡ Some parts → IsCut byte (x ∷ xs) parts
   by_test true t ih e = grind (arith, eqb-true x byte t)
-  by_test false t ih e = later (cut byte xs) t ih e
+  by_test false t ih e = later (split_at_byte byte xs) t ih e
 
--- what stands before this place, and what stands after it
+-- the bytes before this index, and the bytes after it
 abbrev pub parts_at : List ℕ → Option ℕ → Option (List ℕ × List ℕ)
 parts_at xs None = None
 parts_at xs (Some at) = Some (take at xs, drop (suc at) xs)
 
--- where `position` finds it
+-- the first index of the byte, as `position` returns it
 abbrev pub place_of : ℕ → List ℕ → Option ℕ
 place_of byte xs = cond (ltb (position_or_len (λ b. eqb b byte) xs) (length xs)) (Some (position_or_len (λ b. eqb b byte) xs)) None
 
-pub cut_position : (byte : ℕ) (xs : List ℕ) → cut byte xs ≡ parts_at xs (place_of byte xs)
+pub cut_position : (byte : ℕ) (xs : List ℕ) → split_at_byte byte xs ≡ parts_at xs (place_of byte xs)
 cut_position byte [] = refl
 cut_position byte (x ∷ xs) = by_test (eqb x byte) refl (cut_position byte xs) where
   shifted : (n m k : ℕ) → m ≡ suc n → k ≡ suc (length xs)
       → option_map (λ (q : List ℕ × List ℕ). (x ∷ q.0, q.1)) (parts_at xs (cond (ltb n (length xs)) (Some n) None)) ≡ parts_at (x ∷ xs) (cond (ltb m k) (Some m) None)
   shifted n m k e f = grind arith
 
-  by_test : (b : Bool) → eqb x byte ≡ b → cut byte xs ≡ parts_at xs (place_of byte xs) → cut byte (x ∷ xs) ≡ parts_at (x ∷ xs) (place_of byte (x ∷ xs))
+  by_test : (b : Bool) → eqb x byte ≡ b → split_at_byte byte xs ≡ parts_at xs (place_of byte xs) → split_at_byte byte (x ∷ xs) ≡ parts_at (x ∷ xs) (place_of byte (x ∷ xs))
   by_test true t ih = let some : ltb 0 (length (x ∷ xs)) ≡ true = lt-ltb 0 (length (x ∷ xs)) (omega arith) in rw (t, some) refl
   by_test false t ih =
       rw (t, ih) (shifted (position_or_len (λ b. eqb b byte) xs) (1 + position_or_len (λ b. eqb b byte) xs) (length (x ∷ xs)) (omega arith) (omega arith))
 
--- a text is cut at the first place of the byte
-pub cut_at : (byte : ℕ) (xs : List ℕ) (r : Option ℕ) (at : ℕ) → r ≡ place_of byte xs → r ≡ Some at → cut byte xs ≡ Some (take at xs, drop (suc at) xs)
+-- a text is split at the first index of the byte
+pub cut_at : (byte : ℕ) (xs : List ℕ) (r : Option ℕ) (at : ℕ) → r ≡ place_of byte xs → r ≡ Some at → split_at_byte byte xs ≡ Some (take at xs, drop (suc at) xs)
 cut_at byte xs r at found is = cut_position byte xs ∙ ap (parts_at xs) (sym found ∙ is)
 
--- a text without the byte is not cut
-pub cut_nowhere : (byte : ℕ) (xs : List ℕ) (r : Option ℕ) → r ≡ place_of byte xs → r ≡ None → cut byte xs ≡ None
+-- a text without the byte is not split
+pub cut_nowhere : (byte : ℕ) (xs : List ℕ) (r : Option ℕ) → r ≡ place_of byte xs → r ≡ None → split_at_byte byte xs ≡ None
 cut_nowhere byte xs r found is = cut_position byte xs ∙ ap (parts_at xs) (sym found ∙ is)
 
 drop_more : (xs : List ℕ) (at : ℕ) → drop 1 (drop at xs) ≡ drop (suc at) xs
@@ -72,11 +72,11 @@ tail_whole : (ys : List ℕ) → take (length ys - 1) (drop 1 ys) ≡ drop 1 ys
 tail_whole [] = refl
 tail_whole (y ∷ ys) = let less : length (y ∷ ys) - 1 ≡ length ys = omega arith in ap (λ n. take n ys) less ∙ take-length ys
 
--- the rest as a slice
-pub cut_slices : (byte : ℕ) (xs front back : List ℕ) (at : ℕ) → front ≡ take at xs → back ≡ drop at xs → cut byte xs ≡ Some (take at xs, drop (suc at) xs)
-    → ◌≡◌ {A = Option (List ℕ × List ℕ)} (Some (front, take (length back - 1) (drop 1 back))) (cut byte xs)
+-- the rest, as a slice
+pub cut_slices : (byte : ℕ) (xs front back : List ℕ) (at : ℕ) → front ≡ take at xs → back ≡ drop at xs → split_at_byte byte xs ≡ Some (take at xs, drop (suc at) xs)
+    → ◌≡◌ {A = Option (List ℕ × List ℕ)} (Some (front, take (length back - 1) (drop 1 back))) (split_at_byte byte xs)
 cut_slices byte xs front back at f b e = grind (arith, tail_whole back, drop_more xs at)
 
--- what stands after the byte is shorter than the text
-pub cut_shorter : (byte : ℕ) (xs : List ℕ) (parts : List ℕ × List ℕ) → cut byte xs ≡ Some parts → length parts.1 < length xs
+-- the part after the byte is shorter than the text
+pub cut_shorter : (byte : ℕ) (xs : List ℕ) (parts : List ℕ × List ℕ) → split_at_byte byte xs ≡ Some parts → length parts.1 < length xs
 cut_shorter byte xs parts e = grind (arith, cut_whole byte xs parts e, length-append parts.0 (byte ∷ parts.1))

@@ -1,2 +1,2 @@
--- Lemmas on what a text spells, which stand apart from those on the functions that read it.
+-- Lemmas on what a text spells, separate from those on the functions that parse it.
 pub mod Exact

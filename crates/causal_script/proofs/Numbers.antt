@@ -1,4 +1,4 @@
--- A number and its word.
+-- A number and its decimal spelling.
 use Rattle.std.proofs.Common.{◌≡◌, ◌≢◌, ◌⊎◌, ℕ, ◌<◌, ◌≤◌, ◌^◌, List, [], ◌∷◌, ◌++◌, length, get_or, Bool, true, false, cond, leb, Option, Some, None, Result, Ok, Err, refl, ap, sym, ◌∙◌, subst, arith, decimal}
 use Rattle.std.specs.Prelude.{slice_get, ◌&&◌, nat_le}
 use Rattle.std.specs.Str.{all_ascii_digits}
@@ -11,7 +11,7 @@ use Rattle.std.proofs.lemmas.Str.{IsUtf8-from_ascii}
 use Rattle.std.proofs.lemmas.Fmt.{IsAscii-decimal, digits_decimal, digits_value-decimal, decimal-digits_value, decimal_nonempty, first_decimal, decimal_digit}
 use Rattle.std.proofs.lemmas.Option.{none-some, same_Some}
 use Rattle.causal_name.specs.declared.Pid.{Pid}
-use Rattle.causal_script.specs.Inside.Reading.{cut, is_plain, number_of, process_of, count_of}
+use Rattle.causal_script.specs.Inside.Reading.{split_at_byte, is_plain, number_of, process_of, count_of}
 use Rattle.causal_script.proofs.Cuts.{Lacks, cut_front}
 
 -- digits spell the number that is their value
@@ -21,10 +21,10 @@ own = numerals_by_value (λ ds. all_ascii_digits ds ≡ true) tells_all_ascii_di
 both : (a b : Bool) → (a && b) ≡ true → (a ≡ true) × (b ≡ true)
 both a b h = grind arith
 
--- digits, and no zero before others
+-- digits without a leading zero
 pub record IsPlain (word : List ℕ) : Type 0 where
   pub digits : all_ascii_digits word ≡ true
-  -- there is a digit
+  -- there is at least one digit
   pub some : 0 < length word
   pub lone : get_or word 0 0 ≡ 48 → length word ≡ 1
 
@@ -37,12 +37,12 @@ is_plain-from word h = grind (arith, eqb-true)
 pub decimal_plain : (n : ℕ) → n < 2 ^ 64 → IsPlain (decimal n)
 decimal_plain n small = grind (arith, digits_decimal own n small, own, decimal_nonempty n small, decimal_digit, first_decimal)
 
--- the word of a number is read as the number
+-- the decimal spelling of a number is parsed as that number
 pub number_of-decimal : (limit n : ℕ) → n ≤ limit → n < 2 ^ 64 → number_of limit (decimal n) ≡ Some n
 unfolding number_of
 number_of-decimal limit n within small = grind (arith, is_plain-from, decimal_plain, digits_value-decimal, own, nat_tests)
 
--- what is read as a number is its word
+-- a token that is parsed as a number is its decimal spelling
 pub decimal-number_of : (limit n : ℕ) (word : List ℕ) → limit < 2 ^ 64 → number_of limit word ≡ Some n → (word ≡ decimal n) × (n ≤ limit)
 unfolding number_of
 decimal-number_of limit n word small e = by_test (is_plain word && leb (digits_value 10 word) limit) refl e where
@@ -56,42 +56,42 @@ decimal-number_of limit n word small e = by_test (is_plain word && leb (digits_v
       (sym back ∙ ap decimal value, omega arith)
   by_test false t e = absurd (none-some n e)
 
--- a number in decimal has no space
+-- a decimal number contains no space
 pub decimal_lacks : (n : ℕ) → n < 2 ^ 64 → Lacks 32 (decimal n)
 decimal_lacks n small = from (decimal n) (digits_decimal own n small) where
   from : (xs : List ℕ) → all_ascii_digits xs ≡ true → Lacks 32 xs
   from [] h = tt
   from (x ∷ xs) h = grind (arith, nat_tests, from xs)
 
--- words that begin with a number in decimal are cut behind it
-pub cut_number : (n : ℕ) (rest : List ℕ) → n < 2 ^ 64 → cut 32 (decimal n ++ (32 ∷ rest)) ≡ Some (decimal n, rest)
+-- tokens that begin with a decimal number are split after it
+pub cut_number : (n : ℕ) (rest : List ℕ) → n < 2 ^ 64 → split_at_byte 32 (decimal n ++ (32 ∷ rest)) ≡ Some (decimal n, rest)
 cut_number n rest small = cut_front 32 (decimal n) rest (decimal_lacks n small)
 
--- ---- a process, and how many there are
+-- ---- process numbers and process counts
 
--- the number of a process, in decimal, is read as that process
+-- the decimal number of a process is parsed as that process
 pub process_of-decimal : (p : Pid) → p.0 < 2 ^ 8 → process_of (decimal p.0) ≡ Some p
 unfolding process_of
 process_of-decimal p small = rw (number_of-decimal 255 p.0 (omega arith) (omega arith)) refl
 
--- a word that is read as a process is its number in decimal
+-- a token that is parsed as a process is its decimal number
 pub decimal-process_of : (p : Pid) (word : List ℕ) → process_of word ≡ Some p → (word ≡ decimal p.0) × (p.0 < 2 ^ 8)
 unfolding process_of
 decimal-process_of p word e = grind (arith, decimal-number_of 255 p.0 word)
 
--- a count up to 256, in decimal, is read as that count
+-- a process count up to 256, in decimal, is parsed as that count
 pub count_of-decimal : (n : ℕ) → 1 ≤ n → n ≤ 256 → count_of (decimal n) ≡ Some n
 unfolding count_of
 count_of-decimal n some few = grind (arith, nat_tests, number_of-decimal)
 
--- a word that is read as a count is that count in decimal
+-- a token that is parsed as a process count is its decimal spelling
 pub decimal-count_of : (n : ℕ) (word : List ℕ) → count_of word ≡ Some n → (word ≡ decimal n) × (1 ≤ n) × (n ≤ 256)
 unfolding count_of
 decimal-count_of n word e = grind (arith, decimal-number_of 256 n word, nat_tests)
 
--- ---- what `parse` answers
+-- ---- results of `parse`
 
--- a result within a limit
+-- the result of `parse` up to a limit
 abbrev pub within : {E : Type 0} → ℕ → Result ℕ E → Option ℕ
 within limit (Ok n) = if nat_le n limit then Some n else None
 within limit (Err e) = None
@@ -113,13 +113,13 @@ parsed {E} limit word r small some sign lone parses = by_cases r (parse_plain ow
   by_cases (Ok n) h = by_limit n h.1 h.0.0 (leb n limit) refl
   by_cases (Err e) h = unspelled limit word (λ n is. let s = spelled n is in h (s.0, s.1, s.2))
 
--- bytes that are no text spell no number
+-- bytes that are not UTF-8 spell no number
 pub no_text : (limit : ℕ) (word : List ℕ) → limit < 2 ^ 32 → (IsUtf8 word → ⊥) → number_of limit word ≡ None
 no_text limit word small none = unspelled limit word (λ n e.
     let d = decimal-number_of limit n word (omega arith) e in
     none (subst (λ (w : List ℕ). IsUtf8 w) (sym d.0) (IsUtf8-from_ascii (decimal n) (IsAscii-decimal n (omega (arith, d.1))))))
 
--- ---- how a word begins
+-- ---- the first byte of a token
 
 first_is : (word : List ℕ) (first : ℕ) → Some first ≡ slice_get word 0 → (get_or word 0 0 ≡ first) × (0 < length word)
 first_is [] first e = absurd (none-some first (sym e))
@@ -128,7 +128,7 @@ first_is (x ∷ xs) first e = (let same : first ≡ x = same_Some _ _ e in sym s
 lone_from : (x n : ℕ) → ((x ≡ 48) × (n ≤ 1)) ⊎ (x ≢ 48) → x ≡ 48 → n ≤ 1
 lone_from x n h e = grind arith
 
--- a word with no plus sign, and no zero before others, spells what `parse` answers
+-- a token without a plus sign or a leading zero has the value that `parse` returns
 pub parsed_word : {E : Type 0} (limit first : ℕ) (word text : List ℕ) (r : Result ℕ E) → limit < 2 ^ 32 → Some first ≡ slice_get word 0 → first ≢ 43 → ((first ≡ 48) × (length word ≤ 1)) ⊎ (first ≢ 48)
     → text ≡ word → ParsesUnsigned 32 10 text r → number_of limit word ≡ within limit r
 parsed_word limit first word text r small begins sign lone same parses = grind (arith, first_is word first begins, parsed, lone_from)

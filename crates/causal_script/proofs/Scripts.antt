@@ -1,4 +1,4 @@
--- A text that has been read to its end.
+-- A text that was parsed to its end.
 use Rattle.std.proofs.Common.{◌≡◌, ℕ, suc, List, [], ◌∷◌, length, map, refl, ap, arith}
 use Rattle.std.proofs.lemmas.List.{append-nil}
 use Rattle.causal_script.specs.declared.script.Command.{Command}
@@ -10,16 +10,16 @@ use Rattle.causal_script.specs.Faults.{IsFirstFault}
 use Rattle.causal_script.specs.Inside.Place.{AreCommands, AreOnLines}
 use Rattle.causal_script.proofs.Texts.{sound_none, length_lines, whole_within}
 
--- what elements are turned into are as many
+-- mapping a list does not change its length
 pub length_map : {X Y : Type 0} (f : X → Y) (xs : List X) → length (map f xs) ≡ length xs
 length_map f [] = refl
 length_map f (x ∷ xs) = ap suc (length_map f xs)
 
--- a text that has been read to its end spells the start and the commands that were read
+-- a text that was parsed to its end spells the parsed start and commands
 pub spelled : (text first rest : List ℕ) (s : Start) (commands : List Command) (line : ℕ) → lines text ≡ first ∷ lines rest → IsStart s → first ≡ start_line s
     → AreCommands rest commands [] → AreOnLines text commands line [] → Spells text (record { start = s; commands = commands })
 spelled text first rest s commands line split start is read r = grind (arith, append-nil, whole_within, length_map, length_lines)
 
--- the first fault of an empty text is that its first line is no start
+-- the first error of an empty text is its missing first line
 pub empty_fault : (text : List ℕ) → text ≡ [] → IsFirstFault text (record { line = 1; kind = Script })
 empty_fault text is = grind (arith, sound_none [])

@@ -1,4 +1,4 @@
--- The lines of a text, one after another.
+-- Reading the lines of a text one after another.
 use Rattle.std.proofs.Common.{◌≡◌, ◌⊎◌, inl, inr, ℕ, zero, suc, ◌+◌, ◌<◌, ◌≤◌, List, [], ◌∷◌, ◌++◌, length, take, drop, map, Bool, true, false, cond, eqb, Option, Some, None, Result, Ok, Err, refl, ap, sym, ◌∙◌, subst, arith}
 use Rattle.std.specs.Prelude.{slice_get, is_ok, is_err, min, ◌-◌, ◌^◌}
 use Rattle.std.specs.List.{onto_first, AllByRecursion, range_with_len}
@@ -11,91 +11,91 @@ use Rattle.causal_script.specs.declared.script.Command.{Command}
 use Rattle.causal_script.specs.declared.script.ScriptFault.{ScriptFault}
 use Rattle.causal_script.specs.declared.script.ScriptFaultKind.{ScriptFaultKind}
 use Rattle.causal_script.specs.declared.script.ScriptFaultKind.TheVariants.{Big, Script, NoMemory}
-use Rattle.causal_script.specs.Lines.{is_feed, lines, feeds}
+use Rattle.causal_script.specs.Lines.{is_feed, lines, count_line_feeds}
 use Rattle.causal_script.specs.Spelling.{max_script, command_line, IsRequest}
 use Rattle.causal_script.specs.Faults.{IsCommandLine, IsInPlace, IsFaultAfter, AreSound, IsFirstFault, IsReadUpTo}
-use Rattle.causal_script.specs.Inside.Reading.{cut}
-use Rattle.causal_script.specs.Inside.Place.{IsBigLine, is_line, judged, IsAfter, AreCommands, AreOnLines}
+use Rattle.causal_script.specs.Inside.Reading.{split_at_byte}
+use Rattle.causal_script.specs.Inside.Place.{IsBigLine, is_line, line_or_fault, IsAfter, AreCommands, AreOnLines}
 
 -- ---- the first line and the rest
 
--- no lines are left after all of them
+-- dropping all lines leaves none
 pub drop_all : {X : Type 0} (count : ℕ) (ls : List X) → length ls ≤ count → drop count ls ≡ []
 drop_all zero [] h = refl
 drop_all (suc count) [] h = refl
 drop_all zero (k ∷ ls) h = absurd (omega arith)
 drop_all (suc count) (k ∷ ls) h = drop_all count ls (omega arith)
 
--- what stands before the first line feed is the first line, and the rest has the others
-pub lines_cut : (xs : List ℕ) (parts : List ℕ × List ℕ) → cut 10 xs ≡ Some parts → lines xs ≡ parts.0 ∷ lines parts.1
+-- the bytes before the first line feed are the first line; the rest has the other lines
+pub lines_cut : (xs : List ℕ) (parts : List ℕ × List ℕ) → split_at_byte 10 xs ≡ Some parts → lines xs ≡ parts.0 ∷ lines parts.1
 lines_cut [] parts e = absurd (none-some parts e)
 lines_cut (x ∷ xs) parts e = grind (arith, lines_cut xs)
 
-no_feed : (x : ℕ) (xs : List ℕ) → cut 10 (x ∷ xs) ≡ None → (eqb x 10 ≡ false) × (cut 10 xs ≡ None)
+no_feed : (x : ℕ) (xs : List ℕ) → split_at_byte 10 (x ∷ xs) ≡ None → (eqb x 10 ≡ false) × (split_at_byte 10 xs ≡ None)
 no_feed x xs e = grind arith
 
-lines_uncut : (x : ℕ) (xs : List ℕ) → cut 10 (x ∷ xs) ≡ None → lines (x ∷ xs) ≡ (x ∷ xs) ∷ []
+lines_uncut : (x : ℕ) (xs : List ℕ) → split_at_byte 10 (x ∷ xs) ≡ None → lines (x ∷ xs) ≡ (x ∷ xs) ∷ []
 lines_uncut x [] e = let h = no_feed x [] e in rw h.0 refl
 lines_uncut x (y ∷ ys) e = let h = no_feed x (y ∷ ys) e in rw (h.0, lines_uncut y ys h.1) refl
 
--- a text with no line feed is a line
-pub lines_last : (xs front back : List ℕ) → 0 < length xs → None ≡ cut 10 xs → front ≡ take (length xs) xs → back ≡ drop (length xs) xs → lines xs ≡ front ∷ lines back
+-- a text without a line feed is one line
+pub lines_last : (xs front back : List ℕ) → 0 < length xs → None ≡ split_at_byte 10 xs → front ≡ take (length xs) xs → back ≡ drop (length xs) xs → lines xs ≡ front ∷ lines back
 lines_last xs front back some e f b = grind (arith, lines_uncut, take-length, drop_all)
 
--- ---- how many lines there are
+-- ---- the number of lines
 
 length_onto : (x : ℕ) (ls : List (List ℕ)) → 0 < length ls → length (onto_first x ls) ≡ length ls
 length_onto x ls some = grind arith
 
-feeds_cons : (x : ℕ) (xs : List ℕ) (b : Bool) → eqb x 10 ≡ b → feeds (x ∷ xs) ≡ cond b 1 0 + feeds xs
-feeds_cons x xs b t = sum_by-cons (λ y. cond (is_feed y) 1 0) x xs ∙ ap (λ c. cond c 1 0 + feeds xs) t
+feeds_cons : (x : ℕ) (xs : List ℕ) (b : Bool) → eqb x 10 ≡ b → count_line_feeds (x ∷ xs) ≡ cond b 1 0 + count_line_feeds xs
+feeds_cons x xs b t = sum_by-cons (λ y. cond (is_feed y) 1 0) x xs ∙ ap (λ c. cond c 1 0 + count_line_feeds xs) t
 
--- a byte is in one of the lines
-pub feeds_below : (n : ℕ) (xs : List ℕ) → n < length xs → feeds (take n xs) < length (lines xs)
+-- each byte is in one of the lines
+pub feeds_below : (n : ℕ) (xs : List ℕ) → n < length xs → count_line_feeds (take n xs) < length (lines xs)
 feeds_below n [] h = absurd (omega arith)
 feeds_below zero (x ∷ xs) h = grind arith
 feeds_below (suc n) (x ∷ xs) h = grind (arith, feeds_below n xs, feeds_cons, length_onto)
 
-pub feeds_take : (n : ℕ) (xs : List ℕ) → feeds (take n xs) ≤ n
+pub feeds_take : (n : ℕ) (xs : List ℕ) → count_line_feeds (take n xs) ≤ n
 feeds_take zero xs = omega arith
 feeds_take (suc n) [] = omega arith
 feeds_take (suc n) (x ∷ xs) = grind (arith, feeds_take n xs, feeds_cons)
 
--- no line is empty but for its line feed
+-- a text has at most as many lines as bytes
 pub length_lines : (xs : List ℕ) → length (lines xs) ≤ length xs
 length_lines [] = omega arith
 length_lines (x ∷ xs) = grind (arith, length_lines xs)
 
 -- ---- the next line
 
--- the first of the lines that are left stands after those that were read
+-- the first remaining line follows the lines that were read
 pub line_here : {X : Type 0} (count : ℕ) (ls : List X) (l : X) (rest : List X) → drop count ls ≡ l ∷ rest → (slice_get ls count ≡ Some l) × (drop (suc count) ls ≡ rest)
 line_here zero ls l rest e = grind arith
 line_here (suc count) [] l rest e = absurd (let no : [] ≡ l ∷ rest = e in cc)
 line_here (suc count) (k ∷ ls) l rest e = line_here count ls l rest e
 
--- where none are left, there are no more lines than were read
+-- if no lines remain, the text has at most as many lines as were read
 pub line_past : {X : Type 0} (count : ℕ) (ls : List X) → drop count ls ≡ [] → length ls ≤ count
 line_past zero [] e = omega arith
 line_past (suc count) [] e = omega arith
 line_past zero (k ∷ ls) e = absurd (let no : k ∷ ls ≡ [] = e in cc)
 line_past (suc count) (k ∷ ls) e = let h : length ls ≤ count = line_past count ls e in omega arith
 
--- only an empty text has no line
+-- only an empty text has no lines
 pub no_lines : (xs : List ℕ) → lines xs ≡ [] → xs ≡ []
 no_lines [] e = refl
-no_lines (x ∷ xs) e = absurd (let some : feeds (take 0 (x ∷ xs)) < length (lines (x ∷ xs)) = feeds_below 0 (x ∷ xs) (omega arith) in let none : length (lines (x ∷ xs)) ≡ 0 = ap length e in omega arith)
+no_lines (x ∷ xs) e = absurd (let some : count_line_feeds (take 0 (x ∷ xs)) < length (lines (x ∷ xs)) = feeds_below 0 (x ∷ xs) (omega arith) in let none : length (lines (x ∷ xs)) ≡ 0 = ap length e in omega arith)
 
--- ---- what stands against a line
+-- ---- errors of a line
 
--- a line without a fault is not past the limit, and says something
-pub judged_ok : {A : Type 0} (big : Option ℕ) (line : ℕ) (said : Option A) (x : A) → judged big line said ≡ Ok x → (is_line line big ≡ false) × (said ≡ Some x)
+-- a line without an error is within the limit and was parsed
+pub judged_ok : {A : Type 0} (big : Option ℕ) (line : ℕ) (said : Option A) (x : A) → line_or_fault big line said ≡ Ok x → (is_line line big ≡ false) × (said ≡ Some x)
 judged_ok {A} big line said x e = grind arith
 
 abbrev Fault : ℕ → ScriptFaultKind → ScriptFault
 Fault line kind = record { line = line; kind = kind }
 
-pub judged_err : {A : Type 0} (big : Option ℕ) (line : ℕ) (said : Option A) (f : ScriptFault) → judged big line said ≡ Err f
+pub judged_err : {A : Type 0} (big : Option ℕ) (line : ℕ) (said : Option A) (f : ScriptFault) → line_or_fault big line said ≡ Err f
     → ((is_line line big ≡ true) × (f ≡ Fault line Big)) ⊎ ((is_line line big ≡ false) × (said ≡ None) × (f ≡ Fault line Script))
 judged_err {A} big line said f e = grind arith
 
@@ -103,15 +103,15 @@ pub is_big : (text : List ℕ) (big : Option ℕ) (before : ℕ) → IsBigLine t
 is_big text None before h t = absurd (let no : false ≡ true = t in cc)
 is_big text (Some line) before h t = let same : line ≡ before + 1 = eqb-true line (before + 1) t in (h.0, omega (arith, h.1))
 
--- where the line with the first byte past the limit is another one, this one is not too big
+-- if the first byte past the limit is in another line, this line is not too long
 pub not_big : (text : List ℕ) (big : Option ℕ) (before : ℕ) → IsBigLine text big → is_line (before + 1) big ≡ false → IsFaultAfter text before Big → ⊥
 not_big text big before h t bad = grind (arith, eq-eqb)
 
--- none of no lines has a fault
+-- zero lines contain no error
 pub sound_none : (text : List ℕ) → AreSound text 0
 sound_none text before kind below bad = omega arith
 
--- with one more line, in place and not too big, the lines still have no fault
+-- one more line that is in place and within the limit adds no error
 pub sound_more : (text : List ℕ) (count next : ℕ) → next ≡ count + 1 → AreSound text count → (IsFaultAfter text count Big → ⊥) → IsInPlace count (slice_get (lines text) count) → AreSound text next
 sound_more text count next is sound small place before kind below bad = by_place (cases_lt before count) where
   here : (k : ScriptFaultKind) → IsFaultAfter text count k → ⊥
@@ -123,10 +123,10 @@ sound_more text count next is sound small place before kind below bad = by_place
   by_place (inl lower) = sound before kind lower bad
   by_place (inr upper) = let same : before ≡ count = omega arith in here kind (subst (λ (n : ℕ). IsFaultAfter text n kind) same bad)
 
--- the fault of the next line is the first of the text
+-- the error of the next line is the first error of the text
 pub first_fault : {A : Type 0} (text l : List ℕ) (before : ℕ) (big : Option ℕ) (said : Option A) (f : ScriptFault)
     → IsBigLine text big → AreSound text before → slice_get (lines text) before ≡ Some l → (said ≡ None → IsInPlace before (Some l) → ⊥)
-    → judged big (before + 1) said ≡ Err f → IsFirstFault text f
+    → line_or_fault big (before + 1) said ≡ Err f → IsFirstFault text f
 first_fault text l before big said f bigs sound here misplaced e = by_cases (judged_err big (before + 1) said f e) where
   told : (kind : ScriptFaultKind) → f ≡ Fault (before + 1) kind → IsFaultAfter text before kind → (kind ≡ Script → IsFaultAfter text before Big → ⊥) → IsFirstFault text f
   told kind is faulty first = subst (λ (g : ScriptFault). IsFirstFault text g) (sym is) (record { before = before; number = refl; sound = sound; faulty = faulty; big_first = first })
@@ -135,15 +135,15 @@ first_fault text l before big said f bigs sound here misplaced e = by_cases (jud
   by_cases (inl h) = told Big h.1 (is_big text big before bigs h.0) (λ is. absurd (let no : Big ≡ Script = is in cc))
   by_cases (inr h) = told Script h.2 (λ place. misplaced h.1 (subst (λ (o : Option (List ℕ)). IsInPlace before o) here place)) (λ is. not_big text big before bigs h.0)
 
--- ---- how far the text has been read
+-- ---- the part of the text that was read
 
--- before anything is read, the whole text is left
+-- before any line is read, the whole text remains
 pub after_none : (text : List ℕ) → IsAfter text 0 text
 after_none text = record { rest = refl; within = omega arith; sound = sound_none text }
 
--- after one more line that has no fault, what stands behind it is left
+-- after one more line without an error, the bytes after it remain
 pub after_more : {A : Type 0} (text left l after : List ℕ) (count next : ℕ) (big : Option ℕ) (said : Option A) (x : A) → next ≡ count + 1
-    → IsAfter text count left → lines left ≡ l ∷ lines after → IsBigLine text big → judged big (count + 1) said ≡ Ok x → (said ≡ Some x → IsInPlace count (Some l)) → IsAfter text next after
+    → IsAfter text count left → lines left ≡ l ∷ lines after → IsBigLine text big → line_or_fault big (count + 1) said ≡ Ok x → (said ≡ Some x → IsInPlace count (Some l)) → IsAfter text next after
 after_more text left l after count next big said x is a split bigs e place =
     let here = line_here count (lines text) l (lines after) (a.rest ∙ split) in
     let ok = judged_ok big (count + 1) said x e in
@@ -156,20 +156,20 @@ after_more text left l after count next big said x is a split bigs e place =
       sound = sound_more text count next is a.sound (not_big text big count bigs ok.0) stands;
     }
 
--- no text has more lines without a fault
+-- the number of lines without an error is bounded
 pub count_small : (text left : List ℕ) (count : ℕ) → IsAfter text count left → count ≤ 1048576
-count_small text left count a = grind (arith, feeds_take max_script text, length_lines text, a.sound (feeds (take max_script text)) Big)
+count_small text left count a = grind (arith, feeds_take max_script text, length_lines text, a.sound (count_line_feeds (take max_script text)) Big)
 
--- a text without a fault is within the limit
+-- a text without an error is within the limit
 pub whole_within : (text : List ℕ) (count : ℕ) → IsAfter text count [] → length text ≤ max_script
 whole_within text count a = grind (
   arith,
   line_past count (lines text) a.rest,
   feeds_below max_script text,
-  a.sound (feeds (take max_script text)) Big,
+  a.sound (count_line_feeds (take max_script text)) Big,
 )
 
--- ---- the commands so far
+-- ---- the commands read so far
 
 pub all_push : {X : Type 0} (P : X → Type 0) (xs : List X) (x : X) → AllByRecursion P xs → P x → AllByRecursion P (xs ++ x ∷ [])
 all_push P [] x h p = (p, tt)
@@ -179,7 +179,7 @@ range_more : (a n next : ℕ) → next ≡ a + n → range_with_len a (suc n) �
 range_more a zero next is = let same : next ≡ a = omega arith in ap (λ x. x ∷ []) (sym same)
 range_more a (suc n) next is = ap (λ xs. a ∷ xs) (range_more (a + 1) n next (omega arith))
 
--- one more line with a command adds that command
+-- one more command line adds its command
 pub commands_more : (rest left l after : List ℕ) (commands : List Command) (c : Command) → AreCommands rest commands left → lines left ≡ l ∷ lines after
     → l ≡ command_line c.request → IsRequest c.request → AreCommands rest (commands ++ c ∷ []) after
 commands_more rest left l after commands c h split is fits = grind (arith, map-append, append_assoc, all_push)
@@ -188,9 +188,9 @@ length_push : {X : Type 0} (xs : List X) (x : X) → length (xs ++ x ∷ []) ≡
 length_push [] x = refl
 length_push (y ∷ xs) x = ap suc (length_push xs x)
 
--- the commands are on the lines up to the one that was read last
+-- the commands are on the lines up to the line read last
 pub reaches_more : {A : Type 0} (text left l after : List ℕ) (commands : List Command) (line next : ℕ) (big : Option ℕ) (said : Option A) (x : A) (c : Command)
-    → next ≡ line + 1 → c.line ≡ next → AreOnLines text commands line left → lines left ≡ l ∷ lines after → IsBigLine text big → judged big next said ≡ Ok x → (said ≡ Some x → IsCommandLine l)
+    → next ≡ line + 1 → c.line ≡ next → AreOnLines text commands line left → lines left ≡ l ∷ lines after → IsBigLine text big → line_or_fault big next said ≡ Ok x → (said ≡ Some x → IsCommandLine l)
     → AreOnLines text (commands ++ c ∷ []) next after
 reaches_more text left l after commands line next big said x c is here r split bigs e command =
     let place : IsCommandLine l → IsInPlace line (Some l) = λ w. subst (λ (n : ℕ). IsInPlace n (Some l)) (let count : line ≡ suc (length commands) = omega (arith, r.count) in sym count) w in
@@ -198,33 +198,33 @@ reaches_more text left l after commands line next big said x c is here r split b
     let longer = length_push commands c in
     let number : c.line ≡ 2 + length commands = omega (arith, r.count) in
     record {
-      after = after_more text left l after line next big said x is r.after split bigs (subst (λ (n : ℕ). judged big n said ≡ Ok x) is e) (λ same. place (command same));
+      after = after_more text left l after line next big said x is r.after split bigs (subst (λ (n : ℕ). line_or_fault big n said ≡ Ok x) is e) (λ same. place (command same));
       numbered = more ∙ ap (λ ns. ns ++ c.line ∷ []) r.numbered ∙ sym (range_more 2 (length commands) c.line number) ∙ ap (range_with_len 2) (sym longer);
       count = omega (arith, r.count);
     }
 
--- a fault on a command's line
+-- an error on a command's line is the first error of the text
 pub command_fault : {A : Type 0} (text left l after : List ℕ) (commands : List Command) (line next : ℕ) (big : Option ℕ) (said : Option A) (f : ScriptFault)
-    → next ≡ line + 1 → AreOnLines text commands line left → lines left ≡ l ∷ lines after → IsBigLine text big → judged big next said ≡ Err f → (said ≡ None → IsCommandLine l → ⊥) → IsFirstFault text f
+    → next ≡ line + 1 → AreOnLines text commands line left → lines left ≡ l ∷ lines after → IsBigLine text big → line_or_fault big next said ≡ Err f → (said ≡ None → IsCommandLine l → ⊥) → IsFirstFault text f
 command_fault text left l after commands line next big said f is r split bigs e none =
     let misplaced : IsInPlace line (Some l) → IsCommandLine l = λ w. subst (λ (n : ℕ). IsInPlace n (Some l)) (let count : line ≡ suc (length commands) = omega (arith, r.count) in count) w in
     let here = line_here line (lines text) l (lines after) (r.after.rest ∙ split) in
-    first_fault text l line big said f bigs r.after.sound here.0 (λ no place. none no (misplaced place)) (subst (λ (n : ℕ). judged big n said ≡ Err f) is e)
+    first_fault text l line big said f bigs r.after.sound here.0 (λ no place. none no (misplaced place)) (subst (λ (n : ℕ). line_or_fault big n said ≡ Err f) is e)
 
--- no line before the next one has a fault
+-- no line before the next one has an error
 pub read_up_to : (text left : List ℕ) (line next : ℕ) → next ≡ line + 1 → IsAfter text line left → IsReadUpTo text next
 read_up_to text left line next is a = record { before = line; number = is; sound = a.sound }
 
--- the fault of a line tells its number
-pub judged_line : {A : Type 0} (big : Option ℕ) (line : ℕ) (said : Option A) (f : ScriptFault) → judged big line said ≡ Err f → f.line ≡ line
+-- the error of a line contains the line's number
+pub judged_line : {A : Type 0} (big : Option ℕ) (line : ℕ) (said : Option A) (f : ScriptFault) → line_or_fault big line said ≡ Err f → f.line ≡ line
 judged_line big line said f e = grind (arith, judged_err big line said f e)
 
--- ---- what a call left
+-- ---- effects of a call
 
--- a push that was not refused left what it adds
+-- a push that succeeded added its element
 pub pushed : {T E X : Type 0} (r : Result T E) (new more old : X) → is_err r ≡ false → new ≡ cond (is_ok r) more old → new ≡ more
 pushed r new more old told e = grind arith
 
--- where no line so high comes, the next number is one more
+-- line numbers do not reach the saturation limit, so the next number is one higher
 pub next_line : (text left : List ℕ) (line next : ℕ) → IsAfter text line left → next ≡ min (line + 1) (2 ^ 32 - 1) → next ≡ line + 1
 next_line text left line next a e = let small : line ≤ 1048576 = count_small text left line a in omega arith

@@ -1,3 +1,3 @@
--- What private functions keep. No public clause cites these.
+-- Contracts of private functions; no public clause cites them.
 pub mod Reading
 pub mod Place

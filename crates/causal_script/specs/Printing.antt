@@ -1,4 +1,4 @@
--- How a fault of a script and a refused command print.
+-- The printed lines for an error in a script and for a refused command.
 use Rattle.std.specs.Prelude.{ℕ, List, ◌++◌, codes, decimal}
 use Rattle.causal_protocol.specs.declared.request.CoreFault.{CoreFault}
 use Rattle.causal_protocol.specs.declared.request.CoreFault.TheVariants as fault
@@ -6,7 +6,7 @@ use Rattle.causal_script.specs.declared.script.ScriptFault.{ScriptFault}
 use Rattle.causal_script.specs.declared.script.ScriptFaultKind.{ScriptFaultKind}
 use Rattle.causal_script.specs.declared.script.ScriptFaultKind.TheVariants as kind
 
--- the name of each kind of fault
+-- the printed name of each kind of error
 abbrev pub kind_name : ScriptFaultKind → List ℕ
 kind_name kind.Big = codes "Big"
 kind_name kind.Script = codes "Script"
@@ -16,7 +16,7 @@ kind_name kind.NoMemory = codes "NoMemory"
 abbrev pub script_line : ScriptFault → List ℕ
 script_line f = codes "fault line=" ++ (decimal f.line ++ (codes " " ++ (kind_name f.kind ++ codes "\n")))
 
--- the name of each refusal; behind that of another message that has to be delivered first stand its source and its ssn
+-- the printed name of each refusal; `MustReplay` is followed by the source and ssn of the message to deliver first
 abbrev pub refusal : CoreFault → List ℕ
 refusal fault.NoProcess = codes "NoProcess"
 refusal fault.Down = codes "Down"

@@ -1,4 +1,4 @@
--- Which script a text spells.
+-- The script that a text spells.
 use Rattle.std.specs.Prelude.{◌≡◌, ℕ, ◌^◌, ◌<◌, ◌≤◌, List, ◌∷◌, ◌++◌, length, map, codes, decimal}
 use Rattle.std.specs.List.{AllByRecursion, range_with_len}
 use Rattle.causal_protocol.specs.declared.request.Request.{Request}
@@ -10,17 +10,18 @@ use Rattle.causal_script.specs.declared.script.Script.{Script}
 use Rattle.causal_script.specs.declared.start.Start.{Start}
 use Rattle.causal_script.specs.Lines.{lines}
 
--- how many bytes the text of a script may have
+-- the maximum size of a script in bytes
 abbrev pub max_script : ℕ
 max_script = 1048576
 
--- what a script says, without where its commands lie in memory
-pub record Plan : Type 0 where
+-- the content of a script, without the memory layout of its commands
+pub record ScriptContent : Type 0 where
   pub start : Start
   pub commands : List Command
 
-abbrev pub plan_of : Script → Plan
-plan_of s = record { start = record { kind = s.kind; n = s.n; f = s.f; param = s.param }; commands = s.commands }
+-- the content of a script
+abbrev pub script_content : Script → ScriptContent
+script_content s = record { start = record { kind = s.kind; n = s.n; f = s.f; param = s.param }; commands = s.commands }
 
 -- ---- the lines
 
@@ -28,16 +29,17 @@ plan_of s = record { start = record { kind = s.kind; n = s.n; f = s.f; param = s
 abbrev pub three_numbers : Start → List ℕ
 three_numbers s = decimal s.n ++ (codes " " ++ (decimal s.f ++ (codes " " ++ decimal s.param)))
 
--- the first line
+-- the first line, for a given kind
 abbrev pub start_line_at : Kind → Start → List ℕ
 start_line_at Ring s = codes "start ring " ++ three_numbers s
 start_line_at Echo s = codes "start echo " ++ three_numbers s
 start_line_at Tally s = codes "start tally " ++ (decimal s.n ++ (codes " " ++ decimal s.f))
 
+-- the first line
 abbrev pub start_line : Start → List ℕ
 start_line s = start_line_at s.kind s
 
--- each line after it
+-- the line of a command
 abbrev pub command_line : Request → List ℕ
 command_line (Deliver q source ssn) =
     codes "deliver " ++ (decimal q.0 ++ (codes " " ++ (decimal source.0 ++ (codes " " ++ decimal ssn))))
@@ -64,16 +66,16 @@ IsRequest (Restart p) = p.0 < 2 ^ 8
 IsRequest (Flush p) = p.0 < 2 ^ 8
 IsRequest (Forget p) = p.0 < 2 ^ 8
 
--- what a script may say: its numbers are in their ranges, its commands are on the lines 2, 3 and so on, and there are no
--- more of them than bytes in its text
-pub record IsPlan (p : Plan) : Type 0 where
+-- a valid script content: its numbers are in range; its commands are on the lines 2, 3 and so on; there are at most as
+-- many as bytes in the text
+pub record IsScriptContent (p : ScriptContent) : Type 0 where
   pub start : IsStart p.start
   pub requests : AllByRecursion (λ c. IsRequest c.request) p.commands
   pub numbered : map (λ c. c.line) p.commands ≡ range_with_len 2 (length p.commands)
   pub room : length p.commands ≤ max_script
 
--- the lines of the text are those of the script, and the text is not too long
-pub record Spells (text : List ℕ) (p : Plan) : Type 0 where
-  pub plan : IsPlan p
+-- the text consists of the script's lines and is within the size limit
+pub record Spells (text : List ℕ) (p : ScriptContent) : Type 0 where
+  pub content : IsScriptContent p
   pub said : lines text ≡ start_line p.start ∷ map (λ c. command_line c.request) p.commands
   pub within : length text ≤ max_script

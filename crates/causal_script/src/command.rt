@@ -1,29 +1,29 @@
-//! A command of a script.
+//! Parsing of a script's commands.
 ghost use Rattle.std.specs.Prelude.{◌≡◌};
-ghost use Rattle.causal_script.specs.Inside.Reading.{delivery_of, of_process, named_request, request_of};
+ghost use Rattle.causal_script.specs.Inside.Reading.{delivery_of, parse_process_command, named_request, request_of};
 
-use crate::words::{cut, number, process};
+use crate::tokens::{parse_number, parse_process, split_at_byte};
 use causal_name::Pid;
 use causal_protocol::request::Request;
 
-/// `Q SOURCE SSN`.
+/// Parses `Q SOURCE SSN`.
 #[tactic(auto, unfolding(crate::specs::Inside::Reading::delivery_of))]
-fn delivery(words: &[u8]) -> Option<Request>
+fn parse_delivery(words: &[u8]) -> Option<Request>
     ensures { result ≡ delivery_of words.now }
 {
-    let (q, words) = cut(words, b' ')?;
-    let (source, ssn) = cut(words, b' ')?;
+    let (q, words) = split_at_byte(words, b' ')?;
+    let (source, ssn) = split_at_byte(words, b' ')?;
     Some(Request::Deliver {
-        q: process(q)?,
-        source: process(source)?,
-        ssn: number(ssn, u32::MAX)?,
+        q: parse_process(q)?,
+        source: parse_process(source)?,
+        ssn: parse_number(ssn, u32::MAX)?,
     })
 }
 
-/// A command of one process, by its name.
-#[tactic(auto, unfolding(crate::specs::Inside::Reading::of_process))]
-fn of_process(name: &[u8], p: Pid) -> Option<Request>
-    ensures { result ≡ of_process name.now p }
+/// Parses a command with one process, by its name.
+#[tactic(auto, unfolding(crate::specs::Inside::Reading::parse_process_command))]
+fn parse_process_command(name: &[u8], p: Pid) -> Option<Request>
+    ensures { result ≡ parse_process_command name.now p }
 {
     if name == b"crash".as_slice() {
         Some(Request::Crash { p })
@@ -38,22 +38,22 @@ fn of_process(name: &[u8], p: Pid) -> Option<Request>
     }
 }
 
-/// A command by its name and the words behind it.
+/// Parses a command, by its name and its arguments.
 #[tactic(auto, unfolding(crate::specs::Inside::Reading::named_request))]
-fn named(name: &[u8], words: &[u8]) -> Option<Request>
+fn parse_command(name: &[u8], words: &[u8]) -> Option<Request>
     ensures { result ≡ named_request name.now words.now }
 {
     if name == b"deliver".as_slice() {
-        return delivery(words);
+        return parse_delivery(words);
     }
-    of_process(name, process(words)?)
+    parse_process_command(name, parse_process(words)?)
 }
 
-/// What a line after the first asks for.
+/// Parses a line after the first.
 #[tactic(auto, unfolding(crate::specs::Inside::Reading::request_of))]
-pub(crate) fn request(line: &[u8]) -> Option<Request>
+pub(crate) fn parse_request(line: &[u8]) -> Option<Request>
     ensures { result ≡ request_of line.now }
 {
-    let (name, words) = cut(line, b' ')?;
-    named(name, words)
+    let (name, words) = split_at_byte(line, b' ')?;
+    parse_command(name, words)
 }

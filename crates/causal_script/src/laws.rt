@@ -1,7 +1,7 @@
-//! A law over texts. The function does nothing: what it ensures is the law.
-ghost use Rattle.causal_script.specs.Laws.{OneReading};
+//! A law on texts. The function does nothing: its postcondition is the law.
+ghost use Rattle.causal_script.specs.Laws.{ReadingIsUnique};
 
-/// A text spells one script, or it has one first fault, and never both.
-pub fn one_reading()
-    ensures { OneReading }
+/// A text spells exactly one script or has exactly one first error, and never both.
+pub fn reading_is_unique()
+    ensures { ReadingIsUnique }
 {}

@@ -1,23 +1,24 @@
-//! The script of a run: its text, what it asks of the runtime, and the lines that tell its faults.
+//! Scripts of runs: parsing, and the lines printed for errors and refusals.
 //!
-//! Begin at [`parse_script`], which gives the [`Script`] that a text spells, or its first fault. [`script_line`] and
-//! [`refused_line`] print a fault and a refused command. [`laws`] says that a text has one reading.
+//! Begin at [`parse_script`], which returns the [`Script`] that a text spells, or the text's first error.
+//! [`script_line`] and [`refused_line`] print an error and a refused command. [`laws`] proves that a text has one
+//! reading.
 #![tactic(auto)]
 
-/// A command of a script.
+/// Parsing of a script's commands.
 mod command;
-/// A law over texts.
+/// A law on texts.
 pub mod laws;
-/// The lines that tell a fault of a script and a refused command.
+/// The printed lines for an error in a script and for a refused command.
 mod line;
-/// From the text of a script to what it says.
+/// Parsing of a script.
 mod parse;
-/// What a script says.
+/// The content of a script.
 mod script;
-/// The first line of a script.
+/// Parsing of a script's first line.
 mod start;
-/// The words and numbers of a line.
-mod words;
+/// Splitting of a line, and parsing of its numbers.
+mod tokens;
 
 pub use line::{refused_line, script_line};
 pub use parse::parse_script;

@@ -1,4 +1,4 @@
-//! The lines that tell a fault of a script and a refused command.
+//! The printed lines for an error in a script and for a refused command.
 ghost use Rattle.std.specs.Prelude.{◌≡◌, IfOk};
 ghost use Rattle.std.specs.String.{string_bytes};
 ghost use Rattle.causal_script.specs.Printing.{kind_name, script_line, refusal, refused_line};
@@ -8,10 +8,10 @@ use causal_name::{MsgName, NoMemory, Pid};
 use causal_protocol::request::CoreFault;
 use std::alloc::{AllocError, Global};
 
-/// The line that a fault of a script prints as, with a line feed: `fault line=3 Script`.
+/// Formats the line that is printed for a script's error, with a line feed: `fault line=3 Script`.
 ///
 /// # Errors
-/// `NoMemory` where memory was refused.
+/// `NoMemory` if allocation failed.
 pub fn script_line(alloc: Global, fault: &ScriptFault) -> Result<Vec<u8>, NoMemory>
     ensures { IfOk result (λ text. text.items ≡ script_line fault.now) }
 {
@@ -32,12 +32,11 @@ impl ScriptFaultKind {
     }
 }
 
-/// The line that a refused command prints as, with a line feed: `refused line=6 OverFaults`, or
-/// `refused line=6 MustReplay 2 0` with the source and the send sequence number of the message that has to be
-/// delivered first.
+/// Formats the line that is printed for a refused command, with a line feed: `refused line=6 OverFaults`, or `refused
+/// line=6 MustReplay 2 0` with the source and ssn of the message that must be delivered first.
 ///
 /// # Errors
-/// `NoMemory` where memory was refused.
+/// `NoMemory` if allocation failed.
 pub fn refused_line(alloc: Global, line: u32, fault: CoreFault) -> Result<Vec<u8>, NoMemory>
     ensures { IfOk result (λ text. text.items ≡ refused_line line fault) }
 {

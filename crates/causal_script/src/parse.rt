@@ -1,20 +1,20 @@
-//! From the text of a script to what it says.
+//! Parsing of a script.
 ghost use Rattle.std.specs.Prelude.{◌≡◌, ◌≢◌, ◌<◌, ◌≤◌, ℕ, List, [], ◌∷◌, length, IfOk, IfErr, IfSome, MatchOption};
-ghost use Rattle.causal_script.specs.Lines.{lines, feeds};
-ghost use Rattle.causal_script.specs.Spelling.{Spells, IsPlan, plan_of};
+ghost use Rattle.causal_script.specs.Lines.{lines, count_line_feeds};
+ghost use Rattle.causal_script.specs.Spelling.{Spells, IsScriptContent, script_content};
 ghost use Rattle.causal_script.specs.Faults.{IsFirstFault, IsReadUpTo};
-ghost use Rattle.causal_script.specs.Inside.Place.{IsBigLine, IsAfter, AreCommands, AreOnLines, judged};
+ghost use Rattle.causal_script.specs.Inside.Place.{IsBigLine, IsAfter, AreCommands, AreOnLines, line_or_fault};
 
-use crate::command::request;
+use crate::command::parse_request;
 use crate::script::{Command, Commands, Script, ScriptFault, ScriptFaultKind};
-use crate::start::{Start, first_line};
-use crate::words::cut;
+use crate::start::{Start, parse_first_line};
+use crate::tokens::split_at_byte;
 use std::alloc::Global;
 
-/// How many bytes the text of a script may have.
+/// The maximum size of a script in bytes.
 const MAX_SCRIPT: usize = 1_048_576;
 
-/// The first line, without its line feed, and what follows it; None where there is no line.
+/// Returns the first line, without its line feed, and the bytes after it; None if the text is empty.
 fn split_line(text: &[u8]) -> Option<(&[u8], &[u8])>
     ensures parts { MatchOption result (text.now ≡ [])
         (λ parts. lines text.now ≡ parts.0.now ∷ lines parts.1.now) }
@@ -23,16 +23,16 @@ fn split_line(text: &[u8]) -> Option<(&[u8], &[u8])>
     if text.is_empty() {
         return None;
     }
-    match cut(text, b'\n') {
+    match split_at_byte(text, b'\n') {
         Some((line, after)) => Some((line, after)),
         None => Some(text.split_at(text.len())),
     }
 }
 
-/// How many line feeds there are.
-fn feeds(bytes: &[u8]) -> u32
+/// Counts the line feeds.
+fn count_line_feeds(bytes: &[u8]) -> u32
     requires { length bytes.now ≤ 1048576 }
-    ensures value { result ≡ feeds bytes.now }
+    ensures value { result ≡ count_line_feeds bytes.now }
     ensures bound { result ≤ length bytes.now }
 {
     let mut feeds = 0;
@@ -44,20 +44,20 @@ fn feeds(bytes: &[u8]) -> u32
     feeds
 }
 
-/// The line with the first byte past the limit.
-fn big_line(text: &[u8]) -> Option<u32>
+/// The number of the line that contains the first byte past the limit, if any.
+fn first_line_past_limit(text: &[u8]) -> Option<u32>
     ensures { IsBigLine text.now result }
 {
     if text.len() <= MAX_SCRIPT {
         return None;
     }
     let (within, _past) = text.split_at(MAX_SCRIPT);
-    Some(feeds(within) + 1)
+    Some(count_line_feeds(within) + 1)
 }
 
-/// What a line says, unless it has a fault.
-fn judged<T: Drop>(big: Option<u32>, line: u32, said: Option<T>) -> Result<T, ScriptFault>
-    ensures { result ≡ judged big line said }
+/// Returns the parsed line, or its error.
+fn line_or_fault<T: Drop>(big: Option<u32>, line: u32, said: Option<T>) -> Result<T, ScriptFault>
+    ensures { result ≡ line_or_fault big line said }
 {
     let kind = match big {
         Some(big) if big == line => ScriptFaultKind::Big,
@@ -69,24 +69,26 @@ fn judged<T: Drop>(big: Option<u32>, line: u32, said: Option<T>) -> Result<T, Sc
     Err(ScriptFault { line, kind })
 }
 
-/// The commands on the lines after the first.
-fn commands(alloc: Global, rest: &[u8], big: Option<u32>) -> Result<Vec<Command>, ScriptFault>
+/// Parses the commands on the lines after the first.
+fn parse_commands(alloc: Global, rest: &[u8], big: Option<u32>) -> Result<Vec<Command>, ScriptFault>
     ensures ok { IfOk result (λ commands. AreCommands rest.now commands.items []) }
     ensures reaches { IfOk result
         (λ commands. (text : List ℕ) → IsAfter text 1 rest.now → IsBigLine text big
         → (line : ℕ) × AreOnLines text commands.items line []) }
     ensures err { IfErr result (λ fault. fault.kind ≢ ScriptFaultKind.NoMemory
-        → (text : List ℕ) → IsAfter text 1 rest.now → IsBigLine text big → IsFirstFault text fault) }
+        → (text : List ℕ) → IsAfter text 1 rest.now → IsBigLine text big →
+        IsFirstFault text fault) }
     ensures memory { IfErr result (λ fault. fault.kind ≡ ScriptFaultKind.NoMemory
-        → (text : List ℕ) → IsAfter text 1 rest.now → IsBigLine text big → IsReadUpTo text fault.line) }
+        → (text : List ℕ) → IsAfter text 1 rest.now → IsBigLine text big →
+        IsReadUpTo text fault.line) }
 {
     let mut commands = Vec::new(alloc);
     let mut line: u32 = 1;
     let mut left = rest;
     while let Some((text, after)) = split_line(left) {
-        // no script has as many lines: the one with the byte past the limit comes before
+        // cannot saturate before an error is found: the line with the first byte past the limit comes earlier
         line = line.saturating_add(1);
-        let request = judged(big, line, request(text))?;
+        let request = line_or_fault(big, line, parse_request(text))?;
         if commands.push(Command { line, request }).is_err() {
             return Err(ScriptFault {
                 line,
@@ -98,30 +100,29 @@ fn commands(alloc: Global, rest: &[u8], big: Option<u32>) -> Result<Vec<Command>
     Ok(commands)
 }
 
-/// The script that a text spells, which has at most 1,048,576 bytes. It is read whole before any of it is answered.
-/// Each byte is looked at a few times, so the time is in proportion to their number; the memory is that of the
-/// commands.
+/// Parses a script of at most 1,048,576 bytes. The whole text is parsed before this returns. O(bytes) time; allocates
+/// only the commands.
 ///
 /// # Errors
-/// Any other text: its first line that breaks the rules, counted from 1, and how. `NoMemory` is answered only where a
-/// growth was refused, with the line that was being read: no line before it has a fault.
+/// For any other text, the first line that breaks the rules, counted from 1, and the kind of error. `NoMemory` if
+/// allocation failed, with the line that was being read; no line before it has an error.
 pub fn parse_script(alloc: Global, bytes: &[u8]) -> Result<Script, ScriptFault>
-    ensures ok { IfOk result (λ script. Spells bytes.now (plan_of script)) }
-    ensures plan { IfOk result (λ script. IsPlan (plan_of script)) }
+    ensures ok { IfOk result (λ script. Spells bytes.now (script_content script)) }
+    ensures content { IfOk result (λ script. IsScriptContent (script_content script)) }
     ensures err { IfErr result
         (λ fault. fault.kind ≢ ScriptFaultKind.NoMemory → IsFirstFault bytes.now fault) }
     ensures memory { IfErr result
         (λ fault. fault.kind ≡ ScriptFaultKind.NoMemory → IsReadUpTo bytes.now fault.line) }
 {
-    let big = big_line(bytes);
+    let big = first_line_past_limit(bytes);
     let Some((first, rest)) = split_line(bytes) else {
         return Err(ScriptFault {
             line: 1,
             kind: ScriptFaultKind::Script,
         });
     };
-    let Start { kind, n, f, param } = judged(big, 1, first_line(first))?;
-    let commands = commands(alloc, rest, big)?;
+    let Start { kind, n, f, param } = line_or_fault(big, 1, parse_first_line(first))?;
+    let commands = parse_commands(alloc, rest, big)?;
     Ok(Script {
         kind,
         n,

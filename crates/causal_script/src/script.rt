@@ -1,9 +1,9 @@
-//! What a script says.
+//! The content of a script.
 use causal_process::Sequence;
 use causal_protocol::request::Request;
 use thiserror::Error;
 
-/// The kind of the processes of a run.
+/// The kind of a run's processes.
 #[derive(Clone, Copy)]
 pub enum Kind {
     Ring,
@@ -11,7 +11,7 @@ pub enum Kind {
     Tally,
 }
 
-/// A line of a script after its first, and what it asks for. Lines are counted from 1.
+/// The request on a line after the first. Lines are counted from 1.
 #[derive(Clone, Copy)]
 pub struct Command {
     pub line: u32,
@@ -21,7 +21,7 @@ pub struct Command {
 /// Commands in order. Contracts see their list.
 pub type Commands = Sequence<Command>;
 
-/// A script: n processes of one kind, of which at most f are down at once, and the commands in their order.
+/// A script: n processes of one kind, the bound f on processes that are down at once, and the commands in order.
 #[derive(Drop)]
 pub struct Script {
     pub kind: Kind,
@@ -33,21 +33,21 @@ pub struct Script {
     pub commands: Commands,
 }
 
-/// What is wrong with a line of a script.
+/// The kind of a script's error.
 #[derive(Clone, Copy, Debug, PartialEq, Eq, Error)]
 pub enum ScriptFaultKind {
-    /// The line has the first byte past the limit on a script's length.
+    /// The line contains the first byte past the size limit.
     #[error("the script is too long")]
     Big,
-    /// The line is none of a script at its place.
+    /// The line is not valid at its position: no start on line 1, or no command after it.
     #[error("this is no line of a script here")]
     Script,
-    /// Memory was asked for and refused.
+    /// Allocation failed.
     #[error("no memory")]
     NoMemory,
 }
 
-/// The first line of a text that is no script, and what is wrong with it.
+/// The first line of an invalid script that has an error, and the kind of the error.
 #[derive(Clone, Copy, Debug, PartialEq, Eq, Error)]
 #[error("line {line}: {kind}")]
 pub struct ScriptFault {

@@ -1,11 +1,11 @@
-//! The first line of a script.
+//! Parsing of a script's first line.
 ghost use Rattle.std.specs.Prelude.{◌≡◌};
-ghost use Rattle.causal_script.specs.Inside.Reading.{numbered_start, with_param, tally_of, start_of_kind, named_start, start_of};
+ghost use Rattle.causal_script.specs.Inside.Reading.{numbered_start, parse_start_numbers, tally_of, start_of_kind, named_start, start_of};
 
 use crate::script::Kind;
-use crate::words::{count, cut, number};
+use crate::tokens::{parse_number, parse_process_count, split_at_byte};
 
-/// What a first line says.
+/// The content of a first line.
 #[derive(Clone, Copy)]
 pub(crate) struct Start {
     pub(crate) kind: Kind,
@@ -14,70 +14,70 @@ pub(crate) struct Start {
     pub(crate) param: u8,
 }
 
-/// A start by the words of its two first numbers.
+/// Parses the process count and the failure bound of a start.
 #[tactic(auto, unfolding(crate::specs::Inside::Reading::numbered_start))]
-fn numbered(kind: Kind, n: &[u8], f: &[u8], param: u8) -> Option<Start>
+fn start_from_numbers(kind: Kind, n: &[u8], f: &[u8], param: u8) -> Option<Start>
     ensures { result ≡ numbered_start kind n.now f.now param }
 {
     Some(Start {
         kind,
-        n: count(n)?,
-        f: number(f, 65_535)? as u16,
+        n: parse_process_count(n)?,
+        f: parse_number(f, 65_535)? as u16,
         param,
     })
 }
 
-/// `N F PARAM`.
-#[tactic(auto, unfolding(crate::specs::Inside::Reading::with_param))]
-fn with_param(kind: Kind, words: &[u8]) -> Option<Start>
-    ensures { result ≡ with_param kind words.now }
+/// Parses `N F PARAM`.
+#[tactic(auto, unfolding(crate::specs::Inside::Reading::parse_start_numbers))]
+fn parse_start_numbers(kind: Kind, words: &[u8]) -> Option<Start>
+    ensures { result ≡ parse_start_numbers kind words.now }
 {
-    let (n, words) = cut(words, b' ')?;
-    let (f, param) = cut(words, b' ')?;
-    numbered(kind, n, f, number(param, 255)? as u8)
+    let (n, words) = split_at_byte(words, b' ')?;
+    let (f, param) = split_at_byte(words, b' ')?;
+    start_from_numbers(kind, n, f, parse_number(param, 255)? as u8)
 }
 
-/// `N F`.
+/// Parses `N F`.
 #[tactic(auto, unfolding(crate::specs::Inside::Reading::tally_of))]
-fn tally(words: &[u8]) -> Option<Start>
+fn parse_tally(words: &[u8]) -> Option<Start>
     ensures { result ≡ tally_of words.now }
 {
-    let (n, f) = cut(words, b' ')?;
-    numbered(Kind::Tally, n, f, 0)
+    let (n, f) = split_at_byte(words, b' ')?;
+    start_from_numbers(Kind::Tally, n, f, 0)
 }
 
-/// A start by its kind and the words behind it.
+/// Parses a start, by its kind and its numbers.
 #[tactic(auto, unfolding(crate::specs::Inside::Reading::start_of_kind))]
-fn of_kind(kind: &[u8], words: &[u8]) -> Option<Start>
+fn parse_start_of_kind(kind: &[u8], words: &[u8]) -> Option<Start>
     ensures { result ≡ start_of_kind kind.now words.now }
 {
     if kind == b"ring".as_slice() {
-        with_param(Kind::Ring, words)
+        parse_start_numbers(Kind::Ring, words)
     } else if kind == b"echo".as_slice() {
-        with_param(Kind::Echo, words)
+        parse_start_numbers(Kind::Echo, words)
     } else if kind == b"tally".as_slice() {
-        tally(words)
+        parse_tally(words)
     } else {
         None
     }
 }
 
 #[tactic(auto, unfolding(crate::specs::Inside::Reading::named_start))]
-fn named(name: &[u8], words: &[u8]) -> Option<Start>
+fn parse_start(name: &[u8], words: &[u8]) -> Option<Start>
     ensures { result ≡ named_start name.now words.now }
 {
     if name != b"start".as_slice() {
         return None;
     }
-    let (kind, words) = cut(words, b' ')?;
-    of_kind(kind, words)
+    let (kind, words) = split_at_byte(words, b' ')?;
+    parse_start_of_kind(kind, words)
 }
 
-/// What a first line says.
+/// Parses the first line.
 #[tactic(auto, unfolding(crate::specs::Inside::Reading::start_of))]
-pub(crate) fn first_line(line: &[u8]) -> Option<Start>
+pub(crate) fn parse_first_line(line: &[u8]) -> Option<Start>
     ensures { result ≡ start_of line.now }
 {
-    let (name, words) = cut(line, b' ')?;
-    named(name, words)
+    let (name, words) = split_at_byte(line, b' ')?;
+    parse_start(name, words)
 }

@@ -1,4 +1,4 @@
--- What is pending ascends.
+-- Pending messages are listed in ascending order.
 use Rattle.std.proofs.Common.{ℕ, zero, suc, ◌≡◌, ◌<◌, ◌+◌, true, List, [], ◌∷◌, ◌++◌, map, get_or, length, refl, sym, ap, ap₂, arith}
 use Rattle.std.specs.Prelude.{All, AllPairs}
 use Rattle.std.specs.List.{range_with_len}
@@ -12,7 +12,7 @@ use Rattle.causal_name.specs.declared.Pid.{Pid}
 use Rattle.causal_name.specs.declared.MsgName.{MsgName}
 use Rattle.causal_name.specs.Names.{message_cmp}
 use Rattle.causal_protocol.specs.Memory.{Memories}
-use Rattle.causal_protocol.specs.Naming.{name}
+use Rattle.causal_protocol.specs.Naming.{message_name}
 use Rattle.causal_core.specs.Pendings.{is_pending, names_from, pending_in}
 use Rattle.causal_shared.specs.Pending.{AreAscending}
 
@@ -20,7 +20,7 @@ abbrev Precedes : MsgName → MsgName → Type 0
 Precedes a b = is_lt (message_cmp a b) ≡ true
 
 abbrev numbered : ℕ → ℕ → MsgName
-numbered p ssn = name (record { 0 = p }) ssn
+numbered p ssn = message_name (record { 0 = p }) ssn
 
 abbrev IsLater : ℕ → MsgName → Type 0
 IsLater p b = p < b.source.0
@@ -57,6 +57,6 @@ from_ascends : (p : ℕ) (ms : Memories) → AllPairs Precedes (names_from p ms)
 from_ascends p [] = λ i j d lt within. absurd (omega (arith, within))
 from_ascends p (m ∷ ms) = before p 0 (option_map_or (λ m. length m.sent) m 0) (names_from (p + 1) ms) (later p (p + 1) ms (omega arith)) (from_ascends (p + 1) ms)
 
--- the messages that are pending for a process ascend
+-- the pending messages of a process ascend by source and send sequence number
 pub pending_ascends : (ms : Memories) (q : Pid) → AreAscending (pending_in ms q)
 pending_ascends ms q = AllPairs-filter Precedes (is_pending ms q) (names_from 0 ms) (from_ascends 0 ms)

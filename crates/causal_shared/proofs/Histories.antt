@@ -1,4 +1,4 @@
--- A history that grows by one item.
+-- Appending one item preserves the facts on a history.
 use Rattle.std.proofs.Common.{◌≡◌, ◌≢◌, ◌≤◌, ◌<◌, ◌∙◌, sym, refl, ap, subst, ℕ, zero, suc, List, [], ◌∷◌, ◌++◌, length, slice_set, replicate, arith, Some, None, length-append, ◌⊎◌, inl, inr}
 use Rattle.std.specs.Prelude.{slice_get, Option, option_map, unwrap_or, IfSome}
 use Rattle.std.proofs.lemmas.Option.{slice_get_cases}
@@ -9,10 +9,10 @@ use Rattle.std.proofs.lemmas.Bool.Decides.{nat_tests}
 use Rattle.causal_protocol.specs.Run.{Run}
 use Rattle.causal_protocol.specs.Steps.{Steps}
 use Rattle.causal_shared.specs.declared.item.Item.{Item}
-use Rattle.causal_shared.specs.declared.item.KeptSeat.{KeptSeat}
+use Rattle.causal_shared.specs.declared.item.SeatRecord.{SeatRecord}
 use Rattle.causal_shared.specs.Limits.{max_items}
-use Rattle.causal_shared.specs.History.{instant, IsStep, next_first, AllLegal, items_of, last_of, IsHistory, Shows, kept_after, count_at, fresh_seat, Held, Holds, Sees}
-use Rattle.causal_shared.specs.Inside.Keeping.{item_at, FitsHistory, AllKept, Keeps}
+use Rattle.causal_shared.specs.History.{run_length, IsCallStep, next_first, AllLegal, items_of, last_of, IsHistory, HasDeliveryOf, record_after, count_at, new_record, LockedState, Holds, UpdatesSeen}
+use Rattle.causal_shared.specs.LockInvariant.{item_at, FitsHistory, AllRecordsFit, LockInvariant}
 use Rattle.causal_core.proofs.Lemmas.Slices.{slice_get-set_same, slice_get-set_other}
 use Rattle.causal_shared.proofs.Lists.{slice_get-append, slice_get-append_seam, slice_get-snoc, slice_get-last}
 use Rattle.causal_protocol.specs.declared.request.Request.{Request}
@@ -20,18 +20,18 @@ use Rattle.causal_protocol.specs.declared.request.Reply.{Reply}
 use Rattle.causal_shared.proofs.Shown.{det_at-pushed}
 use Rattle.causal_shared.proofs.Cuts.{Longer, Longer-step, cut-whole, IsStep-step}
 
--- no item begins past the end
-pub next_first-le : (r : Run) (items : List Item) → AllLegal r items → next_first r items ≤ instant r
+-- no item begins after the end of the run
+pub next_first-le : (r : Run) (items : List Item) → AllLegal r items → next_first r items ≤ run_length r
 next_first-le r [] legal = omega arith
 next_first-le r (item ∷ items) legal = let rest = next_first-le r items legal.2 in let first = legal.0 in omega (arith, rest, first)
 
-next_first-snoc : (r new : Run) (items : List Item) (item : Item) → item.first ≡ instant r → next_first new (items ++ item ∷ []) ≡ next_first r items
+next_first-snoc : (r new : Run) (items : List Item) (item : Item) → item.first ≡ run_length r → next_first new (items ++ item ∷ []) ≡ next_first r items
 next_first-snoc r new [] item at = at
 next_first-snoc r new (i ∷ items) item at = refl
 
--- the items before stay legal, and the new one is
-pub AllLegal-snoc : (r new : Run) (items : List Item) (item : Item) → Longer r new → AllLegal r items → item.first ≡ instant r → IsStep r item.request item.reply new → AllLegal new (items ++ item ∷ [])
-AllLegal-snoc r new [] item longer legal at step = grind (arith, cut-whole r (instant r) refl, cut-whole new (instant new) refl)
+-- the earlier items stay legal, and the new item is legal
+pub AllLegal-snoc : (r new : Run) (items : List Item) (item : Item) → Longer r new → AllLegal r items → item.first ≡ run_length r → IsCallStep r item.request item.reply new → AllLegal new (items ++ item ∷ [])
+AllLegal-snoc r new [] item longer legal at step = grind (arith, cut-whole r (run_length r) refl, cut-whole new (run_length new) refl)
 AllLegal-snoc r new (i ∷ items) item longer legal at step =
     grind (arith, next_first-snoc r new items item at, next_first-le r items legal.2, AllLegal-snoc r new items item longer legal.2 at step)
 
@@ -41,7 +41,7 @@ items_of-snoc items item = grind (arith, nat_tests, filter-append)
 pub items_of-snoc_other : (items : List Item) (item : Item) (seat : ℕ) → item.seat ≢ seat → items_of seat (items ++ item ∷ []) ≡ items_of seat items
 items_of-snoc_other items item seat ne = grind (arith, nat_tests, filter-append, append-nil (items_of seat items))
 
--- a seat is the item's, or another
+-- a seat number equals the item's or differs from it
 either_seat : (a b : ℕ) → (a ≡ b) ⊎ (a ≢ b)
 either_seat a b = grind arith
 
@@ -59,25 +59,25 @@ numbered-snoc items item numbered call seat k i is = elim (either_seat item.seat
           | inr new ↦ sym (ap (λ (x : Item). x.call) new.1) ∙ (call ∙ sym new.0)
         ]
 
-pub IsHistory-snoc : (run new : Run) (items : List Item) (item : Item) → IsHistory run items → Steps run item.request item.reply new → item.first ≡ instant run → item.call ≡ length (items_of item.seat items) → IsHistory new (items ++ item ∷ [])
+pub IsHistory-snoc : (run new : Run) (items : List Item) (item : Item) → IsHistory run items → Steps run item.request item.reply new → item.first ≡ run_length run → item.call ≡ length (items_of item.seat items) → IsHistory new (items ++ item ∷ [])
 IsHistory-snoc run new items item history step at call = record {
   legal = AllLegal-snoc run new items item (Longer-step run new item.request item.reply step) history.legal at (IsStep-step run new item.request item.reply step);
   numbered = numbered-snoc items item history.numbered call;
 }
 
--- what is kept of a seat counts its items
-pub count_at-is : (run : Run) (items : List Item) (seats : List KeptSeat) (seat : ℕ) → AllKept run items seats → seat < length seats → count_at seats seat ≡ length (items_of seat items)
+-- a seat's record contains the number of its items
+pub count_at-is : (run : Run) (items : List Item) (seats : List SeatRecord) (seat : ℕ) → AllRecordsFit run items seats → seat < length seats → count_at seats seat ≡ length (items_of seat items)
 count_at-is run items seats seat kept inside = by_get (slice_get seats seat) refl
   where
-    by_get : (o : Option KeptSeat) → slice_get seats seat ≡ o → count_at seats seat ≡ length (items_of seat items)
+    by_get : (o : Option SeatRecord) → slice_get seats seat ≡ o → count_at seats seat ≡ length (items_of seat items)
     by_get None is = absurd (grind (arith, slice_get_cases seats seat))
-    by_get (Some k) is = ap (λ (o : Option KeptSeat). unwrap_or (option_map (λ (k : KeptSeat). k.count) o) 0) is ∙ (kept seat k is).count
+    by_get (Some k) is = ap (λ (o : Option SeatRecord). unwrap_or (option_map (λ (k : SeatRecord). k.count) o) 0) is ∙ (kept seat k is).count
 
-pub count_at-le : (run : Run) (items : List Item) (seats : List KeptSeat) (seat : ℕ) → AllKept run items seats → seat < length seats → count_at seats seat ≤ length items
+pub count_at-le : (run : Run) (items : List Item) (seats : List SeatRecord) (seat : ℕ) → AllRecordsFit run items seats → seat < length seats → count_at seats seat ≤ length items
 count_at-le run items seats seat kept inside = grind (arith, count_at-is run items seats seat kept inside, length-filter, count_by-le-length)
 
--- what is kept of another seat fits the longer history
-FitsHistory-snoc_other : (run new : Run) (items : List Item) (item : Item) (seat : ℕ) (kept : KeptSeat) → item.seat ≢ seat → instant run ≤ instant new → FitsHistory run items seat kept → FitsHistory new (items ++ item ∷ []) seat kept
+-- the record of another seat fits the longer history
+FitsHistory-snoc_other : (run new : Run) (items : List Item) (item : Item) (seat : ℕ) (kept : SeatRecord) → item.seat ≢ seat → run_length run ≤ run_length new → FitsHistory run items seat kept → FitsHistory new (items ++ item ∷ []) seat kept
 FitsHistory-snoc_other run new items item seat kept other longer was = record {
   count = rw (items_of-snoc_other items item seat other) was.count;
   seen = omega (arith, was.seen);
@@ -93,8 +93,8 @@ FitsHistory-snoc_other run new items item seat kept other longer was = record {
     by_item None h = refl
     by_item (Some p) h = slice_get-append items (item ∷ []) p h
 
--- what is kept of the item's seat fits it too
-FitsHistory-snoc : (new : Run) (items : List Item) (item : Item) (place : ℕ) → place ≡ length items → item.call ≡ length (items_of item.seat items) → FitsHistory new (items ++ item ∷ []) item.seat (kept_after item (instant new) place)
+-- the updated record of the item's seat fits the longer history
+FitsHistory-snoc : (new : Run) (items : List Item) (item : Item) (place : ℕ) → place ≡ length items → item.call ≡ length (items_of item.seat items) → FitsHistory new (items ++ item ∷ []) item.seat (record_after item (run_length new) place)
 FitsHistory-snoc new items item place at call =
     grind (
       arith,
@@ -105,30 +105,30 @@ FitsHistory-snoc new items item place at call =
       slice_get-last (items_of item.seat items) item,
     )
 
-pub AllKept-snoc : (run new : Run) (items : List Item) (seats : List KeptSeat) (item : Item) (place : ℕ) → AllKept run items seats → instant run ≤ instant new → place ≡ length items → item.seat < length seats → item.call ≡ length (items_of item.seat items) → AllKept new (items ++ item ∷ []) (slice_set seats item.seat (kept_after item (instant new) place))
+pub AllKept-snoc : (run new : Run) (items : List Item) (seats : List SeatRecord) (item : Item) (place : ℕ) → AllRecordsFit run items seats → run_length run ≤ run_length new → place ≡ length items → item.seat < length seats → item.call ≡ length (items_of item.seat items) → AllRecordsFit new (items ++ item ∷ []) (slice_set seats item.seat (record_after item (run_length new) place))
 AllKept-snoc run new items seats item place kept longer at inside call seat k is = elim (either_seat item.seat seat) [
   | inl same ↦ mine seat same is
-  | inr other ↦ FitsHistory-snoc_other run new items item seat k other longer (kept seat k (sym (slice_get-set_other seats item.seat seat (kept_after item (instant new) place) (λ e. other (sym e))) ∙ is))
+  | inr other ↦ FitsHistory-snoc_other run new items item seat k other longer (kept seat k (sym (slice_get-set_other seats item.seat seat (record_after item (run_length new) place) (λ e. other (sym e))) ∙ is))
 ]
   where
-    mine : (seat : ℕ) → item.seat ≡ seat → slice_get (slice_set seats item.seat (kept_after item (instant new) place)) seat ≡ Some k → FitsHistory new (items ++ item ∷ []) seat k
+    mine : (seat : ℕ) → item.seat ≡ seat → slice_get (slice_set seats item.seat (record_after item (run_length new) place)) seat ≡ Some k → FitsHistory new (items ++ item ∷ []) seat k
     mine seat same is =
         let P : ℕ → Type 0 = λ s. FitsHistory new (items ++ item ∷ []) s k in
-        let Q : KeptSeat → Type 0 = λ k. FitsHistory new (items ++ item ∷ []) item.seat k in
-        let found = slice_get-set_same seats item.seat (kept_after item (instant new) place) inside in
-        let there : slice_get (slice_set seats item.seat (kept_after item (instant new) place)) item.seat ≡ Some k = ap (λ s. slice_get (slice_set seats item.seat (kept_after item (instant new) place)) s) same ∙ is in
-        let k_is : kept_after item (instant new) place ≡ k = cc in
+        let Q : SeatRecord → Type 0 = λ k. FitsHistory new (items ++ item ∷ []) item.seat k in
+        let found = slice_get-set_same seats item.seat (record_after item (run_length new) place) inside in
+        let there : slice_get (slice_set seats item.seat (record_after item (run_length new) place)) item.seat ≡ Some k = ap (λ s. slice_get (slice_set seats item.seat (record_after item (run_length new) place)) s) same ∙ is in
+        let k_is : record_after item (run_length new) place ≡ k = cc in
         subst P same (subst Q k_is (FitsHistory-snoc new items item place at call))
 
--- what a run shows it shows as it goes on
-Shows-step : (old new : Run) (request : Request) (reply : Reply) (item : Item) → Steps old request reply new → Shows old.recording.past item → Shows new.recording.past item
+-- a delivery that a run contains is still there after a step
+Shows-step : (old new : Run) (request : Request) (reply : Reply) (item : Item) → Steps old request reply new → HasDeliveryOf old.recording.past item → HasDeliveryOf new.recording.past item
 Shows-step old new request reply item step was d told = grind (arith, det_at-pushed step.appended old.recording.past item.first d.det (was d told))
 
--- an item that tells the step to the run keeps the facts
-pub Keeps-note : (old new : Run) (items : List Item) (seats : List KeptSeat) (item : Item) (place seen : ℕ) (items' : List Item) (seats' : List KeptSeat)
-    → Keeps old items seats → Steps old item.request item.reply new → item.seat < length seats → item.first ≡ instant old → item.call ≡ count_at seats item.seat
-    → place ≡ length items → seen ≡ instant new → items' ≡ items ++ item ∷ [] → seats' ≡ slice_set seats item.seat (kept_after item seen place)
-    → Shows new.recording.past item → Keeps new items' seats'
+-- an item that records the step to the new run preserves the lock's invariant
+pub Keeps-note : (old new : Run) (items : List Item) (seats : List SeatRecord) (item : Item) (place seen : ℕ) (items' : List Item) (seats' : List SeatRecord)
+    → LockInvariant old items seats → Steps old item.request item.reply new → item.seat < length seats → item.first ≡ run_length old → item.call ≡ count_at seats item.seat
+    → place ≡ length items → seen ≡ run_length new → items' ≡ items ++ item ∷ [] → seats' ≡ slice_set seats item.seat (record_after item seen place)
+    → HasDeliveryOf new.recording.past item → LockInvariant new items' seats'
 Keeps-note old new items seats item place seen items' seats' keeps step inside first is_call at sees items_are seats_are shows =
     let counted : item.call ≡ length (items_of item.seat items) = is_call ∙ count_at-is old items seats item.seat keeps.kept inside in
     rw (items_are, seats_are, sees) record {
@@ -136,25 +136,25 @@ Keeps-note old new items seats item place seen items' seats' keeps step inside f
       kept = AllKept-snoc old new items seats item place keeps.kept (Longer-step old new item.request item.reply step).later at inside counted;
       shown = λ k i is. elim (slice_get-snoc items item i k is) [
         | inl was ↦ Shows-step old new item.request item.reply i step (keeps.shown k i was)
-        | inr here ↦ subst (λ x. Shows new.recording.past x) here.1 shows
+        | inr here ↦ subst (λ x. HasDeliveryOf new.recording.past x) here.1 shows
       ];
     }
 
--- each call's number is below the most items that a history has
-pub count_below : (r : Run) (items : List Item) (seats : List KeptSeat) (seat call : ℕ) → Keeps r items seats → seat < length seats → call ≡ count_at seats seat → length items < max_items → call < max_items
+-- each call's number is below the maximum number of items
+pub count_below : (r : Run) (items : List Item) (seats : List SeatRecord) (seat call : ℕ) → LockInvariant r items seats → seat < length seats → call ≡ count_at seats seat → length items < max_items → call < max_items
 count_below r items seats seat call keeps inside is room = let few = count_at-le r items seats seat keeps.kept inside in omega (arith, few, is, room)
 
-slice_get-replicate : (k seat : ℕ) (x kept : KeptSeat) → slice_get (replicate k x) seat ≡ Some kept → x ≡ kept
+slice_get-replicate : (k seat : ℕ) (x kept : SeatRecord) → slice_get (replicate k x) seat ≡ Some kept → x ≡ kept
 slice_get-replicate zero seat x kept is = absurd cc
 slice_get-replicate (suc k) zero x kept is = cc
 slice_get-replicate (suc k) (suc seat) x kept is = slice_get-replicate k seat x kept is
 
--- no item, and seats that have seen all
-pub Keeps-new : (r : Run) (k seen : ℕ) (items : List Item) (seats : List KeptSeat) → items ≡ [] → seats ≡ replicate k (fresh_seat seen) → seen ≡ instant r → Keeps r items seats
+-- the invariant holds of an empty history whose seats' `seen` counts equal the run's length
+pub Keeps-new : (r : Run) (k seen : ℕ) (items : List Item) (seats : List SeatRecord) → items ≡ [] → seats ≡ replicate k (new_record seen) → seen ≡ run_length r → LockInvariant r items seats
 Keeps-new r k seen items seats none seats_are sees = grind (arith, slice_get-replicate)
 
--- the seat is the kept one exactly where its last item is
-pub Holds-is : (held : Held) (seat count seen : ℕ) (kept : KeptSeat) (mine last : Option Item) → AllKept held.run held.history held.seats → slice_get held.seats seat ≡ Some kept → kept.count ≡ count → kept.seen ≡ seen → mine ≡ item_at held.history kept.last
+-- a seat's view matches its record if and only if its last item is the recorded one
+pub Holds-is : (held : LockedState) (seat count seen : ℕ) (kept : SeatRecord) (mine last : Option Item) → AllRecordsFit held.run held.history held.seats → slice_get held.seats seat ≡ Some kept → kept.count ≡ count → kept.seen ≡ seen → mine ≡ item_at held.history kept.last
     → (mine ≡ last → Holds held seat count seen last) × (Holds held seat count seen last → mine ≡ last)
 Holds-is held seat count seen kept mine last all is counts sees mine_is =
     let ends : mine ≡ last_of (items_of seat held.history) = mine_is ∙ (all seat kept is).last in (
@@ -162,8 +162,8 @@ Holds-is held seat count seen kept mine last all is counts sees mine_is =
       λ holds. ends ∙ sym holds.ends,
     )
 
--- a seat that has seen all entries
-pub AllKept-seen : (run : Run) (items : List Item) (seats : List KeptSeat) (at : ℕ) (k : KeptSeat) (seen : ℕ) → at < length seats → slice_get seats at ≡ Some k → seen ≤ instant run → AllKept run items seats → AllKept run items (slice_set seats at (record k { seen = seen }))
+-- a record whose `seen` count becomes the run's length still fits the history
+pub AllKept-seen : (run : Run) (items : List Item) (seats : List SeatRecord) (at : ℕ) (k : SeatRecord) (seen : ℕ) → at < length seats → slice_get seats at ≡ Some k → seen ≤ run_length run → AllRecordsFit run items seats → AllRecordsFit run items (slice_set seats at (record k { seen = seen }))
 AllKept-seen run items seats at k seen inside is few kept seat k' found = elim (either_seat at seat) [
   | inl same ↦ mine seat same found
   | inr other ↦ kept seat k' (sym (slice_get-set_other seats at seat (record k { seen = seen }) (λ e. other (sym e))) ∙ found)
@@ -172,21 +172,21 @@ AllKept-seen run items seats at k seen inside is few kept seat k' found = elim (
     mine : (seat : ℕ) → at ≡ seat → slice_get (slice_set seats at (record k { seen = seen })) seat ≡ Some k' → FitsHistory run items seat k'
     mine seat same found =
         let P : ℕ → Type 0 = λ s. FitsHistory run items s k' in
-        let Q : KeptSeat → Type 0 = λ k. FitsHistory run items at k in
+        let Q : SeatRecord → Type 0 = λ k. FitsHistory run items at k in
         let was = kept at k is in
         let set = slice_get-set_same seats at (record k { seen = seen }) inside in
         let there : slice_get (slice_set seats at (record k { seen = seen })) at ≡ Some k' = ap (λ s. slice_get (slice_set seats at (record k { seen = seen })) s) same ∙ found in
         let k_is : record k { seen = seen } ≡ k' = cc in
         subst P same (subst Q k_is record { count = was.count; seen = few; placed = was.placed; last = was.last })
 
--- what the lock keeps still fits where a seat has seen all entries
-pub Keeps-seen : (r : Run) (items : List Item) (seats : List KeptSeat) (at : ℕ) (k : KeptSeat) (seen : ℕ) → at < length seats → slice_get seats at ≡ Some k → seen ≡ instant r → Keeps r items seats → Keeps r items (slice_set seats at (record k { seen = seen }))
+-- the invariant is preserved if a seat's `seen` count becomes the run's length
+pub Keeps-seen : (r : Run) (items : List Item) (seats : List SeatRecord) (at : ℕ) (k : SeatRecord) (seen : ℕ) → at < length seats → slice_get seats at ≡ Some k → seen ≡ run_length r → LockInvariant r items seats → LockInvariant r items (slice_set seats at (record k { seen = seen }))
 Keeps-seen r items seats at k seen inside is sees keeps = record {
   legal = keeps.legal;
   kept = AllKept-seen r items seats at k seen inside is (omega (arith, sees)) keeps.kept;
   shown = keeps.shown;
 }
 
--- only what one seat has seen changes where nothing else of it is replaced
-pub Sees-is : (old new : Held) (seat : ℕ) (k : KeptSeat) (seen : ℕ) → slice_get old.seats seat ≡ Some k → seen ≡ instant old.run → new.run ≡ old.run → new.history ≡ old.history → new.seats ≡ slice_set old.seats seat (record k { seen = seen }) → Sees old new seat
+-- replacing only the `seen` count in a seat's record satisfies `UpdatesSeen`
+pub Sees-is : (old new : LockedState) (seat : ℕ) (k : SeatRecord) (seen : ℕ) → slice_get old.seats seat ≡ Some k → seen ≡ run_length old.run → new.run ≡ old.run → new.history ≡ old.history → new.seats ≡ slice_set old.seats seat (record k { seen = seen }) → UpdatesSeen old new seat
 Sees-is old new seat k seen is sees run history seats = grind arith

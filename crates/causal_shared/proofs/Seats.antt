@@ -1,4 +1,4 @@
--- One item call as its seat sees it.
+-- One item call, as recorded in its seat.
 use Rattle.std.proofs.Common.{subst, None, ◌≡◌, ◌≤◌, ◌<◌, ◌+◌, ◌∙◌, sym, refl, ap, ℕ, List, [], ◌∷◌, ◌++◌, length, map, zero, suc, arith, Some}
 use Rattle.std.specs.Prelude.{Option, Result, Ok, Err, slice_get, ◌==◌, ◌↔◌}
 use Rattle.std.proofs.lemmas.Option.{slice_get_cases}
@@ -8,35 +8,35 @@ use Rattle.causal_protocol.specs.declared.request.Reply.{Reply}
 use Rattle.causal_shared.specs.declared.item.Item.{Item}
 use Rattle.causal_shared.specs.Limits.{max_items}
 use Rattle.causal_trace.specs.declared.entry.Entry.{Entry}
-use Rattle.causal_shared.specs.History.{instant, Shows, Held, Holds, count_at}
-use Rattle.causal_shared.specs.Inside.Keeping.{item_at, Keeps}
+use Rattle.causal_shared.specs.History.{run_length, HasDeliveryOf, LockedState, Holds, count_at}
+use Rattle.causal_shared.specs.LockInvariant.{item_at, LockInvariant}
 use Rattle.causal_protocol.specs.declared.request.Restarted.{Restarted}
 use Rattle.causal_shared.specs.declared.refused.LockedRefused.{LockedRefused}
-use Rattle.causal_shared.specs.Inside.Answered.{answered, shared_refusal}
-use Rattle.causal_shared.specs.Locked.{told, told_fault, told_restart, ItemCall, IsSnapshot}
+use Rattle.causal_shared.specs.Inside.ResultConversions.{map_refusal, shared_refusal}
+use Rattle.causal_shared.specs.Locked.{item_reply, fault_item_reply, restart_item_reply, ItemCall, IsSnapshot}
 use Rattle.causal_shared.specs.declared.fault.LockedFault.{LockedFault}
 use Rattle.causal_shared.specs.declared.fault.LockedFault.TheVariants as Refusal
 use Rattle.causal_shared.specs.declared.fault.SharedFault.{SharedFault}
 use Rattle.causal_shared.specs.declared.fault.SharedFault.TheVariants as Fault
 use Rattle.causal_trace.specs.Rows.{Recording}
 use Rattle.causal_shared.specs.declared.item.Snapshot.{Snapshot}
-use Rattle.causal_shared.specs.Seat.{fault_of, heard, heard_fault, heard_restart, Sitting, SeatCall, SeatState, with_item, SeesEntries}
-use Rattle.causal_shared.specs.Inside.Seated.{refusal_of, shared_of, MayCall, IsSeated, ItemSection}
+use Rattle.causal_shared.specs.Seat.{shared_fault_of, seat_reply, seat_fault_reply, seat_restart_reply, SeatView, SeatCall, SeatMemory, with_item, SnapshotSeen}
+use Rattle.causal_shared.specs.Inside.SeatChecks.{refusal_of, shared_result, CanCall, MatchesRecord, ItemSection}
 use Rattle.causal_protocol.proofs.Lemmas.StepAppends.{replies_tell_entries}
 
--- what a call of the locked value asks of a seat that may make it
-pub called : (held : Held) (seat : SeatState) (first number count : ℕ) → MayCall held seat first → number ≡ seat.sitting.number → count ≡ length seat.sitting.items
+-- a seat that can call satisfies the precondition of the locked value's calls
+pub called : (held : LockedState) (seat : SeatMemory) (first number count : ℕ) → CanCall held seat first → number ≡ seat.view.number → count ≡ length seat.view.items
     → (number < length held.seats) × (count ≡ count_at held.seats number) × (length held.history < max_items)
 called held seat first number count may own counted = (subst (λ n. n < length held.seats) (sym own) may.inside, counted ∙ may.counted ∙ ap (count_at held.seats) (sym own), may.room)
 
--- a seat has seen no more than there is
-pub Holds-seen : (held : Held) (seat count seen : ℕ) (last : Option Item) → Keeps held.run held.history held.seats → Holds held seat count seen last → seen ≤ instant held.run
+-- a matching seat's `seen` count is at most the run's length
+pub Holds-seen : (held : LockedState) (seat count seen : ℕ) (last : Option Item) → LockInvariant held.run held.history held.seats → Holds held seat count seen last → seen ≤ run_length held.run
 Holds-seen held seat count seen last keeps holds =
     let k = holds.kept in
     omega (arith, (keeps.kept seat k.0 k.1).seen, k.3)
 
--- it has no more items than the history
-pub Holds-count : (held : Held) (seat count seen : ℕ) (last : Option Item) → Keeps held.run held.history held.seats → Holds held seat count seen last → count ≤ length held.history
+-- a matching seat has at most as many items as the history
+pub Holds-count : (held : LockedState) (seat count seen : ℕ) (last : Option Item) → LockInvariant held.run held.history held.seats → Holds held seat count seen last → count ≤ length held.history
 Holds-count held seat count seen last keeps holds =
     let k = holds.kept in
     let counted = (keeps.kept seat k.0 k.1).count in
@@ -44,24 +44,24 @@ Holds-count held seat count seen last keeps holds =
     let few = count_by-le-length (λ (i : Item). i.seat == seat) held.history in
     omega (arith, counted, k.2, as_count, few)
 
-Holds-inside : (held : Held) (seat count seen : ℕ) (last : Option Item) → Holds held seat count seen last → seat < length held.seats
+Holds-inside : (held : LockedState) (seat count seen : ℕ) (last : Option Item) → Holds held seat count seen last → seat < length held.seats
 Holds-inside held seat count seen last holds = let is = holds.kept.1 in grind (arith, is, slice_get_cases held.seats seat)
 
-Holds-counted : (held : Held) (seat count seen : ℕ) (last : Option Item) → Holds held seat count seen last → count ≡ count_at held.seats seat
+Holds-counted : (held : LockedState) (seat count seen : ℕ) (last : Option Item) → Holds held seat count seen last → count ≡ count_at held.seats seat
 Holds-counted held seat count seen last holds = grind arith
 
--- its last item's delivery is shown
-Holds-shows : (held : Held) (seat count seen : ℕ) (last : Option Item) (item : Item) → Keeps held.run held.history held.seats → Holds held seat count seen last → last ≡ Some item → Shows held.run.recording.past item
+-- the trace contains the delivery of a matching seat's last item
+Holds-shows : (held : LockedState) (seat count seen : ℕ) (last : Option Item) (item : Item) → LockInvariant held.run held.history held.seats → Holds held seat count seen last → last ≡ Some item → HasDeliveryOf held.run.recording.past item
 Holds-shows held seat count seen last item keeps holds is = by holds.kept.0.last ((keeps.kept seat holds.kept.0 holds.kept.1).last ∙ sym holds.ends ∙ is)
   where
-    by : (place : Option ℕ) → item_at held.history place ≡ Some item → Shows held.run.recording.past item
+    by : (place : Option ℕ) → item_at held.history place ≡ Some item → HasDeliveryOf held.run.recording.past item
     by None none = absurd (let x : None ≡ Some item = none in cc)
     by (Some place) there = keeps.shown place item there
 
--- a seat that is the kept one may make an item call
-pub MayCall-is : (held : Held) (seat : SeatState) (tag first : ℕ) → Keeps held.run held.history held.seats → IsSeated tag held seat.sitting → length held.history < max_items → first ≡ instant held.run → 1 ≤ seat.spare → MayCall held seat first
+-- a seat that matches its record can make an item call if there is capacity
+pub MayCall-is : (held : LockedState) (seat : SeatMemory) (tag first : ℕ) → LockInvariant held.run held.history held.seats → MatchesRecord tag held seat.view → length held.history < max_items → first ≡ run_length held.run → 1 ≤ seat.spare → CanCall held seat first
 MayCall-is held seat tag first keeps seated room begins spare =
-    let sitting = seat.sitting in
+    let view = seat.view in
     let known = Holds-seen held _ _ _ _ keeps seated.1 in
     let count = Holds-count held _ _ _ _ keeps seated.1 in
     record {
@@ -74,78 +74,78 @@ MayCall-is held seat tag first keeps seated room begins spare =
       spare = spare;
     }
 
--- an item call that made an item, with what the seat then has
-pub section_some : (old new : Held) (seat : SeatState) (seat' : Sitting) (request : Request) (reply : Reply) (first seen : ℕ) → MayCall old seat first → ItemCall old new seat.sitting.number (length seat.sitting.items) request (Some reply)
-    → seen ≡ instant new.run → seat' ≡ with_item seat.sitting request reply first seen → ItemSection old new seat.sitting seat' request (Some reply)
+-- an item call that made an item, with the seat's new view
+pub section_some : (old new : LockedState) (seat : SeatMemory) (seat' : SeatView) (request : Request) (reply : Reply) (first seen : ℕ) → CanCall old seat first → ItemCall old new seat.view.number (length seat.view.items) request (Some reply)
+    → seen ≡ run_length new.run → seat' ≡ with_item seat.view request reply first seen → ItemSection old new seat.view seat' request (Some reply)
 section_some old new seat seat' request reply first seen may adds sees is =
     grind (arith, replies_tell_entries old.run new.run request reply adds.step)
 
--- what a snapshot tells the seat that takes it
-pub SeesEntries-is : (held : Held) (old new : Sitting) (s : Snapshot) (tag seen : ℕ) → Keeps held.run held.history held.seats → IsSeated tag held old → IsSnapshot held s → seen ≡ length s.trace.recording.past → new ≡ record old { seen = seen } → SeesEntries old new s.trace.recording.past
+-- a snapshot updates the seat's view as `SnapshotSeen` states
+pub SeesEntries-is : (held : LockedState) (old new : SeatView) (s : Snapshot) (tag seen : ℕ) → LockInvariant held.run held.history held.seats → MatchesRecord tag held old → IsSnapshot held s → seen ≡ length s.trace.recording.past → new ≡ record old { seen = seen } → SnapshotSeen old new s.trace.recording.past
 SeesEntries-is held old new s tag seen keeps seated copy sees is =
     let known = Holds-seen held _ _ _ _ keeps seated.1 in
-    let same : length s.trace.recording.past ≡ instant held.run = ap (λ (r : Recording). length r.past) copy.trace in
+    let same : length s.trace.recording.past ≡ run_length held.run = ap (λ (r : Recording). length r.past) copy.trace in
     record {
       later = omega (arith, known, same);
       change = is ∙ ap (λ n. record old { seen = n }) sees;
-      shows = λ item last. subst (λ (past : List Entry). Shows past item) (sym (ap (λ (r : Recording). r.past) copy.trace)) (Holds-shows held _ _ _ _ item keeps seated.1 last);
+      shows = λ item last. subst (λ (past : List Entry). HasDeliveryOf past item) (sym (ap (λ (r : Recording). r.past) copy.trace)) (Holds-shows held _ _ _ _ item keeps seated.1 last);
     }
 
--- one more seat stands behind the others
-pub seats_snoc : (seats : List SeatState) (seat : SeatState) (f : ℕ → Sitting) (k : ℕ) → length seats ≡ k → ((n : ℕ) → n < k → slice_get (map (λ (s : SeatState). s.sitting) seats) n ≡ Some (f n)) → seat.sitting ≡ f k
-    → (n : ℕ) → n < k + 1 → slice_get (map (λ (s : SeatState). s.sitting) (seats ++ seat ∷ [])) n ≡ Some (f n)
+-- appending one seat to the list of new seats
+pub seats_snoc : (seats : List SeatMemory) (seat : SeatMemory) (f : ℕ → SeatView) (k : ℕ) → length seats ≡ k → ((n : ℕ) → n < k → slice_get (map (λ (s : SeatMemory). s.view) seats) n ≡ Some (f n)) → seat.view ≡ f k
+    → (n : ℕ) → n < k + 1 → slice_get (map (λ (s : SeatMemory). s.view) (seats ++ seat ∷ [])) n ≡ Some (f n)
 seats_snoc [] seat f k len each is zero lt = let none : k ≡ 0 = sym len in ap Some (is ∙ ap f none)
 seats_snoc [] seat f k len each is (suc n) lt = absurd (omega (arith, len, lt))
 seats_snoc (s ∷ seats) seat f zero len each is n lt = absurd (omega (arith, len))
 seats_snoc (s ∷ seats) seat f (suc k) len each is zero lt = each 0 (omega arith)
 seats_snoc (s ∷ seats) seat f (suc k) len each is (suc n) lt = seats_snoc seats seat (λ n. f (suc n)) k (omega (arith, len)) (λ n lt. each (suc n) (omega (arith, lt))) is n (omega (arith, lt))
 
--- what the seat hears of an answer is what the item tells of it
-heard_told : {A : Type 0} (answer : A → Reply) (a : Result A LockedFault) → heard answer (shared_of a) ≡ told answer a
+-- the reply stored in the seat's list equals the reply stored in the history
+heard_told : {A : Type 0} (answer : A → Reply) (a : Result A LockedFault) → seat_reply answer (shared_result a) ≡ item_reply answer a
 heard_told answer (Ok x) = refl
 heard_told answer (Err (Refusal.Core fault)) = refl
 heard_told answer (Err (Refusal.Flush fault)) = refl
 heard_told answer (Err Refusal.NoRecord) = refl
 
--- once it is told, the call of the locked value and what the seat hears of it are one section
-pub section_heard : {A : Type 0} (answer : A → Reply) (old new : Held) (before : Sitting) (seat seat' : SeatState) (request asked : Request) (a : Result A LockedFault) (result : Result A SharedFault) (reply : Option Reply) (number count first : ℕ)
-    → ((old : Held) → MayCall old seat first → ItemCall old new seat.sitting.number (length seat.sitting.items) asked reply → ItemSection old new seat.sitting seat'.sitting asked reply)
-    → MayCall old seat first → ItemCall old new number count request (told answer a) → number ≡ seat.sitting.number → count ≡ length seat.sitting.items → asked ≡ request → reply ≡ told answer a → result ≡ shared_of a → seat.sitting ≡ before
-    → ItemSection old new before seat'.sitting request (heard answer result)
+-- the locked value's call and the seat's update are together one section of the lock
+pub section_heard : {A : Type 0} (answer : A → Reply) (old new : LockedState) (before : SeatView) (seat seat' : SeatMemory) (request asked : Request) (a : Result A LockedFault) (result : Result A SharedFault) (reply : Option Reply) (number count first : ℕ)
+    → ((old : LockedState) → CanCall old seat first → ItemCall old new seat.view.number (length seat.view.items) asked reply → ItemSection old new seat.view seat'.view asked reply)
+    → CanCall old seat first → ItemCall old new number count request (item_reply answer a) → number ≡ seat.view.number → count ≡ length seat.view.items → asked ≡ request → reply ≡ item_reply answer a → result ≡ shared_result a → seat.view ≡ before
+    → ItemSection old new before seat'.view request (seat_reply answer result)
 section_heard answer old new before seat seat' request asked a result reply number count first hears may made at counted asks tells shared same =
     grind (arith, heard_told answer a)
 
--- no answer of the locked value says that the seat is wrong, or that the history is full
-never_wrong : {A : Type 0} (a : Result A LockedFault) → shared_of a ≡ Err Fault.WrongSeat → ⊥
+-- the locked value never returns `WrongSeat` or `HistoryFull`
+never_wrong : {A : Type 0} (a : Result A LockedFault) → shared_result a ≡ Err Fault.WrongSeat → ⊥
 never_wrong (Ok x) e = cc e
 never_wrong (Err (Refusal.Core fault)) e = cc e
 never_wrong (Err (Refusal.Flush fault)) e = cc e
 never_wrong (Err Refusal.NoRecord) e = cc e
 
--- no answer of the locked value says that the history is full
-pub never_full : {A : Type 0} (a : Result A LockedFault) → shared_of a ≡ Err Fault.HistoryFull → ⊥
+-- the locked value never returns `HistoryFull`
+pub never_full : {A : Type 0} (a : Result A LockedFault) → shared_result a ≡ Err Fault.HistoryFull → ⊥
 never_full (Ok x) e = cc e
 never_full (Err (Refusal.Core fault)) e = cc e
 never_full (Err (Refusal.Flush fault)) e = cc e
 never_full (Err Refusal.NoRecord) e = cc e
 
--- where the seat may call, it is not wrong
-pub not_wrong : {A : Type 0} (a : Result A LockedFault) (told : Result A SharedFault) (r : Result ℕ SharedFault) (first : ℕ) (P : Type 0) → told ≡ shared_of a → r ≡ Ok first → (r ≡ Err Fault.WrongSeat ↔ ¬ P) → (told ≡ Err Fault.WrongSeat ↔ ¬ P)
-not_wrong a told r first P is ok wrong = (λ e. absurd (never_wrong a (sym is ∙ e)), λ no. absurd (let e : ◌≡◌ {A = Result ℕ SharedFault} (Ok first) (Err Fault.WrongSeat) = sym ok ∙ wrong.1 no in cc))
+-- a seat that can call is not reported as wrong
+pub not_wrong : {A : Type 0} (a : Result A LockedFault) (item_reply : Result A SharedFault) (r : Result ℕ SharedFault) (first : ℕ) (P : Type 0) → item_reply ≡ shared_result a → r ≡ Ok first → (r ≡ Err Fault.WrongSeat ↔ ¬ P) → (item_reply ≡ Err Fault.WrongSeat ↔ ¬ P)
+not_wrong a item_reply r first P is ok wrong = (λ e. absurd (never_wrong a (sym is ∙ e)), λ no. absurd (let e : ◌≡◌ {A = Result ℕ SharedFault} (Ok first) (Err Fault.WrongSeat) = sym ok ∙ wrong.1 no in cc))
 
--- what the seat hears of a refusal is what the item tells of it
-heard_refusal : (fault : LockedFault) → heard_fault (fault_of fault) ≡ told_fault fault
+-- for an error, the seat's item reply equals the history's item reply
+heard_refusal : (fault : LockedFault) → seat_fault_reply (shared_fault_of fault) ≡ fault_item_reply fault
 heard_refusal (Refusal.Core fault) = refl
 heard_refusal (Refusal.Flush fault) = refl
 heard_refusal Refusal.NoRecord = refl
 
--- the same of a restart
-pub heard_again : {B : Type 0} (a : Result Restarted (LockedRefused B)) → heard_restart (answered shared_refusal a) ≡ told_restart a
+-- for a restart's result, the seat's item reply equals the history's item reply
+pub heard_again : {B : Type 0} (a : Result Restarted (LockedRefused B)) → seat_restart_reply (map_refusal shared_refusal a) ≡ restart_item_reply a
 heard_again (Ok restarted) = refl
 heard_again (Err refused) = heard_refusal refused.fault
 
--- no fault of the locked value says that the seat is wrong, or that the history is full
-is_no_refusal : (fault : LockedFault) → ((fault_of fault ≡ Fault.WrongSeat) → ⊥) × ((fault_of fault ≡ Fault.HistoryFull) → ⊥)
+-- no error of the locked value becomes `WrongSeat` or `HistoryFull`
+is_no_refusal : (fault : LockedFault) → ((shared_fault_of fault ≡ Fault.WrongSeat) → ⊥) × ((shared_fault_of fault ≡ Fault.HistoryFull) → ⊥)
 is_no_refusal (Refusal.Core fault) = (λ e. cc e, λ e. cc e)
 is_no_refusal (Refusal.Flush fault) = (λ e. cc e, λ e. cc e)
 is_no_refusal Refusal.NoRecord = (λ e. cc e, λ e. cc e)
@@ -153,20 +153,20 @@ is_no_refusal Refusal.NoRecord = (λ e. cc e, λ e. cc e)
 some_is : {A : Type 0} (a b : A) → Some a ≡ Some b → a ≡ b
 some_is a b e = cc
 
-pub restarts_never_wrong : {B : Type 0} (a : Result Restarted (LockedRefused B)) → refusal_of (answered shared_refusal a) ≡ Some Fault.WrongSeat → ⊥
+pub restarts_never_wrong : {B : Type 0} (a : Result Restarted (LockedRefused B)) → refusal_of (map_refusal shared_refusal a) ≡ Some Fault.WrongSeat → ⊥
 restarts_never_wrong (Ok restarted) e = cc e
 restarts_never_wrong (Err refused) e = (is_no_refusal refused.fault).0 (some_is _ _ e)
 
-pub restarts_never_full : {B : Type 0} (a : Result Restarted (LockedRefused B)) → refusal_of (answered shared_refusal a) ≡ Some Fault.HistoryFull → ⊥
+pub restarts_never_full : {B : Type 0} (a : Result Restarted (LockedRefused B)) → refusal_of (map_refusal shared_refusal a) ≡ Some Fault.HistoryFull → ⊥
 restarts_never_full (Ok restarted) e = cc e
 restarts_never_full (Err refused) e = (is_no_refusal refused.fault).1 (some_is _ _ e)
 
--- of one section of the lock, what the seat sees
-pub seat_called : (old new : Held) (seat seat' : Sitting) (request : Request) (reply : Option Reply) → ItemSection old new seat seat' request reply → SeatCall seat seat' request reply
+-- a section of the lock implies the seat's public clause
+pub seat_called : (old new : LockedState) (seat seat' : SeatView) (request : Request) (reply : Option Reply) → ItemSection old new seat seat' request reply → SeatCall seat seat' request reply
 seat_called old new seat seat' request None section = section.1
 seat_called old new seat seat' request (Some reply) section = section.1
 
--- that a seat is wrong is not told where it is not, and is where it is
+-- `WrongSeat` is returned if and only if the seat does not match
 pub seated_ok : {A : Type 0} (x : A) (P : Type 0) → P → (◌≡◌ {A = Result A SharedFault} (Ok x) (Err Fault.WrongSeat) ↔ ¬ P)
 seated_ok x P seated = (λ e. absurd cc, λ no. absurd (no seated))
 

@@ -1,9 +1,8 @@
--- What models and private functions keep; no public clause cites it.
-pub mod Answered
-pub mod Keeping
+-- Invariants of models and contracts of private functions; no public clause cites them.
+pub mod ResultConversions
 pub mod Props
-pub mod Noting
+pub mod ItemAppends
 pub mod Sections
-pub mod Seated
-pub mod Settled
-pub mod Tasks
+pub mod SeatChecks
+pub mod FinishChecks
+pub mod CountingCalls

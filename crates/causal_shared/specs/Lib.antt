@@ -1,6 +1,7 @@
 pub mod Inside
 pub mod Limits
 pub mod History
+pub mod LockInvariant
 pub mod Locked
 pub mod Seat
 pub mod Shared

@@ -1,10 +1,10 @@
--- How much a shared runtime holds.
+-- The limits of a shared runtime: items and seats.
 use Rattle.std.specs.Prelude.{ℕ}
 
--- how many items a history has at most
+-- the maximum number of items in a history
 abbrev pub max_items : ℕ
 max_items = 1048576
 
--- how many seats there are at most
+-- the maximum number of seats
 abbrev pub max_seats : ℕ
 max_seats = 64

@@ -1,4 +1,4 @@
--- A seat as callers see it.
+-- Seats as callers use them: their views, and the effect of each call on them.
 use Rattle.std.specs.Prelude.{◌≡◌, ℕ, ◌+◌, ◌≤◌, ◌<◌, List, [], ◌∷◌, ◌++◌, length, map, slice_get}
 use Rattle.std.specs.Prelude.{Option, Some, None, Result, Err}
 use Rattle.causal_trace.specs.declared.entry.Entry.{Entry}
@@ -12,83 +12,84 @@ use Rattle.causal_shared.specs.declared.fault.SharedFault.{SharedFault}
 use Rattle.causal_shared.specs.declared.fault.SharedFault.TheVariants.{WrongSeat, Core, Flush, NoRecord}
 use Rattle.causal_shared.specs.declared.fault.LockedFault.{LockedFault}
 use Rattle.causal_shared.specs.declared.fault.LockedFault.TheVariants as Refusal
-use Rattle.causal_shared.specs.History.{item_of, last_of, Shows}
-use Rattle.causal_protocol.specs.Telling.{told_entries}
-use Rattle.causal_shared.specs.Locked.{told_by}
+use Rattle.causal_shared.specs.History.{item_of, last_of, HasDeliveryOf}
+use Rattle.causal_protocol.specs.ReplyEntries.{reply_entries}
+use Rattle.causal_shared.specs.Locked.{item_reply_by}
 
--- a seat's number, its runtime's tag, its own list, and how many entries it has seen
-pub record Sitting : Type 0 where
+-- a seat's view: its number, its runtime's tag, its own items, and the trace length after its last recorded call or
+-- snapshot
+pub record SeatView : Type 0 where
   pub number : ℕ
   pub tag : ℕ
   pub items : List Item
   pub seen : ℕ
 
--- that, and how many more items are sure of their memory
-pub record SeatState : Type 0 where
-  pub sitting : Sitting
+-- a seat's view, and how many more items fit without allocation
+pub record SeatMemory : Type 0 where
+  pub view : SeatView
   pub spare : ℕ
 
--- a seat with no item
-abbrev pub new_sitting : ℕ → ℕ → ℕ → Sitting
-new_sitting number tag seen = record { number = number; tag = tag; items = []; seen = seen }
+-- the view of a seat without items
+abbrev pub new_seat_view : ℕ → ℕ → ℕ → SeatView
+new_seat_view number tag seen = record { number = number; tag = tag; items = []; seen = seen }
 
--- seats with no item, by their numbers
-abbrev pub AreFresh : ℕ → ℕ → ℕ → List SeatState → Type 0
-AreFresh tag seen k seats =
+-- k seats without items, numbered from 0
+abbrev pub AreNewSeats : ℕ → ℕ → ℕ → List SeatMemory → Type 0
+AreNewSeats tag seen k seats =
     (n : ℕ) → n < k
-    → slice_get (map (λ (seat : SeatState). seat.sitting) seats) n ≡ Some (new_sitting n tag seen)
+    → slice_get (map (λ (seat : SeatMemory). seat.view) seats) n ≡ Some (new_seat_view n tag seen)
 
 -- the seat's next item
-abbrev pub next_item : Sitting → Request → Reply → ℕ → Item
+abbrev pub next_item : SeatView → Request → Reply → ℕ → Item
 next_item seat request reply first = item_of seat.number (length seat.items) request reply first
 
--- the seat with its next item, and with so many entries seen
-abbrev pub with_item : Sitting → Request → Reply → ℕ → ℕ → Sitting
+-- the view after the next item, with this `seen` count
+abbrev pub with_item : SeatView → Request → Reply → ℕ → ℕ → SeatView
 with_item seat request reply first seen =
     record seat { items = seat.items ++ next_item seat request reply first ∷ []; seen = seen }
 
--- one item call as its seat sees it: what was asked and told is the next item, which begins no earlier than what was
--- seen
-pub record Calls (old new : Sitting) (request : Request) (reply : Reply) : Type 0 where
+-- one item call, as its seat records it: the request and reply are the next item, whose `first` is at least the old
+-- `seen` count
+pub record IsSeatCall (old new : SeatView) (request : Request) (reply : Reply) : Type 0 where
   pub first : ℕ
   pub later : old.seen ≤ first
-  pub change : new ≡ with_item old request reply first (first + told_entries reply)
+  pub change : new ≡ with_item old request reply first (first + reply_entries reply)
 
--- what an item tells of a refusal: the core's, or that no item was made
-abbrev pub heard_fault : SharedFault → Option Reply
-heard_fault (Core fault) = Some (Refused fault)
-heard_fault (Flush fault) = Some (FlushRefused fault)
-heard_fault _ = None
+-- the item reply for an error: the core's refusal; none if no item was made
+abbrev pub seat_fault_reply : SharedFault → Option Reply
+seat_fault_reply (Core fault) = Some (Refused fault)
+seat_fault_reply (Flush fault) = Some (FlushRefused fault)
+seat_fault_reply _ = None
 
--- what an item tells of an answer, if an item was made
-abbrev pub heard : {A : Type 0} → (A → Reply) → Result A SharedFault → Option Reply
-heard answer result = told_by heard_fault answer result
+-- the item reply for a result, if an item was made
+abbrev pub seat_reply : {A : Type 0} → (A → Reply) → Result A SharedFault → Option Reply
+seat_reply answer result = item_reply_by seat_fault_reply answer result
 
--- the same of a restart
-abbrev pub heard_restart : {B : Type 0} → Result Restarted (SharedRefused B) → Option Reply
-heard_restart result = told_by (λ refused. heard_fault refused.fault) Again result
+-- the item reply for a restart's result, if an item was made
+abbrev pub seat_restart_reply : {B : Type 0} → Result Restarted (SharedRefused B) → Option Reply
+seat_restart_reply result = item_reply_by (λ refused. seat_fault_reply refused.fault) Again result
 
--- what one item call does to its seat
-abbrev pub SeatCall : Sitting → Sitting → Request → Option Reply → Type 0
+-- the effect of one item call on its seat: one more item, or no change
+abbrev pub SeatCall : SeatView → SeatView → Request → Option Reply → Type 0
 SeatCall seat seat' request None = seat' ≡ seat
-SeatCall seat seat' request (Some reply) = Calls seat seat' request reply
+SeatCall seat seat' request (Some reply) = IsSeatCall seat seat' request reply
 
--- the same, by what is told of an answer
-abbrev pub SeatAnswers : {A : Type 0} → SeatState → SeatState → Request → (A → Reply) → Result A SharedFault → Type 0
-SeatAnswers seat seat' request answer result = SeatCall seat.sitting seat'.sitting request (heard answer result)
+-- the effect of an item call on its seat, with the item reply for its result
+abbrev pub SeatAnswers : {A : Type 0} → SeatMemory → SeatMemory → Request → (A → Reply) → Result A SharedFault → Type 0
+SeatAnswers seat seat' request answer result = SeatCall seat.view seat'.view request (seat_reply answer result)
 
--- a seat of another runtime than that of the tag is told that it is wrong
-abbrev pub TellsStranger : {A : Type 0} → ℕ → Sitting → Result A SharedFault → Type 0
-TellsStranger tag seat result = ¬ (seat.tag ≡ tag) → result ≡ Err WrongSeat
+-- a seat with another tag is refused as `WrongSeat`
+abbrev pub RefusesForeignSeat : {A : Type 0} → ℕ → SeatView → Result A SharedFault → Type 0
+RefusesForeignSeat tag seat result = ¬ (seat.tag ≡ tag) → result ≡ Err WrongSeat
 
--- what a seat is told of what the locked value answered
-abbrev pub fault_of : LockedFault → SharedFault
-fault_of (Refusal.Core fault) = Core fault
-fault_of (Refusal.Flush fault) = Flush fault
-fault_of Refusal.NoRecord = NoRecord
+-- the shared runtime's error, made from the locked value's
+abbrev pub shared_fault_of : LockedFault → SharedFault
+shared_fault_of (Refusal.Core fault) = Core fault
+shared_fault_of (Refusal.Flush fault) = Flush fault
+shared_fault_of Refusal.NoRecord = NoRecord
 
--- what a copy of the entries tells a seat: no fewer than it had seen, and its last delivery among them
-pub record SeesEntries (old new : Sitting) (past : List Entry) : Type 0 where
+-- a snapshot's entries are at least as many as the seat's `seen` count, and contain its last delivery
+pub record SnapshotSeen (old new : SeatView) (past : List Entry) : Type 0 where
   pub later : old.seen ≤ length past
   pub change : new ≡ record old { seen = length past }
-  pub shows : (item : Item) → last_of old.items ≡ Some item → Shows past item
+  pub shows : (item : Item) → last_of old.items ≡ Some item → HasDeliveryOf past item

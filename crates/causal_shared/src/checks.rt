@@ -1,10 +1,10 @@
-//! The tests that a shared runtime makes when it is finished.
+//! The checks of `finish`.
 ghost use Rattle.std.specs.Prelude.{◌≡◌, ◌≢◌, ◌<◌, ◌↔◌, All, AllPairs, Any, IsTrue, IfSome, IfNone};
 ghost use Rattle.causal_shared.specs.History.{items_of, AllLegal};
-ghost use Rattle.causal_core.specs.CoreView.{run_of};
-ghost use Rattle.causal_shared.specs.Finish.{Agrees, IsComplete, IsOwnOf, HasSeat, AllSeated};
-ghost use Rattle.causal_shared.specs.Inside.Settled.{IsLeastMismatch};
-ghost use Rattle.causal_shared.specs.Inside.Settled.{BeginsAt, entries_before};
+ghost use Rattle.causal_core.specs.CoreView.{core_run};
+ghost use Rattle.causal_shared.specs.Finish.{HasSeatHistory, IsComplete, IsOwnOf, HasSeat, AllHaveSeats};
+ghost use Rattle.causal_shared.specs.Inside.FinishChecks.{IsLeastMismatch};
+ghost use Rattle.causal_shared.specs.Inside.FinishChecks.{HasOpening, entries_before};
 
 use crate::item::Item;
 use crate::same::{same_entry, same_item};
@@ -14,8 +14,8 @@ use causal_log::Stable;
 use causal_trace::entry::Entry;
 use causal_trace::trace::Trace;
 
-/// Whether the items of the seat in the history are these.
-pub(crate) fn is_part(history: &[Item], seat: u32, own: &[Item]) -> bool
+/// Returns whether the history's items of the seat equal `own`.
+pub(crate) fn is_seat_history(history: &[Item], seat: u32, own: &[Item]) -> bool
     ensures { IsTrue result ↔ (items_of seat history.now ≡ own.now) }
 {
     let mut rest = own;
@@ -31,7 +31,7 @@ pub(crate) fn is_part(history: &[Item], seat: u32, own: &[Item]) -> bool
     rest.is_empty()
 }
 
-/// Whether the entries are the same.
+/// Returns whether the two lists of entries are equal.
 pub(crate) fn same_entries(a: &[Entry], b: &[Entry]) -> bool
     ensures { IsTrue result ↔ (a.now ≡ b.now) }
 {
@@ -45,23 +45,23 @@ pub(crate) fn same_entries(a: &[Entry], b: &[Entry]) -> bool
     rest.is_empty()
 }
 
-/// Whether the seat is one of these.
+/// Returns whether one of the seats has the number.
 fn is_among(seats: &[Seat], number: u32) -> bool
-    ensures { IsTrue result ↔ Any (λ seat. seat.sitting.number ≡ number) seats.now }
+    ensures { IsTrue result ↔ Any (λ seat. seat.view.number ≡ number) seats.now }
 {
     seats.iter().any(|seat| seat.number() == number)
 }
 
-/// Whether the item is of one of the seats.
+/// Returns whether the item belongs to one of the seats.
 fn has_seat(seats: &[Seat], item: &Item) -> bool
     ensures { IsTrue result ↔ HasSeat seats.now item.now }
 {
     is_among(seats, item.seat)
 }
 
-/// Whether each item is of one of the seats.
-pub(crate) fn all_seated(history: &[Item], seats: &[Seat]) -> bool
-    ensures { IsTrue result ↔ AllSeated seats.now history.now }
+/// Returns whether each item belongs to one of the seats.
+pub(crate) fn all_have_seats(history: &[Item], seats: &[Seat]) -> bool
+    ensures { IsTrue result ↔ AllHaveSeats seats.now history.now }
 {
     for item in history {
         if !has_seat(seats, item) {
@@ -71,14 +71,14 @@ pub(crate) fn all_seated(history: &[Item], seats: &[Seat]) -> bool
     true
 }
 
-/// The least seat whose own list is not the history's part of it.
+/// The lowest number of a seat whose own list differs from the history's items of it.
 pub(crate) fn first_mismatch(history: &[Item], seats: &[Seat]) -> Option<u32>
     ensures some { IfSome result (IsLeastMismatch history.now seats.now) }
-    ensures none { IfNone result (All (Agrees history.now) seats.now) }
+    ensures none { IfNone result (All (HasSeatHistory history.now) seats.now) }
 {
     let mut least = None;
     for seat in seats {
-        if !is_part(history, seat.number(), seat.items()) {
+        if !is_seat_history(history, seat.number(), seat.items()) {
             least = Some(match least {
                 Some(n) if n < seat.number() => n,
                 _ => seat.number(),
@@ -88,21 +88,21 @@ pub(crate) fn first_mismatch(history: &[Item], seats: &[Seat]) -> Option<u32>
     least
 }
 
-/// Whether these are all seats of the runtime, each once.
+/// Returns whether the list contains each of the runtime's k seats exactly once.
 pub(crate) fn is_complete(seats: &[Seat], tag: u64, k: u32) -> bool
     ensures { IsTrue result ↔ IsComplete tag k seats.now }
 {
     if seats.len() != k as usize {
         return false;
     }
-    if !all_own(seats, tag, k) {
+    if !all_of_runtime(seats, tag, k) {
         return false;
     }
-    all_once(seats)
+    all_distinct(seats)
 }
 
-/// Whether each seat is of this runtime.
-fn all_own(seats: &[Seat], tag: u64, k: u32) -> bool
+/// Returns whether each seat has the tag and a number below k.
+fn all_of_runtime(seats: &[Seat], tag: u64, k: u32) -> bool
     ensures { IsTrue result ↔ All (IsOwnOf tag k) seats.now }
 {
     seats
@@ -110,9 +110,9 @@ fn all_own(seats: &[Seat], tag: u64, k: u32) -> bool
         .all(|seat| seat.tag() == tag && seat.number() < k)
 }
 
-/// Whether no two have one number.
-fn all_once(seats: &[Seat]) -> bool
-    ensures { IsTrue result ↔ AllPairs (λ a b. a.sitting.number ≢ b.sitting.number) seats.now }
+/// Returns whether all seats have different numbers. O(seats²) time, at most 64 seats.
+fn all_distinct(seats: &[Seat]) -> bool
+    ensures { IsTrue result ↔ AllPairs (λ a b. a.view.number ≢ b.view.number) seats.now }
 {
     for i in 0..seats.len() {
         for j in 0..i {
@@ -125,7 +125,7 @@ fn all_once(seats: &[Seat]) -> bool
 }
 
 /// The entries before the first item.
-fn before_first<'a>(entries: &'a [Entry], history: &[Item]) -> &'a [Entry]
+fn entries_before_first<'a>(entries: &'a [Entry], history: &[Item]) -> &'a [Entry]
     ensures { result.now ≡ entries_before entries.now history.now }
 {
     match history {
@@ -135,16 +135,16 @@ fn before_first<'a>(entries: &'a [Entry], history: &[Item]) -> &'a [Entry]
     }
 }
 
-/// Whether before the first item the core had recorded just this, and runs for so many failures.
+/// Returns whether the core's recording before the first item equals the opening, with the same failure bound.
 pub(crate) fn is_opening<S: Stable>(
     core: &Core<S>,
     history: &[Item],
     opening: &Trace,
     faults: u16,
 ) -> bool
-    requires { AllLegal (run_of core.now) history.now }
+    requires { AllLegal (core_run core.now) history.now }
     ensures { IsTrue result
-        ↔ BeginsAt (run_of core.now) history.now opening.now.recording faults }
+        ↔ HasOpening (core_run core.now) history.now opening.now.recording faults }
 {
     if core.trace().processes() != opening.processes() {
         return false;
@@ -153,7 +153,7 @@ pub(crate) fn is_opening<S: Stable>(
         return false;
     }
     same_entries(
-        before_first(core.trace().entries(), history),
+        entries_before_first(core.trace().entries(), history),
         opening.entries(),
     )
 }

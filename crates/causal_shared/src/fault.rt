@@ -1,61 +1,61 @@
-//! Why calls are refused.
+//! The errors of calls and of `finish`.
 ghost use Rattle.std.specs.Prelude.{◌≡◌};
-ghost use Rattle.causal_shared.specs.Seat.{fault_of};
-ghost use Rattle.causal_shared.specs.declared.fault.LockedFault.TheVariants as told;
+ghost use Rattle.causal_shared.specs.Seat.{shared_fault_of};
+ghost use Rattle.causal_shared.specs.declared.fault.LockedFault.TheVariants as locked_fault;
 
 use causal_protocol::request::{CoreFault, FlushFault};
 use thiserror::Error;
 
-/// Why an item call of the locked value was refused.
-#[derive(Clone, Copy, Debug, Error)]
+/// The error of an item call of the locked value.
+#[derive(Clone, Copy, PartialEq, Eq, Debug, Error)]
 pub enum LockedFault {
-    /// The history could not grow. The core was not asked.
+    /// The history could not grow. The core was not called.
     #[error("the call could not be recorded")]
     NoRecord,
-    /// The core refused.
+    /// The core refused the call.
     #[error("{0}")]
     Core(CoreFault),
-    /// The core refused to flush, or stopped.
+    /// The core refused to flush, or stopped before it finished.
     #[error("{}", .0.fault)]
     Flush(FlushFault),
 }
 
-/// Why a shared call was refused; where several reasons stand, the first in this order is told.
+/// The error of a shared call. If several apply, the first in this order is returned.
 #[derive(Clone, Copy, PartialEq, Eq, Debug, Error)]
 pub enum SharedFault {
-    /// The seat is of another runtime, or not as it is kept under the lock.
+    /// The seat is of another runtime, or does not match its record under the lock.
     #[error("the seat is not one of this runtime's")]
     WrongSeat,
-    /// No further item fits.
+    /// The history contains the maximum number of items.
     #[error("the history is full")]
     HistoryFull,
-    /// The history or the seat's own list could not grow. The core was not asked.
+    /// The history or the seat's own list could not grow. The core was not called.
     #[error("the call could not be recorded")]
     NoRecord,
-    /// The core refused.
+    /// The core refused the call.
     #[error("{0}")]
     Core(CoreFault),
-    /// The core refused to flush, or stopped.
+    /// The core refused to flush, or stopped before it finished.
     #[error("{}", .0.fault)]
     Flush(FlushFault),
 }
 
-/// Why a shared runtime could not be finished.
+/// The error of `finish`.
 #[derive(Clone, Copy, PartialEq, Eq, Debug, Error)]
 pub enum FinishFault {
-    /// The seats are not those of the runtime, each once.
+    /// The list does not contain each of the runtime's seats exactly once.
     #[error("the seats are not those of this runtime, each once")]
     Missing,
-    /// A seat's own list is not the history's part of it.
+    /// The own list of the seat with this number differs from the history's items of it.
     #[error("the list of seat {0} is not the history's part of it")]
     Mismatch(u32),
-    /// What was recorded before the first item is not what the core that was handed in had recorded.
+    /// The recording before the first item differs from that of the core given to `open`.
     #[error("the history begins elsewhere")]
     Opening,
 }
 
 impl From<CoreFault> for LockedFault {
-    ghost from_gives = { λ fault gives. gives ≡ told.Core fault };
+    ghost from_gives = { λ fault gives. gives ≡ locked_fault.Core fault };
 
     fn from(fault: CoreFault) -> LockedFault {
         LockedFault::Core(fault)
@@ -63,7 +63,7 @@ impl From<CoreFault> for LockedFault {
 }
 
 impl From<FlushFault> for LockedFault {
-    ghost from_gives = { λ fault gives. gives ≡ told.Flush fault };
+    ghost from_gives = { λ fault gives. gives ≡ locked_fault.Flush fault };
 
     fn from(fault: FlushFault) -> LockedFault {
         LockedFault::Flush(fault)
@@ -71,7 +71,7 @@ impl From<FlushFault> for LockedFault {
 }
 
 impl From<LockedFault> for SharedFault {
-    ghost from_gives = { λ fault gives. gives ≡ fault_of fault };
+    ghost from_gives = { λ fault gives. gives ≡ shared_fault_of fault };
 
     fn from(fault: LockedFault) -> SharedFault {
         match fault {

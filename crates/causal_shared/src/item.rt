@@ -1,4 +1,4 @@
-//! What one call asked, and what it was told.
+//! History items: the request and the reply of one call.
 use causal_protocol::request::{Reply, Request};
 use causal_trace::trace::Trace;
 use std::marker::Model;
@@ -6,9 +6,9 @@ use std::marker::Model;
 /// One call of a seat.
 #[derive(Clone, Copy)]
 pub struct Item {
-    /// The seat that called.
+    /// The number of the calling seat.
     pub seat: u32,
-    /// Which of the seat's calls it is, counted from 0.
+    /// The number of the call among the seat's calls, from 0.
     pub call: u32,
     pub request: Request,
     pub reply: Reply,
@@ -34,14 +34,14 @@ impl Model for Items {
 impl Items {
     ghost use Rattle.std.specs.Prelude.{◌≡◌};
 
-    /// The list that a vector holds.
+    /// Wraps the list of a vector.
     pub fn new(items: Vec<Item>) -> Items
         ensures { result ≡ items.items }
     {
         Items { items }
     }
 
-    /// The items in their order.
+    /// The items in order.
     pub fn as_slice(&self) -> &[Item]
         ensures { result.now ≡ self.now }
     {
@@ -49,24 +49,24 @@ impl Items {
     }
 }
 
-/// What is kept of a seat under the lock.
+/// The lock's record of a seat.
 #[derive(Clone, Copy)]
-pub struct KeptSeat {
+pub struct SeatRecord {
     /// The number of its items.
     pub count: u32,
-    /// The number of entries that it has seen.
+    /// The trace length after its last recorded call or snapshot.
     pub seen: u32,
-    /// The place of its last item in the history.
+    /// The index of its last item in the history.
     pub last: Option<u32>,
 }
 
-/// What a snapshot shows.
+/// A copy of the recorded run, made under the lock.
 #[derive(Drop)]
 pub struct Snapshot {
-    /// What was recorded.
+    /// The trace.
     pub trace: Trace,
-    /// How many items there were.
+    /// The number of history items at that time.
     pub calls: u32,
-    /// For how many failures the core runs.
+    /// The core's failure bound f.
     pub faults: u16,
 }

@@ -1,29 +1,37 @@
-//! One lock round a core, with a history that stays legal.
+//! A core behind one lock, with a history of its calls that stays legal.
 //!
-//! Begin at `shared::Shared`: `Shared::open` puts a core behind the lock and gives one `seat::Seat` for each caller; the calls of the
-//! core are made with a seat, from any thread. `snapshot` copies the trace meanwhile, and `shared::finish` gives the core back with
-//! the history, once it has compared it with what each seat was told.
+//! Begin at [`Shared`]. `Shared::open` places a core behind the lock and returns one [`Seat`] for each caller; a seat
+//! makes the core's calls from any thread. `snapshot` copies the trace between calls. [`finish`] compares the history
+//! with each seat's own list and returns the core with the history.
 #![tactic(auto)]
 
-/// The tests that a shared runtime makes when it is finished.
+/// The checks of `finish`.
 mod checks;
-/// Why calls are refused.
+/// The errors of calls and of `finish`.
 pub mod fault;
-/// What one call asked, and what it was told.
+/// History items: the request and the reply of one call.
 pub mod item;
-/// How much a shared runtime holds.
+/// The limits of a shared runtime.
 pub mod limits;
-/// The value behind the lock.
+/// The value under the lock.
 pub mod locked;
-/// Why a restart is refused, with the spare that was to run.
+/// The error of a restart, which contains the spare.
 pub mod refused;
-/// What an item tells of an answer, if there is one.
+/// The item replies for results.
 mod replies;
-/// Equality of items, decided by code.
+/// Equality of items and entries.
 mod same;
 /// A caller's seat, with its own list of its calls.
 pub mod seat;
 /// The core that several threads share.
 pub mod shared;
-/// The calls about one process that a number answers.
-mod task;
+/// The calls about one process that return a number.
+mod counting_call;
+
+pub use causal_protocol::request::{CoreFault, Delivered, FlushFault, Reply, Request, Restarted};
+pub use fault::{FinishFault, LockedFault, SharedFault};
+pub use item::{Item, Items, Snapshot};
+pub use locked::Locked;
+pub use refused::{LockedRefused, SharedRefused};
+pub use seat::Seat;
+pub use shared::{Finished, Shared, finish};

@@ -1,7 +1,7 @@
-//! How much a shared runtime holds.
+//! The limits of a shared runtime.
 
-/// The greatest number of items of a history.
+/// The maximum number of items in a history.
 pub const MAX_ITEMS: usize = 1_048_576;
 
-/// The greatest number of seats.
+/// The maximum number of seats.
 pub const MAX_SEATS: u32 = 64;

@@ -1,21 +1,21 @@
-//! The value behind the lock.
+//! The value under the lock.
 ghost use Rattle.std.specs.Prelude.{◌≡◌, ◌+◌, ◌<◌, ◌≤◌, ◌↔◌, [], ◌∷◌, ◌++◌, length, replicate, slice_get};
 ghost use Rattle.std.specs.Prelude.{vec_len, vec_capacity, IfOk, IfErr, OnOk, OnErr, IsTrue, None};
 ghost use Rattle.std.specs.Option.{option_copied};
-ghost use Rattle.causal_core.specs.CoreView.{run_of};
-ghost use Rattle.causal_shared.specs.History.{IsHistory, Holds, Sees, fresh_seat, instant, item_of, with_kept};
-ghost use Rattle.causal_shared.specs.Inside.Keeping.{Keeps, item_at};
-ghost use Rattle.causal_shared.specs.Inside.Noting.{GoesOn};
+ghost use Rattle.causal_core.specs.CoreView.{core_run};
+ghost use Rattle.causal_shared.specs.History.{IsHistory, Holds, UpdatesSeen, new_record, run_length, item_of, with_record};
+ghost use Rattle.causal_shared.specs.LockInvariant.{LockInvariant, item_at};
+ghost use Rattle.causal_shared.specs.Inside.ItemAppends.{PreservesInvariant};
 ghost use Rattle.causal_shared.specs.Limits.{max_items, max_seats};
-ghost use Rattle.causal_protocol.specs.Steps.{told_restart as restart_says};
-ghost use Rattle.causal_core.specs.Restarts.{fault_of as fault_beside};
+ghost use Rattle.causal_protocol.specs.Steps.{reply_of_restart as restart_says};
+ghost use Rattle.causal_core.specs.Restarts.{refused_fault as fault_beside};
 ghost use Rattle.causal_shared.specs.Inside.Props.{Keeps-prop};
 
 use crate::fault::LockedFault;
-use crate::item::{Item, Items, KeptSeat, Snapshot};
+use crate::item::{Item, Items, SeatRecord, Snapshot};
 use crate::limits::MAX_ITEMS;
 use crate::refused::LockedRefused;
-use crate::replies::{core_answer, flush_answer, restart_answer};
+use crate::replies::{from_core_result, from_flush_result, from_restart_result};
 use crate::same::same_item;
 use causal_core::restart::Refused;
 use causal_core::runtime::Core;
@@ -25,30 +25,30 @@ use causal_process::Process;
 use causal_protocol::request::{CoreFault, Delivered, Reply, Request, Restarted};
 use std::alloc::Global;
 
-/// A core, the items of all calls, and what is kept of each seat.
+/// A core, the items of all calls, and a record of each seat.
 #[derive(Drop)]
 pub struct Locked<S: Stable, B = Box<dyn Process + Send>> {
     core: Core<S, B>,
     history: Vec<Item>,
-    seats: Vec<KeptSeat>,
-    ghost keeps: { Keeps (run_of core) history.items seats.items } by { Keeps-prop (run_of core) history.items seats.items },
-    ghost room: { vec_len history ≤ max_items },
+    seats: Vec<SeatRecord>,
+    ghost is_consistent: { LockInvariant (core_run core) history.items seats.items } by { Keeps-prop (core_run core) history.items seats.items },
+    ghost has_space: { vec_len history ≤ max_items },
     ghost few: { vec_len seats ≤ max_seats },
 }
 
-/// How many entries the core has recorded.
-fn instant_of<S: Stable>(core: &Core<S>) -> u32
-    ensures { result ≡ instant (run_of core.now) }
+/// The number of entries that the core has recorded.
+fn entry_count<S: Stable>(core: &Core<S>) -> u32
+    ensures { result ≡ run_length (core_run core.now) }
 {
     core.trace().len()
 }
 
-/// So many seats that have seen so many entries, with no item.
-fn seats_seen(alloc: Global, k: u32, seen: u32) -> Result<Vec<KeptSeat>, NoMemory>
-    ensures items { IfOk result (λ seats. seats.items ≡ replicate k (fresh_seat seen)) }
+/// k records without items, with this `seen` count.
+fn new_seat_records(alloc: Global, k: u32, seen: u32) -> Result<Vec<SeatRecord>, NoMemory>
+    ensures items { IfOk result (λ seats. seats.items ≡ replicate k (new_record seen)) }
     ensures len { IfOk result (λ seats. vec_len seats ≡ k) }
 {
-    let seat = KeptSeat {
+    let seat = SeatRecord {
         count: 0,
         seen,
         last: None,
@@ -56,38 +56,38 @@ fn seats_seen(alloc: Global, k: u32, seen: u32) -> Result<Vec<KeptSeat>, NoMemor
     Ok(vec![in alloc; seat; k as usize]?)
 }
 
-/// Makes room for one item more, and tells how many entries there are before it.
+/// Reserves capacity for one more item and returns the number of entries before it.
 ///
 /// # Errors
-/// `NoRecord`, and the items are as they were.
-fn begun<S: Stable>(core: &Core<S>, history: &mut Vec<Item>) -> Result<u32, LockedFault>
+/// `NoRecord`; the items are unchanged.
+fn reserve_item<S: Stable>(core: &Core<S>, history: &mut Vec<Item>) -> Result<u32, LockedFault>
     ensures items { history.new.items ≡ history.old.items }
     ensures len { vec_len history.new ≡ vec_len history.old }
     ensures room { OnOk result (vec_len history.new < vec_capacity history.new) }
-    ensures first { IfOk result (λ first. first ≡ instant (run_of core.now)) }
+    ensures first { IfOk result (λ first. first ≡ run_length (core_run core.now)) }
     ensures err { IfErr result (λ fault. fault ≡ LockedFault.NoRecord) }
 {
     if history.reserve(1).is_err() {
         return Err(LockedFault::NoRecord);
     }
-    Ok(instant_of(core))
+    Ok(entry_count(core))
 }
 
-/// A call of a seat, and how many entries there were before it.
+/// A call of a seat, and the number of entries before it.
 #[derive(Clone, Copy)]
-struct Turn {
+struct CallContext {
     seat: u32,
     call: u32,
     first: u32,
 }
 
-/// Stores the item of a call, and what is then kept of its seat. Where the item tells the step that led to the core's run, the
-/// history stays legal.
-fn note<S: Stable>(
+/// Appends the item of a call and updates its seat's record. If the item records the step that led to the core's run,
+/// the history stays legal.
+fn append_item<S: Stable>(
     core: &Core<S>,
     history: &mut Vec<Item>,
-    seats: &mut Vec<KeptSeat>,
-    turn: Turn,
+    seats: &mut Vec<SeatRecord>,
+    turn: CallContext,
     told: (Request, Reply),
 )
     requires seat { turn.seat < vec_len seats.old }
@@ -98,10 +98,11 @@ fn note<S: Stable>(
         ≡ history.old.items ++ item_of turn.seat turn.call told.0 told.1 turn.first ∷ [] }
     ensures len { vec_len history.new ≡ vec_len history.old + 1 }
     ensures seats { seats.new.items
-        ≡ with_kept seats.old.items (item_of turn.seat turn.call told.0 told.1 turn.first)
-        (instant (run_of core.now)) (vec_len history.old) }
+        ≡ with_record seats.old.items (item_of turn.seat turn.call told.0 told.1 turn.first)
+        (run_length (core_run core.now)) (vec_len history.old) }
     ensures same { vec_len seats.new ≡ vec_len seats.old }
-    ensures keeps { GoesOn (run_of core.now) (item_of turn.seat turn.call told.0 told.1 turn.first)
+    ensures is_consistent { PreservesInvariant (core_run core.now)
+        (item_of turn.seat turn.call told.0 told.1 turn.first)
         history.old.items seats.old.items history.new.items seats.new.items }
 {
     let place = history.len() as u32;
@@ -113,21 +114,21 @@ fn note<S: Stable>(
         first: turn.first,
     };
     history.push_reserved(item);
-    seats[turn.seat as usize] = KeptSeat {
+    seats[turn.seat as usize] = SeatRecord {
         count: turn.call + 1,
-        seen: instant_of(core),
+        seen: entry_count(core),
         last: Some(place),
     };
 }
 
-/// The item at the place, if there is one.
+/// The item at the index, if there is one.
 fn item_at_place(history: &[Item], place: Option<u32>) -> Option<&Item>
     ensures { option_copied result ≡ item_at history.now place }
 {
     history.get(place? as usize)
 }
 
-fn is_same(a: Option<&Item>, b: Option<&Item>) -> bool
+fn same_option(a: Option<&Item>, b: Option<&Item>) -> bool
     ensures { IsTrue result ↔ (option_copied a.entry ≡ option_copied b.entry) }
 {
     match (a, b) {
@@ -137,13 +138,13 @@ fn is_same(a: Option<&Item>, b: Option<&Item>) -> bool
     }
 }
 
-fn kept_at(seats: &[KeptSeat], number: u32) -> Option<KeptSeat>
+fn seat_record_at(seats: &[SeatRecord], number: u32) -> Option<SeatRecord>
     ensures { result ≡ slice_get seats.now number }
 {
     seats.get(number as usize).copied()
 }
 
-/// What a restart tells.
+/// The item reply for a restart.
 fn restart_reply(answer: &Result<Restarted, Refused>) -> Reply
     ensures { result ≡ restart_says fault_beside answer.now }
 {
@@ -154,29 +155,30 @@ fn restart_reply(answer: &Result<Restarted, Refused>) -> Reply
 }
 
 impl<S: Stable> Locked<S> {
-    ghost use Rattle.causal_shared.specs.Locked.{held_of, state_under, store_under, opened_over, told_restart};
-    ghost use Rattle.causal_shared.specs.Locked.{IsNextCall, Records, RecordsAs, AnswersAs, LeavesUnder, TellsFaults, IsSnapshot, IsSafeSnapshot};
-    ghost use Rattle.causal_core.specs.CoreView.{state_of, Delivers, Crashes};
+    ghost use Rattle.causal_shared.specs.Locked.{locked_state, core_state_of, core_store_of, new_locked_state, restart_item_reply};
+    ghost use Rattle.causal_shared.specs.Locked.{IsNextCall, IsRecordedCall, IsRecordedResult, AnswersAs, LeavesCore, LockedFaultMeansFailure, IsSnapshot, IsSafeSnapshot};
+    ghost use Rattle.causal_core.specs.CoreView.{core_state, Delivers, Crashes};
     ghost use Rattle.causal_core.specs.Boxes.{SameAnswers};
     ghost use Rattle.causal_core.specs.Restarts.{Restarts};
     ghost use Rattle.causal_core.specs.Pendings.{pending_in, pending_fault};
     ghost use Rattle.causal_protocol.specs.Run.{memories_of};
     ghost use Rattle.causal_protocol.specs.Steps.{reason_of};
-    ghost use Rattle.causal_protocol.specs.declared.request.Request.TheVariants as Ask;
-    ghost use Rattle.causal_protocol.specs.declared.request.Reply.TheVariants as Told;
+    ghost use Rattle.causal_protocol.specs.declared.request.Request.TheVariants as Requests;
+    ghost use Rattle.causal_protocol.specs.declared.request.Reply.TheVariants as Replies;
 
-    /// The core with no item, and `k` seats, 1 to 64, which are numbered from 0 and have seen all entries.
+    /// Wraps the core, with an empty history and `k` seats, 1 to 64, numbered from 0. Their `seen` count is the trace's
+    /// length.
     ///
     /// # Errors
-    /// `NoMemory`, and the core is dropped.
+    /// `NoMemory`; the core is dropped.
     pub fn new(alloc: Global, core: Core<S>, k: u32) -> Result<Locked<S>, NoMemory>
         requires some { 1 ≤ k }
         requires few { k ≤ max_seats }
-        ensures held { IfOk result (λ l. held_of l ≡ opened_over (run_of core) k) }
-        ensures core { IfOk result (λ l. state_under l ≡ state_of core) }
+        ensures state { IfOk result (λ l. locked_state l ≡ new_locked_state (core_run core) k) }
+        ensures core { IfOk result (λ l. core_state_of l ≡ core_state core) }
     {
-        let seen = instant_of(&core);
-        let seats = seats_seen(alloc, k, seen)?;
+        let seen = entry_count(&core);
+        let seats = new_seat_records(alloc, k, seen)?;
         Ok(Locked {
             core,
             history: Vec::new(alloc),
@@ -184,36 +186,43 @@ impl<S: Stable> Locked<S> {
         })
     }
 
-    /// Whether no further item fits.
+    /// Law: the history is legal over the core's run, each seat's record fits it, and the trace contains the delivery
+    /// of each delivery item.
+    pub fn state_invariant(&self)
+        ensures { LockInvariant (locked_state self.now).run (locked_state self.now).history
+            (locked_state self.now).seats }
+    {}
+
+    /// Returns whether the history contains the maximum number of items.
     pub fn full(&self) -> bool
-        ensures { IsTrue result ↔ (length (held_of self.now).history ≡ max_items) }
+        ensures { IsTrue result ↔ (length (locked_state self.now).history ≡ max_items) }
     {
         self.history.len() >= MAX_ITEMS
     }
 
-    /// The number of entries so far.
-    pub(crate) fn instant(&self) -> u32
-        ensures { result ≡ instant (held_of self.now).run }
+    /// The number of recorded entries.
+    pub(crate) fn entry_count(&self) -> u32
+        ensures { result ≡ run_length (locked_state self.now).run }
     {
-        instant_of(&self.core)
+        entry_count(&self.core)
     }
 
     pub(crate) fn history(&self) -> &[Item]
-        ensures { result.now ≡ (held_of self.now).history }
+        ensures { result.now ≡ (locked_state self.now).history }
     {
         self.history.as_slice()
     }
 
     pub(crate) fn core(&self) -> &Core<S>
-        ensures { run_of result.now ≡ (held_of self.now).run }
+        ensures { core_run result.now ≡ (locked_state self.now).run }
     {
         &self.core
     }
 
     pub(crate) fn into_parts(self) -> (Core<S>, Items)
-        ensures run { run_of result.0 ≡ (held_of self).run }
-        ensures history { result.1 ≡ (held_of self).history }
-        ensures legal { IsHistory (run_of result.0) result.1 }
+        ensures run { core_run result.0 ≡ (locked_state self).run }
+        ensures history { result.1 ≡ (locked_state self).history }
+        ensures legal { IsHistory (core_run result.0) result.1 }
     {
         let Locked {
             core,
@@ -223,34 +232,36 @@ impl<S: Stable> Locked<S> {
         (core, Items::new(history))
     }
 
-    /// Whether the seat, with all that it knows of its calls, is the one that is kept.
+    /// Returns whether the values equal the record of seat `number`: its call count, its `seen` count and its last
+    /// item.
     pub fn holds(&self, number: u32, count: u32, seen: u32, last: Option<&Item>) -> bool
         ensures { IsTrue result
-            ↔ Holds (held_of self.now) number count seen (option_copied last.entry) }
+            ↔ Holds (locked_state self.now) number count seen (option_copied last.entry) }
     {
-        let Some(kept) = kept_at(self.seats.as_slice(), number) else {
+        let Some(kept) = seat_record_at(self.seats.as_slice(), number) else {
             return false;
         };
         if kept.count != count || kept.seen != seen {
             return false;
         }
-        is_same(item_at_place(self.history.as_slice(), kept.last), last)
+        same_option(item_at_place(self.history.as_slice(), kept.last), last)
     }
 
-    /// A copy of the trace, which the seat has then seen.
+    /// Returns a copy of the trace and sets the seat's `seen` count to its length. O(trace length) time.
     ///
     /// # Errors
-    /// `NoMemory`, which changes nothing.
+    /// `NoMemory`; nothing changes.
     pub fn snapshot(&mut self, seat: u32) -> Result<Snapshot, NoMemory>
-        requires { seat < length (held_of self.old).seats }
-        ensures copy { IfOk result (IsSnapshot (held_of self.old)) }
+        requires { seat < length (locked_state self.old).seats }
+        ensures copy { IfOk result (IsSnapshot (locked_state self.old)) }
         ensures safe { IfOk result IsSafeSnapshot }
-        ensures ok { OnOk result (Sees (held_of self.old) (held_of self.new) seat) }
-        ensures core { state_under self.new ≡ state_under self.old }
-        ensures err { OnErr result (held_of self.new ≡ held_of self.old) }
+        ensures ok { OnOk result (UpdatesSeen (locked_state self.old)
+            (locked_state self.new) seat) }
+        ensures core { core_state_of self.new ≡ core_state_of self.old }
+        ensures err { OnErr result (locked_state self.new ≡ locked_state self.old) }
     {
         let copy = self.core.trace().try_clone()?;
-        self.seats[seat as usize].seen = instant_of(&self.core);
+        self.seats[seat as usize].seen = entry_count(&self.core);
         Ok(Snapshot {
             trace: copy,
             calls: self.history.len() as u32,
@@ -258,10 +269,10 @@ impl<S: Stable> Locked<S> {
         })
     }
 
-    /// Delivers to q the message of that sender and number, as this call of the seat, which is the number of its items.
+    /// Delivers to q the message with that source and ssn. `call` is the number of the seat's items.
     ///
     /// # Errors
-    /// `NoRecord`, which changes nothing; the core's, which are an item and change nothing else.
+    /// `NoRecord`; nothing changes. An error of the core is recorded as an item; nothing else changes.
     pub fn deliver(
         &mut self,
         seat: u32,
@@ -270,45 +281,47 @@ impl<S: Stable> Locked<S> {
         source: Pid,
         ssn: u32,
     ) -> Result<Delivered, LockedFault>
-        requires { IsNextCall (held_of self.old) seat call }
-        ensures item { RecordsAs self.old self.new seat call (Ask.Deliver q source ssn)
-            Told.Delivered result }
+        requires { IsNextCall (locked_state self.old) seat call }
+        ensures item { IsRecordedResult self.old self.new seat call (Requests.Deliver q source ssn)
+            Replies.Delivered result }
         ensures ok { OnOk result
-            (Delivers answers q source ssn (state_under self.old) (state_under self.new)) }
-        ensures refused { OnErr result (LeavesUnder answers self.old self.new) }
+            (Delivers answers q source ssn (core_state_of self.old) (core_state_of self.new)) }
+        ensures refused { OnErr result (LeavesCore answers self.old self.new) }
     {
-        let first = begun(&self.core, &mut self.history)?;
+        let first = reserve_item(&self.core, &mut self.history)?;
         let answer = self.core.deliver(q, source, ssn);
         let request = Request::Deliver { q, source, ssn };
         let told = (request, Reply::of_delivery(answer));
-        let turn = Turn { seat, call, first };
-        note(&self.core, &mut self.history, &mut self.seats, turn, told);
-        core_answer(answer)
+        let turn = CallContext { seat, call, first };
+        append_item(&self.core, &mut self.history, &mut self.seats, turn, told);
+        from_core_result(answer)
     }
 
-    /// Takes process p down, as this call of the seat.
+    /// Crashes process p. `call` is the number of the seat's items.
     ///
     /// # Errors
-    /// `NoRecord`, which changes nothing; the core's, which are an item and change nothing else.
+    /// `NoRecord`; nothing changes. An error of the core is recorded as an item; nothing else changes.
     pub fn crash(&mut self, seat: u32, call: u32, p: Pid) -> Result<u32, LockedFault>
-        requires { IsNextCall (held_of self.old) seat call }
-        ensures item { RecordsAs self.old self.new seat call (Ask.Crash p) Told.Crashed result }
-        ensures ok { OnOk result (Crashes answers p (state_under self.old) (state_under self.new)) }
-        ensures refused { OnErr result (LeavesUnder answers self.old self.new) }
+        requires { IsNextCall (locked_state self.old) seat call }
+        ensures item { IsRecordedResult self.old self.new seat call
+            (Requests.Crash p) Replies.Crashed result }
+        ensures ok { OnOk result (Crashes answers p (core_state_of self.old)
+            (core_state_of self.new)) }
+        ensures refused { OnErr result (LeavesCore answers self.old self.new) }
     {
-        let first = begun(&self.core, &mut self.history)?;
+        let first = reserve_item(&self.core, &mut self.history)?;
         let answer = self.core.crash(p);
         let told = (Request::Crash { p }, Reply::of_crash(answer));
-        let turn = Turn { seat, call, first };
-        note(&self.core, &mut self.history, &mut self.seats, turn, told);
-        core_answer(answer)
+        let turn = CallContext { seat, call, first };
+        append_item(&self.core, &mut self.history, &mut self.seats, turn, told);
+        from_core_result(answer)
     }
 
-    /// Brings process p up again as the spare, which begins, as this call of the seat.
+    /// Restarts process p with the spare. `call` is the number of the seat's items.
     ///
     /// # Errors
-    /// `NoRecord`, which changes nothing; the core's, which are an item and change nothing else. Each gives the spare
-    /// back.
+    /// `NoRecord`; nothing changes. An error of the core is recorded as an item; nothing else changes. Each error
+    /// contains the spare.
     pub fn restart(
         &mut self,
         seat: u32,
@@ -316,75 +329,81 @@ impl<S: Stable> Locked<S> {
         p: Pid,
         spare: Box<dyn Process + Send>,
     ) -> Result<Restarted, LockedRefused>
-        requires { IsNextCall (held_of self.old) seat call }
-        ensures item { Records self.old self.new seat call (Ask.Restart p) (told_restart result) }
+        requires { IsNextCall (locked_state self.old) seat call }
+        ensures item { IsRecordedCall self.old self.new seat call (Requests.Restart p)
+            (restart_item_reply result) }
         ensures ok { OnOk result
-            (Restarts answers p spare (state_under self.old) (state_under self.new)) }
-        ensures refused { OnErr result (LeavesUnder answers self.old self.new) }
+            (Restarts answers p spare (core_state_of self.old) (core_state_of self.new)) }
+        ensures refused { OnErr result (LeavesCore answers self.old self.new) }
         ensures spare { IfErr result (λ refused. AnswersAs answers refused.spare spare) }
     {
-        let first = match begun(&self.core, &mut self.history) {
+        let first = match reserve_item(&self.core, &mut self.history) {
             Ok(first) => first,
             Err(fault) => return Err(LockedRefused { fault, spare }),
         };
         let answer = self.core.restart(p, spare);
         let told = (Request::Restart { p }, restart_reply(&answer));
-        let turn = Turn { seat, call, first };
-        note(&self.core, &mut self.history, &mut self.seats, turn, told);
-        restart_answer(answer)
+        let turn = CallContext { seat, call, first };
+        append_item(&self.core, &mut self.history, &mut self.seats, turn, told);
+        from_restart_result(answer)
     }
 
-    /// Puts what process p logs and does not know to be stable into stable storage, as this call of the seat. Where it
-    /// stops part way, the item tells how many determinants were stored and recorded.
+    /// Writes to stable storage each determinant that is in p's log and not known to be stable. `call` is the number of
+    /// the seat's items. If the flush stops before it finished, the item contains how many determinants were stored and
+    /// recorded.
     ///
     /// # Errors
-    /// `NoRecord`, which changes nothing; the core's, which are an item.
+    /// `NoRecord`; nothing changes. An error of the core is recorded as an item.
     pub fn flush(&mut self, seat: u32, call: u32, p: Pid) -> Result<u32, LockedFault>
-        requires { IsNextCall (held_of self.old) seat call }
+        requires { IsNextCall (locked_state self.old) seat call }
         ensures fault { IfErr result
-            (TellsFaults (S.faults (store_under self.old)) (S.faults (store_under self.new))) }
-        ensures item { RecordsAs self.old self.new seat call (Ask.Flush p) Told.Flushed result }
-        ensures bodies { (state_under self.new).bodies ≡ (state_under self.old).bodies }
+            (LockedFaultMeansFailure (S.faults (core_store_of self.old)) (S.faults
+            (core_store_of self.new))) }
+        ensures item { IsRecordedResult self.old self.new seat call
+            (Requests.Flush p) Replies.Flushed result }
+        ensures bodies { (core_state_of self.new).bodies ≡ (core_state_of self.old).bodies }
         ensures boxes { SameAnswers answers
-            (state_under self.old).slots (state_under self.new).slots }
+            (core_state_of self.old).slots (core_state_of self.new).slots }
     {
-        let first = begun(&self.core, &mut self.history)?;
+        let first = reserve_item(&self.core, &mut self.history)?;
         let answer = self.core.flush(p);
         let told = (Request::Flush { p }, Reply::of_flush(answer));
-        let turn = Turn { seat, call, first };
-        note(&self.core, &mut self.history, &mut self.seats, turn, told);
-        flush_answer(answer)
+        let turn = CallContext { seat, call, first };
+        append_item(&self.core, &mut self.history, &mut self.seats, turn, told);
+        from_flush_result(answer)
     }
 
-    /// Takes what process p knows to be stable out of its log, as this call of the seat.
+    /// Removes from p's log the determinants that are known to be stable. `call` is the number of the seat's items.
     ///
     /// # Errors
-    /// `NoRecord`, which changes nothing; the core's, which are an item and change nothing else.
+    /// `NoRecord`; nothing changes. An error of the core is recorded as an item; nothing else changes.
     pub fn forget(&mut self, seat: u32, call: u32, p: Pid) -> Result<u32, LockedFault>
-        requires { IsNextCall (held_of self.old) seat call }
-        ensures item { RecordsAs self.old self.new seat call (Ask.Forget p) Told.Forgotten result }
-        ensures bodies { (state_under self.new).bodies ≡ (state_under self.old).bodies }
+        requires { IsNextCall (locked_state self.old) seat call }
+        ensures item { IsRecordedResult self.old self.new seat call
+            (Requests.Forget p) Replies.Forgotten result }
+        ensures bodies { (core_state_of self.new).bodies ≡ (core_state_of self.old).bodies }
         ensures boxes { SameAnswers answers
-            (state_under self.old).slots (state_under self.new).slots }
+            (core_state_of self.old).slots (core_state_of self.new).slots }
     {
-        let first = begun(&self.core, &mut self.history)?;
+        let first = reserve_item(&self.core, &mut self.history)?;
         let answer = self.core.forget(p);
         let told = (Request::Forget { p }, Reply::of_forget(answer));
-        let turn = Turn { seat, call, first };
-        note(&self.core, &mut self.history, &mut self.seats, turn, told);
-        core_answer(answer)
+        let turn = CallContext { seat, call, first };
+        append_item(&self.core, &mut self.history, &mut self.seats, turn, told);
+        from_core_result(answer)
     }
 
-    /// The messages that up processes keep for q and that q's present lane has not received, by sender and number.
+    /// The messages that up processes keep for q and that q's present lane has not received, ascending by source and
+    /// ssn.
     ///
     /// # Errors
-    /// The first of `NoProcess` and `Down`; where neither stands, `NoMemory` where memory was refused.
+    /// `NoProcess` or `Down`, the first that applies; otherwise `NoMemory` if allocation failed.
     pub fn pending(&self, q: Pid) -> Result<Vec<MsgName>, CoreFault>
         ensures ok { IfOk result
-            (λ names. names.items ≡ pending_in (memories_of (held_of self.now).run) q) }
-        ensures legal { OnOk result (pending_fault (held_of self.now).run q ≡ None) }
+            (λ names. names.items ≡ pending_in (memories_of (locked_state self.now).run) q) }
+        ensures legal { OnOk result (pending_fault (locked_state self.now).run q ≡ None) }
         ensures refused { IfErr result
-            (λ fault. pending_fault (held_of self.now).run q ≡ reason_of fault) }
+            (λ fault. pending_fault (locked_state self.now).run q ≡ reason_of fault) }
     {
         self.core.pending(q)
     }

@@ -1,4 +1,4 @@
-//! Equality of items, decided by code.
+//! Equality of items and entries.
 ghost use Rattle.std.specs.Prelude.{◌≡◌, ◌↔◌, IsTrue};
 
 use crate::item::Item;
@@ -52,7 +52,7 @@ fn same_reply(a: &Reply, b: &Reply) -> bool
     }
 }
 
-/// Whether the items are the same.
+/// Returns whether the items are equal.
 pub(crate) fn same_item(a: &Item, b: &Item) -> bool
     ensures { IsTrue result ↔ (a.now ≡ b.now) }
 {
@@ -76,7 +76,7 @@ fn same_dets(a: &[Det], b: &[Det]) -> bool
     rest.is_empty()
 }
 
-/// Whether the entries are the same.
+/// Returns whether the entries are equal.
 pub(crate) fn same_entry(a: &Entry, b: &Entry) -> bool
     ensures { IsTrue result ↔ (a.now ≡ b.now) }
 {

@@ -2,29 +2,31 @@
 ghost use Rattle.std.specs.Prelude.{◌≡◌, ◌↔◌, ◌≤◌, ◌<◌, length, ◌-◌, vec_len};
 ghost use Rattle.std.specs.Prelude.{IfOk, IfErr, OnOk, OnErr, IsTrue, Option, Some, None};
 ghost use Rattle.std.specs.Option.{option_copied};
-ghost use Rattle.causal_protocol.specs.declared.request.Request.TheVariants as Ask;
-ghost use Rattle.causal_protocol.specs.declared.request.Reply.TheVariants as Told;
+ghost use Rattle.causal_protocol.specs.declared.request.Request.TheVariants as Requests;
+ghost use Rattle.causal_protocol.specs.declared.request.Reply.TheVariants as Replies;
 ghost use Rattle.causal_shared.specs.Limits.{max_items};
 ghost use Rattle.causal_protocol.specs.Steps.{reason_of};
 ghost use Rattle.causal_core.specs.Pendings.{pending_fault, pending_in};
 ghost use Rattle.causal_protocol.specs.declared.request.CoreFault.{CoreFault};
-ghost use Rattle.causal_shared.specs.History.{Sees};
+ghost use Rattle.causal_shared.specs.History.{UpdatesSeen};
 ghost use Rattle.causal_protocol.specs.Run.{memories_of};
-ghost use Rattle.causal_shared.specs.Inside.Sections.{Hears, Sections};
-ghost use Rattle.causal_shared.specs.Locked.{held_of, AnswersAs, IsSnapshot, IsSafeSnapshot};
+ghost use Rattle.causal_shared.specs.Inside.Sections.{RecordsReply, LockSections};
+ghost use Rattle.causal_shared.specs.Locked.{locked_state, AnswersAs, IsSnapshot, IsSafeSnapshot};
 ghost use Rattle.causal_shared.specs.Pending.{AreAscending, IsPendingFault, IsSnapshotFault};
-ghost use Rattle.causal_shared.specs.Seat.{heard, heard_fault, heard_restart, with_item};
-ghost use Rattle.causal_shared.specs.Inside.Seated.{refusal_of};
-ghost use Rattle.causal_shared.specs.Inside.Tasks.{reply_of, request_of};
-ghost use Rattle.causal_shared.specs.Seat.{SeesEntries};
-ghost use Rattle.causal_shared.specs.Inside.Seated.{IsSeated, MayCall, TellsFull, TellsWrongSeat};
+ghost use Rattle.causal_shared.specs.Seat.{seat_reply, seat_fault_reply, seat_restart_reply, with_item};
+ghost use Rattle.causal_shared.specs.Inside.SeatChecks.{refusal_of};
+ghost use Rattle.causal_shared.specs.Inside.CountingCalls.{reply_of, request_of};
+ghost use Rattle.causal_shared.specs.Seat.{SnapshotSeen};
+ghost use Rattle.causal_shared.specs.Inside.SeatChecks.{MatchesRecord, CanCall, HistoryFullIsTrue, NoRecordIsTrue, WrongSeatIsTrue};
 
+use crate::counting_call::CountingCall;
 use crate::fault::SharedFault;
 use crate::item::{Item, Snapshot};
 use crate::locked::Locked;
 use crate::refused::SharedRefused;
-use crate::replies::{delivery_told, restart_told, shared_answer, shared_restart, task_told};
-use crate::task::Task;
+use crate::replies::{
+    count_item_reply, delivery_item_reply, restart_item_reply, to_shared_restart, to_shared_result,
+};
 use causal_log::Stable;
 use causal_name::{MsgName, NoMemory, Pid};
 use causal_process::Process;
@@ -32,8 +34,8 @@ use causal_protocol::request::{CoreFault, Delivered, Reply, Request, Restarted};
 use std::alloc::Global;
 use std::marker::Model;
 
-/// A seat. Contracts see it as its number, its runtime's tag, its own list of items, and how many entries it has seen;
-/// and as how many more items are sure of their memory, of which equality does not speak.
+/// A caller's handle. Contracts see its number, its runtime's tag, its own list of items and its `seen` count; and how
+/// many more items fit without allocation, which the equality of views ignores.
 #[derive(Drop)]
 pub struct Seat {
     number: u32,
@@ -44,13 +46,13 @@ pub struct Seat {
 
 impl Model for Seat {
     ghost use Rattle.causal_shared.specs.Limits.{max_items};
-    ghost use Rattle.causal_shared.specs.Seat.{SeatState};
+    ghost use Rattle.causal_shared.specs.Seat.{SeatMemory};
     ghost use Rattle.std.specs.Prelude.{◌≤◌, ◌-◌, vec_len, vec_capacity};
 
-    ghost Value = { SeatState };
+    ghost Value = { SeatMemory };
 
     ghost view = { λ s. record {
-      sitting = record { number = s.number; tag = s.tag; items = s.items.items; seen = s.seen };
+      view = record { number = s.number; tag = s.tag; items = s.items.items; seen = s.seen };
       spare = vec_capacity s.items - vec_len s.items;
     } };
 
@@ -59,10 +61,10 @@ impl Model for Seat {
 
 impl Seat {
     ghost use Rattle.causal_shared.specs.History.{last_of};
-    ghost use Rattle.causal_shared.specs.Seat.{new_sitting};
+    ghost use Rattle.causal_shared.specs.Seat.{new_seat_view};
 
     pub(crate) fn new(alloc: Global, number: u32, tag: u64, seen: u32) -> Seat
-        ensures { result.sitting ≡ new_sitting number tag seen }
+        ensures { result.view ≡ new_seat_view number tag seen }
     {
         Seat {
             number,
@@ -73,58 +75,58 @@ impl Seat {
     }
 
     pub fn number(&self) -> u32
-        ensures { result ≡ self.now.sitting.number }
+        ensures { result ≡ self.now.view.number }
     {
         self.number
     }
 
     pub(crate) fn tag(&self) -> u64
-        ensures { result ≡ self.now.sitting.tag }
+        ensures { result ≡ self.now.view.tag }
     {
         self.tag
     }
 
     pub(crate) fn items(&self) -> &[Item]
-        ensures { result.now ≡ self.now.sitting.items }
+        ensures { result.now ≡ self.now.view.items }
     {
         self.items.as_slice()
     }
 
     /// The number of its items.
     pub fn count(&self) -> u32
-        ensures { result ≡ length self.now.sitting.items }
+        ensures { result ≡ length self.now.view.items }
     {
         self.items.len() as u32
     }
 
     /// Its last item.
     pub fn last(&self) -> Option<&Item>
-        ensures { option_copied result ≡ last_of self.now.sitting.items }
+        ensures { option_copied result ≡ last_of self.now.view.items }
     {
         self.items.as_slice().last()
     }
 
-    /// How many entries it has seen.
+    /// The trace length after its last recorded call or snapshot; before these, the length at `open`.
     pub fn seen(&self) -> u32
-        ensures { result ≡ self.now.sitting.seen }
+        ensures { result ≡ self.now.view.seen }
     {
         self.seen
     }
 
-    /// Room for one more item.
-    fn make_room(&mut self) -> Result<(), NoMemory>
-        ensures sitting { self.new.sitting ≡ self.old.sitting }
+    /// Reserves capacity for one more item.
+    fn reserve_item(&mut self) -> Result<(), NoMemory>
+        ensures view { self.new.view ≡ self.old.view }
         ensures ok { OnOk result (1 ≤ self.new.spare) }
     {
         self.items.reserve(1)?;
         Ok(())
     }
 
-    /// The next item, and how many entries the seat has then seen.
-    fn note(&mut self, request: Request, reply: Reply, first: u32, seen: u32)
-        requires few { length self.old.sitting.items < max_items }
+    /// Appends the next item and sets the `seen` count.
+    fn add_item(&mut self, request: Request, reply: Reply, first: u32, seen: u32)
+        requires few { length self.old.view.items < max_items }
         requires spare { 1 ≤ self.old.spare }
-        ensures { self.new.sitting ≡ with_item self.old.sitting request reply first seen }
+        ensures { self.new.view ≡ with_item self.old.view request reply first seen }
     {
         let call = self.count();
         self.items.push_reserved(Item {
@@ -137,17 +139,17 @@ impl Seat {
         self.seen = seen;
     }
 
-    /// How many entries the seat has now seen.
-    fn see(&mut self, seen: u32)
-        ensures { self.new.sitting ≡ record self.old.sitting { seen = seen } }
+    /// Sets the `seen` count.
+    fn set_seen(&mut self, seen: u32)
+        ensures { self.new.view ≡ record self.old.view { seen = seen } }
     {
         self.seen = seen;
     }
 }
 
-/// Whether the seat is of this runtime and as it is kept.
-fn is_seated<S: Stable>(locked: &Locked<S>, tag: u64, seat: &Seat) -> bool
-    ensures { IsTrue result ↔ IsSeated tag (held_of locked.now) seat.now.sitting }
+/// Returns whether the seat is of this runtime and matches its record.
+fn matches_record<S: Stable>(locked: &Locked<S>, tag: u64, seat: &Seat) -> bool
+    ensures { IsTrue result ↔ MatchesRecord tag (locked_state locked.now) seat.now.view }
 {
     if seat.tag() != tag {
         return false;
@@ -155,47 +157,47 @@ fn is_seated<S: Stable>(locked: &Locked<S>, tag: u64, seat: &Seat) -> bool
     locked.holds(seat.number(), seat.count(), seat.seen(), seat.last())
 }
 
-/// The number of entries before the seat's next item, where it may make one; there is then room for it in the seat's
-/// list.
-fn begin<S: Stable>(locked: &Locked<S>, tag: u64, seat: &mut Seat) -> Result<u32, SharedFault>
-    ensures sitting { seat.new.sitting ≡ seat.old.sitting }
-    ensures wrong { TellsWrongSeat tag (held_of locked.now) seat.old.sitting result }
-    ensures full { TellsFull (held_of locked.now) result }
-    ensures ok { IfOk result (MayCall (held_of locked.now) seat.new) }
-    ensures early { IfErr result (λ fault. heard_fault fault ≡ None) }
+/// Checks that the seat can call, reserves capacity for its item, and returns the number of entries before it.
+fn begin_call<S: Stable>(locked: &Locked<S>, tag: u64, seat: &mut Seat) -> Result<u32, SharedFault>
+    ensures view { seat.new.view ≡ seat.old.view }
+    ensures wrong { WrongSeatIsTrue tag (locked_state locked.now) seat.old.view result }
+    ensures full { HistoryFullIsTrue (locked_state locked.now) result }
+    ensures no_record { NoRecordIsTrue (locked_state locked.now) result }
+    ensures ok { IfOk result (CanCall (locked_state locked.now) seat.new) }
+    ensures early { IfErr result (λ fault. seat_fault_reply fault ≡ None) }
 {
-    if !is_seated(locked, tag, seat) {
+    if !matches_record(locked, tag, seat) {
         return Err(SharedFault::WrongSeat);
     }
     if locked.full() {
         return Err(SharedFault::HistoryFull);
     }
-    if seat.make_room().is_err() {
+    if seat.reserve_item().is_err() {
         return Err(SharedFault::NoRecord);
     }
-    Ok(locked.instant())
+    Ok(locked.entry_count())
 }
 
-/// The seat's item, where one was made.
-fn hear<S: Stable>(
+/// Appends the call's item to the seat's list, if one was made.
+fn record_reply<S: Stable>(
     locked: &Locked<S>,
     seat: &mut Seat,
     request: Request,
     reply: Option<Reply>,
     first: u32,
 )
-    requires few { length seat.old.sitting.items < max_items }
+    requires few { length seat.old.view.items < max_items }
     requires spare { 1 ≤ seat.old.spare }
-    ensures { Hears locked.now seat.old seat.new request reply first }
+    ensures { RecordsReply locked.now seat.old seat.new request reply first }
 {
     let Some(reply) = reply else {
         return;
     };
-    seat.note(request, reply, first, locked.instant());
+    seat.add_item(request, reply, first, locked.entry_count());
 }
 
-/// The lock's part of a delivery.
-pub(crate) fn deliver_under<S: Stable>(
+/// Delivers, with the lock held.
+pub(crate) fn deliver_locked<S: Stable>(
     locked: &mut Locked<S>,
     tag: u64,
     seat: &mut Seat,
@@ -203,113 +205,119 @@ pub(crate) fn deliver_under<S: Stable>(
     source: Pid,
     ssn: u32,
 ) -> Result<Delivered, SharedFault>
-    ensures section { Sections locked.old locked.new seat.old seat.new (Ask.Deliver q source ssn)
-        (heard Told.Delivered result) }
-    ensures wrong { TellsWrongSeat tag (held_of locked.old) seat.old.sitting result }
-    ensures full { TellsFull (held_of locked.old) result }
+    ensures section { LockSections locked.old locked.new seat.old seat.new
+        (Requests.Deliver q source ssn)
+        (seat_reply Replies.Delivered result) }
+    ensures wrong { WrongSeatIsTrue tag (locked_state locked.old) seat.old.view result }
+    ensures full { HistoryFullIsTrue (locked_state locked.old) result }
+    ensures no_record { NoRecordIsTrue (locked_state locked.old) result }
 {
-    let first = begin(locked, tag, seat)?;
+    let first = begin_call(locked, tag, seat)?;
     let answer = locked.deliver(seat.number(), seat.count(), q, source, ssn);
     let request = Request::Deliver { q, source, ssn };
-    hear(locked, seat, request, delivery_told(answer), first);
-    shared_answer(answer)
+    record_reply(locked, seat, request, delivery_item_reply(answer), first);
+    to_shared_result(answer)
 }
 
-/// The lock's part of a crash, a flush or a forgetting.
-pub(crate) fn task_under<S: Stable>(
+/// Crashes, flushes or forgets, with the lock held.
+pub(crate) fn task_locked<S: Stable>(
     locked: &mut Locked<S>,
     tag: u64,
     seat: &mut Seat,
-    task: Task,
+    task: CountingCall,
     p: Pid,
 ) -> Result<u32, SharedFault>
-    ensures section { Sections locked.old locked.new seat.old seat.new (request_of task p)
-        (heard (reply_of task) result) }
-    ensures wrong { TellsWrongSeat tag (held_of locked.old) seat.old.sitting result }
-    ensures full { TellsFull (held_of locked.old) result }
+    ensures section { LockSections locked.old locked.new seat.old seat.new (request_of task p)
+        (seat_reply (reply_of task) result) }
+    ensures wrong { WrongSeatIsTrue tag (locked_state locked.old) seat.old.view result }
+    ensures full { HistoryFullIsTrue (locked_state locked.old) result }
+    ensures no_record { NoRecordIsTrue (locked_state locked.old) result }
 {
-    let first = begin(locked, tag, seat)?;
+    let first = begin_call(locked, tag, seat)?;
     let answer = task.perform(locked, seat.number(), seat.count(), p);
-    hear(
+    record_reply(
         locked,
         seat,
         task.request(p),
-        task_told(task, answer),
+        count_item_reply(task, answer),
         first,
     );
-    shared_answer(answer)
+    to_shared_result(answer)
 }
 
-/// The lock's part of a restart.
-pub(crate) fn restart_under<S: Stable>(
+/// Restarts, with the lock held.
+pub(crate) fn restart_locked<S: Stable>(
     locked: &mut Locked<S>,
     tag: u64,
     seat: &mut Seat,
     p: Pid,
     spare: Box<dyn Process + Send>,
 ) -> Result<Restarted, SharedRefused>
-    ensures section { Sections locked.old locked.new seat.old seat.new (Ask.Restart p)
-        (heard_restart result) }
+    ensures section { LockSections locked.old locked.new seat.old seat.new (Requests.Restart p)
+        (seat_restart_reply result) }
     ensures spare { IfErr result (λ refused. AnswersAs answers refused.spare spare) }
     ensures wrong { refusal_of result ≡ Some SharedFault.WrongSeat
-        ↔ ¬ IsSeated tag (held_of locked.old) seat.old.sitting }
+        ↔ ¬ MatchesRecord tag (locked_state locked.old) seat.old.view }
     ensures full { refusal_of result ≡ Some SharedFault.HistoryFull
-        → length (held_of locked.old).history ≡ max_items }
+        → length (locked_state locked.old).history ≡ max_items }
+    ensures no_record { refusal_of result ≡ Some SharedFault.NoRecord
+        → length (locked_state locked.old).history < max_items }
 {
-    let first = match begin(locked, tag, seat) {
+    let first = match begin_call(locked, tag, seat) {
         Ok(first) => first,
         Err(fault) => return Err(SharedRefused { fault, spare }),
     };
     let answer = locked.restart(seat.number(), seat.count(), p, spare);
     let request = Request::Restart { p };
-    hear(locked, seat, request, restart_told(&answer), first);
-    shared_restart(answer)
+    record_reply(locked, seat, request, restart_item_reply(&answer), first);
+    to_shared_restart(answer)
 }
 
-/// The lock's part of a snapshot.
-pub(crate) fn snapshot_under<S: Stable>(
+/// Copies the trace, with the lock held.
+pub(crate) fn snapshot_locked<S: Stable>(
     locked: &mut Locked<S>,
     tag: u64,
     seat: &mut Seat,
 ) -> Result<Snapshot, SharedFault>
-    ensures copy { IfOk result (IsSnapshot (held_of locked.old)) }
+    ensures copy { IfOk result (IsSnapshot (locked_state locked.old)) }
     ensures safe { IfOk result IsSafeSnapshot }
     ensures seen { IfOk result
-        (λ s. SeesEntries seat.old.sitting seat.new.sitting s.trace.recording.past) }
+        (λ s. SnapshotSeen seat.old.view seat.new.view s.trace.recording.past) }
     ensures sees { OnOk result
-        (Sees (held_of locked.old) (held_of locked.new) seat.old.sitting.number) }
-    ensures err { OnErr result (seat.new.sitting ≡ seat.old.sitting) }
-    ensures unchanged { OnErr result (held_of locked.new ≡ held_of locked.old) }
+        (UpdatesSeen (locked_state locked.old)
+        (locked_state locked.new) seat.old.view.number) }
+    ensures err { OnErr result (seat.new.view ≡ seat.old.view) }
+    ensures unchanged { OnErr result (locked_state locked.new ≡ locked_state locked.old) }
     ensures faults { IfErr result IsSnapshotFault }
-    ensures wrong { TellsWrongSeat tag (held_of locked.old) seat.old.sitting result }
+    ensures wrong { WrongSeatIsTrue tag (locked_state locked.old) seat.old.view result }
 {
-    if !is_seated(locked, tag, seat) {
+    if !matches_record(locked, tag, seat) {
         return Err(SharedFault::WrongSeat);
     }
     let Ok(snapshot) = locked.snapshot(seat.number()) else {
         return Err(SharedFault::Core(CoreFault::NoMemory));
     };
-    seat.see(snapshot.trace.len());
+    seat.set_seen(snapshot.trace.len());
     Ok(snapshot)
 }
 
-/// The lock's part of asking what is pending.
-pub(crate) fn pending_under<S: Stable>(
+/// Lists the pending messages, with the lock held.
+pub(crate) fn pending_locked<S: Stable>(
     locked: &Locked<S>,
     tag: u64,
     seat: &Seat,
     q: Pid,
 ) -> Result<Vec<MsgName>, SharedFault>
     ensures ok { IfOk result
-        (λ names. names.items ≡ pending_in (memories_of (held_of locked.now).run) q) }
+        (λ names. names.items ≡ pending_in (memories_of (locked_state locked.now).run) q) }
     ensures ascends { IfOk result (λ names. AreAscending names.items) }
-    ensures legal { OnOk result (pending_fault (held_of locked.now).run q ≡ None) }
+    ensures legal { OnOk result (pending_fault (locked_state locked.now).run q ≡ None) }
     ensures faults { IfErr result IsPendingFault }
     ensures refused { (fault : CoreFault) → result ≡ Err (SharedFault.Core fault)
-        → pending_fault (held_of locked.now).run q ≡ reason_of fault }
-    ensures wrong { TellsWrongSeat tag (held_of locked.now) seat.now.sitting result }
+        → pending_fault (locked_state locked.now).run q ≡ reason_of fault }
+    ensures wrong { WrongSeatIsTrue tag (locked_state locked.now) seat.now.view result }
 {
-    if !is_seated(locked, tag, seat) {
+    if !matches_record(locked, tag, seat) {
         return Err(SharedFault::WrongSeat);
     }
     match locked.pending(q) {

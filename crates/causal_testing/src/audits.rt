@@ -1,6 +1,6 @@
-//! The tables of a trace that was judged by hand, once. The verdicts on many more are rows for the built program
+//! The tables of one trace, with hand-computed values. The verdicts on many more are rows for the built program
 //! (`examples/commands/`).
-use crate::entries::{RING, traced};
+use crate::entries::{RING, build_trace};
 use causal_audit::{Breach, Tables, Verdict, first_breach, first_excess, judge};
 use causal_holders::Holders;
 use causal_trace::trace::Trace;
@@ -22,7 +22,7 @@ fn has_the_deliveries(tables: &Tables) -> bool {
         && tables.position(2) == 5
 }
 
-/// Whether for two faults just the first delivery is told to be lost, and for one none is.
+/// Returns whether f = 2 gives exactly the breach of the first delivery, and f = 1 none.
 fn has_the_breach(tables: &Tables) -> bool {
     let (instant, delivery, crash, orphan) = (6, 1, one_and_two(), 0);
     let breach = Breach {
@@ -54,13 +54,13 @@ fn is_judged(alloc: Global, trace: &Trace) -> bool {
 }
 
 fn ring_is_judged(alloc: Global) -> bool {
-    match traced(alloc, 3, &RING) {
+    match build_trace(alloc, 3, &RING) {
         Ok(trace) => is_judged(alloc, &trace),
         Err(_) => false,
     }
 }
 
 #[test]
-fn the_tables_of_the_ring_tell_its_breach(rt: HostRuntime) {
+fn tables_find_ring_breach(rt: HostRuntime) {
     assert!(rt; ring_is_judged(rt.alloc()));
 }

@@ -1,7 +1,7 @@
-//! The calls of a clock that take memory, on a small run and at the limit on lanes.
+//! The calls of a clock that allocate, on a small run and at the limit on lanes.
 use causal_clock::{ClockFault, Clocks, EVENTS};
 
-/// Records an event of a lane, which may receive what an earlier event sent: its number.
+/// Records an event of a lane, with the send that it receives, if any. Returns the event's number.
 fn number(clocks: &mut Clocks, lane: u32, send: Option<u32>) -> Option<u32> {
     if lane >= clocks.lanes() || clocks.len() >= EVENTS {
         return None;
@@ -13,7 +13,7 @@ fn number(clocks: &mut Clocks, lane: u32, send: Option<u32>) -> Option<u32> {
     }
 }
 
-/// Records events in their order, and tells whether each has the next number.
+/// Records events in order. Returns whether each has the next number.
 fn are_numbered(clocks: &mut Clocks, events: &[(u32, Option<u32>)]) -> bool {
     for (lane, send) in events {
         let next = clocks.len();
@@ -24,7 +24,7 @@ fn are_numbered(clocks: &mut Clocks, events: &[(u32, Option<u32>)]) -> bool {
     true
 }
 
-/// Whether of these pairs of events the first is the second or came before it just where it has to.
+/// Returns whether each pair of events is ordered as expected: the first is the second or precedes it.
 fn are_ordered(clocks: &Clocks, pairs: &[(u32, u32, bool)]) -> bool {
     for (i, j, before) in pairs {
         if *i >= clocks.len() || *j >= clocks.len() || clocks.precedes(*i, *j) != *before {
@@ -34,7 +34,7 @@ fn are_ordered(clocks: &Clocks, pairs: &[(u32, u32, bool)]) -> bool {
     true
 }
 
-/// Whether of these pairs of an event and a lane so many of the lane's events are the event or came before it.
+/// Returns whether, for each event and lane, the expected number of the lane's events are the event or precede it.
 fn are_reached(clocks: &Clocks, pairs: &[(u32, u32, u32)]) -> bool {
     for (event, lane, count) in pairs {
         if *event >= clocks.len()
@@ -47,7 +47,7 @@ fn are_reached(clocks: &Clocks, pairs: &[(u32, u32, u32)]) -> bool {
     true
 }
 
-/// Three lanes, each of which sends on to the next.
+/// Three lanes, each of which sends to the next.
 const RING: [(u32, Option<u32>); 6] = [
     (0, None),
     (1, Some(0)),
@@ -65,7 +65,7 @@ fn is_a_ring(clocks: &mut Clocks) -> bool {
     are_numbered(clocks, &RING) && are_ordered(clocks, &ORDER) && are_reached(clocks, &REACHED)
 }
 
-/// Whether lanes open with the numbers from one on and below another, and then no more.
+/// Returns whether lanes open with the numbers from `first` to below `end`, and then no more.
 fn open_until(clocks: &mut Clocks, first: u32, end: u32) -> bool {
     for lane in first..end {
         if clocks.open_lane() != Ok(lane) {

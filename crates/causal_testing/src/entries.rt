@@ -1,14 +1,14 @@
-//! Entries of a trace, written short, and the traces of them.
+//! Entries of a trace in short form, and traces of them.
 use causal_name::{Det, Pid};
 use causal_trace::entry::{Dets, Entry};
 use causal_trace::fault::TraceFault;
 use causal_trace::trace::Trace;
 use std::alloc::Global;
 
-/// Sender, send sequence number, receiver and receive sequence number.
+/// Source, ssn, receiver and rsn.
 pub type Fields = (u8, u32, u8, u32);
 
-/// An entry, in the order of the fields of its text.
+/// An entry, with the fields in the order of its text.
 #[derive(Clone, Copy)]
 pub enum Line<'a> {
     Send(u8, u8, u32),
@@ -17,7 +17,7 @@ pub enum Line<'a> {
     Forget(u8, &'a [Fields]),
 }
 
-/// A message goes round 0, 1, 2 and back to 0; each lists its own delivery and the one before it.
+/// A message goes from 0 to 1 to 2 and back to 0; each process lists its own delivery and the one before it.
 pub const RING: [Line<'static>; 6] = [
     Line::Send(0, 1, 0),
     Line::Deliver(1, 0, 0, &[(0, 0, 1, 0)]),
@@ -73,7 +73,7 @@ pub fn push_all(alloc: Global, trace: &mut Trace, lines: &[Line<'_>]) -> Result<
 }
 
 /// The trace of n processes with these entries.
-pub fn traced(alloc: Global, n: u16, lines: &[Line<'_>]) -> Result<Trace, TraceFault> {
+pub fn build_trace(alloc: Global, n: u16, lines: &[Line<'_>]) -> Result<Trace, TraceFault> {
     let mut trace = Trace::new(alloc, n)?;
     push_all(alloc, &mut trace, lines)?;
     Ok(trace)

@@ -1,25 +1,25 @@
-//! The tests of recorded runs and of the auditor, as a crate that stands on these sees them: a proof of its tests proves none of
-//! theirs again. They begin with entries of a trace written short and the traces of them, and with texts of traces.
+//! Tests of recorded runs and of the auditor, in a crate of their own: proving these tests does not prove the tested
+//! crates again. The tests use `entries`, entries of a trace in short form, and `texts`, texts of traces.
 #![tactic(auto)]
 
-/// The tables of a trace that was judged by hand, once.
+/// The tables of one trace, with hand-computed values.
 #[cfg(test)]
 mod audits;
-/// The calls of a clock that take memory, on a small run and at the limit on lanes.
+/// The calls of a clock that allocate, on a small run and at the limit on lanes.
 #[cfg(test)]
 mod clocks;
-/// Entries of a trace, written short, and the traces of them.
+/// Entries of a trace in short form.
 #[cfg(test)]
 mod entries;
-/// Texts that come from a reader, and go to a writer.
+/// Texts read in pieces, and written to writers that fail.
 #[cfg(test)]
 mod text;
-/// Texts of traces, each worked out by hand.
+/// Hand-written texts of traces.
 #[cfg(test)]
 mod texts;
-/// A trace that is copied and grows.
+/// A copy of a trace, reserved pushes, and the number of processes.
 #[cfg(test)]
 mod traces;
-/// Who enters the gate, and that two workers run together.
+/// The gate of an audit: each worker enters once, and two workers overlap.
 #[cfg(test)]
 mod workers;

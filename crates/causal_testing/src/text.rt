@@ -1,13 +1,16 @@
-//! Texts that come from a reader, and go to a writer. What texts spell and which fault they have, and streams of single bytes that
-//! fail at each of their calls, are asked of the built program (`examples/commands/`, `trials/refuse.py`).
+//! Texts read in pieces, and written. What texts spell, their errors, and streams of single bytes that fail at each
+//! call are tested on the built program (`examples/commands/`, `trials/refuse.py`).
 use crate::texts::{DELIVERED, FOLLOWED, MISCOUNTED, RING, TORN};
-use causal_text::{ReaderFault, TextFault, TextKind, read_from, write_trace};
+use causal_text::{
+    Progress, ReaderFault, TextFault, TextKind, TraceReader, WriteCause, WriteFault, read_from,
+    write_trace,
+};
 use causal_trace::trace::Trace;
 use std::alloc::Global;
 use std::io;
-use std::io::Read;
+use std::io::{Read, Write};
 
-// gives so many bytes for each call, and fails where the text has ended if it is told to
+// returns at most `step` bytes in each call; at the end of the text it fails if `fails` is set
 #[derive(Drop)]
 struct Slow<'a> {
     rest: &'a [u8],
@@ -25,7 +28,7 @@ impl<'a> Read for Slow<'a> {
     }
 }
 
-// the trace of a text that comes in steps from a reader that then fails or not, or what is told
+// the trace of a text that is read in steps of `step` bytes, or the error
 fn read(alloc: Global, text: &str, step: usize, fails: bool) -> Result<Trace, ReaderFault> {
     let source = Slow {
         rest: text.as_bytes(),
@@ -35,13 +38,13 @@ fn read(alloc: Global, text: &str, step: usize, fails: bool) -> Result<Trace, Re
     read_from(alloc, source)
 }
 
-/// Whether a trace is written just so.
+/// Returns whether a trace is written as exactly this text.
 fn is_written(alloc: Global, trace: &Trace, text: &str) -> bool {
     let mut written = Vec::new(alloc);
     write_trace(alloc, trace, &mut written).is_ok() && written.as_slice() == text.as_bytes()
 }
 
-/// Whether the ring that comes in steps is read, and written as it was.
+/// Returns whether the ring, read in steps of `step` bytes, is written unchanged.
 fn comes_back(alloc: Global, step: usize) -> bool {
     match read(alloc, RING, step, false) {
         Ok(trace) => is_written(alloc, &trace, RING),
@@ -56,8 +59,8 @@ fn pieces_of_any_size(rt: HostRuntime) {
     }
 }
 
-// texts, in which steps they come, whether their readers then fail, and the fault, which is the reader's where there is no line: a
-// complete line is judged before the next piece is asked for, and what follows the end line at its first byte
+// text, bytes in a step, whether the reader then fails, and the expected error, which is the reader's if there is no
+// line. A complete line is checked before the next piece is read, and text after the end line at its first byte.
 const FAULTY: [(&str, usize, bool, Option<(u32, TextKind)>); 7] = [
     (DELIVERED, 1, false, Some((4, TextKind::Cut))),
     (MISCOUNTED, 1, false, Some((4, TextKind::Count))),
@@ -93,4 +96,122 @@ fn faults_of_texts_in_pieces(rt: HostRuntime) {
             "of {text}"
         );
     }
+}
+
+/// The result of reading one more piece.
+type Piece = Result<Progress, ReaderFault>;
+
+/// Returns whether a reader returns these results in turn.
+fn gives(reader: &mut TraceReader<Slow<'_>>, pieces: &[Piece]) -> bool {
+    for piece in pieces {
+        if reader.next_piece() != *piece {
+            return false;
+        }
+    }
+    true
+}
+
+/// Returns whether a reader of the ring, whose source may fail at its end, returns these results, and then a trace or
+/// that error.
+fn ends_with(alloc: Global, fails: bool, pieces: &[Piece], end: Option<ReaderFault>) -> bool {
+    let source = Slow {
+        rest: RING.as_bytes(),
+        step: 4096,
+        fails,
+    };
+    let mut reader = TraceReader::new(alloc, source);
+    gives(&mut reader, pieces) && reader.into_trace().err() == end
+}
+
+/// The results of a source that fails after one piece.
+const FAILED: [Piece; 3] = [
+    Ok(Progress::More),
+    Err(ReaderFault::Read),
+    Err(ReaderFault::Failed),
+];
+
+/// The results of a source that ends after one piece.
+const WHOLE: [Piece; 3] = [Ok(Progress::More), Ok(Progress::Ended), Ok(Progress::Ended)];
+
+#[test]
+fn into_trace_faults(rt: HostRuntime) {
+    assert!(rt; ends_with(rt.alloc(), true, &FAILED, Some(ReaderFault::Failed)));
+    assert!(rt; ends_with(rt.alloc(), false, &[], Some(ReaderFault::Unfinished)));
+    assert!(rt;
+        ends_with(
+            rt.alloc(),
+            false,
+            &WHOLE[..1],
+            Some(ReaderFault::Unfinished)
+        )
+    );
+    assert!(rt; ends_with(rt.alloc(), false, &WHOLE, None));
+}
+
+// accepts one byte in each call; from the limit on none, or it fails if `fails` is set
+#[derive(Drop)]
+struct Narrow {
+    written: Vec<u8>,
+    limit: usize,
+    fails: bool,
+}
+
+impl Write for Narrow {
+    fn write(&mut self, buf: &[u8]) -> io::Result<usize> {
+        if self.written.len() >= self.limit {
+            if self.fails {
+                return Err(io::Error::from(io::ErrorKind::Interrupted));
+            }
+            return Ok(0);
+        }
+        match buf.first() {
+            Some(byte) => {
+                self.written.push(*byte)?;
+                Ok(1)
+            }
+            None => Ok(0),
+        }
+    }
+
+    fn flush(&mut self) -> io::Result<()> {
+        Ok(())
+    }
+}
+
+/// Returns whether writing a trace to a writer with this limit returns this result, and has written exactly this text.
+fn writes(
+    alloc: Global,
+    trace: &Trace,
+    (limit, fails): (usize, bool),
+    answer: Result<(), WriteFault>,
+    text: &str,
+) -> bool {
+    let mut writer = Narrow {
+        written: Vec::new(alloc),
+        limit,
+        fails,
+    };
+    write_trace(alloc, trace, &mut writer) == answer && writer.written.as_slice() == text.as_bytes()
+}
+
+const STOPPED: Result<(), WriteFault> = Err(WriteFault {
+    written: 3,
+    cause: WriteCause::Device,
+});
+
+/// Returns whether a trace is written to a writer of single bytes, and three bytes of it to one that then accepts none
+/// or fails.
+fn is_written_in_bytes(alloc: Global, trace: &Trace) -> bool {
+    writes(alloc, trace, (RING.len(), false), Ok(()), RING)
+        && writes(alloc, trace, (3, false), STOPPED, "[\"t")
+        && writes(alloc, trace, (3, true), STOPPED, "[\"t")
+}
+
+#[test]
+fn writer_fails_after_three_bytes(rt: HostRuntime) {
+    let is_right = match read(rt.alloc(), RING, 4096, false) {
+        Ok(trace) => is_written_in_bytes(rt.alloc(), &trace),
+        Err(_) => false,
+    };
+    assert!(rt; is_right);
 }

@@ -1,30 +1,30 @@
-//! Texts of traces, each worked out by hand.
+//! Hand-written texts of traces.
 
-/// A message that is sent and delivered, and then the text is cut off.
+/// A message is sent and delivered; then the text is cut off.
 pub const DELIVERED: &str = r#"["trace",1,2]
 ["send",0,1,0]
 ["deliver",1,0,0,[[0,0,1,0]]]
 "#;
 
-/// The same, with an end line that counts another number of entries.
+/// `DELIVERED` with an end line that counts another number of entries.
 pub const MISCOUNTED: &str = r#"["trace",1,2]
 ["send",0,1,0]
 ["deliver",1,0,0,[[0,0,1,0]]]
 ["end",1]"#;
 
-/// The same, with a space after its end line.
+/// `DELIVERED` with a space after its end line.
 pub const FOLLOWED: &str = r#"["trace",1,2]
 ["send",0,1,0]
 ["deliver",1,0,0,[[0,0,1,0]]]
 ["end",2]
  "#;
 
-/// The same, cut off in its last line.
+/// `DELIVERED`, cut off in its last line.
 pub const TORN: &str = r#"["trace",1,2]
 ["send",0,1,0]
 ["deliver",1,0"#;
 
-/// A message goes once round three processes; each logs its own delivery and the one before it.
+/// A message goes once around three processes; each logs its own delivery and the one before it.
 pub const RING: &str = r#"["trace",1,3]
 ["send",0,1,0]
 ["deliver",1,0,0,[[0,0,1,0]]]

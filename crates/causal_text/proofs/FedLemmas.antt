@@ -1,35 +1,42 @@
--- What a reader that is fed has read, whose limits are those that it was opened with.
-use Rattle.std.proofs.Common.{arith, ◌≡◌, ℕ, List, ◌++◌, Ok, Err}
+-- What a reader of pieces has read, under its own limits.
+use Rattle.std.proofs.Common.{arith, ◌≡◌, ◌≢◌, ℕ, List, ◌++◌, Ok, Option, Some, None, subst}
+use Rattle.std.specs.Prelude.{IfSome}
 use Rattle.causal_trace.specs.Rows.{Recording}
-use Rattle.causal_line.specs.declared.kind.TextFault.{TextFault}
+use Rattle.causal_line.specs.declared.kind.TextKind.TheVariants.{NoMemory}
+use Rattle.causal_line.specs.declared.text_refusal.FaultContext.{FaultContext}
+use Rattle.causal_line.specs.declared.text_refusal.TextRefusal.{TextRefusal}
+use Rattle.causal_text.specs.FaultContexts.{IsContextWithin, IsTrueRefusalAlways}
+use Rattle.causal_text.specs.Inside.Contexts.{HasTrueContextAlways}
 use Rattle.causal_text.specs.declared.stream.State.TheVariants as state
-use Rattle.causal_text.specs.Inside.Unfinished.{HasRoom, IsFaultOfAll, ending}
-use Rattle.causal_text.specs.Pieces.{Held, StandsFor}
-use Rattle.causal_text.specs.Spelling.{SpellsWithin, IsFirstFaultWithin, IsReadAt}
+use Rattle.causal_text.specs.Inside.PartialLines.{FitsLimit, IsFaultOfAll, finish_reading}
+use Rattle.causal_text.specs.Pieces.{PieceState, RepresentsBytes}
+use Rattle.causal_text.specs.Spelling.{SpellsWithin, IsReadAt}
 use Rattle.causal_text.specs.Streams.{HasReadWithin}
 use Rattle.causal_text.proofs.Feeds.{reading-ending}
 use Rattle.causal_text.proofs.Spellings.{Spells-reading, IsFirstFault-reading}
 use Rattle.causal_text.proofs.StreamLemmas.{read_more}
 
--- one more piece was read
-pub fed_more : (n most : ℕ) (h k : Held) (b piece : List ℕ) → n ≡ most → (StandsFor n h b → StandsFor n k (b ++ piece)) → HasRoom n k
+-- after one more piece, the reader has read it too
+pub fed_more : (n most : ℕ) (h k : PieceState) (b piece : List ℕ) → n ≡ most → (RepresentsBytes n h b → RepresentsBytes n k (b ++ piece)) → FitsLimit n k
     → HasReadWithin most (state.Reading h) b → HasReadWithin most (state.Reading k) (b ++ piece)
 fed_more n most h k b piece same comes room = grind (arith, read_more)
 
--- a piece with a fault was
-pub fed_fault : (n most : ℕ) (h : Held) (b bytes more : List ℕ) (f : TextFault) → n ≡ most → (StandsFor n h b → IsFaultOfAll n bytes f)
-    → HasReadWithin most (state.Reading h) b → IsFirstFaultWithin most (bytes ++ more) f
-fed_fault n most h b bytes more f same faulty = grind (arith, IsFirstFault-reading)
+context_at : (most : ℕ) (bytes more : List ℕ) (number : ℕ) (context : Option FaultContext) → IfSome context (λ at. (rest : List ℕ) → IsContextWithin most (bytes ++ rest) number at.trace.recording at.parsed_line)
+    → IfSome context (λ at. IsContextWithin most (bytes ++ more) number at.trace.recording at.parsed_line)
+context_at most bytes more number None at = tt
+context_at most bytes more number (Some x) at = at more
 
--- a line before which a reader has found no fault is one before which the bytes have none
-pub fed_line : (n most : ℕ) (h : Held) (b bytes : List ℕ) (line : ℕ) → n ≡ most → (StandsFor n h b → IsReadAt n bytes line)
-    → HasReadWithin most (state.Reading h) b → IsReadAt most bytes line
-fed_line n most h b bytes line same at = grind arith
+-- an error of a piece is a true refusal, whatever follows
+pub fed_refusal : (n most : ℕ) (h : PieceState) (b bytes : List ℕ) (rejected : TextRefusal) → n ≡ most → (rejected.fault.kind ≢ NoMemory → RepresentsBytes n h b → IsFaultOfAll n bytes rejected.fault)
+    → (RepresentsBytes n h b → IsReadAt n bytes rejected.fault.line) → (RepresentsBytes n h b → HasTrueContextAlways n bytes rejected) → HasReadWithin most (state.Reading h) b → IsTrueRefusalAlways most bytes rejected
+fed_refusal n most h b bytes rejected same faulty at context =
+    subst (λ (m : ℕ). HasReadWithin m (state.Reading h) b → IsTrueRefusalAlways m bytes rejected) same
+    (λ s more. record {
+      first = λ other. IsFirstFault-reading n (bytes ++ more) rejected.fault (faulty other s.0 more);
+      memory = λ _. at s.0 more;
+      kept = context_at n bytes more rejected.fault.line rejected.context (context s.0);
+    })
 
--- the text has ended
-pub fed_spells : (n most : ℕ) (h : Held) (b : List ℕ) (r : Recording) → n ≡ most → ending n h ≡ Ok r → HasReadWithin most (state.Reading h) b → SpellsWithin most b r
+-- the bytes read spell the recording that the end of the text returns
+pub fed_spells : (n most : ℕ) (h : PieceState) (b : List ℕ) (r : Recording) → n ≡ most → finish_reading n h ≡ Ok r → HasReadWithin most (state.Reading h) b → SpellsWithin most b r
 fed_spells n most h b r same ends = grind (arith, Spells-reading, reading-ending)
-
--- the fault of an ending is the first fault of the bytes that were read
-pub fed_ends : (n most : ℕ) (h : Held) (b : List ℕ) (f : TextFault) → n ≡ most → ending n h ≡ Err f → HasReadWithin most (state.Reading h) b → IsFirstFaultWithin most b f
-fed_ends n most h b f same ends = grind (arith, IsFirstFault-reading, reading-ending)

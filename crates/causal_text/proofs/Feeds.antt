@@ -1,56 +1,56 @@
--- Lines of a text that comes in pieces.
+-- The lines of a text in pieces.
 use Rattle.std.proofs.Common.{◌≡◌, ℕ, ◌+◌, ◌<◌, List, [], ◌∷◌, ◌++◌, length, true, Result, Ok, Err, refl, ap, sym, ◌∙◌, arith, append_assoc, append-nil, subst}
 use Rattle.causal_line.specs.declared.kind.TextFault.{TextFault}
 use Rattle.causal_line.specs.Lines.{lines, no_feed, IsComplete}
 use Rattle.causal_line.proofs.Lemmas.CompleteLines.{no_feed-append, IsComplete-append, lines_complete, lines_grown, lines_rest}
 use Rattle.causal_text.specs.Spelling.{IsReadUpTo, IsReadAt}
-use Rattle.causal_lines.specs.Places.{Place, start, next, ended}
+use Rattle.causal_lines.specs.ReadPositions.{ReadPosition, start_position, position_after, finish_at}
 use Rattle.causal_line.specs.Reading.{◌>>=◌}
-use Rattle.causal_text.specs.Inside.LineByLine.{after_lines, reading}
-use Rattle.causal_text.specs.Pieces.{AreComplete, joined, Held, StandsFor}
-use Rattle.causal_text.specs.Inside.Unfinished.{IsFaultOfAll, with_line, IsPast, last_place, ending}
+use Rattle.causal_text.specs.Inside.LineByLine.{after_lines, read_text}
+use Rattle.causal_text.specs.Pieces.{AreComplete, concat_lines, PieceState, RepresentsBytes}
+use Rattle.causal_text.specs.Inside.PartialLines.{IsFaultOfAll, with_line, IsLimitFault, last_place, finish_reading}
 use Rattle.causal_text.proofs.Spellings.{IsPlaceAfter-next}
 use Rattle.causal_text.proofs.Complete.{after_lines-append, after_lines-place}
 
 -- ---- lists of lines
 
 -- complete lines in front are the first lines
-pub lines_joined : (ls : List (List ℕ)) (rest : List ℕ) → AreComplete ls → lines (joined ls ++ rest) ≡ ls ++ lines rest
+pub lines_joined : (ls : List (List ℕ)) (rest : List ℕ) → AreComplete ls → lines (concat_lines ls ++ rest) ≡ ls ++ lines rest
 lines_joined [] rest h = refl
 lines_joined (l ∷ ls) rest h = grind (arith, append_assoc, lines_complete, lines_joined ls rest h.1)
 
-joined-append : (ls : List (List ℕ)) (l : List ℕ) → joined (ls ++ l ∷ []) ≡ joined ls ++ l
+joined-append : (ls : List (List ℕ)) (l : List ℕ) → concat_lines (ls ++ l ∷ []) ≡ concat_lines ls ++ l
 joined-append [] l = append-nil l
-joined-append (k ∷ ls) l = ap (λ xs. k ++ xs) (joined-append ls l) ∙ sym (append_assoc k (joined ls) l)
+joined-append (k ∷ ls) l = ap (λ xs. k ++ xs) (joined-append ls l) ∙ sym (append_assoc k (concat_lines ls) l)
 
 AreComplete-append : (ls : List (List ℕ)) (l : List ℕ) → AreComplete ls → IsComplete l → AreComplete (ls ++ l ∷ [])
 AreComplete-append [] l h c = (c, tt)
 AreComplete-append (k ∷ ls) l h c = (h.0, AreComplete-append ls l h.1 c)
 
--- ---- what is held stands for the bytes so far
+-- ---- the state represents the bytes so far
 
--- once a line is complete and has no fault, the place after it stands for all the bytes
-pub StandsFor-complete : (most : ℕ) (h : Held) (b line : List ℕ) (p : Place) → StandsFor most h b → IsComplete line → next most h.place (h.rest ++ line) ≡ Ok p → StandsFor most (record { place = p; rest = [] }) (b ++ line)
+-- after a complete line without an error, the new position represents all the bytes
+pub StandsFor-complete : (most : ℕ) (h : PieceState) (b line : List ℕ) (p : ReadPosition) → RepresentsBytes most h b → IsComplete line → position_after most h.place (h.rest ++ line) ≡ Ok p → RepresentsBytes most (record { place = p; rest = [] }) (b ++ line)
 StandsFor-complete most h b line p s c taken =
     grind (
       arith,
       IsPlaceAfter-next most s.complete h.place p (h.rest ++ line) s.place_is taken,
-      append_assoc (joined s.complete) h.rest line,
+      append_assoc (concat_lines s.complete) h.rest line,
       joined-append s.complete (h.rest ++ line),
       append-nil,
       AreComplete-append,
       IsComplete-append h.rest line s.unfinished c,
     )
 
--- a part with no line feed is held, and nothing else changes
-pub StandsFor-hold : (most : ℕ) (h : Held) (b part : List ℕ) → StandsFor most h b → no_feed part ≡ true → StandsFor most (record { place = h.place; rest = h.rest ++ part }) (b ++ part)
+-- a part without a line feed is buffered, and nothing else changes
+pub StandsFor-hold : (most : ℕ) (h : PieceState) (b part : List ℕ) → RepresentsBytes most h b → no_feed part ≡ true → RepresentsBytes most (record { place = h.place; rest = h.rest ++ part }) (b ++ part)
 StandsFor-hold most h b part s none = grind (arith, append_assoc, no_feed-append)
 
-reading_from : (most : ℕ) (h : Held) (b more : List ℕ) → StandsFor most h b → after_lines most start (lines (b ++ more)) ≡ after_lines most h.place (lines (h.rest ++ more))
+reading_from : (most : ℕ) (h : PieceState) (b more : List ℕ) → RepresentsBytes most h b → after_lines most start_position (lines (b ++ more)) ≡ after_lines most h.place (lines (h.rest ++ more))
 reading_from most h b more s = grind (arith, append_assoc, lines_joined, after_lines-append, after_lines-place)
 
--- the fault of a complete line is that of the text, however it goes on
-pub fault_of_complete : (most : ℕ) (h : Held) (b line : List ℕ) (f : TextFault) → StandsFor most h b → IsComplete line → next most h.place (h.rest ++ line) ≡ Err f → IsFaultOfAll most (b ++ line) f
+-- the error of a complete line is that of the text, whatever follows
+pub fault_of_complete : (most : ℕ) (h : PieceState) (b line : List ℕ) (f : TextFault) → RepresentsBytes most h b → IsComplete line → position_after most h.place (h.rest ++ line) ≡ Err f → IsFaultOfAll most (b ++ line) f
 fault_of_complete most h b line f s c e more =
     grind (
       arith,
@@ -61,84 +61,84 @@ fault_of_complete most h b line f s c e more =
       IsComplete-append h.rest line s.unfinished c,
     )
 
--- and so is one that an unfinished line has, however it goes on
-pub fault_of_grown : (most : ℕ) (h : Held) (b : List ℕ) (f : TextFault) → StandsFor most h b → 0 < length h.rest → ((m : List ℕ) → next most h.place (h.rest ++ m) ≡ Err f) → IsFaultOfAll most b f
+-- an error that a partial line has, whatever follows, is that of the text
+pub fault_of_grown : (most : ℕ) (h : PieceState) (b : List ℕ) (f : TextFault) → RepresentsBytes most h b → 0 < length h.rest → ((m : List ℕ) → position_after most h.place (h.rest ++ m) ≡ Err f) → IsFaultOfAll most b f
 fault_of_grown most h b f s some e more = from h.rest some s.unfinished e (reading_from most h b more s) where
-  from : (xs : List ℕ) → 0 < length xs → no_feed xs ≡ true → ((m : List ℕ) → next most h.place (xs ++ m) ≡ Err f) → after_lines most start (lines (b ++ more)) ≡ after_lines most h.place (lines (xs ++ more)) → reading most (b ++ more) ≡ Err f
+  from : (xs : List ℕ) → 0 < length xs → no_feed xs ≡ true → ((m : List ℕ) → position_after most h.place (xs ++ m) ≡ Err f) → after_lines most start_position (lines (b ++ more)) ≡ after_lines most h.place (lines (xs ++ more)) → read_text most (b ++ more) ≡ Err f
   from [] some none e same = absurd (omega arith)
   from (x ∷ xs) some none e same =
       let g = lines_grown x xs more none in
-      let all : after_lines most start (lines (b ++ more)) ≡ Err f = same ∙ ap (after_lines most h.place) g.2 ∙ rw (e g.0) refl in
-      ap (λ (r : Result Place TextFault). r >>= λ p. ended p p.stage) all
+      let all : after_lines most start_position (lines (b ++ more)) ≡ Err f = same ∙ ap (after_lines most h.place) g.2 ∙ rw (e g.0) refl in
+      ap (λ (r : Result ReadPosition TextFault). r >>= λ p. finish_at p p.stage) all
 
 -- ---- a piece, part by part
 
--- after these bytes more, h1 stands where h0 stood
-abbrev pub Comes : (most : ℕ) → Held → List ℕ → Held → Type 0
-Comes most h0 done h1 = (b : List ℕ) → StandsFor most h0 b → StandsFor most h1 (b ++ done)
+-- with these bytes more, h1 represents what h0 represented
+abbrev pub Comes : (most : ℕ) → PieceState → List ℕ → PieceState → Type 0
+Comes most h0 done h1 = (b : List ℕ) → RepresentsBytes most h0 b → RepresentsBytes most h1 (b ++ done)
 
-regrouped : (most : ℕ) (h : Held) (b done more : List ℕ) → StandsFor most h ((b ++ done) ++ more) → StandsFor most h (b ++ (done ++ more))
-regrouped most h b done more s = subst (λ (xs : List ℕ). StandsFor most h xs) (append_assoc b done more) s
+regrouped : (most : ℕ) (h : PieceState) (b done more : List ℕ) → RepresentsBytes most h ((b ++ done) ++ more) → RepresentsBytes most h (b ++ (done ++ more))
+regrouped most h b done more s = subst (λ (xs : List ℕ). RepresentsBytes most h xs) (append_assoc b done more) s
 
--- where a line was taken in, there is a place after it, and nothing is held there
-pub with_line_ok : (most : ℕ) (h h1 : Held) (line : List ℕ) → with_line most h line ≡ Ok h1 → (p : Place) × (next most h.place (h.rest ++ line) ≡ Ok p) × (record { place = p; rest = [] } ≡ h1)
+-- an accepted line has a next position and leaves nothing buffered
+pub with_line_ok : (most : ℕ) (h h1 : PieceState) (line : List ℕ) → with_line most h line ≡ Ok h1 → (p : ReadPosition) × (position_after most h.place (h.rest ++ line) ≡ Ok p) × (record { place = p; rest = [] } ≡ h1)
 with_line_ok most h h1 line e = grind arith
 
--- where it was not, its fault is that of the line
-pub with_line_err : (most : ℕ) (h : Held) (line : List ℕ) (f : TextFault) → with_line most h line ≡ Err f → next most h.place (h.rest ++ line) ≡ Err f
+-- a refused line has its error
+pub with_line_err : (most : ℕ) (h : PieceState) (line : List ℕ) (f : TextFault) → with_line most h line ≡ Err f → position_after most h.place (h.rest ++ line) ≡ Err f
 with_line_err most h line f e = grind arith
 
--- once the rest of a line has come without a fault, what is held stands for those bytes too
-pub Comes-line : (most : ℕ) (h0 h h1 : Held) (done line : List ℕ) → Comes most h0 done h → IsComplete line → with_line most h line ≡ Ok h1 → Comes most h0 (done ++ line) h1
+-- after the rest of a line without an error, the state represents those bytes too
+pub Comes-line : (most : ℕ) (h0 h h1 : PieceState) (done line : List ℕ) → Comes most h0 done h → IsComplete line → with_line most h line ≡ Ok h1 → Comes most h0 (done ++ line) h1
 Comes-line most h0 h h1 done line c complete e b s = grind (arith, with_line_ok, regrouped, StandsFor-complete)
 
 IsFaultOfAll-more : (most : ℕ) (b more : List ℕ) (f : TextFault) → IsFaultOfAll most b f → IsFaultOfAll most (b ++ more) f
-IsFaultOfAll-more most b more f h rest = ap (reading most) (append_assoc b more rest) ∙ h (more ++ rest)
+IsFaultOfAll-more most b more f h rest = ap (read_text most) (append_assoc b more rest) ∙ h (more ++ rest)
 
--- the fault of a line that was completed is that of the text, however it goes on
-pub fault_of_piece : (most : ℕ) (h0 h : Held) (done line after : List ℕ) (f : TextFault) → Comes most h0 done h → IsComplete line → with_line most h line ≡ Err f → (b : List ℕ) → StandsFor most h0 b → IsFaultOfAll most (b ++ (done ++ (line ++ after))) f
+-- the error of a completed line is that of the text, whatever follows
+pub fault_of_piece : (most : ℕ) (h0 h : PieceState) (done line after : List ℕ) (f : TextFault) → Comes most h0 done h → IsComplete line → with_line most h line ≡ Err f → (b : List ℕ) → RepresentsBytes most h0 b → IsFaultOfAll most (b ++ (done ++ (line ++ after))) f
 fault_of_piece most h0 h done line after f c complete e b s =
     let here = fault_of_complete most h (b ++ done) line f (c b s) complete (with_line_err most h line f e) in
     let all = IsFaultOfAll-more most ((b ++ done) ++ line) after f here in
     subst (λ (xs : List ℕ). IsFaultOfAll most xs f) (append_assoc (b ++ done) line after ∙ append_assoc b done (line ++ after)) all
 
--- with bytes that have no line feed, what is held stands for those too
-pub Comes-hold : (most : ℕ) (h0 h : Held) (done part : List ℕ) → Comes most h0 done h → no_feed part ≡ true → Comes most h0 (done ++ part) (record { place = h.place; rest = h.rest ++ part })
+-- after bytes without a line feed, the state represents those too
+pub Comes-hold : (most : ℕ) (h0 h : PieceState) (done part : List ℕ) → Comes most h0 done h → no_feed part ≡ true → Comes most h0 (done ++ part) (record { place = h.place; rest = h.rest ++ part })
 Comes-hold most h0 h done part c none b s = regrouped most (record { place = h.place; rest = h.rest ++ part }) b done part (StandsFor-hold most h (b ++ done) part (c b s) none)
 
--- a fault of an unfinished line that no further byte changes is that of the text
-pub fault_of_hold : (most : ℕ) (h0 h : Held) (done part : List ℕ) (f : TextFault) → Comes most h0 done h → no_feed part ≡ true → 0 < length (h.rest ++ part) → IsPast most (record { place = h.place; rest = h.rest ++ part }) f
-    → (b : List ℕ) → StandsFor most h0 b → IsFaultOfAll most (b ++ (done ++ part)) f
+-- an error of a partial line that no further byte changes is that of the text
+pub fault_of_hold : (most : ℕ) (h0 h : PieceState) (done part : List ℕ) (f : TextFault) → Comes most h0 done h → no_feed part ≡ true → 0 < length (h.rest ++ part) → IsLimitFault most (record { place = h.place; rest = h.rest ++ part }) f
+    → (b : List ℕ) → RepresentsBytes most h0 b → IsFaultOfAll most (b ++ (done ++ part)) f
 fault_of_hold most h0 h done part f c none some past b s = fault_of_grown most (record { place = h.place; rest = h.rest ++ part }) (b ++ (done ++ part)) f (Comes-hold most h0 h done part c none b s) some past
 
 -- ---- the end of the text
 
-last_lines : (most : ℕ) (p : Place) (rest : List ℕ) → no_feed rest ≡ true → after_lines most p (lines rest) ≡ last_place most (record { place = p; rest = rest }) rest
+last_lines : (most : ℕ) (p : ReadPosition) (rest : List ℕ) → no_feed rest ≡ true → after_lines most p (lines rest) ≡ last_place most (record { place = p; rest = rest }) rest
 last_lines most p [] h = refl
-last_lines most p (x ∷ xs) h = ap (after_lines most p) (lines_rest (x ∷ xs) h (omega arith)) ∙ one (next most p (x ∷ xs)) where
-  one : (r : Result Place TextFault) → (r >>= λ q. after_lines most q []) ≡ r
+last_lines most p (x ∷ xs) h = ap (after_lines most p) (lines_rest (x ∷ xs) h (omega arith)) ∙ one (position_after most p (x ∷ xs)) where
+  one : (r : Result ReadPosition TextFault) → (r >>= λ q. after_lines most q []) ≡ r
   one (Ok q) = refl
   one (Err f) = refl
 
--- reading the bytes gives what ending with what is held gives
-pub reading-ending : (most : ℕ) (h : Held) (b : List ℕ) → StandsFor most h b → reading most b ≡ ending most h
+-- reading the bytes returns what the state returns at the end
+pub reading-ending : (most : ℕ) (h : PieceState) (b : List ℕ) → RepresentsBytes most h b → read_text most b ≡ finish_reading most h
 reading-ending most h b s = grind (arith, reading_from most h b [] s, append-nil b, append-nil h.rest, last_lines)
 
 -- ---- the line that is being read
 
--- no line before the one that is unfinished has a fault
-pub IsReadAt-stands : (most : ℕ) (h : Held) (b : List ℕ) (line : ℕ) → StandsFor most h b → line ≡ h.place.count + 1 → IsReadAt most b line
+-- no line before the partial line has an error
+pub IsReadAt-stands : (most : ℕ) (h : PieceState) (b : List ℕ) (line : ℕ) → RepresentsBytes most h b → line ≡ h.place.count + 1 → IsReadAt most b line
 IsReadAt-stands most h b line s is more = grind (arith, append_assoc, lines_joined s.complete (h.rest ++ more) s.each)
 
--- more bytes leave the lines before one without a fault
+-- more bytes leave the lines before a line without an error
 pub IsReadAt-more : (most : ℕ) (b piece : List ℕ) (line : ℕ) → IsReadAt most b line → IsReadAt most (b ++ piece) line
 IsReadAt-more most b piece line h more = subst (λ (text : List ℕ). IsReadUpTo most text line) (sym (append_assoc b piece more)) (h (piece ++ more))
 
--- the line that was begun when a part of the piece had come
-pub line_of_part : (most : ℕ) (h0 h : Held) (done left b : List ℕ) (line : ℕ) → Comes most h0 done h → StandsFor most h0 b → line ≡ h.place.count + 1 → IsReadAt most (b ++ (done ++ left)) line
+-- the line that begins within a piece
+pub line_of_part : (most : ℕ) (h0 h : PieceState) (done left b : List ℕ) (line : ℕ) → Comes most h0 done h → RepresentsBytes most h0 b → line ≡ h.place.count + 1 → IsReadAt most (b ++ (done ++ left)) line
 line_of_part most h0 h done left b line c s is =
     subst (λ (bytes : List ℕ). IsReadAt most bytes line) (append_assoc b done left) (IsReadAt-more most (b ++ done) left line (IsReadAt-stands most h (b ++ done) line (c b s) is))
 
--- what an unfinished line has however it goes on, it has where it ends here
-pub faulty_line : (most : ℕ) (h : Held) (line : List ℕ) (f : TextFault) → IsPast most (record { place = h.place; rest = h.rest ++ line }) f → with_line most h line ≡ Err f
+-- an error that a partial line has, whatever follows, it has at the end of the text
+pub faulty_line : (most : ℕ) (h : PieceState) (line : List ℕ) (f : TextFault) → IsLimitFault most (record { place = h.place; rest = h.rest ++ line }) f → with_line most h line ≡ Err f
 faulty_line most h line f past = grind (arith, append-nil (h.rest ++ line))

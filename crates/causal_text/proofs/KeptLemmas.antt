@@ -2,18 +2,18 @@
 use Rattle.std.proofs.Common.{◌≡◌, ◌≢◌, ℕ, List, ◌++◌, Option, Some, None}
 use Rattle.std.specs.Prelude.{IfSome}
 use Rattle.std.specs.Io.KnownBytes.{Consumes}
-use Rattle.causal_line.specs.declared.before.Rejected.{Rejected}
+use Rattle.causal_line.specs.declared.text_refusal.TextRefusal.{TextRefusal}
 use Rattle.causal_line.specs.declared.kind.TextKind.TheVariants.{NoMemory}
-use Rattle.causal_text.specs.Before.{IsKeptWithin, IsRejectionWithin}
+use Rattle.causal_text.specs.FaultContexts.{HasTrueContextWithin, IsTrueRefusalWithin}
 use Rattle.causal_text.specs.Spelling.{IsReadAt}
 use Rattle.causal_text.specs.Streams.{IsFaultAfter, PieceEndsAt}
-use Rattle.causal_text.specs.Inside.Kept.{IsKeptAfter}
+use Rattle.causal_text.specs.Inside.Contexts.{HasTrueContextAfter}
 use Rattle.causal_text.proofs.BeforeLemmas.{kept_of_source}
 use Rattle.causal_text.proofs.StreamLemmas.{Consumes-then, first_of_source, line_of_source}
 
-together : (most : ℕ) (known mid left : Option (List ℕ)) (read piece : List ℕ) (rejected : Rejected) → Consumes known mid read → Consumes mid left piece → PieceEndsAt piece left
+together : (most : ℕ) (known mid left : Option (List ℕ)) (read piece : List ℕ) (rejected : TextRefusal) → Consumes known mid read → Consumes mid left piece → PieceEndsAt piece left
     → (rejected.fault.kind ≢ NoMemory → IsFaultAfter most piece (read ++ piece) rejected.fault) → (rejected.fault.kind ≡ NoMemory → IsReadAt most (read ++ piece) rejected.fault.line)
-    → IfSome known (λ text. IsKeptWithin most text rejected) → IfSome known (λ text. IsRejectionWithin most text rejected)
+    → IfSome known (λ text. HasTrueContextWithin most text rejected) → IfSome known (λ text. IsTrueRefusalWithin most text rejected)
 together most None mid left read piece rejected p q ends first line kept = tt
 together most (Some text) mid left read piece rejected p q ends first line kept =
     let all = Consumes-then (Some text) mid left read piece p q in
@@ -23,9 +23,9 @@ together most (Some text) mid left read piece rejected p q ends first line kept 
       kept = kept;
     }
 
--- what was told of the bytes read is told of the text
-pub rejects : (most : ℕ) (known mid left : Option (List ℕ)) (read piece : List ℕ) (rejected : Rejected) → Consumes known mid read → Consumes mid left piece → PieceEndsAt piece left
+-- a refusal that is true of the bytes read is true of the text
+pub rejects : (most : ℕ) (known mid left : Option (List ℕ)) (read piece : List ℕ) (rejected : TextRefusal) → Consumes known mid read → Consumes mid left piece → PieceEndsAt piece left
     → (rejected.fault.kind ≢ NoMemory → IsFaultAfter most piece (read ++ piece) rejected.fault) → (rejected.fault.kind ≡ NoMemory → IsReadAt most (read ++ piece) rejected.fault.line)
-    → IsKeptAfter most piece (read ++ piece) rejected → IfSome known (λ text. IsRejectionWithin most text rejected)
+    → HasTrueContextAfter most piece (read ++ piece) rejected → IfSome known (λ text. IsTrueRefusalWithin most text rejected)
 rejects most known mid left read piece rejected p q ends first line kept =
     together most known mid left read piece rejected p q ends first line (kept_of_source most known mid left read piece rejected p q ends kept)

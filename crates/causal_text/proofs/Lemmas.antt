@@ -1,3 +1,3 @@
--- What crates above may cite of this crate's proofs.
+-- Lemmas that the crates above may cite.
 pub mod Exact
 pub mod GoesOn

@@ -1,4 +1,4 @@
--- The value of a shape: its text is the shape's, and it has the shape.
+-- The JSON value of a parsed line: its text is that of the line, and it parses as the line.
 use Rattle.std.proofs.Common.{◌≡◌, ℕ, ◌<◌, ◌≤◌, ◌^◌, List, [], ◌∷◌, ◌++◌, true, Ok, refl, ap, sym, ◌∙◌, arith, append_assoc, lt-ltb}
 use Rattle.std.specs.Prelude.{codes, decimal, nat_lt}
 use Rattle.serde_json.proofs.OnLiterals.{serde_json_on_literals}
@@ -7,11 +7,11 @@ use Rattle.serde_json.specs.Written.{compact_text, items_text}
 use Rattle.causal_name.specs.declared.Det.{Det}
 use Rattle.causal_trace.specs.declared.entry.Entry.{Entry}
 use Rattle.causal_trace.specs.declared.entry.Entry.TheVariants.{Send, Deliver, Stable, Crash, Restart, Forget}
-use Rattle.causal_line.specs.declared.shape.Shape.{Shape}
-use Rattle.causal_line.specs.declared.shape.Shape.TheVariants as shape
-use Rattle.causal_line.specs.Shapes.{pid_at, det_of, dets_of, dets_at, header_of, send_of, deliver_of, stable_of, crash_of, restart_of, forget_of, end_of, shape_of}
-use Rattle.causal_lines.specs.Canonical.{det_text, more_dets_text, dets_text, entry_text, shape_text}
-use Rattle.causal_trace.specs.Sizes.{DetIsSmall, DetsAreSmall, EntryIsSmall}
+use Rattle.causal_line.specs.declared.parsed_line.ParsedLine.{ParsedLine}
+use Rattle.causal_line.specs.declared.parsed_line.ParsedLine.TheVariants as parsed
+use Rattle.causal_line.specs.ParsedLines.{pid_at, det_of, dets_of, dets_at, header_of, send_of, deliver_of, stable_of, crash_of, restart_of, forget_of, end_of, parse_value}
+use Rattle.causal_lines.specs.Canonical.{det_text, more_dets_text, dets_text, entry_text, parsed_line_text}
+use Rattle.causal_trace.specs.Sizes.{DetIsBounded, DetsAreBounded, EntryIsBounded}
 use Rattle.causal_text.proofs.ReadsBack.{IsSimple, AreSimple}
 
 abbrev num : ℕ → Data
@@ -35,11 +35,11 @@ entry_data (Crash who) = named (codes "crash") (item (num who.0) no_items)
 entry_data (Restart who listed) = named (codes "restart") (item (num who.0) (item (array (dets_items listed)) no_items))
 entry_data (Forget who listed) = named (codes "forget") (item (num who.0) (item (array (dets_items listed)) no_items))
 
--- the value of a shape
-pub data_of : Shape → Data
-data_of (shape.Header version n) = named (codes "trace") (item (num version) (item (num n) no_items))
-data_of (shape.Entry e) = entry_data e
-data_of (shape.End count) = named (codes "end") (item (num count) no_items)
+-- the JSON value of a parsed line
+pub data_of : ParsedLine → Data
+data_of (parsed.Header version n) = named (codes "trace") (item (num version) (item (num n) no_items))
+data_of (parsed.Entry e) = entry_data e
+data_of (parsed.End count) = named (codes "end") (item (num count) no_items)
 
 more_compact : (ds : List Det) → items_text true (dets_items ds) ≡ more_dets_text ds ++ codes "]"
 more_compact [] = refl
@@ -58,12 +58,12 @@ entry_compact (Crash who) = refl
 entry_compact (Restart who listed) = ap (λ s. codes "[\"restart\"," ++ (decimal who.0 ++ (codes "," ++ (s ++ codes "]")))) (dets_compact listed)
 entry_compact (Forget who listed) = ap (λ s. codes "[\"forget\"," ++ (decimal who.0 ++ (codes "," ++ (s ++ codes "]")))) (dets_compact listed)
 
--- the compact text of a shape's value is the shape's canonical text
-pub shape_compact : (s : Shape) → compact_text (data_of s) ≡ shape_text s
+-- the compact text of the value is the canonical text of the parsed line
+pub shape_compact : (s : ParsedLine) → compact_text (data_of s) ≡ parsed_line_text s
 unfolding serde_json_on_literals data_of
-shape_compact (shape.Header version n) = refl
-shape_compact (shape.Entry e) = entry_compact e
-shape_compact (shape.End count) = refl
+shape_compact (parsed.Header version n) = refl
+shape_compact (parsed.Entry e) = entry_compact e
+shape_compact (parsed.End count) = refl
 
 below : (n limit : ℕ) → n < limit → nat_lt n limit ≡ true
 below n limit h = lt-ltb n limit h
@@ -71,21 +71,21 @@ below n limit h = lt-ltb n limit h
 wide : (n : ℕ) → n < 16777216 → nat_lt n (2 ^ 32) ≡ true
 wide n h = lt-ltb n (2 ^ 32) (omega (arith, h))
 
-abbrev pub ShapeFits : Shape → Type 0
-ShapeFits (shape.Header version n) = (version < 2 ^ 32) × (n < 2 ^ 32)
-ShapeFits (shape.Entry e) = EntryIsSmall 256 e
-ShapeFits (shape.End count) = count < 2 ^ 32
+abbrev pub ShapeFits : ParsedLine → Type 0
+ShapeFits (parsed.Header version n) = (version < 2 ^ 32) × (n < 2 ^ 32)
+ShapeFits (parsed.Entry e) = EntryIsBounded 256 e
+ShapeFits (parsed.End count) = count < 2 ^ 32
 
-det_back : (d : Det) → DetIsSmall 256 d → det_of (det_data d) ≡ Ok d
+det_back : (d : Det) → DetIsBounded 256 d → det_of (det_data d) ≡ Ok d
 unfolding det_of pid_at
 det_back d h = rw (below d.source.0 (2 ^ 8) h.source, wide d.ssn h.ssn, below d.dest.0 (2 ^ 8) h.dest, wide d.rsn h.rsn) refl
 
-dets_back : (ds : List Det) → DetsAreSmall 256 ds → dets_of (dets_items ds) ≡ Ok ds
+dets_back : (ds : List Det) → DetsAreBounded 256 ds → dets_of (dets_items ds) ≡ Ok ds
 dets_back [] h = refl
 dets_back (d ∷ ds) h = rw (det_back d h.0, dets_back ds h.1) refl
 
-entry_back : (e : Entry) → EntryIsSmall 256 e → shape_of (entry_data e) ≡ Ok (shape.Entry e)
-unfolding shape_of send_of deliver_of stable_of crash_of restart_of forget_of pid_at dets_at
+entry_back : (e : Entry) → EntryIsBounded 256 e → parse_value (entry_data e) ≡ Ok (parsed.Entry e)
+unfolding parse_value send_of deliver_of stable_of crash_of restart_of forget_of pid_at dets_at
 entry_back (Send from to ssn) h = rw (below from.0 (2 ^ 8) h.0, below to.0 (2 ^ 8) h.1, wide ssn h.2) refl
 entry_back (Deliver to send rsn listed) h = rw (below to.0 (2 ^ 8) h.0, wide send h.1, wide rsn h.2, dets_back listed h.3) refl
 entry_back (Stable det) h = rw (det_back det h) refl
@@ -93,19 +93,19 @@ entry_back (Crash who) h = rw (below who.0 (2 ^ 8) h) refl
 entry_back (Restart who listed) h = rw (below who.0 (2 ^ 8) h.0, dets_back listed h.1) refl
 entry_back (Forget who listed) h = rw (below who.0 (2 ^ 8) h.0, dets_back listed h.1) refl
 
--- the value of a shape has that shape
-pub shape_back : (s : Shape) → ShapeFits s → shape_of (data_of s) ≡ Ok s
-unfolding shape_of data_of header_of end_of
-shape_back (shape.Header version n) h = rw (below version (2 ^ 32) h.0, below n (2 ^ 32) h.1) refl
-shape_back (shape.Entry e) h = entry_back e h
-shape_back (shape.End count) h = rw (below count (2 ^ 32) h) refl
+-- the value parses as the parsed line
+pub shape_back : (s : ParsedLine) → ShapeFits s → parse_value (data_of s) ≡ Ok s
+unfolding parse_value data_of header_of end_of
+shape_back (parsed.Header version n) h = rw (below version (2 ^ 32) h.0, below n (2 ^ 32) h.1) refl
+shape_back (parsed.Entry e) h = entry_back e h
+shape_back (parsed.End count) h = rw (below count (2 ^ 32) h) refl
 
 -- ---- the value is simple and shallow
 
-det_simple : (d : Det) → DetIsSmall 256 d → IsSimple (det_data d)
+det_simple : (d : Det) → DetIsBounded 256 d → IsSimple (det_data d)
 det_simple d h = (omega (arith, h.source), (omega (arith, h.ssn), (omega (arith, h.dest), (omega (arith, h.rsn), tt))))
 
-AreSimple-dets : (ds : List Det) → DetsAreSmall 256 ds → AreSimple (dets_items ds)
+AreSimple-dets : (ds : List Det) → DetsAreBounded 256 ds → AreSimple (dets_items ds)
 AreSimple-dets [] h = tt
 AreSimple-dets (d ∷ ds) h = (det_simple d h.0, AreSimple-dets ds h.1)
 
@@ -113,7 +113,7 @@ depth-dets : (ds : List Det) → items_depth (dets_items ds) ≤ 1
 depth-dets [] = omega arith
 depth-dets (d ∷ ds) = omega (arith, depth-dets ds)
 
-entry_simple : (e : Entry) → EntryIsSmall 256 e → IsSimple (entry_data e)
+entry_simple : (e : Entry) → EntryIsBounded 256 e → IsSimple (entry_data e)
 entry_simple (Send from to ssn) h = (tt, (omega arith, (omega arith, (omega arith, tt))))
 entry_simple (Deliver to send rsn listed) h = (tt, (omega arith, (omega arith, (omega arith, (AreSimple-dets listed h.3, tt)))))
 entry_simple (Stable det) h = (tt, (det_simple det h, tt))
@@ -121,12 +121,12 @@ entry_simple (Crash who) h = (tt, (omega arith, tt))
 entry_simple (Restart who listed) h = (tt, (omega arith, (AreSimple-dets listed h.1, tt)))
 entry_simple (Forget who listed) h = (tt, (omega arith, (AreSimple-dets listed h.1, tt)))
 
--- the value of a shape is simple
-pub shape_simple : (s : Shape) → ShapeFits s → IsSimple (data_of s)
+-- the value of a parsed line is simple
+pub shape_simple : (s : ParsedLine) → ShapeFits s → IsSimple (data_of s)
 unfolding data_of
-shape_simple (shape.Header version n) h = (tt, (omega arith, (omega arith, tt)))
-shape_simple (shape.Entry e) h = entry_simple e h
-shape_simple (shape.End count) h = (tt, (omega arith, tt))
+shape_simple (parsed.Header version n) h = (tt, (omega arith, (omega arith, tt)))
+shape_simple (parsed.Entry e) h = entry_simple e h
+shape_simple (parsed.End count) h = (tt, (omega arith, tt))
 
 entry_shallow : (e : Entry) → depth (entry_data e) ≤ 127
 entry_shallow (Send from to ssn) = omega arith
@@ -136,9 +136,9 @@ entry_shallow (Crash who) = omega arith
 entry_shallow (Restart who listed) = omega (arith, depth-dets listed)
 entry_shallow (Forget who listed) = omega (arith, depth-dets listed)
 
--- the value of a shape is not too deep to be read
-pub shape_shallow : (s : Shape) → depth (data_of s) ≤ 127
+-- the value of a parsed line is not nested too deeply to be read
+pub shape_shallow : (s : ParsedLine) → depth (data_of s) ≤ 127
 unfolding data_of
-shape_shallow (shape.Header version n) = omega arith
-shape_shallow (shape.Entry e) = entry_shallow e
-shape_shallow (shape.End count) = omega arith
+shape_shallow (parsed.Header version n) = omega arith
+shape_shallow (parsed.Entry e) = entry_shallow e
+shape_shallow (parsed.End count) = omega arith

@@ -1,4 +1,4 @@
--- The canonical text of a recording with small numbers is within the limit.
+-- The canonical text of a recording with bounded numbers is within the limit.
 use Rattle.std.proofs.Common.{◌≡◌, ℕ, ◌+◌, ◌*◌, ◌<◌, ◌≤◌, List, [], ◌∷◌, ◌++◌, length, None, true, refl, sym, arith, length-append, append-nil}
 use Rattle.std.specs.Prelude.{codes, decimal, reverse}
 use Rattle.std.proofs.lemmas.Bool.{false≢true}
@@ -10,14 +10,14 @@ use Rattle.causal_trace.specs.declared.entry.Entry.{Entry}
 use Rattle.causal_trace.specs.declared.entry.Entry.TheVariants.{Send, Deliver, Stable, Crash, Restart, Forget}
 use Rattle.causal_trace.specs.Past.{listed_by, listed_in}
 use Rattle.causal_trace.specs.declared.fault.TraceFault.TheVariants.{NoSend, NotDown, NoDelivery}
-use Rattle.causal_trace.specs.Rows.{Recording, rows, first_fault, AreAccepted, IsWellFormed, IsWithin}
+use Rattle.causal_trace.specs.Rows.{Recording, refusal_rows, first_fault, AreLegalEntries, IsWellFormed, FitsLimits}
 use Rattle.causal_trace.proofs.Lemmas.EntryFacts.{row_fails}
-use Rattle.causal_trace.specs.Sizes.{DetIsSmall, DetsAreSmall, EntryIsSmall, EntriesAreSmall}
-use Rattle.causal_line.specs.declared.shape.Shape.TheVariants as shape
+use Rattle.causal_trace.specs.Sizes.{DetIsBounded, DetsAreBounded, EntryIsBounded, EntriesAreBounded}
+use Rattle.causal_line.specs.declared.parsed_line.ParsedLine.TheVariants as parsed
 use Rattle.causal_line.specs.declared.version.Version.{Version}
 use Rattle.causal_line.specs.declared.version.Version.TheVariants.{One, Two}
-use Rattle.causal_lines.specs.Canonical.{det_text, more_dets_text, dets_text, entry_text, entries_text, line_text, canonical}
-use Rattle.causal_line.specs.Stages.{text_within}
+use Rattle.causal_lines.specs.Canonical.{det_text, more_dets_text, dets_text, entry_text, entries_text, line_text, canonical_text}
+use Rattle.causal_line.specs.Stages.{max_text_len}
 use Rattle.causal_line.specs.Versions.{number_of}
 use Rattle.causal_lines.proofs.Lemmas.CanonicalParts.{canonical_parts}
 
@@ -30,30 +30,30 @@ three n h = length-decimal-le 3 n (omega arith) (omega arith) (omega arith)
 eight : (n : ℕ) → n ≤ 16777216 → length (decimal n) ≤ 8
 eight n h = length-decimal-le 8 n (omega arith) (omega arith) (omega arith)
 
--- a process, and what follows it
+-- a process number takes at most 3 bytes
 process : (p limit : ℕ) (rest : List ℕ) (m : ℕ) → limit ≤ 256 → p < limit → length rest ≤ m → length (decimal p ++ rest) ≤ 3 + m
 process p limit rest m few h q = digits_at_most 3 p rest m (three p (omega (arith, few, h))) q
 
--- another number, and what follows it
+-- another number takes at most 8 bytes
 counted : (n : ℕ) (rest : List ℕ) (m : ℕ) → n < 16777216 → length rest ≤ m → length (decimal n ++ rest) ≤ 8 + m
 counted n rest m h q = digits_at_most 8 n rest m (eight n (omega (arith, h))) q
 
-length-det : (d : Det) → DetIsSmall 256 d → length (det_text d) ≤ 27
+length-det : (d : Det) → DetIsBounded 256 d → length (det_text d) ≤ 27
 length-det d h = grind (arith, counted, process)
 
-length-more : (ds : List Det) → DetsAreSmall 256 ds → length (more_dets_text ds) ≤ 28 * length ds
+length-more : (ds : List Det) → DetsAreBounded 256 ds → length (more_dets_text ds) ≤ 28 * length ds
 length-more [] h = omega arith
 length-more (d ∷ ds) h = grind (arith, length-det, length-more ds h.1, length-append)
 
-length-dets : (ds : List Det) → DetsAreSmall 256 ds → length (dets_text ds) ≤ 28 * length ds + 2
+length-dets : (ds : List Det) → DetsAreBounded 256 ds → length (dets_text ds) ≤ 28 * length ds + 2
 length-dets [] h = omega arith
 length-dets (d ∷ ds) h = grind (arith, length-det, length-more, length-append)
 
--- a process and a list, which ends the entry
-length-listing : (p : ℕ) (ds : List Det) → p < 256 → DetsAreSmall 256 ds → length (decimal p ++ (44 ∷ (dets_text ds ++ 93 ∷ []))) ≤ 28 * length ds + 7
+-- a process and a list take at most 28 bytes for each determinant, and 7
+length-listing : (p : ℕ) (ds : List Det) → p < 256 → DetsAreBounded 256 ds → length (decimal p ++ (44 ∷ (dets_text ds ++ 93 ∷ []))) ≤ 28 * length ds + 7
 length-listing p ds low h = grind (arith, length-dets, length-append, process)
 
-length-entry : (e : Entry) → EntryIsSmall 256 e → length (entry_text e) ≤ 28 * length (listed_by e) + 38
+length-entry : (e : Entry) → EntryIsBounded 256 e → length (entry_text e) ≤ 28 * length (listed_by e) + 38
 length-entry (Send from to ssn) h = grind (arith, counted)
 length-entry (Deliver to send rsn listed) h = grind (arith, length-dets, length-append, counted, process)
 length-entry (Stable det) h = grind (arith, length-det, length-append)
@@ -61,15 +61,15 @@ length-entry (Crash who) h = grind (arith, process)
 length-entry (Restart who listed) h = grind (arith, length-listing)
 length-entry (Forget who listed) h = grind (arith, length-listing)
 
--- all but the last, and the last
-all_but_last : (es : List Entry) (e : Entry) → EntriesAreSmall 256 (es ++ e ∷ []) → EntriesAreSmall 256 es × EntryIsSmall 256 e
+-- all entries but the last, and the last
+all_but_last : (es : List Entry) (e : Entry) → EntriesAreBounded 256 (es ++ e ∷ []) → EntriesAreBounded 256 es × EntryIsBounded 256 e
 all_but_last [] e h = (tt, h.0)
 all_but_last (x ∷ es) e h = let rest = all_but_last es e h.1 in ((h.0, rest.0), rest.1)
 
 entries_text-last : (e : Entry) (past : List Entry) → entries_text (reverse (e ∷ past)) ≡ entries_text (reverse past) ++ (entry_text e ++ codes "\n")
 entries_text-last e past = grind (arith, reverse-append (e ∷ []) past, flat_map-append, append-nil)
 
-length-entries : (past : List Entry) → EntriesAreSmall 256 (reverse past) → length (entries_text (reverse past)) ≤ 28 * listed_in past + 39 * length past
+length-entries : (past : List Entry) → EntriesAreBounded 256 (reverse past) → length (entries_text (reverse past)) ≤ 28 * listed_in past + 39 * length past
 length-entries [] h = omega arith
 length-entries (e ∷ past) h =
     grind (
@@ -86,31 +86,31 @@ one_digit : (version : Version) → length (decimal (number_of version)) ≤ 1
 one_digit One = length-decimal-le 1 1 (omega arith) (omega arith) (omega arith)
 one_digit Two = length-decimal-le 1 2 (omega arith) (omega arith) (omega arith)
 
-header_short : (version : Version) (n : ℕ) → n ≤ 256 → length (line_text (shape.Header (number_of version) n)) ≤ 20
+header_short : (version : Version) (n : ℕ) → n ≤ 256 → length (line_text (parsed.Header (number_of version) n)) ≤ 20
 header_short version n h = grind (arith, three, one_digit, length-append)
 
-end_short : (count : ℕ) → count ≤ 16777216 → length (line_text (shape.End count)) ≤ 20
+end_short : (count : ℕ) → count ≤ 16777216 → length (line_text (parsed.End count)) ≤ 20
 end_short count h = grind (arith, eight, length-append)
 
-length-whole : (r : Recording) → r.processes ≤ 256 → EntriesAreSmall 256 (reverse r.past) → length r.past ≤ 16777216 → length (canonical r) ≤ 28 * listed_in r.past + 39 * length r.past + 40
+length-whole : (r : Recording) → r.processes ≤ 256 → EntriesAreBounded 256 (reverse r.past) → length r.past ≤ 16777216 → length (canonical_text r) ≤ 28 * listed_in r.past + 39 * length r.past + 40
 length-whole r few small short = grind (arith, canonical_parts, header_short, end_short, length-entries, length-append)
 
 -- the first entry of a run lists nothing
 first_lists : (n : ℕ) (e : Entry) → first_fault n [] e ≡ None → length (listed_by e) ≡ 0
-unfolding rows
+unfolding refusal_rows
 first_lists n (Send from to ssn) h = refl
-first_lists n (Deliver to send rsn listed) h = absurd (false≢true (sym (row_fails (rows n [] (Deliver to send rsn listed)) h 3 (true, NoSend) refl)))
+first_lists n (Deliver to send rsn listed) h = absurd (false≢true (sym (row_fails (refusal_rows n [] (Deliver to send rsn listed)) h 3 (true, NoSend) refl)))
 first_lists n (Stable det) h = refl
 first_lists n (Crash who) h = refl
-first_lists n (Restart who listed) h = absurd (false≢true (sym (row_fails (rows n [] (Restart who listed)) h 2 (true, NotDown) refl)))
+first_lists n (Restart who listed) h = absurd (false≢true (sym (row_fails (refusal_rows n [] (Restart who listed)) h 2 (true, NotDown) refl)))
 first_lists n (Forget who []) h = refl
-first_lists n (Forget who (d ∷ ds)) h = absurd (false≢true (sym (row_fails (rows n [] (Forget who (d ∷ ds))) h 4 (true, NoDelivery) refl)))
+first_lists n (Forget who (d ∷ ds)) h = absurd (false≢true (sym (row_fails (refusal_rows n [] (Forget who (d ∷ ds))) h 4 (true, NoDelivery) refl)))
 
-one_lists : (n : ℕ) (past : List Entry) → AreAccepted n past → length past ≤ 1 → listed_in past ≡ 0
+one_lists : (n : ℕ) (past : List Entry) → AreLegalEntries n past → length past ≤ 1 → listed_in past ≡ 0
 one_lists n [] h few = refl
 one_lists n (e ∷ []) h few = omega (arith, first_lists n e h.1)
 one_lists n (e ∷ f ∷ past) h few = absurd (omega (arith, few))
 
--- so the text has at most 512 bytes for each entry that a limit allows
-pub length-canonical : (most : ℕ) (r : Recording) → 1 ≤ most → IsWellFormed r → IsWithin most r → EntriesAreSmall 256 (reverse r.past) → length r.past ≤ 16777216 → length (canonical r) ≤ text_within most
+-- the canonical text has at most 512 bytes for each entry that a limit allows
+pub length-canonical : (most : ℕ) (r : Recording) → 1 ≤ most → IsWellFormed r → FitsLimits most r → EntriesAreBounded 256 (reverse r.past) → length r.past ≤ 16777216 → length (canonical_text r) ≤ max_text_len most
 length-canonical most r some formed kept small short = grind (arith, length-whole, one_lists)

@@ -1,4 +1,4 @@
--- What models and private functions keep. No public clause cites these.
-pub mod Kept
+-- Invariants of models and definitions of private functions; no public contract uses them.
+pub mod Contexts
 pub mod LineByLine
-pub mod Unfinished
+pub mod PartialLines

@@ -1,9 +1,9 @@
 pub mod Inside
-pub mod Place
+pub mod ReadPosition
 pub mod Spelling
 pub mod Laws
 pub mod Pieces
-pub mod Before
-pub mod Begun
+pub mod FaultContexts
+pub mod Prefixes
 pub mod Streams
-pub mod Fed
+pub mod PushReaders

@@ -1,23 +1,23 @@
-//! Laws over texts. Each function does nothing: what it ensures is the law.
+//! Laws of texts. Each function computes nothing: its postcondition is the law.
 ghost use Rattle.std.specs.Prelude.{ℕ};
-ghost use Rattle.causal_text.specs.Laws.{CanonicalIsShort, CanonicalSpells, OneReading, TextsGoOn};
+ghost use Rattle.causal_text.specs.Laws.{CanonicalIsWithinLimit, CanonicalTextReadsBack, ReadingIsUnique, PrefixTextPrefixTrace};
 
-use causal_trace::laws::numbers_are_small;
+use causal_trace::laws::numbers_are_bounded;
 
-/// Whatever limits are set, a text spells one trace, or it has one first fault, and never both.
-pub fn one_reading()
-    ensures { (most : ℕ) → OneReading most }
+/// A text spells exactly one trace, or has exactly one first error, and never both, under any limits.
+pub fn reading_is_unique()
+    ensures { (most : ℕ) → ReadingIsUnique most }
 {}
 
-/// A text that spells a trace and begins with lines that say another spells one that begins with it.
-pub fn texts_go_on()
-    ensures { TextsGoOn }
+/// If a text spells a trace, and the complete lines of a prefix spell another, the latter is a prefix of the former.
+pub fn prefix_text_prefix_trace()
+    ensures { PrefixTextPrefixTrace }
 {}
 
-/// The canonical text of a trace within limits spells it, and is within their limit of a text.
-pub fn canonical_spells()
-    ensures spells { CanonicalSpells }
-    ensures short { CanonicalIsShort }
+/// The canonical text of a trace within limits spells this trace, and is within their limit of a text.
+pub fn canonical_text_reads_back()
+    ensures spells { CanonicalTextReadsBack }
+    ensures within_limit { CanonicalIsWithinLimit }
 {
-    numbers_are_small();
+    numbers_are_bounded();
 }

@@ -1,39 +1,39 @@
 //! The text of a trace: JSON lines, one for the header, one for each entry and one for the end.
 //!
-//! A text is read line by line. Either it spells one trace, or it has one first fault: that of the least line that has
-//! one, and within a line the first in the order of [`TextKind`].
+//! A text spells one trace, or it has one first error: that of its first faulty line. If several kinds apply to the
+//! line, the first in the order of [`TextKind`] is returned.
 //!
-//! Begin at [`read_trace`] for a text that is there as a whole, or [`read_from`] for one that a reader gives; [`TraceReader`]
-//! reads a piece at a time, and [`FedReader`] the pieces that it is handed. [`read_keeping`] gives with a fault what stands before
-//! its line, and [`read_within`] does so by limits that the caller sets, as [`FedReader::within`] does of pieces. A [`Beginning`] lends the trace so far. [`wrong_with`]
-//! tells then what is wrong with the line, and [`sentence`] says so. [`text_of`] and [`write_trace`] give the canonical text,
-//! [`write_whole`] writes any bytes. [`laws`] says that a text has one reading.
+//! Start at [`read_trace`] for a text in memory, or at [`read_from`] for a byte source. [`TraceReader`] reads a
+//! source one piece at a time, and [`PushReader`] the parts that its caller passes; it lends the trace so far.
+//! [`read_within`] reads a source within the caller's limits, and returns an error with its context, as [`PushReader`]
+//! does. From a context, [`fault_detail`] returns the values that explain the error,
+//! and [`sentence`] prints them. [`text_of`] and [`write_trace`] write the canonical text, [`write_whole`] any bytes.
+//! [`laws`] states that reading is unique.
 //!
-//! What one line says and adds is that of `causal_line`, and line after line is taken by `causal_lines`. Their calls stand here too.
+//! The parsing of one line is in `causal_line`, the reader of lines in `causal_lines`; their public calls are
+//! re-exported here.
 #![tactic(auto)]
 
-/// The beginning of a text, at which one can look.
-pub mod beginning;
-/// A text that is handed over in pieces.
-pub mod fed;
-/// A reading that keeps what stands before a fault.
-pub mod kept;
-/// A text has one reading; the canonical text is read back.
+/// A reader of pieces that the caller passes.
+pub mod push_reader;
+/// Reading with the context of an error.
+pub mod context_reading;
+/// Laws: reading is unique, and the canonical text is read back.
 pub mod laws;
-/// A text, whole, to its trace or its first fault.
+/// Reading a text in memory.
 pub mod reader;
-/// A text from a reader of bytes, in pieces, to its trace or its first fault.
+/// Reading a text from a byte source, in pieces.
 pub mod stream;
 
-pub use beginning::Beginning;
 pub use causal_line::{
-    Before, Rejected, Shape, TextFault, TextKind, Wrong, before, fault_line, fields, kind,
-    line_value, lines, outline, report, sentence, sentences, shape, text_within, wrong, wrong_with,
+    FaultContext, FaultDetail, ParsedLine, TextFault, TextKind, TextRefusal, fault_detail,
+    fault_details, fault_line, fields, kind, line_value, lines, max_text_len, parsed_line, prescan,
+    report, sentence, sentences, text_refusal,
 };
 pub use causal_lines::{
-    WriteCause, WriteFault, text_of, write_trace, write_whole, writer, written,
+    WriteCause, WriteFault, text_of, write_trace, write_whole, writer, writing,
 };
-pub use fed::FedReader;
-pub use kept::{Unread, read_keeping, read_within};
+pub use context_reading::{ReadError, read_within};
+pub use push_reader::PushReader;
 pub use reader::read_trace;
 pub use stream::{Progress, ReaderFault, TraceReader, read_from};

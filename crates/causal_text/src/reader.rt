@@ -1,52 +1,54 @@
-//! From a text, whole or in pieces, to the trace that it spells, or to its first fault.
+//! Reading a text, whole or in pieces, up to its end or its first error.
 ghost use Rattle.std.specs.Prelude.{◌≡◌, ◌≢◌, ◌++◌, ◌+◌, ◌<◌, ◌≤◌, List, [], ℕ, length, None, IfOk, IfErr, IfSome, IfNone};
 ghost use Rattle.causal_trace.specs.Limits.{default_entries};
 ghost use Rattle.causal_trace.specs.Rows.{Recording};
-ghost use Rattle.causal_text.specs.Before.{IsKeptWithin};
-ghost use Rattle.causal_line.specs.Refusals.{GivesRejected, IsGoingOn, IsKeptAt};
-ghost use Rattle.causal_text.specs.Inside.Kept.{IsKeptOfAll};
-ghost use Rattle.causal_text.specs.Inside.LineByLine.{reading};
-ghost use Rattle.causal_text.specs.Pieces.{StandsFor};
-ghost use Rattle.causal_text.specs.Inside.Unfinished.{IsFaultOfAll, with_line, IsPast, ending, HasRoom};
+ghost use Rattle.causal_text.specs.FaultContexts.{HasTrueContextWithin};
+ghost use Rattle.causal_line.specs.Refusals.{ReturnsTextRefusal, IsWithinText, IsContextAt};
+ghost use Rattle.causal_text.specs.Inside.Contexts.{HasTrueContextAlways};
+ghost use Rattle.causal_text.specs.Inside.LineByLine.{read_text};
+ghost use Rattle.causal_text.specs.Pieces.{RepresentsBytes};
+ghost use Rattle.causal_text.specs.Streams.{HasNothingAfterEnd};
+ghost use Rattle.causal_text.specs.Inside.PartialLines.{IsFaultOfAll, with_line, IsLimitFault, finish_reading, FitsLimit};
 ghost use Rattle.causal_text.specs.Spelling.{Spells, SpellsWithin, IsFirstFault, IsFirstFaultWithin, IsReadUpTo, IsReadAt};
 
-use causal_line::before::Rejected;
 use causal_line::kind::{TextFault, TextKind};
 use causal_line::lines::split_complete;
-use causal_line::recorded::Recorded;
+use causal_line::text_refusal::TextRefusal;
+use causal_line::trace_builder::TraceBuilder;
 use causal_lines::line_reader::LineReader;
 use causal_trace::limits::{DEFAULT_LIMITS, Limits};
 use causal_trace::trace::Trace;
 use std::alloc::Global;
 use std::marker::Model;
 
-/// The complete lines so far, and the unfinished line.
+/// A reader of pieces: the reader of the complete lines, and the partial line.
 #[derive(Drop)]
 pub(crate) struct PieceReader {
     lines: LineReader,
-    rest: Vec<u8>,
+    partial_line: Vec<u8>,
 }
 
 impl Model for PieceReader {
-    ghost use Rattle.causal_text.specs.Pieces.{Held};
+    ghost use Rattle.causal_text.specs.Pieces.{PieceState};
 
-    ghost Value = { Held };
+    ghost Value = { PieceState };
 
-    ghost view = { λ r. record { place = r.lines; rest = r.rest.items } };
+    ghost view = { λ r. record { place = r.lines; rest = r.partial_line.items } };
 }
 
 impl PieceReader {
-    /// Before the first piece.
+    /// Returns a reader before the first piece.
     pub(crate) fn new(alloc: Global) -> PieceReader
-        ensures { (most : ℕ) → StandsFor most result [] }
+        ensures bytes { (most : ℕ) → RepresentsBytes most result [] }
+        ensures nothing { HasNothingAfterEnd result }
     {
         PieceReader {
             lines: LineReader::new(),
-            rest: Vec::new(alloc),
+            partial_line: Vec::new(alloc),
         }
     }
 
-    /// Want of memory at the line that is being read.
+    /// Returns `NoMemory` as the error of the line that is being read.
     pub(crate) fn no_memory(&self) -> TextFault
         ensures kind { result.kind ≡ TextKind.NoMemory }
         ensures line { result.line ≡ self.now.place.count + 1 }
@@ -54,107 +56,134 @@ impl PieceReader {
         self.lines.no_memory()
     }
 
-    /// The trace of the complete lines, where the header is among them and the end line is not.
+    /// Returns the trace of the complete lines; None before the header and after the end line.
     pub(crate) fn trace(&self) -> Option<&Trace>
-        ensures some { IfSome result (λ trace. IsGoingOn self.now.place.stage trace.now.recording) }
-        ensures none { IfNone result ((r : Recording) → IsGoingOn self.now.place.stage r → ⊥) }
+        ensures some { IfSome result
+            (λ trace. IsWithinText self.now.place.stage trace.now.recording) }
+        ensures none { IfNone result ((r : Recording) → IsWithinText self.now.place.stage r → ⊥) }
     {
         self.lines.trace()
     }
 
-    /// Takes the rest of a line, with its line feed.
-    pub(crate) fn complete(
+    /// Reads the rest of a line, with its line feed.
+    pub(crate) fn finish_line(
         self,
         alloc: Global,
         limits: Limits,
         line: &[u8],
-    ) -> Result<PieceReader, Rejected>
+    ) -> Result<PieceReader, TextRefusal>
         requires { 0 < length line.now }
-        ensures value { GivesRejected result (with_line limits.entries self line.now) }
+        ensures value { ReturnsTextRefusal result (with_line limits.entries self line.now) }
         ensures line { IfErr result (λ rejected. rejected.fault.line ≡ self.place.count + 1) }
         ensures before { IfErr result
-            (λ rejected. IsKeptAt self.place.stage (self.rest ++ line.now) rejected.before) }
+            (λ rejected. IsContextAt self.place.stage (self.rest ++ line.now) rejected.context) }
     {
-        if self.rest.is_empty() {
-            let PieceReader { lines, rest } = self;
-            let lines = lines.take(alloc, limits, line)?;
-            return Ok(PieceReader { lines, rest });
+        if self.partial_line.is_empty() {
+            let PieceReader {
+                lines,
+                partial_line: rest,
+            } = self;
+            let lines = lines.push_line(alloc, limits, line)?;
+            return Ok(PieceReader {
+                lines,
+                partial_line: rest,
+            });
         }
-        let PieceReader { lines, mut rest } = self.hold(limits, line)?;
-        let lines = lines.take(alloc, limits, rest.as_slice())?;
+        let PieceReader {
+            lines,
+            partial_line: mut rest,
+        } = self.buffer_part(limits, line)?;
+        let lines = lines.push_line(alloc, limits, rest.as_slice())?;
         rest.clear();
-        Ok(PieceReader { lines, rest })
+        Ok(PieceReader {
+            lines,
+            partial_line: rest,
+        })
     }
 
-    /// Holds more of a line, unless no line may stand there or the text is too long by it.
-    pub(crate) fn hold(self, limits: Limits, part: &[u8]) -> Result<PieceReader, Rejected>
+    /// Buffers more of a line, unless it follows the end line or exceeds the text's limit.
+    pub(crate) fn buffer_part(self, limits: Limits, part: &[u8]) -> Result<PieceReader, TextRefusal>
         ensures ok { IfOk result
             (λ r. r ≡ record { place = self.place; rest = self.rest ++ part.now }) }
-        ensures room { IfOk result (HasRoom limits.entries) }
+        ensures room { IfOk result (FitsLimit limits.entries) }
         ensures err { IfErr result (λ rejected. rejected.fault.kind ≢ TextKind.NoMemory
             → (0 < length (self.rest ++ part.now))
-            × IsPast limits.entries (record { place = self.place; rest = self.rest ++ part.now }) rejected.fault) }
+            × IsLimitFault limits.entries (record { place = self.place; rest = self.rest ++ part.now }) rejected.fault) }
         ensures line { IfErr result (λ rejected. rejected.fault.line ≡ self.place.count + 1) }
-        ensures before { IfErr result (λ rejected. rejected.before ≡ None) }
+        ensures before { IfErr result (λ rejected. rejected.context ≡ None) }
     {
-        let PieceReader { lines, mut rest } = self;
-        if let Some(fault) = lines.past(limits, rest.len().saturating_add(part.len())) {
-            return Err(Rejected::alone(fault));
+        let PieceReader {
+            lines,
+            partial_line: mut rest,
+        } = self;
+        if let Some(fault) = lines.limit_fault(limits, rest.len().saturating_add(part.len())) {
+            return Err(TextRefusal::without_context(fault));
         }
         if rest.extend_from_slice(part).is_err() {
-            return Err(Rejected::alone(lines.no_memory()));
+            return Err(TextRefusal::without_context(lines.no_memory()));
         }
-        Ok(PieceReader { lines, rest })
+        Ok(PieceReader {
+            lines,
+            partial_line: rest,
+        })
     }
 
-    /// Takes the next piece of the text.
+    /// Reads the next piece of the text.
     pub(crate) fn feed(
         self,
         alloc: Global,
         limits: Limits,
         piece: &[u8],
-    ) -> Result<PieceReader, Rejected>
-        ensures ok { IfOk result (λ r. (b : List ℕ) → StandsFor limits.entries self b
-            → StandsFor limits.entries r (b ++ piece.now)) }
-        ensures room { IfOk result (HasRoom limits.entries) }
+    ) -> Result<PieceReader, TextRefusal>
+        ensures ok { IfOk result (λ r. (b : List ℕ) → RepresentsBytes limits.entries self b
+            → RepresentsBytes limits.entries r (b ++ piece.now)) }
+        ensures room { IfOk result (FitsLimit limits.entries) }
         ensures err { IfErr result (λ rejected. rejected.fault.kind ≢ TextKind.NoMemory
-            → (b : List ℕ) → StandsFor limits.entries self b
+            → (b : List ℕ) → RepresentsBytes limits.entries self b
             → IsFaultOfAll limits.entries (b ++ piece.now) rejected.fault) }
-        ensures line { IfErr result (λ rejected. (b : List ℕ) → StandsFor limits.entries self b
+        ensures line { IfErr result (λ rejected. (b : List ℕ) →
+            RepresentsBytes limits.entries self b
             → IsReadAt limits.entries (b ++ piece.now) rejected.fault.line) }
-        ensures before { IfErr result (λ rejected. (b : List ℕ) → StandsFor limits.entries self b
-            → IsKeptOfAll limits.entries (b ++ piece.now) rejected) }
+        ensures before { IfErr result (λ rejected. (b : List ℕ) →
+            RepresentsBytes limits.entries self b
+            → HasTrueContextAlways limits.entries (b ++ piece.now) rejected) }
     {
         let mut reader = self;
         let mut left = piece;
         while let Some((line, after)) = split_complete(left) {
-            reader = reader.complete(alloc, limits, line)?;
+            reader = reader.finish_line(alloc, limits, line)?;
             left = after;
         }
-        reader.hold(limits, left)
+        reader.buffer_part(limits, left)
     }
 
-    /// The trace that the bytes so far spell, where they are the whole text.
-    pub(crate) fn end(self, alloc: Global, limits: Limits) -> Result<Recorded, Rejected>
-        ensures value { GivesRejected result (ending limits.entries self) }
+    /// Returns the trace, if the bytes so far are the whole text.
+    pub(crate) fn end(self, alloc: Global, limits: Limits) -> Result<TraceBuilder, TextRefusal>
+        ensures value { ReturnsTextRefusal result (finish_reading limits.entries self) }
         ensures memory { IfErr result (λ rejected. rejected.fault.kind ≡ TextKind.NoMemory
             → rejected.fault.line ≡ self.place.count + 1) }
-        ensures before { IfErr result (λ rejected. (b : List ℕ) → StandsFor limits.entries self b
-            → IsKeptWithin limits.entries b rejected) }
+        ensures before { IfErr result (λ rejected. (b : List ℕ) →
+            RepresentsBytes limits.entries self b
+            → HasTrueContextWithin limits.entries b rejected) }
     {
-        let PieceReader { lines, rest } = self;
+        let PieceReader {
+            lines,
+            partial_line: rest,
+        } = self;
         if rest.is_empty() {
             return lines.finish();
         }
-        let lines = lines.take(alloc, limits, rest.as_slice())?;
+        let lines = lines.push_line(alloc, limits, rest.as_slice())?;
         lines.finish()
     }
 }
 
-/// The trace that a text spells, by the usual limits: a text has at most 33,554,432 bytes. A fault other than `NoMemory` is the first of the
-/// text: the least line that has one, counted from 1, and within it the first kind in the order of [`TextKind`].
-/// `NoMemory` is answered only where a growth was refused, with the line that was being read: no line before it has a
-/// fault.
+/// Returns the trace that a text spells, under the default limits; such a text has at most 33,554,432 bytes.
+///
+/// # Errors
+/// The first error of the text: the first faulty line, counted from 1, with the first kind of [`TextKind`] that
+/// applies. `NoMemory`, only if an allocation failed, with the line that was being read; the lines before it are
+/// correct.
 pub fn read_trace(alloc: Global, bytes: &[u8]) -> Result<Trace, TextFault>
     ensures ok { IfOk result (λ trace. Spells bytes.now trace.recording) }
     ensures err { IfErr result
@@ -162,28 +191,28 @@ pub fn read_trace(alloc: Global, bytes: &[u8]) -> Result<Trace, TextFault>
     ensures memory { IfErr result (λ fault. fault.kind ≡ TextKind.NoMemory
         → IsReadUpTo default_entries bytes.now fault.line) }
 {
-    match read_recorded(alloc, DEFAULT_LIMITS, bytes) {
+    match read_builder(alloc, DEFAULT_LIMITS, bytes) {
         Ok(recorded) => Ok(recorded.into_trace()),
         Err(fault) => Err(fault),
     }
 }
 
-fn read_recorded(alloc: Global, limits: Limits, bytes: &[u8]) -> Result<Recorded, TextFault>
+fn read_builder(alloc: Global, limits: Limits, bytes: &[u8]) -> Result<TraceBuilder, TextFault>
     ensures ok { IfOk result (λ r. SpellsWithin limits.entries bytes.now r) }
     ensures err { IfErr result (λ fault. fault.kind ≢ TextKind.NoMemory
         → IsFirstFaultWithin limits.entries bytes.now fault) }
     ensures memory { IfErr result (λ fault. fault.kind ≡ TextKind.NoMemory
         → IsReadUpTo limits.entries bytes.now fault.line) }
 {
-    match read_whole(alloc, limits, bytes) {
+    match read_all(alloc, limits, bytes) {
         Ok(recorded) => Ok(recorded),
         Err(rejected) => Err(rejected.fault),
     }
 }
 
-// the whole text is one piece
-fn read_whole(alloc: Global, limits: Limits, bytes: &[u8]) -> Result<Recorded, Rejected>
-    ensures value { GivesRejected result (reading limits.entries bytes.now) }
+// reads the whole text as one piece
+fn read_all(alloc: Global, limits: Limits, bytes: &[u8]) -> Result<TraceBuilder, TextRefusal>
+    ensures value { ReturnsTextRefusal result (read_text limits.entries bytes.now) }
     ensures memory { IfErr result (λ rejected. rejected.fault.kind ≡ TextKind.NoMemory
         → IsReadUpTo limits.entries bytes.now rejected.fault.line) }
 {

@@ -1,15 +1,15 @@
-//! A trace from a reader of bytes, piece by piece.
+//! Reading a trace from a byte source, piece by piece.
 ghost use Rattle.std.specs.Prelude.{◌≡◌, ◌≢◌, ◌++◌, ◌<◌, List, [], ℕ, length, Ok, Err, IfOk, IfErr, IfSome, OnErr};
 ghost use Rattle.std.specs.Io.KnownBytes.{Consumes};
 ghost use Rattle.causal_trace.specs.Rows.{Recording};
-ghost use Rattle.causal_text.specs.Inside.Kept.{IsKeptAfter};
+ghost use Rattle.causal_text.specs.Inside.Contexts.{HasTrueContextAfter};
 ghost use Rattle.causal_text.specs.Spelling.{Spells, IsReadAt};
-ghost use Rattle.causal_text.specs.Streams.{HasRead, HasReadWithin, IsReading, HasPiece, Follows, Ends, IsFaultAfter, FailsBy, FailsAt, TellsOf, TellsLineOf, held_trace, IsHeldTrace};
+ghost use Rattle.causal_text.specs.Streams.{HasRead, HasReadWithin, IsReading, HasPiece, Follows, FoundEnd, IsFaultAfter, HasExplainedFault, HasNoMemoryLine, ExplainsFaultOf, IsNoMemoryLineOf, trace_of_state, IsTraceOfState};
 
 use crate::reader::PieceReader;
-use causal_line::before::Rejected;
 use causal_line::kind::{TextFault, TextKind};
-use causal_line::recorded::Recorded;
+use causal_line::text_refusal::TextRefusal;
+use causal_line::trace_builder::TraceBuilder;
 use causal_trace::limits::{DEFAULT_LIMITS, Limits};
 use causal_trace::trace::Trace;
 use std::alloc::Global;
@@ -18,33 +18,33 @@ use std::marker::Model;
 use std::mem;
 use thiserror::Error;
 
-// how many bytes the source is asked for at once
+// how many bytes one call requests from the source
 pub(crate) const PIECE: usize = 4096;
 
-/// Where a reader of a trace stands.
+/// The state of a reader: within the text, after its end with the trace, or after an error.
 #[derive(Drop)]
 pub(crate) enum State {
     Reading(PieceReader),
-    Ended(Recorded),
+    Ended(TraceBuilder),
     Failed,
 }
 
-/// Whether the text goes on.
+/// Whether the text continues.
 #[derive(Clone, Copy, Debug, PartialEq, Eq)]
 pub enum Progress {
     /// A piece of at least one byte was read.
     More,
-    /// The text has ended, and there is a trace.
+    /// The text has ended and spells a trace.
     Ended,
 }
 
-/// Why there is no trace.
+/// Why no trace was read.
 #[derive(Clone, Copy, Debug, PartialEq, Eq, Error)]
 pub enum ReaderFault {
-    /// The source answered an error, of any kind.
+    /// The source returned an error, of any kind.
     #[error("reading failed")]
     Read,
-    /// What was read is no trace.
+    /// The bytes read are not a trace.
     #[error(transparent)]
     Text(TextFault),
     /// An earlier call failed.
@@ -55,13 +55,13 @@ pub enum ReaderFault {
     Unfinished,
 }
 
-// the state after one more piece, or at the end where the piece is empty
-pub(crate) fn advance(
+// returns the state after one more piece; an empty piece is the end of the text
+pub(crate) fn push_piece(
     alloc: Global,
     limits: Limits,
     pieces: PieceReader,
     piece: &[u8],
-) -> Result<State, Rejected>
+) -> Result<State, TextRefusal>
     ensures ok { IfOk result
         (λ s. (b : List ℕ) → HasReadWithin limits.entries (State.Reading pieces) b
         → HasReadWithin limits.entries s (b ++ piece.now)) }
@@ -73,7 +73,7 @@ pub(crate) fn advance(
         → IsReadAt limits.entries (b ++ piece.now) rejected.fault.line) }
     ensures before { IfErr result
         (λ rejected. (b : List ℕ) → HasReadWithin limits.entries (State.Reading pieces) b
-        → IsKeptAfter limits.entries piece.now (b ++ piece.now) rejected) }
+        → HasTrueContextAfter limits.entries piece.now (b ++ piece.now) rejected) }
     ensures more { 0 < length piece.now → IfOk result (Follows Progress.More) }
     ensures ended { length piece.now ≡ 0 → IfOk result (Follows Progress.Ended) }
 {
@@ -84,8 +84,9 @@ pub(crate) fn advance(
     }
 }
 
-/// Reads a trace from a source of bytes by the usual limits, a piece at a time. Only the unfinished line and the trace are kept, and of a
-/// line that is too long or follows the end line no byte more. After an error each call answers `Failed`.
+/// Reads a trace from a byte source, one piece at a time, under the default limits. It buffers only the partial line
+/// and the trace, and no byte of a line that is too long or follows the end line. After an error, each call returns
+/// `Failed`.
 #[derive(Drop)]
 pub struct TraceReader<R: Drop> {
     source: R,
@@ -102,7 +103,7 @@ impl<R: Drop> Model for TraceReader<R> {
 }
 
 impl<R: Read + Drop> TraceReader<R> {
-    /// A reader that has read nothing.
+    /// Returns a reader that has read nothing.
     pub fn new(alloc: Global, source: R) -> TraceReader<R>
         ensures source { result.source ≡ source }
         ensures read { HasRead result.state [] }
@@ -115,18 +116,19 @@ impl<R: Read + Drop> TraceReader<R> {
         }
     }
 
-    // the next piece, where the text goes on
+    // reads the next piece within the text
     fn read_piece(&mut self, pieces: PieceReader) -> Result<Progress, ReaderFault>
         requires { self.old.state ≡ State.Failed }
         ensures ok { IfOk result (λ progress. (piece : List ℕ)
             × Consumes (R.remaining self.old.source) (R.remaining self.new.source) piece
             × HasPiece progress piece
-            × ((b : List ℕ) → HasRead (State.Reading pieces) b → HasRead self.new.state (b ++ piece))) }
+            × ((b : List ℕ) → HasRead (State.Reading pieces) b →
+            HasRead self.new.state (b ++ piece))) }
         ensures follows { IfOk result (λ progress. Follows progress self.new.state) }
-        ensures end { Ends result (R.remaining self.new.source) }
-        ensures text { FailsBy result
+        ensures end { FoundEnd result (R.remaining self.new.source) }
+        ensures text { HasExplainedFault result
             (R.remaining self.old.source) (R.remaining self.new.source) (State.Reading pieces) }
-        ensures memory { FailsAt result
+        ensures memory { HasNoMemoryLine result
             (R.remaining self.old.source) (R.remaining self.new.source) (State.Reading pieces) }
         ensures failed { OnErr result (self.new.state ≡ State.Failed) }
     {
@@ -134,7 +136,7 @@ impl<R: Read + Drop> TraceReader<R> {
         let Ok(n) = self.source.read(&mut buffer) else {
             return Err(ReaderFault::Read);
         };
-        match advance(self.alloc, DEFAULT_LIMITS, pieces, &buffer[..n]) {
+        match push_piece(self.alloc, DEFAULT_LIMITS, pieces, &buffer[..n]) {
             Ok(state) => {
                 self.state = state;
                 Ok(if n == 0 {
@@ -147,10 +149,13 @@ impl<R: Read + Drop> TraceReader<R> {
         }
     }
 
-    /// Reads the next piece, by one call of the source for 4,096 bytes. A line is judged when its line feed has come,
-    /// or the text is too long, or has ended; a line that follows the end line with its first byte. After `Ended` it
-    /// answers `Ended` again and reads nothing. `Read` is answered only where the source answered an error; a fault of
-    /// the text with the kind `NoMemory` only where a growth was refused, with a line before which no line has a fault.
+    /// Reads the next piece, by one call of the source for 4,096 bytes. A line is checked when its line feed arrives,
+    /// or when the text exceeds its limit or ends; a line after the end line, at its first byte. After `Ended` it
+    /// returns `Ended` again and reads nothing.
+    ///
+    /// # Errors
+    /// `Read`, only if the source returned an error. `Text` with the first error of the text, or with `NoMemory`,
+    /// only if an allocation failed; the lines before it are correct. `Failed` after an earlier error.
     pub fn next_piece(&mut self) -> Result<Progress, ReaderFault>
         // One more piece was read, which is empty at the end.
         ensures ok { IfOk result (λ progress. (piece : List ℕ)
@@ -158,15 +163,15 @@ impl<R: Read + Drop> TraceReader<R> {
             × HasPiece progress piece
             × ((b : List ℕ) → HasRead self.old.state b → HasRead self.new.state (b ++ piece))) }
         ensures follows { IfOk result (λ progress. Follows progress self.new.state) }
-        ensures end { IsReading self.old.state → Ends result (R.remaining self.new.source) }
-        ensures text { FailsBy result (R.remaining self.old.source)
+        ensures end { IsReading self.old.state → FoundEnd result (R.remaining self.new.source) }
+        ensures text { HasExplainedFault result (R.remaining self.old.source)
             (R.remaining self.new.source) self.old.state }
-        ensures memory { FailsAt result (R.remaining self.old.source)
+        ensures memory { HasNoMemoryLine result (R.remaining self.old.source)
             (R.remaining self.new.source) self.old.state }
         ensures failed { OnErr result (self.new.state ≡ State.Failed) }
         ensures ended { (r : Recording) → self.old.state ≡ State.Ended r
             → (result ≡ Ok Progress.Ended) × (self.new ≡ self.old) }
-        ensures stays { self.old.state ≡ State.Failed → result ≡ Err ReaderFault.Failed }
+        ensures stays_failed { self.old.state ≡ State.Failed → result ≡ Err ReaderFault.Failed }
     {
         match mem::replace(&mut self.state, State::Failed) {
             State::Failed => Err(ReaderFault::Failed),
@@ -178,11 +183,14 @@ impl<R: Read + Drop> TraceReader<R> {
         }
     }
 
-    /// The trace that was read, where the text has ended; `Unfinished` where it goes on, and `Failed` after an error.
+    /// Returns the trace, if the text has ended.
+    ///
+    /// # Errors
+    /// `Unfinished` if the text has not ended, `Failed` after an earlier error.
     pub fn into_trace(self) -> Result<Trace, ReaderFault>
         ensures ok { IfOk result
             (λ trace. (b : List ℕ) → HasRead self.state b → Spells b trace.recording) }
-        ensures value { IsHeldTrace result (held_trace self.state) }
+        ensures value { IsTraceOfState result (trace_of_state self.state) }
     {
         let TraceReader {
             source: _source,
@@ -197,18 +205,21 @@ impl<R: Read + Drop> TraceReader<R> {
     }
 }
 
-// Each piece but the last has a byte, and a text has at most so many less two.
+// Each piece but the last has a byte, and a text has at most this many bytes, less two.
 const MAX_PIECES: u32 = 33_554_434;
 
-/// The trace that the bytes of a source spell by the usual limits. The source is read to its end, or until what was read is no beginning of a
-/// trace. Each piece but the last has a byte, so the source is asked for at most 33,554,434 pieces.
+/// Returns the trace that the bytes of a source spell, under the default limits. It reads the source to its end, or
+/// up to the first error. It requests at most 33,554,434 pieces, since each but the last has a byte.
+///
+/// # Errors
+/// `Read` if the source failed; `Text` with the first error of the text, or with `NoMemory` if an allocation failed.
 pub fn read_from<R: Read + Drop>(alloc: Global, source: R) -> Result<Trace, ReaderFault>
     ensures ok { IfOk result
         (λ trace. IfSome (R.remaining source) (λ bytes. Spells bytes trace.recording)) }
     ensures err { IfErr result
-        (λ fault. IfSome (R.remaining source) (λ bytes. TellsOf bytes fault)) }
+        (λ fault. IfSome (R.remaining source) (λ bytes. ExplainsFaultOf bytes fault)) }
     ensures memory { IfErr result
-        (λ fault. IfSome (R.remaining source) (λ bytes. TellsLineOf bytes fault)) }
+        (λ fault. IfSome (R.remaining source) (λ bytes. IsNoMemoryLineOf bytes fault)) }
 {
     let mut reader = TraceReader::new(alloc, source);
     for _i in 0..MAX_PIECES {

@@ -1,2 +1,2 @@
--- What private functions keep. No public clause cites these.
+-- Definitions for private contracts; no public contract cites them.
 pub mod Refusals

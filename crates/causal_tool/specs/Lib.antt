@@ -1,2 +1,2 @@
 pub mod Inside
-pub mod Words
+pub mod Args

@@ -1,35 +1,40 @@
-//! Audits the recorded run, or runs the script, that it reads on standard input.
+//! Audits or draws the recorded run, merges the recorder files, or runs the script on standard input.
 //!
-//! The work is that of `causal_commands`: [`audit_and_tell`] of `audit`, [`audit_until_breach`] of it with `--until-breach`,
-//! [`show_and_tell`] of `explain` and `draw`, [`range_and_tell`] of `explain` with no number of faults, [`answer_as_json`] of
-//! both with `--json`, [`merge_and_tell`] of `merge`, and [`run_and_tell`] of `run`. All go from any reader to any writer, and
-//! their clauses are what the program promises. [`read_words`] tells what the words of the command line ask for. `main` adds
-//! the standard streams, the exit status, and the name of the command before what is said on standard error.
+//! The commands are calls of `causal_commands`, over any reader and any writer. Their contracts are what the program
+//! guarantees.
+//!
+//! - [`answer_audit`] is `audit`, and [`answer_until_breach`] is `audit --until-breach`.
+//! - [`answer_view`] is `explain` and `draw`; [`answer_range`] is `explain` without a bound f.
+//! - [`answer_as_json`] is `audit` and `explain` with `--json`.
+//! - [`answer_merge`] is `merge`, and [`answer_script`] is `run`.
+//!
+//! [`parse_command_line`] parses the command line. `main` adds the standard streams, the exit status, and the name of the
+//! command before each line on standard error.
 #![tactic(auto)]
 
 ghost use Rattle.std.specs.Prelude.{◌≡◌};
 ghost use Rattle.std.specs.Process.{exit_status};
 ghost use Rattle.causal_commands.specs.Endings.{status_of};
 ghost use Rattle.causal_commands.specs.Json.{HasFewWorkers};
-ghost use Rattle.causal_tool.specs.Words.{HasWorkers};
+ghost use Rattle.causal_tool.specs.Args.{HasWorkerCountInRange};
 
-/// What the help of each command says after its options.
-mod helps;
-/// What is said of recordings.
-mod merging;
-/// A stream that tells a person at a terminal how far the reading of a long text has come.
-mod watched;
+/// The help of each command after its options.
+mod help_text;
+/// Messages on recorder files for standard error.
+mod merge_diagnostics;
+/// A stream that prints the progress of a long read on a terminal.
+mod progress;
 /// The command line.
-mod words;
+mod args;
 
-use crate::merging::complain_of_recordings;
-use crate::watched::Watched;
-use crate::words::{Asked, Form, Refused, read_words};
+use crate::args::{EarlyExit, Form, Invocation, parse_command_line};
+use crate::merge_diagnostics::print_merge_outcome;
+use crate::progress::ProgressStream;
 pub use causal_commands::audit_stream;
 use causal_commands::{
-    Ended, Noted, Question, Reason, Refusal, Told, View, answer_as_json, audit_and_tell,
-    audit_until_breach, complaint, hint_of, merge_and_tell, range_and_tell, run_and_tell,
-    show_and_tell,
+    DiagnosedFault, Ended, LastErrorStream, Outcome, Question, Reason, View, answer_as_json,
+    answer_audit, answer_merge, answer_range, answer_script, answer_until_breach, answer_view,
+    diagnostic_text, hint_of,
 };
 use causal_trace::limits::Limits;
 use causal_workers::OpenGate;
@@ -40,53 +45,63 @@ use std::rt::Env;
 use std::sync::Wait;
 use std::thread::Threads;
 
-/// What stands before each line on standard error.
-fn name_of(asked: Asked) -> &'static str {
+/// Returns the prefix of each line on standard error.
+fn name_of(asked: Invocation) -> &'static str {
     match asked {
-        Asked::Trace {
+        Invocation::Trace {
             question: Question::Verdict { .. } | Question::Breach { .. },
             ..
         } => "causal_tool audit",
-        Asked::Trace { .. } => "causal_tool explain",
-        Asked::Draw { .. } => "causal_tool draw",
-        Asked::Merge { .. } => "causal_tool merge",
-        Asked::Run => "causal_tool run",
+        Invocation::Trace { .. } => "causal_tool explain",
+        Invocation::Draw { .. } => "causal_tool draw",
+        Invocation::Merge { .. } => "causal_tool merge",
+        Invocation::Run => "causal_tool run",
     }
 }
 
-/// Says something on a line of its own, as far as standard error takes it.
-pub(crate) fn say_line<R: Eprint, D: Display>(rt: &R, command: &str, said: &D) {
+/// Prints a message as one line on standard error, if it can be written.
+pub(crate) fn print_error_line<R: Eprint, D: Display>(rt: &R, command: &str, said: &D) {
     let _ = eprintln!(rt; "{command}: {said}");
 }
 
-/// Says what is read where a person may have to type it.
-fn prompt(rt: &HostRuntime, asked: Asked) {
+/// Prints what is read, if it has to be typed at a terminal.
+fn prompt(rt: &HostRuntime, asked: Invocation) {
     if !rt.stdin().is_terminal() {
         return;
     }
     let what = match asked {
-        Asked::Merge { .. } => "recordings",
-        Asked::Run => "a script",
+        Invocation::Merge { .. } => "recordings",
+        Invocation::Run => "a script",
         _ => "a trace",
     };
     let command = name_of(asked);
     let _ = eprintln!(rt; "{command}: reading {what} from the terminal; end it with control-D");
 }
 
-/// Says what is wrong with a text that is no trace.
-fn complain<R: Eprint + AllocGlobal>(rt: &R, command: &str, f: u16, told: Told<Refusal>) -> Ended
+/// Prints the diagnostic of an invalid trace, and returns the ending.
+fn print_outcome<R: Eprint + AllocGlobal>(
+    rt: &R,
+    command: &str,
+    f: u16,
+    told: Outcome<DiagnosedFault>,
+) -> Ended
     ensures { result ≡ told.ended }
 {
-    let Told { ended, fault } = told;
-    say(rt, command, f, fault);
+    let Outcome { ended, fault } = told;
+    print_diagnostic(rt, command, f, fault);
     ended
 }
 
-fn say<R: Eprint + AllocGlobal>(rt: &R, command: &str, f: u16, fault: Option<Refusal>) {
+fn print_diagnostic<R: Eprint + AllocGlobal>(
+    rt: &R,
+    command: &str,
+    f: u16,
+    fault: Option<DiagnosedFault>,
+) {
     let Some(refusal) = fault else {
         return;
     };
-    let Ok(bytes) = complaint(rt.alloc(), command, f, &refusal) else {
+    let Ok(bytes) = diagnostic_text(rt.alloc(), command, f, &refusal) else {
         return;
     };
     if let Ok(text) = String::from_utf8_lossy(rt.alloc(), bytes.as_slice()) {
@@ -94,79 +109,83 @@ fn say<R: Eprint + AllocGlobal>(rt: &R, command: &str, f: u16, fault: Option<Ref
     }
 }
 
-/// Says why a script was not run to its end.
-fn complain_of_script<R: Eprint>(rt: &R, command: &str, told: Told<Reason>) -> Ended
+/// Prints why a script was not run to its end, and returns the ending.
+fn print_script_outcome<R: Eprint>(rt: &R, command: &str, told: Outcome<Reason>) -> Ended
     ensures { result ≡ told.ended }
 {
     if let Some(reason) = told.fault {
-        say_line(rt, command, &reason);
+        print_error_line(rt, command, &reason);
         if let Some(hint) = hint_of(reason) {
-            say_line(rt, command, &hint);
+            print_error_line(rt, command, &hint);
         }
     }
     told.ended
 }
 
-/// Answers a question of a trace within the limits.
-fn answered<R: Threads + Wait + AllocGlobal, I: Read, O: Write>(
+/// Answers a question on a trace within the limits.
+fn answer_question<R: Threads + Wait + AllocGlobal, I: Read, O: Write>(
     rt: &R,
     input: &mut I,
     output: &mut O,
     limits: Limits,
     question: Question,
     form: Form,
-) -> Told<Refusal>
+) -> Outcome<DiagnosedFault>
     requires { HasFewWorkers question }
 {
     let alloc = rt.alloc();
     match (form, question) {
         (Form::Json, _) => answer_as_json(rt, alloc, input, output, limits, question),
         (Form::Lines, Question::Verdict { faults, workers }) => {
-            audit_and_tell(rt, alloc, input, output, limits, faults, workers, &OpenGate)
+            answer_audit(rt, alloc, input, output, limits, faults, workers, &OpenGate)
         }
         (Form::Lines, Question::Breach { faults, workers }) => {
-            audit_until_breach(rt, alloc, input, output, limits, faults, workers, &OpenGate)
+            answer_until_breach(rt, alloc, input, output, limits, faults, workers, &OpenGate)
         }
         (Form::Lines, Question::Reason { faults }) => {
-            show_and_tell(rt, alloc, input, output, limits, faults, View::Reason)
+            answer_view(rt, alloc, input, output, limits, faults, View::Reason)
         }
-        (Form::Lines, Question::Range) => range_and_tell(alloc, input, output, limits),
+        (Form::Lines, Question::Range) => answer_range(alloc, input, output, limits),
     }
 }
 
-/// Does what was asked for, and says what is wrong with the text.
-fn done<R: Threads + Wait + Eprint + AllocGlobal, I: Read, O: Write>(
+/// Runs the command, and prints the diagnostic of an invalid input.
+fn run_command<R: Threads + Wait + Eprint + AllocGlobal, I: Read, O: Write>(
     rt: &R,
-    asked: Asked,
+    asked: Invocation,
     input: &mut I,
     output: &mut O,
 ) -> Ended
-    requires { HasWorkers asked }
+    requires { HasWorkerCountInRange asked }
 {
     let (alloc, command) = (rt.alloc(), name_of(asked));
     match asked {
-        Asked::Trace {
+        Invocation::Trace {
             question,
             form,
             limits,
         } => {
-            let told = answered(rt, input, output, limits, question, form);
-            complain(rt, command, question.faults(), told)
+            let told = answer_question(rt, input, output, limits, question, form);
+            print_outcome(rt, command, question.faults(), told)
         }
-        Asked::Draw { faults, limits } => {
-            let told = show_and_tell(rt, alloc, input, output, limits, faults, View::Picture);
-            complain(rt, command, faults, told)
+        Invocation::Draw { faults, limits } => {
+            let told = answer_view(rt, alloc, input, output, limits, faults, View::Picture);
+            print_outcome(rt, command, faults, told)
         }
-        Asked::Merge { limits } => {
-            let told = merge_and_tell(alloc, input, output, limits);
-            complain_of_recordings(rt, command, told)
+        Invocation::Merge { limits } => {
+            let told = answer_merge(alloc, input, output, limits);
+            print_merge_outcome(rt, command, told)
         }
-        Asked::Run => complain_of_script(rt, command, run_and_tell(rt, alloc, input, output)),
+        Invocation::Run => print_script_outcome(
+            rt,
+            command,
+            answer_script(rt, alloc, input, output),
+        ),
     }
 }
 
-/// Says that no answer was written whole, where that is so, and why. Where nobody reads the answer any more nothing is said.
-fn say_ended(rt: &HostRuntime, command: &str, ended: Ended, reason: Option<io::Error>) {
+/// Prints why no answer was written whole, if so. It prints nothing if the answer's reader closed the pipe.
+fn print_ending(rt: &HostRuntime, command: &str, ended: Ended, reason: Option<io::Error>) {
     let Some(text) = ended.text() else {
         return;
     };
@@ -174,7 +193,7 @@ fn say_ended(rt: &HostRuntime, command: &str, ended: Ended, reason: Option<io::E
         Some(error) if error.kind() == ErrorKind::BrokenPipe => {}
         Some(error) => {
             let _ = rt.eprintln(text);
-            say_line(rt, command, &error);
+            print_error_line(rt, command, &error);
         }
         None => {
             let _ = rt.eprintln(text);
@@ -182,32 +201,32 @@ fn say_ended(rt: &HostRuntime, command: &str, ended: Ended, reason: Option<io::E
     }
 }
 
-fn status(ended: Ended) -> ExitCode
+fn exit_code_of(ended: Ended) -> ExitCode
     ensures { exit_status result ≡ status_of ended }
 {
     ExitCode::from(ended.status())
 }
 
 fn main(rt: HostRuntime) -> ExitCode {
-    let asked = match read_words(&rt) {
+    let asked = match parse_command_line(&rt) {
         Ok(asked) => asked,
-        Err(Refused::Status(status)) => return ExitCode::from(status),
-        Err(Refused::Ended(ended)) => {
-            say_ended(&rt, "causal_tool", ended, None);
-            return status(ended);
+        Err(EarlyExit::Status(exit_code_of)) => return ExitCode::from(exit_code_of),
+        Err(EarlyExit::Ended(ended)) => {
+            print_ending(&rt, "causal_tool", ended, None);
+            return exit_code_of(ended);
         }
     };
     prompt(&rt, asked);
     let is_watched = rt.stderr().is_terminal();
-    let reader = Watched::new(rt, name_of(asked), rt.reader(), is_watched);
-    let mut input = Noted::new(reader);
-    let mut output = Noted::new(io::writer(&rt));
-    let ended = done(&rt, asked, &mut input, &mut output);
+    let reader = ProgressStream::new(rt, name_of(asked), rt.reader(), is_watched);
+    let mut input = LastErrorStream::new(reader);
+    let mut output = LastErrorStream::new(io::writer(&rt));
+    let ended = run_command(&rt, asked, &mut input, &mut output);
     let reason = match ended {
         Ended::ReadFault => input.error(),
         Ended::WriteFault => output.error(),
         _ => None,
     };
-    say_ended(&rt, name_of(asked), ended, reason);
-    status(ended)
+    print_ending(&rt, name_of(asked), ended, reason);
+    exit_code_of(ended)
 }

@@ -5,7 +5,7 @@ use Rattle.std.proofs.lemmas.List.{drop_more, drop_all, length-drop}
 use Rattle.causal_name.specs.declared.Det.{Det}
 use Rattle.causal_name.specs.Names.{is_before, is_ascending}
 
--- a list ascends from j on where j's determinant comes before the next, and it ascends from there
+-- a list ascends from j on if its determinant j precedes the next one and the list ascends from there
 pub ascending_more : (ds : List Det) (j : ℕ) (d : Det) → j + 1 < length ds → is_ascending (drop j ds) ≡ (is_before (get_or ds j d) (get_or ds (j + 1) d) && is_ascending (drop (j + 1) ds))
 ascending_more ds j d h = grind (arith, drop_more)
 
@@ -14,6 +14,6 @@ ascending_one [] h = refl
 ascending_one (d ∷ []) h = refl
 ascending_one (d ∷ e ∷ ds) h = absurd (omega (arith, h))
 
--- at most one is left
+-- the case of at most one remaining determinant
 pub ascending_last : (ds : List Det) (j : ℕ) → length ds ≤ j + 1 → is_ascending (drop j ds) ≡ true
 ascending_last ds j h = grind (arith, ascending_one, length-drop, drop_all)

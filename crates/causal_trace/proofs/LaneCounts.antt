@@ -1,4 +1,4 @@
--- What a lane has sent and delivered, and what is delivered and stable, is told by the entries themselves.
+-- A lane's counts, and delivered and stable determinants, as counts and searches of the entries.
 use Rattle.std.proofs.Common.{ℕ, ◌≡◌, ◌<◌, Bool, true, false, cond, List, [], ◌∷◌, length, Option, Some, None, refl, sym, subst, ◌∙◌, arith}
 use Rattle.std.specs.Prelude.{◌||◌, ◌==◌, ◌+◌}
 use Rattle.std.specs.List.{filter}
@@ -9,10 +9,10 @@ use Rattle.causal_name.proofs.Lemmas.DetOrder.{same_itself}
 use Rattle.causal_trace.specs.declared.entry.Entry.{Entry}
 use Rattle.causal_trace.specs.declared.entry.Entry.TheVariants.{Send, Deliver, Stable, Crash, Restart, Forget}
 use Rattle.causal_trace.specs.Past.{entry_at, sends, deliveries, det_at, det_of, is_det, is_delivered, is_stable}
-use Rattle.causal_trace.specs.Agree.{present, is_send_of, is_delivery_to, SendsAreCounted, DeliveriesAreCounted, DeliveredAtPosition, StableAtPosition}
+use Rattle.causal_trace.specs.Laws.{present_lane_entries, is_send_of, is_delivery_to, SendsAreCounted, DeliveriesAreCounted, DeliveredAtPosition, StableAtPosition}
 use Rattle.causal_trace.proofs.Lemmas.AtInstants.{det_within}
 
--- what is counted
+-- counts
 
 counted_next : (own : Bool) (n : ℕ) (e : Entry) (es : List Entry) → n ≡ length es → cond own (n + 1) n ≡ length (cond own (e ∷ es) es)
 counted_next true n e es same = omega (arith, same)
@@ -23,27 +23,27 @@ counted_anew : (test : Entry → Bool) (own : Bool) (n : ℕ) (e : Entry) (es : 
 counted_anew test true n e es none same = rw none refl
 counted_anew test false n e es none same = rw none same
 
--- the present lane has sent as many messages as it has sends
+-- the send count of the present lane is the number of its send entries
 pub sends_counted : SendsAreCounted
 sends_counted [] p = refl
-sends_counted (Send from to ssn ∷ past) p = counted_next (from.0 == p) (sends past p) (Send from to ssn) (filter (is_send_of p) (present past p)) (sends_counted past p)
-sends_counted (Restart who listed ∷ past) p = counted_anew (is_send_of p) (who.0 == p) (sends past p) (Restart who listed) (present past p) refl (sends_counted past p)
+sends_counted (Send from to ssn ∷ past) p = counted_next (from.0 == p) (sends past p) (Send from to ssn) (filter (is_send_of p) (present_lane_entries past p)) (sends_counted past p)
+sends_counted (Restart who listed ∷ past) p = counted_anew (is_send_of p) (who.0 == p) (sends past p) (Restart who listed) (present_lane_entries past p) refl (sends_counted past p)
 sends_counted (Deliver to send rsn listed ∷ past) p = sends_counted past p
 sends_counted (Stable d ∷ past) p = sends_counted past p
 sends_counted (Crash who ∷ past) p = sends_counted past p
 sends_counted (Forget who listed ∷ past) p = sends_counted past p
 
--- the present lane has delivered as many messages as it has deliveries
+-- the delivery count of the present lane is the number of its delivery entries
 pub deliveries_counted : DeliveriesAreCounted
 deliveries_counted [] p = refl
 deliveries_counted (Send from to ssn ∷ past) p = deliveries_counted past p
-deliveries_counted (Deliver to send rsn listed ∷ past) p = counted_next (to.0 == p) (deliveries past p) (Deliver to send rsn listed) (filter (is_delivery_to p) (present past p)) (deliveries_counted past p)
+deliveries_counted (Deliver to send rsn listed ∷ past) p = counted_next (to.0 == p) (deliveries past p) (Deliver to send rsn listed) (filter (is_delivery_to p) (present_lane_entries past p)) (deliveries_counted past p)
 deliveries_counted (Stable d ∷ past) p = deliveries_counted past p
-deliveries_counted (Restart who listed ∷ past) p = counted_anew (is_delivery_to p) (who.0 == p) (deliveries past p) (Restart who listed) (present past p) refl (deliveries_counted past p)
+deliveries_counted (Restart who listed ∷ past) p = counted_anew (is_delivery_to p) (who.0 == p) (deliveries past p) (Restart who listed) (present_lane_entries past p) refl (deliveries_counted past p)
 deliveries_counted (Crash who ∷ past) p = deliveries_counted past p
 deliveries_counted (Forget who listed ∷ past) p = deliveries_counted past p
 
--- what is delivered
+-- delivered determinants
 
 is_told : (own : Option Det) (d : Det) → own ≡ Some d → is_det own d ≡ true
 is_told own d h = subst (λ o. is_det o d ≡ true) (sym h) (same_itself d)
@@ -66,11 +66,11 @@ told_det : (past : List Entry) (d : Det) (k : ℕ) → det_at past k ≡ Some d 
 told_det [] d k h = absurd (let e : None ≡ Some d = h in cc)
 told_det (e ∷ past) d k h = grind (arith, eqb_tells, is_told, cond-true, told_det past d k, or_true)
 
--- d is delivered where it is the determinant of the delivery at some position
+-- d is delivered if and only if the delivery at some position has this determinant
 pub delivered_at_position : DeliveredAtPosition
 delivered_at_position past d = (found_det past d, λ h. told_det past d h.0 h.1)
 
--- what is stable
+-- stable determinants
 
 entry_within : (past : List Entry) (k : ℕ) (e : Entry) → entry_at past k ≡ Some e → k < length past
 entry_within [] k e h = absurd (let x : None ≡ Some e = h in cc)
@@ -95,6 +95,6 @@ told_write : (past : List Entry) (d : Det) (k : ℕ) → entry_at past k ≡ Som
 told_write [] d k h = absurd (let e : None ≡ Some (Stable d) = h in cc)
 told_write (e ∷ past) d k h = grind (arith, eqb_tells, cond-true, same_itself, told_write past d k, cond-false)
 
--- d is stable where the entry at some position writes it
+-- d is stable if and only if the entry at some position writes it
 pub stable_at_position : StableAtPosition
 stable_at_position past d = (found_write past d, λ h. told_write past d h.0 h.1)

@@ -1,4 +1,4 @@
--- What a trace remembers of each process, with one more entry.
+-- The present lanes, after one more entry.
 use Rattle.std.proofs.lemmas.Grind.{common_steps}
 use Rattle.std.proofs.Common.{ℕ, suc, ◌≡◌, ◌+◌, ◌<◌, ◌≤◌, Bool, true, false, cond, ◌==◌, List, [], ◌∷◌, length, get_or, Option, Some, None, refl, sym, subst, arith}
 use Rattle.std.specs.Prelude.{◌||◌, ◌&&◌, not, nat_lt, IfSome, All, replicate}
@@ -8,10 +8,10 @@ use Rattle.causal_name.specs.declared.Pid.{Pid}
 use Rattle.causal_trace.specs.declared.entry.Entry.{Entry}
 use Rattle.causal_trace.specs.declared.entry.Entry.TheVariants.{Send, Deliver, Stable, Crash, Restart, Forget}
 use Rattle.causal_trace.specs.declared.fault.TraceFault.TheVariants.{NoProcess}
-use Rattle.causal_trace.specs.declared.lanes.Lane.{Lane}
+use Rattle.causal_trace.specs.declared.lanes.LaneState.{LaneState}
 use Rattle.causal_trace.specs.Past.{is_down, lane, sends, deliveries}
-use Rattle.causal_trace.specs.Rows.{rows, first_fault}
-use Rattle.causal_trace.specs.Inside.Index.{lane_of, fresh, lane_after, subject, lanes_after, lanes_after_of, ArePresentLanes, HasRoom}
+use Rattle.causal_trace.specs.Rows.{refusal_rows, first_fault}
+use Rattle.causal_trace.specs.Inside.Index.{lane_of, first_lane, lane_after, subject, lanes_after, lanes_after_of, ArePresentLanes, CountersFit}
 use Rattle.causal_trace.proofs.Lemmas.EntryFacts.{row_fails}
 use Rattle.causal_trace.proofs.Lemmas.CountBounds.{sends_few, deliveries_few}
 
@@ -27,17 +27,17 @@ lane_of_next (Crash who) past p = elim (who.0 == p) as (λ b. record { down = b 
 lane_of_next (Restart who listed) past p = elim (who.0 == p) as (λ b. record { down = not b && is_down past p; restarts = cond b (lane past p + 1) (lane past p); sends = cond b 0 (sends past p); deliveries = cond b 0 (deliveries past p) } ≡ cond b (lane_after (Restart who listed) (lane_of past p)) (lane_of past p)) [ true ↦ refl | false ↦ refl ]
 lane_of_next (Forget who listed) past p = elim (who.0 == p) as (λ b. lane_of past p ≡ cond b (lane_of past p) (lane_of past p)) [ true ↦ refl | false ↦ refl ]
 
-lanes_at : (subj : Option Pid) (n : ℕ) (e : Entry) (past : List Entry) (lanes : List Lane) → ArePresentLanes n past lanes → (p : ℕ) (d : Lane) → p < n → get_or (lanes_after_of subj e lanes) p d ≡ cond (option_map_or (λ q. q.0 == p) subj false) (lane_after e (lane_of past p)) (lane_of past p)
+lanes_at : (subj : Option Pid) (n : ℕ) (e : Entry) (past : List Entry) (lanes : List LaneState) → ArePresentLanes n past lanes → (p : ℕ) (d : LaneState) → p < n → get_or (lanes_after_of subj e lanes) p d ≡ cond (option_map_or (λ q. q.0 == p) subj false) (lane_after e (lane_of past p)) (lane_of past p)
 lanes_at None n e past lanes are p d h = are.each p d h
 lanes_at (Some q) n e past lanes are p d h = grind (arith, get_or-set_same, get_or-set_other)
 
--- an entry leaves as many lanes as there were
-pub lanes_length : (subj : Option Pid) (e : Entry) (lanes : List Lane) → length (lanes_after_of subj e lanes) ≡ length lanes
+-- an entry keeps the number of lanes
+pub lanes_length : (subj : Option Pid) (e : Entry) (lanes : List LaneState) → length (lanes_after_of subj e lanes) ≡ length lanes
 lanes_length None e lanes = refl
 lanes_length (Some q) e lanes = length-set lanes q.0 _
 
 -- the lanes after an entry are those of the past with it
-pub lanes_push : (n : ℕ) (e : Entry) (past : List Entry) (lanes : List Lane) → ArePresentLanes n past lanes → ArePresentLanes n (e ∷ past) (lanes_after e lanes)
+pub lanes_push : (n : ℕ) (e : Entry) (past : List Entry) (lanes : List LaneState) → ArePresentLanes n past lanes → ArePresentLanes n (e ∷ past) (lanes_after e lanes)
 lanes_push n e past lanes are = grind (arith, common_steps, lanes_length, lanes_at, lane_of_next)
 
 lane_few : (past : List Entry) (p : ℕ) → lane past p ≤ length past
@@ -49,13 +49,13 @@ lane_few (Stable det ∷ past) p = omega (arith, lane_few past p)
 lane_few (Crash who ∷ past) p = omega (arith, lane_few past p)
 lane_few (Forget who listed ∷ past) p = omega (arith, lane_few past p)
 
--- no count is above the number of entries
-lane_has_room : (past : List Entry) (p : ℕ) → length past < 16777216 → HasRoom (lane_of past p)
+-- no count exceeds the number of entries
+lane_has_room : (past : List Entry) (p : ℕ) → length past < 16777216 → CountersFit (lane_of past p)
 lane_has_room past p h = grind (arith, lane_few, sends_few, deliveries_few)
 
--- while a run is below the limit of entries, each lane's counts have room for one more
-pub lanes_have_room : (n : ℕ) (past : List Entry) (lanes : List Lane) → ArePresentLanes n past lanes → length past < 16777216 → All HasRoom lanes
-lanes_have_room n past lanes are short k d below = subst HasRoom (sym (are.each k d (omega (arith, are.count, below)))) (lane_has_room past k short)
+-- while a run has fewer entries than the limit, each lane's counters can count one more
+pub lanes_have_room : (n : ℕ) (past : List Entry) (lanes : List LaneState) → ArePresentLanes n past lanes → length past < 16777216 → All CountersFit lanes
+lanes_have_room n past lanes are short k d below = subst CountersFit (sym (are.each k d (omega (arith, are.count, below)))) (lane_has_room past k short)
 
 below_count : (a n : ℕ) → not (nat_lt a n) ≡ false → a < n
 below_count a n h = grind arith
@@ -63,16 +63,16 @@ below_count a n h = grind arith
 below_counts : (a b n : ℕ) → not (nat_lt a n && nat_lt b n) ≡ false → a < n
 below_counts a b n h = grind arith
 
--- the process of an entry that may come next is there
+-- the process of a legal entry is a process of the run
 pub subject_there : (n : ℕ) (past : List Entry) (e : Entry) → first_fault n past e ≡ None → IfSome (subject e) (λ p. p.0 < n)
-unfolding rows
-subject_there n past (Send from to ssn) h = below_counts from.0 to.0 n (row_fails (rows n past (Send from to ssn)) h 1 (not (nat_lt from.0 n && nat_lt to.0 n), NoProcess) refl)
-subject_there n past (Deliver to send rsn listed) h = below_count to.0 n (row_fails (rows n past (Deliver to send rsn listed)) h 1 (not (nat_lt to.0 n), NoProcess) refl)
+unfolding refusal_rows
+subject_there n past (Send from to ssn) h = below_counts from.0 to.0 n (row_fails (refusal_rows n past (Send from to ssn)) h 1 (not (nat_lt from.0 n && nat_lt to.0 n), NoProcess) refl)
+subject_there n past (Deliver to send rsn listed) h = below_count to.0 n (row_fails (refusal_rows n past (Deliver to send rsn listed)) h 1 (not (nat_lt to.0 n), NoProcess) refl)
 subject_there n past (Stable det) h = tt
-subject_there n past (Crash who) h = below_count who.0 n (row_fails (rows n past (Crash who)) h 1 (not (nat_lt who.0 n), NoProcess) refl)
-subject_there n past (Restart who listed) h = below_count who.0 n (row_fails (rows n past (Restart who listed)) h 1 (not (nat_lt who.0 n), NoProcess) refl)
-subject_there n past (Forget who listed) h = below_count who.0 n (row_fails (rows n past (Forget who listed)) h 1 (not (nat_lt who.0 n), NoProcess) refl)
+subject_there n past (Crash who) h = below_count who.0 n (row_fails (refusal_rows n past (Crash who)) h 1 (not (nat_lt who.0 n), NoProcess) refl)
+subject_there n past (Restart who listed) h = below_count who.0 n (row_fails (refusal_rows n past (Restart who listed)) h 1 (not (nat_lt who.0 n), NoProcess) refl)
+subject_there n past (Forget who listed) h = below_count who.0 n (row_fails (refusal_rows n past (Forget who listed)) h 1 (not (nat_lt who.0 n), NoProcess) refl)
 
--- before any entry the present lane of each process is a fresh one
-pub no_lanes : (n : ℕ) → ArePresentLanes n [] (replicate n fresh)
-no_lanes n = record { count = length-replicate n fresh; each = λ p d h. get_or-replicate n p fresh d h }
+-- before any entry, each process has the initial lane
+pub no_lanes : (n : ℕ) → ArePresentLanes n [] (replicate n first_lane)
+no_lanes n = record { count = length-replicate n first_lane; each = λ p d h. get_or-replicate n p first_lane d h }

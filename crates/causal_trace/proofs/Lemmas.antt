@@ -1,4 +1,4 @@
--- What crates above may cite of this crate's proofs.
+-- Lemmas that the crates above may cite.
 pub mod DeliveryNumbers
 pub mod Instants
 pub mod AtInstants

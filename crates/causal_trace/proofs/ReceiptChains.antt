@@ -1,4 +1,4 @@
--- Chains of receipts, with one more message or receipt.
+-- Chains of receipts, after one more message or receipt.
 use Rattle.std.proofs.Common.{ℕ, zero, suc, ◌≡◌, ◌+◌, ◌<◌, ◌≤◌, true, false, cond, ◌==◌, List, [], ◌∷◌, ◌++◌, length, get_or, set, reverse, Option, Some, None, refl, arith}
 use Rattle.std.specs.Option.{option_map_or}
 use Rattle.std.proofs.lemmas.Bool.{eq-eqb, ne_eqb, cond-true, cond-false}
@@ -9,42 +9,42 @@ use Rattle.causal_name.specs.declared.MsgName.{MsgName}
 use Rattle.causal_name.specs.Names.{same_message}
 use Rattle.causal_trace.specs.declared.chains.Receipt.{Receipt}
 use Rattle.causal_trace.specs.declared.chains.Node.{Node}
-use Rattle.causal_trace.specs.Inside.Chains.{Heads, heads_of, head_of, HasHead, IsBelow, LeadDown, chain, AreLinked, opened, with_message, with_head}
+use Rattle.causal_trace.specs.Inside.Chains.{Heads, heads_of, head_of, HasHead, IsPlaceBelow, LeadDown, chain, AreLinked, with_next_head, with_message, with_head}
 
--- a place below a bound is below a higher one
-pub below_higher : (at : Option ℕ) (a b : ℕ) → a ≤ b → IsBelow at a → IsBelow at b
+-- an index below a bound is below a higher bound
+pub below_higher : (at : Option ℕ) (a b : ℕ) → a ≤ b → IsPlaceBelow at a → IsPlaceBelow at b
 below_higher None a b h k = tt
 below_higher (Some v) a b h k = omega (arith, h, k)
 
--- a newer node stands in no chain of older ones
-pub chain_skips : (node : Node) (older : List Node) (at : Option ℕ) → IsBelow at (length older) → chain (node ∷ older) at ≡ chain older at
+-- a newer node is in no chain of older nodes
+pub chain_skips : (node : Node) (older : List Node) (at : Option ℕ) → IsPlaceBelow at (length older) → chain (node ∷ older) at ≡ chain older at
 chain_skips node older None h = refl
 chain_skips node older (Some k) h = cond-false (k == length older) _ _ (ne_eqb k (length older) (λ is. omega (arith, h, is)))
 
--- where a node leads
+-- the links of a node
 pub record Leads (nodes : List Node) (node : Node) (k : ℕ) : Type 0 where
-  -- the receipts from k on are the node's own, and those from where it leads
+  -- the receipts from k on are the node's own and those of the linked node
   pub onward : chain nodes (Some k) ≡ node.receipt ∷ chain nodes node.next
-  -- it leads to a place below its own, or nowhere
-  pub down : IsBelow node.next k
+  -- the node links to a lower index, or to none
+  pub down : IsPlaceBelow node.next k
 
--- the newest node stands at the end
+-- the index of the newest node is the number of older nodes
 pub node_newest : (node : Node) (older : List Node) (k : ℕ) (d : Node) → k ≡ length older → get_or (reverse (node ∷ older)) k d ≡ node
 node_newest node older k d is = grind (arith, reverse-append (node ∷ []) older, length-reverse older, get_or-append_seam)
 
--- older nodes stay where they are
+-- older nodes keep their indices
 pub node_older : (node : Node) (older : List Node) (k : ℕ) (d : Node) → k < length older → get_or (reverse (node ∷ older)) k d ≡ get_or (reverse older) k d
 node_older node older k d h = grind (arith, reverse-append (node ∷ []) older, get_or_append_left, length-reverse)
 
 leads_older : (node : Node) (older : List Node) (found : Node) (k : ℕ) → k < length older → Leads older found k → Leads (node ∷ older) found k
 leads_older node older found k h leads = grind arith
 
--- each node leads to an older one, and its chain goes on there
+-- each node links to an older one, and its chain continues there
 pub leads_on : (nodes : List Node) (k : ℕ) (d : Node) → LeadDown nodes → k < length nodes → Leads nodes (get_or (reverse nodes) k d) k
 leads_on [] k d down h = absurd (omega (arith, h))
 leads_on (node ∷ older) k d down h = grind (arith, eqb_tells, node_newest, node_older, leads_older, leads_on older k d down.1)
 
--- the heads of a process, where those of one were replaced
+-- the heads of a process, after those of one process were replaced
 heads_replaced : (heads : Heads) (p q : ℕ) (list : List (Option ℕ)) → p < length heads → heads_of (set heads p list) q ≡ cond (p == q) list (heads_of heads q)
 heads_replaced heads p q list h = grind (arith, eqb_tells, get_or-set_same, cond-true, get_or-set_other)
 
@@ -54,24 +54,24 @@ none_at_end [] (suc i) = refl
 none_at_end (x ∷ xs) zero = refl
 none_at_end (x ∷ xs) (suc i) = none_at_end xs i
 
-opened_same : (list : List (Option ℕ)) (ssn i : ℕ) → get_or (opened list ssn) i None ≡ get_or list i None
+opened_same : (list : List (Option ℕ)) (ssn i : ℕ) → get_or (with_next_head list ssn) i None ≡ get_or list i None
 opened_same list ssn i = elim (length list == ssn) as (λ b. get_or (cond b (list ++ None ∷ []) list) i None ≡ get_or list i None) [ true ↦ none_at_end list i | false ↦ refl ]
 
-opened_longer : (list : List (Option ℕ)) (ssn : ℕ) → length list ≤ length (opened list ssn)
+opened_longer : (list : List (Option ℕ)) (ssn : ℕ) → length list ≤ length (with_next_head list ssn)
 opened_longer list ssn = elim (length list == ssn) as (λ b. length list ≤ length (cond b (list ++ None ∷ []) list)) [ true ↦ omega (arith, length-append list (None ∷ [])) | false ↦ omega arith ]
 
-opened_there : (list : List (Option ℕ)) (ssn : ℕ) → ssn ≤ length list → ssn < length (opened list ssn)
+opened_there : (list : List (Option ℕ)) (ssn : ℕ) → ssn ≤ length list → ssn < length (with_next_head list ssn)
 opened_there list ssn h = grind (arith, length-append)
 
--- one more message leads no chain elsewhere
+-- one more message leaves all chains unchanged
 pub message_leads : (heads : Heads) (m q : MsgName) → m.source.0 < length heads → head_of (with_message heads m) q ≡ head_of heads q
 message_leads heads m q h = grind (arith, heads_replaced, opened_same)
 
--- the lists of heads grow
+-- the lists of heads never shrink
 pub message_longer : (heads : Heads) (m : MsgName) (q : ℕ) → m.source.0 < length heads → length (heads_of heads q) ≤ length (heads_of (with_message heads m) q)
 message_longer heads m q h = grind (arith, heads_replaced, opened_longer)
 
--- a message that has a head still has one when another gets its own
+-- a message keeps its head when another message gets one
 pub message_keeps : (heads : Heads) (m q : MsgName) → m.source.0 < length heads → HasHead heads q → HasHead (with_message heads m) q
 message_keeps heads m q h has = grind (arith, length-set, message_longer)
 
@@ -79,45 +79,45 @@ message_keeps heads m q h has = grind (arith, length-set, message_longer)
 pub message_there : (heads : Heads) (m : MsgName) → m.source.0 < length heads → m.ssn ≤ length (heads_of heads m.source.0) → HasHead (with_message heads m) m
 message_there heads m h next = grind (arith, length-set, heads_replaced, cond-true, eq-eqb, opened_there)
 
--- the head of one message leads elsewhere, and no other
+-- replacing the head of one message changes no other head
 pub head_leads : (heads : Heads) (m q : MsgName) (at : Option ℕ) → HasHead heads m → head_of (with_head heads m at) q ≡ cond (same_message m q) at (head_of heads q)
 head_leads heads m q at has = grind (arith, eqb_tells, get_or-set_same, cond-true, get_or-set_other, cond-false)
 
--- each list of heads stays as long as it is
+-- replacing a head keeps the length of each list
 pub head_lengths : (heads : Heads) (m : MsgName) (q : ℕ) (at : Option ℕ) → m.source.0 < length heads → length (heads_of (with_head heads m at) q) ≡ length (heads_of heads q)
 head_lengths heads m q at h = grind (arith, heads_replaced, length-set)
 
--- a message that has a head still has one when any head is made to lead elsewhere
+-- a message keeps a head when any head is replaced
 pub head_keeps : (heads : Heads) (m q : MsgName) (at : Option ℕ) → m.source.0 < length heads → HasHead heads q → HasHead (with_head heads m at) q
 head_keeps heads m q at h has = grind (arith, length-set, head_lengths)
 
--- heads and nodes lead to nodes that are there, with one more message
+-- after one more message, heads and nodes link to existing nodes
 pub linked_message : (heads : Heads) (nodes : List Node) (m : MsgName) → m.source.0 < length heads → AreLinked heads nodes → AreLinked (with_message heads m) nodes
 linked_message heads nodes m h linked = grind (arith, message_leads)
 
--- and with one more receipt
+-- after one more receipt, heads and nodes link to existing nodes
 pub linked_receipt : (heads : Heads) (nodes : List Node) (m : MsgName) (receipt : Receipt) → HasHead heads m → AreLinked heads nodes → AreLinked (with_head heads m (Some (length nodes))) (record { receipt = receipt; next = head_of heads m } ∷ nodes)
 linked_receipt heads nodes m receipt has linked = grind (arith, head_leads)
 
--- names of one message have one head
+-- equal message names have the same head
 pub one_head : (heads : Heads) (m q : MsgName) → same_message m q ≡ true → head_of heads m ≡ head_of heads q
 one_head heads m q same = grind arith
 
--- the chain of each message, with one more receipt
+-- the chain of each message, after one more receipt
 pub receipt_leads : (heads : Heads) (nodes : List Node) (m q : MsgName) (receipt : Receipt) → HasHead heads m → AreLinked heads nodes → chain (record { receipt = receipt; next = head_of heads m } ∷ nodes) (head_of (with_head heads m (Some (length nodes))) q) ≡ cond (same_message m q) (receipt ∷ chain nodes (head_of heads q)) (chain nodes (head_of heads q))
 receipt_leads heads nodes m q receipt has linked = grind (arith, head_leads, one_head, chain_skips)
 
--- no place begins an empty chain
+-- an empty head begins an empty chain
 chain_none : (nodes : List Node) → chain nodes None ≡ []
 chain_none [] = refl
 chain_none (node ∷ older) = chain_none older
 
--- a walk along a chain goes down
-pub walk_falls : (next : Option ℕ) (k : ℕ) → IsBelow next k → option_map_or (λ i. i + 1) next 0 < k + 1
+-- a walk along a chain visits descending indices
+pub walk_falls : (next : Option ℕ) (k : ℕ) → IsPlaceBelow next k → option_map_or (λ i. i + 1) next 0 < k + 1
 walk_falls None k h = omega arith
 walk_falls (Some i) k h = omega (arith, h)
 
--- a chain that begins nowhere has no receipts
+-- an empty head has no receipts
 pub chain_ends : (nodes : List Node) (at : Option ℕ) → ((k : ℕ) → at ≡ Some k → ⊥) → chain nodes at ≡ []
 chain_ends nodes None h = chain_none nodes
 chain_ends nodes (Some k) h = absurd (h k refl)

@@ -1,4 +1,4 @@
--- What a trace remembers beside its entries, with one more entry.
+-- What a trace stores besides its entries, after one more entry.
 use Rattle.std.proofs.lemmas.Grind.{common_steps}
 use Rattle.std.proofs.Common.{ℕ, zero, suc, ◌≡◌, ◌+◌, ◌<◌, ◌≤◌, Bool, true, false, cond, ◌==◌, List, [], ◌∷◌, length, set, Some, None, refl, sym, ap, subst, ◌∙◌, arith}
 use Rattle.std.specs.Prelude.{nat_lt, ◌&&◌, not, replicate, IfSome}
@@ -12,21 +12,21 @@ use Rattle.causal_name.specs.declared.Det.{Det}
 use Rattle.causal_trace.specs.declared.entry.Entry.{Entry}
 use Rattle.causal_trace.specs.declared.entry.Entry.TheVariants.{Send, Deliver, Stable, Crash, Restart, Forget}
 use Rattle.causal_trace.specs.declared.fault.TraceFault.TheVariants.{WrongSsn}
-use Rattle.causal_trace.specs.declared.lanes.Lane.{Lane}
+use Rattle.causal_trace.specs.declared.lanes.LaneState.{LaneState}
 use Rattle.causal_trace.specs.Limits.{IsProcessCount}
 use Rattle.causal_trace.specs.Past.{listed_by, lane, sends, restarts, deliveries_in, entry_at, is_send_to, message_sent, message_at, det_from, det_of}
 use Rattle.causal_trace.specs.Numbers.{delivered_dets, number_of}
-use Rattle.causal_trace.specs.Rows.{Recording, rows, first_fault}
+use Rattle.causal_trace.specs.Rows.{Recording, refusal_rows, first_fault}
 use Rattle.causal_trace.specs.State.{with_entry}
-use Rattle.causal_trace.specs.Inside.Index.{AreChains, HasHeads, fresh, lanes_after, IsIndexed, is_restart}
-use Rattle.causal_trace.specs.Inside.Chains.{Heads, HasHead, ChainsState, head_of, heads_of, heads_after, is_of, nodes_after, opened, with_head, with_message}
+use Rattle.causal_trace.specs.Inside.Index.{AreChains, HasHeads, first_lane, lanes_after, IsIndexed, is_restart}
+use Rattle.causal_trace.specs.Inside.Chains.{Heads, HasHead, ChainsState, head_of, heads_of, heads_after, is_of, nodes_after, with_next_head, with_head, with_message}
 use Rattle.causal_trace.proofs.ReceiptChains.{head_keeps, head_lengths, linked_message, linked_receipt, message_keeps, message_leads, message_longer, message_there, receipt_leads}
 use Rattle.causal_trace.proofs.DeliveryPlaces.{receipt_placed}
 use Rattle.causal_trace.proofs.Lemmas.EntryFacts.{delivers_sent, not_false, row_fails}
 use Rattle.causal_trace.proofs.Lemmas.WellFormed.{kept_push}
 use Rattle.causal_trace.proofs.LaneRecords.{lanes_push, subject_there, no_lanes}
 
--- a run has no more restarts than entries
+-- a run has at most as many restarts as entries
 pub restarts_few : (past : List Entry) → restarts past ≤ length past
 restarts_few [] = omega arith
 restarts_few (Restart who listed ∷ past) = omega (arith, restarts_few past)
@@ -36,7 +36,7 @@ restarts_few (Stable det ∷ past) = omega (arith, restarts_few past)
 restarts_few (Crash who ∷ past) = omega (arith, restarts_few past)
 restarts_few (Forget who listed ∷ past) = omega (arith, restarts_few past)
 
--- a run has no more deliveries than entries
+-- a run has at most as many deliveries as entries
 pub deliveries_in_few : (past : List Entry) → deliveries_in past ≤ length past
 deliveries_in_few [] = omega arith
 deliveries_in_few (Deliver to send rsn listed ∷ past) = omega (arith, deliveries_in_few past)
@@ -46,7 +46,7 @@ deliveries_in_few (Stable det ∷ past) = omega (arith, deliveries_in_few past)
 deliveries_in_few (Crash who ∷ past) = omega (arith, deliveries_in_few past)
 deliveries_in_few (Forget who listed ∷ past) = omega (arith, deliveries_in_few past)
 
--- the receiver of a delivery that may come next is there
+-- the receiver of a legal delivery is a process of the run
 pub det_there : (n : ℕ) (past : List Entry) (e : Entry) → first_fault n past e ≡ None → IfSome (det_of past e) (λ d. d.dest.0 < n)
 det_there n past (Send from to ssn) h = tt
 det_there n past (Stable det) h = tt
@@ -63,14 +63,14 @@ sends_one (Crash who) p h = absurd (false≢true h)
 sends_one (Restart who listed) p h = absurd (false≢true h)
 sends_one (Forget who listed) p h = absurd (false≢true h)
 
--- a delivery that may come next has a message
+-- a legal delivery has a message
 pub delivers_message : (n : ℕ) (past : List Entry) (to : Pid) (send rsn : ℕ) (listed : List Det) → first_fault n past (Deliver to send rsn listed) ≡ None → (m : MsgName) × (message_at past send ≡ Some m)
 delivers_message n past to send rsn listed h = grind (arith, sends_one, delivers_sent)
 
--- the number of a send that may come next is the next one of its sender
+-- the number of a legal send is its sender's next number
 numbered_next : (n : ℕ) (past : List Entry) (from to : Pid) (ssn : ℕ) → first_fault n past (Send from to ssn) ≡ None → ssn ≡ sends past from.0
-unfolding rows
-numbered_next n past from to ssn h = eqb-true ssn (sends past from.0) (not_false (ssn == sends past from.0) (row_fails (rows n past (Send from to ssn)) h 3 (not (ssn == sends past from.0), WrongSsn) refl))
+unfolding refusal_rows
+numbered_next n past from to ssn h = eqb-true ssn (sends past from.0) (not_false (ssn == sends past from.0) (row_fails (refusal_rows n past (Send from to ssn)) h 3 (not (ssn == sends past from.0), WrongSsn) refl))
 
 named_push : (e : Entry) (past : List Entry) (heads : Heads) → IfSome (message_sent e) (HasHead heads) → HasHeads past heads → HasHeads (e ∷ past) heads
 named_push e past heads own older k = elim (k == length past) as (λ b. IfSome (option_and_then message_sent (cond b (Some e) (entry_at past k))) (HasHead heads)) [ true ↦ own | false ↦ older k ]
@@ -95,14 +95,14 @@ and_swap false true c = refl
 and_swap false false c = refl
 
 module _ (n : ℕ) (past : List Entry) (c : ChainsState) (are : AreChains n past c.heads c.nodes) where
-  -- with a send
+  -- the case of a send
   chains_sent : (from to : Pid) (ssn : ℕ) → from.0 < n → ssn ≡ sends past from.0 → AreChains n (Send from to ssn ∷ past) (with_message c.heads (record { source = from; ssn = ssn })) c.nodes
   chains_sent from to ssn below is =
       grind (
         arith,
         common_steps,
         message_there,
-        length-set c.heads from.0 (opened (heads_of c.heads from.0) ssn),
+        length-set c.heads from.0 (with_next_head (heads_of c.heads from.0) ssn),
         linked_message c.heads c.nodes (record { source = from; ssn = ssn }) (omega (arith, below, are.count)) are.linked,
         sent_next,
         message_longer,
@@ -112,7 +112,7 @@ module _ (n : ℕ) (past : List Entry) (c : ChainsState) (are : AreChains n past
         message_leads,
       )
 
-  -- with a delivery
+  -- the case of a delivery
   chains_delivered : (to : Pid) (send rsn l : ℕ) (listed : List Det) (m : MsgName) → message_at past send ≡ Some m → l ≡ lane past to.0 → AreChains n (Deliver to send rsn listed ∷ past) (with_head c.heads m (Some (length c.nodes))) (record { receipt = record { dest = to; lane = l; rsn = rsn }; next = head_of c.heads m } ∷ c.nodes)
   chains_delivered to send rsn l listed m at is = let has : HasHead c.heads m = has_own past c.heads send m at are.named in
       let heads = with_head c.heads m (Some (length c.nodes)) in
@@ -135,7 +135,7 @@ module _ (n : ℕ) (past : List Entry) (c : ChainsState) (are : AreChains n past
             ∙ ap (λ o. number_of k (option_map_or (λ x. x ∷ delivered_dets past) (option_map (det_from to rsn) o) (delivered_dets past)) d) (sym at);
       }
 
-  -- what a trace remembers of the deliveries, with one more entry
+  -- the chains after one more entry
   pub chains_push : (e : Entry) (l : ℕ) → first_fault n past e ≡ None → ((d : Det) → det_of past e ≡ Some d → l ≡ lane past d.dest.0) → AreChains n (e ∷ past) (heads_after (message_sent e) (det_of past e) c) (nodes_after (message_sent e) (det_of past e) l c)
   chains_push (Send from to ssn) l next at = chains_sent from to ssn (subject_there n past (Send from to ssn) next) (numbered_next n past from to ssn next)
   chains_push (Deliver to send rsn listed) l next at =
@@ -153,12 +153,12 @@ no_heads zero p = refl
 no_heads (suc n) zero = refl
 no_heads (suc n) (suc p) = no_heads n p
 
--- at first nothing is remembered
-pub indexed_none : (n : ℕ) (lanes : List Lane) (c : ChainsState) → IsProcessCount n → lanes ≡ replicate n fresh → c.heads ≡ replicate n [] → c.nodes ≡ [] → IsIndexed (record { processes = n; past = [] }) 0 0 lanes c
+-- the initial index is that of no entries
+pub indexed_none : (n : ℕ) (lanes : List LaneState) (c : ChainsState) → IsProcessCount n → lanes ≡ replicate n first_lane → c.heads ≡ replicate n [] → c.nodes ≡ [] → IsIndexed (record { processes = n; past = [] }) 0 0 lanes c
 indexed_none n lanes c count all_fresh no_chains no_nodes = grind (arith, common_steps, no_lanes, length-replicate, no_heads)
 
--- what is remembered of the past with one more entry
-pub indexed_push : (r : Recording) (e : Entry) (listed restarted l : ℕ) (lanes : List Lane) (c new : ChainsState) → IsIndexed r listed restarted lanes c → first_fault r.processes r.past e ≡ None → ((d : Det) → det_of r.past e ≡ Some d → l ≡ lane r.past d.dest.0) → new.heads ≡ heads_after (message_sent e) (det_of r.past e) c → new.nodes ≡ nodes_after (message_sent e) (det_of r.past e) l c → IsIndexed (with_entry r e) (listed + length (listed_by e)) (restarted + cond (is_restart e) 1 0) (lanes_after e lanes) new
+-- the index after a legal entry is that of the past with it
+pub indexed_push : (r : Recording) (e : Entry) (listed restarted l : ℕ) (lanes : List LaneState) (c new : ChainsState) → IsIndexed r listed restarted lanes c → first_fault r.processes r.past e ≡ None → ((d : Det) → det_of r.past e ≡ Some d → l ≡ lane r.past d.dest.0) → new.heads ≡ heads_after (message_sent e) (det_of r.past e) c → new.nodes ≡ nodes_after (message_sent e) (det_of r.past e) l c → IsIndexed (with_entry r e) (listed + length (listed_by e)) (restarted + cond (is_restart e) 1 0) (lanes_after e lanes) new
 indexed_push r e listed restarted l lanes c new was next at heads nodes =
     grind (
       arith,
@@ -167,15 +167,15 @@ indexed_push r e listed restarted l lanes c new was next at heads nodes =
       chains_push r.processes r.past c was.chains e l next at,
     )
 
--- a stable entry changes nothing of it
-pub indexed_stable : (r : Recording) (det : Det) (listed restarted : ℕ) (lanes : List Lane) (c : ChainsState) → IsIndexed r listed restarted lanes c → first_fault r.processes r.past (Stable det) ≡ None → IsIndexed (with_entry r (Stable det)) listed restarted lanes c
+-- a stable entry leaves the index unchanged
+pub indexed_stable : (r : Recording) (det : Det) (listed restarted : ℕ) (lanes : List LaneState) (c : ChainsState) → IsIndexed r listed restarted lanes c → first_fault r.processes r.past (Stable det) ≡ None → IsIndexed (with_entry r (Stable det)) listed restarted lanes c
 indexed_stable r det listed restarted lanes c was next = grind (arith, kept_push, lanes_push)
 
--- chains with the same heads and nodes serve as well
-pub indexed_same : (r : Recording) (listed restarted : ℕ) (lanes : List Lane) (c new : ChainsState) → IsIndexed r listed restarted lanes c → new.heads ≡ c.heads → new.nodes ≡ c.nodes → IsIndexed r listed restarted lanes new
+-- the index depends on the heads and the nodes of the chains only
+pub indexed_same : (r : Recording) (listed restarted : ℕ) (lanes : List LaneState) (c new : ChainsState) → IsIndexed r listed restarted lanes c → new.heads ≡ c.heads → new.nodes ≡ c.nodes → IsIndexed r listed restarted lanes new
 indexed_same r listed restarted lanes c new was heads nodes = grind arith
 
--- the sender of a send that may come next is there
+-- the sender of a legal send is a process of the run
 pub sender_there : (n : ℕ) (past : List Entry) (e : Entry) → first_fault n past e ≡ None → IfSome (message_sent e) (λ m. m.source.0 < n)
 sender_there n past (Send from to ssn) h = subject_there n past (Send from to ssn) h
 sender_there n past (Deliver to send rsn listed) h = tt
@@ -184,7 +184,7 @@ sender_there n past (Crash who) h = tt
 sender_there n past (Restart who listed) h = tt
 sender_there n past (Forget who listed) h = tt
 
--- the message of a delivery has a head
+-- the message of a legal delivery has a head
 pub own_named : (past : List Entry) (e : Entry) (heads : Heads) → HasHeads past heads → IfSome (det_of past e) (λ d. HasHead heads (message_of d))
 own_named past (Send from to ssn) heads named = tt
 own_named past (Stable det) heads named = tt

@@ -1,4 +1,4 @@
--- What models and private functions keep; no public clause cites it.
+-- Invariants of models and private functions; no public contract uses them.
 pub mod Chains
 pub mod Index
 pub mod Lists

@@ -1,4 +1,4 @@
-pub mod Bounded
+pub mod Bounds
 pub mod Inside
 pub mod Limits
 pub mod Numbers
@@ -8,4 +8,4 @@ pub mod Sizes
 pub mod State
 pub mod Dependence
 pub mod Judgement
-pub mod Agree
+pub mod Laws

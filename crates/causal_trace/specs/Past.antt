@@ -1,5 +1,6 @@
--- What a state of a run says of processes, logs and determinants. A state is its past: the list of the entries so far,
--- the newest first. Positions count from the oldest entry, so the newest entry of `e ∷ past` stands at `length past`.
+-- Queries of a state: who is down, lanes, counts, volatile logs, stable storage.
+-- A state is its past: the list of its entries, newest first. Positions count from the oldest entry, so the newest
+-- entry of `e ∷ past` has position `length past`.
 use Rattle.std.specs.Prelude.{ℕ, ◌+◌, ◌-◌, Bool, false, not, ◌==◌, ◌&&◌, ◌||◌, if◌then◌else◌, List, [], ◌∷◌, length, drop, Option, Some, None}
 use Rattle.std.specs.List.{list_any}
 use Rattle.std.specs.Option.{option_map, option_map_or, option_and_then}
@@ -10,7 +11,7 @@ use Rattle.causal_name.specs.declared.MsgName.{MsgName}
 use Rattle.causal_trace.specs.declared.entry.Entry.{Entry}
 use Rattle.causal_trace.specs.declared.entry.Entry.TheVariants.{Send, Deliver, Stable, Crash, Restart, Forget}
 
--- the instant t of a run: its state after the first t entries, without what came later
+-- instant t of a run: the state after its first t entries
 abbrev pub instant : List Entry → ℕ → List Entry
 instant past t = drop (length past - t) past
 
@@ -19,14 +20,14 @@ abbrev pub entry_at : List Entry → ℕ → Option Entry
 entry_at [] i = None
 entry_at (e ∷ past) i = if i == length past then Some e else entry_at past i
 
--- p is down where its last crash or restart is a crash
+-- p is down if its last crash or restart is a crash
 abbrev pub is_down : List Entry → ℕ → Bool
 is_down [] p = false
 is_down (Crash who ∷ past) p = who.0 == p || is_down past p
 is_down (Restart who listed ∷ past) p = not (who.0 == p) && is_down past p
 is_down (_ ∷ past) p = is_down past p
 
--- p's lane, which is its present incarnation, is the number of its restarts
+-- the lane (incarnation) of p: the number of its restarts
 abbrev pub lane : List Entry → ℕ → ℕ
 lane [] p = 0
 lane (Restart who listed ∷ past) p = if who.0 == p then lane past p + 1 else lane past p
@@ -64,11 +65,11 @@ is_send_to p _ = false
 abbrev pub is_sent_to : List Entry → ℕ → ℕ → Bool
 is_sent_to past send p = option_map_or (is_send_to p) (entry_at past send) false
 
--- the determinant of a delivery: its message's sender and number, its receiver and its place there
+-- the determinant of a delivery: its message's sender and number, its receiver and its number there
 abbrev pub det_from : Pid → ℕ → MsgName → Det
 det_from to rsn m = record { source = m.source; ssn = m.ssn; dest = to; rsn = rsn }
 
--- the determinant of an entry that is a delivery, by the sends before it
+-- the determinant of a delivery entry that follows this past
 abbrev pub det_of : List Entry → Entry → Option Det
 det_of past (Deliver to send rsn listed) = option_map (det_from to rsn) (message_at past send)
 det_of past _ = None
@@ -78,14 +79,15 @@ abbrev pub det_at : List Entry → ℕ → Option Det
 det_at [] k = None
 det_at (e ∷ past) k = if k == length past then det_of past e else det_at past k
 
--- whether an optional determinant is this one, and an optional message that one
+-- whether an optional determinant is d
 abbrev pub is_det : Option Det → Det → Bool
 is_det own d = option_map_or (λ e. same_det e d) own false
 
+-- whether an optional message is m
 abbrev pub is_message : Option MsgName → MsgName → Bool
 is_message found m = option_map_or (λ k. same_message k m) found false
 
--- whether d is the determinant of a delivery so far, in whatever lane
+-- whether d is the determinant of a delivery, in any lane
 abbrev pub is_delivered : List Entry → Det → Bool
 is_delivered [] d = false
 is_delivered (e ∷ past) d = is_det (det_of past e) d || is_delivered past d
@@ -97,18 +99,18 @@ has_delivered (Deliver to send rsn listed ∷ past) p m = (to.0 == p && is_messa
 has_delivered (Restart who listed ∷ past) p m = not (who.0 == p) && has_delivered past p m
 has_delivered (_ ∷ past) p m = has_delivered past p m
 
--- whether a list has d
-abbrev pub has : List Det → Det → Bool
-has listed d = list_any (same_det d) listed
+-- whether a list contains d
+abbrev pub list_has : List Det → Det → Bool
+list_has listed d = list_any (same_det d) listed
 
--- whether p's volatile log has d: a delivery and a restart put into it what they list, a forgetting takes that out, and
--- a crash loses all
+-- whether p's volatile log contains d: deliveries and restarts add what they list, forget entries remove it, and a
+-- crash empties the log
 abbrev pub logs : List Entry → ℕ → Det → Bool
 logs [] p d = false
-logs (Deliver to send rsn listed ∷ past) p d = (to.0 == p && has listed d) || logs past p d
+logs (Deliver to send rsn listed ∷ past) p d = (to.0 == p && list_has listed d) || logs past p d
 logs (Crash who ∷ past) p d = not (who.0 == p) && logs past p d
-logs (Restart who listed ∷ past) p d = (who.0 == p && has listed d) || logs past p d
-logs (Forget who listed ∷ past) p d = not (who.0 == p && has listed d) && logs past p d
+logs (Restart who listed ∷ past) p d = (who.0 == p && list_has listed d) || logs past p d
+logs (Forget who listed ∷ past) p d = not (who.0 == p && list_has listed d) && logs past p d
 logs (_ ∷ past) p d = logs past p d
 
 -- whether d is in stable storage
@@ -124,18 +126,18 @@ listed_by (Restart who listed) = listed
 listed_by (Forget who listed) = listed
 listed_by _ = []
 
--- how many determinants are listed in all
+-- how many determinants the entries list in all
 abbrev pub listed_in : List Entry → ℕ
 listed_in [] = 0
 listed_in (e ∷ past) = listed_in past + length (listed_by e)
 
--- how many restarts there were
+-- the number of restarts
 abbrev pub restarts : List Entry → ℕ
 restarts [] = 0
 restarts (Restart who listed ∷ past) = restarts past + 1
 restarts (_ ∷ past) = restarts past
 
--- how many deliveries there were
+-- the number of deliveries
 abbrev pub deliveries_in : List Entry → ℕ
 deliveries_in [] = 0
 deliveries_in (Deliver to send rsn listed ∷ past) = deliveries_in past + 1

@@ -1,4 +1,4 @@
--- Which entry may come next in a trace, and what stands against another.
+-- Legal entries, the errors of others in order, and well-formed recordings.
 use Rattle.std.specs.Prelude.{◌≡◌, ℕ, ◌+◌, ◌≤◌, Bool, false, not, ◌==◌, ◌&&◌, ◌||◌, nat_lt, nat_le, if◌then◌else◌, List, [], ◌∷◌, length, Option, Some, None, MatchBool, unwrap_or}
 use Rattle.std.specs.List.{list_all}
 use Rattle.std.specs.Option.{option_map_or}
@@ -7,37 +7,37 @@ use Rattle.causal_trace.specs.declared.entry.Entry.{Entry}
 use Rattle.causal_trace.specs.declared.entry.Entry.TheVariants.{Send, Deliver, Stable, Crash, Restart, Forget}
 use Rattle.causal_trace.specs.declared.fault.TraceFault.{TraceFault}
 use Rattle.causal_trace.specs.declared.fault.TraceFault.TheVariants.{Processes, NoMemory, TooLong, NoProcess, NotUp, NotDown, Lanes, WrongSsn, NoSend, WrongRsn, Doubled, Unsorted, NoDelivery}
-use Rattle.causal_trace.specs.Limits.{max_entries, max_listed, max_restarts, default_entries, listed_within, is_process_count, IsProcessCount}
+use Rattle.causal_trace.specs.Limits.{max_entries, max_listed, max_restarts, default_entries, listed_limit, is_process_count, IsProcessCount}
 use Rattle.causal_name.specs.Names.{is_ascending}
 use Rattle.causal_trace.specs.Past.{is_down, sends, deliveries, message_at, is_sent_to, det_of, is_det, is_delivered, has_delivered, listed_by, listed_in, restarts}
 
--- whether one more entry that lists so many determinants would pass a limit of any trace
-abbrev pub passes_limit : List Entry → ℕ → Bool
-passes_limit past listed = nat_lt max_entries (length past + 1) || nat_lt max_listed (listed_in past + listed)
+-- whether one more entry with this many listed determinants would exceed a limit of any trace
+abbrev pub exceeds_any_limit : List Entry → ℕ → Bool
+exceeds_any_limit past listed = nat_lt max_entries (length past + 1) || nat_lt max_listed (listed_in past + listed)
 
--- whether it would pass a limit of a trace that is to have so many entries at most
-abbrev pub passes : ℕ → List Entry → ℕ → Bool
-passes entries past listed = nat_lt entries (length past + 1) || nat_lt (listed_within entries) (listed_in past + listed)
+-- whether one more entry would exceed a limit of a trace of at most `entries` entries
+abbrev pub exceeds : ℕ → List Entry → ℕ → Bool
+exceeds entries past listed = nat_lt entries (length past + 1) || nat_lt (listed_limit entries) (listed_in past + listed)
 
--- whether each determinant is that of a delivery so far
+-- whether each determinant is that of a delivery
 abbrev pub are_delivered : List Entry → List Det → Bool
 are_delivered past listed = list_all (is_delivered past) listed
 
--- the same, where one more delivery counts too
+-- whether each determinant is that of a delivery, or `own`
 abbrev pub are_delivered_with : List Entry → Option Det → List Det → Bool
 are_delivered_with past own listed = list_all (λ d. is_det own d || is_delivered past d) listed
 
--- What may stand against an entry that would come next after this past in a run of n processes: each row is whether it
--- holds and what is then told, in the order in which they are asked.
-unfoldable pub rows : ℕ → List Entry → Entry → List (Bool × TraceFault)
-rows n past (Send from to ssn) =
-    (passes_limit past 0, TooLong)
+-- The refusal rows of an entry that follows this past in a run of n processes. A row is a test and the error if it
+-- holds; the rows are checked in this order.
+unfoldable pub refusal_rows : ℕ → List Entry → Entry → List (Bool × TraceFault)
+refusal_rows n past (Send from to ssn) =
+    (exceeds_any_limit past 0, TooLong)
     ∷ (not (nat_lt from.0 n && nat_lt to.0 n), NoProcess)
     ∷ (is_down past from.0, NotUp)
     ∷ (not (ssn == sends past from.0), WrongSsn)
     ∷ []
-rows n past (Deliver to send rsn listed) =
-    (passes_limit past (length listed), TooLong)
+refusal_rows n past (Deliver to send rsn listed) =
+    (exceeds_any_limit past (length listed), TooLong)
     ∷ (not (nat_lt to.0 n), NoProcess)
     ∷ (is_down past to.0, NotUp)
     ∷ (not (is_sent_to past send to.0), NoSend)
@@ -46,79 +46,80 @@ rows n past (Deliver to send rsn listed) =
     ∷ (not (is_ascending listed), Unsorted)
     ∷ (not (are_delivered_with past (det_of past (Deliver to send rsn listed)) listed), NoDelivery)
     ∷ []
-rows n past (Stable det) =
-    (passes_limit past 0, TooLong)
+refusal_rows n past (Stable det) =
+    (exceeds_any_limit past 0, TooLong)
     ∷ (not (is_delivered past det), NoDelivery)
     ∷ []
-rows n past (Crash who) =
-    (passes_limit past 0, TooLong)
+refusal_rows n past (Crash who) =
+    (exceeds_any_limit past 0, TooLong)
     ∷ (not (nat_lt who.0 n), NoProcess)
     ∷ (is_down past who.0, NotUp)
     ∷ []
-rows n past (Restart who listed) =
-    (passes_limit past (length listed), TooLong)
+refusal_rows n past (Restart who listed) =
+    (exceeds_any_limit past (length listed), TooLong)
     ∷ (not (nat_lt who.0 n), NoProcess)
     ∷ (not (is_down past who.0), NotDown)
     ∷ (nat_le max_restarts (restarts past), Lanes)
     ∷ (not (is_ascending listed), Unsorted)
     ∷ (not (are_delivered past listed), NoDelivery)
     ∷ []
-rows n past (Forget who listed) =
-    (passes_limit past (length listed), TooLong)
+refusal_rows n past (Forget who listed) =
+    (exceeds_any_limit past (length listed), TooLong)
     ∷ (not (nat_lt who.0 n), NoProcess)
     ∷ (is_down past who.0, NotUp)
     ∷ (not (is_ascending listed), Unsorted)
     ∷ (not (are_delivered past listed), NoDelivery)
     ∷ []
 
--- what the first row that holds tells
-abbrev pub first_holding : List (Bool × TraceFault) → Option TraceFault
-first_holding [] = None
-first_holding (row ∷ rest) = if row.0 then Some row.1 else first_holding rest
+-- the error of the first row that holds
+abbrev pub first_refusal : List (Bool × TraceFault) → Option TraceFault
+first_refusal [] = None
+first_refusal (row ∷ rest) = if row.0 then Some row.1 else first_refusal rest
 
--- what is first told against an entry; None where it may come next
+-- the first error of an entry; None if the entry is legal
 abbrev pub first_fault : ℕ → List Entry → Entry → Option TraceFault
-first_fault n past e = first_holding (rows n past e)
+first_fault n past e = first_refusal (refusal_rows n past e)
 
--- what a refusal to begin a run of n processes tells: want of memory, if there may be so many
-abbrev pub IsRefusedBeginning : ℕ → TraceFault → Type 0
-IsRefusedBeginning n fault = MatchBool (is_process_count n) (fault ≡ NoMemory) (fault ≡ Processes)
+-- the error of a refused start of n processes: `NoMemory` if n is in range, otherwise `Processes`
+abbrev pub IsNewRefusal : ℕ → TraceFault → Type 0
+IsNewRefusal n fault = MatchBool (is_process_count n) (fault ≡ NoMemory) (fault ≡ Processes)
 
--- nothing stands against any entry after those before it
-abbrev pub AreAccepted : ℕ → List Entry → Type 0
-AreAccepted n [] = Unit {0}
-AreAccepted n (e ∷ past) = AreAccepted n past × (first_fault n past e ≡ None)
+-- each entry is legal after the entries before it
+abbrev pub AreLegalEntries : ℕ → List Entry → Type 0
+AreLegalEntries n [] = Unit {0}
+AreLegalEntries n (e ∷ past) = AreLegalEntries n past × (first_fault n past e ≡ None)
 
--- a recorded run: how many processes there are, and what happened, the newest first
+-- a recorded run: the number of processes, and the entries, newest first
 pub record Recording : Type 0 where
   pub processes : ℕ
   pub past : List Entry
 
--- a number of processes within the limits, and entries each of which may stand where it stands
+-- the number of processes is in range, and each entry is legal where it is
 pub record IsWellFormed (r : Recording) : Type 0 where
   pub count : IsProcessCount r.processes
-  pub accepted : AreAccepted r.processes r.past
+  pub accepted : AreLegalEntries r.processes r.past
 
--- what is first told against an entry that would come next in a recorded run of whatever length; None where it may
-abbrev pub fault_by_rows : Recording → Entry → Option TraceFault
-fault_by_rows r e = first_fault r.processes r.past e
+-- the first error of an entry that follows a recording, under the limits of any trace; None if it is legal
+abbrev pub fault_by_refusal_rows : Recording → Entry → Option TraceFault
+fault_by_refusal_rows r e = first_fault r.processes r.past e
 
--- the same of a run that is to have so many entries at most: that it passes a limit is told first, as in each row
+-- the first error under the limits of at most `entries` entries, which are checked before the rows
 abbrev pub fault_within : ℕ → Recording → Entry → Option TraceFault
-fault_within entries r e = if passes entries r.past (length (listed_by e)) then Some TooLong else fault_by_rows r e
+fault_within entries r e = if exceeds entries r.past (length (listed_by e)) then Some TooLong else fault_by_refusal_rows r e
 
--- what a refusal to take it tells: that, or want of memory where it may come
+-- the error of a refused entry: its first error, or `NoMemory` if it is legal
 abbrev pub refusal_within : ℕ → Recording → Entry → TraceFault
 refusal_within entries r e = unwrap_or (fault_within entries r e) NoMemory
 
--- both where nobody sets another limit
+-- the first error under the default limits
 abbrev pub fault_next : Recording → Entry → Option TraceFault
 fault_next r e = fault_within default_entries r e
 
+-- the error of a refused entry under the default limits
 abbrev pub refusal_next : Recording → Entry → TraceFault
 refusal_next r e = refusal_within default_entries r e
 
--- a recorded run that has so many entries at most, and lists as many determinants at most as such a run may
-pub record IsWithin (entries : ℕ) (r : Recording) : Type 0 where
+-- a recording of at most `entries` entries, which list at most the determinants that this limit allows
+pub record FitsLimits (entries : ℕ) (r : Recording) : Type 0 where
   pub few : length r.past ≤ entries
-  pub listed : listed_in r.past ≤ listed_within entries
+  pub listed : listed_in r.past ≤ listed_limit entries

@@ -1,17 +1,18 @@
-//! The deliveries of each message, in chains, so that no input makes a search long.
+//! The deliveries of each message, in linked chains. There is no hash, so no input makes a search long.
 ghost use Rattle.std.specs.Prelude.{◌≡◌, ◌<◌, ◌≤◌, ◌+◌, ◌&&◌, ℕ, nat_lt, [], length, map, replicate, Some, IfOk, OnOk, OnErr, vec_len};
 ghost use Rattle.causal_trace.specs.Limits.{max_entries};
 ghost use Rattle.causal_name.specs.Names.{message_of};
-ghost use Rattle.causal_trace.specs.Inside.Chains.{chain_of, head_of, is_newest_in, is_of, least_room, place_of, with_head, with_message, with_receipt, AreLinked, HasHead, IsBelow};
+ghost use Rattle.causal_trace.specs.Inside.Chains.{chain_of, head_of, is_newest_in, is_of, least_room, place_of, with_head, with_message, with_receipt, AreLinked, HasHead, IsPlaceBelow};
 
 use causal_name::{Det, MsgName, NoMemory, Pid};
 use std::alloc::Global;
 use std::marker::Model;
 
-/// For how many messages and receipts room is made at once, since each list of heads is asked for it.
-const AT_ONCE: usize = 128;
+/// The least number of messages and receipts that one reservation covers, since a reservation visits every list of
+/// heads.
+const RESERVE_STEP: usize = 128;
 
-/// A delivery of a message: by whom, in which of its lanes, and as which of the lane's deliveries.
+/// A delivery of a message: the receiver, its lane (incarnation), and the delivery's number in that lane.
 #[derive(Clone, Copy)]
 pub(crate) struct Receipt {
     pub dest: Pid,
@@ -19,24 +20,24 @@ pub(crate) struct Receipt {
     pub rsn: u32,
 }
 
-/// A receipt, and the place of the next older one of the same message.
+/// A receipt, and the index of the next older receipt of the same message.
 #[derive(Clone, Copy)]
 pub(crate) struct Node {
     pub receipt: Receipt,
     pub next: Option<u32>,
 }
 
-/// The receipts of each message. Each process has a list of heads by the numbers of its sends; a head leads to the
-/// message's newest receipt, and each receipt to the next older one.
+/// The receipts of each message. Each process has a list of heads, indexed by send sequence number. A head is the
+/// index of the message's newest receipt, and each node links to the next older receipt.
 ///
-/// A message has as many receipts as lanes delivered it, and no lane delivers it twice: so a search passes over at most
-/// as many as there are lanes.
+/// A lane delivers a message at most once, so a message has at most one receipt for each lane, and a search takes
+/// O(lanes) steps.
 #[derive(Drop)]
 pub(crate) struct Chains {
     heads: Vec<Vec<Option<u32>>>,
     nodes: Vec<Node>,
-    /// For how many more messages and receipts there is room at least.
-    room: usize,
+    /// A lower bound on how many more messages and receipts fit in reserved capacity.
+    reserved: usize,
 }
 
 impl Model for Chains {
@@ -47,11 +48,11 @@ impl Model for Chains {
 
     ghost view = { λ a. record { heads = map (λ list. list.items) a.heads.items; nodes = reverse a.nodes.items; spare = least_room a.heads.items (vec_capacity a.nodes - vec_len a.nodes) } };
 
-    ghost invariant = { λ a. a.room ≤ least_room a.heads.items (vec_capacity a.nodes - vec_len a.nodes) };
+    ghost invariant = { λ a. a.reserved ≤ least_room a.heads.items (vec_capacity a.nodes - vec_len a.nodes) };
 }
 
 impl Chains {
-    /// No receipts, and no heads, of so many processes.
+    /// Returns empty chains: no receipts, and `processes` empty lists of heads.
     pub(crate) fn new(alloc: Global, processes: usize) -> Result<Chains, NoMemory>
         ensures heads { IfOk result (λ chains. chains.heads ≡ replicate processes []) }
         ensures nodes { IfOk result (λ chains. chains.nodes ≡ []) }
@@ -59,18 +60,18 @@ impl Chains {
         Ok(Chains {
             heads: empty_lists(alloc, processes)?,
             nodes: Vec::new(alloc),
-            room: 0,
+            reserved: 0,
         })
     }
 
-    /// How many receipts there are.
+    /// Returns the number of receipts.
     pub(crate) fn len(&self) -> usize
         ensures { result ≡ length self.now.nodes }
     {
         self.nodes.len()
     }
 
-    /// Opens a chain for a message, where its number is the next one of its source.
+    /// Adds an empty chain for a message whose number is its source's next; any other message changes nothing.
     pub(crate) fn add_message(&mut self, message: MsgName) -> Result<(), NoMemory>
         requires { message.source.0 < length self.old.heads }
         ensures heads { OnOk result (self.new.heads ≡ with_message self.old.heads message) }
@@ -79,7 +80,7 @@ impl Chains {
         ensures spare { self.old.spare ≤ self.new.spare + 1 }
         ensures full { OnErr result (self.old.spare ≡ 0) }
     {
-        self.room = self.room.saturating_sub(1);
+        self.reserved = self.reserved.saturating_sub(1);
         let heads = &mut self.heads[message.source.0 as usize];
         if heads.len() != message.ssn as usize {
             return Ok(());
@@ -88,7 +89,7 @@ impl Chains {
         Ok(())
     }
 
-    /// Puts a receipt into the chain of its message.
+    /// Adds a receipt at the front of its message's chain.
     pub(crate) fn add_receipt(&mut self, message: MsgName, receipt: Receipt) -> Result<(), NoMemory>
         requires head { HasHead self.old.heads message }
         requires few { length self.old.nodes < max_entries }
@@ -100,7 +101,7 @@ impl Chains {
         ensures spare { self.old.spare ≤ self.new.spare + 1 }
         ensures full { OnErr result (self.old.spare ≡ 0) }
     {
-        self.room = self.room.saturating_sub(1);
+        self.reserved = self.reserved.saturating_sub(1);
         let place = self.nodes.len() as u32;
         let next = self.head(message);
         self.nodes.push(Node { receipt, next })?;
@@ -108,7 +109,8 @@ impl Chains {
         Ok(())
     }
 
-    /// Whether the process's newest receipt of the message is of this lane. Older ones are of older lanes.
+    /// Checks whether the process's newest receipt of the message belongs to this lane. Older receipts belong to
+    /// older lanes. O(lanes) time.
     pub(crate) fn is_newest_in(&self, message: MsgName, dest: Pid, lane: u32) -> bool
         requires { AreLinked self.now.heads self.now.nodes }
         ensures { result ≡ is_newest_in dest lane (chain_of self.now message) }
@@ -124,7 +126,7 @@ impl Chains {
         false
     }
 
-    /// The place of the newest receipt with this determinant among the first so many.
+    /// Returns the index of the newest receipt with this determinant among the first `among`. O(lanes) time.
     pub(crate) fn find(&self, det: Det, among: usize) -> Option<u32>
         requires { AreLinked self.now.heads self.now.nodes }
         ensures { result ≡ place_of among det self.now.nodes
@@ -133,10 +135,10 @@ impl Chains {
         self.find_from(self.head(det.message()), det, among)
     }
 
-    /// The same along a chain from a place on.
+    /// Searches as `find` does, from the node `begin` of a chain.
     pub(crate) fn find_from(&self, begin: Option<u32>, det: Det, among: usize) -> Option<u32>
         requires linked { AreLinked self.now.heads self.now.nodes }
-        requires begin { IsBelow begin (length self.now.nodes) }
+        requires begin { IsPlaceBelow begin (length self.now.nodes) }
         ensures { result ≡ place_of among det self.now.nodes begin }
     {
         let mut place = begin;
@@ -150,7 +152,7 @@ impl Chains {
         None
     }
 
-    /// The place of the newest receipt of the message.
+    /// Returns the index of the message's newest receipt.
     fn head(&self, message: MsgName) -> Option<u32>
         ensures { result ≡ head_of self.now.heads message }
     {
@@ -158,7 +160,8 @@ impl Chains {
         *heads.get(message.ssn as usize)?
     }
 
-    /// Makes the next `entries` messages and receipts sure of their memory.
+    /// Reserves capacity for the next `entries` messages and receipts; if it allocates, for at least 128 where memory
+    /// allows.
     pub(crate) fn reserve(&mut self, entries: usize) -> Result<(), NoMemory>
         ensures heads { self.new.heads ≡ self.old.heads }
         ensures nodes { self.new.nodes ≡ self.old.nodes }
@@ -166,16 +169,16 @@ impl Chains {
         ensures spare { self.old.spare ≤ self.new.spare }
         ensures full { OnErr result (self.old.spare < entries) }
     {
-        if entries <= self.room {
+        if entries <= self.reserved {
             return Ok(());
         }
-        if self.reserve_now(entries.max(AT_ONCE)).is_err() {
+        if self.reserve_now(entries.max(RESERVE_STEP)).is_err() {
             self.reserve_now(entries)?;
         }
         Ok(())
     }
 
-    /// The same, in each list of heads.
+    /// Reserves capacity for exactly `entries` more in each list of heads and in the nodes.
     fn reserve_now(&mut self, entries: usize) -> Result<(), NoMemory>
         ensures heads { self.new.heads ≡ self.old.heads }
         ensures nodes { self.new.nodes ≡ self.old.nodes }
@@ -185,33 +188,33 @@ impl Chains {
     {
         reserve_each(self.heads.as_mut_slice(), entries)?;
         self.nodes.reserve(entries)?;
-        self.room = entries;
+        self.reserved = entries;
         Ok(())
     }
 
-    /// Equal chains.
+    /// Returns a copy.
     pub(crate) fn try_clone(&self) -> Result<Chains, NoMemory>
         ensures heads { IfOk result (λ copy. copy.heads ≡ self.now.heads) }
         ensures nodes { IfOk result (λ copy. copy.nodes ≡ self.now.nodes) }
     {
-        let heads = copied_lists(self.heads.as_slice(), *self.heads.allocator())?;
+        let heads = clone_lists(self.heads.as_slice(), *self.heads.allocator())?;
         let nodes = self.nodes.clone()?;
         Ok(Chains {
             heads,
             nodes,
-            room: 0,
+            reserved: 0,
         })
     }
 }
 
-/// Whether a receipt of a determinant's message, at a place, is one of the first so many, and of a delivery with it.
+/// Checks whether a receipt of the determinant's message is a delivery with it, and its index is below `among`.
 fn is_of_first(among: usize, det: Det, place: u32, receipt: Receipt) -> bool
     ensures { result ≡ (nat_lt place among && is_of det receipt) }
 {
     (place as usize) < among && receipt.dest == det.dest && receipt.rsn == det.rsn
 }
 
-/// So many empty lists.
+/// Returns `count` empty lists.
 fn empty_lists(alloc: Global, count: usize) -> Result<Vec<Vec<Option<u32>>>, NoMemory>
     ensures { IfOk result (λ lists. map (λ list. list.items) lists.items ≡ replicate count []) }
 {
@@ -222,7 +225,7 @@ fn empty_lists(alloc: Global, count: usize) -> Result<Vec<Vec<Option<u32>>>, NoM
     Ok(lists)
 }
 
-/// Makes room for so many more in each list.
+/// Reserves capacity for this many more items in each list.
 fn reserve_each(lists: &mut [Vec<Option<u32>>], room: usize) -> Result<(), NoMemory>
     ensures items { map (λ list. list.items) lists.new ≡ map (λ list. list.items) lists.old }
     ensures ok { OnOk result ((other : ℕ) → room ≤ other → room ≤ least_room lists.new other) }
@@ -235,23 +238,20 @@ fn reserve_each(lists: &mut [Vec<Option<u32>>], room: usize) -> Result<(), NoMem
     Ok(())
 }
 
-/// Equal lists.
-fn copied_lists(
-    lists: &[Vec<Option<u32>>],
-    alloc: Global,
-) -> Result<Vec<Vec<Option<u32>>>, NoMemory>
+/// Returns a copy of each list.
+fn clone_lists(lists: &[Vec<Option<u32>>], alloc: Global) -> Result<Vec<Vec<Option<u32>>>, NoMemory>
     ensures { IfOk result (λ copy. map (λ list. list.items) copy.items ≡ map
         (λ list. list.items) lists.now) }
 {
     let mut copied = Vec::new(alloc);
     for list in lists {
-        copied.push(copied_list(list)?)?;
+        copied.push(clone_list(list)?)?;
     }
     Ok(copied)
 }
 
-/// An equal list.
-fn copied_list(list: &Vec<Option<u32>>) -> Result<Vec<Option<u32>>, NoMemory>
+/// Returns a copy of a list.
+fn clone_list(list: &Vec<Option<u32>>) -> Result<Vec<Option<u32>>, NoMemory>
     ensures { IfOk result (λ copy. copy.items ≡ list.now.items) }
 {
     Ok(list.clone()?)

@@ -1,4 +1,4 @@
-//! What a trace is made of.
+//! Entries of a trace, and lists of determinants.
 ghost use Rattle.std.specs.Prelude.{◌≡◌, ◌∷◌, [], length};
 ghost use Rattle.causal_name.specs.Names.{is_ascending};
 
@@ -8,14 +8,14 @@ use std::alloc::AllocError;
 use std::marker::Model;
 use std::slice;
 
-/// A list of determinants, in the order in which an entry has them. A single one takes no memory of its own.
+/// A list of determinants, in the order of the entry that lists them. A list of one allocates nothing.
 #[derive(Drop)]
 pub struct Dets {
-    listed: Listed,
+    listed: DetsRepr,
 }
 
 #[derive(Clone, Drop)]
-enum Listed {
+enum DetsRepr {
     One(Det),
     List(Vec<Det>),
 }
@@ -64,33 +64,33 @@ impl Eq for Dets {
 }
 
 impl Dets {
-    /// The list that a vector holds.
+    /// Returns the list that the vector contains.
     pub fn new(dets: Vec<Det>) -> Dets
         ensures { result ≡ dets.items }
     {
-        let listed = Listed::List(dets);
+        let listed = DetsRepr::List(dets);
         Dets { listed }
     }
 
-    /// The list of one determinant. It takes no memory.
+    /// Returns the list of one determinant. It allocates nothing.
     pub fn one(det: Det) -> Dets
         ensures { result ≡ det ∷ [] }
     {
-        let listed = Listed::One(det);
+        let listed = DetsRepr::One(det);
         Dets { listed }
     }
 
-    /// The determinants in their order.
+    /// Returns the determinants in order.
     pub fn as_slice(&self) -> &[Det]
         ensures { result.now ≡ self.now }
     {
         match &self.listed {
-            Listed::One(det) => slice::from_ref(det),
-            Listed::List(dets) => dets.as_slice(),
+            DetsRepr::One(det) => slice::from_ref(det),
+            DetsRepr::List(dets) => dets.as_slice(),
         }
     }
 
-    /// Whether each determinant comes before the next, by source, send number, receiver and place there.
+    /// Checks whether the list is strictly ascending, by source, ssn, dest and rsn. O(length) time.
     pub fn is_ascending(&self) -> bool
         ensures { result ≡ is_ascending self.now }
     {
@@ -98,37 +98,37 @@ impl Dets {
     }
 }
 
-/// What happened in one step of a run. Positions of entries, and sequence numbers within a lane, count from 0.
+/// One step of a run. Positions of entries, and sequence numbers within a lane (incarnation), count from 0.
 #[derive(Clone, Drop, PartialEq, Eq)]
 pub enum Entry {
-    /// `from` sends its lane's message number `ssn` to `to`, which may be down, or be the sender.
+    /// `from` sends its lane's message number `ssn` to `to`, which may be down, and may be the sender.
     Send {
         from: Pid,
         to: Pid,
         ssn: u32,
     },
-    /// `to` delivers the message of the send entry at the position `send`, as its lane's delivery number `rsn`, and puts
-    /// the listed determinants into its volatile log.
+    /// `to` delivers the message that the entry at position `send` sends. It is delivery number `rsn` of the
+    /// receiver's lane, and adds the listed determinants to the receiver's volatile log.
     Deliver {
         to: Pid,
         send: u32,
         rsn: u32,
         listed: Dets,
     },
-    /// The determinant is in stable storage from here on.
+    /// The determinant is in stable storage from this entry on.
     Stable {
         det: Det,
     },
-    /// `who` goes down, and its state and its volatile log are lost.
+    /// `who` crashes and loses its state and its volatile log.
     Crash {
         who: Pid,
     },
-    /// `who` comes up in a new lane, with the listed determinants in its volatile log.
+    /// `who` restarts in a new lane, with the listed determinants in its volatile log.
     Restart {
         who: Pid,
         listed: Dets,
     },
-    /// `who` takes the listed determinants out of its volatile log.
+    /// `who` removes the listed determinants from its volatile log.
     Forget {
         who: Pid,
         listed: Dets,
@@ -138,8 +138,8 @@ pub enum Entry {
 impl Entry {
     ghost use Rattle.causal_trace.specs.Past.{listed_by};
 
-    /// How many determinants it lists.
-    pub fn listed(&self) -> usize
+    /// Returns the number of determinants that the entry lists.
+    pub fn listed_count(&self) -> usize
         ensures { result ≡ length (listed_by self.now) }
     {
         match self {

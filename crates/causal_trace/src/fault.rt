@@ -1,17 +1,17 @@
-//! Why an entry, or a whole trace, is refused.
+//! Errors: why an entry, or the start of a trace, is refused.
 use crate::entry::Entry;
 use causal_name::NoMemory;
 use std::alloc::AllocFailed;
 use std::fmt;
 use thiserror::Error;
 
-/// What stands against an entry, or against a trace; where several do, the first in this order is told.
+/// Why an entry, or the start of a trace, is refused. If several variants apply, the first in this order is returned.
 #[derive(Clone, Copy, Debug, PartialEq, Eq, Error)]
 pub enum TraceFault {
     /// A trace has from 1 to 256 processes.
     Processes,
-    /// A trace has at most 65,536 entries, which list at most 1,048,576 determinants in all, unless its maker sets other
-    /// limits.
+    /// A trace has at most 65,536 entries, which list at most 1,048,576 determinants in all, unless the caller sets
+    /// other limits.
     TooLong,
     /// The entry names a process that the trace does not have.
     NoProcess,
@@ -21,7 +21,7 @@ pub enum TraceFault {
     NotDown,
     /// A trace has at most 192 restarts.
     Lanes,
-    /// A lane numbers its sends from 0, one by one.
+    /// A lane (incarnation) numbers its sends from 0, one by one.
     WrongSsn,
     /// A delivery names the position of an earlier send to its receiver.
     NoSend,
@@ -31,13 +31,13 @@ pub enum TraceFault {
     Doubled,
     /// Each listed determinant comes before the next.
     Unsorted,
-    /// Each determinant named is that of a delivery so far, or of the entry itself.
+    /// Each determinant that the entry mentions is that of an earlier delivery, or of the entry itself.
     NoDelivery,
-    /// Memory was asked for and refused.
+    /// An allocation failed.
     NoMemory,
 }
 
-// A derived `Display` of so many messages takes ten times as long to prove.
+// A derived `Display` of this many messages takes ten times as long to prove.
 impl fmt::Display for TraceFault {
     fn fmt<W: fmt::Write>(&self, f: &mut fmt::Formatter<W>) -> fmt::Result {
         f.write_str(self.sentence())
@@ -45,7 +45,7 @@ impl fmt::Display for TraceFault {
 }
 
 impl TraceFault {
-    /// What stands against it, for people.
+    /// Returns the error message.
     fn sentence(self) -> &'static str {
         match self {
             TraceFault::Processes => "the number of processes is not from 1 to 256",
@@ -65,11 +65,11 @@ impl TraceFault {
     }
 }
 
-/// An entry that a trace did not take.
+/// An entry that a trace refused.
 #[derive(Drop)]
 pub struct RefusedEntry {
     pub fault: TraceFault,
-    /// The entry as it was offered; None where memory was refused.
+    /// The entry as the caller passed it; None if an allocation failed.
     pub entry: Option<Entry>,
 }
 

@@ -1,18 +1,19 @@
-//! Laws over the definitions. Each function does nothing: what it ensures is the law.
-ghost use Rattle.causal_trace.specs.Sizes.{NumbersAreSmall, LimitsAreKept};
-ghost use Rattle.causal_trace.specs.Agree.{InstantsArePrefixes, InstantsStay, OneMoreInstant, InstantsKeepPlaces, DownIsLastTurn, LogIsLastListing, ReachesByPath};
-ghost use Rattle.causal_trace.specs.Agree.{SendsAreCounted, DeliveriesAreCounted, DeliveredAtPosition, StableAtPosition};
+//! Laws of the definitions. Each function computes nothing: its postcondition is the law.
+ghost use Rattle.causal_trace.specs.Sizes.{NumbersAreBounded, LimitsAreKept};
+ghost use Rattle.causal_trace.specs.Laws.{InstantsArePrefixes, InstantsPersist, OneMoreInstant, InstantsKeepPlaces, DownIsLastTransition, LogIsLastListing, ReachesByPath};
+ghost use Rattle.causal_trace.specs.Laws.{SendsAreCounted, DeliveriesAreCounted, DeliveredAtPosition, StableAtPosition};
 
-/// The definitions say what their words say: an instant is what the first entries make, and one more entry makes just
-/// one more instant; the last crash or restart decides who is down; a lane has sent and delivered as many messages as it
-/// has such entries; a determinant is delivered, or stable, where some entry delivers, or writes, it; a log has what the
-/// last listing in the present lane put there; and happened-before goes along lists of events, each of which directly precedes the next.
-pub fn words_agree()
+/// States other forms of the definitions. Instant t is the state after the first t entries, and one more entry adds
+/// exactly one instant. The last crash or restart decides whether a process is down. A lane's counts are the numbers
+/// of its send and delivery entries. A determinant is delivered, or stable, if and only if some entry delivers, or
+/// writes, it. A log contains what its lane's last listing put there. Happened-before is reachability by direct
+/// precedence.
+pub fn definitions_agree()
     ensures prefixes { InstantsArePrefixes }
-    ensures stay { InstantsStay }
+    ensures stay { InstantsPersist }
     ensures one_more { OneMoreInstant }
     ensures places { InstantsKeepPlaces }
-    ensures down { DownIsLastTurn }
+    ensures down { DownIsLastTransition }
     ensures sends { SendsAreCounted }
     ensures deliveries { DeliveriesAreCounted }
     ensures delivered { DeliveredAtPosition }
@@ -21,9 +22,9 @@ pub fn words_agree()
     ensures reaches { ReachesByPath }
 {}
 
-/// Every number of a well-formed trace is small, processes below their count and all others below the limit of entries,
-/// and its limits are kept.
-pub fn numbers_are_small()
-    ensures small { NumbersAreSmall }
+/// Bounds the numbers of a well-formed trace: process numbers are below the process count, all others below
+/// 16,777,216. Such a trace is within the limits of any trace.
+pub fn numbers_are_bounded()
+    ensures small { NumbersAreBounded }
     ensures limits { LimitsAreKept }
 {}

@@ -1,22 +1,22 @@
-//! Traces: recorded runs of processes that send, deliver, log, crash and restart. `Trace::push` adds an `Entry`, or tells
-//! by a `TraceFault` what stands against it.
+//! Traces: recorded runs of processes that send, deliver, log, crash and restart. `Trace::push` appends an `Entry`,
+//! or returns a `TraceFault` that names the first violated precondition.
 #![tactic(auto)]
 
-/// The deliveries of each message, found by chains.
+/// Chains of the deliveries of each message.
 mod chains;
-/// An entry; lists of determinants.
+/// Entries and lists of determinants.
 pub mod entry;
-/// What may stand against an entry.
+/// Errors of entries and traces.
 pub mod fault;
-/// What is remembered of each process.
+/// The present lane of each process.
 mod lanes;
-/// The definitions say what their words say; every number is small.
+/// Laws: other forms of the definitions, and bounds on all numbers.
 pub mod laws;
-/// How large a trace may be.
+/// The limits of a trace.
 pub mod limits;
-/// Readings of all entries, oldest first.
+/// Linear scans of the entries.
 mod scans;
-/// A trace: `push` and what is read of it.
+/// The trace, `push` and the queries.
 pub mod trace;
 
 pub use entry::{Dets, Entry};

@@ -1,4 +1,4 @@
-//! Plain readings of a run's entries, oldest first: each goes over the whole list, and says what a definition says.
+//! Linear scans of a run's entries, oldest first. Each computes the value of a definition.
 ghost use Rattle.std.specs.Prelude.{◌≡◌, ◌≤◌, false, length, slice_get};
 ghost use Rattle.std.specs.Option.{option_map, option_copied};
 ghost use Rattle.causal_name.specs.Names.{is_ascending};
@@ -8,7 +8,7 @@ ghost use Rattle.causal_trace.specs.State.{past_at};
 use crate::entry::Entry;
 use causal_name::{Det, MsgName, Pid};
 
-/// Whether the process is down after these entries.
+/// Checks whether the process is down after these entries.
 pub(crate) fn is_down(entries: &[Entry], p: Pid) -> bool
     ensures { result ≡ past.is_down (past_at entries.now (length entries.now)) p.0 }
 {
@@ -31,7 +31,7 @@ pub(crate) fn is_down(entries: &[Entry], p: Pid) -> bool
     down
 }
 
-/// The process's present lane.
+/// Returns the number of the process's present lane (incarnation).
 pub(crate) fn lane(entries: &[Entry], p: Pid) -> usize
     ensures value { result ≡ past.lane (past_at entries.now (length entries.now)) p.0 }
     ensures few { result ≤ length entries.now }
@@ -50,7 +50,7 @@ pub(crate) fn lane(entries: &[Entry], p: Pid) -> usize
     lane
 }
 
-/// Whether the process is down after the first t entries.
+/// Checks whether the process is down after the first t entries.
 pub(crate) fn is_down_at(entries: &[Entry], t: usize, p: Pid) -> bool
     requires { t ≤ length entries.now }
     ensures { result ≡ past.is_down (past_at entries.now t) p.0 }
@@ -58,7 +58,7 @@ pub(crate) fn is_down_at(entries: &[Entry], t: usize, p: Pid) -> bool
     is_down(&entries[..t], p)
 }
 
-/// The process's lane after the first t entries.
+/// Returns the number of the process's lane after the first t entries.
 pub(crate) fn lane_at(entries: &[Entry], t: usize, p: Pid) -> usize
     requires { t ≤ length entries.now }
     ensures value { result ≡ past.lane (past_at entries.now t) p.0 }
@@ -67,14 +67,14 @@ pub(crate) fn lane_at(entries: &[Entry], t: usize, p: Pid) -> usize
     lane(&entries[..t], p)
 }
 
-/// The entry at a position.
+/// Returns the entry at a position.
 pub(crate) fn entry(entries: &[Entry], i: u32) -> Option<&Entry>
     ensures { option_copied result ≡ slice_get entries.now i }
 {
     entries.get(i as usize)
 }
 
-/// The message that the entry at a position sends, if it is among the first t.
+/// Returns the message that the entry at a position sends, if it is among the first t entries.
 pub(crate) fn message_at(entries: &[Entry], t: usize, send: u32) -> Option<MsgName>
     requires { t ≤ length entries.now }
     ensures { result ≡ past.message_at (past_at entries.now t) send }
@@ -91,14 +91,14 @@ pub(crate) fn message_at(entries: &[Entry], t: usize, send: u32) -> Option<MsgNa
     }
 }
 
-/// The message that the entry at a position sends.
+/// Returns the message that the entry at a position sends.
 pub(crate) fn message_sent_at(entries: &[Entry], send: u32) -> Option<MsgName>
     ensures { result ≡ past.message_at (past_at entries.now (length entries.now)) send }
 {
     message_at(entries, entries.len(), send)
 }
 
-/// Whether the entry at a position is a send to the process.
+/// Checks whether the entry at a position is a send to the process.
 pub(crate) fn is_sent_to(entries: &[Entry], send: u32, p: Pid) -> bool
     ensures { result ≡ past.is_sent_to (past_at entries.now (length entries.now)) send p.0 }
 {
@@ -111,7 +111,7 @@ pub(crate) fn is_sent_to(entries: &[Entry], send: u32, p: Pid) -> bool
     }
 }
 
-/// The determinant of the delivery of a message.
+/// Returns the determinant of the delivery of a message.
 pub(crate) fn det_from(to: Pid, rsn: u32, message: Option<MsgName>) -> Option<Det>
     ensures { result ≡ option_map (past.det_from to rsn) message }
 {
@@ -126,7 +126,7 @@ pub(crate) fn det_from(to: Pid, rsn: u32, message: Option<MsgName>) -> Option<De
     }
 }
 
-/// The determinant of an entry that is a delivery, where the first t entries stand before it.
+/// Returns the determinant of a delivery entry that follows the first t entries.
 pub(crate) fn det_of(entries: &[Entry], t: usize, e: &Entry) -> Option<Det>
     requires { t ≤ length entries.now }
     ensures { result ≡ past.det_of (past_at entries.now t) e.now }
@@ -137,14 +137,14 @@ pub(crate) fn det_of(entries: &[Entry], t: usize, e: &Entry) -> Option<Det>
     }
 }
 
-/// The determinant of an entry that is a delivery and comes next.
+/// Returns the determinant of a delivery entry that follows all these entries.
 pub(crate) fn det_of_next(entries: &[Entry], e: &Entry) -> Option<Det>
     ensures { result ≡ past.det_of (past_at entries.now (length entries.now)) e.now }
 {
     det_of(entries, entries.len(), e)
 }
 
-/// Whether an optional determinant is this one.
+/// Checks whether an optional determinant is `d`.
 pub(crate) fn is_det(own: Option<Det>, d: Det) -> bool
     ensures { result ≡ past.is_det own d }
 {
@@ -154,7 +154,7 @@ pub(crate) fn is_det(own: Option<Det>, d: Det) -> bool
     }
 }
 
-/// The determinant of the delivery at a position.
+/// Returns the determinant of the delivery at a position.
 pub(crate) fn det_at(entries: &[Entry], k: u32) -> Option<Det>
     ensures { result ≡ past.det_at (past_at entries.now (length entries.now)) k }
 {
@@ -164,7 +164,7 @@ pub(crate) fn det_at(entries: &[Entry], k: u32) -> Option<Det>
     det_of(entries, k as usize, &entries[k as usize])
 }
 
-/// Whether each determinant comes before the next.
+/// Checks whether the list is strictly ascending.
 pub(crate) fn is_ascending(dets: &[Det]) -> bool
     ensures { result ≡ is_ascending dets.now }
 {

@@ -1,4 +1,4 @@
-//! A recorded run that is well formed.
+//! The trace: a well-formed recorded run.
 ghost use Rattle.std.specs.Prelude.{◌≡◌, ◌≤◌, ◌+◌, [], ◌∷◌, ◌<◌, false, not, Some, None, IfSome, IfOk, IfErr, OnOk, OnErr, length};
 ghost use Rattle.std.specs.Option.{option_copied, option_map_or};
 ghost use Rattle.causal_name.specs.Names.{is_ascending, message_of};
@@ -9,30 +9,30 @@ ghost use Rattle.causal_trace.specs.Inside.Chains.{HasHead, heads_after, nodes_a
 use crate::chains::{Chains, Receipt};
 use crate::entry::{Dets, Entry};
 use crate::fault::{RefusedEntry, TraceFault};
-use crate::lanes::{Lane, copied_entries, copied_lanes, fresh_lanes, note_lane, restarts_in};
+use crate::lanes::{LaneState, clone_entries, clone_lanes, count_entry, new_lanes, restarts_in};
 use crate::limits::{DEFAULT_LIMITS, Limits, MAX_ENTRIES, MAX_LISTED, MAX_PROCESSES, MAX_RESTARTS};
 use crate::scans;
 use causal_name::{Det, MsgName, NoMemory, Pid};
 use std::alloc::Global;
 use std::marker::Model;
 
-/// A trace: a recorded run of 1 to 256 processes, each of whose entries may stand where it stands. It keeps the limits of
-/// any trace, 16,777,216 entries, 268,435,456 listed determinants and 192 restarts. `push` keeps the usual limits, which are
-/// less; `push_within` those that its caller names.
+/// A trace: a well-formed recorded run of 1 to 256 processes. Every trace is within 16,777,216 entries, 268,435,456
+/// listed determinants and 192 restarts. `push` applies the smaller default limits, `push_within` those of its
+/// caller.
 ///
-/// It is seen as its recording, and as the numbers of pushes that are sure of their memory, of any entries and of stable
-/// ones, of which equality does not speak.
+/// Contracts see its recording, and how many further pushes cannot fail to allocate: of any entries, and of stable
+/// entries. Equality compares the recordings only.
 ///
-/// Beside the entries it remembers each process's present lane, and of each message by whom and in which lanes it was
-/// delivered. So a push takes constant time, and for each determinant that the entry names, and for the message that it
-/// delivers, at most one step for each lane that there is: no input makes it longer.
+/// Besides the entries it stores each process's present lane (incarnation), and the receivers and lanes of each
+/// message's deliveries. So a push takes O(1) time, plus O(lanes) for the message that it delivers and for each
+/// determinant that it mentions. No input makes it slower.
 #[derive(Drop)]
 pub struct Trace {
     processes: u16,
     entries: Vec<Entry>,
     listed: u32,
     restarts: u32,
-    lanes: Vec<Lane>,
+    lanes: Vec<LaneState>,
     chains: Chains,
 }
 
@@ -70,18 +70,18 @@ impl Trace {
     ghost use Rattle.causal_name.specs.declared.Det.{Det};
     ghost use Rattle.causal_trace.specs.Past.{lane, entry_at, listed_in, restarts, deliveries_in, det_at, is_delivered, has_delivered};
     ghost use Rattle.causal_trace.specs.Numbers.{delivered_dets, number_of};
-    ghost use Rattle.causal_trace.specs.Rows.{fault_by_rows, fault_within, fault_next, refusal_within, refusal_next, IsRefusedBeginning, passes, passes_limit, are_delivered_with, first_holding, IsWellFormed};
+    ghost use Rattle.causal_trace.specs.Rows.{fault_by_refusal_rows, fault_within, fault_next, refusal_within, refusal_next, IsNewRefusal, exceeds, exceeds_any_limit, are_delivered_with, first_refusal, IsWellFormed};
     ghost use Rattle.causal_trace.specs.Inside.Index.{lane_of};
     ghost use Rattle.causal_trace.specs.State.{entries_of, with_entry, is_up_at, lane_at};
 
-    /// A trace of n processes with no entries.
+    /// Returns a trace of n processes with no entries.
     ///
     /// # Errors
-    /// `Processes` where n is not from 1 to 256, else `NoMemory` where memory was refused.
+    /// `Processes` if n is not from 1 to 256, otherwise `NoMemory` if an allocation failed.
     pub fn new(alloc: Global, n: u16) -> Result<Trace, TraceFault>
         ensures ok { IfOk result (λ trace. IsProcessCount n ×
             (trace.recording ≡ record { processes = n; past = [] })) }
-        ensures refused { IfErr result (IsRefusedBeginning n) }
+        ensures refused { IfErr result (IsNewRefusal n) }
     {
         if n == 0 || n > MAX_PROCESSES {
             return Err(TraceFault::Processes);
@@ -91,22 +91,22 @@ impl Trace {
             entries: Vec::new(alloc),
             listed: 0,
             restarts: 0,
-            lanes: fresh_lanes(alloc, n as usize)?,
+            lanes: new_lanes(alloc, n as usize)?,
             chains: Chains::new(alloc, n as usize)?,
         })
     }
 
-    /// Adds the entry at the end, if nothing stands against it and the trace keeps the usual limits with it: 65,536 entries
-    /// and 1,048,576 listed determinants. On a refusal the entry is dropped and the trace is as it was.
+    /// Appends the entry if it is legal and the trace stays within the default limits: 65,536 entries and 1,048,576
+    /// listed determinants. On an error the entry is dropped and the trace is unchanged.
     ///
     /// # Errors
-    /// What stands against the entry, the first of `TraceFault`'s order that does; where nothing does, `NoMemory` where
-    /// a growth was refused.
+    /// The first variant of `TraceFault` that applies to the entry; `NoMemory` if none applies and an allocation
+    /// failed.
     pub fn push(&mut self, entry: Entry) -> Result<(), TraceFault>
         ensures legal { OnOk result (fault_next self.old.recording entry ≡ None) }
         ensures ok { OnOk result (self.new.recording ≡ with_entry self.old.recording entry) }
 
-        // What the first row that holds tells, or want of memory where none does.
+        // The first refusal row that holds, or `NoMemory` if none holds.
         ensures refused { IfErr result (λ fault. fault ≡ refusal_next self.old.recording entry) }
         ensures err { OnErr result (self.new.recording ≡ self.old.recording) }
 
@@ -116,10 +116,10 @@ impl Trace {
         self.push_within(DEFAULT_LIMITS, entry)
     }
 
-    /// Adds the entry at the end as `push` does, where the trace keeps these limits with it in place of the usual ones.
+    /// Appends the entry as `push` does, with the caller's limits in place of the default limits.
     ///
     /// # Errors
-    /// Those of `push`; `TooLong` where these limits would be passed.
+    /// Those of `push`; `TooLong` if the trace would exceed these limits.
     pub fn push_within(&mut self, limits: Limits, entry: Entry) -> Result<(), TraceFault>
         ensures legal { OnOk result (fault_within limits.entries self.old.recording entry ≡ None) }
         ensures ok { OnOk result (self.new.recording ≡ with_entry self.old.recording entry) }
@@ -129,22 +129,22 @@ impl Trace {
         ensures spare { self.old.spare ≤ self.new.spare + 1 }
         ensures memory { result ≡ Err TraceFault.NoMemory → self.old.spare ≡ 0 }
     {
-        match self.offer(limits, entry) {
+        match self.try_push(limits, entry) {
             Ok(()) => Ok(()),
             Err(refused) => Err(refused.fault),
         }
     }
 
-    /// Adds the entry at the end as `push_within` does. One against which something stands comes back with that.
+    /// Appends the entry as `push_within` does. The error contains a refused entry, unless an allocation failed.
     ///
     /// # Errors
     /// Those of `push_within`.
-    pub fn offer(&mut self, limits: Limits, entry: Entry) -> Result<(), RefusedEntry>
+    pub fn try_push(&mut self, limits: Limits, entry: Entry) -> Result<(), RefusedEntry>
         ensures legal { OnOk result (fault_within limits.entries self.old.recording entry ≡ None) }
         ensures ok { OnOk result (self.new.recording ≡ with_entry self.old.recording entry) }
         ensures refused { IfErr result (λ refused. refused.fault ≡
             refusal_within limits.entries self.old.recording entry) }
-        ensures back { IfErr result (λ refused. IfSome refused.entry (λ same. same ≡ entry)) }
+        ensures same_entry { IfErr result (λ refused. IfSome refused.entry (λ same. same ≡ entry)) }
         ensures err { OnErr result (self.new.recording ≡ self.old.recording) }
         ensures spare { self.old.spare ≤ self.new.spare + 1 }
         ensures memory { IfErr result (λ refused. refused.fault ≡ TraceFault.NoMemory →
@@ -165,9 +165,9 @@ impl Trace {
         }
     }
 
-    /// Adds an entry against which no row stands, where there is room for it: it takes no memory and refuses nothing.
+    /// Appends a legal entry in reserved capacity. It allocates nothing and cannot fail.
     pub fn push_reserved(&mut self, entry: Entry)
-        requires legal { fault_by_rows self.old.recording entry ≡ None }
+        requires legal { fault_by_refusal_rows self.old.recording entry ≡ None }
         requires room { 1 ≤ self.old.spare }
         ensures recording { self.new.recording ≡ with_entry self.old.recording entry }
         ensures formed { IsWellFormed self.new.recording }
@@ -176,9 +176,9 @@ impl Trace {
         let _ = self.append(entry);
     }
 
-    /// Adds an entry against which no row stands.
+    /// Appends a legal entry.
     fn append(&mut self, entry: Entry) -> Result<(), NoMemory>
-        requires { fault_by_rows self.old.recording entry ≡ None }
+        requires { fault_by_refusal_rows self.old.recording entry ≡ None }
         ensures ok { OnOk result (self.new.recording ≡ with_entry self.old.recording entry) }
         ensures err { OnErr result (self.new.recording ≡ self.old.recording) }
         ensures formed { IsWellFormed self.new.recording }
@@ -188,15 +188,15 @@ impl Trace {
         let own = scans::det_of_next(self.entries.as_slice(), &entry);
         let lane = self.receipt_lane(own);
         self.entries.reserve(1)?;
-        note(&mut self.chains, &entry, own, lane)?;
-        note_lane(self.lanes.as_mut_slice(), &entry);
+        add_to_chains(&mut self.chains, &entry, own, lane)?;
+        count_entry(self.lanes.as_mut_slice(), &entry);
         self.restarts += restarts_in(&entry);
-        self.listed += entry.listed() as u32;
+        self.listed += entry.listed_count() as u32;
         self.entries.push_reserved(entry);
         Ok(())
     }
 
-    /// The present lane of a determinant's receiver.
+    /// Returns the present lane of a determinant's receiver, 0 without a determinant.
     #[tactic(auto, unfolding(crate::specs::Inside::Index::lane_of))]
     fn receipt_lane(&self, own: Option<Det>) -> u32
         requires { IfSome own (λ d. d.dest.0 < self.now.recording.processes) }
@@ -208,11 +208,11 @@ impl Trace {
         }
     }
 
-    /// Makes the next `entries` pushes sure of their memory: none of them answers `NoMemory`. It takes room for so many
-    /// entries, deliveries and, for each process, sends.
+    /// Reserves capacity for the next `entries` pushes, so that none of them returns `NoMemory`. It reserves
+    /// `entries` entries and deliveries, and `entries` sends of each process.
     ///
     /// # Errors
-    /// `NoMemory` where a growth was refused; the trace is as it was.
+    /// `NoMemory` if an allocation failed; the recording is unchanged.
     pub fn reserve(&mut self, entries: u32) -> Result<(), NoMemory>
         ensures recording { self.new.recording ≡ self.old.recording }
         ensures ok { OnOk result (entries ≤ self.new.spare) }
@@ -225,9 +225,9 @@ impl Trace {
         Ok(())
     }
 
-    /// Adds a stable entry against which no row stands, where there is room for it: it takes no memory and refuses nothing.
+    /// Appends a legal stable entry in reserved capacity. It allocates nothing and cannot fail.
     pub fn push_stable_reserved(&mut self, det: Det)
-        requires legal { fault_by_rows self.old.recording (Entry.Stable det) ≡ None }
+        requires legal { fault_by_refusal_rows self.old.recording (Entry.Stable det) ≡ None }
         requires room { 1 ≤ self.old.stable_spare }
         ensures recording { self.new.recording ≡ with_entry self.old.recording (Entry.Stable det) }
         ensures formed { IsWellFormed self.new.recording }
@@ -236,11 +236,11 @@ impl Trace {
         self.entries.push_reserved(Entry::Stable { det });
     }
 
-    /// Makes the next `entries` pushes of stable entries sure of their memory. It takes room for so many entries alone, since
-    /// such an entry sends and delivers nothing.
+    /// Reserves capacity for the next `entries` pushes of stable entries. It reserves entries only, since a stable
+    /// entry sends and delivers nothing.
     ///
     /// # Errors
-    /// `NoMemory` where a growth was refused; the trace is as it was.
+    /// `NoMemory` if an allocation failed; the recording is unchanged.
     pub fn reserve_stable(&mut self, entries: u32) -> Result<(), NoMemory>
         ensures recording { self.new.recording ≡ self.old.recording }
         ensures ok { OnOk result (entries ≤ self.new.stable_spare) }
@@ -250,7 +250,7 @@ impl Trace {
         Ok(())
     }
 
-    /// How many entries there are. A trace is well formed.
+    /// Returns the number of entries. The trace is well formed.
     pub fn len(&self) -> u32
         ensures length { result ≡ length self.now.recording.past }
         ensures formed { IsWellFormed self.now.recording }
@@ -260,7 +260,7 @@ impl Trace {
         self.entries.len() as u32
     }
 
-    /// How many processes it has, 1 to 256; they are numbered from 0. A trace is well formed.
+    /// Returns the number of processes, 1 to 256; they are numbered from 0. The trace is well formed.
     pub fn processes(&self) -> u16
         ensures value { result ≡ self.now.recording.processes }
         ensures formed { IsWellFormed self.now.recording }
@@ -269,7 +269,7 @@ impl Trace {
         self.processes
     }
 
-    /// How many determinants the entries list in all.
+    /// Returns how many determinants the entries list in all.
     pub fn listed(&self) -> u32
         ensures value { result ≡ listed_in self.now.recording.past }
         ensures few { result ≤ max_listed }
@@ -277,7 +277,7 @@ impl Trace {
         self.listed
     }
 
-    /// How many restarts there are, 0 to 192.
+    /// Returns the number of restarts, 0 to 192.
     pub fn restarts(&self) -> u32
         ensures value { result ≡ restarts self.now.recording.past }
         ensures few { result ≤ max_restarts }
@@ -285,7 +285,7 @@ impl Trace {
         self.restarts
     }
 
-    /// The entries in the order in which they came. A trace is well formed.
+    /// Returns the entries, oldest first. The trace is well formed.
     pub fn entries(&self) -> &[Entry]
         ensures value { result.now ≡ entries_of self.now.recording }
         ensures formed { IsWellFormed self.now.recording }
@@ -294,29 +294,29 @@ impl Trace {
         self.entries.as_slice()
     }
 
-    /// The entry at a position; None from the trace's length on.
+    /// Returns the entry at position i; None if i is not below the length.
     pub fn entry(&self, i: u32) -> Option<&Entry>
         ensures { option_copied result ≡ entry_at self.now.recording.past i }
     {
         scans::entry(self.entries.as_slice(), i)
     }
 
-    /// The determinant of the delivery at a position; None where there is no delivery.
+    /// Returns the determinant of the delivery at position i; None if that entry is not a delivery.
     pub fn det_at(&self, i: u32) -> Option<Det>
         ensures { result ≡ det_at self.now.recording.past i }
     {
         scans::det_at(self.entries.as_slice(), i)
     }
 
-    /// How many deliveries there are.
+    /// Returns the number of deliveries.
     pub fn deliveries(&self) -> u32
         ensures { result ≡ deliveries_in self.now.recording.past }
     {
         self.chains.len() as u32
     }
 
-    /// Which of the trace's first `among` deliveries, counted from 0, is the newest with this determinant; None where none of
-    /// them has it. It takes at most one step for each lane that delivered the message.
+    /// Returns the number, counted from 0, of the newest delivery with this determinant among the first `among`
+    /// deliveries; None if there is none. O(lanes that delivered the message) time.
     pub fn delivery_of(&self, det: Det, among: usize) -> Option<u32>
         ensures value { result ≡ number_of among (delivered_dets self.now.recording.past) det }
         ensures among { IfSome result (λ i. i < among) }
@@ -325,9 +325,9 @@ impl Trace {
         self.chains.find(det, among)
     }
 
-    /// Which of the trace's deliveries before that of this number, which has this determinant, is the newest with it; None where
-    /// none of them has it. It goes on along the message's deliveries from that one: to ask for all with a determinant, each older
-    /// than the last, takes at most one step for each lane that delivered the message.
+    /// Returns the number of the newest delivery with this determinant before delivery `number`, which must have it
+    /// too; None if there is none. The search continues in the message's chain from that delivery. All calls for one
+    /// determinant, each with the last result, take O(lanes that delivered the message) time together.
     pub fn older_delivery(&self, det: Det, number: u32) -> Option<u32>
         requires { number_of (number + 1) (delivered_dets self.now.recording.past) det
             ≡ Some number }
@@ -337,8 +337,8 @@ impl Trace {
         self.chains.find_from(Some(number), det, number as usize)
     }
 
-    /// Whether the process is up after the first t entries; no number that is not below `processes` is. It reads these
-    /// entries: whoever asks at each instant goes over `entries` instead.
+    /// Checks whether process p is up after the first t entries; false if p is not below `processes`. O(t) time: a
+    /// caller that needs every instant iterates over `entries` instead.
     pub fn up(&self, t: u32, p: Pid) -> bool
         requires { t ≤ length self.now.recording.past }
         ensures { result ≡ is_up_at self.now.recording t p.0 }
@@ -346,8 +346,8 @@ impl Trace {
         (p.0 as u16) < self.processes && !scans::is_down_at(self.entries.as_slice(), t as usize, p)
     }
 
-    /// The process's lane after the first t entries: how many restarts it has made. None where it is not below
-    /// `processes`. It reads these entries: whoever asks at each instant goes over `entries` instead.
+    /// Returns the lane of process p after the first t entries, which is its number of restarts; None if p is not
+    /// below `processes`. O(t) time: a caller that needs every instant iterates over `entries` instead.
     pub fn lane(&self, t: u32, p: Pid) -> Option<u32>
         requires { t ≤ length self.now.recording.past }
         ensures { result ≡ lane_at self.now.recording t p.0 }
@@ -359,8 +359,8 @@ impl Trace {
         }
     }
 
-    /// Whether the process's present lane has delivered the message of that name; none that is not below `processes`
-    /// has. It reads none of the entries: it takes at most one step for each lane that delivered the message.
+    /// Checks whether the process's present lane has delivered the message; false if p is not below `processes`.
+    /// O(lanes that delivered the message) time; it reads no entry.
     pub fn has_delivered(&self, p: Pid, message: MsgName) -> bool
         ensures { result ≡ has_delivered self.now.recording.past p.0 message }
     {
@@ -371,15 +371,15 @@ impl Trace {
         self.chains.is_newest_in(message, p, lane)
     }
 
-    /// An equal trace.
+    /// Returns an equal trace.
     ///
     /// # Errors
-    /// `NoMemory` where memory was refused.
+    /// `NoMemory` if an allocation failed.
     pub fn try_clone(&self) -> Result<Trace, NoMemory>
         ensures { IfOk result (λ copy. copy.recording ≡ self.now.recording) }
     {
-        let entries = copied_entries(&self.entries)?;
-        let lanes = copied_lanes(&self.lanes)?;
+        let entries = clone_entries(&self.entries)?;
+        let lanes = clone_lanes(&self.lanes)?;
         let chains = self.chains.try_clone()?;
         Ok(Trace {
             processes: self.processes,
@@ -391,15 +391,15 @@ impl Trace {
         })
     }
 
-    /// The present lane of a process.
-    fn present_lane(&self, p: Pid) -> Lane
+    /// Returns the present lane of a process.
+    fn present_lane(&self, p: Pid) -> LaneState
         requires { p.0 < self.now.recording.processes }
         ensures { result ≡ lane_of self.now.recording.past p.0 }
     {
         self.lanes[p.0 as usize]
     }
 
-    /// The same of the message that there is, if there is one.
+    /// Checks whether the process's present lane has delivered an optional message; false without one.
     fn has_received(&self, p: Pid, message: Option<MsgName>) -> bool
         ensures { result ≡ option_map_or (has_delivered self.now.recording.past p.0) message false }
     {
@@ -409,14 +409,14 @@ impl Trace {
         }
     }
 
-    /// Whether the determinant is that of a delivery so far.
+    /// Checks whether a delivery has this determinant.
     fn is_delivered(&self, det: Det) -> bool
         ensures { result ≡ is_delivered self.now.recording.past det }
     {
         self.delivery_of(det, self.deliveries() as usize).is_some()
     }
 
-    /// Whether each determinant is that of a delivery so far, or of one more, if there is one.
+    /// Checks whether each determinant is that of a delivery, or `own`.
     fn are_delivered_with(&self, own: Option<Det>, dets: &[Det]) -> bool
         ensures { result ≡ are_delivered_with self.now.recording.past own dets.now }
     {
@@ -424,26 +424,26 @@ impl Trace {
             .all(|d| scans::is_det(own, *d) || self.is_delivered(*d))
     }
 
-    /// Whether one more entry that lists so many determinants would pass these limits.
-    pub fn passes(&self, limits: Limits, listed: usize) -> bool
-        ensures { result ≡ passes limits.entries self.now.recording.past listed }
+    /// Checks whether one more entry with this many listed determinants would exceed these limits. O(1) time.
+    pub fn exceeds(&self, limits: Limits, listed: usize) -> bool
+        ensures { result ≡ exceeds limits.entries self.now.recording.past listed }
     {
         let all = (listed as u64).saturating_add(u64::from(self.listed));
-        self.len() >= limits.entries || all > limits.listed()
+        self.len() >= limits.entries || all > limits.listed_limit()
     }
 
-    /// Whether it would pass a limit of any trace.
-    fn passes_limit(&self, listed: usize) -> bool
-        ensures { result ≡ passes_limit self.now.recording.past listed }
+    /// Checks whether one more entry with this many listed determinants would exceed a limit of any trace.
+    fn exceeds_any_limit(&self, listed: usize) -> bool
+        ensures { result ≡ exceeds_any_limit self.now.recording.past listed }
     {
         self.entries.len() >= MAX_ENTRIES || listed > MAX_LISTED - self.listed as usize
     }
 
-    #[tactic(auto, unfolding(crate::specs::Rows::rows))]
+    #[tactic(auto, unfolding(crate::specs::Rows::refusal_rows))]
     fn send_fault(&self, from: Pid, to: Pid, ssn: u32) -> Option<TraceFault>
-        ensures { result ≡ fault_by_rows self.now.recording (Entry.Send from to ssn) }
+        ensures { result ≡ fault_by_refusal_rows self.now.recording (Entry.Send from to ssn) }
     {
-        if self.passes_limit(0) {
+        if self.exceeds_any_limit(0) {
             return Some(TraceFault::TooLong);
         }
         if !((from.0 as u16) < self.processes && (to.0 as u16) < self.processes) {
@@ -459,11 +459,12 @@ impl Trace {
         None
     }
 
-    #[tactic(auto, unfolding(crate::specs::Rows::rows))]
+    #[tactic(auto, unfolding(crate::specs::Rows::refusal_rows))]
     fn deliver_fault(&self, to: Pid, send: u32, rsn: u32, listed: &Dets) -> Option<TraceFault>
-        ensures { result ≡ fault_by_rows self.now.recording (Entry.Deliver to send rsn listed.now) }
+        ensures { result ≡ fault_by_refusal_rows self.now.recording
+            (Entry.Deliver to send rsn listed.now) }
     {
-        if self.passes_limit(listed.as_slice().len()) {
+        if self.exceeds_any_limit(listed.as_slice().len()) {
             return Some(TraceFault::TooLong);
         }
         if (to.0 as u16) >= self.processes {
@@ -486,11 +487,11 @@ impl Trace {
         self.listed_fault(scans::det_from(to, rsn, message), listed)
     }
 
-    #[tactic(auto, unfolding(crate::specs::Rows::rows))]
+    #[tactic(auto, unfolding(crate::specs::Rows::refusal_rows))]
     fn stable_fault(&self, det: Det) -> Option<TraceFault>
-        ensures { result ≡ fault_by_rows self.now.recording (Entry.Stable det) }
+        ensures { result ≡ fault_by_refusal_rows self.now.recording (Entry.Stable det) }
     {
-        if self.passes_limit(0) {
+        if self.exceeds_any_limit(0) {
             return Some(TraceFault::TooLong);
         }
         if !self.is_delivered(det) {
@@ -499,11 +500,11 @@ impl Trace {
         None
     }
 
-    #[tactic(auto, unfolding(crate::specs::Rows::rows))]
+    #[tactic(auto, unfolding(crate::specs::Rows::refusal_rows))]
     fn crash_fault(&self, who: Pid) -> Option<TraceFault>
-        ensures { result ≡ fault_by_rows self.now.recording (Entry.Crash who) }
+        ensures { result ≡ fault_by_refusal_rows self.now.recording (Entry.Crash who) }
     {
-        if self.passes_limit(0) {
+        if self.exceeds_any_limit(0) {
             return Some(TraceFault::TooLong);
         }
         if (who.0 as u16) >= self.processes {
@@ -515,11 +516,11 @@ impl Trace {
         None
     }
 
-    #[tactic(auto, unfolding(crate::specs::Rows::rows))]
+    #[tactic(auto, unfolding(crate::specs::Rows::refusal_rows))]
     fn restart_fault(&self, who: Pid, listed: &Dets) -> Option<TraceFault>
-        ensures { result ≡ fault_by_rows self.now.recording (Entry.Restart who listed.now) }
+        ensures { result ≡ fault_by_refusal_rows self.now.recording (Entry.Restart who listed.now) }
     {
-        if self.passes_limit(listed.as_slice().len()) {
+        if self.exceeds_any_limit(listed.as_slice().len()) {
             return Some(TraceFault::TooLong);
         }
         if (who.0 as u16) >= self.processes {
@@ -534,11 +535,11 @@ impl Trace {
         self.listed_fault(None, listed)
     }
 
-    #[tactic(auto, unfolding(crate::specs::Rows::rows))]
+    #[tactic(auto, unfolding(crate::specs::Rows::refusal_rows))]
     fn forget_fault(&self, who: Pid, listed: &Dets) -> Option<TraceFault>
-        ensures { result ≡ fault_by_rows self.now.recording (Entry.Forget who listed.now) }
+        ensures { result ≡ fault_by_refusal_rows self.now.recording (Entry.Forget who listed.now) }
     {
-        if self.passes_limit(listed.as_slice().len()) {
+        if self.exceeds_any_limit(listed.as_slice().len()) {
             return Some(TraceFault::TooLong);
         }
         if (who.0 as u16) >= self.processes {
@@ -550,9 +551,10 @@ impl Trace {
         self.listed_fault(None, listed)
     }
 
-    /// What is told against the determinants that an entry lists, where nothing else is and this one is its own, if it has one.
+    /// Returns the error of the determinants that an entry lists, if its other preconditions hold. `own` is the
+    /// entry's own determinant.
     fn listed_fault(&self, own: Option<Det>, listed: &Dets) -> Option<TraceFault>
-        ensures { result ≡ first_holding ((not (is_ascending listed.now), TraceFault.Unsorted)
+        ensures { result ≡ first_refusal ((not (is_ascending listed.now), TraceFault.Unsorted)
             ∷ (not (are_delivered_with self.now.recording.past own listed.now), TraceFault.NoDelivery)
             ∷ []) }
     {
@@ -565,19 +567,19 @@ impl Trace {
         None
     }
 
-    /// What is first told against the entry in a trace with these limits.
+    /// Returns the first error of the entry under these limits.
     fn fault_within(&self, limits: Limits, entry: &Entry) -> Option<TraceFault>
         ensures { result ≡ fault_within limits.entries self.now.recording entry.now }
     {
-        if self.passes(limits, entry.listed()) {
+        if self.exceeds(limits, entry.listed_count()) {
             return Some(TraceFault::TooLong);
         }
         self.fault_of(entry)
     }
 
-    /// What is first told against the entry, by the rows.
+    /// Returns the first error of the entry, by the refusal rows.
     fn fault_of(&self, entry: &Entry) -> Option<TraceFault>
-        ensures { result ≡ fault_by_rows self.now.recording entry.now }
+        ensures { result ≡ fault_by_refusal_rows self.now.recording entry.now }
     {
         match entry {
             Entry::Send { from, to, ssn } => self.send_fault(*from, *to, *ssn),
@@ -595,8 +597,13 @@ impl Trace {
     }
 }
 
-/// Notes one more entry, whose own determinant is this one, delivered in this lane.
-fn note(chains: &mut Chains, entry: &Entry, own: Option<Det>, lane: u32) -> Result<(), NoMemory>
+/// Adds the entry's send or delivery to the chains. `own` is its own determinant, delivered in `lane`.
+fn add_to_chains(
+    chains: &mut Chains,
+    entry: &Entry,
+    own: Option<Det>,
+    lane: u32,
+) -> Result<(), NoMemory>
     requires sent { IfSome (message_sent entry.now) (λ m. m.source.0 < length chains.old.heads) }
     requires delivered { IfSome own (λ d. HasHead chains.old.heads (message_of d)) }
     requires few { length chains.old.nodes < max_entries }

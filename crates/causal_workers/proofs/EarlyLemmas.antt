@@ -1,31 +1,40 @@
--- What looks at a text find, as more of it comes.
-use Rattle.std.proofs.Common.{◌≡◌, ◌++◌, ◌⊎◌, inl, inr, ℕ, List, true, length, append_assoc, append-nil, sym, ap, subst, ◌∙◌, take, Option, Some, None, arith}
+-- The audits at the checkpoints of a text, as more of it is read.
+use Rattle.std.proofs.Common.{◌≡◌, ◌++◌, ◌⊎◌, inl, inr, ℕ, ◌≤◌, List, [], true, length, append_assoc, append-nil, sym, ap, subst, ◌∙◌, take, Option, Some, None, arith}
 use Rattle.std.specs.Prelude.{IfSome}
-use Rattle.std.specs.Io.KnownBytes.{Consumes, IsAtEnd}
+use Rattle.std.specs.Io.KnownBytes.{Consumes, Keeps, IsAtEnd}
+use Rattle.std.proofs.KnownBytes.{Consumes-kept, Consumes-nil, Consumes-trans}
 use Rattle.causal_trace.specs.Judgement.{IsSafeTrace}
 use Rattle.causal_trace.specs.Rows.{Recording}
-use Rattle.causal_line.specs.declared.before.Rejected.{Rejected}
-use Rattle.causal_text.specs.declared.kept.Unread.TheVariants as unread
-use Rattle.causal_text.specs.Begun.{BeginsWith, SaysSoFar, StopsAt}
+use Rattle.causal_line.specs.declared.text_refusal.TextRefusal.{TextRefusal}
+use Rattle.causal_text.specs.declared.context_reading.ReadError.TheVariants as read_error
+use Rattle.causal_text.specs.Prefixes.{HasPrefixSpelling, SpellsSoFar, IsRefusedAt}
 use Rattle.causal_line.specs.Lines.{IsComplete}
+use Rattle.causal_text.specs.PushReaders.{PushReaderState, HasReceived}
+use Rattle.causal_text.specs.Streams.{max_piece}
 use Rattle.causal_text.proofs.Lemmas.GoesOn.{texts_go_on}
 use Rattle.causal_audit.proofs.Lemmas.Beginnings.{beginnings_decide}
-use Rattle.causal_workers.specs.Early.{EarlyIsFinal, FindsNoBreach, IsBreachSoFar, IsEarly, TellsUnjudged, is_look}
-use Rattle.causal_workers.specs.declared.early.Unjudged.TheVariants.{Unread}
-use Rattle.causal_workers.specs.declared.judged.Judged.{Judged}
+use Rattle.causal_workers.specs.Streaming.{EarlyBreachIsFinal, HasNoEarlyBreach, IsBreachSoFar, IsEarlyBreach, ExplainsVerdictError, StopsOnceJudged, is_checkpoint_length}
+use Rattle.causal_workers.specs.declared.streaming.VerdictError.TheVariants.{Input}
+use Rattle.causal_workers.specs.declared.judgement.Judged.{Judged}
 
--- a look finds none behind one more line, if it finds none at its end
-pub none_more : (most : ℕ) (b line : List ℕ) (f : ℕ) → FindsNoBreach most b f
-    → ((r : Recording) → BeginsWith most (b ++ line) r → BeginsWith most b r ⊎ SaysSoFar most (b ++ line) r)
-    → ((r : Recording) → SaysSoFar most (b ++ line) r → is_look (length r.past) ≡ true → IsSafeTrace r f) → FindsNoBreach most (b ++ line) f
+-- after one more line all audits at checkpoints accept, if the one at its end does
+pub none_more : (most : ℕ) (b line : List ℕ) (f : ℕ) → HasNoEarlyBreach most b f
+    → ((r : Recording) → HasPrefixSpelling most (b ++ line) r → HasPrefixSpelling most b r ⊎ SpellsSoFar most (b ++ line) r)
+    → ((r : Recording) → SpellsSoFar most (b ++ line) r → is_checkpoint_length (length r.past) ≡ true → IsSafeTrace r f) → HasNoEarlyBreach most (b ++ line) f
 none_more most b line f none newly safe r x look = told (newly r x) where
-  told : BeginsWith most b r ⊎ SaysSoFar most (b ++ line) r → IsSafeTrace r f
+  told : HasPrefixSpelling most b r ⊎ SpellsSoFar most (b ++ line) r → IsSafeTrace r f
   told (inl y) = none r y look
   told (inr y) = safe r y look
 
--- the breach at the end of a line is early in each text that begins so
-pub early_in : (most : ℕ) (b done line after more : List ℕ) (f : ℕ) (judged : Judged) → FindsNoBreach most (b ++ done) f → IsComplete line → IsBreachSoFar most ((b ++ done) ++ line) f judged
-    → IsEarly most ((b ++ (done ++ (line ++ after))) ++ more) f judged
+-- after a part of a line no audit at a checkpoint is new
+pub part_read : (most f : ℕ) (b done part piece : List ℕ) (next : PushReaderState) → piece ≡ done ++ part → HasReceived most next ((b ++ done) ++ part) → HasNoEarlyBreach most (b ++ done) f
+    → ((r : Recording) → HasPrefixSpelling most ((b ++ done) ++ part) r → HasPrefixSpelling most (b ++ done) r) → HasReceived most next (b ++ piece) × HasNoEarlyBreach most (b ++ piece) f
+part_read most f b done part piece next whole received none same =
+    subst (λ (bytes : List ℕ). HasReceived most next bytes × HasNoEarlyBreach most bytes f) (append_assoc b done part ∙ ap (λ xs. b ++ xs) (sym whole)) (received, λ r x look. none r (same r x) look)
+
+-- the judgement at the end of a line is the first that does not accept, in each text with this prefix
+pub early_in : (most : ℕ) (b done line after more : List ℕ) (f : ℕ) (judged : Judged) → HasNoEarlyBreach most (b ++ done) f → IsComplete line → IsBreachSoFar most ((b ++ done) ++ line) f judged
+    → IsEarlyBreach most ((b ++ (done ++ (line ++ after))) ++ more) f judged
 early_in most b done line after more f judged none complete breach =
     grind (
       arith,
@@ -36,8 +45,8 @@ early_in most b done line after more f judged none complete breach =
       append_assoc (b ++ done) line (after ++ more),
     )
 
--- a breach that a look finds is a verdict on each whole run whose text begins so
-pub early_is_final : EarlyIsFinal
+-- a verdict at a checkpoint that does not accept is one on each whole run whose text has this prefix
+pub early_is_final : EarlyBreachIsFinal
 early_is_final most text f judged whole early spells =
     let b = early.breach in
     let on = texts_go_on most text whole b.recording spells (early.before ++ early.line, early.more, early.split, b.says) in
@@ -45,32 +54,46 @@ early_is_final most text f judged whole early spells =
 
 -- ---- the bytes of a source
 
--- what holds of all bytes that were read holds of the source's, where it has ended
+-- a property of all bytes read is one of the source's bytes, if the source ended
 pub at_end : (old mid new : Option (List ℕ)) (read buffer : List ℕ) (n : ℕ) (P : List ℕ → Type 0) → Consumes old mid read → Consumes mid new (take n buffer) → n ≡ 0 → IsAtEnd new → P read → IfSome old P
 at_end None mid new read buffer n P before last none end p = tt
 at_end (Some text) None new read buffer n P before last none end p = absurd before
 at_end (Some text) (Some rest) None read buffer n P before last none end p = absurd last
 at_end (Some text) (Some rest) (Some left) read buffer n P before last none end p = grind (arith, append-nil read)
 
--- what holds however the bytes go on holds of the source's
+-- a property of all continuations of the bytes read is one of the source's bytes
 pub going_on : (old mid new : Option (List ℕ)) (read piece : List ℕ) (P : List ℕ → Type 0) → Consumes old mid read → Consumes mid new piece → ((more : List ℕ) → P ((read ++ piece) ++ more)) → IfSome old P
 going_on None mid new read piece P before last p = tt
 going_on (Some text) None new read piece P before last p = absurd before
 going_on (Some text) (Some rest) None read piece P before last p = absurd last
 going_on (Some text) (Some rest) (Some left) read piece P before last p = grind (arith, append_assoc read piece left)
 
+-- no checkpoint of the bytes read finds a breach, and one more piece was consumed
+pub piece_judged : (most f : ℕ) (old mid new : Option (List ℕ)) (read piece : List ℕ) (prefix : PushReaderState) → Consumes old mid read → Consumes mid new piece → length piece ≤ max_piece → HasReceived most prefix read
+    → HasNoEarlyBreach most read f → StopsOnceJudged most f old new
+piece_judged most f old mid new read piece prefix p q few s none = record {
+  reading = record { before = read; piece = piece; consumed = Consumes-trans old mid new read piece p q; undecided = (prefix.pieces, s.1); one_piece = few };
+  none = none;
+}
+
+-- no checkpoint of the bytes read finds a breach, and no more were consumed
+pub failure_judged : (most f : ℕ) (old mid new : Option (List ℕ)) (read : List ℕ) (prefix : PushReaderState) → Consumes old mid read → Keeps mid new → HasReceived most prefix read
+    → HasNoEarlyBreach most read f → StopsOnceJudged most f old new
+failure_judged most f old mid new read prefix p q s none =
+    piece_judged most f old new new read [] prefix (Consumes-kept old mid new read p q) (Consumes-nil new) (omega arith) s none
+
 -- ---- one more part of a piece
 
--- what is left of a piece begins with its next line or part
+-- the rest of a piece begins with its next line or part
 pub piece_is : (piece done line left after : List ℕ) → piece ≡ done ++ left → left ≡ line ++ after → piece ≡ done ++ (line ++ after)
 piece_is piece done line left after whole split = whole ∙ ap (λ xs. done ++ xs) split
 
--- a part of the piece has the first fault
-pub stops_in : (most : ℕ) (b piece done part after : List ℕ) (f : ℕ) (rejected : Rejected) → piece ≡ done ++ (part ++ after) → FindsNoBreach most (b ++ done) f → StopsAt most (b ++ done) part rejected → (more : List ℕ)
-    → TellsUnjudged most ((b ++ piece) ++ more) f (Unread (unread.Text rejected))
+-- an error in a part of the piece is the error of each text that continues so, if all earlier audits accepted
+pub stops_in : (most : ℕ) (b piece done part after : List ℕ) (f : ℕ) (rejected : TextRefusal) → piece ≡ done ++ (part ++ after) → HasNoEarlyBreach most (b ++ done) f → IsRefusedAt most (b ++ done) part rejected → (more : List ℕ)
+    → ExplainsVerdictError most ((b ++ piece) ++ more) f (Input (read_error.Text rejected))
 stops_in most b piece done part after f rejected whole none stops more =
     let same : ((b ++ done) ++ part) ++ (after ++ more) ≡ (b ++ piece) ++ more =
     append_assoc (b ++ done) part (after ++ more) ∙ append_assoc b done (part ++ (after ++ more)) ∙ ap (λ xs. b ++ (done ++ xs)) (sym (append_assoc part after more))
     ∙ ap (λ xs. b ++ xs) (sym (append_assoc done (part ++ after) more)) ∙ sym (append_assoc b (done ++ (part ++ after)) more) ∙ ap (λ xs. (b ++ xs) ++ more) (sym whole) in
-    subst (λ (text : List ℕ). TellsUnjudged most text f (Unread (unread.Text rejected))) same
+    subst (λ (text : List ℕ). ExplainsVerdictError most text f (Input (read_error.Text rejected))) same
     (stops.rejection (after ++ more), λ other r x look. none r (stops.no_more other (after ++ more) r x) look)

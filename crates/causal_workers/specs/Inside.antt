@@ -1,4 +1,4 @@
--- What private functions keep; no public clause cites it.
-pub mod Heard
-pub mod Joined
+-- Invariants and contracts of private functions; no public clause cites them.
+pub mod PieceOutcomes
+pub mod JoinedNumbers
 pub mod Shares

@@ -1,4 +1,4 @@
 pub mod Inside
 pub mod Judgements
 pub mod Lines
-pub mod Early
+pub mod Streaming

@@ -1,11 +1,11 @@
-//! What each worker passes before it begins.
+//! The gate that each worker passes before it begins.
 ghost use Rattle.std.specs.Prelude.{⊤, ℕ};
 
-/// What each worker passes, once, before the first delivery of its part: it calls `enter` with its number. What the calling
-/// thread judges before there are workers passes no gate.
+/// A gate that each worker passes once, before the first delivery of its share: it calls `enter` with its number. The
+/// calling thread's work before the workers start passes no gate.
 ///
-/// `passed` is what a gate says of a worker that it let through; it may say nothing. Whatever it says holds of each worker that has
-/// judged its part: so none has done it without passing the gate by its own number.
+/// `passed` is a fact that the gate guarantees of each worker that passed; it may be trivial. It holds of each worker
+/// that has audited its share: so no worker has done so without passing the gate by its own number.
 pub trait Gate {
     ghost passed: { Self → ℕ → Type 0 };
 
@@ -14,7 +14,7 @@ pub trait Gate {
         ensures { passed self.now worker };
 }
 
-/// A gate that lets each worker begin at once.
+/// A gate that each worker passes at once.
 #[derive(Clone, Copy)]
 pub struct OpenGate;
 

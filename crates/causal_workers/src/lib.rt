@@ -1,27 +1,29 @@
 //! The audit of a recorded run, divided among workers.
 //!
-//! The calling thread prepares the run. The groups of deliveries that must be followed are divided into consecutive shares, one for
-//! each worker, and the workers' answers are joined, so the verdict is the same for every number of workers.
+//! The calling thread prepares the run. The groups of deliveries that must be followed are divided into consecutive
+//! shares, one for each worker. The earliest breach of all shares decides, so the verdict is the same for every number
+//! of workers.
 //!
-//! Begin at [`audit`] for a trace, or [`audit_text`] for its text; [`judge_until_breach`] ends as soon as it finds a breach. All take a [`Gate`], of which [`OpenGate`] lets all through.
-//! [`verdict_line`] prints what they answer.
+//! Begin at [`audit`] for a trace, or [`audit_text`] for its text; [`judge_stream`] returns as soon as an audit
+//! at a checkpoint does not accept. All take a [`Gate`]; [`OpenGate`] blocks no worker. [`verdict_line`] prints their
+//! results.
 #![tactic(auto)]
 
-/// The audit of a trace by workers.
-pub mod divided;
-/// The verdict on the text of a source as soon as a look at what was read finds a breach, without reading on.
-pub mod early;
-/// What each worker passes before it begins.
+/// The audit of a trace by several workers.
+pub mod parallel_audit;
+/// The verdict on a text while it is read.
+pub mod streaming;
+/// The gate that each worker passes before it begins.
 pub mod gate;
-/// From a text to the verdict on the trace that it spells.
-pub mod judged;
-/// How a verdict prints.
+/// The audit of a text or a trace, with the counts of the trace.
+pub mod judgement;
+/// The printed line of a verdict.
 pub mod line;
 /// The work of one worker.
 mod share;
 
-pub use divided::{AuditFault, audit};
-pub use early::{Known, Unjudged, judge_until_breach};
 pub use gate::{Gate, OpenGate};
-pub use judged::{AuditTextFault, Judged, audit_text, judge_trace};
+pub use judgement::{AuditTextFault, Judged, audit_text, judge_trace};
 pub use line::verdict_line;
+pub use parallel_audit::{AuditFault, audit};
+pub use streaming::{StreamVerdict, VerdictError, judge_stream};

@@ -1,22 +1,22 @@
-//! How a verdict prints.
+//! The printed line of a verdict.
 ghost use Rattle.std.specs.Prelude.{◌≡◌, IfOk, map};
 ghost use Rattle.std.specs.Fmt.{decimal};
 ghost use Rattle.std.specs.String.{string_bytes};
 ghost use Rattle.causal_holders.specs.Members.{ascending};
 ghost use Rattle.causal_workers.specs.Lines as lines;
-ghost use Rattle.causal_workers.specs.Inside.Joined.{JoinsNumbers};
+ghost use Rattle.causal_workers.specs.Inside.JoinedNumbers.{JoinsNumbers};
 
-use crate::judged::Judged;
+use crate::judgement::Judged;
 use causal_audit::Verdict;
 use causal_holders::Holders;
 use causal_name::NoMemory;
 use std::alloc::{AllocError, Global};
 
-/// The line that a verdict for f prints as, with a line feed: `accept f=0 entries=6 deliveries=3`,
-/// `exceeded f=1 instant=8 down=1,2` or `orphan f=1 instant=4 delivery=1 crash=1 orphan=2`.
+/// Returns the line of a verdict for f, with a line feed: `accept f=0 entries=6 deliveries=3`, `exceeded f=1 instant=8
+/// down=1,2` or `orphan f=1 instant=4 delivery=1 crash=1 orphan=2`.
 ///
 /// # Errors
-/// `NoMemory` where memory was refused.
+/// `NoMemory` if allocation fails.
 pub fn verdict_line(alloc: Global, f: u16, judged: &Judged) -> Result<Vec<u8>, NoMemory>
     ensures { IfOk result (λ line. line.items ≡ lines.verdict_line f judged.now) }
 {
@@ -68,16 +68,16 @@ fn orphan_line(
     )
 }
 
-/// The processes of a set, ascending and joined by commas; `-` where there is none.
+/// Returns the processes of a set, ascending and joined by commas; `-` for the empty set.
 fn set_text(alloc: Global, processes: Holders) -> Result<String, AllocError>
     ensures { IfOk result (λ text. string_bytes text ≡ lines.set_text processes) }
 {
     let numbers = decimals(alloc, processes)?;
-    joined(alloc, numbers.as_slice())
+    join_numbers(alloc, numbers.as_slice())
 }
 
-/// Numbers joined by commas; `-` where there is none.
-fn joined(alloc: Global, numbers: &[String]) -> Result<String, AllocError>
+/// Returns numbers joined by commas; `-` if there is none.
+fn join_numbers(alloc: Global, numbers: &[String]) -> Result<String, AllocError>
     ensures { IfOk result
         (λ line. JoinsNumbers (map string_bytes numbers.now) (string_bytes line)) }
 {
@@ -88,7 +88,7 @@ fn joined(alloc: Global, numbers: &[String]) -> Result<String, AllocError>
     }
 }
 
-/// The numbers of the processes of a set, ascending.
+/// Returns the numbers of the processes of a set in decimal, ascending.
 fn decimals(alloc: Global, processes: Holders) -> Result<Vec<String>, AllocError>
     ensures { IfOk result (λ numbers. map string_bytes numbers.items ≡
         map decimal (ascending processes)) }

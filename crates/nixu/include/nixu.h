@@ -1,20 +1,25 @@
 /* nixu 1: the audit of recorded runs, inside a program.
 
-   Link libnixu.a (`rt lib` in crates/nixu), and with it the heap of the toolchain, or three functions of your own in its
-   place (docs/LIBRARY.md).
+   Link libnixu.a (`rt lib` in crates/nixu) and the toolchain's heap, or three functions of your own instead of it
+   (docs/LIBRARY.md).
 
-   For every call:
-   - The bytes at a pointer are `length` or `room` many, and stay as they are while the call runs. What is written overlaps
-     nothing else that the call is given. Such a pointer may be null where its length is 0: a text of no bytes is one that
-     has a fault, and a room of no bytes takes none. No other pointer may be null.
-   - No pointer is kept. Nothing is printed, no signal is raised, no thread is started or waited for, and there is no state
-     but what the caller holds. Calls may run in any number of threads; a reader or a trace stays on the thread that opened it.
-   - Memory is asked for by malloc and realloc, and given back before the call returns, but for what a handle holds.
-   - It must not be called in a signal handler, nor in the forked child of a process with threads.
-   - The answer is one of the statuses. What a status does not say to be written is as it was before the call.
+   Rules for every call:
+   - A pointer points to `length`, `count` or `room` elements; no other thread may change them meanwhile. Memory that
+     the call writes overlaps none of its other arguments. If the length is 0, the pointer may be null; an empty text is
+     invalid, and an empty buffer receives no bytes. No other pointer may be null.
+   - Each pointer is aligned for its type, as C aligns it: to 8 bytes for nixu_reader, nixu_trace and size_t, to 4 for
+     nixu_verdict, nixu_entry, nixu_determinant and uint32_t, to 2 for uint16_t.
+   - The library keeps no pointer and has no static state. It does not print, raise signals, start threads or wait.
+     Calls may run in several threads at once, but only one at a time may use a reader or a trace; threads that use one
+     in turn synchronize, as for any memory.
+   - A call needs at most NIXU_STACK bytes of stack, most of them for JSON values within JSON values. This is measured,
+     not proved.
+   - Memory comes from malloc and realloc. Each call frees it before it returns, except what an open handle owns.
+   - Do not call it in a signal handler, or in the forked child of a process with several threads.
+   - A call returns one of the statuses. Memory that a status is not documented to write is unchanged.
 
-   Where bytes are given, as much of them as there is room for is written to `out`, and their whole number to `needed`, as
-   snprintf does; no null byte is added. They have all been written where `needed` is at most `room`.                     */
+   A call that writes bytes writes as many as fit to `out`, and their total number to `needed`, as snprintf does. It
+   adds no null byte. All bytes are written if `needed` is at most `room`.                                            */
 #ifndef NIXU_H
 #define NIXU_H
 
@@ -27,95 +32,101 @@ extern "C" {
 
 #define NIXU_VERSION 1
 
-/* The version of the library that is linked. Layouts and numbers are those of this header where it is NIXU_VERSION. */
+/* The bytes of stack that a thread needs for a call, beyond what it uses itself. */
+#define NIXU_STACK 524288
+
+/* Returns the version of the linked library. If it is NIXU_VERSION, layouts and numbers are those of this header. */
 uint32_t nixu_version(void);
 
 /* ---- statuses ---- */
 
-#define NIXU_OK        0 /* done */
-#define NIXU_FAULT     1 /* the first fault of the text is told, or what first stands against the entry */
-#define NIXU_NO_MEMORY 2 /* memory was refused */
-#define NIXU_MISUSED   3 /* the call says itself when */
-#define NIXU_CLOSED    4 /* no reader, or no trace, is open there, and nothing was done */
+#define NIXU_OK        0 /* success */
+#define NIXU_FAULT     1 /* the text or the entry is invalid; its first error is written */
+#define NIXU_NO_MEMORY 2 /* allocation failed */
+#define NIXU_MISUSED   3 /* the arguments are invalid; each call lists the cases */
+#define NIXU_CLOSED    4 /* no reader, or no trace, is open; nothing was done */
 
-/* ---- how long a trace may be ---- */
+/* ---- the maximum number of entries of a trace ---- */
 
-#define NIXU_USUAL_ENTRIES 65536    /* where a call names no other number */
-#define NIXU_MOST_ENTRIES  16777216 /* the greatest number that a call may name */
+#define NIXU_USUAL_ENTRIES 65536    /* the default */
+#define NIXU_MOST_ENTRIES  16777216 /* the greatest number that a caller can choose */
 
 /* ---- the verdict on a text ---- */
 
 #define NIXU_ACCEPTED 0 /* every instant is safe */
 #define NIXU_EXCEEDED 1 /* more processes are down than `faults` */
 #define NIXU_ORPHAN   2 /* a delivery has an orphan */
-#define NIXU_FAULTY   3 /* the text spells no trace */
+#define NIXU_FAULTY   3 /* the text is invalid */
 
-/* A field that a kind does not name is 0. */
+/* A field that its kind does not use is 0. */
 typedef struct nixu_verdict {
   uint32_t kind;          /* one of the four above */
-  uint32_t entries;       /* of the trace; 0 where the text has a fault */
-  uint32_t deliveries;    /* how many of them are deliveries */
-  uint32_t instant;       /* exceeded, orphan: the first that is not safe, after so many entries */
-  uint32_t delivery;      /* orphan: the position of the first delivery that has one, from 0 */
-  uint32_t orphan;        /* orphan: the least process that is one */
-  uint32_t line;          /* faulty: the line, from 1 */
-  uint32_t fault;         /* faulty: its number, one of the faults below */
-  uint8_t processes[256]; /* exceeded: 1 for each process that is down; orphan: for each of the crash set; else 0 */
+  uint32_t entries;       /* the number of entries in the trace; 0 if the text is invalid */
+  uint32_t deliveries;    /* the number of deliveries among them */
+  uint32_t instant;       /* exceeded, orphan: the first instant that is not safe, as a number of entries */
+  uint32_t delivery;      /* orphan: the position of the first delivery that has an orphan then, from 0 */
+  uint32_t orphan;        /* orphan: the lowest process that is an orphan */
+  uint32_t line;          /* faulty: the line of the first error, from 1 */
+  uint32_t fault;         /* faulty: the number of the error, one of those below */
+  uint8_t processes[256]; /* exceeded: 1 for each down process; orphan: 1 for each of the crash set; otherwise 0 */
 } nixu_verdict;
 
-/* Tells the verdict on the trace that a text spells, with up to `faults` processes down at once, or the text's first
-   fault. A text has at most 33,554,432 bytes; a longer one has the fault NIXU_BIG.
+/* Writes the verdict on the trace that a text spells, for at most `faults` processes down at once; or the text's first
+   error. A text has at most 33,554,432 bytes; the error of a longer one is NIXU_BIG.
 
    NIXU_OK, NIXU_FAULT: `told` is written. NIXU_NO_MEMORY. */
 uint32_t nixu_audit(const uint8_t *text, size_t length, uint16_t faults, nixu_verdict *told);
 
-/* The same for several numbers of faults, of a text that is read once: told[i] is the verdict for faults[i]. Where the text
-   has a fault, each of them tells it.
+/* Audits a text for several bounds: `told[i]` is the verdict for `faults[i]`. The text is read once. If it is invalid,
+   each struct contains its first error.
 
    NIXU_OK, NIXU_FAULT: the first `count` of `told` are written. NIXU_MISUSED: `room` is less than `count`.
    NIXU_NO_MEMORY. */
 uint32_t nixu_audit_each(const uint8_t *text, size_t length, const uint16_t *faults, size_t count, nixu_verdict *told,
                          size_t room);
 
-/* ---- a reader that is fed, for a run that is judged while it is recorded ---- */
+/* ---- a reader of a text in pieces, to audit a run while it is recorded ---- */
 
-/* Zero it before its first use: `nixu_reader reader = {0};`. Its fields are the library's, and it is not copied. An open
-   one holds memory until it is finished or closed. */
+/* Zero it before its first use: `nixu_reader reader = {0};`. Its fields belong to the library. It may be moved to
+   another address between calls, if the bytes left behind are not used again; it may not be copied, since both would
+   own one reader. An open reader owns memory until it is finished or closed. */
 typedef struct nixu_reader {
   void *held;
   uint32_t full;
 } nixu_reader;
 
-/* Opens a reader that has read nothing.
+/* Opens a reader under the default limits; it has read nothing.
 
-   NIXU_OK. NIXU_MISUSED: one is open there. NIXU_NO_MEMORY. */
+   NIXU_OK. NIXU_MISUSED: it is already open. NIXU_NO_MEMORY. */
 uint32_t nixu_reader_open(nixu_reader *reader);
 
-/* The same, of a trace of up to `entries` entries, 1 to NIXU_MOST_ENTRIES: they list up to 16 determinants for each in all, and
-   the text has up to 512 bytes for each. nixu_reader_open lets a trace have NIXU_USUAL_ENTRIES.
+/* Opens a reader of a trace with at most `entries` entries, 1 to NIXU_MOST_ENTRIES. The trace may list 16 determinants
+   for each entry in all, and the text may have 512 bytes for each. nixu_reader_open allows NIXU_USUAL_ENTRIES.
 
-   NIXU_OK. NIXU_MISUSED: one is open there, or a trace may not have so many. NIXU_NO_MEMORY. */
+   NIXU_OK. NIXU_MISUSED: it is already open, or `entries` is out of range. NIXU_NO_MEMORY. */
 uint32_t nixu_reader_open_within(nixu_reader *reader, uint32_t entries);
 
-/* Reads one more piece of the text, of any length; an empty one changes nothing. The first fault is told as soon as a line
-   has one, however the text goes on.
+/* Reads one more piece of the text, of any length; an empty piece changes nothing. The first error is returned as soon
+   as a line has one, whatever follows.
 
-   NIXU_OK. NIXU_FAULT: `told` is written, and the reader is closed. NIXU_NO_MEMORY: the reader is closed. NIXU_CLOSED. */
+   NIXU_OK. NIXU_FAULT: `told` is written, and the reader is closed. NIXU_NO_MEMORY: the reader is closed.
+   NIXU_CLOSED. */
 uint32_t nixu_reader_feed(nixu_reader *reader, const uint8_t *piece, size_t length, nixu_verdict *told);
 
-/* Ends the text, and tells the verdicts for `count` numbers of faults, as nixu_audit_each does. The reader is closed but
+/* Ends the text and writes the verdicts for `count` bounds, as nixu_audit_each does. The reader is then closed, except
    after NIXU_MISUSED.
 
    NIXU_OK, NIXU_FAULT: the first `count` of `told` are written. NIXU_MISUSED: `room` is less than `count`.
    NIXU_NO_MEMORY. NIXU_CLOSED. */
 uint32_t nixu_reader_finish(nixu_reader *reader, const uint16_t *faults, size_t count, nixu_verdict *told, size_t room);
 
-/* Gives back what a reader holds. Where none is open, as in one that is zeroed or closed, it does nothing. */
+/* Closes a reader and frees its memory. Does nothing if it is zeroed or closed. */
 void nixu_reader_close(nixu_reader *reader);
 
 /* ---- entries without text, for a recorder in the same process ---- */
 
-/* Zero it before its first use, as a reader. An open one holds memory until it is closed. */
+/* Zero it before its first use, as a reader; it may be moved but not copied. An open trace owns memory until it is
+   closed. */
 typedef struct nixu_trace {
   void *held;
   uint32_t full;
@@ -130,13 +141,13 @@ typedef struct nixu_determinant {
 } nixu_determinant;
 
 #define NIXU_SEND    0 /* source, dest, ssn */
-#define NIXU_DELIVER 1 /* dest, send, rsn, and what it lists */
+#define NIXU_DELIVER 1 /* dest, send, rsn, and the listed determinants */
 #define NIXU_STABLE  2 /* source, ssn, dest, rsn: the determinant */
 #define NIXU_CRASH   3 /* who */
-#define NIXU_RESTART 4 /* who, and what it lists */
-#define NIXU_FORGET  5 /* who, and what it lists */
+#define NIXU_RESTART 4 /* who, and the listed determinants */
+#define NIXU_FORGET  5 /* who, and the listed determinants */
 
-/* An entry, but for the determinants that it lists. A field that its kind does not name is not read. */
+/* An entry without its listed determinants. A field that its kind does not use is not read. */
 typedef struct nixu_entry {
   uint32_t kind;  /* one of the six above */
   uint32_t ssn;   /* the send sequence number */
@@ -147,57 +158,58 @@ typedef struct nixu_entry {
   uint8_t who;    /* the process that crashes, restarts or forgets */
 } nixu_entry;
 
-/* Opens a trace of so many processes, 1 to 256, that has no entries.
+/* Opens an empty trace of `processes` processes, 1 to 256, under the default limits.
 
-   NIXU_OK. NIXU_MISUSED: one is open there, or a trace cannot have so many. NIXU_NO_MEMORY. */
+   NIXU_OK. NIXU_MISUSED: it is already open, or `processes` is out of range. NIXU_NO_MEMORY. */
 uint32_t nixu_trace_open(nixu_trace *trace, uint16_t processes);
 
-/* The same, of a trace of up to `entries` entries, 1 to NIXU_MOST_ENTRIES, which list up to 16 determinants for each in all.
-   nixu_trace_open lets a trace have NIXU_USUAL_ENTRIES.
+/* Opens an empty trace with at most `entries` entries, 1 to NIXU_MOST_ENTRIES. The trace may list 16 determinants for
+   each entry in all. nixu_trace_open allows NIXU_USUAL_ENTRIES.
 
-   NIXU_OK. NIXU_MISUSED: one is open there, or a trace cannot have so many processes, or may not have so many entries.
+   NIXU_OK. NIXU_MISUSED: it is already open, or `processes` or `entries` is out of range.
    NIXU_NO_MEMORY. */
 uint32_t nixu_trace_open_within(nixu_trace *trace, uint16_t processes, uint32_t entries);
 
-/* Adds an entry at the end, with the `count` determinants that it lists, in ascending order.
+/* Appends an entry with its `count` listed determinants, in ascending order.
 
-   NIXU_OK. NIXU_FAULT: `fault` is written, the number of what first stands against the entry, one of the faults from
-   NIXU_TOO_LONG to NIXU_NO_DELIVERY below. NIXU_MISUSED: there is no such kind, or it lists none and `count` is not 0.
+   NIXU_OK. NIXU_FAULT: `fault` is the number of the entry's first error, one of those from NIXU_TOO_LONG to
+   NIXU_NO_DELIVERY below. NIXU_MISUSED: the kind is unknown, or it lists no determinants and `count` is not 0.
    NIXU_NO_MEMORY. NIXU_CLOSED. */
 uint32_t nixu_trace_push(nixu_trace *trace, const nixu_entry *entry, const nixu_determinant *listed, size_t count,
                          uint32_t *fault);
 
-/* Tells the verdict on the entries so far, with up to `faults` processes down at once. The trace stays open.
+/* Writes the verdict on the entries so far, for at most `faults` processes down at once. The trace stays open.
 
    NIXU_OK: `told` is written. NIXU_NO_MEMORY. NIXU_CLOSED. */
 uint32_t nixu_trace_audit(nixu_trace *trace, uint16_t faults, nixu_verdict *told);
 
-/* The text of the trace so far, which the calls above read. The trace stays open.
+/* Writes the canonical text of the trace so far, which the calls above can read. The trace stays open.
 
-   NIXU_OK: the bytes are given. NIXU_NO_MEMORY. NIXU_CLOSED. */
+   NIXU_OK: the bytes are written. NIXU_NO_MEMORY. NIXU_CLOSED. */
 uint32_t nixu_trace_text(nixu_trace *trace, uint8_t *out, size_t room, size_t *needed);
 
-/* Gives back what a trace holds. Where none is open, as in one that is zeroed or closed, it does nothing. */
+/* Closes a trace and frees its memory. Does nothing if it is zeroed or closed. */
 void nixu_trace_close(nixu_trace *trace);
 
-/* ---- what the program prints ---- */
+/* ---- the bytes that the program prints ---- */
 
-/* The line of the verdict, as `causal_tool audit` prints it, with its line feed; or the line of the text's first fault.
+/* Writes the line of the verdict, as `causal_tool audit` prints it, with its line feed; or the line of the text's first
+   error.
 
-   NIXU_OK, NIXU_FAULT: the bytes are given. NIXU_NO_MEMORY. */
+   NIXU_OK, NIXU_FAULT: the bytes are written. NIXU_NO_MEMORY. */
 uint32_t nixu_line(const uint8_t *text, size_t length, uint16_t faults, uint8_t *out, size_t room, size_t *needed);
 
-/* The line of the verdict and below it what tells why it is so, as `causal_tool explain` prints them; or the line of the
-   text's first fault. Statuses as for nixu_line. */
+/* Writes the line of the verdict and its explanation, as `causal_tool explain` prints them; or the line of the text's
+   first error. Statuses as for nixu_line. */
 uint32_t nixu_explain(const uint8_t *text, size_t length, uint16_t faults, uint8_t *out, size_t room, size_t *needed);
 
-/* The space-time diagram of the run with its verdict, in SVG, as `causal_tool draw` prints it; of a text with a fault no
-   bytes, and `needed` is 0. Statuses as for nixu_line. */
+/* Writes the space-time diagram of the run with its verdict, in SVG, as `causal_tool draw` prints it. For an invalid
+   text it writes no bytes, and `needed` is 0. Statuses as for nixu_line. */
 uint32_t nixu_draw(const uint8_t *text, size_t length, uint16_t faults, uint8_t *out, size_t room, size_t *needed);
 
-/* ---- faults ---- */
+/* ---- errors ---- */
 
-/* Where several stand against a line, the first is told. */
+/* If a line has several errors, the first of this list is reported. */
 #define NIXU_AFTER        1 /* a line follows the end line */
 #define NIXU_BIG          2 /* the text is too long */
 #define NIXU_SYNTAX       3 /* the line is not a JSON value */
@@ -219,10 +231,10 @@ uint32_t nixu_draw(const uint8_t *text, size_t length, uint16_t faults, uint8_t 
 #define NIXU_COUNT       19 /* the number of entries is another */
 #define NIXU_CUT         20 /* the text ends without an end line */
 
-/* The sentence for the number of a fault, without a line feed; for 13 that is "the send sequence number is not the next
-   one". It asks for no memory.
+/* Writes the sentence for the number of an error, without a line feed; for 13 it is "the send sequence number is not
+   the next one". Allocates nothing.
 
-   NIXU_OK: the bytes are given. NIXU_MISUSED: no fault has the number. */
+   NIXU_OK: the bytes are written. NIXU_MISUSED: no error has the number. */
 uint32_t nixu_fault_text(uint32_t fault, uint8_t *out, size_t room, size_t *needed);
 
 /* ---- the layout, checked by each compiler that reads this ---- */

@@ -1,4 +1,4 @@
--- What is held and its parts own what a box at the same types owns.
+-- A `OwnedBox` value and its parts own what a box at the same types owns.
 use mir.Syntax.{impl, tnil, dnil}
 use mathlib.Core.List.{[]}
 use denote.Signature.{Slot, plain}
@@ -6,16 +6,16 @@ use Rattle.std_alloc.proofs.BoxSteps.Form.{Bx}
 use Rattle.std_heap.specs.contracts.Global as Heap
 use Rattle.std_heap.specs.contracts.GlobalAllocator.TheImpl.{ghosts, dict}
 use Rattle.std_heap.proofs.Global.TheLaws as heap
-use Rattle.nixu.specs.contracts.kept.Kept as Kept
-use Rattle.nixu.proofs.kept.Kept.TheLaws as kept
+use Rattle.nixu.specs.contracts.handle_content.HandleContent as Content
+use Rattle.nixu.proofs.handle_content.HandleContent.TheLaws as content
 use Rattle.nixu.specs.contracts.parts.Parts as Parts
-use Rattle.nixu.specs.contracts.held.Held as Held
+use Rattle.nixu.specs.contracts.handle.OwnedBox as Held
 
 abbrev pub E : Bx
-E = record { row = Kept.the_row; laws = kept.the_row_laws; al = record { row = Heap.the_row; laws = heap.the_row_laws; g = ghosts; d = dict; drops = impl [] tnil dnil } }
+E = record { row = Content.the_row; laws = content.the_row_laws; al = record { row = Heap.the_row; laws = heap.the_row_laws; g = ghosts; d = dict; drops = impl [] tnil dnil } }
 
 abbrev pub FromParts : Slot 0
-FromParts = plain (λ _. Parts.the_row Kept.the_row Heap.the_row ghosts)
+FromParts = plain (λ _. Parts.the_row Content.the_row Heap.the_row ghosts)
 
 abbrev pub FromHeld : Slot 0
 FromHeld = plain (λ _. Held.the_row)

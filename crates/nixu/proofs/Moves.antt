@@ -1,4 +1,4 @@
--- What a body needs that moves the fields of a box's machine value.
+-- Lemmas for bodies that move the fields of a box's machine value.
 use Prim.Native.Nat.{ℕ}
 use mathlib.Core.Path.{refl, sym, subst}
 use mathlib.Core.List.{List, [], ◌∷◌}
@@ -14,7 +14,7 @@ use Rattle.std_alloc.proofs.BoxSteps.Steps.{box_out, box_in}
 use Rattle.nixu.proofs.AsBox.{E}
 
 module _ {M : Type 1} {𝓤 : Ura M} (𝓛 : Logic 𝓤) where
-  -- what a box owns is owned at one word, and there by what is made of it
+  -- ownership by a box moves to the value that is made from its word
   pub moved : (v : D E) (vs : List Val) (To : RattleType) (made : To.Denot) (Run : List Val → SProp 𝓤)
       → ((w : Val) → ent 𝓤 (sem 𝓛 ((B E).own_val v (w ∷ []))) (sem 𝓛 (To.own_val made (w ∷ []))))
       → ((b o : ℕ) (hv : Val) → Fits E.al hv → ent 𝓤 (types.Kit.⋆ 𝓛 (‵ (To.own_val made (word E hv b o ∷ [])) ∷ [])) (Run (word E hv b o ∷ [])))

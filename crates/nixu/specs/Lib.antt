@@ -1,10 +1,10 @@
-pub mod Each
+pub mod VerdictArrays
 pub mod Entries
-pub mod Failures
-pub mod Fed
-pub mod Held
+pub mod TextErrors
+pub mod OpenReaders
+pub mod Handles
 pub mod Limits
 pub mod Numbers
-pub mod Room
-pub mod Summaries
+pub mod Buffers
+pub mod CVerdicts
 pub mod Views

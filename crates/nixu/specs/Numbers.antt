@@ -1,11 +1,11 @@
--- The numbers of faults, as nixu.h has them.
+-- The numbers of the kinds of errors, as in nixu.h.
 use Rattle.std.specs.Prelude.{◌≡◌, ◌<◌, ◌⊎◌, ℕ, List}
 use Rattle.causal_line.specs.declared.kind.TextKind.{TextKind}
 use Rattle.causal_line.specs.declared.kind.TextKind.TheVariants as kind
 use Rattle.causal_line.specs.Sentences.{kind_sentence}
-use Rattle.nixu.specs.Room.{IsGiven}
+use Rattle.nixu.specs.Buffers.{IsCopiedOut}
 
--- from 1 in the order in which faults are asked; want of memory, which is no fault of a text, has 0
+-- from 1 in the order in which errors are checked; 0 for `NoMemory`, which is not an error of a text
 abbrev pub kind_number : TextKind → ℕ
 kind_number kind.NoMemory = 0
 kind_number kind.After = 1
@@ -29,10 +29,10 @@ kind_number kind.NoDelivery = 18
 kind_number kind.Count = 19
 kind_number kind.Cut = 20
 
--- no fault has this number
+-- no kind of error has this number
 abbrev pub IsNoFault : ℕ → Type 0
 IsNoFault number = (number ≡ 0) ⊎ (20 < number)
 
--- a fault has this number, and its sentence is given
-abbrev pub GivesSentence : ℕ → List ℕ → List ℕ → ℕ → Type 0
-GivesSentence number old new needed = (0 < number) × ((kind : TextKind) × (kind_number kind ≡ number) × IsGiven (kind_sentence kind) old new needed)
+-- a kind of error has this number, and its sentence is copied out
+abbrev pub CopiesOutSentence : ℕ → List ℕ → List ℕ → ℕ → Type 0
+CopiesOutSentence number old new needed = (0 < number) × ((kind : TextKind) × (kind_number kind ≡ number) × IsCopiedOut (kind_sentence kind) old new needed)

@@ -1,33 +1,33 @@
-//! What the numbers of faults say.
+//! The sentences for the numbers of errors.
 ghost use Rattle.std.specs.Prelude.{◌≡◌, ◌<◌, ◌⊎◌, IfSome};
-ghost use Rattle.nixu.specs.Numbers.{kind_number, IsNoFault, GivesSentence};
-ghost use Rattle.nixu.specs.Room.{IsUntouched};
+ghost use Rattle.nixu.specs.Numbers.{kind_number, IsNoFault, CopiesOutSentence};
+ghost use Rattle.nixu.specs.Buffers.{IsUntouched};
 
-use crate::room::give;
+use crate::buffer::copy_out;
 use crate::status::{MISUSED, OK};
 use causal_text::TextKind;
 
-/// Gives the sentence for the number of a fault, without a line feed: as much of it as there is room for goes to `out`, and
-/// `needed` tells its whole length.
+/// Writes the sentence for an error's number to `out`, without a line feed, as much of it as fits, and its whole length
+/// to `needed`.
 ///
-/// It answers [`OK`]; or [`MISUSED`] where no fault has the number, after which nothing is written. It takes no memory.
+/// Returns [`OK`]; or [`MISUSED`] if no error has the number, and nothing is written. Allocates nothing.
 #[unsafe(no_mangle)]
 pub extern "C" fn nixu_fault_text(fault: u32, out: &mut [u8], needed: &mut usize) -> u32
-    ensures ok { result ≡ OK → GivesSentence fault out.old out.new needed.new }
+    ensures ok { result ≡ OK → CopiesOutSentence fault out.old out.new needed.new }
     ensures misused { result ≡ MISUSED → IsNoFault fault }
-    ensures kept { result ≡ MISUSED → IsUntouched out.old out.new needed.old needed.new }
+    ensures unchanged { result ≡ MISUSED → IsUntouched out.old out.new needed.old needed.new }
     ensures status { (result ≡ OK) ⊎ (result ≡ MISUSED) }
 {
     match kind_of(fault) {
         Some(kind) => {
-            give(kind.sentence().as_bytes(), out, needed);
+            copy_out(kind.sentence().as_bytes(), out, needed);
             OK
         }
         None => MISUSED,
     }
 }
 
-/// The kind of fault that has a number; None where no fault has it.
+/// The kind of error with this number; None if there is none.
 fn kind_of(number: u32) -> Option<TextKind>
     ensures some { IfSome result (λ kind. (kind_number kind ≡ number) × (0 < number)) }
     ensures none { result ≡ None → IsNoFault number }

@@ -1,40 +1,41 @@
-//! The auditor of recorded runs, for programs in C and in whatever calls C.
+//! The auditor of recorded runs as a static library, for C and for languages that call C.
 //!
-//! Each function here that is exported is one of `include/nixu.h`, which has the same promises in C's words. None has state
-//! of its own, prints, aborts, starts a thread or waits, so each may be called in any thread, and in several at once. None
-//! keeps a pointer that it was given. What is allocated is given back before the call returns, but for what a handle holds.
+//! Each exported function is declared in `include/nixu.h`, with the same contract in C's terms. No function has static
+//! state, prints, aborts, starts a thread or waits; so each may be called from any thread and several at once. No
+//! function keeps a pointer from its arguments. All memory is freed before the call returns, except what an open handle
+//! owns.
 //!
-//! Begin at [`audit::nixu_audit`]. [`reader::nixu_reader_feed`] takes a text in pieces, [`recorder::nixu_trace_push`] entries
-//! without text.
+//! Begin at [`audit::nixu_audit`]. [`reader::nixu_reader_feed`] reads a text in pieces, [`recorder::nixu_trace_push`]
+//! adds entries without a text.
 #![tactic(auto)]
 
-/// Texts that are judged.
+/// Audits of texts.
 pub mod audit;
-/// What the numbers of faults say.
+/// The sentences for the numbers of errors.
 pub mod faults;
-/// What a caller holds.
-pub mod held;
-/// From a text to what is judged of its trace.
-mod judged;
-/// What may be behind a handle.
-pub mod kept;
-/// How long a trace may be.
+/// Handles and what they own.
+pub mod handle;
+/// Audits of texts and traces on the calling thread.
+mod judgement;
+/// The content of an open handle.
+pub mod handle_content;
+/// The limits of a trace.
 mod limits;
-/// The numbers of faults.
+/// The numbers of errors.
 mod numbers;
 /// A box as its pointer.
 mod parts;
-/// Texts that come in pieces.
+/// Readers of texts that arrive in pieces.
 pub mod reader;
-/// Traces that are made entry by entry.
+/// Traces that are built entry by entry.
 pub mod recorder;
-/// What is written into a caller's buffer.
-mod room;
-/// Answers.
+/// Writing into a caller's buffer.
+mod buffer;
+/// The statuses that calls return.
 pub mod status;
-/// Entries, as C has them.
-pub mod step;
-/// What is told of a text.
-pub mod summary;
-/// Bytes that the program prints.
+/// Entries in C's layout.
+pub mod c_entry;
+/// Verdicts in C's layout.
+pub mod c_verdict;
+/// The bytes that the program prints.
 pub mod views;

@@ -1,10 +1,11 @@
-//! The numbers of the faults of a text.
+//! The numbers of the kinds of errors.
 ghost use Rattle.std.specs.Prelude.{◌≡◌};
 ghost use Rattle.nixu.specs.Numbers.{kind_number};
 
 use causal_text::TextKind;
 
-/// The number of a kind of fault, from 1 in the order of [`TextKind`]; 0 for want of memory, which is no fault of a text.
+/// The number of a kind of error, from 1 in the order of [`TextKind`]; 0 for `NoMemory`, which is not an error of a
+/// text.
 pub(crate) fn number_of(kind: TextKind) -> u32
     ensures { result ≡ kind_number kind }
 {

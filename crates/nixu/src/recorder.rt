@@ -1,50 +1,49 @@
-//! A trace that a caller holds, and makes entry by entry: for a recorder in the same process.
+//! A trace that is built entry by entry, for a recorder in the same process.
 ghost use Rattle.std.specs.Prelude.{◌≡◌, ◌≢◌, ◌≤◌, ◌⊎◌, ◌↔◌, [], None, Some, IsSome};
-ghost use Rattle.causal_lines.specs.Canonical.{canonical};
+ghost use Rattle.causal_lines.specs.Canonical.{canonical_text};
 ghost use Rattle.causal_trace.specs.Limits.{IsProcessCount, default_entries};
-ghost use Rattle.nixu.specs.Each.{TellsJudged};
-ghost use Rattle.nixu.specs.Entries.{entry_of, most_in, recording_in, OfTrace, Takes, TakesIn, TellsAgainst, TellsAgainstIn};
+ghost use Rattle.nixu.specs.VerdictArrays.{IsVerdictStruct};
+ghost use Rattle.nixu.specs.Entries.{entry_of, entry_limit_in, recording_in, OfTrace, CanPush, CanPushIn, IsFaultNumberOf, IsFaultNumberIn};
 ghost use Rattle.nixu.specs.Limits.{IsEntryCount};
-ghost use Rattle.nixu.specs.Room.{IsGiven, IsUntouched};
+ghost use Rattle.nixu.specs.Buffers.{IsCopiedOut, IsUntouched};
 
-use crate::audit::summary_for;
-use crate::held::Handle;
-use crate::kept::Kept;
+use crate::audit::verdict_for;
+use crate::buffer::copy_out;
+use crate::c_entry::{CDeterminant, CEntry, entry_of};
+use crate::c_verdict::CVerdict;
+use crate::handle::Handle;
+use crate::handle_content::HandleContent;
 use crate::limits::limits_of;
 use crate::numbers::number_of;
-use crate::room::give;
 use crate::status::{CLOSED, FAULT, MISUSED, NO_MEMORY, OK};
-use crate::step::{Determinant, Step, entry_of};
-use crate::summary::Summary;
 use causal_name::NoMemory;
 use causal_text::{TextKind, text_of};
 use causal_trace::limits::{DEFAULT_LIMITS, Limits};
 use causal_trace::{Entry, Trace, TraceFault};
 use std::alloc::Global;
 
-/// Opens a trace by the usual limits, of so many processes, 1 to 256, that has no entries.
+/// Opens an empty trace of `processes` processes, 1 to 256, under the default limits.
 ///
-/// It answers [`OK`]; [`MISUSED`] where something is open there, or a trace cannot have so many processes; or
-/// [`NO_MEMORY`]. Where it does not answer `OK`, nothing changes.
+/// Returns [`OK`]; [`MISUSED`] if something is already open or `processes` is out of range; or [`NO_MEMORY`]. After the
+/// last two, nothing changes.
 #[unsafe(no_mangle)]
 pub extern "C" fn nixu_trace_open(alloc: Global, trace: &mut Handle, processes: u16) -> u32
     ensures ok { result ≡ OK
         → recording_in trace.new.held.value ≡ Some (record { processes = processes; past = [] }) }
-    ensures most { result ≡ OK → most_in trace.new.held.value ≡ default_entries }
+    ensures entry_limit { result ≡ OK → entry_limit_in trace.new.held.value ≡ default_entries }
     ensures count { result ≡ OK → IsProcessCount processes }
-    ensures misused { result ≡ MISUSED
-        → IsSome trace.old.held.value ⊎ (IsProcessCount processes → ⊥) }
-    ensures open { IsSome trace.old.held.value → result ≡ MISUSED }
-    ensures kept { result ≢ OK → trace.new.held.value ≡ trace.old.held.value }
+    ensures misused { (result ≡ MISUSED)
+        ↔ (IsSome trace.old.held.value ⊎ (IsProcessCount processes → ⊥)) }
+    ensures unchanged { result ≢ OK → trace.new.held.value ≡ trace.old.held.value }
     ensures status { (result ≢ FAULT) × (result ≤ MISUSED) }
 {
     open_by(alloc, trace, processes, DEFAULT_LIMITS)
 }
 
-/// Opens a trace of so many processes, 1 to 256, that has no entries and may have up to so many, 1 to 16,777,216, which list up to
-/// 16 determinants for each in all.
+/// Opens an empty trace of `processes` processes, 1 to 256, with at most `entries` entries, 1 to 16,777,216. The trace
+/// may list 16 determinants for each entry in all.
 ///
-/// It answers as [`nixu_trace_open`] does, and [`MISUSED`] where a trace may not have so many entries.
+/// Returns the statuses of [`nixu_trace_open`], and [`MISUSED`] if `entries` is out of range.
 #[unsafe(no_mangle)]
 pub extern "C" fn nixu_trace_open_within(
     alloc: Global,
@@ -54,12 +53,11 @@ pub extern "C" fn nixu_trace_open_within(
 ) -> u32
     ensures ok { result ≡ OK
         → recording_in trace.new.held.value ≡ Some (record { processes = processes; past = [] }) }
-    ensures most { result ≡ OK → most_in trace.new.held.value ≡ entries }
+    ensures entry_limit { result ≡ OK → entry_limit_in trace.new.held.value ≡ entries }
     ensures count { result ≡ OK → IsProcessCount processes × IsEntryCount entries }
-    ensures misused { result ≡ MISUSED → IsSome trace.old.held.value
-        ⊎ ((IsProcessCount processes → ⊥) ⊎ (IsEntryCount entries → ⊥)) }
-    ensures open { IsSome trace.old.held.value → result ≡ MISUSED }
-    ensures kept { result ≢ OK → trace.new.held.value ≡ trace.old.held.value }
+    ensures misused { (result ≡ MISUSED) ↔ (IsSome trace.old.held.value
+        ⊎ ((IsProcessCount processes → ⊥) ⊎ (IsEntryCount entries → ⊥))) }
+    ensures unchanged { result ≢ OK → trace.new.held.value ≡ trace.old.held.value }
     ensures status { (result ≢ FAULT) × (result ≤ MISUSED) }
 {
     match limits_of(entries) {
@@ -68,15 +66,14 @@ pub extern "C" fn nixu_trace_open_within(
     }
 }
 
-/// Opens a trace by these limits.
+/// Opens a trace under these limits.
 fn open_by(alloc: Global, trace: &mut Handle, processes: u16, limits: Limits) -> u32
     ensures ok { result ≡ OK
         → recording_in trace.new.held.value ≡ Some (record { processes = processes; past = [] }) }
-    ensures most { result ≡ OK → most_in trace.new.held.value ≡ limits.entries }
+    ensures most { result ≡ OK → entry_limit_in trace.new.held.value ≡ limits.entries }
     ensures count { result ≡ OK → IsProcessCount processes }
-    ensures misused { result ≡ MISUSED
-        → IsSome trace.old.held.value ⊎ (IsProcessCount processes → ⊥) }
-    ensures open { IsSome trace.old.held.value → result ≡ MISUSED }
+    ensures misused { (result ≡ MISUSED)
+        ↔ (IsSome trace.old.held.value ⊎ (IsProcessCount processes → ⊥)) }
     ensures kept { result ≢ OK → trace.new.held.value ≡ trace.old.held.value }
     ensures status { (result ≢ FAULT) × (result ≤ MISUSED) }
 {
@@ -86,7 +83,7 @@ fn open_by(alloc: Global, trace: &mut Handle, processes: u16, limits: Limits) ->
     match Trace::new(alloc, processes) {
         Ok(made) => trace.keep(
             alloc,
-            Kept::Trace {
+            HandleContent::Trace {
                 trace: made,
                 limits,
             },
@@ -96,59 +93,61 @@ fn open_by(alloc: Global, trace: &mut Handle, processes: u16, limits: Limits) ->
     }
 }
 
-/// Adds an entry at the end of a trace, with the determinants that it lists, if nothing stands against it.
+/// Appends an entry with its listed determinants to a trace, if it is valid there.
 ///
-/// It answers [`OK`]; [`CLOSED`] where no trace is open there; [`MISUSED`] where no entry has the kind, or determinants are
-/// listed for one that lists none; [`FAULT`] where something stands against the entry, and then `fault` tells the number of
-/// what does so first; or [`NO_MEMORY`]. Where it does not answer `OK`, the trace is as it was.
+/// Returns [`OK`]; [`CLOSED`] if no trace is open; [`MISUSED`] if the kind is unknown, or determinants are listed for a
+/// kind that lists none; [`FAULT`] if the entry is invalid, with the number of its first error in `fault`; or
+/// [`NO_MEMORY`]. Unless `OK` is returned, the trace is unchanged.
 #[unsafe(no_mangle)]
 pub extern "C" fn nixu_trace_push(
     alloc: Global,
     trace: &mut Handle,
-    entry: &Step,
-    listed: &[Determinant],
+    entry: &CEntry,
+    listed: &[CDeterminant],
     fault: &mut u32,
 ) -> u32
     ensures ok { result ≡ OK
-        → TakesIn (most_in trace.old.held.value) (recording_in trace.old.held.value)
+        → CanPushIn (entry_limit_in trace.old.held.value) (recording_in trace.old.held.value)
         (entry_of entry.now listed.now) (recording_in trace.new.held.value) }
     ensures fault { result ≡ FAULT
-        → TellsAgainstIn (most_in trace.old.held.value) (recording_in trace.old.held.value)
+        → IsFaultNumberIn (entry_limit_in trace.old.held.value) (recording_in trace.old.held.value)
         (entry_of entry.now listed.now) fault.new }
-    ensures most { most_in trace.new.held.value ≡ most_in trace.old.held.value }
+    ensures entry_limit { entry_limit_in trace.new.held.value
+        ≡ entry_limit_in trace.old.held.value }
     ensures misused { result ≡ MISUSED → entry_of entry.now listed.now ≡ None }
     ensures closed { (result ≡ CLOSED) ↔ (recording_in trace.old.held.value ≡ None) }
-    ensures kept { result ≢ OK
+    ensures closed_unchanged { result ≡ CLOSED → trace.new.held.value ≡ trace.old.held.value }
+    ensures unchanged { result ≢ OK
         → recording_in trace.new.held.value ≡ recording_in trace.old.held.value }
-    ensures unsaid { result ≢ FAULT → fault.new ≡ fault.old }
+    ensures fault_unchanged { result ≢ FAULT → fault.new ≡ fault.old }
     ensures status { result ≤ CLOSED }
 {
     let Some(mut kept) = trace.take(alloc) else {
         return CLOSED;
     };
     let status = match &mut *kept {
-        Kept::Trace {
+        HandleContent::Trace {
             trace: recorded,
             limits,
         } => push(alloc, recorded, *limits, entry, listed, fault),
-        Kept::Reader(_) => CLOSED,
+        HandleContent::Reader(_) => CLOSED,
     };
     trace.fill(kept);
     status
 }
 
-/// Adds an entry at the end of a trace.
+/// Appends a C entry to a trace.
 fn push(
     alloc: Global,
     trace: &mut Trace,
     limits: Limits,
-    entry: &Step,
-    listed: &[Determinant],
+    entry: &CEntry,
+    listed: &[CDeterminant],
     fault: &mut u32,
 ) -> u32
-    ensures ok { result ≡ OK → Takes limits.entries trace.old.recording
+    ensures ok { result ≡ OK → CanPush limits.entries trace.old.recording
         (entry_of entry.now listed.now) trace.new.recording }
-    ensures fault { result ≡ FAULT → TellsAgainst limits.entries trace.old.recording
+    ensures fault { result ≡ FAULT → IsFaultNumberOf limits.entries trace.old.recording
         (entry_of entry.now listed.now) fault.new }
     ensures misused { result ≡ MISUSED → entry_of entry.now listed.now ≡ None }
     ensures kept { result ≢ OK → trace.new.recording ≡ trace.old.recording }
@@ -156,18 +155,18 @@ fn push(
     ensures status { result ≤ MISUSED }
 {
     match entry_of(alloc, entry, listed) {
-        Ok(Some(entry)) => take(trace, limits, entry, fault),
+        Ok(Some(entry)) => push_entry(trace, limits, entry, fault),
         Ok(None) => MISUSED,
         Err(NoMemory) => NO_MEMORY,
     }
 }
 
-/// Adds an entry at the end of a trace.
-fn take(trace: &mut Trace, limits: Limits, entry: Entry, fault: &mut u32) -> u32
+/// Appends an entry to a trace.
+fn push_entry(trace: &mut Trace, limits: Limits, entry: Entry, fault: &mut u32) -> u32
     ensures ok { result ≡ OK
-        → Takes limits.entries trace.old.recording (Some entry) trace.new.recording }
+        → CanPush limits.entries trace.old.recording (Some entry) trace.new.recording }
     ensures fault { result ≡ FAULT
-        → TellsAgainst limits.entries trace.old.recording (Some entry) fault.new }
+        → IsFaultNumberOf limits.entries trace.old.recording (Some entry) fault.new }
     ensures kept { result ≢ OK → trace.new.recording ≡ trace.old.recording }
     ensures unsaid { result ≢ FAULT → fault.new ≡ fault.old }
     ensures status { result ≤ NO_MEMORY }
@@ -175,61 +174,60 @@ fn take(trace: &mut Trace, limits: Limits, entry: Entry, fault: &mut u32) -> u32
     match trace.push_within(limits, entry) {
         Ok(()) => OK,
         Err(TraceFault::NoMemory) => NO_MEMORY,
-        Err(told) => {
-            *fault = number_of(TextKind::from(told));
+        Err(verdict) => {
+            *fault = number_of(TextKind::from(verdict));
             FAULT
         }
     }
 }
 
-/// Tells the verdict for `faults` on the trace as it is so far, which stays open.
+/// Writes the verdict on the trace so far, with failure bound `faults`. The trace stays open.
 ///
-/// It answers [`OK`]; [`NO_MEMORY`]; or [`CLOSED`] where no trace is open there. Where it does not answer `OK`, `told` is as
-/// it was.
+/// Returns [`OK`]; [`NO_MEMORY`]; or [`CLOSED`] if no trace is open. After the last two, `verdict` is unchanged.
 #[unsafe(no_mangle)]
 pub extern "C" fn nixu_trace_audit(
     alloc: Global,
     trace: &mut Handle,
     faults: u16,
-    told: &mut Summary,
+    verdict: &mut CVerdict,
 ) -> u32
-    ensures ok { result ≡ OK → OfTrace trace.old.held.value (λ r. TellsJudged r faults told.new) }
+    ensures ok { result ≡ OK → OfTrace trace.old.held.value
+        (λ r. IsVerdictStruct r faults verdict.new) }
     ensures closed { (result ≡ CLOSED) ↔ (recording_in trace.old.held.value ≡ None) }
-    ensures stays { trace.new.held.value ≡ trace.old.held.value }
-    ensures kept { result ≢ OK → told.new ≡ told.old }
+    ensures trace_unchanged { trace.new.held.value ≡ trace.old.held.value }
+    ensures unchanged { result ≢ OK → verdict.new ≡ verdict.old }
     ensures status { (result ≡ OK) ⊎ ((result ≡ NO_MEMORY) ⊎ (result ≡ CLOSED)) }
 {
     let Some(kept) = trace.take(alloc) else {
         return CLOSED;
     };
     let status = match &*kept {
-        Kept::Trace { trace: so_far, .. } => tell(alloc, so_far, faults, told),
-        Kept::Reader(_) => CLOSED,
+        HandleContent::Trace { trace: so_far, .. } => write_verdict(alloc, so_far, faults, verdict),
+        HandleContent::Reader(_) => CLOSED,
     };
     trace.fill(kept);
     status
 }
 
-/// Tells the verdict on a trace.
-fn tell(alloc: Global, trace: &Trace, faults: u16, told: &mut Summary) -> u32
-    ensures ok { result ≡ OK → TellsJudged trace.now.recording faults told.new }
-    ensures kept { result ≢ OK → told.new ≡ told.old }
+/// Writes the verdict on a trace.
+fn write_verdict(alloc: Global, trace: &Trace, faults: u16, verdict: &mut CVerdict) -> u32
+    ensures ok { result ≡ OK → IsVerdictStruct trace.now.recording faults verdict.new }
+    ensures kept { result ≢ OK → verdict.new ≡ verdict.old }
     ensures status { (result ≡ OK) ⊎ (result ≡ NO_MEMORY) }
 {
-    match summary_for(alloc, trace, faults) {
+    match verdict_for(alloc, trace, faults) {
         Ok(summary) => {
-            *told = summary;
+            *verdict = summary;
             OK
         }
         Err(NoMemory) => NO_MEMORY,
     }
 }
 
-/// Gives the canonical text of the trace as it is so far, which stays open: as much as there is room for goes to `out`, and
-/// `needed` tells its whole length.
+/// Writes the canonical text of the trace so far to `out`, as much of it as fits, and its whole length to `needed`. The
+/// trace stays open.
 ///
-/// It answers [`OK`]; [`NO_MEMORY`]; or [`CLOSED`] where no trace is open there. Where it does not answer `OK`, nothing is
-/// written.
+/// Returns [`OK`]; [`NO_MEMORY`]; or [`CLOSED`] if no trace is open. After the last two, nothing is written.
 #[unsafe(no_mangle)]
 pub extern "C" fn nixu_trace_text(
     alloc: Global,
@@ -238,39 +236,41 @@ pub extern "C" fn nixu_trace_text(
     needed: &mut usize,
 ) -> u32
     ensures ok { result ≡ OK
-        → OfTrace trace.old.held.value (λ r. IsGiven (canonical r) out.old out.new needed.new) }
+        → OfTrace trace.old.held.value (λ r. IsCopiedOut
+        (canonical_text r) out.old out.new needed.new) }
     ensures closed { (result ≡ CLOSED) ↔ (recording_in trace.old.held.value ≡ None) }
-    ensures stays { trace.new.held.value ≡ trace.old.held.value }
-    ensures kept { result ≢ OK → IsUntouched out.old out.new needed.old needed.new }
+    ensures trace_unchanged { trace.new.held.value ≡ trace.old.held.value }
+    ensures unchanged { result ≢ OK → IsUntouched out.old out.new needed.old needed.new }
     ensures status { (result ≡ OK) ⊎ ((result ≡ NO_MEMORY) ⊎ (result ≡ CLOSED)) }
 {
     let Some(kept) = trace.take(alloc) else {
         return CLOSED;
     };
     let status = match &*kept {
-        Kept::Trace { trace: so_far, .. } => give_text(alloc, so_far, out, needed),
-        Kept::Reader(_) => CLOSED,
+        HandleContent::Trace { trace: so_far, .. } => write_text(alloc, so_far, out, needed),
+        HandleContent::Reader(_) => CLOSED,
     };
     trace.fill(kept);
     status
 }
 
-/// Gives the canonical text of a trace.
-fn give_text(alloc: Global, trace: &Trace, out: &mut [u8], needed: &mut usize) -> u32
-    ensures ok { result ≡ OK → IsGiven (canonical trace.now.recording) out.old out.new needed.new }
+/// Writes the canonical text of a trace.
+fn write_text(alloc: Global, trace: &Trace, out: &mut [u8], needed: &mut usize) -> u32
+    ensures ok { result ≡ OK → IsCopiedOut
+        (canonical_text trace.now.recording) out.old out.new needed.new }
     ensures kept { result ≢ OK → IsUntouched out.old out.new needed.old needed.new }
     ensures status { (result ≡ OK) ⊎ (result ≡ NO_MEMORY) }
 {
     match text_of(alloc, trace) {
         Ok(text) => {
-            give(text.as_slice(), out, needed);
+            copy_out(text.as_slice(), out, needed);
             OK
         }
         Err(NoMemory) => NO_MEMORY,
     }
 }
 
-/// Closes a trace, and gives back what it holds; where nothing is open it does nothing.
+/// Closes a trace and frees its memory; does nothing if nothing is open.
 #[unsafe(no_mangle)]
 pub extern "C" fn nixu_trace_close(alloc: Global, trace: &mut Handle)
     ensures { trace.new.held.value ≡ None }

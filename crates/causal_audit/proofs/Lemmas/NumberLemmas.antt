@@ -3,7 +3,7 @@ use Rattle.causal_audit.proofs.Common.{ℕ, ◌≡◌, ◌+◌, ◌<◌, ◌≤�
 use Rattle.causal_audit.specs.Numbers.{is_delivery, IsNumbered}
 use Rattle.causal_audit.proofs.Legal.{det_delivers}
 
--- with a delivery there is one more of them
+-- a delivery entry increases the count by one
 pub one_more : (e : Entry) (past : List Entry) → is_delivery e ≡ true → deliveries_in (e ∷ past) ≡ deliveries_in past + 1
 one_more (Send from to ssn) past h = absurd (false≢true h)
 one_more (Deliver to send rsn listed) past h = refl
@@ -12,7 +12,7 @@ one_more (Crash who) past h = absurd (false≢true h)
 one_more (Restart who listed) past h = absurd (false≢true h)
 one_more (Forget who listed) past h = absurd (false≢true h)
 
--- and with any entry there are no fewer
+-- no entry decreases the count
 pub no_fewer : (e : Entry) (past : List Entry) → deliveries_in past ≤ deliveries_in (e ∷ past)
 no_fewer (Send from to ssn) past = omega arith
 no_fewer (Deliver to send rsn listed) past = omega arith

@@ -1,8 +1,8 @@
--- A recorded run has one verdict.
-use Rattle.causal_audit.proofs.Common.{ℕ, ◌≡◌, ◌<◌, Bool, true, List, refl, sym, subst, ◌∙◌, arith, nat_cmp, nat_cmp_total, FinSet, contains, same_set, nat_cmp-IsAntisymmetric, nat_tests, IsWithin, Entry, instant, Recording}
+-- A recorded run has exactly one verdict.
+use Rattle.causal_audit.proofs.Common.{ℕ, ◌≡◌, ◌<◌, Bool, true, List, refl, sym, subst, ◌∙◌, arith, nat_cmp, nat_cmp_total, FinSet, contains, same_set, nat_cmp-IsAntisymmetric, nat_tests, IsSubsetBelow, Entry, instant, Recording}
 use Rattle.causal_audit.specs.declared.verdict.Verdict.TheVariants.{Accept, Exceeded, Orphan}
 use Rattle.causal_audit.specs.Verdicts.{IsFirstUnsafe, HasMembers, IsExcess, IsBreach}
-use Rattle.causal_audit.specs.Laws.{VerdictsAreOne}
+use Rattle.causal_audit.specs.Laws.{VerdictIsUnique}
 
 three_ways : (G : Type 0) (a b : ℕ) → (a < b → G) → (b < a → G) → (a ≡ b → G) → G
 three_ways G a b below above same = grind arith
@@ -13,8 +13,8 @@ one_instant r f t u a b = three_ways (t ≡ u) t u (λ h. absurd (a.unsafe (b.be
 same_bool : (a b : Bool) → (a ≡ true → b ≡ true) → (b ≡ true → a ≡ true) → a ≡ b
 same_bool a b h k = grind (arith, nat_tests)
 
--- sets with the same members below n, and none from n on
-pub same_members : (n : ℕ) (s t : FinSet nat_cmp) → ((p : ℕ) → contains s p ≡ true → p < n) → ((p : ℕ) → contains t p ≡ true → p < n) → IsWithin n (contains s) (contains t) → IsWithin n (contains t) (contains s) → s ≡ t
+-- two sets are equal if they have the same members below n, and no others
+pub same_members : (n : ℕ) (s t : FinSet nat_cmp) → ((p : ℕ) → contains s p ≡ true → p < n) → ((p : ℕ) → contains t p ≡ true → p < n) → IsSubsetBelow n (contains s) (contains t) → IsSubsetBelow n (contains t) (contains s) → s ≡ t
 same_members n s t below_s below_t there back = same_set nat_cmp_total nat_cmp-IsAntisymmetric s t (λ q. same_bool (contains s q) (contains t q) (λ h. there q (below_s q h) h) (λ h. back q (below_t q h) h))
 
 one_down : (n : ℕ) (test : ℕ → Bool) (s t : FinSet nat_cmp) → HasMembers n s test → HasMembers n t test → s ≡ t
@@ -52,7 +52,7 @@ excess_or_breach : {G : Type 0} (r : Recording) (f t u k : ℕ) (d c : FinSet na
 excess_or_breach r f t u k d c p same a b = grind arith
 
 -- two verdicts on one run for one f are equal
-pub one_verdict : VerdictsAreOne
+pub one_verdict : VerdictIsUnique
 one_verdict r f Accept Accept a b = refl
 one_verdict r f Accept (Exceeded t d) a b = absurd (b.0.unsafe (a t b.0.within))
 one_verdict r f Accept (Orphan t k c p) a b = absurd (b.0.unsafe (a t b.0.within))

@@ -1,18 +1,18 @@
--- Neighbouring parts of the deliveries that are followed.
+-- Adjacent parts of the followed deliveries.
 use Rattle.std.proofs.lemmas.Grind.{common_steps}
 use Rattle.causal_audit.proofs.Common.{ℕ, ◌≡◌, ◌+◌, ◌-◌, ◌≤◌, ◌++◌, Option, drop, length, take, ap, subst, ◌∙◌, arith, take-add, drop-drop}
 use Rattle.causal_audit.specs.declared.breach.Breach.{Breach}
-use Rattle.causal_audit.specs.Earlier.{earlier}
-use Rattle.causal_audit.specs.Parts.{Followed, LeastAmongBy, LeastOf, part_of}
+use Rattle.causal_audit.specs.BreachOrder.{earlier_breach}
+use Rattle.causal_audit.specs.Parts.{FollowedDeliveries, EarliestAmongBy, EarliestOf, part_of}
 use Rattle.causal_audit.proofs.AmongLemmas.{among_both}
 
--- all of them are a part
-pub whole : (followed : Followed) → part_of followed 0 (length followed.positions) ≡ followed
+-- all followed deliveries are a part
+pub whole : (followed : FollowedDeliveries) → part_of followed 0 (length followed.positions) ≡ followed
 whole followed = grind (arith, common_steps)
 
--- the least breach of two neighbouring parts is the one of theirs that comes first
-pub least_of_both : (followed : Followed) (from mid to : ℕ) (one other : Option Breach) → from ≤ mid → mid ≤ to
-    → LeastOf (part_of followed from mid) one → LeastOf (part_of followed mid to) other → LeastOf (part_of followed from to) (earlier one other)
+-- the earliest breach of two adjacent parts is the earlier of their earliest breaches
+pub least_of_both : (followed : FollowedDeliveries) (from mid to : ℕ) (one other : Option Breach) → from ≤ mid → mid ≤ to
+    → EarliestOf (part_of followed from mid) one → EarliestOf (part_of followed mid to) other → EarliestOf (part_of followed from to) (earlier_breach one other)
 least_of_both followed from mid to one other low high first second = let xs = followed.positions in
     let n = mid - from in
     let m = to - mid in
@@ -21,5 +21,5 @@ least_of_both followed from mid to one other low high first second = let xs = fo
     let place : from + n ≡ mid = omega (arith, low) in
     let rest : take m (drop n (drop from xs)) ≡ take m (drop mid xs) = ap (take m) (drop-drop n from xs ∙ ap (λ i. drop i xs) place) in
     let both : take n (drop from xs) ++ take m (drop mid xs) ≡ take (to - from) (drop from xs) = grind (arith, take-add) in
-    subst (λ list. LeastAmongBy r followed.f followed.end list (earlier one other)) both
+    subst (λ list. EarliestAmongBy r followed.f followed.end list (earlier_breach one other)) both
     (among_both r followed.f followed.end (take n (drop from xs)) (take m (drop mid xs)) one other first second)

@@ -1,8 +1,8 @@
--- What is known where the walk of a delivery begins.
-use Rattle.causal_audit.proofs.Common.{ℕ, zero, suc, ◌≡◌, ◌+◌, ◌-◌, ◌<◌, ◌≤◌, Bool, false, List, ◌∷◌, length, Some, refl, sym, ap, subst, ◌∙◌, arith, and_right, nat_tests, ◌||◌, ◌&&◌, ◌==◌, not, Det, Entry, Send, Deliver, Stable, Crash, Restart, Forget, instant, entry_at, is_down, is_stable, logs, has, reaches_begins, instant_length}
-use Rattle.causal_audit.specs.Quiet.{is_turn, mentioned_by}
-use Rattle.causal_audit.specs.Inside.DeliveryStates.{IsUnheard}
-use Rattle.causal_audit.specs.Inside.Look.Staying.{MentionsNone}
+-- The state of a delivery before its first mention.
+use Rattle.causal_audit.proofs.Common.{ℕ, zero, suc, ◌≡◌, ◌+◌, ◌-◌, ◌<◌, ◌≤◌, Bool, false, List, ◌∷◌, length, Some, refl, sym, ap, subst, ◌∙◌, arith, and_right, nat_tests, ◌||◌, ◌&&◌, ◌==◌, not, Det, Entry, Send, Deliver, Stable, Crash, Restart, Forget, instant, entry_at, is_down, is_stable, logs, list_has, reaches_begins, instant_length}
+use Rattle.causal_audit.specs.Quiet.{is_transition, mentioned_dets}
+use Rattle.causal_audit.specs.Inside.DeliveryStates.{IsUnknownToAll}
+use Rattle.causal_audit.specs.Inside.SafetyScan.Persistence.{MentionsNone}
 use Rattle.causal_audit.proofs.Between.{next_entry, no_turn_stays, stable_stays}
 use Rattle.causal_audit.proofs.Steps.{no_entry}
 
@@ -19,15 +19,15 @@ module _ (P : List Entry → Type 0) (past : List Entry) (s : ℕ) where
       (step (s + more) found.0 (omega arith) (omega arith) found.1
       (onward_for more (omega (arith, within)) (λ v e above below at. step v e above (omega (arith, below)) at) here)))
 
-  -- what holds at an instant, and stays with each entry up to a later one, holds there
+  -- a property of an instant that each entry preserves holds at a later instant
   pub onward_to : (t : ℕ) → s ≤ t → t ≤ length past → ((v : ℕ) (e : Entry) → s ≤ v → v < t → entry_at past v ≡ Some e → P (instant past v) → P (e ∷ instant past v)) → P (instant past s) → P (instant past t)
   onward_to t up within step here =
       let same : s + (t - s) ≡ t = omega (arith, up) in
       subst (λ x. P (instant past x)) same
       (onward_for (t - s) (omega (arith, same, within)) (λ v e above below at. step v e above (omega (arith, below, same)) at) here)
 
--- the same processes are down where none has crashed or restarted in between
-pub down_stays : (past : List Entry) (s t : ℕ) → s ≤ t → t ≤ length past → ((v : ℕ) (e : Entry) → s ≤ v → v < t → entry_at past v ≡ Some e → is_turn e ≡ false) → (p : ℕ) → is_down (instant past s) p ≡ is_down (instant past t) p
+-- the same processes are down if none crashed or restarted in between
+pub down_stays : (past : List Entry) (s t : ℕ) → s ≤ t → t ≤ length past → ((v : ℕ) (e : Entry) → s ≤ v → v < t → entry_at past v ≡ Some e → is_transition e ≡ false) → (p : ℕ) → is_down (instant past s) p ≡ is_down (instant past t) p
 down_stays past s t up within quiet p =
     onward_to (λ x. is_down (instant past s) p ≡ is_down x p) past s t up within
     (λ v e above below at same. same ∙ sym (no_turn_stays e (instant past v) (quiet v e above below at) p).0) refl
@@ -37,16 +37,16 @@ down_stays past s t up within quiet p =
 or_none : (w l b : Bool) → l ≡ false → b ≡ false → ((w && l) || b) ≡ false
 or_none w l b h k = grind (arith, nat_tests)
 
-unlogged_stays : (e : Entry) (past : List Entry) (d : Det) → has (mentioned_by e) d ≡ false → (p : ℕ) → logs past p d ≡ false → logs (e ∷ past) p d ≡ false
+unlogged_stays : (e : Entry) (past : List Entry) (d : Det) → list_has (mentioned_dets e) d ≡ false → (p : ℕ) → logs past p d ≡ false → logs (e ∷ past) p d ≡ false
 unlogged_stays (Send from to ssn) past d h p none = none
-unlogged_stays (Deliver to send rsn listed) past d h p none = or_none (to.0 == p) (has listed d) (logs past p d) h none
+unlogged_stays (Deliver to send rsn listed) past d h p none = or_none (to.0 == p) (list_has listed d) (logs past p d) h none
 unlogged_stays (Stable det) past d h p none = none
 unlogged_stays (Crash who) past d h p none = and_right (not (who.0 == p)) (logs past p d) none
-unlogged_stays (Restart who listed) past d h p none = or_none (who.0 == p) (has listed d) (logs past p d) h none
-unlogged_stays (Forget who listed) past d h p none = and_right (not (who.0 == p && has listed d)) (logs past p d) none
+unlogged_stays (Restart who listed) past d h p none = or_none (who.0 == p) (list_has listed d) (logs past p d) h none
+unlogged_stays (Forget who listed) past d h p none = and_right (not (who.0 == p && list_has listed d)) (logs past p d) none
 
--- before the delivery and the first mention of its determinant nothing is known of it
-pub unheard_before : (past : List Entry) (k : ℕ) (d : Det) (t : ℕ) → MentionsNone past d 0 t → t ≤ k → t ≤ length past → IsUnheard (instant past t) k d
+-- before the delivery and the first mention of its determinant it has no holders and no dependents
+pub unheard_before : (past : List Entry) (k : ℕ) (d : Det) (t : ℕ) → MentionsNone past d 0 t → t ≤ k → t ≤ length past → IsUnknownToAll (instant past t) k d
 unheard_before past k d t unmentioned early within = record {
   unlogged = λ p. onward_to (λ x. logs x p d ≡ false) past 0 t (omega arith) within
       (λ v e above below at so. unlogged_stays e (instant past v) d (unmentioned v e above below at) p so) (ap (λ x. logs x p d) (no_entry past));

@@ -1,8 +1,8 @@
--- The event of one more entry: that it may be added, and that the clock then stands for one more entry.
-use Rattle.causal_audit.proofs.Common.{ℕ, ◌≡◌, ◌≢◌, ◌+◌, ◌<◌, inl, inr, true, cond, List, [], ◌∷◌, ◌++◌, length, Option, Some, None, refl, sym, ap, ◌∙◌, arith, length-append, false, subst, ◌↔◌, slice_index, slice_set, ◌==◌, get_or-append, get_or-append_seam, false≢true, cases_lt, eq-eqb, ne_eqb, eqb-true, eqb_tells, get_or-set_same, get_or-set_other, length-set, Pid, Det, Entry, Restart, Send, Deliver, Stable, Crash, Forget, lane, restarts, actor, is_delivery_of, IsEventOf, Delivers, event_below, event_lane, AreAccepted, delivers_sent, sent_within}
+-- The event of one more entry: it may be added, and the clock then represents one more entry.
+use Rattle.causal_audit.proofs.Common.{ℕ, ◌≡◌, ◌≢◌, ◌+◌, ◌<◌, inl, inr, true, cond, List, [], ◌∷◌, ◌++◌, length, Option, Some, None, refl, sym, ap, ◌∙◌, arith, length-append, false, subst, ◌↔◌, slice_index, slice_set, ◌==◌, get_or-append, get_or-append_seam, false≢true, cases_lt, eq-eqb, ne_eqb, eqb-true, eqb_tells, get_or-set_same, get_or-set_other, length-set, Pid, Det, Entry, Restart, Send, Deliver, Stable, Crash, Forget, lane, restarts, actor, is_delivery_of, IsEventOf, Delivers, event_below, event_lane, AreLegalEntries, delivers_sent, sent_within}
 use Rattle.causal_clock.specs.declared.Event.{Event}
 use Rattle.causal_clock.specs.Timeline.{Timeline, lane_of, send_of, with_event}
-use Rattle.causal_audit.specs.Inside.ByClock.Stands.{Stands, Mirrors, CanMirror}
+use Rattle.causal_audit.specs.Inside.ByClock.ClockOfRun.{IsClockOf, IsClockWithLanes, CanExtendClock}
 use Rattle.causal_audit.proofs.by_clock.Link.{delivers_below}
 use Rattle.causal_clock.specs.declared.ClockFault.{ClockFault}
 use Rattle.causal_clock.specs.declared.ClockFault.TheVariants.{Lanes as ClockLanes, NoMemory as ClockNoMemory}
@@ -26,14 +26,14 @@ send_of-new es e i h = ap (λ n. send_of (es ++ e ∷ []) n) h ∙ ap (λ (x : E
 iff_at : {P : Type 0} (a b c d : ℕ) → a ≡ c → b ≡ d → ((c ≡ d) ↔ P) → (a ≡ b) ↔ P
 iff_at a b c d x y f = (λ h. f.0 (sym x ∙ h ∙ y), λ p. x ∙ f.1 p ∙ sym y)
 
--- what the event of an entry receives
+-- the send that the event of an entry receives
 abbrev pub Receives : Entry → Option ℕ → Type 0
 Receives x send = (i : ℕ) → (send ≡ Some i) ↔ (is_delivery_of i x ≡ true)
 
 same_actor : (x : Entry) (p q : ℕ) → actor x ≡ Some p → actor x ≡ Some q → p ≡ q
 same_actor x p q a b = let e : Some p ≡ Some q = sym a ∙ b in cc
 
-module _ (x : Entry) (past : List Entry) (events : List Event) (e : Event) (s : Stands past events) where
+module _ (x : Entry) (past : List Entry) (events : List Event) (e : Event) (s : IsClockOf past events) where
   old_lane : (i p l : ℕ) → IsEventOf past i p l → lane_of (events ++ e ∷ []) i ≡ lane_of events i
   old_lane i p l a = lane_of-old events e i (omega (arith, event_below past i p l a, s.count))
 
@@ -68,21 +68,21 @@ module _ (x : Entry) (past : List Entry) (events : List Event) (e : Event) (s : 
         newest j i is (inl d) = absurd (omega (arith, is, delivers_below past j i d))
         newest j i is (inr d) = d.1
 
-    stands_more : Receives x e.send → Stands (x ∷ past) (events ++ e ∷ [])
+    stands_more : Receives x e.send → IsClockOf (x ∷ past) (events ++ e ∷ [])
     stands_more sends = record {
       count = omega (arith, length-append events (e ∷ []), s.count);
       same_lane = same_lane;
       receives = receives sends;
     }
 
--- an entry that is no restart changes no lane
+-- an entry other than a restart changes no lane
 abbrev pub KeepsLanes : Entry → List Entry → Type 0
 KeepsLanes x past = (restarts (x ∷ past) ≡ restarts past) × ((q : ℕ) → lane (x ∷ past) q ≡ lane past q)
 
--- an entry that is no restart, and its event
-pub mirrors_event : (n : ℕ) (past : List Entry) (c : Timeline) (present : List ℕ) (x : Entry) (e : Event) → Mirrors n past c present
+-- an entry other than a restart, and its event
+pub mirrors_event : (n : ℕ) (past : List Entry) (c : Timeline) (present : List ℕ) (x : Entry) (e : Event) → IsClockWithLanes n past c present
     → KeepsLanes x past → e.lane < c.lanes → ((p : ℕ) → actor x ≡ Some p → (p < n) × (e.lane ≡ slice_index present p)) → Receives x e.send
-    → Mirrors n (x ∷ past) (with_event c e) present
+    → IsClockWithLanes n (x ∷ past) (with_event c e) present
 mirrors_event n past c present x e s keeps inside of sends = record {
   stands = stands_more x past c.events e s.stands mine sends;
   opened = s.opened ∙ sym keeps.0;
@@ -116,7 +116,7 @@ mirrors_event n past c present x e s keeps inside of sends = record {
         )
 
 -- a restart, the lane that it opens, and its event
-module _ (n : ℕ) (past : List Entry) (c : Timeline) (present : List ℕ) (who : Pid) (listed : List Det) (e : Event) (s : Mirrors n past c present) (in_who : who.0 < n) (inside : e.lane < c.lanes + 1) (send : e.send ≡ None) where
+module _ (n : ℕ) (past : List Entry) (c : Timeline) (present : List ℕ) (who : Pid) (listed : List Det) (e : Event) (s : IsClockWithLanes n past c present) (in_who : who.0 < n) (inside : e.lane < c.lanes + 1) (send : e.send ≡ None) where
   abbrev x : Entry
   x = Restart who listed
 
@@ -170,7 +170,7 @@ module _ (n : ℕ) (past : List Entry) (c : Timeline) (present : List ℕ) (who 
   receives_none : Receives x e.send
   receives_none i = (λ h. absurd (let k : None ≡ Some i = sym send ∙ h in cc), λ h. absurd (false≢true h))
 
-  pub mirrors_restart : Mirrors n (x ∷ past) (with_event (record c { lanes = c.lanes + 1; opened = c.opened + 1 }) e) moved
+  pub mirrors_restart : IsClockWithLanes n (x ∷ past) (with_event (record c { lanes = c.lanes + 1; opened = c.opened + 1 }) e) moved
   mirrors_restart = record {
     stands = stands_more x past c.events e s.stands (λ i p q l a h. not_event q h) receives_none;
     opened = ap (λ m. m + 1) s.opened;
@@ -181,11 +181,11 @@ module _ (n : ℕ) (past : List Entry) (c : Timeline) (present : List ℕ) (who 
     present_lane = restart_present;
   }
 
--- ==== the event of one more entry: that it may be added, and that the clock then stands for one more entry
+-- ==== the event of one more entry: it may be added, and the clock then represents one more entry
 
-module _ (x : Entry) (c : Timeline) (present : List ℕ) (can : CanMirror x c present) where
-  accepted_as : (y : Entry) → x ≡ y → AreAccepted can.processes (y ∷ can.past)
-  accepted_as y is = subst (λ z. AreAccepted can.processes (z ∷ can.past)) is can.accepted
+module _ (x : Entry) (c : Timeline) (present : List ℕ) (can : CanExtendClock x c present) where
+  accepted_as : (y : Entry) → x ≡ y → AreLegalEntries can.processes (y ∷ can.past)
+  accepted_as y is = subst (λ z. AreLegalEntries can.processes (z ∷ can.past)) is can.accepted
 
   pub room : length c.events < 16777216
   room = omega (arith, entry_short can.processes can.past x can.accepted.1, can.mirrors.stands.count)
@@ -219,39 +219,39 @@ not_sent i = (λ h. absurd (let k : None ≡ Some i = h in cc), λ h. absurd (fa
 sent_is : (send i : ℕ) → (Some send ≡ Some i) ↔ ((send == i) ≡ true)
 sent_is send i = (λ h. eq-eqb send i (let k : Some send ≡ Some i = h in cc), λ h. ap Some (eqb-true send i h))
 
-module _ (n : ℕ) (past : List Entry) (x : Entry) (c : Timeline) (present : List ℕ) (accepted : AreAccepted n (x ∷ past)) (m : Mirrors n past c present) where
+module _ (n : ℕ) (past : List Entry) (x : Entry) (c : Timeline) (present : List ℕ) (accepted : AreLegalEntries n (x ∷ past)) (m : IsClockWithLanes n past c present) where
   abbrev After : Timeline → List ℕ → Entry → Type 0
-  After after lanes y = AreAccepted n (y ∷ past) → Mirrors n (y ∷ past) after lanes
+  After after lanes y = AreLegalEntries n (y ∷ past) → IsClockWithLanes n (y ∷ past) after lanes
 
-  noted : (after : Timeline) (lanes : List ℕ) (y : Entry) → x ≡ y → After after lanes y → Mirrors n (x ∷ past) after lanes
+  noted : (after : Timeline) (lanes : List ℕ) (y : Entry) → x ≡ y → After after lanes y → IsClockWithLanes n (x ∷ past) after lanes
   noted after lanes y is h = subst (After after lanes) (sym is) h accepted
 
-  pub after_send : (from to : Pid) (ssn : ℕ) → x ≡ Send from to ssn → Mirrors n (x ∷ past) (with_event c (record { lane = slice_index present from.0; send = None })) present
+  pub after_send : (from to : Pid) (ssn : ℕ) → x ≡ Send from to ssn → IsClockWithLanes n (x ∷ past) (with_event c (record { lane = slice_index present from.0; send = None })) present
   after_send from to ssn is = noted _ _ (Send from to ssn) is (λ legal.
       let low : from.0 < n = send_inside n past from to ssn legal.1 in
       mirrors_event n past c present (Send from to ssn) (record { lane = slice_index present from.0; send = None }) m (refl, λ q. refl) (m.within from.0 low)
       (λ p k. let one : from.0 ≡ p = cc k in (omega (arith, low, one), ap (slice_index present) one)) not_sent)
 
-  pub after_deliver : (to : Pid) (send rsn : ℕ) (listed : List Det) → x ≡ Deliver to send rsn listed → Mirrors n (x ∷ past) (with_event c (record { lane = slice_index present to.0; send = Some send })) present
+  pub after_deliver : (to : Pid) (send rsn : ℕ) (listed : List Det) → x ≡ Deliver to send rsn listed → IsClockWithLanes n (x ∷ past) (with_event c (record { lane = slice_index present to.0; send = Some send })) present
   after_deliver to send rsn listed is = noted _ _ (Deliver to send rsn listed) is (λ legal.
       let low : to.0 < n = deliver_inside n past to send rsn listed legal.1 in
       mirrors_event n past c present (Deliver to send rsn listed) (record { lane = slice_index present to.0; send = Some send }) m (refl, λ q. refl) (m.within to.0 low)
       (λ p k. let one : to.0 ≡ p = cc k in (omega (arith, low, one), ap (slice_index present) one)) (sent_is send))
 
-  -- an idle event
-  pub after_stable : (det : Det) → x ≡ Stable det → 0 < c.lanes → Mirrors n (x ∷ past) (with_event c (record { lane = 0; send = None })) present
+  -- the event of an entry other than a send, delivery or restart
+  pub after_stable : (det : Det) → x ≡ Stable det → 0 < c.lanes → IsClockWithLanes n (x ∷ past) (with_event c (record { lane = 0; send = None })) present
   after_stable det is some = noted _ _ (Stable det) is (λ _. mirrors_event n past c present (Stable det) (record { lane = 0; send = None }) m (refl, λ q. refl) some (λ p k. absurd (let e : None ≡ Some p = k in cc)) not_sent)
 
-  pub after_crash : (who : Pid) → x ≡ Crash who → 0 < c.lanes → Mirrors n (x ∷ past) (with_event c (record { lane = 0; send = None })) present
+  pub after_crash : (who : Pid) → x ≡ Crash who → 0 < c.lanes → IsClockWithLanes n (x ∷ past) (with_event c (record { lane = 0; send = None })) present
   after_crash who is some = noted _ _ (Crash who) is (λ _. mirrors_event n past c present (Crash who) (record { lane = 0; send = None }) m (refl, λ q. refl) some (λ p k. absurd (let e : None ≡ Some p = k in cc)) not_sent)
 
-  pub after_forget : (who : Pid) (listed : List Det) → x ≡ Forget who listed → 0 < c.lanes → Mirrors n (x ∷ past) (with_event c (record { lane = 0; send = None })) present
+  pub after_forget : (who : Pid) (listed : List Det) → x ≡ Forget who listed → 0 < c.lanes → IsClockWithLanes n (x ∷ past) (with_event c (record { lane = 0; send = None })) present
   after_forget who listed is some = noted _ _ (Forget who listed) is (λ _. mirrors_event n past c present (Forget who listed) (record { lane = 0; send = None }) m (refl, λ q. refl) some (λ p k. absurd (let e : None ≡ Some p = k in cc)) not_sent)
 
-  pub after_restart : (who : Pid) (listed : List Det) → x ≡ Restart who listed → Mirrors n (x ∷ past) (with_event (record c { lanes = c.lanes + 1; opened = c.opened + 1 }) (record { lane = c.lanes; send = None })) (slice_set present who.0 c.lanes)
+  pub after_restart : (who : Pid) (listed : List Det) → x ≡ Restart who listed → IsClockWithLanes n (x ∷ past) (with_event (record c { lanes = c.lanes + 1; opened = c.opened + 1 }) (record { lane = c.lanes; send = None })) (slice_set present who.0 c.lanes)
   after_restart who listed is = noted _ _ (Restart who listed) is (λ legal. mirrors_restart n past c present who listed (record { lane = c.lanes; send = None }) m (restart_inside n past who listed legal.1) (omega arith) refl)
 
--- a fault of the clock that is not want of lanes is want of memory
+-- an error of the clock other than too many lanes is out of memory
 pub only_memory : (e : ClockFault) → (e ≡ ClockLanes → ⊥) → e ≡ ClockNoMemory
 only_memory ClockLanes h = absurd (h refl)
 only_memory ClockNoMemory h = refl

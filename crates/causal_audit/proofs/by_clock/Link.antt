@@ -1,16 +1,16 @@
--- What reaches what in a run is what precedes what in the clock that stands for it.
-use Rattle.causal_audit.proofs.Common.{ℕ, ◌≡◌, ◌<◌, ◌≤◌, inl, inr, List, length, refl, subst, ◌∙◌, arith, ◌↔◌, cases_lt, Entry, AreAccepted, IsEventOf, Delivers, DirectlyPrecedes, in_order, by_message, Reaches, itself, onward, event_below, accepted_forward}
+-- An entry reaches another in a run exactly if its event precedes the other's in the clock of the run.
+use Rattle.causal_audit.proofs.Common.{ℕ, ◌≡◌, ◌<◌, ◌≤◌, inl, inr, List, length, refl, subst, ◌∙◌, arith, ◌↔◌, cases_lt, Entry, AreLegalEntries, IsEventOf, Delivers, DirectlyPrecedes, in_order, by_message, Reaches, itself, onward, event_below, accepted_forward}
 use Rattle.causal_clock.specs.declared.Event.{Event}
 use Rattle.causal_clock.specs.Timeline.{lane_of}
 use Rattle.causal_clock.specs.Precedence as clock
-use Rattle.causal_audit.specs.Inside.ByClock.Stands.{Stands}
+use Rattle.causal_audit.specs.Inside.ByClock.ClockOfRun.{IsClockOf}
 use Rattle.causal_audit.proofs.Legal.{sender_event, receiver_event}
 
--- what delivers a message is an entry of the run
+-- an entry that delivers a message is an entry of the run
 pub delivers_below : (past : List Entry) (j i : ℕ) → Delivers past j i → j < length past
 delivers_below past j i h = let into = receiver_event past j i h in event_below past j into.0 into.1 into.2
 
--- what reaches an event reaches the later ones of its lane
+-- if an event is reached, so are the later events of its lane
 reach_later : (past : List Entry) (i j k p l : ℕ) → Reaches past i j → j ≤ k → IsEventOf past j p l → IsEventOf past k p l → Reaches past i k
 reach_later past i j k p l reach up at to =
     elim (cases_lt j k) [
@@ -18,7 +18,7 @@ reach_later past i j k p l reach up at to =
       | inr h ↦ let same : j ≡ k = omega arith in subst (Reaches past i) same reach
     ]
 
-module _ (n : ℕ) (past : List Entry) (formed : AreAccepted n past) (events : List Event) (stands : Stands past events) where
+module _ (n : ℕ) (past : List Entry) (formed : AreLegalEntries n past) (events : List Event) (stands : IsClockOf past events) where
   clock_direct : (i j : ℕ) → DirectlyPrecedes past i j → clock.DirectlyPrecedes events i j
   clock_direct i j (in_order p l less a b) = record {
     earlier = less;
@@ -52,6 +52,6 @@ module _ (n : ℕ) (past : List Entry) (formed : AreAccepted n past) (events : L
             reach_later past i k k2 q m (onward here (by_message delivers)) up (same_event k k2 into.0 q into.1 m into.2 to same) to
       ]
 
-  -- of two events the clock tells whether one reaches the other
+  -- an event reaches another in the clock exactly if it does in the run
   pub clock_tells : (i j p q l m : ℕ) → IsEventOf past i p l → IsEventOf past j q m → clock.Reaches events i j ↔ Reaches past i j
   clock_tells i j p q l m at to = (λ r. in_run r p l at j q m (omega arith) to refl, in_clock i j)

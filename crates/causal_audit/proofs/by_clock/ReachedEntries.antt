@@ -1,26 +1,26 @@
--- Which entries a delivery reaches, at each instant and in the whole run, and how one is followed from change to change.
-use Rattle.causal_audit.proofs.Common.{ℕ, zero, suc, ◌≡◌, ◌-◌, ◌<◌, ◌≤◌, ◌==◌, inl, List, [], ◌∷◌, length, drop, sym, arith, inr, Bool, true, Some, refl, ap, subst, ◌∙◌, ◌+◌, get_or, Option, ◌↔◌, ◌⊎◌, ◌||◌, Contains, or_cases, eqb-true, eq-eqb, nat_tests, Entry, instant, det_at, lane, AreAccepted, Recording, IsWellFormed, IsEventOf, Reaches, actor, in_order, by_message, itself, onward, Depends, reaches_old, event_below, reaches_newest, ReachesNewest, is_newest, has, in_lane, through_message, accepted_forward, Pid, Det, Send, Deliver, entries_of, accepted_then, det_then, instant_length}
+-- The entries that a delivery reaches, at each instant and in the whole run, and a walk from change to change.
+use Rattle.causal_audit.proofs.Common.{ℕ, zero, suc, ◌≡◌, ◌-◌, ◌<◌, ◌≤◌, ◌==◌, inl, List, [], ◌∷◌, length, drop, sym, arith, inr, Bool, true, Some, refl, ap, subst, ◌∙◌, ◌+◌, get_or, Option, ◌↔◌, ◌⊎◌, ◌||◌, Contains, or_cases, eqb-true, eq-eqb, nat_tests, Entry, instant, det_at, lane, AreLegalEntries, Recording, IsWellFormed, IsEventOf, Reaches, actor, in_order, by_message, itself, onward, Depends, reaches_old, event_below, reaches_newest, ReachesNewest, is_newest, list_has, in_lane, through_message, accepted_forward, Pid, Det, Send, Deliver, entries_of, accepted_then, det_then, instant_length}
 use Rattle.causal_clock.specs.declared.Event.{Event}
 use Rattle.causal_clock.specs.Precedence as clock
 use Rattle.causal_audit.proofs.Between.{reaches_more, known_already, quiet_step}
 use Rattle.causal_audit.proofs.Legal.{delivery_event}
 use Rattle.causal_audit.proofs.by_clock.Link.{clock_tells}
-use Rattle.causal_audit.specs.Inside.ByClock.Stands.{Stands}
-use Rattle.causal_audit.specs.Inside.DeliveryStates.{TellsNextReach, IsDeliveryState, IsStateAfter, BreachAt, TellsBreachAt}
+use Rattle.causal_audit.specs.Inside.ByClock.ClockOfRun.{IsClockOf}
+use Rattle.causal_audit.specs.Inside.DeliveryStates.{IsNextReached, IsDeliveryState, IsStateAfter, BreachAt, IsBreachForState}
 use Rattle.causal_audit.proofs.Swept.{sent_before}
 use Rattle.causal_audit.specs.declared.breach.Breach.{Breach}
 use Rattle.causal_audit.specs.declared.delivery_state.DeliveryState.{DeliveryState}
-use Rattle.causal_audit.specs.Quiet.{Agree, mentioned_by}
-use Rattle.causal_audit.specs.Inside.ByClock.Changes.{AreMentionsOf, ChangesNothing, HasMentions, HasNoneUntil}
-use Rattle.causal_audit.proofs.look.CoverStays.{mentioned_next}
+use Rattle.causal_audit.specs.Quiet.{SameDeliveryState, mentioned_dets}
+use Rattle.causal_audit.specs.Inside.PositionLists.{AreMentionsOf, HasNoEffect, HasMentions, HasNoneUntil}
+use Rattle.causal_audit.proofs.safety_scan.CoverStays.{mentioned_next}
 use Rattle.causal_audit.proofs.NoOrphanSoFar.{accepted_next}
 use Rattle.causal_audit.proofs.Steps.{entry_read, next_state}
 
--- ==== a run's entries in their order, and its instants
+-- ==== a run's entries in order, and its instants
 
--- ---- what reaches what is the same at each instant
+-- ---- which events reach which is the same at each instant
 
-reaches_dropped : (n m : ℕ) (past : List Entry) (i j : ℕ) → AreAccepted n past → j < length past - m → Reaches past i j → Reaches (drop m past) i j
+reaches_dropped : (n m : ℕ) (past : List Entry) (i j : ℕ) → AreLegalEntries n past → j < length past - m → Reaches past i j → Reaches (drop m past) i j
 reaches_dropped n zero past i j formed below r = r
 reaches_dropped n (suc m) [] i j formed below r = r
 reaches_dropped n (suc m) (e ∷ past) i j formed below r =
@@ -31,7 +31,7 @@ reaches_kept zero past i j r = r
 reaches_kept (suc m) [] i j r = r
 reaches_kept (suc m) (e ∷ past) i j r = reaches_more e past i j (reaches_kept m past i j r)
 
-pub reaches_then : (n : ℕ) (past : List Entry) (t i j : ℕ) → AreAccepted n past → t ≤ length past → j < t → Reaches past i j → Reaches (instant past t) i j
+pub reaches_then : (n : ℕ) (past : List Entry) (t i j : ℕ) → AreLegalEntries n past → t ≤ length past → j < t → Reaches past i j → Reaches (instant past t) i j
 reaches_then n past t i j formed within below r = reaches_dropped n (length past - t) past i j formed (omega (arith, within, below)) r
 
 pub reaches_whole : (past : List Entry) (t i j : ℕ) → Reaches (instant past t) i j → Reaches past i j
@@ -42,13 +42,13 @@ event_kept zero past i p l at = at
 event_kept (suc m) [] i p l at = at
 event_kept (suc m) (e ∷ past) i p l at = inl (event_kept m past i p l at)
 
--- an event at an instant is one of the run
+-- an event at an instant is an event of the run
 pub event_whole : (past : List Entry) (t i p l : ℕ) → IsEventOf (instant past t) i p l → IsEventOf past i p l
 event_whole past t i p l at = event_kept (length past - t) past i p l at
 
--- ==== which entries a delivery reaches, as its messages are followed
+-- ==== the entries that a delivery reaches, entry by entry
 
--- ---- what reaches the newest entry
+-- ---- whether the newest entry is reached
 
 -- an event of a process that depends on k is reached
 pub reached_after : (e : Entry) (past : List Entry) (k p : ℕ) → actor e ≡ Some p → Depends past k p → Reaches (e ∷ past) k (length past)
@@ -57,9 +57,9 @@ reached_after e past k p of d =
     (in_order p (lane past p) (event_below past d.event p (lane past p) d.present) (inl d.present) (inr (refl, of, refl)))
 
 module _ (n : ℕ) (past : List Entry) (k : ℕ) (depends : ℕ → Bool) (are : (p : ℕ) → (depends p ≡ true) ↔ Depends past k p) where
-  -- a send is reached where its process depends on k
-  pub send_tells : (d : Det) (from to : Pid) (ssn : ℕ) → AreAccepted n (Send from to ssn ∷ past) → (k ≡ length past → det_at (Send from to ssn ∷ past) k ≡ Some d)
-      → TellsNextReach past (Send from to ssn) k (depends from.0)
+  -- a send is reached exactly if its process depends on k
+  pub send_tells : (d : Det) (from to : Pid) (ssn : ℕ) → AreLegalEntries n (Send from to ssn ∷ past) → (k ≡ length past → det_at (Send from to ssn ∷ past) k ≡ Some d)
+      → IsNextReached past (Send from to ssn) k (depends from.0)
   send_tells d from to ssn formed at p of =
       let e = Send from to ssn in
       let same : from.0 ≡ p = let x : Some from.0 ≡ Some p = of in cc in (
@@ -67,9 +67,9 @@ module _ (n : ℕ) (past : List Entry) (k : ℕ) (depends : ℕ → Bool) (are :
         λ reach. ap depends same ∙ (are p).1 (sent_before n past k d from to ssn p formed at of (reaches_newest e past k p (length past) (accepted_forward n (e ∷ past) formed) refl of reach)),
       )
 
-  -- a delivery is reached where it is k, where its process depends on k, or where its message's send is reached
+  -- a delivery is reached exactly if it is k, its process depends on k, or its message's send is reached
   pub delivery_tells : (own brings : Bool) → ((own ≡ true) ↔ (length past ≡ k)) → (to : Pid) (send rsn : ℕ) (listed : List Det) → ((brings ≡ true) ↔ Reaches past k send)
-      → AreAccepted n (Deliver to send rsn listed ∷ past) → TellsNextReach past (Deliver to send rsn listed) k (own || (depends to.0 || brings))
+      → AreLegalEntries n (Deliver to send rsn listed ∷ past) → IsNextReached past (Deliver to send rsn listed) k (own || (depends to.0 || brings))
   delivery_tells own brings is_own to send rsn listed is_brought formed p of = (forth, λ reach. how (reaches_newest e past k p (length past) (accepted_forward n (e ∷ past) formed) refl of reach))
     where
       e : Entry
@@ -95,10 +95,11 @@ module _ (n : ℕ) (past : List Entry) (k : ℕ) (depends : ℕ → Bool) (are :
       how (in_lane j event reach) = one_of own (depends to.0) brings (inr (inl (ap depends same ∙ (are p).1 (known_already n past e k j p formed.1 of event reach))))
       how (through_message j is reach) = one_of own (depends to.0) brings (inr (inr (is_brought.1 (subst (Reaches past k) (sym (eqb-true send j is)) reach))))
 
--- ==== a delivery that is followed from change to change
+-- ==== one delivery, from change to change
 
--- the entry at t, of which the clock tells whether the delivery reaches it, and the next mention whether it mentions the determinant
-module _ (r : Recording) (formed : IsWellFormed r) (es : List Entry) (read : es ≡ entries_of r) (events : List Event) (stands : Stands r.past events) (k : ℕ) (d : Det) (made : det_at r.past k ≡ Some d) (mentions : List ℕ) (listed : HasMentions r.past d mentions) (only : AreMentionsOf r.past d mentions)
+-- the entry at t: the clock decides whether the delivery reaches it, and the next mention whether it mentions the
+-- determinant
+module _ (r : Recording) (formed : IsWellFormed r) (es : List Entry) (read : es ≡ entries_of r) (events : List Event) (stands : IsClockOf r.past events) (k : ℕ) (d : Det) (made : det_at r.past k ≡ Some d) (mentions : List ℕ) (listed : HasMentions r.past d mentions) (only : AreMentionsOf r.past d mentions)
     (t : ℕ) (e : Entry) (is : e ≡ get_or es t e) (below : t < length r.past) (mention : ℕ) (late : t ≤ mention) (none : HasNoneUntil mentions t mention) (found : mention ≡ t → Contains mentions t) (reached : Bool) (tells : (reached ≡ true) ↔ clock.Reaches events k t) where
   next : instant r.past (t + 1) ≡ e ∷ instant r.past t
   next = next_state r es read t e below is
@@ -106,10 +107,10 @@ module _ (r : Recording) (formed : IsWellFormed r) (es : List Entry) (read : es 
   long : length (instant r.past t) ≡ t
   long = instant_length r.past t (omega (arith, below))
 
-  told : (mention == t) ≡ has (mentioned_by e) d
+  told : (mention == t) ≡ list_has (mentioned_dets e) d
   told = mentioned_next r.past d mentions listed only t mention none t (omega arith) late found e (entry_read r es read t e below is)
 
-  clock_reached : TellsNextReach (instant r.past t) e k reached
+  clock_reached : IsNextReached (instant r.past t) e k reached
   clock_reached p of =
       let from = delivery_event r.past k d made in
       let here : IsEventOf (e ∷ instant r.past t) t p (lane (instant r.past t) p) = inr (sym long, of, refl) in
@@ -119,22 +120,22 @@ module _ (r : Recording) (formed : IsWellFormed r) (es : List Entry) (read : es 
         λ reach. tells.1 (same.1 (reaches_whole r.past (t + 1) k t (subst (λ past. Reaches past k t) (sym next) (subst (Reaches (e ∷ instant r.past t) k) long reach)))),
       )
 
-  -- where it changes nothing, the instants before and after it agree
-  pub unchanged : (s : DeliveryState) → IsDeliveryState (instant r.past t) k d s → ChangesNothing e (mention == t) reached s.dependents → Agree (instant r.past t) (instant r.past (t + 1)) k d
+  -- if it changes nothing, the instants before and after it agree
+  pub unchanged : (s : DeliveryState) → IsDeliveryState (instant r.past t) k d s → HasNoEffect e (mention == t) reached s.dependents → SameDeliveryState (instant r.past t) (instant r.past (t + 1)) k d
   unchanged s state nothing =
-      subst (λ past. Agree (instant r.past t) past k d) (sym next)
+      subst (λ past. SameDeliveryState (instant r.past t) past k d) (sym next)
       (quiet_step r.processes e (instant r.past t) k d (accepted_next r formed t e below next) (record {
         no_turn = nothing.no_turn;
         unmentioned = sym told ∙ nothing.unmentioned;
         known = λ p of reach. (state.dependents p).0 (nothing.known p of ((clock_reached p of).1 reach));
       }))
 
-  -- else what is known after it tells whether the delivery has an orphan then
+  -- otherwise the state after it decides whether the delivery has an orphan then
   pub seen_after : (before after : DeliveryState) → IsDeliveryState (instant r.past t) k d before → IsStateAfter e (mention == t) reached before after → IsDeliveryState (instant r.past (t + 1)) k d after
   seen_after before after state sees =
       subst (λ past. IsDeliveryState past k d after) (sym next) (sees r.processes (instant r.past t) k d (accepted_next r formed t e below next) told clock_reached state)
 
--- what the state at an instant tells of an orphan is so there
-pub breach_after : (r : Recording) (formed : IsWellFormed r) (f k : ℕ) (d : Det) (made : det_at r.past k ≡ Some d) (t : ℕ) (within : t ≤ length r.past) (s : DeliveryState) (found : Option Breach) → IsDeliveryState (instant r.past t) k d s → TellsBreachAt f k t s found → BreachAt r.processes f (instant r.past t) k t found
+-- the breach computed from the state at an instant is the breach at this instant
+pub breach_after : (r : Recording) (formed : IsWellFormed r) (f k : ℕ) (d : Det) (made : det_at r.past k ≡ Some d) (t : ℕ) (within : t ≤ length r.past) (s : DeliveryState) (found : Option Breach) → IsDeliveryState (instant r.past t) k d s → IsBreachForState f k t s found → BreachAt r.processes f (instant r.past t) k t found
 breach_after r formed f k d made t within s found state tells =
     tells r.processes (instant r.past t) d (accepted_then r.processes r.past t formed.accepted) (instant_length r.past t within) (λ early. det_then r.past t k early within ∙ made) state

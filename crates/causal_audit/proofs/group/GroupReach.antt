@@ -1,8 +1,8 @@
--- Which of a few deliveries reach the entries of a walk, with one entry more.
-use Rattle.causal_audit.proofs.Common.{ℕ, ◌≡◌, ◌≢◌, ◌+◌, ◌-◌, ◌<◌, ◌≤◌, inl, inr, Bool, true, false, cond, List, ◌∷◌, length, Some, None, entry_at, message_sent, refl, sym, ap, subst, ◌∙◌, arith, ◌↔◌, ◌⊎◌, ◌||◌, ◌&&◌, ◌==◌, not, set, nat_cmp, nat_cmp_total, FinSet, contains, empty, len, len-insert, remove, same_set, nat_cmp-IsAntisymmetric, union, difference, insert, contains-empty, contains-union, contains-difference, false≢true, eqb-true, eq-eqb, ne_eqb, eqb_tells, nat_tests, get_or-set_same, get_or-set_other, Pid, Det, Entry, Send, Deliver, Stable, Crash, Restart, Forget, det_at, is_down, lane, AreAccepted, actor, Reaches, Depends, accepted_forward, delivers_sent, delivers_up, event_below, reaches_begins, reaches_old, depends_restarted}
-use Rattle.causal_audit.specs.declared.group.reach.ReachingDeliveries.{ReachingDeliveries}
-use Rattle.causal_audit.specs.Inside.Group.Walk.{HasRow, IsNewly, TellRows, TellsReached, row, row_of}
-use Rattle.causal_audit.specs.Inside.DeliveryStates.{TellsNextReach}
+-- The deliveries of a group that reach the entries of a walk, with one more entry.
+use Rattle.causal_audit.proofs.Common.{ℕ, ◌≡◌, ◌≢◌, ◌+◌, ◌-◌, ◌<◌, ◌≤◌, inl, inr, Bool, true, false, cond, List, ◌∷◌, length, Some, None, entry_at, message_sent, refl, sym, ap, subst, ◌∙◌, arith, ◌↔◌, ◌⊎◌, ◌||◌, ◌&&◌, ◌==◌, not, set, nat_cmp, nat_cmp_total, FinSet, contains, empty, len, len-insert, remove, same_set, nat_cmp-IsAntisymmetric, union, difference, insert, contains-empty, contains-union, contains-difference, false≢true, eqb-true, eq-eqb, ne_eqb, eqb_tells, nat_tests, get_or-set_same, get_or-set_other, Pid, Det, Entry, Send, Deliver, Stable, Crash, Restart, Forget, det_at, is_down, lane, AreLegalEntries, actor, Reaches, Depends, accepted_forward, delivers_sent, delivers_up, event_below, reaches_begins, reaches_old, depends_restarted}
+use Rattle.causal_audit.specs.declared.group.reach.ReachSets.{ReachSets}
+use Rattle.causal_audit.specs.Inside.Group.Walk.{HasRow, AreNewlyReached, RowsShowReach, AreReachingPlaces, row, row_of}
+use Rattle.causal_audit.specs.Inside.DeliveryStates.{IsNextReached}
 use Rattle.causal_audit.proofs.Between.{IsNoTurn, reaches_more, depends_more, depends_before}
 use Rattle.causal_audit.proofs.Legal.{sent_is}
 use Rattle.causal_audit.proofs.Steps.{entry_cases, entry_within}
@@ -13,15 +13,15 @@ use Rattle.causal_audit.proofs.Shown.{inserted, parts, removed, crash_inside, re
 abbrev Sets : Type 0
 Sets = List (FinSet nat_cmp)
 
--- nothing is in the empty set
+-- the empty set contains no number
 pub none_in : (j : ℕ) → contains {R = nat_cmp} empty j ≡ true → ⊥
 none_in j h = false≢true (sym (contains-empty nat_cmp j) ∙ h)
 
-module _ (n : ℕ) (past : List Entry) (start k j : ℕ) (rows present : Sets) (told : TellRows past start k j rows present) where
+module _ (n : ℕ) (past : List Entry) (start k j : ℕ) (rows present : Sets) (told : RowsShowReach past start k j rows present) where
   -- ---- the rows of the sends
 
-  module _ (e : Entry) (formed : AreAccepted n (e ∷ past)) where
-    -- the rows of the older ones tell the same, and so does that of the newest entry, if it is one
+  module _ (e : Entry) (formed : AreLegalEntries n (e ∷ past)) where
+    -- the rows of older sends are correct, and so is the row of the newest entry if it is a send
     behind_next : (now : Sets) → ((v : ℕ) → start ≤ v → v < length past → row_of start now v ≡ row_of start rows v) → ((from to : Pid) (ssn : ℕ) → e ≡ Send from to ssn → (contains (row_of start now (length past)) j ≡ true) ↔ Reaches (e ∷ past) k (length past))
         → (v : ℕ) (from to : Pid) (ssn : ℕ) → start ≤ v → entry_at (e ∷ past) v ≡ Some (Send from to ssn) → (contains (row_of start now v) j ≡ true) ↔ Reaches (e ∷ past) k v
     behind_next now same newest v from to ssn late at = elim (entry_cases e past v (Send from to ssn) at) [
@@ -34,17 +34,17 @@ module _ (n : ℕ) (past : List Entry) (start k j : ℕ) (rows present : Sets) (
       | inr new ↦ subst (λ x. (contains (row_of start now x) j ≡ true) ↔ Reaches (e ∷ past) k x) (sym new.0) (newest from to ssn new.1)
     ]
 
-    -- an entry that is no send
+    -- an entry other than a send
     behind_same : message_sent e ≡ None → (v : ℕ) (from to : Pid) (ssn : ℕ) → start ≤ v → entry_at (e ∷ past) v ≡ Some (Send from to ssn) → (contains (row_of start rows v) j ≡ true) ↔ Reaches (e ∷ past) k v
     behind_same none = behind_next rows (λ v late low. refl) (λ from to ssn is. absurd (let x : None ≡ Some _ = sym none ∙ ap message_sent is in cc))
 
     -- ---- the rows of the processes
 
-    -- an entry that turns nobody, and adds nobody
+    -- an entry that crashes or restarts no process and adds no dependent
     depends_same : ((p : ℕ) → IsNoTurn e past p) → ((p : ℕ) → actor e ≡ Some p → Reaches (e ∷ past) k (length past) → Depends past k p) → (p : ℕ) → (contains (row present p) j ≡ true) ↔ Depends (e ∷ past) k p
     depends_same no_turn known p = grind (arith, depends_more, depends_before)
 
-    -- a turn of one process, on which nobody depends then
+    -- a crash or restart of one process, which has no dependences after it
     depends_removed : (w : ℕ) → w < length present → actor e ≡ None → ((p : ℕ) → p ≢ w → IsNoTurn e past p) → (Depends (e ∷ past) k w → ⊥) → (p : ℕ) → (contains (row (set present w empty) p) j ≡ true) ↔ Depends (e ∷ past) k p
     depends_removed w inside none no_turn gone p =
         elim (eqb_tells p w) [
@@ -64,11 +64,11 @@ module _ (n : ℕ) (past : List Entry) (start k j : ℕ) (rows present : Sets) (
   -- ---- each entry
 
   -- a send
-  pub sent : (d : Det) (from to : Pid) (ssn here : ℕ) → AreAccepted n (Send from to ssn ∷ past) → length past ≡ here → HasRow start rows here → (k ≡ length past → det_at (Send from to ssn ∷ past) k ≡ Some d)
-      → TellRows (Send from to ssn ∷ past) start k j (set rows (here - start) (row present from.0)) present × IsNewly past (Send from to ssn) k j empty
+  pub sent : (d : Det) (from to : Pid) (ssn here : ℕ) → AreLegalEntries n (Send from to ssn ∷ past) → length past ≡ here → HasRow start rows here → (k ≡ length past → det_at (Send from to ssn ∷ past) k ≡ Some d)
+      → RowsShowReach (Send from to ssn ∷ past) start k j (set rows (here - start) (row present from.0)) present × AreNewlyReached past (Send from to ssn) k j empty
   sent d from to ssn here formed long inside at = let e = Send from to ssn in
       let hit = row present from.0 in
-      let tells : TellsNextReach past e k (contains hit j) = send_tells n past k (λ p. contains (row present p) j) told.depends d from to ssn formed at in
+      let tells : IsNextReached past e k (contains hit j) = send_tells n past k (λ p. contains (row present p) j) told.depends d from to ssn formed at in
       let known : (p : ℕ) → actor e ≡ Some p → Reaches (e ∷ past) k (length past) → Depends past k p = grind arith in (
         record {
           early = told.early;
@@ -79,20 +79,20 @@ module _ (n : ℕ) (past : List Entry) (start k j : ℕ) (rows present : Sets) (
         record { sound = λ h. absurd (none_in j h); complete = λ p of reach. inr (known p of reach) },
       )
 
-  -- an entry that is no event
-  idle : (e : Entry) → AreAccepted n (e ∷ past) → actor e ≡ None → message_sent e ≡ None → (now : Sets) → ((p : ℕ) → (contains (row now p) j ≡ true) ↔ Depends (e ∷ past) k p) → TellRows (e ∷ past) start k j rows now × IsNewly past e k j empty
+  -- an entry that is not an event
+  idle : (e : Entry) → AreLegalEntries n (e ∷ past) → actor e ≡ None → message_sent e ≡ None → (now : Sets) → ((p : ℕ) → (contains (row now p) j ≡ true) ↔ Depends (e ∷ past) k p) → RowsShowReach (e ∷ past) start k j rows now × AreNewlyReached past e k j empty
   idle e formed none unsent now depends = grind (arith, behind_same e formed unsent, none_in)
 
-  -- an entry of stable storage
-  pub stored : (det : Det) → AreAccepted n (Stable det ∷ past) → TellRows (Stable det ∷ past) start k j rows present × IsNewly past (Stable det) k j empty
+  -- an entry that writes to stable storage
+  pub stored : (det : Det) → AreLegalEntries n (Stable det ∷ past) → RowsShowReach (Stable det ∷ past) start k j rows present × AreNewlyReached past (Stable det) k j empty
   stored det formed = idle (Stable det) formed refl refl present (depends_same (Stable det) formed (λ p. (refl, refl)) (λ p of. absurd (let x : None ≡ Some p = of in cc)))
 
   -- a forgetting
-  pub forgotten : (who : Pid) (listed : List Det) → AreAccepted n (Forget who listed ∷ past) → TellRows (Forget who listed ∷ past) start k j rows present × IsNewly past (Forget who listed) k j empty
+  pub forgotten : (who : Pid) (listed : List Det) → AreLegalEntries n (Forget who listed ∷ past) → RowsShowReach (Forget who listed ∷ past) start k j rows present × AreNewlyReached past (Forget who listed) k j empty
   forgotten who listed formed = idle (Forget who listed) formed refl refl present (depends_same (Forget who listed) formed (λ p. (refl, refl)) (λ p of. absurd (let x : None ≡ Some p = of in cc)))
 
   -- a crash
-  pub crashed : (who : Pid) → n ≤ length present → AreAccepted n (Crash who ∷ past) → TellRows (Crash who ∷ past) start k j rows (set present who.0 empty) × IsNewly past (Crash who) k j empty
+  pub crashed : (who : Pid) → n ≤ length present → AreLegalEntries n (Crash who ∷ past) → RowsShowReach (Crash who ∷ past) start k j rows (set present who.0 empty) × AreNewlyReached past (Crash who) k j empty
   crashed who few formed =
       idle (Crash who) formed refl refl (set present who.0 empty)
       (depends_removed (Crash who) formed who.0 (omega (arith, few, crash_inside n past who formed.1)) refl
@@ -100,14 +100,14 @@ module _ (n : ℕ) (past : List Entry) (start k j : ℕ) (rows present : Sets) (
       (λ d. false≢true (sym d.up ∙ ap (λ b. b || is_down past who.0) (eq-eqb who.0 who.0 refl))))
 
   -- a restart
-  pub restarted : (who : Pid) (listed : List Det) → n ≤ length present → AreAccepted n (Restart who listed ∷ past) → TellRows (Restart who listed ∷ past) start k j rows (set present who.0 empty) × IsNewly past (Restart who listed) k j empty
+  pub restarted : (who : Pid) (listed : List Det) → n ≤ length present → AreLegalEntries n (Restart who listed ∷ past) → RowsShowReach (Restart who listed ∷ past) start k j rows (set present who.0 empty) × AreNewlyReached past (Restart who listed) k j empty
   restarted who listed few formed =
       idle (Restart who listed) formed refl refl (set present who.0 empty)
       (depends_removed (Restart who listed) formed who.0 (omega (arith, few, restart_inside n past who listed formed.1)) refl
       (λ p apart. let other = ne_eqb who.0 p (λ h. apart (sym h)) in (ap (λ b. not b && is_down past p) other, ap (λ b. cond b (lane past p + 1) (lane past p)) other))
       (λ d. depends_restarted (Restart who listed) past k who.0 (ap (λ b. cond b (lane past who.0 + 1) (lane past who.0)) (eq-eqb who.0 who.0 refl)) refl d))
 
-  module _ (to : Pid) (send rsn : ℕ) (listed : List Det) (formed : AreAccepted n (Deliver to send rsn listed ∷ past)) (own : FinSet nat_cmp) (is_own : (contains own j ≡ true) ↔ (k ≡ length past)) (brought : FinSet nat_cmp)
+  module _ (to : Pid) (send rsn : ℕ) (listed : List Det) (formed : AreLegalEntries n (Deliver to send rsn listed ∷ past)) (own : FinSet nat_cmp) (is_own : (contains own j ≡ true) ↔ (k ≡ length past)) (brought : FinSet nat_cmp)
       (is_brought : (from to : Pid) (ssn : ℕ) → entry_at past send ≡ Some (Send from to ssn) → (contains brought j ≡ true) ↔ Reaches past k send) where
     abbrev pub e : Entry
     e = Deliver to send rsn listed
@@ -115,19 +115,19 @@ module _ (n : ℕ) (past : List Entry) (start k j : ℕ) (rows present : Sets) (
     abbrev pub hit : FinSet nat_cmp
     hit = union own (union (row present to.0) brought)
 
-    -- a place is among those that reach the delivery where it is its own, or by its receiver or its send
+    -- a place reaches the delivery through its own position, its receiver or its send
     in_hit : contains hit j ≡ (contains own j || (contains (row present to.0) j || contains brought j))
     in_hit = contains-union nat_cmp_total own (union (row present to.0) brought) j ∙ ap (λ b. contains own j || b) (contains-union nat_cmp_total (row present to.0) brought j)
 
-    -- these are just those that reach it
-    tells : TellsNextReach past e k (contains hit j)
+    -- the set contains exactly the places that reach the delivery
+    tells : IsNextReached past e k (contains hit j)
     tells =
         let at_send = sent_is to.0 (entry_at past send) (delivers_sent n past to send rsn listed formed.1) in
-        subst (TellsNextReach past e k) (sym in_hit)
+        subst (IsNextReached past e k) (sym in_hit)
         (delivery_tells n past k (λ p. contains (row present p) j) told.depends (contains own j) (contains brought j) (λ h. sym (is_own.0 h), λ is. is_own.1 (sym is)) to send rsn listed
         (is_brought at_send.0 at_send.1 at_send.2 at_send.3) formed)
 
-    -- the receiver depends on what reaches the delivery
+    -- after the delivery its receiver depends on the deliveries that reach it
     depends_set : to.0 < length present → (p : ℕ) → (contains (row (set present to.0 hit) p) j ≡ true) ↔ Depends (e ∷ past) k p
     depends_set inside p =
         elim (eqb_tells p to.0) [
@@ -158,9 +158,9 @@ module _ (n : ℕ) (past : List Entry) (start k j : ℕ) (rows present : Sets) (
     newly = difference hit (row present to.0)
 
     -- a delivery
-    pub delivered : to.0 < length present → TellRows (e ∷ past) start k j rows (set present to.0 hit) × IsNewly past e k j newly
-    delivered room = (
-      record { early = told.early; behind = behind_same e formed refl; depends = depends_set room },
+    pub delivered : to.0 < length present → RowsShowReach (e ∷ past) start k j rows (set present to.0 hit) × AreNewlyReached past e k j newly
+    delivered buffers = (
+      record { early = told.early; behind = behind_same e formed refl; depends = depends_set buffers },
       record {
         sound = λ h. (tells to.0 refl).0 (parts (contains hit j) (contains (row present to.0) j) (sym (contains-difference nat_cmp_total hit (row present to.0) j) ∙ h)).0;
         complete = λ p of reach.
@@ -175,22 +175,22 @@ module _ (n : ℕ) (past : List Entry) (start k j : ℕ) (rows present : Sets) (
         either_new : (a b : Bool) → a ≡ true → ((a && not b) ≡ true) ⊎ (b ≡ true)
         either_new a b h = grind (arith, nat_tests)
 
--- what is told of an entry that is known by an equation is what a reach sees
+-- as above, for an entry that is given by an equation
 pub seen : (x y : Entry) (t start : ℕ) (rows present after now : Sets) (own newly : FinSet nat_cmp) → x ≡ y
-    → ((n : ℕ) (past : List Entry) (k j : ℕ) (d : Det) → n ≤ 256 → AreAccepted n (y ∷ past) → length past ≡ t → (k ≡ t → det_at (y ∷ past) k ≡ Some d) → (contains own j ≡ true) ↔ (k ≡ t)
-    → TellRows past start k j rows present → TellRows (y ∷ past) start k j after now × IsNewly past y k j newly)
-    → (n : ℕ) (past : List Entry) (k j : ℕ) (d : Det) → n ≤ 256 → AreAccepted n (x ∷ past) → length past ≡ t → (k ≡ t → det_at (x ∷ past) k ≡ Some d) → (contains own j ≡ true) ↔ (k ≡ t)
-    → TellRows past start k j rows present → TellRows (x ∷ past) start k j after now × IsNewly past x k j newly
+    → ((n : ℕ) (past : List Entry) (k j : ℕ) (d : Det) → n ≤ 256 → AreLegalEntries n (y ∷ past) → length past ≡ t → (k ≡ t → det_at (y ∷ past) k ≡ Some d) → (contains own j ≡ true) ↔ (k ≡ t)
+    → RowsShowReach past start k j rows present → RowsShowReach (y ∷ past) start k j after now × AreNewlyReached past y k j newly)
+    → (n : ℕ) (past : List Entry) (k j : ℕ) (d : Det) → n ≤ 256 → AreLegalEntries n (x ∷ past) → length past ≡ t → (k ≡ t → det_at (x ∷ past) k ≡ Some d) → (contains own j ≡ true) ↔ (k ≡ t)
+    → RowsShowReach past start k j rows present → RowsShowReach (x ∷ past) start k j after now × AreNewlyReached past x k j newly
 seen x y t start rows present after now own newly same sees n past k j d few formed long at is_own is =
-    subst (λ z. AreAccepted n (z ∷ past) → (k ≡ t → det_at (z ∷ past) k ≡ Some d) → TellRows (z ∷ past) start k j after now × IsNewly past z k j newly) (sym same)
+    subst (λ z. AreLegalEntries n (z ∷ past) → (k ≡ t → det_at (z ∷ past) k ≡ Some d) → RowsShowReach (z ∷ past) start k j after now × AreNewlyReached past z k j newly) (sym same)
     (λ legal made. sees n past k j d few legal long made is_own is) formed at
 
--- none reaches a send before the walk
-pub told_before : (reach : ReachingDeliveries) (v : ℕ) → v < reach.start → TellsReached reach v empty
+-- no delivery of the group reaches a send before the walk
+pub told_before : (reach : ReachSets) (v : ℕ) → v < reach.start → AreReachingPlaces reach v empty
 told_before reach v before n past k j from to ssn formed is at = grind (arith, none_in, reach_later)
 
--- before the walk
-pub begun : (past : List Entry) (start k j : ℕ) (rows present : Sets) → length past ≡ start → start ≤ k → ((p : ℕ) → row present p ≡ empty) → TellRows past start k j rows present
+-- the state before the walk
+pub begun : (past : List Entry) (start k j : ℕ) (rows present : Sets) → length past ≡ start → start ≤ k → ((p : ℕ) → row present p ≡ empty) → RowsShowReach past start k j rows present
 begun past start k j rows present long early none = record {
   early = early;
   behind = λ v from to ssn late at. absurd (omega (arith, long, late, entry_within past v (Send from to ssn) at));
@@ -200,9 +200,9 @@ begun past start k j rows present long early none = record {
   );
 }
 
--- ---- places taken out of a set one by one
+-- ---- a set without one of its members
 
--- a set is smaller without one of its members
+-- it is smaller
 pub fewer : (s : FinSet nat_cmp) (p : ℕ) → contains s p ≡ true → len (remove s p) < len s
 fewer s p within =
     let more : len (insert (remove s p) p) ≡ len (remove s p) + 1 = len-insert nat_cmp_total (remove s p) p ∙ ap (λ b. cond b (len (remove s p)) (len (remove s p) + 1)) out in
@@ -218,10 +218,10 @@ fewer s p within =
     back = same_set nat_cmp_total nat_cmp-IsAntisymmetric (insert (remove s p) p) s
         (λ q. inserted (remove s p) p q ∙ ap (λ b. (p == q) || b) (removed s p q) ∙ either (p == q) (contains s q) (λ same. subst (λ x. contains s x ≡ true) (eqb-true p q same) within))
 
--- what is in a set without p is in it, and is not p
+-- its members are members of the set other than p
 pub left_in : (s : FinSet nat_cmp) (p j : ℕ) → contains (remove s p) j ≡ true → (contains s j ≡ true) × (j ≢ p)
 left_in s p j h = grind (arith, removed s p j, eq-eqb)
 
--- what is not in it without p is p, or was not in it
+-- a number outside it is p, or outside the set
 pub left_out : (s : FinSet nat_cmp) (p j : ℕ) → contains (remove s p) j ≡ false → (j ≡ p) ⊎ (contains s j ≡ false)
 left_out s p j h = grind (arith, removed s p j)

@@ -1,6 +1,6 @@
--- The positions of open deliveries, and what holds of a list of them.
+-- Properties of all elements of a list and of its parts.
 use Rattle.causal_audit.proofs.Common.{ℕ, ◌∷◌, ◌++◌, [], List, All, All-cons, All-head, All-nil, All-tail}
-use Rattle.causal_audit.specs.declared.group.run_to_follow.OpenDelivery.{OpenDelivery}
+use Rattle.causal_audit.specs.declared.group.walk_input.OpenDelivery.{OpenDelivery}
 
 abbrev pub zero : OpenDelivery
 zero = record { position = 0; until = 0 }
@@ -8,12 +8,12 @@ zero = record { position = 0; until = 0 }
 abbrev pub position : OpenDelivery → ℕ
 position delivery = delivery.position
 
--- what holds of a list holds of its first part
+-- a property of all elements holds in the first part
 pub all_left : {A : Type 0} (P : A → Type 0) (xs ys : List A) → All P (xs ++ ys) → All P xs
 all_left P [] ys all = All-nil P
 all_left P (x ∷ xs) ys all = All-cons P x xs (All-head P x (xs ++ ys) all) (all_left P xs ys (All-tail P x (xs ++ ys) all))
 
--- and of its last
+-- and in the second part
 pub all_right : {A : Type 0} (P : A → Type 0) (xs ys : List A) → All P (xs ++ ys) → All P ys
 all_right P [] ys all = all
 all_right P (x ∷ xs) ys all = all_right P xs ys (All-tail P x (xs ++ ys) all)

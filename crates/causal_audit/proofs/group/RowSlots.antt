@@ -1,4 +1,4 @@
--- The sets of the entries of a walk, by slots.
+-- The sets of the entries of a walk, shared in slots.
 use Rattle.std.proofs.lemmas.Grind.{common_steps}
 use Rattle.causal_audit.proofs.Common.{ℕ, ◌≡◌, ◌<◌, ◌≤◌, inl, inr, Bool, true, List, [], ◌∷◌, ◌++◌, length, refl, sym, ap, subst, ◌∙◌, arith, All, set, get_or, nat_cmp, FinSet, empty, eqb_tells, get_or_default, insert, get_or-map, get_or-set_same, get_or-set_other, get_or-append_seam, get_or-eq_default, length-map, length-set, length-append, map-set}
 use Rattle.std.proofs.lemmas.List.{ext_get_or}
@@ -7,17 +7,17 @@ use Rattle.causal_audit.specs.Inside.Group.Rows.{AreFirst, AreSlots, IsAdded, Is
 abbrev Sets : Type 0
 Sets = List (FinSet nat_cmp)
 
--- ---- what is read
+-- ---- reads
 
--- an entry has the set of its slot
+-- the set of an entry is that of its slot
 pub read_slot : (slots : List ℕ) (sets : Sets) (i : ℕ) → i < length slots → row (sets_of slots sets) i ≡ row sets (get_or slots i 0)
 read_slot slots sets i low = get_or-map (row sets) slots i 0 empty low
 
--- there is none beyond the last
+-- there is no set after the last entry
 pub read_past : (slots : List ℕ) (sets : Sets) (i : ℕ) → length slots ≤ i → row (sets_of slots sets) i ≡ empty
 read_past slots sets i past = get_or-eq_default (sets_of slots sets) empty (omega (arith, past, length-map slots (row sets)))
 
--- where the sets are kept, each entry has what it had
+-- if the old sets are unchanged, the set of each entry is unchanged
 kept_sets : (slots : List ℕ) (old new : Sets) → All (λ slot. slot < length old) slots → ((s : ℕ) → s < length old → row new s ≡ row old s) → sets_of slots new ≡ sets_of slots old
 kept_sets slots old new within kept =
     ext_get_or empty (sets_of slots new) (sets_of slots old) (length-map slots (row new) ∙ sym (length-map slots (row old))) (λ i low.
@@ -26,23 +26,23 @@ kept_sets slots old new within kept =
 
 -- ---- the slot of a set
 
--- one that has the set already
+-- a slot that contains the set already
 pub slot_found : (sets : Sets) (places : FinSet nat_cmp) (slot : ℕ) → IsAt sets slot places → IsSlotOf sets sets places slot
 slot_found sets places slot is = record { found = is; longer = omega arith; kept = λ s low. refl }
 
--- one for a set that is added
+-- a slot for a new set
 pub slot_added : (old : Sets) (places : FinSet nat_cmp) → IsAdded old (old ++ places ∷ []) places (length old)
 slot_added old places = grind (arith, common_steps, length-append, get_or-append_seam)
 
--- ---- an entry gets a slot
+-- ---- a write of an entry's slot
 
--- it has the set of that, and the others have what they had
+-- the entry has the set of the slot, and the others are unchanged
 pub stored : (slots : List ℕ) (old new : Sets) (places : FinSet nat_cmp) (i slot : ℕ) → All (λ s. s < length old) slots → IsSlotOf old new places slot → sets_of (set slots i slot) new ≡ set (sets_of slots old) i places
 stored slots old new places i slot within is = grind (arith, map-set (row new) slots i slot, kept_sets slots old new within is.kept)
 
--- ---- a set changes in its slot
+-- ---- a write of the set in a slot
 
--- where only one entry has that slot, only that has another set
+-- if only one entry has that slot, only this entry's set changes
 pub put_alone : (slots : List ℕ) (sets : Sets) (apart : Bool) (i slot : ℕ) (places : FinSet nat_cmp) → apart ≡ true → i < length slots → get_or slots i 0 ≡ slot → 0 < slot → AreSlots slots sets apart
     → sets_of slots (set sets slot places) ≡ set (sets_of slots sets) i places
 put_alone slots sets apart i slot places holds inside at more are =
@@ -59,9 +59,9 @@ put_alone slots sets apart i slot places holds inside at more are =
           ∙ sym (read_slot slots sets k low) ∙ sym (get_or-set_other (sets_of slots sets) i k places empty other.1)
     ])
 
--- ---- a place is put into a set
+-- ---- a place is added to a set
 
--- the slot of an entry, by what was read of it
+-- the slot of an entry, from the read
 slot_read : (slots : List ℕ) (sets : Sets) (i s : ℕ) → i < length (sets_of slots sets) → s ≡ get_or slots i s → get_or slots i 0 ≡ s
 slot_read slots sets i s low is = sym (is ∙ get_or_default slots i s 0 (omega (arith, low, length-map slots (row sets))))
 
@@ -73,7 +73,7 @@ set_read slots sets i s low is = sym (read_slot slots sets i (omega (arith, low,
 pub slot_within : (slots : List ℕ) (sets : Sets) (apart : Bool) (i s : ℕ) → i < length (sets_of slots sets) → s ≡ get_or slots i s → AreSlots slots sets apart → s < length sets
 slot_within slots sets apart i s low is are = grind (arith, length-map slots (row sets), slot_read slots sets i s low is)
 
--- in its slot
+-- in the entry's own slot
 pub placed_alone : (slots : List ℕ) (sets : Sets) (apart : Bool) (i s place : ℕ) (places : FinSet nat_cmp) → apart ≡ true → i < length (sets_of slots sets) → s ≡ get_or slots i s → 0 < s → AreSlots slots sets apart
     → places ≡ insert (row sets s) place → sets_of slots (set sets s places) ≡ set (sets_of slots sets) i (insert (row (sets_of slots sets) i) place)
 placed_alone slots sets apart i s place places holds low is more are has = grind (arith, put_alone, length-map, slot_read, set_read)
@@ -85,10 +85,10 @@ placed_fresh slots old new apart i s place slot places low is are added has = gr
 
 -- ---- a new walk
 
--- no entries
+-- without entries
 pub slots_none : (slots : List ℕ) (sets : Sets) (apart : Bool) → slots ≡ [] → AreSlots slots sets apart
 slots_none slots sets apart none = grind arith
 
--- entries that all have the first slot have no places
+-- entries that all have slot 0 have no places
 pub first_empty : (slots : List ℕ) (sets : Sets) → AreFirst slots sets → (i : ℕ) → row (sets_of slots sets) i ≡ empty
 first_empty slots sets are i = grind (arith, read_slot, read_past)

@@ -1,24 +1,24 @@
--- A walk over an ascending list.
+-- A cursor over an ascending list.
 use Rattle.causal_audit.proofs.Common.{ℕ, ◌≡◌, ◌<◌, ◌≤◌, true, false, List, length, get_or, arith, IsNonDecreasing, IsPartitionPoint, ltb-true}
 use Rattle.std.proofs.Math.Dec.{ltb}
-use Rattle.causal_audit.specs.Inside.ByClock.Changes.{HasNoneUntil, IsCursor}
+use Rattle.causal_audit.specs.Inside.PositionLists.{HasNoneUntil, IsCursor}
 
 -- ---- the numbers that a cursor has passed
 
 abbrev pub AreBelow : List ℕ → ℕ → ℕ → Type 0
 AreBelow list passed from = (i v : ℕ) → i < passed → get_or list i v < from
 
--- what stands before the place of a number in a list is below it
+-- the elements before the partition point of a number are below it
 pub passed_at : (list : List ℕ) (from i : ℕ) → IsPartitionPoint (λ y. ltb y from ≡ true) (λ y. ltb y from ≡ false) list i → AreBelow list i from
 passed_at list from i point j v low = ltb-true (get_or list j v) from (point.0 j v (omega arith) low)
 
--- ---- the first number that is left
+-- ---- the first number after the cursor
 
 module _ (list : List ℕ) (from passed : ℕ) (ascending : IsNonDecreasing list) (below : AreBelow list passed from) where
   pub none_left : (next : ℕ) → length list ≤ passed → HasNoneUntil list from next
   none_left next beyond v late early listed = grind (arith, listed.2, late)
 
--- ---- what has been passed below a number has been passed below a higher one
+-- ---- numbers passed below one bound are below a higher bound
 
 pub cursor_later : (list : List ℕ) (from to : ℕ) (cursor : _) → from ≤ to → IsCursor list from cursor → IsCursor list to cursor
 cursor_later list from to cursor up is = grind arith

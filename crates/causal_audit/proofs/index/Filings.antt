@@ -1,20 +1,20 @@
--- The lists of positions that are kept of a run: one more position, and one more entry.
+-- The lists of positions of an index, with one more position and one more entry.
 use Rattle.std.proofs.lemmas.Grind.{common_steps}
-use Rattle.causal_audit.proofs.Common.{ℕ, ◌≡◌, ◌≢◌, ◌+◌, ◌<◌, ◌≤◌, inl, inr, true, false, Result, Ok, Err, List, [], ◌∷◌, ◌++◌, length, Option, Some, None, refl, sym, ap, subst, ◌∙◌, arith, Bool, ◌⊎◌, OnOk, Contains, ◌==◌, ◌&&◌, ◌||◌, option_map_or, All, get_or-eq_default, cases_lt, false≢true, cond-true, cond-false, false_from_ne_true, eqb-true, eq-eqb, ne_eqb, and_parts, or_cases, cases_Bool, or_left, or_right, get_or-set_same, get_or-set_other, get_or_past, All-push, All-set, All-get_or, All-weaker, Contains-append_left, Contains-push, Contains-push_cases, IsNonDecreasingBy-push, Entry, entry_at, has, nat_cmp, FinSet, contains, empty, remove, contains-empty, IsNonDecreasing, Send, Deliver, Stable, Crash, Restart, Forget, entry_beyond, Det, same_det}
-use Rattle.causal_audit.specs.Inside.Index.Filed.{Ascends, list_at, with_added, AreMentions, AreMentionsWith, mentions_of, AreTurnsOf, IsFirstCrash, is_turn_of}
-use Rattle.causal_audit.specs.Inside.ByClock.Changes.{HasNoneUntil}
-use Rattle.causal_audit.specs.Inside.Look.Staying.{restarts_one, RestartsNone}
-use Rattle.causal_audit.specs.Spread.{IsCrashOf}
+use Rattle.causal_audit.proofs.Common.{ℕ, ◌≡◌, ◌≢◌, ◌+◌, ◌<◌, ◌≤◌, inl, inr, true, false, Result, Ok, Err, List, [], ◌∷◌, ◌++◌, length, Option, Some, None, refl, sym, ap, subst, ◌∙◌, arith, Bool, ◌⊎◌, OnOk, Contains, ◌==◌, ◌&&◌, ◌||◌, option_map_or, All, get_or-eq_default, cases_lt, false≢true, cond-true, cond-false, false_from_ne_true, eqb-true, eq-eqb, ne_eqb, and_parts, or_cases, cases_Bool, or_left, or_right, get_or-set_same, get_or-set_other, get_or_past, All-push, All-set, All-get_or, All-weaker, Contains-append_left, Contains-push, Contains-push_cases, IsNonDecreasingBy-push, Entry, entry_at, list_has, nat_cmp, FinSet, contains, empty, remove, contains-empty, IsNonDecreasing, Send, Deliver, Stable, Crash, Restart, Forget, entry_beyond, Det, same_det}
+use Rattle.causal_audit.specs.Inside.Index.Lists.{Ascends, list_at, with_added, AreMentions, AreMentionsWith, mentions_of, AreTransitionsOf, IsFirstCrash, is_transition_of}
+use Rattle.causal_audit.specs.Inside.PositionLists.{HasNoneUntil}
+use Rattle.causal_audit.specs.Inside.SafetyScan.Persistence.{restarts_one, RestartsNone}
+use Rattle.causal_audit.specs.Covered.{IsCrashOf}
 use Rattle.causal_audit.proofs.group.GroupReach.{left_out}
 use Rattle.causal_audit.proofs.Steps.{entry_cases, entry_within}
-use Rattle.causal_audit.specs.Quiet.{mentioned_by}
+use Rattle.causal_audit.specs.Quiet.{mentioned_dets}
 use Rattle.std.specs.Prelude.{nat_lt, IfSome}
 use Rattle.std.proofs.lemmas.Bool.{le-ltb, lt-ltb}
 use Rattle.std.proofs.lemmas.List.{length-set}
 use Rattle.causal_trace.specs.Numbers.{number_of}
 use Rattle.causal_trace.proofs.Lemmas.DeliveryNumbers.{number_below}
 
--- ==== the lists of positions that tables keep: one more position, and one more entry
+-- ==== the lists of positions, with one more position and one more entry
 
 -- ---- a list with one more position
 
@@ -37,10 +37,10 @@ module _ (lists : List (List ℕ)) (m v : ℕ) (there : m < length lists) where
   added_has = subst (λ list. Contains list v) (sym added_here) (Contains-push (list_at lists m) v)
 
   pub added_keeps : (j w : ℕ) → Contains (list_at lists j) w → Contains (list_at (with_added lists m v) j) w
-  added_keeps j w has = grind (arith, common_steps, added_here, Contains-append_left, added_other)
+  added_keeps j w list_has = grind (arith, common_steps, added_here, Contains-append_left, added_other)
 
   pub added_cases : (j w : ℕ) → Contains (list_at (with_added lists m v) j) w → Contains (list_at lists j) w ⊎ ((j ≡ m) × (v ≡ w))
-  added_cases j w has = grind (arith, common_steps, Contains-push_cases, added_here, added_other)
+  added_cases j w list_has = grind (arith, common_steps, Contains-push_cases, added_here, added_other)
 
   pub added_ascend : All (Ascends (v + 1)) lists → All (Ascends (v + 1)) (with_added lists m v)
   added_ascend all = All-set (Ascends (v + 1)) lists m (list_at lists m ++ v ∷ []) (ascends_push v (list_at lists m) (All-get_or (Ascends (v + 1)) lists m [] there all)) all
@@ -54,9 +54,9 @@ pub empty_ascend : (lists : List (List ℕ)) → All (λ list. list ≡ []) list
 empty_ascend lists all = All-weaker (λ list. list ≡ []) (Ascends 0) (λ list is. subst (Ascends 0) (sym is) (record { ascending = λ i j d low high. absurd (omega (arith, high)); below = λ i d low. absurd (omega (arith, low)) })) lists all
 
 pub nothing_in : (lists : List (List ℕ)) → All (λ list. list ≡ []) lists → (m v : ℕ) → Contains (list_at lists m) v → ⊥
-nothing_in lists all m v has = grind (arith, get_or-eq_default)
+nothing_in lists all m v list_has = grind (arith, get_or-eq_default)
 
--- what follows from what a success promises, it promises too
+-- a consequence of the fact that success promises is promised too
 pub on_ok : {A E P Q : Type 0} (r : Result A E) → (P → Q) → OnOk r P → OnOk r Q
 on_ok (Ok x) f h = f h
 on_ok (Err e) f h = tt
@@ -65,7 +65,7 @@ on_ok (Err e) f h = tt
 
 -- ---- one more entry
 
--- an entry before the newest is the same without that
+-- an older entry is at the same position in the shorter past
 older_entry : (e : Entry) (past : List Entry) (v : ℕ) (x : Entry) → entry_at past v ≡ Some x → entry_at (e ∷ past) v ≡ Some x
 older_entry e past v x at =
     elim (cases_lt v (length past)) [
@@ -73,20 +73,20 @@ older_entry e past v x at =
       | inr beyond ↦ absurd (let is : None ≡ Some x = sym (entry_beyond past v beyond) ∙ at in cc)
     ]
 
-module _ (restarts : Bool) (e : Entry) (past : List Entry) (lists : List (List ℕ)) (are : AreTurnsOf restarts past lists) where
+module _ (restarts : Bool) (e : Entry) (past : List Entry) (lists : List (List ℕ)) (are : AreTransitionsOf restarts past lists) where
   longer : length past + 1 ≡ length (e ∷ past)
   longer = omega arith
 
-  -- an entry that is of no process
-  pub turns_same : ((p : ℕ) → is_turn_of restarts p e ≡ false) → AreTurnsOf restarts (e ∷ past) lists
+  -- an entry that crashes or restarts no process
+  pub turns_same : ((p : ℕ) → is_transition_of restarts p e ≡ false) → AreTransitionsOf restarts (e ∷ past) lists
   turns_same none = record {
     ascend = subst (λ n. All (Ascends n) lists) longer (ascend_weaker (length past) (length past + 1) lists (omega arith) are.ascend);
     only = λ p v listed. let was = are.only p v listed in (was.0, older_entry e past v was.0 was.1, was.2);
     all = λ p v x at absent. grind (arith, entry_cases e past v x at);
   }
 
-  -- and one of this process
-  pub turns_more : (q : ℕ) → ((p : ℕ) → is_turn_of restarts p e ≡ (q == p)) → q < length lists → AreTurnsOf restarts (e ∷ past) (with_added lists q (length past))
+  -- an entry that crashes or restarts this process
+  pub turns_more : (q : ℕ) → ((p : ℕ) → is_transition_of restarts p e ≡ (q == p)) → q < length lists → AreTransitionsOf restarts (e ∷ past) (with_added lists q (length past))
   turns_more q of there = record {
     ascend = subst (λ n. All (Ascends n) (with_added lists q (length past))) longer (added_ascend lists q (length past) there (ascend_weaker (length past) (length past + 1) lists (omega arith) are.ascend));
     only = λ p v listed. elim (added_cases lists q (length past) there p v listed) [
@@ -94,26 +94,26 @@ module _ (restarts : Bool) (e : Entry) (past : List Entry) (lists : List (List �
       | inr new ↦ (e, cond-true (v == length past) (Some e) (entry_at past v) (eq-eqb v (length past) (sym new.1)), of p ∙ eq-eqb q p (sym new.0))
     ];
     all = λ p v x at absent. elim (entry_cases e past v x at) [
-      | inl old ↦ are.all p v x old (λ has. absent (added_keeps lists q (length past) there p v has))
+      | inl old ↦ are.all p v x old (λ list_has. absent (added_keeps lists q (length past) there p v list_has))
       | inr new ↦
           let here : Contains (list_at (with_added lists q (length past)) q) v = subst (Contains (list_at (with_added lists q (length past)) q)) (sym new.0) (added_has lists q (length past) there) in
-          subst (λ y. is_turn_of restarts p y ≡ false) new.1 (of p ∙ ne_eqb q p (λ same. absent (subst (λ m. Contains (list_at (with_added lists q (length past)) m) v) same here)))
+          subst (λ y. is_transition_of restarts p y ≡ false) new.1 (of p ∙ ne_eqb q p (λ same. absent (subst (λ m. Contains (list_at (with_added lists q (length past)) m) v) same here)))
     ];
   }
 
 -- ---- before the first entry
 
--- empty lists are those of no entries
-pub turns_of_none : (restarts : Bool) (lists : List (List ℕ)) → All (λ list. list ≡ []) lists → AreTurnsOf restarts [] lists
+-- empty lists are correct for no entries
+pub turns_of_none : (restarts : Bool) (lists : List (List ℕ)) → All (λ list. list ≡ []) lists → AreTransitionsOf restarts [] lists
 turns_of_none restarts lists all = grind (arith, common_steps, empty_ascend, nothing_in)
 
 -- the lists ascend
-pub turns_ascend : (restarts : Bool) (past : List Entry) (lists : List (List ℕ)) → AreTurnsOf restarts past lists → All IsNonDecreasing lists
+pub turns_ascend : (restarts : Bool) (past : List Entry) (lists : List (List ℕ)) → AreTransitionsOf restarts past lists → All IsNonDecreasing lists
 turns_ascend restarts past lists are = All-weaker (Ascends (length past)) IsNonDecreasing (λ list a. a.ascending) lists are.ascend
 
 -- ---- the first crash
 
-crash_from : (past : List Entry) (p v : ℕ) (e : Entry) → entry_at past v ≡ Some e → is_turn_of false p e ≡ true → IsCrashOf past p v
+crash_from : (past : List Entry) (p v : ℕ) (e : Entry) → entry_at past v ≡ Some e → is_transition_of false p e ≡ true → IsCrashOf past p v
 crash_from past p v (Crash who) at is = (who, at, eqb-true who.0 p is)
 crash_from past p v (Restart who listed) at is = absurd (false≢true is)
 crash_from past p v (Send from to ssn) at is = absurd (false≢true is)
@@ -122,7 +122,7 @@ crash_from past p v (Stable det) at is = absurd (false≢true is)
 crash_from past p v (Forget who listed) at is = absurd (false≢true is)
 
 -- the first position after k in the list of a process is its first crash after k
-pub first_crash_is : (past : List Entry) (lists : List (List ℕ)) (p k end c : ℕ) → AreTurnsOf false past lists → k + 1 ≤ c → c ≤ end → HasNoneUntil (list_at lists p) (k + 1) c → (c < end → Contains (list_at lists p) c) → IsFirstCrash past p k end c
+pub first_crash_is : (past : List Entry) (lists : List (List ℕ)) (p k end c : ℕ) → AreTransitionsOf false past lists → k + 1 ≤ c → c ≤ end → HasNoneUntil (list_at lists p) (k + 1) c → (c < end → Contains (list_at lists p) c) → IsFirstCrash past p k end c
 first_crash_is past lists p k end c are after within none found = record {
   within = within;
   after = omega (arith, after);
@@ -132,12 +132,12 @@ first_crash_is past lists p k end c are after within none found = record {
 
 -- ---- the least over some processes
 
--- of those that are not left none restarts before `next`
+-- no process other than the remaining ones restarts before `next`
 abbrev pub RestNone : List (List ℕ) → FinSet nat_cmp → FinSet nat_cmp → ℕ → ℕ → Type 0
 RestNone lists members rest from next =
     (p : ℕ) → contains members p ≡ true → contains rest p ≡ false → HasNoneUntil (list_at lists p) from next
 
--- with one more asked, which does not restart before `nearer`, none of those asked does
+-- after the check of one more process, whose next restart is not before `nearer`
 pub rest_less : (lists : List (List ℕ)) (members rest : FinSet nat_cmp) (from next nearer p : ℕ) → nearer ≤ next → HasNoneUntil (list_at lists p) from nearer → RestNone lists members rest from next → RestNone lists members (remove rest p) from nearer
 rest_less lists members rest from next nearer p low here none q member out =
     elim (left_out rest p q out) [
@@ -145,8 +145,8 @@ rest_less lists members rest from next nearer p low here none q member out =
       | inr gone ↦ λ v late early. none q member gone v late (omega (arith, early, low))
     ]
 
--- an entry that restarts one of these processes restarts that one
-restarted_one : (members : FinSet nat_cmp) (e : Entry) → restarts_one members e ≡ true → (p : ℕ) × (contains members p ≡ true) × (is_turn_of true p e ≡ true)
+-- an entry that restarts one of these processes restarts exactly one of them
+restarted_one : (members : FinSet nat_cmp) (e : Entry) → restarts_one members e ≡ true → (p : ℕ) × (contains members p ≡ true) × (is_transition_of true p e ≡ true)
 restarted_one members (Send from to ssn) h = absurd (false≢true h)
 restarted_one members (Deliver to send rsn listed) h = absurd (false≢true h)
 restarted_one members (Stable det) h = absurd (false≢true h)
@@ -154,8 +154,8 @@ restarted_one members (Crash who) h = absurd (false≢true h)
 restarted_one members (Restart who listed) h = (who.0, h, eq-eqb who.0 who.0 refl)
 restarted_one members (Forget who listed) h = absurd (false≢true h)
 
--- where none is left, none of them restarts before `next`
-pub none_rest : (past : List Entry) (lists : List (List ℕ)) (members : FinSet nat_cmp) (from next : ℕ) → AreTurnsOf true past lists → RestNone lists members empty from next → RestartsNone past members from next
+-- if no process remains, none of them restarts before `next`
+pub none_rest : (past : List Entry) (lists : List (List ℕ)) (members : FinSet nat_cmp) (from next : ℕ) → AreTransitionsOf true past lists → RestNone lists members empty from next → RestartsNone past members from next
 none_rest past lists members from next are none v e late early at =
     false_from_ne_true (restarts_one members e) (λ is.
     let one = restarted_one members e is in
@@ -163,13 +163,13 @@ none_rest past lists members from next are none v e late early at =
 
 -- ==== the lists of the entries that mention each determinant
 
--- determinants that are the same are one
+-- equal determinants are identical
 pub same_is : (x y : Det) → same_det x y ≡ true → x ≡ y
 same_is x y h = grind (arith, eqb-true)
 
 -- ---- numbers
 
--- a number that is found is below a bound, where all are
+-- a number that is found is below the bound
 pub found_below : (o : Option ℕ) (n m : ℕ) → IfSome o (λ i. i < n) → o ≡ Some m → m < n
 found_below o n m all is = subst (λ x. IfSome x (λ i. i < n)) is all
 
@@ -196,11 +196,11 @@ numbers_apart n (x ∷ older) c d m at to =
       ]
     ]
 
--- a number from a bound on is of no delivery below it
+-- a number at or above a bound belongs to no delivery below it
 pub too_late : (k m : ℕ) (b : Bool) → m ≤ k → (nat_lt k m && b) ≡ false
 too_late k m b later = ap (λ c. c && b) (le-ltb k m later)
 
--- the newest of some first ones is the newest up to itself
+-- the newest among the first m deliveries is the newest up to itself
 pub number_of_found : (m : ℕ) (dets : List Det) (d : Det) (j : ℕ) → number_of m dets d ≡ Some j → number_of (j + 1) dets d ≡ Some j
 number_of_found m [] d j is = absurd (let x : None ≡ Some j = is in cc)
 number_of_found m (x ∷ older) d j is =
@@ -208,27 +208,27 @@ number_of_found m (x ∷ older) d j is =
 
 -- ---- one more position in the list of a determinant
 
-has_more : (dets : List Det) (det d : Det) → has (dets ++ det ∷ []) d ≡ (has dets d || same_det d det)
+has_more : (dets : List Det) (det d : Det) → list_has (dets ++ det ∷ []) d ≡ (list_has dets d || same_det d det)
 has_more [] det d = grind arith
 has_more (x ∷ dets) det d = grind (arith, has_more dets det d)
 
--- what the list of a determinant has, it has with one more position in some list
+-- an element of a determinant's list remains one after an addition to some list
 keeps_of : (o : Option ℕ) (lists : List (List ℕ)) (m v w : ℕ) → m < length lists → Contains (option_map_or (list_at lists) o []) w → Contains (option_map_or (list_at (with_added lists m v)) o []) w
-keeps_of None lists m v w there has = has
-keeps_of (Some j) lists m v w there has = added_keeps lists m v there j w has
+keeps_of None lists m v w there list_has = list_has
+keeps_of (Some j) lists m v w there list_has = added_keeps lists m v there j w list_has
 
--- and what it has then, it had, or it is the list with one more position
+-- an element of a determinant's list after the addition was one before, or is the added position in the changed list
 cases_of : (o : Option ℕ) (lists : List (List ℕ)) (m v w : ℕ) → m < length lists → Contains (option_map_or (list_at (with_added lists m v)) o []) w → Contains (option_map_or (list_at lists) o []) w ⊎ ((o ≡ Some m) × (v ≡ w))
-cases_of None lists m v w there has = inl has
-cases_of (Some j) lists m v w there has = grind (arith, added_cases lists m v there j w has)
+cases_of None lists m v w there list_has = inl list_has
+cases_of (Some j) lists m v w there list_has = grind (arith, added_cases lists m v there j w list_has)
 
--- once one more determinant of the next entry is noted, its list has the position of that
+-- after one more determinant of the next entry is added, its list contains the entry's position
 pub mentions_more : (past : List Entry) (dets numbers : List Det) (lists : List (List ℕ)) (det : Det) (m : ℕ) → number_of (length lists) numbers det ≡ Some m → m < length lists → AreMentionsWith past dets numbers lists → AreMentionsWith past (dets ++ det ∷ []) numbers (with_added lists m (length past))
 mentions_more past dets numbers lists det m at there are =
     record {
       ascend = added_ascend lists m (length past) there are.ascend;
       mentioned = λ d v e is unlisted. are.mentioned d v e is (λ listed. unlisted (back d v (keeps_of (number d) lists m (length past) v there listed)));
-      noted = λ d listed. elim (or_cases (has dets d) (same_det d det) (sym (has_more dets det d) ∙ listed)) [
+      noted = λ d listed. elim (or_cases (list_has dets d) (same_det d det) (sym (has_more dets det d) ∙ listed)) [
         | inl before ↦ back d (length past) (keeps_of (number d) lists m (length past) (length past) there (are.noted d before))
         | inr now ↦
             back d (length past) (subst (λ o. Contains (option_map_or (list_at more) o []) (length past)) (sym (ap number (same_is d det now) ∙ at))
@@ -237,9 +237,9 @@ mentions_more past dets numbers lists det m at there are =
       only = λ d v listed. elim (cases_of (number d) lists m (length past) v there (subst (λ o. Contains (option_map_or (list_at more) o []) v) (same d) listed)) [
         | inl old ↦ elim (are.only d v old) [
           | inl before ↦ inl before
-          | inr now ↦ inr (now.0, has_more dets det d ∙ or_left (has dets d) (same_det d det) now.1)
+          | inr now ↦ inr (now.0, has_more dets det d ∙ or_left (list_has dets d) (same_det d det) now.1)
         ]
-        | inr new ↦ inr (sym new.1, has_more dets det d ∙ or_right (has dets d) (same_det d det) (numbers_apart (length lists) numbers d det m new.0 at))
+        | inr new ↦ inr (sym new.1, has_more dets det d ∙ or_right (list_has dets d) (same_det d det) (numbers_apart (length lists) numbers d det m new.0 at))
       ];
       owned = λ i v d listed own. same d ∙ elim (added_cases lists m (length past) there i v listed) [
         | inl old ↦ are.owned i v d old own
@@ -265,7 +265,7 @@ mentions_more past dets numbers lists det m at there are =
 
 -- ---- one more entry
 
--- before the determinants of the next entry are noted, the lists are those of the run
+-- before the determinants of the next entry are added, the lists are correct for the run
 pub mentions_begun : (past : List Entry) (numbers : List Det) (lists : List (List ℕ)) → AreMentions past numbers lists → AreMentionsWith past [] numbers lists
 mentions_begun past numbers lists are = record {
   ascend = ascend_weaker (length past) (length past + 1) lists (omega arith) are.ascend;
@@ -275,8 +275,8 @@ mentions_begun past numbers lists are = record {
   owned = are.owned;
 }
 
--- once they all are, the lists are those of the run with it
-pub mentions_done : (e : Entry) (past : List Entry) (numbers : List Det) (lists : List (List ℕ)) → AreMentionsWith past (mentioned_by e) numbers lists → AreMentions (e ∷ past) numbers lists
+-- after all of them are added, the lists are correct for the run with this entry
+pub mentions_done : (e : Entry) (past : List Entry) (numbers : List Det) (lists : List (List ℕ)) → AreMentionsWith past (mentioned_dets e) numbers lists → AreMentions (e ∷ past) numbers lists
 mentions_done e past numbers lists are = record {
   ascend = let more : length past + 1 ≡ length (e ∷ past) = omega arith in subst (λ n. All (Ascends n) lists) more are.ascend;
   mentioned = λ d v x at unlisted. grind (arith, cond-true, cond-false);

@@ -1,32 +1,32 @@
--- One more position in one of the lists that stand one behind the other.
+-- One more position in one of several lists that follow one another in one vector.
 use Rattle.std.proofs.lemmas.Grind.{common_steps}
 use Rattle.causal_audit.proofs.Common.{ℕ, ◌≡◌, ◌≢◌, ◌+◌, ◌-◌, ◌<◌, ◌≤◌, inl, inr, List, [], ◌∷◌, ◌++◌, length, take, drop, map, get_or, get_or-append_seam, get_or_default, set, refl, sym, ap, subst, ◌∙◌, arith, All, All-map, All-push, All-set, All-weaker, length-append, length-map, length-set, get_or-map, get_or-set_same, get_or-set_other, map-set}
 use Rattle.std.proofs.lemmas.List.{drop-set-add, drop-set-lt, ext_get_or, length-drop, take-set-le}
 use Rattle.std.proofs.lemmas.Bool.Decides.{eqb_tells}
 use Rattle.std.proofs.Math.Seq.{take-suc-set}
 use Rattle.std.specs.List.{slice_range}
-use Rattle.causal_audit.specs.declared.index.packed.Span.{Span}
-use Rattle.causal_audit.specs.Inside.Index.Filed.{list_at, with_added}
+use Rattle.causal_audit.specs.declared.index.packed_lists.Span.{Span}
+use Rattle.causal_audit.specs.Inside.Index.Lists.{list_at, with_added}
 use Rattle.causal_audit.specs.Inside.Index.Packed.{ArePacked, limit_in, list_in}
 
--- lists that end where they begin
+-- lists that end where they begin are empty
 pub none_in : (ps : List ℕ) (spans : List Span) → All (λ (s : Span). s.begin ≡ s.end) spans → All (λ list. list ≡ []) (map (list_in ps) spans)
 none_in ps spans all = All-map (λ list. list ≡ []) (list_in ps) spans (All-weaker (λ (s : Span). s.begin ≡ s.end) (λ s. list_in ps s ≡ []) (λ s h.
     let none : s.end - s.begin ≡ 0 = omega (arith, h) in
     ap (λ n. take n (drop s.begin ps)) none) spans all)
 
--- one more behind the others, which ends where it begins
+-- one more empty list after the others
 pub packed_push : (b limit : ℕ) (spans new : List Span) → new ≡ spans ++ record { begin = b; end = b } ∷ [] → b ≤ limit → ArePacked b spans → ArePacked limit new
 packed_push b limit spans new is more packed = grind (arith, common_steps, All-push, All-weaker, length-append, get_or-append_seam)
 
 pub none_push : (b : ℕ) (spans new : List Span) → new ≡ spans ++ record { begin = b; end = b } ∷ [] → All (λ (s : Span). s.begin ≡ s.end) spans → All (λ (s : Span). s.begin ≡ s.end) new
 none_push b spans new is none = subst (All (λ (s : Span). s.begin ≡ s.end)) (sym is) (All-push (λ (s : Span). s.begin ≡ s.end) spans (record { begin = b; end = b }) none refl)
 
--- a write outside of a list
+-- a write outside of a list does not change it
 outside : (ps : List ℕ) (e v : ℕ) (s : Span) → (s.end ≤ e) × (s.begin ≤ s.end) → list_in (set ps e v) s ≡ list_in ps s
 outside ps e v s is = grind (arith, drop-set-add s.begin ps (e - s.begin) v, take-set-le)
 
--- and at its end
+-- a write at its end appends to it
 at_end : (ps : List ℕ) (v : ℕ) (s : Span) → s.begin ≤ s.end → s.end < length ps → slice_range (set ps s.end v) s.begin (s.end + 1) ≡ list_in ps s ++ v ∷ []
 at_end ps v s order below = grind (arith, drop-set-add s.begin ps (s.end - s.begin) v, take-suc-set, length-drop s.begin ps)
 
@@ -35,22 +35,22 @@ module _ (ps : List ℕ) (spans : List Span) (m v : ℕ) (s new : Span) (packed 
   here : (d : Span) → get_or spans m d ≡ s
   here d = get_or_default spans m d s there ∙ sym is
 
-  -- the room of a list
+  -- the end of a list's capacity
   abbrev nothing : Span
   nothing = record { begin = length ps; end = length ps }
 
   next : m + 1 < length spans → limit_in spans m (length ps) ≡ (get_or spans (m + 1) s).begin
   next inside = ap (λ (x : Span). x.begin) (get_or_default spans (m + 1) nothing s inside)
 
-  -- it ends where all do
+  -- it is within the vector
   limit_within : limit_in spans m (length ps) ≤ length ps
   limit_within = grind (arith, common_steps, next)
 
-  -- and before the later lists begin
+  -- and at or before the start of each later list
   limit_low : (j : ℕ) → m < j → j < length spans → limit_in spans m (length ps) ≤ (get_or spans j s).begin
   limit_low j after inside = grind (arith, eqb_tells j (m + 1), next (omega (arith, after, inside)))
 
-  -- the other lists stay
+  -- the other lists are unchanged
   other : (j : ℕ) → j ≢ m → j < length spans → list_in (set ps s.end v) (get_or spans j s) ≡ list_in ps (get_or spans j s)
   other j apart inside = grind (arith, here s, outside, limit_low, drop-set-lt)
 
@@ -75,11 +75,11 @@ module _ (ps : List ℕ) (spans : List Span) (m v : ℕ) (s new : Span) (packed 
             ∙ sym (get_or-set_other lists m i list [] apart.1 ∙ get_or-map (list_in ps) spans i s [] inside)
       ])
 
-  -- what the new one has of the old one stays
+  -- a field in which the new span equals the old is unchanged in all spans
   kept : (f : Span → ℕ) → f new ≡ f s → (i : ℕ) (d : Span) → f (get_or (set spans m new) i d) ≡ f (get_or spans i d)
   kept f same i d = grind (arith, eqb_tells i m, get_or-set_same spans m new d there, here d, get_or-set_other)
 
-  -- they stand one behind the other as before
+  -- the lists still follow one another
   pub packed_still : ArePacked (length (set ps s.end v)) (set spans m new)
   packed_still =
       grind (arith, common_steps, length-set, All-set, limit_within, All-weaker, kept, eqb_tells, get_or-set_same, limit_low, get_or-set_other)

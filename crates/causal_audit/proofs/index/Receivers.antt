@@ -1,39 +1,39 @@
--- How long a delivery stays with its receiver, and what that means for its orphans.
-use Rattle.causal_audit.proofs.Common.{ℕ, ◌≡◌, ◌<◌, ◌≤◌, inl, inr, true, false, List, [], ◌∷◌, length, Some, None, refl, sym, ap, subst, ◌∙◌, arith, get_or, delivers_sent, sent_within, message_sent, option_and_then, ◌+◌, ◌≢◌, ◌⊎◌, ◌==◌, slice_set, option_map, option_map_or, cases_lt, false≢true, eqb-true, eq-eqb, or_from, cond-true, cond-false, ne_eqb, false_from_ne_true, or_right, Pid, Det, Entry, Send, Deliver, Stable, Crash, Restart, Forget, instant, is_down, is_send_to, logs, lane, det_at, det_of, det_from, entry_at, AreAccepted, actor, IsEventOf, Delivers, DirectlyPrecedes, in_order, by_message, Reaches, itself, onward, is_delivery_of, accepted_forward, event_below, event_lane, instant_length, det_then, HasOrphan, length-set, get_or-set_other}
-use Rattle.causal_audit.specs.Laws.{gone}
-use Rattle.causal_audit.specs.Spread.{StaysAlone, CoveredHasNone, StaysUntil, CrashedHasNone}
+-- When the effect of a delivery leaves its receiver, and what this implies for its orphans.
+use Rattle.causal_audit.proofs.Common.{ℕ, ◌≡◌, ◌<◌, ◌≤◌, inl, inr, true, false, List, [], ◌∷◌, length, Some, None, refl, sym, ap, subst, ◌∙◌, arith, get_or, delivers_sent, sent_within, message_sent, option_and_then, ◌+◌, ◌≢◌, ◌⊎◌, ◌==◌, slice_set, option_map, option_map_or, cases_lt, false≢true, eqb-true, eq-eqb, or_from, cond-true, cond-false, ne_eqb, false_from_ne_true, or_right, Pid, Det, Entry, Send, Deliver, Stable, Crash, Restart, Forget, instant, is_down, is_send_to, logs, lane, det_at, det_of, det_from, entry_at, AreLegalEntries, actor, IsEventOf, Delivers, DirectlyPrecedes, in_order, by_message, Reaches, itself, onward, is_delivery_of, accepted_forward, event_below, event_lane, instant_length, det_then, HasOrphan, length-set, get_or-set_other}
+use Rattle.causal_audit.specs.Laws.{down_or_holding}
+use Rattle.causal_audit.specs.Covered.{LocalHasNoOtherDependents, CoveredHasNoOrphan, StaysLocalUntil, CrashedHasNoDependents}
 use Rattle.causal_trace.proofs.Lemmas.DependenceSteps.{event_once}
 use Rattle.causal_audit.proofs.Lemmas.OrphansByCounts.{exposed}
 use Rattle.causal_audit.proofs.Legal.{delivery_event, sent_is}
 use Rattle.causal_audit.proofs.NoOrphanSoFar.{not_yet}
 use Rattle.causal_audit.proofs.by_clock.ReachedEntries.{reaches_whole, event_whole}
-use Rattle.causal_audit.specs.Inside.Index.Spreads.{acting, process_at, AreSpreads, with_delivered, spread_at}
+use Rattle.causal_audit.specs.Inside.Index.Departures.{event_process, process_at, AreDepartures, with_delivered, departure_at}
 use Rattle.causal_audit.proofs.by_clock.Begun.{onward_to}
-use Rattle.causal_audit.proofs.look.CoverStays.{entry_then}
-use Rattle.causal_audit.specs.declared.look.thin_stretches.ThinStretches.{ThinStretches}
-use Rattle.causal_audit.specs.Inside.Index.Filed.{IsFirstCrash}
-use Rattle.causal_audit.specs.Inside.Look.Looks.{IsBareAt, IsThinAt, AreThinStretches, MayBeOpen}
+use Rattle.causal_audit.proofs.safety_scan.CoverStays.{entry_then}
+use Rattle.causal_audit.specs.declared.safety_scan.at_risk_intervals.AtRiskIntervals.{AtRiskIntervals}
+use Rattle.causal_audit.specs.Inside.Index.Lists.{IsFirstCrash}
+use Rattle.causal_audit.specs.Inside.SafetyScan.Scans.{IsAtRiskWithoutReceiverAt, IsAtRiskAt, AreAtRiskIntervals, MayBeOpen}
 use Rattle.std.proofs.lemmas.Grind.{get_or-set_at, common_steps}
 use Rattle.causal_audit.proofs.by_clock.Link.{delivers_below}
 
--- ==== how long a delivery stays with its receiver
+-- ==== when the effect of a delivery leaves its receiver
 
--- ---- what is reached is of the same lane, or a message of the lane was delivered before
+-- ---- a reached event is of the same lane, or a message of the lane was delivered before
 
--- a delivery, at j or before, of a message that the lane sends at i or later
+-- a delivery, at or before j, of a message that the lane sends at or after i
 abbrev Left : List Entry → ℕ → ℕ → ℕ → ℕ → Type 0
 Left past i p l v = (s : ℕ) × (j : ℕ) × (i ≤ s) × IsEventOf past s p l × Delivers past j s × (j ≤ v)
 
-precedes_less : (n : ℕ) (past : List Entry) → AreAccepted n past → (i j : ℕ) → DirectlyPrecedes past i j → i < j
+precedes_less : (n : ℕ) (past : List Entry) → AreLegalEntries n past → (i j : ℕ) → DirectlyPrecedes past i j → i < j
 precedes_less n past formed i j (in_order p l less a b) = less
 precedes_less n past formed i j (by_message h) = accepted_forward n past formed j i h
 
--- what an event reaches is no earlier
-pub reach_later : (n : ℕ) (past : List Entry) → AreAccepted n past → (i j : ℕ) → Reaches past i j → i ≤ j
+-- an event reaches only itself and later events
+pub reach_later : (n : ℕ) (past : List Entry) → AreLegalEntries n past → (i j : ℕ) → Reaches past i j → i ≤ j
 reach_later n past formed i j (itself p l at) = omega arith
 reach_later n past formed i k (onward {j} r direct) = omega (arith, reach_later n past formed i j r, precedes_less n past formed j k direct)
 
-module _ (n : ℕ) (past : List Entry) (formed : AreAccepted n past) (i p l : ℕ) (of : IsEventOf past i p l) where
+module _ (n : ℕ) (past : List Entry) (formed : AreLegalEntries n past) (i p l : ℕ) (of : IsEventOf past i p l) where
   next_stays : (j v : ℕ) → i ≤ j → IsEventOf past j p l → DirectlyPrecedes past j v → IsEventOf past v p l ⊎ Left past i p l v
   next_stays j v after here (in_order q m less a b) = grind (arith, event_once past j q m p l a here)
   next_stays j v after here (by_message h) = inr (j, v, after, here, h, omega arith)
@@ -62,22 +62,22 @@ receiver_is (e ∷ past) k d p l h (inl old) =
     receiver_is past k d p l (sym (cond-false (k == length past) (det_of past e) (det_at past k) (ne_eqb k (length past) (λ is. omega (arith, is, event_below past k p l old)))) ∙ h) old
 receiver_is (e ∷ past) k d p l h (inr new) = receiver_named past e d p (sym (cond-true (k == length past) (det_of past e) (det_at past k) (eq-eqb k (length past) new.0)) ∙ h) new.1
 
--- ---- while it stays, only the receiver depends
+-- ---- until then only the receiver depends on it
 
-pub alone : StaysAlone
-alone n past k d spread u q formed at stays low within depends =
+pub alone : LocalHasNoOtherDependents
+alone n past k d spread u q formed at departures low within depends =
     let from = delivery_event past k d at in
     let early : depends.event < u = omega (arith, event_below (instant past u) depends.event q (lane (instant past u) q) depends.present, instant_length past u within) in
     let reach = reaches_whole past u k depends.event depends.reached in
-    let own : IsEventOf past depends.event from.0 from.1 = stays depends.event from.0 from.1 (omega (arith, early, low)) from.2 reach in
+    let own : IsEventOf past depends.event from.0 from.1 = departures depends.event from.0 from.1 (omega (arith, early, low)) from.2 reach in
     let here : IsEventOf past depends.event q (lane (instant past u) q) = event_whole past u depends.event q (lane (instant past u) q) depends.present in
     (event_once past depends.event q (lane (instant past u) q) from.0 from.1 here own).0 ∙ receiver_is past k d from.0 from.1 at from.2
 
--- ---- where a delivery is covered, it has no orphan
+-- ---- a covered delivery has no orphan
 
-pub covered : CoveredHasNone
-covered n f past k d spread u formed at stays within (inl ahead) has = not_yet n f (instant past u) k (omega (arith, ahead, instant_length past u within)) has
-covered n f past k d spread u formed at stays within (inr more) has =
+pub covered : CoveredHasNoOrphan
+covered n f past k d spread u formed at departures within (inl ahead) has = not_yet n f (instant past u) k (omega (arith, ahead, instant_length past u within)) has
+covered n f past k d spread u formed at departures within (inr more) has =
     elim (cases_lt k u) [
       | inr ahead ↦ not_yet n f (instant past u) k (omega (arith, ahead, instant_length past u within)) has
       | inl made ↦
@@ -85,15 +85,15 @@ covered n f past k d spread u formed at stays within (inr more) has =
           elim more [
             | inl many ↦ omega (arith, many, e.few)
             | inr held ↦
-                let one : e.orphan ≡ d.dest.0 = alone n past k d spread u e.orphan formed at stays held.0 within e.depends in
-                let none : gone (instant past u) d e.orphan ≡ false = or_from (is_down (instant past u) e.orphan) (logs (instant past u) e.orphan d) e.depends.up e.without in
-                false≢true (sym none ∙ ap (gone (instant past u) d) one ∙ held.1)
+                let one : e.orphan ≡ d.dest.0 = alone n past k d spread u e.orphan formed at departures held.0 within e.depends in
+                let none : down_or_holding (instant past u) d e.orphan ≡ false = or_from (is_down (instant past u) e.orphan) (logs (instant past u) e.orphan d) e.depends.up e.without in
+                false≢true (sym none ∙ ap (down_or_holding (instant past u) d) one ∙ held.1)
           ]
     ]
 
--- ==== the process of each entry, and how long a delivery stays with it
+-- ==== the process of each entry, and when the effect of a delivery leaves it
 
-acting_is : (e : Entry) (p : ℕ) → actor e ≡ Some p → acting e ≡ p
+acting_is : (e : Entry) (p : ℕ) → actor e ≡ Some p → event_process e ≡ p
 acting_is (Send from to ssn) p is = cc
 acting_is (Deliver to send rsn listed) p is = cc
 acting_is (Stable det) p is = absurd (let k : None ≡ Some p = is in cc)
@@ -102,21 +102,21 @@ acting_is (Restart who listed) p is = absurd (let k : None ≡ Some p = is in cc
 acting_is (Forget who listed) p is = absurd (let k : None ≡ Some p = is in cc)
 
 process_older : (e : Entry) (past : List Entry) (i : ℕ) → i < length past → process_at (e ∷ past) i ≡ process_at past i
-process_older e past i below = ap (λ o. option_map_or acting o 0) (cond-false (i == length past) (Some e) (entry_at past i) (ne_eqb i (length past) (λ is. omega (arith, is, below))))
+process_older e past i below = ap (λ o. option_map_or event_process o 0) (cond-false (i == length past) (Some e) (entry_at past i) (ne_eqb i (length past) (λ is. omega (arith, is, below))))
 
 -- an event is an entry of its process
 pub process_of_event : (past : List Entry) (i p l : ℕ) → IsEventOf past i p l → process_at past i ≡ p
 process_of_event [] i p l of = absurd of
 process_of_event (e ∷ past) i p l (inl old) =
     process_older e past i (event_below past i p l old) ∙ process_of_event past i p l old
-process_of_event (e ∷ past) i p l (inr new) = ap (λ o. option_map_or acting o 0) (cond-true (i == length past) (Some e) (entry_at past i) (eq-eqb i (length past) new.0)) ∙ acting_is e p new.1
+process_of_event (e ∷ past) i p l (inr new) = ap (λ o. option_map_or event_process o 0) (cond-true (i == length past) (Some e) (entry_at past i) (eq-eqb i (length past) new.0)) ∙ acting_is e p new.1
 
 -- the process of a position is that of the entry there
-pub process_is : (past : List Entry) (i : ℕ) (e : Entry) → entry_at past i ≡ Some e → process_at past i ≡ acting e
-process_is past i e at = ap (λ o. option_map_or acting o 0) at
+pub process_is : (past : List Entry) (i : ℕ) (e : Entry) → entry_at past i ≡ Some e → process_at past i ≡ event_process e
+process_is past i e at = ap (λ o. option_map_or event_process o 0) at
 
--- a delivery has a determinant, whose source sent to its receiver
-pub delivered : (n : ℕ) (past : List Entry) → AreAccepted n past → (v s : ℕ) → Delivers past v s → (d : Det) × (to : Pid) × (det_at past v ≡ Some d) × (entry_at past s ≡ Some (Send d.source to d.ssn)) × (to.0 ≡ d.dest.0)
+-- a delivery has a determinant, whose source sent the message to its receiver
+pub delivered : (n : ℕ) (past : List Entry) → AreLegalEntries n past → (v s : ℕ) → Delivers past v s → (d : Det) × (to : Pid) × (det_at past v ≡ Some d) × (entry_at past s ≡ Some (Send d.source to d.ssn)) × (to.0 ≡ d.dest.0)
 delivered n [] formed v s h = absurd h
 delivered n (e ∷ past) formed v s (inl old) =
     let was = delivered n past formed.0 v s old in
@@ -147,17 +147,17 @@ delivered n (Crash who ∷ past) formed v s (inr new) = absurd (false≢true new
 delivered n (Restart who listed ∷ past) formed v s (inr new) = absurd (false≢true new.1)
 delivered n (Forget who listed ∷ past) formed v s (inr new) = absurd (false≢true new.1)
 
--- its receiver is the process that delivers
+-- its receiver is the process of the delivery
 pub det_process : (past : List Entry) (k : ℕ) (d : Det) → det_at past k ≡ Some d → process_at past k ≡ d.dest.0
 det_process past k d at = let from = delivery_event past k d at in process_of_event past k from.0 from.1 from.2 ∙ receiver_is past k d from.0 from.1 at from.2
 
--- a delivery stays with its process
-pub stays_with : (n : ℕ) (past : List Entry) → AreAccepted n past → (stays : List ℕ) → AreSpreads past (process_at past) stays → (k : ℕ) → StaysUntil past k (get_or stays k 0)
-stays_with n past formed stays are k v p l before of reach = grind (arith, common_steps, stays_or_left, process_of_event)
+-- the effect of a delivery stays with its process until the listed position
+pub stays_with : (n : ℕ) (past : List Entry) → AreLegalEntries n past → (departures : List ℕ) → AreDepartures past (process_at past) departures → (k : ℕ) → StaysLocalUntil past k (get_or departures k 0)
+stays_with n past formed departures are k v p l before of reach = grind (arith, common_steps, stays_or_left, process_of_event)
 
--- ==== a delivery that has not left its receiver, and whose receiver has crashed since
+-- ==== a delivery whose effect has not left its receiver, which has crashed since
 
--- a process that went down in a lane no earlier than l is still down, or up in a later lane
+-- a process that went down in lane l or an earlier one is still down, or up in a later lane
 abbrev Fell : ℕ → ℕ → List Entry → Type 0
 Fell p l past = ((is_down past p ≡ true) × (l ≤ lane past p)) ⊎ (l < lane past p)
 
@@ -170,15 +170,15 @@ fell_more (Crash who) past p l (inr h) = inr h
 fell_more (Restart who listed) past p l h = grind arith
 fell_more (Forget who listed) past p l h = h
 
--- such a delivery has no dependent any more
-pub crashed : CrashedHasNone
-crashed n past k d spread c u q formed at stays crash after before low within depends = let then = instant past (c + 1) in
+-- no process depends on such a delivery
+pub crashed : CrashedHasNoDependents
+crashed n past k d spread c u q formed at departures crash after before low within depends = let then = instant past (c + 1) in
     let from = delivery_event then k d (det_then past (c + 1) k (omega (arith, after)) (omega (arith, before, within)) ∙ at) in
     let early : depends.event < u = omega (arith, event_below (instant past u) depends.event q (lane (instant past u) q) depends.present, instant_length past u within) in
     let own : IsEventOf past depends.event from.0 from.1 = grind (arith, event_whole, reaches_whole) in
     let here : IsEventOf past depends.event q (lane (instant past u) q) = event_whole past u depends.event q (lane (instant past u) q) depends.present in
     let same = event_once past depends.event q (lane (instant past u) q) from.0 from.1 here own in
-    let who : crash.0.0 ≡ q = crash.2 ∙ sym (alone n past k d spread u q formed at stays low within depends) in
+    let who : crash.0.0 ≡ q = crash.2 ∙ sym (alone n past k d spread u q formed at departures low within depends) in
     let down : is_down then q ≡ true = grind (arith, entry_then, eq-eqb) in
     let lane_low : from.1 ≤ lane then q = subst (λ x. from.1 ≤ lane then x) (sym same.0) (event_lane then k from.0 from.1 from.2) in
     let fell : Fell q from.1 (instant past u) =
@@ -188,10 +188,10 @@ crashed n past k d spread c u q formed at stays crash after before low within de
       | inr late ↦ omega (arith, late, same.1)
     ]
 
--- ==== where a delivery has an orphan its determinant is thin
+-- ==== the determinant of a delivery with an orphan is at risk
 
-module _ (n most : ℕ) (past : List Entry) (formed : AreAccepted n past) (k : ℕ) (d : Det) (at : det_at past k ≡ Some d) (spread : ℕ) (stays : StaysUntil past k spread) (u : ℕ) (within : u ≤ length past) (has : HasOrphan n most (instant past u) k) where
-  -- the delivery is made
+module _ (n most : ℕ) (past : List Entry) (formed : AreLegalEntries n past) (k : ℕ) (d : Det) (at : det_at past k ≡ Some d) (spread : ℕ) (departures : StaysLocalUntil past k spread) (u : ℕ) (within : u ≤ length past) (has : HasOrphan n most (instant past u) k) where
+  -- the delivery is in the past
   pub orphan_made : k < u
   orphan_made =
       elim (cases_lt k u) [
@@ -199,7 +199,7 @@ module _ (n most : ℕ) (past : List Entry) (formed : AreAccepted n past) (k : �
         | inr coming ↦ absurd (not_yet n most (instant past u) k (omega (arith, coming, instant_length past u within)) has)
       ]
 
-  pub orphan_thin : IsThinAt n most past d u
+  pub orphan_thin : IsAtRiskAt n most past d u
   orphan_thin = let e = exposed n most (instant past u) k d (det_then past u k orphan_made within ∙ at) has in
       record {
         unstable = e.unstable;
@@ -214,36 +214,37 @@ module _ (n most : ℕ) (past : List Entry) (formed : AreAccepted n past) (k : �
             );
       }
 
-  -- and bare, while it stays with its receiver
-  pub orphan_bare : u ≤ spread → IsBareAt n most past d u
+  -- while its effect stays with the receiver, the determinant is at risk without the receiver
+  pub orphan_bare : u ≤ spread → IsAtRiskWithoutReceiverAt n most past d u
   orphan_bare low = record {
     thin = orphan_thin;
-    receiver = false_from_ne_true (gone (instant past u) d d.dest.0) (λ here. covered n most past k d spread u formed at stays within (inr (inr (low, here))) has);
+    receiver = false_from_ne_true (down_or_holding (instant past u) d d.dest.0) (λ here. covered n most past k d spread u formed at departures within (inr (inr (low, here))) has);
   }
 
-  -- which has not crashed since
+  -- and the receiver has not crashed since
   pub orphan_alive : u ≤ spread → (end c : ℕ) → u ≤ end → IsFirstCrash past d.dest.0 k end c → u ≤ c
   orphan_alive low end c bound first =
       elim (cases_lt c u) [
-        | inl after ↦ absurd (crashed n past k d spread c u has.orphan formed at stays (first.found (omega (arith, after, bound))) first.after after low within has.is_orphan.depends)
+        | inl after ↦ absurd (crashed n past k d spread c u has.orphan formed at departures (first.found (omega (arith, after, bound))) first.after after low within has.is_orphan.depends)
         | inr before ↦ before
       ]
 
-  -- so it may be uncovered by what was found of its determinant
-  pub orphan_open : (end c : ℕ) (thins : ThinStretches) → u ≤ end → IsFirstCrash past d.dest.0 k end c → thins.from ≤ k → AreThinStretches n most past d (end + 1) thins → MayBeOpen thins k spread c u
-  orphan_open end c thins bound first from found =
-      let after : thins.from < u = omega (arith, from, orphan_made) in
+  -- so by the scan's result the delivery may be uncovered
+  pub orphan_open : (end c : ℕ) (at_risk : AtRiskIntervals) → u ≤ end → IsFirstCrash past d.dest.0 k end c → at_risk.from ≤ k → AreAtRiskIntervals n most past d (end + 1) at_risk → MayBeOpen at_risk k spread c u
+  orphan_open end c at_risk bound first from found =
+      let after : at_risk.from < u = omega (arith, from, orphan_made) in
       let before : u < end + 1 = omega (arith, bound) in
       record {
         made = orphan_made;
         thin = found.last u after before orphan_thin;
         left = elim (cases_lt spread u) [
           | inl out ↦ inl out
-          | inr inside ↦ inr (orphan_alive inside end c bound first, found.bare u after before (orphan_bare inside))
+          | inr inside ↦ inr (orphan_alive inside end c bound first, found.without_receiver u after before (orphan_bare inside))
         ];
       }
 
--- ==== the first position after each entry at which a message of its process is delivered, from the last entry to the first
+-- ==== the first position after each entry at which a message of its process is delivered, from the last entry to the
+-- first
 
 -- ---- the entry that delivers
 
@@ -252,9 +253,9 @@ delivers_entry [] j s e at delivers = absurd delivers
 delivers_entry (x ∷ past) j s e at (inl old) = grind (arith, delivers_entry past j s e, cond-false, delivers_below past j s old)
 delivers_entry (x ∷ past) j s e at (inr new) = grind arith
 
--- ---- what an entry notes at its send
+-- ---- the write of a delivery in its send's slot
 
--- what stands at a place then is the position, or what stood there
+-- the value of a slot is then the position, or unchanged
 noted_cases : (e : Entry) (i : ℕ) (list : List ℕ) (s : ℕ) → s < length list → (get_or (with_delivered e i list) s 0 ≡ i) ⊎ (get_or (with_delivered e i list) s 0 ≡ get_or list s 0)
 noted_cases (Send from to ssn) i list s there = inr refl
 noted_cases (Deliver to send rsn listed) i list s there = grind (arith, get_or-set_at, get_or-set_other)
@@ -271,7 +272,7 @@ noted_here (Crash who) i list s is there = absurd (false≢true is)
 noted_here (Restart who listed) i list s is there = absurd (false≢true is)
 noted_here (Forget who listed) i list s is there = absurd (false≢true is)
 
--- what an entry notes adds no place
+-- the write does not change the length
 pub noted_length : (e : Entry) (i : ℕ) (list : List ℕ) → length (with_delivered e i list) ≡ length list
 noted_length (Send from to ssn) i list = refl
 noted_length (Deliver to send rsn listed) i list = length-set list send i
@@ -282,18 +283,18 @@ noted_length (Forget who listed) i list = refl
 
 -- ---- from the last entry to the first
 
--- what is known when the entries from position i on have been noted
+-- the lists are correct for the entries from position i on
 pub record AreSpreadsFrom (past : List Entry) (whose : ℕ → ℕ) (i : ℕ) (spreads lanes : List ℕ) : Type 0 where
   pub count : length spreads ≡ length past
   pub firsts : (s j : ℕ) → s < i → i ≤ j → Delivers past j s → get_or spreads s 0 ≤ j
   pub outs : (s j : ℕ) → i ≤ s → Delivers past j s → get_or lanes (whose s) 0 ≤ j
   pub each : (k s j : ℕ) → i ≤ k → k < length past → k ≤ s → whose s ≡ whose k → Delivers past j s → get_or spreads k 0 ≤ j
 
-module _ (n : ℕ) (past : List Entry) (formed : AreAccepted n past) (whose : ℕ → ℕ) where
+module _ (n : ℕ) (past : List Entry) (formed : AreLegalEntries n past) (whose : ℕ → ℕ) where
   after : (j s : ℕ) → Delivers past j s → s < j
   after j s = accepted_forward n past formed j s
 
-  -- before any entry has been noted
+  -- before any entry is processed
   pub spreads_begun : (i : ℕ) (spreads outs : List ℕ) → i ≡ length past → length spreads ≡ length past → AreSpreadsFrom past whose i spreads outs
   spreads_begun i spreads outs end count = grind (arith, delivers_below, after)
 
@@ -302,12 +303,12 @@ module _ (n : ℕ) (past : List Entry) (formed : AreAccepted n past) (whose : �
     noted = with_delivered e i spreads
 
     abbrev first : ℕ
-    first = spread_at e i lane spreads outs
+    first = departure_at e i lane spreads outs
 
     long : length noted ≡ length past
     long = noted_length e i spreads ∙ before.count
 
-    -- what is noted is no later than a delivery from i on, where what was noted before is no later
+    -- the written value is at or before each delivery from i on, if the old value is
     noted_low : (s j : ℕ) → s < length past → i ≤ j → get_or spreads s 0 ≤ j → get_or noted s 0 ≤ j
     noted_low s j inside up low = grind (arith, noted_cases)
 
@@ -323,6 +324,6 @@ module _ (n : ℕ) (past : List Entry) (formed : AreAccepted n past) (whose : �
     outs_next : (s j : ℕ) → i ≤ s → Delivers past j s → get_or (slice_set outs lane first) (whose s) 0 ≤ j
     outs_next s j up delivers = grind (arith, get_or-set_at, after j s delivers, noted_low, first_own, first_lane, get_or-set_other)
 
-    -- and with one more
+    -- with one more entry
     pub spreads_next : AreSpreadsFrom past whose i (slice_set noted i first) (slice_set outs lane first)
     spreads_next = grind (arith, length-set, long, get_or-set_other, noted_first, outs_next, get_or-set_at, noted_low, after)

@@ -1,3 +1,2 @@
-pub mod Changes
-pub mod Stands
-pub mod Stored
+pub mod ClockOfRun
+pub mod TablesOfRun

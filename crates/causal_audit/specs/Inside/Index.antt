@@ -1,9 +1,9 @@
-pub mod Filed
-pub mod Kept
-pub mod Outlines
+pub mod Lists
+pub mod RunIndexes
+pub mod IndexedTraces
 pub mod Packed
-pub mod Passing
+pub mod TransitionCursors
 pub mod Positions
-pub mod Reached
+pub mod Reachability
 pub mod Releases
-pub mod Spreads
+pub mod Departures

@@ -1,9 +1,9 @@
-//! The clock of a run. It has one event for each entry, so that an event's number is the entry's position; those of
-//! entries that are neither sends nor deliveries are idle, and tell nothing of the others.
+//! The clock of a run. It has one event for each entry, so an event's number is the entry's position. The event of an
+//! entry other than a send or a delivery is a local event that does not affect the order of the others.
 ghost use Rattle.std.specs.Prelude.{◌≡◌, ◌<◌, ◌∷◌, ℕ, List, OnOk, IfOk, IfErr, length, slice_index};
 ghost use Rattle.causal_trace.specs.declared.entry.Entry.{Entry};
-ghost use Rattle.causal_trace.specs.Rows.{AreAccepted};
-ghost use Rattle.causal_audit.specs.Inside.ByClock.Stands.{CanMirror, Mirrors, Stands};
+ghost use Rattle.causal_trace.specs.Rows.{AreLegalEntries};
+ghost use Rattle.causal_audit.specs.Inside.ByClock.ClockOfRun.{CanExtendClock, IsClockWithLanes, IsClockOf};
 
 use causal_clock::{ClockFault, Clocks};
 use causal_name::NoMemory;
@@ -11,11 +11,13 @@ use causal_trace::entry::Entry;
 use causal_trace::trace::Trace;
 use std::alloc::Global;
 
-/// Adds the event of one more entry, and answers its number. `present` has the clock's lane of each process's present lane.
-fn note(entry: &Entry, clocks: &mut Clocks, present: &mut [u32]) -> Result<u32, ClockFault>
-    requires { CanMirror entry.now clocks.old present.old }
-    ensures mirrors { (n : ℕ) (past : List Entry) → AreAccepted n (entry.now ∷ past) →
-        Mirrors n past clocks.old present.old → OnOk result (Mirrors n (entry.now ∷ past) clocks.new present.new) }
+/// Adds the event of one more entry and returns its number. `present` maps each process to the clock's lane of its
+/// present lane.
+fn add_event(entry: &Entry, clocks: &mut Clocks, present: &mut [u32]) -> Result<u32, ClockFault>
+    requires { CanExtendClock entry.now clocks.old present.old }
+    ensures mirrors { (n : ℕ) (past : List Entry) → AreLegalEntries n (entry.now ∷ past) →
+        IsClockWithLanes n past clocks.old present.old →
+        OnOk result (IsClockWithLanes n (entry.now ∷ past) clocks.new present.new) }
     ensures refused { IfErr result (λ fault. fault ≡ ClockFault.NoMemory) }
 {
     match entry {
@@ -35,7 +37,7 @@ fn note(entry: &Entry, clocks: &mut Clocks, present: &mut [u32]) -> Result<u32, 
     }
 }
 
-/// The lanes of n processes before the first entry: each process has the lane of its own number.
+/// Returns the lanes of n processes before the first entry: each process has the lane of its number.
 fn first_lanes(alloc: Global, n: u16) -> Result<Vec<u32>, NoMemory>
     ensures count { IfOk result (λ lanes. length lanes.items ≡ n) }
     ensures each { IfOk result (λ lanes. (p : ℕ) → p < n → slice_index lanes.items p ≡ p) }
@@ -47,9 +49,12 @@ fn first_lanes(alloc: Global, n: u16) -> Result<Vec<u32>, NoMemory>
     Ok(lanes)
 }
 
-/// The clock of a run.
+/// Returns the clock of a run.
+///
+/// # Errors
+/// `NoMemory` if allocation fails.
 pub fn clocks_of(alloc: Global, trace: &Trace) -> Result<Clocks, NoMemory>
-    ensures { IfOk result (λ clocks. Stands trace.now.recording.past clocks.events) }
+    ensures { IfOk result (λ clocks. IsClockOf trace.now.recording.past clocks.events) }
 {
     let n = trace.processes();
     let Ok(mut clocks) = Clocks::new(alloc, n) else {
@@ -57,7 +62,7 @@ pub fn clocks_of(alloc: Global, trace: &Trace) -> Result<Clocks, NoMemory>
     };
     let mut present = first_lanes(alloc, n)?;
     for entry in trace.entries() {
-        if note(entry, &mut clocks, present.as_mut_slice()).is_err() {
+        if add_event(entry, &mut clocks, present.as_mut_slice()).is_err() {
             return Err(NoMemory);
         }
     }

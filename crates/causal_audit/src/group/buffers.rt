@@ -1,87 +1,91 @@
-//! The memory of a walk over the entries for a group of deliveries.
+//! The buffers of a walk over the entries for a group of deliveries.
 ghost use Rattle.std.specs.Prelude.{◌≤◌, IfOk, OnOk, length};
 ghost use Rattle.std.specs.List.{All};
-ghost use Rattle.causal_audit.specs.Inside.Group.Walk.{ArePlaces, HasBuffers, HasRowsFor, IsFollowed, IsUntouchedBefore};
+ghost use Rattle.causal_audit.specs.Inside.Group.Walk.{ArePlaces, HasBuffers, HasRowsFor, IsWalkState, IsUntouchedBefore};
 
 use crate::group::Places;
-use crate::group::copies::{Copies, forget_all, no_copies};
-use crate::group::reach::{ReachingDeliveries, clear};
-use crate::group::run_to_follow::{OpenDelivery, RunToFollow};
+use crate::group::copies::{Copies, clear_copies, no_copies};
+use crate::group::reach::{ReachSets, clear};
 use crate::group::walk::GROUP;
+use crate::group::walk_input::{OpenDelivery, WalkInput};
 use causal_holders::{Holders, PROCESSES};
 use causal_name::NoMemory;
 use std::alloc::Global;
 
-/// What a walk keeps of the deliveries of a group, by their places: which of them reach the sends and on which the processes
-/// depend, of which the entries mention the determinant, whose determinants each process is known to hold, and where their copies
-/// are; and who is down.
+/// The state of a walk. By place: which deliveries reach each send and on which each process depends, which
+/// determinants each entry mentions and each process is known to hold, and where their copies are. Besides these, the
+/// down processes.
 #[derive(Drop)]
 pub struct WalkBuffers {
-    pub reach: ReachingDeliveries,
-    pub held: Vec<Places>,
+    pub reach: ReachSets,
+    pub held_places: Vec<Places>,
     pub copies: Vec<Copies>,
     pub down: Holders,
 }
 
 impl WalkBuffers {
-    /// What a walk keeps, but for the rows of its entries. It takes 32 kB.
+    /// Allocates the buffers, without the rows of the entries: 32 kB.
     ///
     /// # Errors
-    /// `NoMemory` where memory was refused.
+    /// `NoMemory` if allocation fails.
     pub fn new(alloc: Global) -> Result<WalkBuffers, NoMemory>
         ensures { IfOk result HasBuffers }
     {
-        let reach = ReachingDeliveries::new(alloc)?;
+        let reach = ReachSets::new(alloc)?;
         let held = vec![in alloc; Places::none(); PROCESSES as usize]?;
         let copies = vec![in alloc; no_copies(); GROUP]?;
         Ok(WalkBuffers {
             reach,
-            held,
+            held_places: held,
             copies,
             down: Holders::none(),
         })
     }
 }
 
-/// The places of a group.
+/// Returns the places of a group.
 #[tactic(auto, using(crate::proofs::group::GroupWalk::places_more, crate::proofs::group::GroupReach::none_in))]
-pub fn places_of(opened: &[OpenDelivery]) -> Places
-    requires { length opened.now ≤ 256 }
-    ensures { ArePlaces opened.now result }
+pub fn places_of(candidates: &[OpenDelivery]) -> Places
+    requires { length candidates.now ≤ 256 }
+    ensures { ArePlaces candidates.now result }
 {
     let mut places = Places::none();
-    for place in 0..opened.len() {
+    for place in 0..candidates.len() {
         places.insert(place as u8);
     }
     places
 }
 
-impl RunToFollow<'_> {
-    /// Makes a room ready for a walk from `start` up to `end`, before which nothing touches a delivery of the group. It takes time as
-    /// the mentions of the determinants, and as the entries of the walk. It takes memory for the rows of these.
+impl WalkInput<'_> {
+    /// Prepares the buffers for a walk from `start` up to `end`. No delivery of the group and no mention of its
+    /// determinant precedes `start`. Takes O(entries of the walk + mentions) time, and memory for the rows of these
+    /// entries.
     ///
     /// # Errors
-    /// `NoMemory` where memory was refused.
-    pub fn begin(
+    /// `NoMemory` if allocation fails.
+    pub fn prepare_walk(
         &self,
-        room: &mut WalkBuffers,
+        buffers: &mut WalkBuffers,
         start: u32,
         end: u32,
-        opened: &[OpenDelivery],
+        candidates: &[OpenDelivery],
     ) -> Result<(), NoMemory>
-        requires few { length opened.now ≤ 256 }
+        requires few { length candidates.now ≤ 256 }
         requires ordered { start ≤ end }
         requires within { end ≤ self.now.end }
-        requires from { All (IsUntouchedBefore self.now.run.past start) opened.now }
-        requires room { HasBuffers room.old }
-        ensures rows { OnOk result (HasRowsFor start end room.new) }
-        ensures begun { OnOk result (IsFollowed self.now.run opened.now start start room.new) }
+        requires from { All (IsUntouchedBefore self.now.run.past start) candidates.now }
+        requires buffers { HasBuffers buffers.old }
+        ensures rows { OnOk result (HasRowsFor start end buffers.new) }
+        ensures begun { OnOk result
+            (IsWalkState self.now.run candidates.now start start buffers.new) }
     {
-        room.reach.begin(start, end, self.count_mentions(opened))?;
-        self.mark_all(&mut room.reach.rows, start, opened)?;
-        clear(&mut room.held);
-        forget_all(&mut room.copies);
-        room.down = self.outline.turns.from(start).down();
+        buffers
+            .reach
+            .begin(start, end, self.count_mentions(candidates))?;
+        self.mark_mentions(&mut buffers.reach.rows, start, candidates)?;
+        clear(&mut buffers.held_places);
+        clear_copies(&mut buffers.copies);
+        buffers.down = self.indexed_trace.transitions.cursor_at(start).down();
         Ok(())
     }
 }

@@ -1,20 +1,20 @@
-//! Which entries of a walk mention the determinants of the deliveries of a group.
+//! Which entries of a walk mention the determinants of a group.
 ghost use Rattle.std.specs.Prelude.{◌≡◌, ◌≤◌, ◌<◌, ◌+◌, ◌↔◌, ℕ, true, OnOk, length};
 ghost use Rattle.std.specs.FinSet as set;
 ghost use Rattle.std.specs.List.{All};
 ghost use Rattle.std.specs.List.Sorted.{IsNonDecreasing};
-ghost use Rattle.causal_audit.specs.Inside.ByClock.Changes.{HasNoneUntil};
-ghost use Rattle.causal_audit.specs.Inside.Group.Walk.{AreBelow, AreMarked, HaveMarked, IsUntouchedBefore, IsMarked, IsTold, row};
+ghost use Rattle.causal_audit.specs.Inside.PositionLists.{HasNoneUntil};
+ghost use Rattle.causal_audit.specs.Inside.Group.Walk.{AreBelow, AreMarked, HaveMarked, IsUntouchedBefore, IsMarked, AreMentionedPlaces, row};
 
 use crate::group::Places;
 use crate::group::reach::put;
 use crate::group::rows::Rows;
-use crate::group::run_to_follow::{OpenDelivery, RunToFollow};
+use crate::group::walk_input::{OpenDelivery, WalkInput};
 use causal_name::NoMemory;
 use causal_trace::entry::Entry;
 
-/// Puts a place into the rows of the entries at these positions.
-fn mark(rows: &mut Rows, start: u32, place: u8, positions: &[u32]) -> Result<(), NoMemory>
+/// Adds a place to the rows of the entries at these positions.
+fn mark_rows(rows: &mut Rows, start: u32, place: u8, positions: &[u32]) -> Result<(), NoMemory>
     ensures count { OnOk result (length rows.new ≡ length rows.old) }
     ensures marked { OnOk result (HaveMarked start place positions.now rows.old rows.new) }
 {
@@ -24,9 +24,9 @@ fn mark(rows: &mut Rows, start: u32, place: u8, positions: &[u32]) -> Result<(),
     Ok(())
 }
 
-/// The places whose determinants an entry mentions, by its row; none for a send.
-pub fn mentioned_in(row: Places, entry: &Entry) -> Places
-    ensures { IsTold entry.now row result }
+/// Returns the places whose determinants an entry mentions, by its row; no place for a send.
+pub fn mentioned_places(row: Places, entry: &Entry) -> Places
+    ensures { AreMentionedPlaces entry.now row result }
 {
     match entry {
         Entry::Send { .. } => Places::none(),
@@ -34,7 +34,7 @@ pub fn mentioned_in(row: Places, entry: &Entry) -> Places
     }
 }
 
-/// The first of ascending positions, or a bound, if that is less.
+/// Returns the first of ascending positions, or a bound if that is less.
 fn first_in(positions: &[u32], bound: u32) -> u32
     requires ascend { IsNonDecreasing positions.now }
     ensures bound { result ≤ bound }
@@ -46,46 +46,47 @@ fn first_in(positions: &[u32], bound: u32) -> u32
     }
 }
 
-impl RunToFollow<'_> {
-    /// The position of a delivery, or the first at which its determinant is mentioned, or a bound, if that is less.
-    fn first_touched(&self, delivery: OpenDelivery, bound: u32) -> u32
+impl WalkInput<'_> {
+    /// Returns the least of a delivery's position, the first mention of its determinant, and a bound.
+    fn first_relevant(&self, delivery: OpenDelivery, bound: u32) -> u32
         requires { bound ≤ self.now.end }
         ensures bound { result ≤ bound }
         ensures first { IsUntouchedBefore self.now.run.past result delivery }
     {
         let first = bound.min(delivery.position);
-        let Some(det) = self.outline.trace.det_at(delivery.position) else {
+        let Some(det) = self.indexed_trace.trace.det_at(delivery.position) else {
             return first;
         };
-        first_in(self.mentions.list(self.outline.trace, det), first)
+        first_in(self.mentions.list(self.indexed_trace.trace, det), first)
     }
 
-    /// The first of the deliveries of a group and of the mentions of their determinants, or a bound, if that is less.
-    pub fn start_of(&self, opened: &[OpenDelivery], bound: u32) -> u32
+    /// Returns the least of the positions of a group, of the mentions of its determinants, and of a bound.
+    pub fn start_of(&self, candidates: &[OpenDelivery], bound: u32) -> u32
         requires { bound ≤ self.now.end }
         ensures bound { result ≤ bound }
-        ensures first { All (IsUntouchedBefore self.now.run.past result) opened.now }
+        ensures first { All (IsUntouchedBefore self.now.run.past result) candidates.now }
     {
         let mut first = bound;
-        for delivery in opened {
-            first = self.first_touched(*delivery, first);
+        for delivery in candidates {
+            first = self.first_relevant(*delivery, first);
         }
         first
     }
 
-    /// How often the determinants of these deliveries are mentioned, one that they share each time; the greatest number where that is more.
-    pub fn count_mentions(&self, opened: &[OpenDelivery]) -> usize {
+    /// Returns how often the determinants of these deliveries are mentioned. Deliveries that share a determinant each
+    /// count its mentions. The count saturates.
+    pub fn count_mentions(&self, candidates: &[OpenDelivery]) -> usize {
         let mut count: usize = 0;
-        for delivery in opened {
-            if let Some(det) = self.outline.trace.det_at(delivery.position) {
-                let positions = self.mentions.list(self.outline.trace, det);
+        for delivery in candidates {
+            if let Some(det) = self.indexed_trace.trace.det_at(delivery.position) {
+                let positions = self.mentions.list(self.indexed_trace.trace, det);
                 count = count.saturating_add(positions.len());
             }
         }
         count
     }
 
-    /// Puts a place into the rows of the entries that mention the determinant of its delivery.
+    /// Adds a place to the rows of the entries that mention the determinant of its delivery.
     fn mark_delivery(
         &self,
         rows: &mut Rows,
@@ -101,32 +102,32 @@ impl RunToFollow<'_> {
         ensures marked { OnOk result (IsMarked
             self.now.run.past start start place delivery rows.new) }
     {
-        let Some(det) = self.outline.trace.det_at(delivery.position) else {
+        let Some(det) = self.indexed_trace.trace.det_at(delivery.position) else {
             return Ok(());
         };
-        let positions = self.mentions.list(self.outline.trace, det);
-        mark(rows, start, place, positions)?;
+        let positions = self.mentions.list(self.indexed_trace.trace, det);
+        mark_rows(rows, start, place, positions)?;
         Ok(())
     }
 
-    /// Puts the place of each delivery of a group into the rows of the entries that mention its determinant.
+    /// Adds the place of each delivery of a group to the rows of the entries that mention its determinant.
     ///
     /// # Errors
-    /// `NoMemory` where memory was refused.
-    pub fn mark_all(
+    /// `NoMemory` if allocation fails.
+    pub fn mark_mentions(
         &self,
         rows: &mut Rows,
         start: u32,
-        opened: &[OpenDelivery],
+        candidates: &[OpenDelivery],
     ) -> Result<(), NoMemory>
-        requires few { length opened.now ≤ 256 }
+        requires few { length candidates.now ≤ 256 }
         requires within { start + length rows.old ≤ self.now.end }
         requires none { AreBelow 0 rows.old }
         ensures count { OnOk result (length rows.new ≡ length rows.old) }
         ensures marked { OnOk result (AreMarked
-            self.now.run.past start start opened.now (length opened.now) rows.new) }
+            self.now.run.past start start candidates.now (length candidates.now) rows.new) }
     {
-        for (place, delivery) in opened.iter().enumerate() {
+        for (place, delivery) in candidates.iter().enumerate() {
             self.mark_delivery(rows, start, place as u8, *delivery)?;
         }
         Ok(())

@@ -1,7 +1,8 @@
-//! On which of a few deliveries the processes depend, and which of them reach the sends, all by one walk over the entries.
+//! For each process the deliveries of a group on which it depends, and for each send those that reach it, by one walk
+//! over the entries.
 ghost use Rattle.std.specs.Prelude.{◌≡◌, ◌≤◌, ◌<◌, ◌+◌, ℕ, IfOk, OnOk, length};
 ghost use Rattle.std.specs.FinSet as set;
-ghost use Rattle.causal_audit.specs.Inside.Group.Walk.{HasRowOf, HasRows, IsPut, SeesReach, TellsReached, row};
+ghost use Rattle.causal_audit.specs.Inside.Group.Walk.{HasRowOf, HasRows, IsPlaceAdded, AppliesEntry, AreReachingPlaces, row};
 
 use crate::group::Places;
 use crate::group::rows::{Rows, set_at};
@@ -10,24 +11,26 @@ use causal_name::NoMemory;
 use causal_trace::entry::Entry;
 use std::alloc::Global;
 
-/// Of at most 256 deliveries, by their places, in a walk from the entry at `start` on: for each process on which of them its
-/// present lane depends, and a row for each entry of the walk.
+/// The deliveries of a group that reach processes and sends, in a walk from the entry at `start`. It holds up to 256
+/// deliveries, by their places: for each process those on which its present lane depends, and a row for each entry of
+/// the walk.
 ///
-/// The row of a send which was read tells which of them reach it. That of any other entry tells whose determinants it mentions.
+/// The row of a send that was read contains the deliveries that reach it. The row of another entry contains the
+/// deliveries whose determinants it mentions.
 #[derive(Drop)]
-pub struct ReachingDeliveries {
+pub struct ReachSets {
     pub start: u32,
     pub rows: Rows,
     pub present: Vec<Places>,
 }
 
-/// Puts a place into the row of the entry at a position of a walk from `start` on, where it has one.
+/// Adds a place to the row of the entry at a position of a walk from `start`, if it has a row.
 ///
 /// # Errors
-/// `NoMemory` where memory was refused.
+/// `NoMemory` if allocation fails.
 pub fn put(rows: &mut Rows, start: u32, place: u8, position: u32) -> Result<(), NoMemory>
     ensures count { OnOk result (length rows.new ≡ length rows.old) }
-    ensures put { OnOk result (IsPut start place position rows.old rows.new) }
+    ensures put { OnOk result (IsPlaceAdded start place position rows.old rows.new) }
 {
     if position < start {
         return Ok(());
@@ -49,26 +52,26 @@ pub fn clear(rows: &mut Vec<Places>)
     rows.fill(Places::none());
 }
 
-impl ReachingDeliveries {
-    /// No rows, but for those of the processes.
+impl ReachSets {
+    /// Allocates the rows of the processes, without rows of entries.
     ///
     /// # Errors
-    /// `NoMemory` where memory was refused.
-    pub fn new(alloc: Global) -> Result<ReachingDeliveries, NoMemory>
+    /// `NoMemory` if allocation fails.
+    pub fn new(alloc: Global) -> Result<ReachSets, NoMemory>
         ensures { IfOk result (λ reach. length reach.present.items ≡ 256) }
     {
-        Ok(ReachingDeliveries {
+        Ok(ReachSets {
             start: 0,
             rows: Rows::new(alloc),
             present: vec![in alloc; Places::none(); PROCESSES as usize]?,
         })
     }
 
-    /// Where no entry was read of a walk from `start` up to `end`, and no process depends on any delivery. All rows are empty. There is
-    /// room for places of so many entries.
+    /// Begins a walk from `start` up to `end`: all rows are empty, and no process depends on a delivery. Reserves sets
+    /// for `marked` entries with places.
     ///
     /// # Errors
-    /// `NoMemory` where memory was refused.
+    /// `NoMemory` if allocation fails.
     pub fn begin(&mut self, start: u32, end: u32, marked: usize) -> Result<(), NoMemory>
         requires ordered { start ≤ end }
         requires present { length self.old.present.items ≡ 256 }
@@ -83,9 +86,9 @@ impl ReachingDeliveries {
         Ok(())
     }
 
-    /// Which of the deliveries reach the send at a position that was read. None reaches one before the walk.
-    fn reaching(&self, position: u32) -> Places
-        ensures { TellsReached self.now position result }
+    /// Returns the deliveries that reach the send at a position that was read; none for a send before the walk.
+    fn reaching_places(&self, position: u32) -> Places
+        ensures { AreReachingPlaces self.now position result }
     {
         if position < self.start {
             return Places::none();
@@ -93,28 +96,29 @@ impl ReachingDeliveries {
         self.rows.get((position - self.start) as usize)
     }
 
-    /// Takes in the entry at position t, which is that of the deliveries of these places, and tells which of the deliveries newly
-    /// reach its process.
+    /// Updates the rows by the entry at position t, and returns the deliveries that newly reach its process. `own` are
+    /// the places of the deliveries at t.
     ///
     /// # Errors
-    /// `NoMemory` where memory was refused.
-    pub fn see(&mut self, entry: &Entry, t: u32, own: Places) -> Result<Places, NoMemory>
+    /// `NoMemory` if allocation fails.
+    pub fn apply_entry(&mut self, entry: &Entry, t: u32, own: Places) -> Result<Places, NoMemory>
         requires row { HasRowOf t self.old }
         ensures rows { OnOk result ((start end : ℕ) →
             HasRows start end self.old → HasRows start end self.new) }
         ensures later { OnOk result ((i : ℕ) → t < self.old.start + i →
             row self.new.rows i ≡ row self.old.rows i) }
-        ensures sees { IfOk result (SeesReach entry.now t own self.old self.new) }
+        ensures sees { IfOk result (AppliesEntry entry.now t own self.old self.new) }
     {
         match entry {
             Entry::Send { from, .. } => {
                 let places = set_at(&self.present, usize::from(from.0));
-                self.rows.store((t - self.start) as usize, from.0, places)?;
+                self.rows
+                    .set_row((t - self.start) as usize, from.0, places)?;
                 Ok(Places::none())
             }
             Entry::Deliver { to, send, .. } => {
                 let before = set_at(&self.present, usize::from(to.0));
-                let brought = self.reaching(*send);
+                let brought = self.reaching_places(*send);
                 let reached = own.union(before.union(brought));
                 self.present[usize::from(to.0)] = reached;
                 Ok(reached.minus(before))

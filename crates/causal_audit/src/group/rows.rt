@@ -1,7 +1,7 @@
-//! The sets of the entries of a walk, of which many are empty and many alike.
-ghost use Rattle.std.specs.Prelude.{◌≡◌, ◌<◌, ◌≤◌, [], ℕ, true, IfOk, OnOk, OnErr, length, slice_set};
+//! The sets of the entries of a walk. Many are empty and many are equal.
+ghost use Rattle.std.specs.Prelude.{◌≡◌, ◌<◌, ◌≤◌, [], ℕ, true, IfOk, OnOk, OnErr, length, nat_le, slice_set};
 ghost use Rattle.std.specs.FinSet as set;
-ghost use Rattle.causal_audit.specs.Inside.Group.Rows.{AreFirst, IsAdded, IsAt, IsSlotOf, row};
+ghost use Rattle.causal_audit.specs.Inside.Group.Rows.{AreFirst, IsAdded, IsAt, IsSlotOf, max_slots, row};
 
 use crate::group::Places;
 use crate::group::walk::GROUP;
@@ -11,7 +11,7 @@ use causal_trace::limits::MAX_RESTARTS;
 use std::alloc::Global;
 use std::marker::Model;
 
-/// The set at a row; the empty one where there is none.
+/// Returns the set at an index; the empty set if there is none.
 pub fn set_at(rows: &[Places], i: usize) -> Places
     ensures { result ≡ row rows.now i }
 {
@@ -21,22 +21,22 @@ pub fn set_at(rows: &[Places], i: usize) -> Places
     }
 }
 
-/// How many slots the sends of a walk take at most: in each lane a process only comes to depend on more of the group, and an entry
-/// shares its slot with the one before of its process that has the same set.
+/// The maximum number of slots that the sends of a walk take. Within a lane the set of a process only grows, and an
+/// entry shares the slot of its process's previous entry if their sets are equal.
 const SHARED: usize = (GROUP + 1) * (PROCESSES as usize + MAX_RESTARTS);
 
-/// A set for each entry of a walk. It is seen as the list of these sets.
+/// A set for each entry of a walk. The model is the list of these sets.
 ///
-/// An entry takes 4 bytes, for the slot of its set, and a slot 32. All empty sets of a new walk have one slot, and an entry into whose set
-/// places were put has its own. So there are no more slots than entries that mention a determinant, and those of the sends,
-/// 3.7 MB at most.
+/// An entry takes 4 bytes, the number of its slot, and a slot takes 32 bytes. All empty sets of a new walk share one
+/// slot; an entry whose set got places has its own slot. So there is at most one slot for each entry that mentions a
+/// determinant, and 3.7 MB of slots for the sends.
 #[derive(Drop)]
 pub struct Rows {
     slots: Vec<u32>,
     sets: Vec<Places>,
-    /// Whether no two entries share a slot but the first.
-    apart: bool,
-    /// For each process a slot that probably has its latest set.
+    /// Whether no two entries share a slot, except slot 0.
+    unshared: bool,
+    /// For each process a slot that probably contains its latest set.
     latest: [u32; PROCESSES as usize],
 }
 
@@ -53,10 +53,10 @@ impl Model for Rows {
 
     ghost view = { λ a. sets_of a.slots.items a.sets.items };
 
-    ghost invariant = { λ a. AreSlots a.slots.items a.sets.items a.apart };
+    ghost invariant = { λ a. AreSlots a.slots.items a.sets.items a.unshared };
 }
 
-/// Whether a slot has this set.
+/// Returns whether a slot contains this set.
 fn is_at(sets: &[Places], slot: u32, places: Places) -> bool
     ensures { result ≡ true → IsAt sets.now slot places }
 {
@@ -66,21 +66,33 @@ fn is_at(sets: &[Places], slot: u32, places: Places) -> bool
     }
 }
 
-/// Adds a set, and tells its slot.
+/// The maximum number of slots: a slot number has 32 bits.
+const MAX_SLOTS: usize = 4_294_967_296;
+
+/// Checks whether each slot number is taken.
+fn are_full(sets: &[Places]) -> bool
+    ensures { result ≡ nat_le max_slots (length sets.now) }
+{
+    sets.len() >= MAX_SLOTS
+}
+
+/// Appends a set and returns its slot.
+///
+/// # Errors
+/// `NoMemory` if allocation fails or each slot number is taken.
 fn add(sets: &mut Vec<Places>, places: Places) -> Result<u32, NoMemory>
     ensures added { IfOk result (IsAdded sets.old.items sets.new.items places) }
     ensures err { OnErr result (sets.new.items ≡ sets.old.items) }
 {
-    let slot = sets.len();
-    // a number of 32 bits tells it
-    if slot > u32::MAX as usize {
+    if are_full(sets) {
         return Err(NoMemory);
     }
+    let slot = sets.len() as u32;
     sets.push(places)?;
-    Ok(slot as u32)
+    Ok(slot)
 }
 
-/// The slot of a set: this one, if it has the set, else a new one.
+/// Returns the slot of a set: `like` if it contains the set, otherwise a new slot.
 fn slot_of(sets: &mut Vec<Places>, like: u32, places: Places) -> Result<u32, NoMemory>
     ensures slot { IfOk result (IsSlotOf sets.old.items sets.new.items places) }
     ensures err { OnErr result (sets.new.items ≡ sets.old.items) }
@@ -92,7 +104,8 @@ fn slot_of(sets: &mut Vec<Places>, like: u32, places: Places) -> Result<u32, NoM
     Ok(slot)
 }
 
-/// So many entries with the first slot, whose set is empty, and room for so many more slots.
+/// Resets to the given number of entries, all with slot 0, whose set is empty, and reserves the given number of further
+/// slots.
 fn reset(
     slots: &mut Vec<u32>,
     sets: &mut Vec<Places>,
@@ -114,26 +127,26 @@ fn reset(
 }
 
 impl Rows {
-    /// Of no entries.
+    /// Returns rows without entries.
     pub fn new(alloc: Global) -> Rows
         ensures { result ≡ [] }
     {
         Rows {
             slots: Vec::new(alloc),
             sets: Vec::new(alloc),
-            apart: true,
+            unshared: true,
             latest: [0; PROCESSES as usize],
         }
     }
 
-    /// How many entries there are.
+    /// Returns the number of entries.
     pub fn len(&self) -> usize
         ensures { result ≡ length self.now }
     {
         self.slots.len()
     }
 
-    /// The set of an entry; the empty one where there is none.
+    /// Returns the set of an entry; the empty set if there is no such entry.
     pub fn get(&self, i: usize) -> Places
         ensures { result ≡ row self.now i }
     {
@@ -143,31 +156,31 @@ impl Rows {
         }
     }
 
-    /// Makes them so many empty sets, of which places are put into so many. What was taken for a longer walk is used again.
+    /// Resets to `entries` empty sets, of which `marked` will get places. Reuses the memory of earlier walks.
     ///
     /// # Errors
-    /// `NoMemory` where memory was refused.
+    /// `NoMemory` if allocation fails.
     pub fn begin(&mut self, entries: u32, marked: usize) -> Result<(), NoMemory>
         ensures count { OnOk result (length self.new ≡ entries) }
         ensures empty { OnOk result ((i : ℕ) → row self.new i ≡ set.empty) }
     {
         let more = marked.saturating_add(SHARED).min(entries as usize);
         reset(&mut self.slots, &mut self.sets, entries, more)?;
-        self.apart = true;
+        self.unshared = true;
         Ok(())
     }
 
-    /// Puts a place into the set of an entry.
+    /// Adds a place to the set of an entry.
     ///
     /// # Errors
-    /// `NoMemory` where memory was refused.
+    /// `NoMemory` if allocation fails.
     pub fn put(&mut self, i: usize, place: u8) -> Result<(), NoMemory>
         requires { i < length self.old }
         ensures { OnOk result
             (self.new ≡ slice_set self.old i (set.insert (row self.old i) place)) }
     {
         let slot = self.slots[i];
-        if self.apart && slot > 0 {
+        if self.unshared && slot > 0 {
             self.sets[slot as usize].insert(place);
             return Ok(());
         }
@@ -178,18 +191,18 @@ impl Rows {
         Ok(())
     }
 
-    /// Makes this the set of an entry of the process p.
+    /// Replaces the set of an entry of process p.
     ///
     /// # Errors
-    /// `NoMemory` where memory was refused.
-    pub fn store(&mut self, i: usize, p: u8, places: Places) -> Result<(), NoMemory>
+    /// `NoMemory` if allocation fails.
+    pub fn set_row(&mut self, i: usize, p: u8, places: Places) -> Result<(), NoMemory>
         requires { i < length self.old }
         ensures { OnOk result (self.new ≡ slice_set self.old i places) }
     {
         let like = self.latest[usize::from(p)];
         let slot = slot_of(&mut self.sets, like, places)?;
         self.slots[i] = slot;
-        self.apart = false;
+        self.unshared = false;
         self.latest[usize::from(p)] = slot;
         Ok(())
     }

@@ -1,161 +1,169 @@
-//! The least breach of the deliveries of a group, by one walk over the entries.
+//! The earliest breach of a group of deliveries, by one walk over the entries.
 ghost use Rattle.std.specs.Prelude.{◌≤◌, IfOk, OnOk, length};
 ghost use Rattle.std.specs.List.{All};
-ghost use Rattle.causal_audit.specs.Inside.Among.{LeastAmongBy};
-ghost use Rattle.causal_audit.specs.Inside.Group.Walk.{HasBuffers, HasRowsFor, HaveNone, IsFollowed};
+ghost use Rattle.causal_audit.specs.Inside.Among.{EarliestAmongBy};
+ghost use Rattle.causal_audit.specs.Inside.Group.Walk.{HasBuffers, HasRowsFor, HaveNoOrphans, IsWalkState};
 ghost use Rattle.causal_audit.specs.Inside.Group.OpenDeliveries.{AreInOrder, IsDeliveryAt, IsOpenDelivery, positions_of};
 
-use crate::breach::{Breach, earlier, horizon};
+use crate::breach::{Breach, earlier_breach, last_relevant_instant};
 use crate::delivery_state::down_after;
 use crate::group::buffers::{WalkBuffers, places_of};
-use crate::group::copies::{renew, touched};
-use crate::group::held::{held_by, hold};
-use crate::group::judged::judge;
-use crate::group::marks::mentioned_in;
-use crate::group::own::{by_position, own_at};
-use crate::group::run_to_follow::{NO_DELIVERY, OpenDelivery, RunToFollow, last_of};
-use crate::group::suspects::Step;
+use crate::group::copies::{changed_places, update_copies};
+use crate::group::group_positions::{places_at, sort_by_position};
+use crate::group::held_places::{held_by_receiver, note_held};
+use crate::group::marks::mentioned_places;
+use crate::group::orphan_check::check_step;
+use crate::group::suspects::WalkStep;
+use crate::group::walk_input::{NO_DELIVERY, OpenDelivery, WalkInput, last_of};
 use causal_name::NoMemory;
 use causal_trace::trace::Trace;
 use std::alloc::Global;
 
-/// How many deliveries are followed by one walk.
+/// The number of deliveries that one walk follows.
 pub const GROUP: usize = 256;
 
-/// The least breach of the deliveries of a group, if it comes by the instant `end`, by a walk over the entries from `start` up
-/// to it. The room is ready for that.
+/// Returns the earliest breach of a group, if it comes by the instant `end`, by a walk over the entries from `start` up
+/// to `end`. The buffers must be prepared for this walk.
 ///
 /// # Errors
-/// `NoMemory` where memory was refused.
-fn follow(
+/// `NoMemory` if allocation fails.
+fn walk_group(
     trace: &Trace,
     f: u16,
     start: u32,
     end: u32,
-    opened: &[OpenDelivery],
-    room: &mut WalkBuffers,
+    candidates: &[OpenDelivery],
+    buffers: &mut WalkBuffers,
 ) -> Result<Option<Breach>, NoMemory>
-    requires few { length opened.now ≤ 256 }
+    requires few { length candidates.now ≤ 256 }
     requires ordered { start ≤ end }
     requires within { end ≤ length trace.now.recording.past }
     requires deliveries { All
-        (λ delivery. IsDeliveryAt trace.now.recording.past delivery.position) opened.now }
-    requires opened { All (IsOpenDelivery trace.now.recording f end) opened.now }
-    requires rows { HasRowsFor start end room.old }
-    requires begun { IsFollowed trace.now.recording opened.now start start room.old }
-    requires none { HaveNone trace.now.recording f opened.now start }
-    requires order { AreInOrder opened.now }
-    ensures room { OnOk result (HasBuffers room.new) }
+        (λ delivery. IsDeliveryAt trace.now.recording.past delivery.position) candidates.now }
+    requires candidates { All (IsOpenDelivery trace.now.recording f end) candidates.now }
+    requires rows { HasRowsFor start end buffers.old }
+    requires begun { IsWalkState trace.now.recording candidates.now start start buffers.old }
+    requires none { HaveNoOrphans trace.now.recording f candidates.now start }
+    requires order { AreInOrder candidates.now }
+    ensures buffers { OnOk result (HasBuffers buffers.new) }
     ensures found { IfOk result
-        (LeastAmongBy trace.now.recording f end (positions_of opened.now)) }
+        (EarliestAmongBy trace.now.recording f end (positions_of candidates.now)) }
 {
     let entries = trace.entries();
-    let all = places_of(opened);
-    let mut asked = all;
+    let all = places_of(candidates);
+    let mut unresolved = all;
     let mut passed = 0;
     for t in start..end {
         let entry = &entries[t as usize];
-        let own = own_at(opened, &mut passed, t);
-        let mentioned = mentioned_in(room.reach.rows.get((t - start) as usize), entry);
-        let newly = room.reach.see(entry, t, own)?;
-        let step = Step {
+        let own = places_at(candidates, &mut passed, t);
+        let mentioned = mentioned_places(buffers.reach.rows.get((t - start) as usize), entry);
+        let newly = buffers.reach.apply_entry(entry, t, own)?;
+        let step = WalkStep {
             entry,
             t,
             newly,
             mentioned,
         };
-        let held = held_by(&room.held, entry);
-        let places = touched(entry, mentioned, held, all);
-        renew(&mut room.copies, entry, mentioned, places);
-        hold(&mut room.held, entry, mentioned);
-        room.down = down_after(room.down, entry);
-        if let Some(found) = judge(&*room, trace, f, opened, &step, &mut asked) {
+        let held = held_by_receiver(&buffers.held_places, entry);
+        let places = changed_places(entry, mentioned, held, all);
+        update_copies(&mut buffers.copies, entry, mentioned, places);
+        note_held(&mut buffers.held_places, entry, mentioned);
+        buffers.down = down_after(buffers.down, entry);
+        if let Some(found) = check_step(&*buffers, trace, f, candidates, &step, &mut unresolved) {
             return Ok(Some(found));
         }
     }
     Ok(None)
 }
 
-impl RunToFollow<'_> {
-    /// The least breach of the deliveries of a group, if it comes by the instant `end`: a walk from the first of them, or an
-    /// earlier mention of one of their determinants, up to the last instant at which one may have an orphan.
+impl WalkInput<'_> {
+    /// Returns the earliest breach of a group, if it comes by the instant `end`. The walk begins at the group's first
+    /// delivery or at an earlier mention of one of its determinants. It ends at the last instant at which a delivery of
+    /// the group is open.
     ///
     /// # Errors
-    /// `NoMemory` where memory was refused.
-    fn least_in(
+    /// `NoMemory` if allocation fails.
+    fn earliest_in_group(
         &self,
         f: u16,
         end: u32,
-        opened: &[OpenDelivery],
-        room: &mut WalkBuffers,
+        candidates: &[OpenDelivery],
+        buffers: &mut WalkBuffers,
     ) -> Result<Option<Breach>, NoMemory>
         requires within { end ≤ self.now.end }
-        requires few { length opened.now ≤ 256 }
+        requires few { length candidates.now ≤ 256 }
         requires deliveries { All
-            (λ delivery. IsDeliveryAt self.now.run.past delivery.position) opened.now }
-        requires opened { All (IsOpenDelivery self.now.run f end) opened.now }
-        requires room { HasBuffers room.old }
-        ensures room { OnOk result (HasBuffers room.new) }
-        ensures found { IfOk result (LeastAmongBy self.now.run f end (positions_of opened.now)) }
+            (λ delivery. IsDeliveryAt self.now.run.past delivery.position) candidates.now }
+        requires candidates { All (IsOpenDelivery self.now.run f end) candidates.now }
+        requires buffers { HasBuffers buffers.old }
+        ensures buffers { OnOk result (HasBuffers buffers.new) }
+        ensures found { IfOk result (EarliestAmongBy self.now.run f end
+            (positions_of candidates.now)) }
     {
         let mut table = [NO_DELIVERY; GROUP];
-        let group = by_position(&mut table, opened);
+        let group = sort_by_position(&mut table, candidates);
         let last = last_of(group, end);
         let start = self.start_of(group, last);
-        self.begin(room, start, last, group)?;
-        let found = follow(self.outline.trace, f, start, last, group, room)?;
+        self.prepare_walk(buffers, start, last, group)?;
+        let found = walk_group(self.indexed_trace.trace, f, start, last, group, buffers)?;
         Ok(found)
     }
 
-    /// The least breach, by instant and then by position, of these deliveries, if it comes by the instant
-    /// `end`; None where none of them has an orphan by then.
+    /// Returns the earliest breach of these deliveries, by instant and then by position, if it comes by the instant
+    /// `end`; `None` if none has an orphan by then.
     ///
-    /// They are followed in groups of 256: for each the entries are walked once, and no further than a breach that was found.
-    /// An entry of a walk takes time as the determinants of the group that it newly mentions and the deliveries that may newly
-    /// have an orphan; a crash and a restart as all of them, a restart and a forgetting as the processes. It takes 4 bytes of memory
-    /// for each entry of the longest walk, 32 for each that mentions a determinant of its group, and at most 3.7 MB for the sends.
+    /// There is one walk over the entries for each 256 deliveries, and no walk goes beyond a breach that was found. An
+    /// entry takes O(determinants of the group that it newly mentions + deliveries that it may newly orphan) time. A
+    /// crash or restart takes O(deliveries of the group) time, a restart or forgetting O(processes) more. Memory: 4
+    /// bytes for each entry of the longest walk, 32 for each entry that mentions a determinant of its group, and at
+    /// most 3.7 MB for the sends.
     ///
     /// # Errors
-    /// `NoMemory` where memory was refused.
-    pub fn least_within(
+    /// `NoMemory` if allocation fails.
+    pub fn earliest_of(
         &self,
         alloc: Global,
         f: u16,
         end: u32,
-        opened: &[OpenDelivery],
+        candidates: &[OpenDelivery],
     ) -> Result<Option<Breach>, NoMemory>
         requires within { end ≤ self.now.end }
         requires deliveries { All
-            (λ delivery. IsDeliveryAt self.now.run.past delivery.position) opened.now }
-        requires opened { All (IsOpenDelivery self.now.run f end) opened.now }
-        ensures { IfOk result (LeastAmongBy self.now.run f end (positions_of opened.now)) }
+            (λ delivery. IsDeliveryAt self.now.run.past delivery.position) candidates.now }
+        requires candidates { All (IsOpenDelivery self.now.run f end) candidates.now }
+        ensures { IfOk result (EarliestAmongBy self.now.run f end (positions_of candidates.now)) }
     {
-        let mut room = WalkBuffers::new(alloc)?;
-        self.least_by_groups(f, end, opened, &mut room)
+        let mut buffers = WalkBuffers::new(alloc)?;
+        self.earliest_over_groups(f, end, candidates, &mut buffers)
     }
 
-    /// The same, with what a walk keeps, which all groups use.
+    /// Returns the earliest breach of these deliveries, as `earliest_of`, with buffers that all groups use.
     ///
     /// # Errors
-    /// `NoMemory` where memory was refused.
-    fn least_by_groups(
+    /// `NoMemory` if allocation fails.
+    fn earliest_over_groups(
         &self,
         f: u16,
         end: u32,
-        opened: &[OpenDelivery],
-        room: &mut WalkBuffers,
+        candidates: &[OpenDelivery],
+        buffers: &mut WalkBuffers,
     ) -> Result<Option<Breach>, NoMemory>
         requires within { end ≤ self.now.end }
         requires deliveries { All
-            (λ delivery. IsDeliveryAt self.now.run.past delivery.position) opened.now }
-        requires opened { All (IsOpenDelivery self.now.run f end) opened.now }
-        requires room { HasBuffers room.old }
-        ensures { IfOk result (LeastAmongBy self.now.run f end (positions_of opened.now)) }
+            (λ delivery. IsDeliveryAt self.now.run.past delivery.position) candidates.now }
+        requires candidates { All (IsOpenDelivery self.now.run f end) candidates.now }
+        requires buffers { HasBuffers buffers.old }
+        ensures { IfOk result (EarliestAmongBy self.now.run f end (positions_of candidates.now)) }
     {
         let mut least = None;
-        for group in opened.chunks(GROUP) {
-            let found = self.least_in(f, horizon(end, &least), group, room)?;
-            least = earlier(least, found);
+        for group in candidates.chunks(GROUP) {
+            let found = self.earliest_in_group(
+                f,
+                last_relevant_instant(end, &least),
+                group,
+                buffers,
+            )?;
+            least = earlier_breach(least, found);
         }
         Ok(least)
     }

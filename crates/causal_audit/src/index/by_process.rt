@@ -3,15 +3,15 @@ ghost use Rattle.std.specs.Prelude.{◌≡◌, ◌≤◌, ◌<◌, ◌∷◌, Li
 ghost use Rattle.std.specs.List.{All};
 ghost use Rattle.std.specs.List.Sorted.{IsNonDecreasing};
 ghost use Rattle.causal_trace.specs.declared.entry.Entry.{Entry};
-ghost use Rattle.causal_audit.specs.Inside.Index.Filed.{AreTurnsOf, IsProcessOf, list_at, lists_in};
+ghost use Rattle.causal_audit.specs.Inside.Index.Lists.{AreTransitionsOf, IsProcessOf, list_at, lists_in};
 
 use crate::index::cursor::Cursor;
-use crate::index::lists::add_to;
+use crate::index::lists::push_to_list;
 use causal_holders::Holders;
 use causal_name::NoMemory;
 use causal_trace::entry::Entry;
 
-/// For each process the positions of its crashes in order, or of its restarts. A run has at most 192 restarts.
+/// For each process the ascending positions of its crashes, or of its restarts. A run has at most 192 restarts.
 #[derive(Drop)]
 pub struct ByProcess {
     pub lists: Vec<Vec<u32>>,
@@ -19,7 +19,7 @@ pub struct ByProcess {
     ghost ascend: { All IsNonDecreasing (lists_in lists.items) },
 }
 
-/// The process that an entry restarts, where restarts are meant, or else crashes; None where it does not.
+/// Returns the process that an entry restarts, or crashes if `restarts` is false; `None` if it does not.
 fn process_of(restarts: bool, entry: &Entry) -> Option<u8>
     ensures { IsProcessOf restarts entry.now result }
 {
@@ -30,7 +30,7 @@ fn process_of(restarts: bool, entry: &Entry) -> Option<u8>
     }
 }
 
-/// Notes the position of an entry in the list of the process that it restarts, or crashes.
+/// Appends the position of an entry to the list of the process that it restarts or crashes.
 pub fn note(
     lists: &mut Vec<Vec<u32>>,
     restarts: bool,
@@ -38,23 +38,23 @@ pub fn note(
     i: u32,
 ) -> Result<(), NoMemory>
     requires { vec_len lists.old ≡ 256 }
-    ensures turns { OnOk result ((past : List Entry) → length past ≡ i →
-        AreTurnsOf restarts past (lists_in lists.old.items) →
-        AreTurnsOf restarts (entry.now ∷ past) (lists_in lists.new.items)) }
+    ensures transitions { OnOk result ((past : List Entry) → length past ≡ i →
+        AreTransitionsOf restarts past (lists_in lists.old.items) →
+        AreTransitionsOf restarts (entry.now ∷ past) (lists_in lists.new.items)) }
     ensures count { vec_len lists.new ≡ 256 }
 {
     match process_of(restarts, entry) {
-        Some(process) => add_to(lists, usize::from(process), i),
+        Some(process) => push_to_list(lists, usize::from(process), i),
         None => Ok(()),
     }
 }
 
 impl ByProcess {
     ghost use Rattle.std.specs.Prelude.{Contains, true};
-    ghost use Rattle.causal_audit.specs.Inside.ByClock.Changes.{HasNoneUntil};
-    ghost use Rattle.causal_audit.specs.Inside.Look.Staying.{RestartsNone};
+    ghost use Rattle.causal_audit.specs.Inside.PositionLists.{HasNoneUntil};
+    ghost use Rattle.causal_audit.specs.Inside.SafetyScan.Persistence.{RestartsNone};
 
-    /// The first of a process from `from` on, or `end` if that comes first. It takes a binary search.
+    /// Returns the first position of a process at or after `from`, or `end` if that is earlier, by a binary search.
     pub fn next_of(&self, process: u8, from: u32, end: u32) -> u32
         requires { from ≤ end }
         ensures bounds { (from ≤ result) × (result ≤ end) }
@@ -63,16 +63,17 @@ impl ByProcess {
             Contains (list_at (lists_in self.now.lists.items) process) result }
     {
         let list = self.lists[usize::from(process)].as_slice();
-        let mut ahead = Cursor::at(list, from);
+        let mut ahead = Cursor::new(list, from);
         ahead.next(from, end)
     }
 
-    /// Of restarts the first of one of these processes from `from` on, or `end` if that comes first: the least over their
-    /// own.
+    /// Returns the first position at or after `from` of one of these processes, or `end` if that is earlier. It is the
+    /// least over the processes.
     pub fn next_among(&self, members: Holders, from: u32, end: u32) -> u32
         requires { from ≤ end }
         ensures bounds { (from ≤ result) × (result ≤ end) }
-        ensures none { (past : List Entry) → AreTurnsOf true past (lists_in self.now.lists.items) →
+        ensures none { (past : List Entry) →
+            AreTransitionsOf true past (lists_in self.now.lists.items) →
             RestartsNone past members from result }
     {
         let mut next = end;

@@ -1,4 +1,4 @@
-//! A walk over an ascending list of positions.
+//! A cursor over an ascending list of positions.
 ghost use Rattle.std.specs.Prelude.{◌≤◌, ◌<◌, Contains, List, ℕ};
 ghost use Rattle.std.specs.List.Sorted.{IsNonDecreasing};
 
@@ -11,10 +11,10 @@ pub struct Cursor<'a> {
 }
 
 impl Cursor<'_> {
-    ghost use Rattle.causal_audit.specs.Inside.ByClock.Changes.{IsCursor, HasNoneUntil};
+    ghost use Rattle.causal_audit.specs.Inside.PositionLists.{IsCursor, HasNoneUntil};
 
-    /// A cursor that has passed the positions below `from`.
-    pub fn at(list: &[u32], from: u32) -> Cursor<'_>
+    /// Returns a cursor that has passed the positions below `from`.
+    pub fn new(list: &[u32], from: u32) -> Cursor<'_>
         requires ascending { IsNonDecreasing list.now }
         ensures { IsCursor list.now from result }
     {
@@ -24,8 +24,8 @@ impl Cursor<'_> {
         }
     }
 
-    /// Passes the positions below `from`, and tells the first of those that are left, or `end` if that comes first. Few
-    /// are passed at a time, so they are looked at one by one.
+    /// Passes the positions below `from`, and returns the first position that is left, or `end` if that is earlier.
+    /// Scans one by one, since a call passes few positions.
     pub fn next(&mut self, from: u32, end: u32) -> u32
         requires { from ≤ end }
         ensures bounds { (from ≤ result) × (result ≤ end) }

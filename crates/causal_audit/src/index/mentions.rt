@@ -1,58 +1,91 @@
 //! The positions of the entries that mention each determinant.
-ghost use Rattle.std.specs.Prelude.{◌≡◌, ◌≤◌, ◌+◌, ◌∷◌, ◌++◌, [], List, Some, IfOk, OnOk, length};
+ghost use Rattle.std.specs.Prelude.{◌≡◌, ◌<◌, ◌≤◌, ◌+◌, ◌∷◌, ◌++◌, [], List, Some, IfOk, OnOk, length};
 ghost use Rattle.std.specs.List.{All, flat_map};
 ghost use Rattle.causal_name.specs.declared.Det.{Det};
 ghost use Rattle.causal_trace.specs.declared.entry.Entry.{Entry};
 ghost use Rattle.causal_trace.specs.Limits.{max_entries};
 ghost use Rattle.causal_trace.specs.Numbers.{delivered_dets, number_of};
-ghost use Rattle.causal_trace.specs.Past.{instant};
-ghost use Rattle.causal_audit.specs.Quiet.{mentioned_by};
-ghost use Rattle.causal_audit.specs.Inside.Index.Filed.{AreMentions, AreNumbersOf, mentions_of, past_of};
-ghost use Rattle.causal_audit.specs.Inside.Index.Kept.{AreMentionsKept};
+ghost use Rattle.causal_trace.specs.Past.{deliveries_in, instant};
+ghost use Rattle.causal_audit.specs.Quiet.{mentioned_dets};
+ghost use Rattle.causal_audit.specs.Inside.Index.Lists.{AreMentions, AreNumbersOf, HaveNumbers, mentions_of, past_of};
+ghost use Rattle.causal_audit.specs.Inside.Index.RunIndexes.{IsMentionIndex};
 
-use crate::index::packed::PackedLists;
+use crate::index::packed_lists::PackedLists;
 use causal_name::{Det, NoMemory};
 use causal_trace::entry::Entry;
 use causal_trace::trace::Trace;
 use std::alloc::Global;
 use std::slice;
 
-/// Lists of positions, by the numbers of a trace's first deliveries. The newest of these with a determinant has those of its
-/// mentions.
+/// Lists of positions, by the numbers of a trace's first deliveries. The list of a determinant is at its newest
+/// delivery among these.
 #[derive(Drop)]
 pub struct Mentions {
     pub lists: PackedLists,
 }
 
-/// Up to so many entries, or so many restarts of the whole run, a search among the first deliveries is short, or there are few.
+/// Up to this many entries, or this many restarts of the run, searches are short or few, so only the first deliveries
+/// get lists.
 const FEW_ENTRIES: usize = 4_096;
 
 const FEW_RESTARTS: u32 = 16;
 
-/// How many of these entries are deliveries.
-fn deliveries_in(entries: &[Entry]) -> usize {
-    entries
-        .iter()
-        .filter(|entry| matches!(entry, Entry::Deliver { .. }))
-        .count()
+/// Returns 1 for a delivery, and 0 for another entry.
+fn delivery_in(entry: &Entry) -> usize
+    ensures few { result ≤ 1 }
+    ensures count { (past : List Entry) →
+        deliveries_in (entry.now ∷ past) ≡ deliveries_in past + result }
+{
+    match entry {
+        Entry::Deliver { .. } => 1,
+        Entry::Send { .. } => 0,
+        Entry::Stable { .. } => 0,
+        Entry::Crash { .. } => 0,
+        Entry::Restart { .. } => 0,
+        Entry::Forget { .. } => 0,
+    }
 }
 
-/// How many of the trace's first deliveries have lists: those among these entries, with which it begins. A search among them passes
-/// over the later ones of the message, one for each lane at most. Where that could take long all deliveries have lists.
-fn with_lists(trace: &Trace, entries: &[Entry]) -> usize {
-    if entries.len() > FEW_ENTRIES && trace.restarts() > FEW_RESTARTS {
+/// Returns how many of these entries are deliveries.
+fn deliveries_in(entries: &[Entry]) -> usize
+    requires { length entries.now ≤ max_entries }
+    ensures { result ≡ deliveries_in (past_of entries.now) }
+{
+    let mut count = 0;
+    for entry in entries {
+        count += delivery_in(entry);
+    }
+    count
+}
+
+/// Checks whether searches up to this instant of the trace may be many and long.
+fn has_long_searches(trace: &Trace, end: u32) -> bool {
+    end as usize > FEW_ENTRIES && trace.restarts() > FEW_RESTARTS
+}
+
+/// Returns how many of the trace's first deliveries get lists: those before the instant `end`. A search then skips
+/// later deliveries of the same message, at most one for each lane. If that could take long, all deliveries get lists.
+fn lists_needed(trace: &Trace, end: u32) -> usize
+    requires { end ≤ length trace.now.recording.past }
+    ensures { deliveries_in (instant trace.now.recording.past end) ≤ result }
+{
+    if has_long_searches(trace, end) {
         return trace.deliveries() as usize;
     }
-    deliveries_in(entries)
+    deliveries_in(&trace.entries()[..end as usize])
 }
 
-/// Notes the numbers of more determinants, among the trace's first so many deliveries.
+/// Appends the numbers of more determinants, among the trace's first `among` deliveries.
+///
+/// # Errors
+/// `NoMemory` if allocation fails.
 fn note_numbers(
     numbers: &mut Vec<u32>,
     trace: &Trace,
     dets: &[Det],
     among: usize,
 ) -> Result<(), NoMemory>
+    requires { HaveNumbers among (delivered_dets trace.now.recording.past) dets.now }
     ensures { OnOk result ((before : List Det) →
         AreNumbersOf among (delivered_dets trace.now.recording.past) before numbers.old.items →
         AreNumbersOf among (delivered_dets trace.now.recording.past)
@@ -60,32 +93,39 @@ fn note_numbers(
 {
     for det in dets {
         let Some(number) = trace.delivery_of(*det, among) else {
-            return Err(NoMemory);
+            unreachable!();
         };
         numbers.push(number)?;
     }
     Ok(())
 }
 
-/// The numbers of the determinants that these entries mention, one after the other, among the trace's first so many deliveries.
+/// Returns the numbers of the determinants that these entries mention, in order, among the trace's first `among`
+/// deliveries.
+///
+/// # Errors
+/// `NoMemory` if allocation fails.
 fn numbers_of(
     alloc: Global,
     trace: &Trace,
     entries: &[Entry],
     among: usize,
 ) -> Result<Vec<u32>, NoMemory>
+    requires { All (λ entry. HaveNumbers among (delivered_dets trace.now.recording.past)
+        (mentioned_dets entry)) entries.now }
     ensures { IfOk result (λ numbers. AreNumbersOf among
-        (delivered_dets trace.now.recording.past) (flat_map mentioned_by entries.now) numbers.items) }
+        (delivered_dets trace.now.recording.past)
+        (flat_map mentioned_dets entries.now) numbers.items) }
 {
     let mut numbers = Vec::new(alloc);
     for entry in entries {
-        note_numbers(&mut numbers, trace, mentioned(entry), among)?;
+        note_numbers(&mut numbers, trace, mentioned_dets(entry), among)?;
     }
     Ok(numbers)
 }
 
-/// So many empty lists. Each has room for as many positions as its number comes up.
-fn lists_for(alloc: Global, numbers: &[u32], count: usize) -> Result<PackedLists, NoMemory>
+/// Returns `count` empty lists, each with capacity for as many positions as its number occurs.
+fn allocate_lists(alloc: Global, numbers: &[u32], count: usize) -> Result<PackedLists, NoMemory>
     ensures count { IfOk result (λ lists. length lists ≡ count) }
     ensures empty { IfOk result (λ lists. All (λ list. list ≡ []) lists) }
 {
@@ -96,13 +136,13 @@ fn lists_for(alloc: Global, numbers: &[u32], count: usize) -> Result<PackedLists
             rooms[number] = rooms[number].saturating_add(1);
         }
     }
-    PackedLists::with_rooms(alloc, &rooms)
+    PackedLists::with_capacities(alloc, &rooms)
 }
 
 impl Mentions {
-    ghost use Rattle.causal_audit.specs.Inside.Index.Filed.{AreMentionsWith};
+    ghost use Rattle.causal_audit.specs.Inside.Index.Lists.{AreMentionsWith};
 
-    /// The list of a determinant, by the trace that they are of.
+    /// Returns the list of a determinant of this trace.
     pub fn list(&self, trace: &Trace, det: Det) -> &[u32]
         ensures { result.now ≡
             mentions_of (delivered_dets trace.now.recording.past) self.now.lists det }
@@ -113,13 +153,13 @@ impl Mentions {
         }
     }
 
-    /// The list of the determinant of the delivery of a number. The newest delivery with a determinant has its list, so that nothing
-    /// is searched where there is one.
+    /// Returns the list of the determinant of a numbered delivery. The list is at the newest delivery with the
+    /// determinant, so nothing is searched if the numbered delivery has one.
     pub fn list_by(&self, trace: &Trace, det: Det, number: u32) -> &[u32]
         requires { number_of (number + 1) (delivered_dets trace.now.recording.past) det
             ≡ Some number }
         ensures { (past : List Entry) →
-            AreMentionsKept trace.now.recording.past past self.now → result.now ≡
+            IsMentionIndex trace.now.recording.past past self.now → result.now ≡
             mentions_of (delivered_dets trace.now.recording.past) self.now.lists det }
     {
         let own = self.lists.get(number as usize);
@@ -129,27 +169,24 @@ impl Mentions {
         own
     }
 
-    /// Puts the position of an entry into the list of a number. There is room for what was counted.
+    /// Appends the position of an entry to the list of a number. The capacity was counted.
     fn add(&mut self, number: u32, i: u32) -> Result<(), NoMemory>
+        requires { number < length self.old.lists }
         ensures added { OnOk result ((past : List Entry) (dets delivered : List Det) (det : Det) →
             length past ≡ i → number_of (length self.old.lists) delivered det ≡ Some number →
             AreMentionsWith past dets delivered self.old.lists →
             AreMentionsWith past (dets ++ det ∷ []) delivered self.new.lists) }
         ensures count { length self.new.lists ≡ length self.old.lists }
     {
-        let number = number as usize;
-        let count = self.lists.len();
-        if number >= count {
-            return Err(NoMemory);
-        }
-        self.lists.add(number, i)
+        self.lists.add(number as usize, i)
     }
 
-    /// Notes one more entry, at position i, which mentions the determinants of these numbers.
+    /// Appends the position i of one more entry, which mentions the determinants of these numbers.
     fn note(&mut self, numbers: &[u32], i: u32) -> Result<(), NoMemory>
+        requires { All (λ number. number < length self.old.lists) numbers.now }
         ensures noted { OnOk result ((past : List Entry) (delivered : List Det) (entry : Entry) →
             length past ≡ i →
-            AreNumbersOf (length self.old.lists) delivered (mentioned_by entry) numbers.now →
+            AreNumbersOf (length self.old.lists) delivered (mentioned_dets entry) numbers.now →
             AreMentions past delivered self.old.lists →
             AreMentions (entry ∷ past) delivered self.new.lists) }
         ensures count { length self.new.lists ≡ length self.old.lists }
@@ -161,9 +198,9 @@ impl Mentions {
     }
 }
 
-/// The determinants that an entry lists or writes to stable storage.
-pub fn mentioned(entry: &Entry) -> &[Det]
-    ensures { result.now ≡ mentioned_by entry.now }
+/// Returns the determinants that an entry lists or writes to stable storage.
+pub fn mentioned_dets(entry: &Entry) -> &[Det]
+    ensures { result.now ≡ mentioned_dets entry.now }
 {
     match entry {
         Entry::Stable { det } => slice::from_ref(det),
@@ -175,9 +212,12 @@ pub fn mentioned(entry: &Entry) -> &[Det]
     }
 }
 
-/// The positions of these entries, by the numbers of the determinants that they mention: these stand one after the other, among
-/// so many.
-fn filed(
+/// Returns the positions of these entries, by the numbers of the determinants that they mention. `numbers` contains
+/// these numbers in order; there are `among` lists.
+///
+/// # Errors
+/// `NoMemory` if allocation fails.
+fn build_mentions(
     alloc: Global,
     entries: &[Entry],
     numbers: &[u32],
@@ -185,31 +225,34 @@ fn filed(
 ) -> Result<Mentions, NoMemory>
     requires few { length entries.now ≤ max_entries }
     requires numbered { (delivered : List Det) ×
-        AreNumbersOf among delivered (flat_map mentioned_by entries.now) numbers.now }
+        AreNumbersOf among delivered (flat_map mentioned_dets entries.now) numbers.now }
     ensures { IfOk result (λ mentions. (delivered : List Det) →
-        AreNumbersOf among delivered (flat_map mentioned_by entries.now) numbers.now →
+        AreNumbersOf among delivered (flat_map mentioned_dets entries.now) numbers.now →
         AreMentions (past_of entries.now) delivered mentions.lists) }
 {
-    let lists = lists_for(alloc, numbers, among)?;
+    let lists = allocate_lists(alloc, numbers, among)?;
     let mut mentions = Mentions { lists };
     let mut rest = numbers;
     for (i, entry) in entries.iter().enumerate() {
-        let (own, later) = rest.split_at(mentioned(entry).len());
+        let (own, later) = rest.split_at(mentioned_dets(entry).len());
         mentions.note(own, i as u32)?;
         rest = later;
     }
     Ok(mentions)
 }
 
-/// The positions of the entries before the instant `end` that mention each determinant, in order. Each mention is searched once: its
-/// number is kept until all lists are made, which takes 4 bytes.
+/// Returns the ascending positions of the entries before the instant `end` that mention each determinant. Each mention
+/// is searched once; its number takes 4 bytes until all lists are built.
+///
+/// # Errors
+/// `NoMemory` if allocation fails.
 pub fn mentions_in(alloc: Global, trace: &Trace, end: u32) -> Result<Mentions, NoMemory>
     requires { end ≤ length trace.now.recording.past }
-    ensures { IfOk result (λ mentions. AreMentionsKept trace.now.recording.past
+    ensures { IfOk result (λ mentions. IsMentionIndex trace.now.recording.past
         (instant trace.now.recording.past end) mentions) }
 {
     let entries = &trace.entries()[..end as usize];
-    let among = with_lists(trace, entries);
+    let among = lists_needed(trace, end);
     let numbers = numbers_of(alloc, trace, entries, among)?;
-    filed(alloc, entries, numbers.as_slice(), among)
+    build_mentions(alloc, entries, numbers.as_slice(), among)
 }

@@ -1,13 +1,14 @@
-//! From which position on no process is released: who is down or holds a determinant then stays so.
+//! The position from which no process is released. A process that is down or holds a determinant then remains down or a
+//! holder.
 ghost use Rattle.std.specs.Prelude.{◌≡◌, ◌<◌};
 ghost use Rattle.causal_trace.specs.declared.entry.Entry.{Entry};
 ghost use Rattle.causal_trace.specs.Limits.{max_entries};
-ghost use Rattle.causal_audit.specs.Lasting.{may_release};
+ghost use Rattle.causal_audit.specs.NoRelease.{may_release};
 ghost use Rattle.causal_audit.specs.Inside.Index.Releases.{LastsAfter};
 
 use causal_trace::entry::Entry;
 
-/// Whether an entry may take a process out of those that are down or hold a determinant.
+/// Returns whether an entry may release a process, so that it is neither down nor holds a determinant.
 fn may_release(entry: &Entry) -> bool
     ensures { result ≡ may_release entry.now }
 {
@@ -18,9 +19,9 @@ fn may_release(entry: &Entry) -> bool
     }
 }
 
-/// The position from which on no process is released, after one more entry, at position i.
-#[tactic(auto, using(crate::proofs::look::CoverStays::none_beyond))]
-pub fn lasting_after(from: u32, entry: &Entry, i: u32) -> u32
+/// Returns the position from which no process is released, after one more entry, at position i.
+#[tactic(auto, using(crate::proofs::safety_scan::CoverStays::none_beyond))]
+pub fn last_release_end(from: u32, entry: &Entry, i: u32) -> u32
     requires { i < max_entries }
     ensures { LastsAfter entry.now i from result }
 {

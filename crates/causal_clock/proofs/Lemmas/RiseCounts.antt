@@ -1,26 +1,26 @@
--- The count that rises tell at a place.
+-- The count of rises at a place.
 use Rattle.std.specs.Prelude.{◌≡◌, ℕ, ◌<◌, ◌≤◌, ◌⊎◌, leb, if◌then◌else◌, List, [], ◌∷◌, length}
 use Rattle.std.proofs.Common.{zero, suc, refl, arith, ap, inl, inr}
 use Rattle.std.proofs.lemmas.Bool.Decides.{leb_tells}
 use Rattle.causal_clock.specs.declared.Rise.{Rise}
 use Rattle.causal_clock.specs.Rises.{rise_at, count_at}
 
--- a rise up to the place counts there
+-- the count at a place is at least that of each rise at or before it
 pub rise_counts : (rises : List Rise) (place i : ℕ) → i < length rises → (rise_at rises i).place ≤ place → (rise_at rises i).count ≤ count_at rises place
 rise_counts [] place i lt le = absurd (omega arith)
 rise_counts (r ∷ rises) place zero lt le = grind arith
 rise_counts (r ∷ rises) place (suc i) lt le = omega (arith, rise_counts rises place i (omega arith) le)
 
--- the count is that of some rise up to the place, or there is none
+-- the count is that of some rise at or before the place
 pub record IsCountOf (rises : List Rise) (place count i : ℕ) : Type 0 where
   -- the rise is one of them
   pub within : i < length rises
-  -- it stands up to the place
+  -- it is at or before the place
   pub reached : (rise_at rises i).place ≤ place
-  -- its count is the one told
+  -- its count is the count at the place
   pub count_is : count ≡ (rise_at rises i).count
 
--- a count is nothing yet, or that of the last rise no later than the place
+-- a count is 0, or that of some rise at or before the place
 pub count_risen : (rises : List Rise) (place : ℕ) → (count_at rises place ≡ 0) ⊎ ((i : ℕ) × IsCountOf rises place (count_at rises place) i)
 count_risen [] place = inl refl
 count_risen (r ∷ rises) place =

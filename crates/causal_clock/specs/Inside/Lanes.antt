@@ -1,33 +1,33 @@
--- What a lane keeps.
+-- The columns of a lane, their capacity, and lanes that differ in one column.
 use Rattle.std.specs.Prelude.{◌≡◌, ◌≢◌, ℕ, ◌-◌, ◌<◌, ◌≤◌, List, [], length, map, slice_index, vec_len, vec_capacity}
 use Rattle.causal_clock.specs.declared.Rise.{Rise}
-use Rattle.causal_clock.specs.declared.lane.Lane.{Lane}
+use Rattle.causal_clock.specs.declared.lane.LaneColumns.{LaneColumns}
 use Rattle.causal_clock.specs.Rises.{RisesStrictly}
 use Rattle.causal_clock.specs.Inside.Columns.{column_in, column_of}
 
--- its columns
-abbrev pub rises_in : Lane → List (List Rise)
+-- the rises in each column of a lane
+abbrev pub rises_in : LaneColumns → List (List Rise)
 rises_in x = map (λ c. c.items) x.columns.items
 
--- for how many more rises each of them has room
-abbrev pub spares_in : Lane → List ℕ
+-- how many more rises each column has capacity for
+abbrev pub spares_in : LaneColumns → List ℕ
 spares_in x = map (λ c. vec_capacity c - vec_len c) x.columns.items
 
-abbrev pub AllStrict : Lane → Type 0
+abbrev pub AllStrict : LaneColumns → Type 0
 AllStrict x = (source : ℕ) → RisesStrictly (column_in (rises_in x) source)
 
--- both tell the same of each source lane
-abbrev pub SameColumns : Lane → Lane → Type 0
+-- two lanes have the same column for each source lane
+abbrev pub SameColumns : LaneColumns → LaneColumns → Type 0
 SameColumns x y = (source : ℕ) → column_in (rises_in y) source ≡ column_in (rises_in x) source
 
--- there is a column for each count, and room in it where the count is greater than its last one
-pub record HasRoom (x : Lane) (counts : List ℕ) : Type 0 where
+-- the lane has a column for each count, with capacity for one more rise if the count is greater than its last one
+pub record HasReservedRises (x : LaneColumns) (counts : List ℕ) : Type 0 where
   pub wide : length counts ≤ length (rises_in x)
   pub counted : length counts ≤ length x.row.items
   pub spare : (k : ℕ) → k < length counts → slice_index x.row.items k < slice_index counts k → 0 < slice_index (spares_in x) k
 
--- they differ in one column at most, and in its last count
-pub record SameButFor (source : ℕ) (x y : Lane) : Type 0 where
+-- two lanes differ at most in one column and its last count
+pub record SameButFor (source : ℕ) (x y : LaneColumns) : Type 0 where
   pub events : y.events ≡ x.events
   pub long : length (rises_in y) ≡ length (rises_in x)
   pub counted : length y.row.items ≡ length x.row.items
@@ -35,8 +35,8 @@ pub record SameButFor (source : ℕ) (x y : Lane) : Type 0 where
   pub spares : (k : ℕ) → k ≢ source → slice_index (spares_in y) k ≡ slice_index (spares_in x) k
   pub counts : (k : ℕ) → k ≢ source → slice_index y.row.items k ≡ slice_index x.row.items k
 
--- that many lanes without events
-pub record AreEmpty (lanes : List Lane) (count : ℕ) : Type 0 where
+-- `count` lanes without events
+pub record AreEmpty (lanes : List LaneColumns) (count : ℕ) : Type 0 where
   pub many : length lanes ≡ count
   pub lengths : (lane : ℕ) → slice_index (map (λ x. x.events) lanes) lane ≡ 0
   pub columns : (lane source : ℕ) → column_of (map rises_in lanes) lane source ≡ []

@@ -4,7 +4,7 @@ use Rattle.causal_clock.specs.declared.Rise.{Rise}
 use Rattle.causal_clock.specs.Rises.{count_at}
 use Rattle.causal_clock.specs.Inside.Columns.{column_in}
 
--- the row has what each column tells from the place of the last rise on, which is no later than the next event's
-pub record KeepsRow (events last : ℕ) (columns : List (List Rise)) (row : List ℕ) : Type 0 where
+-- from place `last` on, which is at most the lane's length, each column has the count in the row
+pub record RowMatchesColumns (events last : ℕ) (columns : List (List Rise)) (row : List ℕ) : Type 0 where
   pub within : last ≤ events
   pub told : (source place : ℕ) → last ≤ place → count_at (column_in columns source) place ≡ slice_index row source

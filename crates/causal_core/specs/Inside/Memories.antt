@@ -1,61 +1,68 @@
--- What the cells hold: the memories of processes, the bodies that they keep, and their room.
+-- The memories of the processes: their protocol view, kept bodies and reserved capacities.
 use Rattle.std.specs.Prelude.{◌-◌, ℕ, ◌+◌, ◌≤◌, List, [], ◌∷◌, map, Option, unwrap_or, slice_get, vec_capacity, vec_len}
 use Rattle.std.specs.Option.{option_map, option_map_or}
 use Rattle.std.specs.FinMap as fin
 use Rattle.causal_name.specs.declared.Pid.{Pid}
 use Rattle.causal_log.specs.declared.batch.Item.{Item}
 use Rattle.causal_log.specs.Logs.{LogMap}
-use Rattle.causal_core.specs.declared.cell.Cell.{Cell}
-use Rattle.causal_protocol.specs.Memory.{Memory, Memories, fresh, at, keeping}
+use Rattle.causal_core.specs.declared.process_memory.ProcessMemory.{ProcessMemory}
+use Rattle.causal_protocol.specs.Memory.{Memory, Memories, new_memory, present_at, with_sent_message}
 use Rattle.causal_protocol.specs.Run.{Run, memories_of, stable_of}
 use Rattle.causal_log.specs.Slots.{first_of_slot}
 use Rattle.causal_log.specs.Stores.{dets_in}
 use Rattle.causal_protocol.specs.Naming.{next_rsn}
 use Rattle.causal_name.specs.declared.Det.{Det}
-use Rattle.causal_core.specs.View.{DataState, Room}
+use Rattle.causal_core.specs.View.{RunDataState, Capacity}
 
-abbrev pub memory_of : Cell → Memory
+-- the protocol's view of the memory of an up process
+abbrev pub memory_of : ProcessMemory → Memory
 memory_of c = record { log = c.log.map; sent = c.sent.kept; received = c.received.items }
 
-abbrev pub memories_in : List (Option Cell) → Memories
-memories_in cells = map (option_map memory_of) cells
+-- the protocol's view of the memories of all processes
+abbrev pub memories_in : List (Option ProcessMemory) → Memories
+memories_in process_memories = map (option_map memory_of) process_memories
 
--- the bodies of the messages that a process keeps, by ssn
-abbrev pub bodies_of : Cell → List (List ℕ)
+-- the bodies of the messages that a process keeps, by number
+abbrev pub bodies_of : ProcessMemory → List (List ℕ)
 bodies_of c = c.sent.bodies
 
--- those of each process
-abbrev pub bodies_in : List (Option Cell) → List (List (List ℕ))
-bodies_in cells = map (λ c. option_map_or bodies_of c []) cells
+-- the bodies that each process keeps
+abbrev pub bodies_in : List (Option ProcessMemory) → List (List (List ℕ))
+bodies_in process_memories = map (λ c. option_map_or bodies_of c []) process_memories
 
-abbrev pub no_room : Room
-no_room = record { sent = 0; received = 0; log = 0 }
+-- no capacity
+abbrev pub no_capacity : Capacity
+no_capacity = record { sent = 0; received = 0; log = 0 }
 
-abbrev pub room_of : Cell → Room
-room_of c = record { sent = c.sent.next_spare; received = vec_capacity c.received - vec_len c.received; log = c.log.spare }
+-- the reserved capacity of a memory
+abbrev pub capacity_of : ProcessMemory → Capacity
+capacity_of c = record { sent = c.sent.next_spare; received = vec_capacity c.received - vec_len c.received; log = c.log.spare }
 
-abbrev pub rooms_in : List (Option Cell) → List Room
-rooms_in cells = map (λ c. option_map_or room_of c no_room) cells
+-- the reserved capacity of each process; none for a down process
+abbrev pub capacities_in : List (Option ProcessMemory) → List Capacity
+capacities_in process_memories = map (λ c. option_map_or capacity_of c no_capacity) process_memories
 
-abbrev pub room_at : List Room → ℕ → Room
-room_at rooms p = unwrap_or (slice_get rooms p) no_room
+-- the reserved capacity of process p
+abbrev pub capacity_at : List Capacity → ℕ → Capacity
+capacity_at capacities p = unwrap_or (slice_get capacities p) no_capacity
 
--- a delivery to q that logs so many determinants, and its sends, are sure of their memory
-pub record HasRoom (q logged : ℕ) (d : DataState) : Type 0 where
+-- capacity is reserved for a delivery to q that logs the given number of determinants, and for its sends
+pub record HasCapacity (q logged : ℕ) (d : RunDataState) : Type 0 where
   pub entries : 9 ≤ d.spare
-  pub sent : 8 ≤ (room_at d.rooms q).sent
-  pub received : 1 ≤ (room_at d.rooms q).received
-  pub log : logged ≤ (room_at d.rooms q).log
+  pub sent : 8 ≤ (capacity_at d.capacities q).sent
+  pub received : 1 ≤ (capacity_at d.capacities q).received
+  pub log : logged ≤ (capacity_at d.capacities q).log
 
--- messages to these are kept, sent from a position on with one batch
+-- a memory after it keeps messages to these processes, sent from a position on with one batch
 unfoldable pub keep_all : ℕ → List Item → List Pid → Memory → Memory
 keep_all send batch [] m = m
-keep_all send batch (to ∷ tos) m = keep_all (send + 1) batch tos (keeping to send batch m)
+keep_all send batch (to ∷ tos) m = keep_all (send + 1) batch tos (with_sent_message to send batch m)
 
--- the memory of an up process, and its log
+-- the memory of process p; that of a new process if p is down
 abbrev pub memory_at : Memories → ℕ → Memory
-memory_at ms p = unwrap_or (at ms p) (fresh fin.empty)
+memory_at ms p = unwrap_or (present_at ms p) (new_memory fin.empty)
 
+-- the log of process p; empty if p is down
 abbrev pub log_at : Memories → ℕ → LogMap
 log_at ms p = (memory_at ms p).log
 

@@ -1,4 +1,4 @@
--- Sets of processes as tests, counted below n; and finite sets that show such a test.
+-- Sets of processes as tests, counted below n, and finite sets with the members of a test.
 use Rattle.std.proofs.Common.{ℕ, zero, suc, ◌≡◌, ◌+◌, ◌-◌, ◌<◌, ◌≤◌, ◌≢◌, inl, inr, Bool, true, false, cond, ◌==◌, refl, sym, ap, subst, ◌∙◌, arith}
 use Rattle.std.specs.Prelude.{◌&&◌, ◌||◌, ◌↔◌, not, nat_lt}
 use Rattle.std.specs.Ordering.{nat_cmp}
@@ -6,9 +6,9 @@ use Rattle.std.specs.Cmp.{nat_cmp_total, unsigned_tied}
 use Rattle.std.specs.FinSet.{FinSet, contains, empty, remove, union, is_subset, len, same_set, contains-empty, contains-remove, contains-union, is_subset-contains, contains-is_subset, len-empty, len-remove, nat_cmp-IsAntisymmetric}
 use Rattle.std.proofs.lemmas.Bool.{false≢true, or_cases, or_left, or_right}
 use Rattle.std.proofs.lemmas.Bool.Decides.{nat_tests, eqb_tells}
-use Rattle.causal_name.specs.Sets.{count_below, any_below, either, IsWithin}
+use Rattle.causal_name.specs.Sets.{count_below, any_below, union_test, IsSubsetBelow}
 use Rattle.causal_holders.specs.Members.{HasMembers, numbers_below}
-use Rattle.causal_holders.specs.Inside.WordsTold.{contains-numbers_below}
+use Rattle.causal_holders.specs.Inside.WordLemmas.{contains-numbers_below}
 use Rattle.causal_holders.proofs.Lemmas.Sets.{some_member}
 
 -- ---- tests
@@ -22,8 +22,8 @@ one_le : (x y : Bool) → (x ≡ true → y ≡ true) → cond x 1 0 ≤ cond y 
 one_le true y h = subst (λ b. 1 ≤ cond b 1 0) (sym (h refl)) (omega arith)
 one_le false y h = omega arith
 
--- a set within another has no more members
-pub count_below-within : (n : ℕ) (a b : ℕ → Bool) → IsWithin n a b → count_below n a ≤ count_below n b
+-- a subset has no more members
+pub count_below-within : (n : ℕ) (a b : ℕ → Bool) → IsSubsetBelow n a b → count_below n a ≤ count_below n b
 count_below-within zero a b h = omega arith
 count_below-within (suc n) a b h = omega (arith, count_below-within n a b (λ p below. h p (omega (arith, below))), one_le (a n) (b n) (h n (omega arith)))
 
@@ -31,7 +31,7 @@ at_most_one : (x : Bool) → cond x 1 0 ≤ 1
 at_most_one true = omega arith
 at_most_one false = omega arith
 
--- at most all pass
+-- the count is at most n
 pub count_below-le : (n : ℕ) (a : ℕ → Bool) → count_below n a ≤ n
 count_below-le zero a = omega arith
 count_below-le (suc n) a = omega (arith, count_below-le n a, at_most_one (a n))
@@ -40,7 +40,7 @@ none_false : (b : Bool) → (b ≡ true → ⊥) → b ≡ false
 none_false true h = absurd (h refl)
 none_false false h = refl
 
--- where some pass, here is one
+-- if some number passes, there is one that passes
 pub any_below-found : (n : ℕ) (test : ℕ → Bool) → any_below n test ≡ true → (p : ℕ) × (p < n) × (test p ≡ true)
 any_below-found zero test h = absurd (false≢true h)
 any_below-found (suc n) test h =
@@ -49,7 +49,7 @@ any_below-found (suc n) test h =
       | inr k ↦ let found : (p : ℕ) × (p < n) × (test p ≡ true) = any_below-found n test k in (found.0, omega (arith, found.1), found.2)
     ]
 
--- where one passes, some do
+-- if one number passes, some number does
 pub any_below-from : (n : ℕ) (test : ℕ → Bool) (p : ℕ) → p < n → test p ≡ true → any_below n test ≡ true
 any_below-from zero test p below h = absurd (omega (arith, below))
 any_below-from (suc n) test p below h =
@@ -58,7 +58,7 @@ any_below-from (suc n) test p below h =
       | inr k ↦ or_right _ _ (any_below-from n test p (let ne : p ≡ n → ⊥ = k.1 in omega (arith, below)) h)
     ]
 
--- where none passes, the count is 0
+-- if no number passes, the count is 0
 pub count_below-none : (n : ℕ) (test : ℕ → Bool) → ((q : ℕ) → q < n → test q ≡ false) → count_below n test ≡ 0
 count_below-none zero test h = refl
 count_below-none (suc n) test h = omega (arith, count_below-none n test (λ q below. h q (omega (arith, below))), ap {B = ℕ} (λ b. cond b 1 0) (h n (omega arith)))
@@ -99,7 +99,7 @@ len_counted (suc n) s below =
           | inr k ↦ omega (arith, below q (sym (removed_other s n q k.1) ∙ h), k.1)
         ]
 
--- a set that shows a test has as many members as pass
+-- a set with the members of a test has as many members as pass
 pub members_counted : (n : ℕ) (s : FinSet nat_cmp) (a : ℕ → Bool) → HasMembers n s a → len s ≡ count_below n a
 members_counted n s a m = len_counted n s m.process ∙ count_below-same n (contains s) a m.member
 
@@ -107,15 +107,15 @@ either_below : (a b : Bool) (q n : ℕ) → (a ≡ true → q < n) → (b ≡ tr
 either_below true b q n f g h = f refl
 either_below false b q n f g h = g h
 
--- a union shows the union of the tests
-pub union_members : (n : ℕ) (s t : FinSet nat_cmp) (a b : ℕ → Bool) → HasMembers n s a → HasMembers n t b → HasMembers n (union s t) (either a b)
+-- the union of two sets has the members of the union of their tests
+pub union_members : (n : ℕ) (s t : FinSet nat_cmp) (a b : ℕ → Bool) → HasMembers n s a → HasMembers n t b → HasMembers n (union s t) (union_test a b)
 union_members n s t a b m k = record {
   process = λ p h. either_below (contains s p) (contains t p) p n (m.process p) (k.process p) (sym (contains-union nat_cmp_total s t p) ∙ h);
   member = λ p h. contains-union nat_cmp_total s t p ∙ (λ i. m.member p h i || k.member p h i);
 }
 
--- of two sets that show tests, one is a part of the other where its test is within the other's
-pub is_subset_members : (n : ℕ) (s t : FinSet nat_cmp) (a b : ℕ → Bool) → HasMembers n s a → HasMembers n t b → (is_subset s t ≡ true) ↔ IsWithin n a b
+-- of two sets with the members of tests, one is a subset of the other if and only if its test is within the other's
+pub is_subset_members : (n : ℕ) (s t : FinSet nat_cmp) (a b : ℕ → Bool) → HasMembers n s a → HasMembers n t b → (is_subset s t ≡ true) ↔ IsSubsetBelow n a b
 is_subset_members n s t a b m k = (
   λ h p below passes. sym (k.member p below) ∙ is_subset-contains nat_cmp_total s t h p (m.member p below ∙ passes),
   λ h. contains-is_subset nat_cmp_total s t (λ p in_s. k.member p (m.process p in_s) ∙ h p (m.process p in_s) (sym (m.member p (m.process p in_s)) ∙ in_s)),

@@ -1,4 +1,4 @@
--- Finite sets of numbers: parts, differences, members, and how many.
+-- Finite sets of numbers: subsets, differences, members and lengths.
 use Rattle.std.specs.Prelude.{◌≡◌, ℕ, ◌-◌, ◌<◌, ◌≤◌, ◌⊎◌, Bool, true, false, cond, not, ◌&&◌, ◌||◌, List, [], ◌∷◌, nat_eq}
 use Rattle.std.proofs.Common.{zero, suc, refl, arith, ap, sym, ◌∙◌, inl, inr}
 use mathlib.Core.Bool.{true≢false}
@@ -20,19 +20,19 @@ empty_or_member s = go (items s) refl
     go [] e = inl (same_set nat_cmp_total nat_cmp-IsAntisymmetric s empty (λ q. contains-items s q ∙ ap (list_any (eq_by_cmp nat_cmp q)) e ∙ sym (contains-empty nat_cmp q)))
     go (x ∷ xs) e = inr (x, contains-items s x ∙ ap (list_any (eq_by_cmp nat_cmp x)) e ∙ ap (λ b. b || list_any (eq_by_cmp nat_cmp x) xs) (unsigned_tied x x ∙ itself x))
 
--- what is not taken out of the one is not taken out of the other
+-- what is not removed from a subset is not removed from the set
 kept : (a b c : Bool) → (not a && b) ≡ true → (b ≡ true → c ≡ true) → (not a && c) ≡ true
 kept true b c h f = h
 kept false b c h f = f h
 
--- a part of a set is still one when both lose a number
+-- a subset remains one after a number is removed from both sets
 subset_remove : (s t : FinSet nat_cmp) (x : ℕ) → is_subset s t ≡ true → is_subset (remove s x) (remove t x) ≡ true
 subset_remove s t x h =
     contains-is_subset nat_cmp_total _ _ (λ q in_s.
     contains-remove nat_cmp_total t x q
     ∙ kept (eq_by_cmp nat_cmp q x) (contains s q) (contains t q) (sym (contains-remove nat_cmp_total s x q) ∙ in_s) (is_subset-contains nat_cmp_total s t h q))
 
--- a set with a member is not of length 0
+-- a set with a member has a length other than 0
 pub some_member : (t : FinSet nat_cmp) (x : ℕ) → contains t x ≡ true → 0 < len t
 some_member t x h =
     elim (leb_tells 1 (len t)) [
@@ -40,7 +40,7 @@ some_member t x h =
       | inr none ↦ absurd (true≢false (sym h ∙ ap (λ u. contains u x) (empty_of_len t (omega (arith, none.1))) ∙ contains-empty nat_cmp x))
     ]
 
--- a part has no more members, by the number of its members
+-- a subset has no more members: induction on its length
 len_le : (n : ℕ) (s t : FinSet nat_cmp) → len s ≡ n → is_subset s t ≡ true → len s ≤ len t
 len_le zero s t e h = omega arith
 len_le (suc n) s t e h =
@@ -54,6 +54,6 @@ len_le (suc n) s t e h =
           omega (arith, len_le n (remove s x) (remove t x) (omega arith) (subset_remove s t x h), some_member t x in_t)
     ]
 
--- a part has no more members
+-- a subset has no more members
 pub len-is_subset : (s t : FinSet nat_cmp) → is_subset s t ≡ true → len s ≤ len t
 len-is_subset s t h = len_le (len s) s t refl h

@@ -12,7 +12,7 @@ either : (b : Bool) (x : ℕ) (ls : List (List ℕ)) → sum_by length (cond b (
 either true x ls = sum_by-cons length (x ∷ []) ls ∙ omega arith
 either false x ls = grown x ls
 
--- the lines have as many bytes as the text
+-- the lengths of the lines add up to that of the text
 pub sum_by-lines : (text : List ℕ) → sum_by length (lines text) ≡ length text
 sum_by-lines [] = refl
 sum_by-lines (x ∷ xs) = either (x == 10) x (lines xs) ∙ ap suc (sum_by-lines xs)

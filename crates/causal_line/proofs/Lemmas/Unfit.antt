@@ -1,4 +1,4 @@
--- What is told of the fields of a line that do not fit its outline: no line has them, of whatever kind.
+-- A line whose fields do not fit its outline has the error `Form`, whatever its name.
 use Rattle.std.proofs.Common.{◌≡◌, ◌⊎◌, ℕ, suc, ◌-◌, ◌^◌, ◌<◌, arith, ne_eqb, zero, List, [], Bool, true, false, Option, Some, None, Result, Ok, Err, inl, inr, refl, ap, sym, ◌∙◌, cond}
 use Rattle.std.specs.Prelude.{◌&&◌, ◌==◌, bytes_eq, option_and_then, unwrap_or}
 use Rattle.std.proofs.lemmas.Bool.{eqb-true}
@@ -9,16 +9,16 @@ use Rattle.causal_name.specs.declared.Pid.{Pid}
 use Rattle.causal_line.specs.declared.kind.TextKind.{TextKind}
 use Rattle.causal_line.specs.declared.kind.TextKind.TheVariants.{Form}
 use Rattle.causal_line.specs.Reading.{◌>>=◌}
-use Rattle.causal_line.specs.Shapes.{or_form, size, number_below, number_at, u8_at, pid_at, u32_at, u64_at, det_of, dets_of, dets_at, begins}
-use Rattle.causal_line.specs.Outline.{levels, one_more, may_have, fits, items_fit}
+use Rattle.causal_line.specs.ParsedLines.{or_form, array_len, number_below, number_at, u8_at, pid_at, u32_at, u64_at, det_of, dets_of, dets_at, is_array_named}
+use Rattle.causal_line.specs.Prescan.{levels, count_capped, may_have_items, value_fits, items_fit}
 
--- no other kind than `Form`
+-- if the result is an error, its kind is `Form`
 abbrev pub IsPlainly : {A : Type 0} → Result A TextKind → Type 0
 IsPlainly r = (e : TextKind) → r ≡ Err e → e ≡ Form
 
--- ---- of two that do not both hold
+-- ---- two conditions that do not both hold
 
--- where not both hold, what follows from the one that fails does
+-- if two conditions do not both hold, the consequence of one failure holds
 pub or_else : {P Q : Type 0} (a b : Bool) → (a && b) ≡ false → (a ≡ false → P) → (b ≡ false → Q) → P ⊎ Q
 or_else true b h p q = inr (q h)
 or_else false b h p q = inl (p refl)
@@ -27,12 +27,12 @@ rest_false : (a b : Bool) → a ≡ true → (a && b) ≡ false → b ≡ false
 rest_false true b t h = h
 rest_false false b t h = absurd (let no : false ≡ true = t in cc)
 
--- where not both hold but the second does, the first does not
+-- if two conditions do not both hold but the second does, the first does not
 pub last_false : (a b : Bool) → b ≡ true → (a && b) ≡ false → a ≡ false
 last_false a true t h = grind arith
 last_false a false t h = absurd (let no : false ≡ true = t in cc)
 
--- the first two, or the rest
+-- the first two conditions, or the rest
 pub split : (a b rest : Bool) → (a && (b && rest)) ≡ false → ((a && b) ≡ false) ⊎ (rest ≡ false)
 split true true rest h = inr h
 split true false rest h = inl refl
@@ -46,18 +46,18 @@ second_true : (a b : Bool) → (a && b) ≡ true → b ≡ true
 second_true true b h = h
 second_true false b h = absurd (let no : false ≡ true = h in cc)
 
--- ---- what goes on after a part
+-- ---- sequences of results
 
--- what fails with `Form` goes on to fail with it
+-- a `Form` error of the first part is the error of the sequence
 pub stops : {A B : Type 0} (r : Result A TextKind) (f : A → Result B TextKind) → r ≡ Err Form → (r >>= f) ≡ Err Form
 stops {A = A} r f e = ap (λ (q : Result A TextKind). q >>= f) e
 
--- where a part fails with no other kind, and what goes on from it fails with `Form`, so does the whole
+-- if the first part fails only with `Form`, and the rest then fails with `Form`, so does the sequence
 pub after : {A B : Type 0} (r : Result A TextKind) (f : A → Result B TextKind) → IsPlainly r → ((x : A) → f x ≡ Err Form) → (r >>= f) ≡ Err Form
 after (Ok x) f plain h = h x
 after (Err e) f plain h = ap Err (plain e refl)
 
--- either the part fails with `Form` or what goes on from it
+-- if the first part fails only with `Form`, and it or the rest does, so does the sequence
 pub chain : {A B : Type 0} (r : Result A TextKind) (f : A → Result B TextKind) → IsPlainly r → (r ≡ Err Form) ⊎ ((x : A) → f x ≡ Err Form) → (r >>= f) ≡ Err Form
 chain r f plain (inl e) = stops r f e
 chain r f plain (inr h) = after r f plain h
@@ -69,7 +69,7 @@ IsPlainly-after (Err e) f p q = λ k h. (let same : e ≡ k = cc in sym same ∙
 IsPlainly-ok : {A : Type 0} (x : A) → IsPlainly {A = A} (Ok x)
 IsPlainly-ok x = λ e h. absurd (let no : Ok x ≡ Err e = h in cc)
 
--- a field that is missing, a process, a determinant and a list of these fail with no other kind
+-- a missing field, a process, a determinant and a list of them fail only with `Form`
 pub IsPlainly-or_form : {A : Type 0} (o : Option A) → IsPlainly (or_form o)
 IsPlainly-or_form (Some x) = IsPlainly-ok x
 IsPlainly-or_form None = λ e h. (let same : Form ≡ e = cc in sym same)
@@ -77,7 +77,7 @@ IsPlainly-or_form None = λ e h. (let same : Form ≡ e = cc in sym same)
 IsPlainly-form : {A : Type 0} → IsPlainly {A = A} (Err Form)
 IsPlainly-form = λ e h. (let same : Form ≡ e = cc in sym same)
 
--- a process is refused for no other kind than `Form`
+-- a process fails only with `Form`
 pub IsPlainly-pid : (i : ℕ) (d : Data) → IsPlainly (pid_at i d)
 unfolding pid_at
 IsPlainly-pid i d = IsPlainly-after (u8_at i d) _ (IsPlainly-or_form _) (λ p. IsPlainly-ok _)
@@ -86,23 +86,23 @@ IsPlainly-cond : {A : Type 0} (b : Bool) (r : Result A TextKind) → IsPlainly r
 IsPlainly-cond true r p = p
 IsPlainly-cond false r p = IsPlainly-form
 
--- a determinant is refused for no other kind than `Form`
+-- a determinant fails only with `Form`
 pub IsPlainly-det : (d : Data) → IsPlainly (det_of d)
 unfolding det_of
-IsPlainly-det d = IsPlainly-cond (size d == 4) _ (IsPlainly-after (pid_at 0 d) _ (IsPlainly-pid 0 d) (λ a. IsPlainly-after (u32_at 1 d) _ (IsPlainly-or_form _) (λ b. IsPlainly-after (pid_at 2 d) _ (IsPlainly-pid 2 d) (λ c. IsPlainly-after (u32_at 3 d) _ (IsPlainly-or_form _) (λ e. IsPlainly-ok _)))))
+IsPlainly-det d = IsPlainly-cond (array_len d == 4) _ (IsPlainly-after (pid_at 0 d) _ (IsPlainly-pid 0 d) (λ a. IsPlainly-after (u32_at 1 d) _ (IsPlainly-or_form _) (λ b. IsPlainly-after (pid_at 2 d) _ (IsPlainly-pid 2 d) (λ c. IsPlainly-after (u32_at 3 d) _ (IsPlainly-or_form _) (λ e. IsPlainly-ok _)))))
 
 IsPlainly-list : (ds : Items) → IsPlainly (dets_of ds)
 IsPlainly-list no_items = IsPlainly-ok []
 IsPlainly-list (item d ds) = IsPlainly-after (det_of d) _ (IsPlainly-det d) (λ det. IsPlainly-after (dets_of ds) _ (IsPlainly-list ds) (λ dets. IsPlainly-ok _))
 
--- a list of determinants is refused for no other kind than `Form`
+-- a list of determinants fails only with `Form`
 pub IsPlainly-dets : (i : ℕ) (d : Data) → IsPlainly (dets_at i d)
 unfolding dets_at
 IsPlainly-dets i d = IsPlainly-after (or_form (option_and_then as_array (at i d))) _ (IsPlainly-or_form _) (λ ds. IsPlainly-list ds)
 
--- ---- fields that are there and do not fit
+-- ---- fields that exist and do not fit
 
-number_none : (limit left : ℕ) (x : Data) → fits left x ≡ false → number_below limit x ≡ None
+number_none : (limit left : ℕ) (x : Data) → value_fits left x ≡ false → number_below limit x ≡ None
 number_none limit left Data.null h = refl
 number_none limit left (Data.boolean b) h = refl
 number_none limit left (number n) h = absurd (let no : true ≡ false = h in cc)
@@ -110,11 +110,11 @@ number_none limit left (string s) h = refl
 number_none limit left (array ds) h = refl
 number_none limit left (object ms) h = refl
 
--- a number below a limit, any number and a process are refused where what is there is no number
-pub number_bad : (limit left i : ℕ) (d x : Data) → at i d ≡ Some x → fits left x ≡ false → number_at limit i d ≡ Err Form
+-- a value that does not fit is refused as a number below a limit
+pub number_bad : (limit left i : ℕ) (d x : Data) → at i d ≡ Some x → value_fits left x ≡ false → number_at limit i d ≡ Err Form
 number_bad limit left i d x is h = ap (λ o. or_form (option_and_then (number_below limit) o)) is ∙ ap or_form (number_none limit left x h)
 
-u64_none : (left : ℕ) (x : Data) → fits left x ≡ false → option_and_then as_u64 (as_number x) ≡ None
+u64_none : (left : ℕ) (x : Data) → value_fits left x ≡ false → option_and_then as_u64 (as_number x) ≡ None
 u64_none left Data.null h = refl
 u64_none left (Data.boolean b) h = refl
 u64_none left (number n) h = absurd (let no : true ≡ false = h in cc)
@@ -122,29 +122,29 @@ u64_none left (string s) h = refl
 u64_none left (array ds) h = refl
 u64_none left (object ms) h = refl
 
--- any number is refused where what is there is none
-pub u64_bad : (left i : ℕ) (d x : Data) → at i d ≡ Some x → fits left x ≡ false → u64_at i d ≡ Err Form
+-- a value that does not fit is refused as a number
+pub u64_bad : (left i : ℕ) (d x : Data) → at i d ≡ Some x → value_fits left x ≡ false → u64_at i d ≡ Err Form
 u64_bad left i d x is h = ap (λ o. or_form (option_and_then as_u64 (option_and_then as_number o))) is ∙ ap or_form (u64_none left x h)
 
--- a process is refused where what is there is no number
-pub pid_bad : (left i : ℕ) (d x : Data) → at i d ≡ Some x → fits left x ≡ false → pid_at i d ≡ Err Form
+-- a value that does not fit is refused as a process
+pub pid_bad : (left i : ℕ) (d x : Data) → at i d ≡ Some x → value_fits left x ≡ false → pid_at i d ≡ Err Form
 unfolding pid_at
 pid_bad left i d x is h = stops (u8_at i d) _ (number_bad (2 ^ 8) left i d x is h)
 
--- a process, or what goes on behind it, does not fit
-pub process_or : {B : Type 0} (i : ℕ) (d x : Data) (more : Bool) (f : Pid → Result B TextKind) → at i d ≡ Some x → (fits 2 x && more) ≡ false → (more ≡ false → (p : Pid) → f p ≡ Err Form) → (pid_at i d >>= f) ≡ Err Form
-process_or i d x more f is h go = chain (pid_at i d) f (IsPlainly-pid i d) (or_else (fits 2 x) more h (pid_bad 2 i d x is) go)
+-- a line is refused if its process does not fit, or the fields after it do not
+pub process_or : {B : Type 0} (i : ℕ) (d x : Data) (more : Bool) (f : Pid → Result B TextKind) → at i d ≡ Some x → (value_fits 2 x && more) ≡ false → (more ≡ false → (p : Pid) → f p ≡ Err Form) → (pid_at i d >>= f) ≡ Err Form
+process_or i d x more f is h go = chain (pid_at i d) f (IsPlainly-pid i d) (or_else (value_fits 2 x) more h (pid_bad 2 i d x is) go)
 
--- and so a number of 32 bits
-pub number_or : {B : Type 0} (i : ℕ) (d x : Data) (more : Bool) (f : ℕ → Result B TextKind) → at i d ≡ Some x → (fits 2 x && more) ≡ false → (more ≡ false → (n : ℕ) → f n ≡ Err Form) → (u32_at i d >>= f) ≡ Err Form
-number_or i d x more f is h go = chain (u32_at i d) f (IsPlainly-or_form _) (or_else (fits 2 x) more h (number_bad (2 ^ 32) 2 i d x is) go)
+-- a line is refused if its number of 32 bits does not fit, or the fields after it do not
+pub number_or : {B : Type 0} (i : ℕ) (d x : Data) (more : Bool) (f : ℕ → Result B TextKind) → at i d ≡ Some x → (value_fits 2 x && more) ≡ false → (more ≡ false → (n : ℕ) → f n ≡ Err Form) → (u32_at i d >>= f) ≡ Err Form
+number_or i d x more f is h go = chain (u32_at i d) f (IsPlainly-or_form _) (or_else (value_fits 2 x) more h (number_bad (2 ^ 32) 2 i d x is) go)
 
--- another number of items
+-- a number greater than k is not equal to k
 far : (n k : ℕ) → k < n → (n == k) ≡ false
 far n k less = ne_eqb n k (λ e. omega (arith, less, e))
 
--- a determinant, and a list of these, with a part that does not fit
-pub det_bad : (left : ℕ) (d : Data) → may_have left 4 ≡ true → fits left d ≡ false → det_of d ≡ Err Form
+-- a determinant, or a list of determinants, with a part that does not fit
+pub det_bad : (left : ℕ) (d : Data) → may_have_items left 4 ≡ true → value_fits left d ≡ false → det_of d ≡ Err Form
 unfolding det_of
 det_bad left Data.null m h = refl
 det_bad left (Data.boolean b) m h = refl
@@ -158,17 +158,17 @@ det_bad left (array (item a (item b (item c no_items)))) m h = refl
 det_bad left (array (item a (item b (item c (item e (item x ds)))))) m h = rw (far (suc (suc (suc (suc (suc (items_len ds)))))) 4 (omega arith)) refl
 det_bad left (array (item a (item b (item c (item e no_items))))) m h =
     let d : Data = array (item a (item b (item c (item e no_items)))) in
-    chain (pid_at 0 d) _ (IsPlainly-pid 0 d) (or_else (fits (left - 1) a) _ h (pid_bad (left - 1) 0 d a refl) (λ h2 source.
-    chain (u32_at 1 d) _ (IsPlainly-or_form _) (or_else (fits (left - 1) b) _ h2 (number_bad (2 ^ 32) (left - 1) 1 d b refl) (λ h3 ssn.
-    chain (pid_at 2 d) _ (IsPlainly-pid 2 d) (or_else (fits (left - 1) c) _ h3 (pid_bad (left - 1) 2 d c refl) (λ h4 dest.
-    stops (u32_at 3 d) _ (number_bad (2 ^ 32) (left - 1) 3 d e refl (last_false (fits (left - 1) e) _ m h4))))))))
+    chain (pid_at 0 d) _ (IsPlainly-pid 0 d) (or_else (value_fits (left - 1) a) _ h (pid_bad (left - 1) 0 d a refl) (λ h2 source.
+    chain (u32_at 1 d) _ (IsPlainly-or_form _) (or_else (value_fits (left - 1) b) _ h2 (number_bad (2 ^ 32) (left - 1) 1 d b refl) (λ h3 ssn.
+    chain (pid_at 2 d) _ (IsPlainly-pid 2 d) (or_else (value_fits (left - 1) c) _ h3 (pid_bad (left - 1) 2 d c refl) (λ h4 dest.
+    stops (u32_at 3 d) _ (number_bad (2 ^ 32) (left - 1) 3 d e refl (last_false (value_fits (left - 1) e) _ m h4))))))))
 
 list_bad : (n : ℕ) (ds : Items) → items_fit 2 n ds ≡ false → dets_of ds ≡ Err Form
 list_bad n no_items h = absurd (let no : true ≡ false = h in cc)
 list_bad n (item d ds) h =
-    chain (det_of d) _ (IsPlainly-det d) (or_else (fits 1 d) _ h (det_bad 1 d refl) (λ more det. stops (dets_of ds) _ (list_bad (one_more n) ds more)))
+    chain (det_of d) _ (IsPlainly-det d) (or_else (value_fits 1 d) _ h (det_bad 1 d refl) (λ more det. stops (dets_of ds) _ (list_bad (count_capped n) ds more)))
 
-field_bad : (x : Data) → fits 2 x ≡ false → (or_form (as_array x) >>= dets_of) ≡ Err Form
+field_bad : (x : Data) → value_fits 2 x ≡ false → (or_form (as_array x) >>= dets_of) ≡ Err Form
 field_bad Data.null h = refl
 field_bad (Data.boolean b) h = refl
 field_bad (number n) h = refl
@@ -176,15 +176,15 @@ field_bad (string s) h = refl
 field_bad (array ds) h = list_bad 0 ds h
 field_bad (object ms) h = refl
 
--- a list of determinants is refused where what is there does not fit one
-pub dets_bad : (i : ℕ) (d x : Data) → at i d ≡ Some x → fits 2 x ≡ false → dets_at i d ≡ Err Form
+-- a value that does not fit is refused as a list of determinants
+pub dets_bad : (i : ℕ) (d x : Data) → at i d ≡ Some x → value_fits 2 x ≡ false → dets_at i d ≡ Err Form
 unfolding dets_at
 dets_bad i d x is h = ap (λ o. or_form (option_and_then as_array o) >>= dets_of) is ∙ field_bad x h
 
--- ---- lines by their number of fields
+-- ---- lines by their length
 
--- the first field is a name
-named : (name : List ℕ) (x : Data) → bytes_eq [] name ≡ false → bytes_eq (unwrap_or (as_str x) []) name ≡ true → fits 2 x ≡ true
+-- a value that is a name fits
+named : (name : List ℕ) (x : Data) → bytes_eq [] name ≡ false → bytes_eq (unwrap_or (as_str x) []) name ≡ true → value_fits 2 x ≡ true
 named name Data.null none h = refl
 named name (Data.boolean b) none h = refl
 named name (number n) none h = refl
@@ -192,11 +192,11 @@ named name (string s) none h = refl
 named name (array ds) none h = absurd (let no : false ≡ true = sym none ∙ h in cc)
 named name (object ms) none h = absurd (let no : false ≡ true = sym none ∙ h in cc)
 
--- a line has the name that it begins with
+-- the first field of a line is this name
 abbrev pub IsNamed : List ℕ → Data → Type 0
 IsNamed name d = bytes_eq (unwrap_or (option_and_then as_str (at 0 d)) []) name ≡ true
 
--- what is asked of n items is asked of them one by one
+-- the test of n items is the test of each item
 abbrev pub OfEach : ℕ → (Items → Type 0) → Type 0
 OfEach zero P = P no_items
 OfEach (suc n) P = (x : Data) → OfEach n (λ xs. P (item x xs))
@@ -207,14 +207,14 @@ of_each zero P (item x xs) e h = absurd (omega (arith, e))
 of_each (suc n) P no_items e h = absurd (omega (arith, e))
 of_each (suc n) P (item x xs) e h = of_each n (λ ys. P (item x ys)) xs (omega (arith, e)) (h x)
 
-no_size : {P : Type 0} (name : List ℕ) (d : Data) (n : ℕ) → (size d == suc n) ≡ false → begins d name (suc n) ≡ true → P
-no_size name d n differs is = absurd (let bad : false ≡ true = sym differs ∙ second_true (bytes_eq (unwrap_or (option_and_then as_str (at 0 d)) []) name) (size d == suc n) is in cc)
+no_size : {P : Type 0} (name : List ℕ) (d : Data) (n : ℕ) → (array_len d == suc n) ≡ false → is_array_named d name (suc n) ≡ true → P
+no_size name d n differs is = absurd (let bad : false ≡ true = sym differs ∙ second_true (bytes_eq (unwrap_or (option_and_then as_str (at 0 d)) []) name) (array_len d == suc n) is in cc)
 
--- a line that begins with a name and does not fit is an array of so many items that has the name and does not fit
-pub of_line : (n : ℕ) (name : List ℕ) (R : Data → Type 0) (d : Data) → fits levels d ≡ false → begins d name (suc n) ≡ true
-    → OfEach (suc n) (λ xs. fits levels (array xs) ≡ false → IsNamed name (array xs) → R (array xs)) → R d
+-- a line with a known name that does not fit is an array of the right length with a field that does not fit
+pub of_line : (n : ℕ) (name : List ℕ) (R : Data → Type 0) (d : Data) → value_fits levels d ≡ false → is_array_named d name (suc n) ≡ true
+    → OfEach (suc n) (λ xs. value_fits levels (array xs) ≡ false → IsNamed name (array xs) → R (array xs)) → R d
 of_line n name R (array xs) h is all =
-    of_each (suc n) (λ ys. fits levels (array ys) ≡ false → IsNamed name (array ys) → R (array ys)) xs
+    of_each (suc n) (λ ys. value_fits levels (array ys) ≡ false → IsNamed name (array ys) → R (array ys)) xs
     (eqb-true (items_len xs) (suc n) (second_true (bytes_eq (unwrap_or (option_and_then as_str (at 0 (array xs))) []) name) (items_len xs == suc n) is)) all
     h (first_true (bytes_eq (unwrap_or (option_and_then as_str (at 0 (array xs))) []) name) (items_len xs == suc n) is)
 of_line n name R Data.null h is all = no_size name Data.null n (ne_eqb 0 (suc n) (λ e. omega (arith, e))) is
@@ -223,11 +223,11 @@ of_line n name R (number m) h is all = no_size name (number m) n (ne_eqb 0 (suc 
 of_line n name R (string s) h is all = no_size name (string s) n (ne_eqb 0 (suc n) (λ e. omega (arith, e))) is
 of_line n name R (object ms) h is all = no_size name (object ms) n (ne_eqb 0 (suc n) (λ e. omega (arith, e))) is
 
--- what is left of a line that begins with a name
-pub fields : (name : List ℕ) (x : Data) (more : Bool) → bytes_eq [] name ≡ false → (fits 2 x && more) ≡ false → bytes_eq (unwrap_or (as_str x) []) name ≡ true → more ≡ false
-fields name x more none h is = rest_false (fits 2 x) more (named name x none is) h
+-- the fields after the name
+pub fields : (name : List ℕ) (x : Data) (more : Bool) → bytes_eq [] name ≡ false → (value_fits 2 x && more) ≡ false → bytes_eq (unwrap_or (as_str x) []) name ≡ true → more ≡ false
+fields name x more none h is = rest_false (value_fits 2 x) more (named name x none is) h
 
--- of two choices that both fail
+-- a choice fails with `Form` if both alternatives do
 pub either : {A : Type 0} (b : Bool) (x y : Result A TextKind) → (b ≡ true → x ≡ Err Form) → y ≡ Err Form → cond b x y ≡ Err Form
 either true x y h k = h refl
 either false x y h k = k

@@ -1,4 +1,4 @@
--- Which message a determinant is of.
+-- Comparison of a determinant's message.
 use Rattle.std.specs.Prelude.{Bool, false, Option}
 use Rattle.std.specs.Option.{option_map_or}
 use Rattle.causal_name.specs.Names.{message_of, same_message}

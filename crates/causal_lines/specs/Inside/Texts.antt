@@ -1,9 +1,9 @@
--- The arrays of a canonical text, from the parts that they are written of.
+-- The arrays of a canonical text, in the parts that the writer appends.
 use Rattle.std.specs.Prelude.{ℕ, List, [], ◌∷◌, ◌++◌, codes, decimal}
 use Rattle.causal_name.specs.declared.Det.{Det}
 use Rattle.causal_lines.specs.Canonical.{dets_text}
 
--- numbers with a comma before each, and what ends them
+-- the numbers, each after a comma, and then `end`
 abbrev pub numbers_text : List ℕ → List ℕ → List ℕ
 numbers_text [] end = end
 numbers_text (n ∷ ns) end = codes "," ++ (decimal n ++ numbers_text ns end)

@@ -1,4 +1,4 @@
--- Entries in the order of a map, and what a filter leaves of them, ascend.
+-- The entries of a map ascend, and so do those that pass a filter.
 use Rattle.std.proofs.Common.{arith, ◌≡◌, ◌∙◌, Bool, true, false, ◌||◌, List, [], ◌∷◌, filter, refl, sym, ap, true≢false}
 use Rattle.std.specs.List.{list_any}
 use Rattle.std.specs.FinMap as fin
@@ -12,12 +12,12 @@ use Rattle.causal_name.specs.Names.{det_cmp, same_det, is_before, is_ascending}
 use Rattle.causal_name.proofs.Lemmas.DetOrder.{dets_total, same_is}
 use Rattle.causal_log.proofs.Lemmas.Searches.{both, shown}
 
--- the rest of an ascending list ascends
+-- the tail of an ascending list ascends
 pub ascending_tail : (d : Det) (ds : List Det) → is_ascending (d ∷ ds) ≡ true → is_ascending ds ≡ true
 ascending_tail d [] h = refl
 ascending_tail d (e ∷ ds) h = (both (is_before d e) (is_ascending (e ∷ ds)) h).1
 
--- what is told as less is less
+-- if `is_lt` holds, the ordering is `Less`
 pub is_less : (r : Ordering) → is_lt r ≡ true → r ≡ Less
 is_less Less e = refl
 is_less Equal e = absurd (true≢false (sym e))
@@ -27,7 +27,7 @@ is_less Greater e = absurd (true≢false (sym e))
 pub before_trans : (x y z : Det) → is_before x y ≡ true → is_before y z ≡ true → is_before x z ≡ true
 before_trans x y z h k = ap is_lt (dets_total.trans x y z (is_less (det_cmp x y) h) (is_less (det_cmp y z) k))
 
--- an ascending list without its second
+-- an ascending list without its second element ascends
 pub ascending_skip : (d e : Det) (ds : List Det) → is_ascending (d ∷ e ∷ ds) ≡ true → is_ascending (d ∷ ds) ≡ true
 ascending_skip d e [] h = refl
 ascending_skip d e (f ∷ ds) h = grind (arith, both, before_trans)
@@ -60,6 +60,6 @@ module _ {X : Type 0} where
   pub map_ascends : (m : fin.FinMap det_cmp X) → is_ascending (fin.keys m) ≡ true
   map_ascends m = keys_ascend (fin.entries m) (shown _ (fin.entries_sorted m))
 
-  -- and so do those that a filter leaves
+  -- the keys of the entries that pass a filter ascend
   pub filter_ascends : (p : Det × X → Bool) (m : fin.FinMap det_cmp X) → is_ascending (keys_of (filter p (fin.entries m))) ≡ true
   filter_ascends p m = keys_ascend (filter p (fin.entries m)) (sorted_filter p (fin.entries m) (shown _ (fin.entries_sorted m)))

@@ -1,4 +1,4 @@
--- What `choose` takes, in order.
+-- The items that `choose` returns ascend.
 use Rattle.std.proofs.Common.{ℕ, ◌≡◌, ◌∙◌, true, List, [], ◌∷◌, map, filter, refl, ap}
 use Rattle.std.specs.FinMap as fin
 use Rattle.std.specs.Map.{keys_of}
@@ -6,14 +6,14 @@ use Rattle.causal_name.specs.declared.Det.{Det}
 use Rattle.causal_log.specs.declared.known.Known.{Known}
 use Rattle.causal_name.specs.Names.{is_ascending}
 use Rattle.causal_log.specs.Knowledge.{is_carried}
-use Rattle.causal_log.specs.Logs.{LogMap, chosen, dets_of, item_of}
+use Rattle.causal_log.specs.Logs.{LogMap, batch_items, dets_of, item_of}
 use Rattle.causal_log.proofs.Lemmas.Ascents.{filter_ascends}
 
--- the items that entries make have their determinants
+-- items made of entries have the determinants of the entries
 pub dets_of_items : (es : List (Det × Known)) → dets_of (map item_of es) ≡ keys_of es
 dets_of_items [] = refl
 dets_of_items (e ∷ es) = ap (λ ds. e.0 ∷ ds) (dets_of_items es)
 
--- what messages carry ascends
-pub chosen_ascend : (f : ℕ) (log : LogMap) → is_ascending (dets_of (chosen f log)) ≡ true
+-- the items that messages carry ascend
+pub chosen_ascend : (f : ℕ) (log : LogMap) → is_ascending (dets_of (batch_items f log)) ≡ true
 chosen_ascend f log = ap is_ascending (dets_of_items (filter (λ e. is_carried f e.1) (fin.entries log))) ∙ filter_ascends (λ e. is_carried f e.1) log

@@ -1,4 +1,4 @@
--- What a message carries of a log.
+-- The items of a log that a message carries.
 use Rattle.std.proofs.Common.{◌≡◌, ◌∙◌, ◌<◌, ◌⊎◌, inl, inr, ap, sym, refl, ℕ, ◌&&◌, not, Bool, true, false, nat_le, Option, Some, None, unwrap_or, arith}
 use Rattle.std.proofs.Math.Bool.{and_comm}
 use Rattle.std.proofs.lemmas.Bool.Decides.{nat_tests}
@@ -8,23 +8,23 @@ use Rattle.std.specs.List.{list_any}
 use Rattle.causal_name.specs.declared.Det.{Det}
 use Rattle.causal_name.specs.Names.{same_det}
 use Rattle.causal_log.specs.declared.known.Known.{Known}
-use Rattle.causal_log.specs.Knowledge.{nothing_known, is_carried}
-use Rattle.causal_log.specs.Logs.{LogMap, known_of, item_of, is_chosen, chosen}
+use Rattle.causal_log.specs.Knowledge.{unknown, is_carried}
+use Rattle.causal_log.specs.Logs.{LogMap, known_of, item_of, is_in_batch, batch_items}
 use Rattle.causal_log.proofs.Lemmas.Searches.{any_kept, any_logged, passes}
 
--- the second of three conditions may be asked first
+-- the second of three conditions can be checked first
 pub swap_first : (a b d : Bool) → (a && (b && d)) ≡ (b && (a && d))
 swap_first true true d = refl
 swap_first true false d = refl
 swap_first false true d = refl
 swap_first false false d = refl
 
--- what is known of a determinant is carried where the log chooses it
-pub carried : (f : ℕ) (o : Option Known) → passes (is_carried f) o ≡ is_chosen f o
+-- `is_carried` of what is known of a determinant is `is_in_batch`
+pub carried : (f : ℕ) (o : Option Known) → passes (is_carried f) o ≡ is_in_batch f o
 carried f None = refl
 carried f (Some known) = refl
 
-held : (f p : ℕ) (o : Option Known) → passes (λ k. is_carried f k && set.contains k.holders p) o ≡ (is_chosen f o && set.contains (unwrap_or o nothing_known).holders p)
+held : (f p : ℕ) (o : Option Known) → passes (λ k. is_carried f k && set.contains k.holders p) o ≡ (is_in_batch f o && set.contains (unwrap_or o unknown).holders p)
 held f p None = refl
 held f p (Some known) = refl
 
@@ -32,19 +32,19 @@ safe : (f : ℕ) (known : Known) (b : Bool) → known.stable ≡ b → (not b &&
 safe f known true is h = inl is
 safe f known false is h = inr (grind (arith, nat_tests))
 
--- a determinant is carried where what is known of it says so
-pub carried_dets : (f : ℕ) (log : LogMap) (det : Det) → list_any (λ item. same_det det item.det) (chosen f log) ≡ is_chosen f (fin.get log det)
+-- a determinant is carried if and only if what is known of it passes `is_carried`
+pub carried_dets : (f : ℕ) (log : LogMap) (det : Det) → list_any (λ item. same_det det item.det) (batch_items f log) ≡ is_in_batch f (fin.get log det)
 carried_dets f log det = grind (arith, any_kept, and_comm, any_logged (is_carried f) det log, carried f (fin.get log det))
 
--- and with its known holders
+-- a carried determinant is sent with its known holders
 pub carried_holders : (f : ℕ) (log : LogMap) (det : Det) (p : ℕ) →
-    list_any (λ item. same_det det item.det && set.contains item.holders p) (chosen f log) ≡ (is_chosen f (fin.get log det) && set.contains (known_of log det).holders p)
+    list_any (λ item. same_det det item.det && set.contains item.holders p) (batch_items f log) ≡ (is_in_batch f (fin.get log det) && set.contains (known_of log det).holders p)
 carried_holders f log det p =
     any_kept item_of (λ e. is_carried f e.1) (λ item. same_det det item.det && set.contains item.holders p) (λ e. same_det det e.0 && (is_carried f e.1 && set.contains e.1.holders p)) (λ e. swap_first (is_carried f e.1) (same_det det e.0) (set.contains e.1.holders p)) (fin.entries log)
     ∙ any_logged (λ k. is_carried f k && set.contains k.holders p) det log
     ∙ held f p (fin.get log det)
 
--- what is left out is stable or has more than f known holders
+-- a logged determinant that is not carried is known to be stable or has more than f known holders
 pub left_out : (f : ℕ) (log : LogMap) (det : Det) (known : Known) → fin.get log det ≡ Some known →
-    list_any (λ item. same_det det item.det) (chosen f log) ≡ false → (known.stable ≡ true) ⊎ (f < set.len known.holders)
-left_out f log det known there out = safe f known known.stable refl (sym (ap (is_chosen f) there) ∙ sym (carried_dets f log det) ∙ out)
+    list_any (λ item. same_det det item.det) (batch_items f log) ≡ false → (known.stable ≡ true) ⊎ (f < set.len known.holders)
+left_out f log det known there out = safe f known known.stable refl (sym (ap (is_in_batch f) there) ∙ sym (carried_dets f log det) ∙ out)

@@ -1,4 +1,4 @@
--- Sets of determinants, and what a list of determinants says of the set that it makes: for writers of stores.
+-- Sets of determinants, and the set of a list: lemmas for implementors of `Stable`.
 use Rattle.std.proofs.Common.{arith, ◌≡◌, ◌∙◌, Bool, true, false, cond, ◌||◌, List, [], ◌∷◌, ◌++◌, map, length, Option, Some, None, is_some, refl, sym, ap, subst}
 use Rattle.std.specs.List.{list_any, IsDistinct}
 use Rattle.std.specs.Ordering.{eq_by_cmp}
@@ -8,7 +8,7 @@ use Rattle.std.specs.FinMap as fin
 use Rattle.causal_name.specs.declared.Det.{Det}
 use Rattle.causal_name.specs.Names.{det_cmp, same_det, is_ascending}
 use Rattle.std.proofs.lemmas.List.{length-map}
-use Rattle.causal_log.specs.Stores.{DetSet, set_of, with_det, has, count_in, dets_in}
+use Rattle.causal_log.specs.Stores.{DetSet, set_of, with_det, set_has, count_in, dets_in}
 use Rattle.causal_name.proofs.Lemmas.DetOrder.{dets_total, exact_dets, det_ties}
 use Rattle.std.proofs.lemmas.List.Sorted.{IsPermutation-map}
 use Rattle.std.proofs.lemmas.List.Folds.{list_any-append}
@@ -29,8 +29,8 @@ keys_paired : (ds : List Det) → keys_of (paired ds) ≡ ds
 keys_paired [] = refl
 keys_paired (d ∷ ds) = ap (λ es. d ∷ es) (keys_paired ds)
 
--- a member put in changes nothing
-pub with_member : (s : DetSet) (d : Det) → has s d ≡ true → with_det s d ≡ s
+-- adding a member changes nothing
+pub with_member : (s : DetSet) (d : Det) → set_has s d ≡ true → with_det s d ≡ s
 with_member s d member =
     fin.same_map dets_total exact_dets _ _ (λ q. fin.get-insert dets_total s d tt q ∙ at q (eq_by_cmp det_cmp q d) refl)
   where
@@ -42,30 +42,30 @@ with_member s d member =
     at q true e = sym (ap (fin.get s) (exact_dets q d ((Equal-is (det_cmp q d)).0 e)) ∙ there (fin.get s d) member)
     at q false e = refl
 
--- a determinant is a member where it is one of the members
-pub listed : (s : DetSet) (d : Det) → has s d ≡ list_any (same_det d) (dets_in s)
+-- a determinant is a member if and only if it is in the list of members
+pub listed : (s : DetSet) (d : Det) → set_has s d ≡ list_any (same_det d) (dets_in s)
 listed s d = grind (arith, fin.contains_key-keys, det_ties)
 
--- one put in is a member beside those before
-pub stored : (s : DetSet) (d other : Det) → has (with_det s d) other ≡ (same_det other d || has s other)
+-- after one is added, the members are that one and those before
+pub stored : (s : DetSet) (d other : Det) → set_has (with_det s d) other ≡ (same_det other d || set_has s other)
 stored s d other = grind (arith, fin.get-insert, dets_total, det_ties)
 
--- a store that counts no member is empty
+-- a store with no members is empty
 pub none_stored : (s : DetSet) → count_in s ≡ 0 → s ≡ fin.empty
 none_stored s h = fin.empty_of_len s h
 
--- of any list, a determinant is a member of its set where it is one of the list's
-pub has_list : (ds : List Det) (d : Det) → has (set_of ds) d ≡ list_any (same_det d) ds
+-- a determinant is a member of a list's set if and only if it is in the list
+pub has_list : (ds : List Det) (d : Det) → set_has (set_of ds) d ≡ list_any (same_det d) ds
 has_list ds d = ap is_some (get_log (paired ds) d) ∙ is_some-lookup (same_det d) (paired ds) ∙ ap (list_any (same_det d)) (keys_paired ds)
 
 each_once : (ds : List Det) → IsDistinct same_det ds → IsDistinct same_det (keys_of (paired ds))
 each_once ds distinct = subst (IsDistinct same_det) (sym (keys_paired ds)) distinct
 
--- a list that has each once has as many as its set
+-- a distinct list has as many elements as its set
 pub count_list : (ds : List Det) → IsDistinct same_det ds → count_in (set_of ds) ≡ length ds
 count_list ds distinct = fin.len-entries (set_of ds) ∙ sym (same_length (paired ds) (each_once ds distinct)) ∙ length-map ds (λ d. (d, tt))
 
--- and once it is sorted it is the set's members
+-- a distinct list, once sorted, is the list of its set's members
 pub sorted_list : (ds fs : List Det) → IsPermutation ds fs → IsDistinct same_det ds → IsSorted det_cmp fs → fs ≡ dets_in (set_of ds)
 sorted_list ds fs moved distinct sorted =
     let ups = sorted_ascend fs sorted (IsDistinct-IsPermutation same_det same_turned ds fs moved distinct) in
@@ -73,19 +73,19 @@ sorted_list ds fs moved distinct sorted =
     ∙ ap (λ es. keys_of es) (sym (own_entries (paired fs) (ap is_ascending (keys_paired fs) ∙ ups)))
     ∙ ap (λ (s : DetSet). dets_in s) (moved_log (paired ds) (paired fs) (IsPermutation-map (λ d. (d, tt)) ds fs moved) (each_once ds distinct))
 
--- sets with the same members are the same
-same_set : (s t : DetSet) → ((q : Det) → has s q ≡ has t q) → s ≡ t
+-- sets with the same members are equal
+same_set : (s t : DetSet) → ((q : Det) → set_has s q ≡ set_has t q) → s ≡ t
 same_set s t h = fin.same_map dets_total exact_dets s t (λ q. grind (arith, h q))
 
--- a list with one more makes the set with that one
+-- appending a determinant to a list adds it to the list's set
 pub set_push : (ds : List Det) (d : Det) → set_of (ds ++ d ∷ []) ≡ with_det (set_of ds) d
 set_push ds d = grind (arith, same_set, has_list, list_any-append, stored)
 
--- what is made of something is there where that is
+-- a mapped option has a value if and only if the option has one
 pub some_of : {X Y : Type 0} (f : X → Y) (o : Option X) → is_some (option_map f o) ≡ is_some o
 some_of f None = refl
 some_of f (Some x) = refl
 
--- a log has a determinant where the set of its determinants has it
-pub has_there : (es : List (Det × Known)) (d : Det) → is_some (fin.get (log_of es) d) ≡ has (set_of (keys_of es)) d
+-- a log has a determinant if and only if the set of its determinants has it
+pub has_there : (es : List (Det × Known)) (d : Det) → is_some (fin.get (log_of es) d) ≡ set_has (set_of (keys_of es)) d
 has_there es d = ap is_some (get_log es d) ∙ is_some-lookup (same_det d) es ∙ sym (has_list (keys_of es) d)

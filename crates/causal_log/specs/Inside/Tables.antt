@@ -1,15 +1,16 @@
--- Entries of determinants in the order in which they came.
-use Rattle.std.specs.Prelude.{ℕ, ◌+◌, ◌<◌, ◌≤◌, ◌^◌, List, length, refl, vec_len, vec_capacity}
+-- A table of log entries in insertion order, keyed by slot and number, with reserved capacity.
+use Rattle.std.specs.Prelude.{◌≡◌, ◌==◌, ◌&&◌, ℕ, Bool, ◌+◌, ◌<◌, ◌≤◌, ◌^◌, All, List, length, refl}
 use Rattle.std.specs.Coded.{Coded, code_by, coded×, coded_list, coded_ℕ}
-use Rattle.causal_log.specs.Knowledge.{coded_det, coded_known}
 use Rattle.std.specs.List.{IsDistinct}
+use Rattle.std.specs.Map.{keys_of, values_of}
 use Rattle.causal_name.specs.declared.Det.{Det}
-use Rattle.causal_name.specs.Names.{same_det}
+use Rattle.causal_name.specs.declared.Slot.{Slot}
+use Rattle.causal_name.specs.Names.{same_det, same_slot, slot_of}
+use Rattle.causal_log.specs.Knowledge.{coded_det, coded_known}
 use Rattle.causal_log.specs.declared.known.Known.{Known}
-use Rattle.causal_log.specs.declared.index.Index.{Index}
-use Rattle.causal_log.specs.Inside.Indexes.{IsIndexOf}
+use Rattle.causal_log.specs.declared.table.SlotKey.{SlotKey}
 
--- what contracts see of a table: its entries, and how many more it is sure to have memory for
+-- what contracts see of a table: its entries, and how many more it can take without allocation
 pub record TableState : Type 0 where
   pub entries : List (Det × Known)
   pub spare : ℕ
@@ -19,11 +20,23 @@ coded_table =
     code_by (List (Det × Known) × ℕ) (coded× (coded_list (coded× coded_det coded_known)) coded_ℕ)
     (λ t. (t.entries, t.spare)) (λ p. record { entries = p.0; spare = p.1 }) (λ _. refl)
 
--- how the entries are kept: one of each determinant, each of which its head leads to, with room for some more
-pub record IsTable (dets : List Det) (index : Index) (room entries_room : ℕ) : Type 0 where
-  pub distinct : IsDistinct same_det dets
-  pub indexed : IsIndexOf dets index
-  pub few : length dets + room < 2 ^ 32
-  pub entries_fit : length dets + room ≤ entries_room
-  pub older_fit : length dets + room ≤ vec_capacity index.older
-  pub heads_fit : length dets + room ≤ vec_len index.heads
+-- the key of a slot's entry with this number
+abbrev pub slot_key : Slot → ℕ → SlotKey
+slot_key slot number = record { slot = slot; number = number }
+
+-- two keys are equal
+abbrev pub same_slot_key : SlotKey → SlotKey → Bool
+same_slot_key p q = same_slot p.slot q.slot && p.number == q.number
+
+-- the key of an entry has its determinant's slot, and a number below `numbers`
+pub record HasSlotKey (numbers : ℕ) (e : SlotKey × (Det × Known)) : Type 0 where
+  pub slot : e.0.slot ≡ slot_of e.1.0
+  pub number : e.0.number < numbers
+
+-- the invariant of a table: distinct determinants, each with a key of its slot, and capacity for the reserved entries
+pub record IsTable (entries : List (SlotKey × (Det × Known))) (numbers room spare : ℕ) : Type 0 where
+  pub distinct : IsDistinct same_det (keys_of (values_of entries))
+  pub keyed : All (HasSlotKey numbers) entries
+  pub few : length entries + room < 2 ^ 32
+  pub numbers_fit : numbers + room < 2 ^ 32
+  pub entries_fit : room ≤ spare

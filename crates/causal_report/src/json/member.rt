@@ -1,30 +1,30 @@
-//! The member of an object that a field makes.
+//! The member for a field.
 ghost use Rattle.std.specs.Prelude.{OnOk, map};
-ghost use Rattle.causal_report.specs.Inside.Added.{AddsBytes};
-ghost use Rattle.causal_report.specs.Objects as told;
+ghost use Rattle.causal_report.specs.Inside.Appends.{AppendsBytes};
+ghost use Rattle.causal_report.specs.Objects as objects;
 
-use crate::json::parts::parts;
+use crate::json::parts::split_at_bytes;
 use std::alloc::{AllocError, Global};
 
-// Its callers are proved by this one clause, which is cheaper than those of `Vec::push` and `Vec::extend_from_slice`.
-/// Adds the words.
+// One clause, since it makes the callers' proofs cheaper than those of `Vec::push` and `Vec::extend_from_slice`.
+/// Appends the words.
 pub(crate) fn push_words(out: &mut Vec<u8>, words: &str) -> Result<(), AllocError>
-    ensures { OnOk result (AddsBytes out.old out.new words.now) }
+    ensures { OnOk result (AppendsBytes out.old out.new words.now) }
 {
     out.extend_from_slice(words.as_bytes())
 }
 
-/// Adds the member of a field.
+/// Appends the member for a field.
 pub(crate) fn push_field(alloc: Global, out: &mut Vec<u8>, field: &[u8]) -> Result<(), AllocError>
-    ensures { OnOk result (AddsBytes out.old out.new (told.field_member field.now)) }
+    ensures { OnOk result (AppendsBytes out.old out.new (objects.field_member field.now)) }
 {
-    let found = parts(alloc, b'=', field)?;
+    let found = split_at_bytes(alloc, b'=', field)?;
     push_member(out, found.as_slice())
 }
 
 fn push_member(out: &mut Vec<u8>, field: &[&[u8]]) -> Result<(), AllocError>
     ensures { OnOk result
-        (AddsBytes out.old out.new (told.member (map (λ part. part.now) field.now))) }
+        (AppendsBytes out.old out.new (objects.member (map (λ part. part.now) field.now))) }
 {
     match field {
         [key, value] => push_pair(out, key, value),
@@ -34,7 +34,7 @@ fn push_member(out: &mut Vec<u8>, field: &[&[u8]]) -> Result<(), AllocError>
 }
 
 fn push_pair(out: &mut Vec<u8>, key: &[u8], value: &[u8]) -> Result<(), AllocError>
-    ensures { OnOk result (AddsBytes out.old out.new (told.pair key.now value.now)) }
+    ensures { OnOk result (AppendsBytes out.old out.new (objects.pair key.now value.now)) }
 {
     push_words(out, ",")?;
     push_quoted(out, key)?;
@@ -43,14 +43,14 @@ fn push_pair(out: &mut Vec<u8>, key: &[u8], value: &[u8]) -> Result<(), AllocErr
 }
 
 fn push_kind(out: &mut Vec<u8>, word: &[u8]) -> Result<(), AllocError>
-    ensures { OnOk result (AddsBytes out.old out.new (told.kind word.now)) }
+    ensures { OnOk result (AppendsBytes out.old out.new (objects.kind word.now)) }
 {
     push_words(out, ",\"kind\":")?;
     push_quoted(out, word)
 }
 
 fn push_value(out: &mut Vec<u8>, key: &[u8], value: &[u8]) -> Result<(), AllocError>
-    ensures { OnOk result (AddsBytes out.old out.new (told.value key.now value.now)) }
+    ensures { OnOk result (AppendsBytes out.old out.new (objects.value key.now value.now)) }
 {
     if key == b"by".as_slice() {
         push_quoted(out, value)
@@ -61,9 +61,9 @@ fn push_value(out: &mut Vec<u8>, key: &[u8], value: &[u8]) -> Result<(), AllocEr
     }
 }
 
-/// Adds a text in quotes.
+/// Appends a text in quotation marks.
 pub(crate) fn push_quoted(out: &mut Vec<u8>, text: &[u8]) -> Result<(), AllocError>
-    ensures { OnOk result (AddsBytes out.old out.new (told.quoted text.now)) }
+    ensures { OnOk result (AppendsBytes out.old out.new (objects.quoted text.now)) }
 {
     push_words(out, "\"")?;
     out.extend_from_slice(text)?;
@@ -71,7 +71,7 @@ pub(crate) fn push_quoted(out: &mut Vec<u8>, text: &[u8]) -> Result<(), AllocErr
 }
 
 fn push_number(out: &mut Vec<u8>, value: &[u8]) -> Result<(), AllocError>
-    ensures { OnOk result (AddsBytes out.old out.new (told.number value.now)) }
+    ensures { OnOk result (AppendsBytes out.old out.new (objects.number value.now)) }
 {
     if value == b"-".as_slice() {
         push_words(out, "null")
@@ -81,7 +81,7 @@ fn push_number(out: &mut Vec<u8>, value: &[u8]) -> Result<(), AllocError>
 }
 
 fn push_list(out: &mut Vec<u8>, value: &[u8]) -> Result<(), AllocError>
-    ensures { OnOk result (AddsBytes out.old out.new (told.list value.now)) }
+    ensures { OnOk result (AppendsBytes out.old out.new (objects.list value.now)) }
 {
     if value == b"-".as_slice() {
         return push_words(out, "[]");

@@ -1,36 +1,36 @@
-//! The objects of answers.
+//! The objects for a command's output.
 ghost use Rattle.std.specs.Prelude.{◌≡◌, OnOk, IfOk, map, flat_map};
-ghost use Rattle.causal_report.specs.Inside.Added.{AddsBytes};
-ghost use Rattle.causal_report.specs.Objects as told;
+ghost use Rattle.causal_report.specs.Inside.Appends.{AppendsBytes};
+ghost use Rattle.causal_report.specs.Objects as objects;
 
 use crate::json::member::{push_field, push_quoted, push_words};
-use crate::json::parts::{lines, parts};
+use crate::json::parts::{lines, split_at_bytes};
 use std::alloc::{AllocError, Global};
 
-/// The object of a verdict, or of a fault, on one line: what its line says, and as its `reason`, where lines stand below it, an
-/// object for each of these.
+/// Formats the object of a verdict, or of an error, on one line: the members of the first line and, if more lines
+/// follow, an object for each of them in the array `reason`.
 ///
-/// It takes time and memory as the lines are long.
+/// O(bytes) time and memory.
 ///
 /// # Errors
-/// `AllocError` where memory was refused.
+/// `AllocError` if allocation failed.
 pub fn verdict_object(alloc: Global, text: &[u8]) -> Result<Vec<u8>, AllocError>
-    ensures { IfOk result (λ out. out.items ≡ told.verdict_object text.now) }
+    ensures { IfOk result (λ out. out.items ≡ objects.verdict_object text.now) }
 {
     let found = lines(alloc, text)?;
     let mut out = Vec::new(alloc);
-    push_whole(alloc, &mut out, found.as_slice())?;
+    push_verdict_object(alloc, &mut out, found.as_slice())?;
     Ok(out)
 }
 
-/// The object of the numbers of faults, on one line: as `ranges` an object for each line.
+/// Formats the object of the ranges of f, on one line: an object for each line in the array `ranges`.
 ///
-/// It takes time and memory as the lines are long.
+/// O(bytes) time and memory.
 ///
 /// # Errors
-/// `AllocError` where memory was refused.
+/// `AllocError` if allocation failed.
 pub fn ranges_object(alloc: Global, text: &[u8]) -> Result<Vec<u8>, AllocError>
-    ensures { IfOk result (λ out. out.items ≡ told.ranges_object text.now) }
+    ensures { IfOk result (λ out. out.items ≡ objects.ranges_object text.now) }
 {
     let found = lines(alloc, text)?;
     let mut out = Vec::new(alloc);
@@ -38,9 +38,10 @@ pub fn ranges_object(alloc: Global, text: &[u8]) -> Result<Vec<u8>, AllocError>
     Ok(out)
 }
 
-fn push_whole(alloc: Global, out: &mut Vec<u8>, lines: &[&[u8]]) -> Result<(), AllocError>
+fn push_verdict_object(alloc: Global, out: &mut Vec<u8>, lines: &[&[u8]]) -> Result<(), AllocError>
     ensures { OnOk result
-        (AddsBytes out.old out.new (told.whole (map (λ line. line.now) lines.now))) }
+        (AppendsBytes out.old out.new (objects.object_of_lines (map
+        (λ line. line.now) lines.now))) }
 {
     push_words(out, "{")?;
     push_verdict(alloc, out, lines)?;
@@ -49,7 +50,7 @@ fn push_whole(alloc: Global, out: &mut Vec<u8>, lines: &[&[u8]]) -> Result<(), A
 
 fn push_ranges(alloc: Global, out: &mut Vec<u8>, lines: &[&[u8]]) -> Result<(), AllocError>
     ensures { OnOk result
-        (AddsBytes out.old out.new (told.ranges (map (λ line. line.now) lines.now))) }
+        (AppendsBytes out.old out.new (objects.ranges (map (λ line. line.now) lines.now))) }
 {
     push_words(out, "{\"ranges\":")?;
     push_rows(alloc, out, b"verdict".as_slice(), lines)?;
@@ -58,7 +59,7 @@ fn push_ranges(alloc: Global, out: &mut Vec<u8>, lines: &[&[u8]]) -> Result<(), 
 
 fn push_verdict(alloc: Global, out: &mut Vec<u8>, lines: &[&[u8]]) -> Result<(), AllocError>
     ensures { OnOk result
-        (AddsBytes out.old out.new (told.verdict (map (λ line. line.now) lines.now))) }
+        (AppendsBytes out.old out.new (objects.verdict (map (λ line. line.now) lines.now))) }
 {
     let [line, facts @ ..] = lines else {
         return Ok(());
@@ -69,7 +70,7 @@ fn push_verdict(alloc: Global, out: &mut Vec<u8>, lines: &[&[u8]]) -> Result<(),
 
 fn push_reason(alloc: Global, out: &mut Vec<u8>, facts: &[&[u8]]) -> Result<(), AllocError>
     ensures { OnOk result
-        (AddsBytes out.old out.new (told.reason (map (λ line. line.now) facts.now))) }
+        (AppendsBytes out.old out.new (objects.reason (map (λ line. line.now) facts.now))) }
 {
     if facts.is_empty() {
         return Ok(());
@@ -80,17 +81,23 @@ fn push_reason(alloc: Global, out: &mut Vec<u8>, facts: &[&[u8]]) -> Result<(), 
 
 fn push_rows(alloc: Global, out: &mut Vec<u8>, key: &[u8], rows: &[&[u8]]) -> Result<(), AllocError>
     ensures { OnOk result
-        (AddsBytes out.old out.new (told.array key.now (map (λ line. line.now) rows.now))) }
+        (AppendsBytes out.old out.new (objects.array key.now (map (λ line. line.now) rows.now))) }
 {
     push_words(out, "[")?;
-    push_each(alloc, out, key, rows)?;
+    push_objects(alloc, out, key, rows)?;
     push_words(out, "]")
 }
 
-/// Adds an object for each line, with commas between them.
-fn push_each(alloc: Global, out: &mut Vec<u8>, key: &[u8], rows: &[&[u8]]) -> Result<(), AllocError>
+/// Appends an object for each line, with commas between them.
+fn push_objects(
+    alloc: Global,
+    out: &mut Vec<u8>,
+    key: &[u8],
+    rows: &[&[u8]],
+) -> Result<(), AllocError>
     ensures { OnOk result
-        (AddsBytes out.old out.new (told.listed key.now (map (λ line. line.now) rows.now))) }
+        (AppendsBytes out.old out.new (objects.objects_of key.now (map
+        (λ line. line.now) rows.now))) }
 {
     let [line, more @ ..] = rows else {
         return Ok(());
@@ -100,8 +107,8 @@ fn push_each(alloc: Global, out: &mut Vec<u8>, key: &[u8], rows: &[&[u8]]) -> Re
 }
 
 fn push_more(alloc: Global, out: &mut Vec<u8>, key: &[u8], rows: &[&[u8]]) -> Result<(), AllocError>
-    ensures { OnOk result (AddsBytes out.old out.new
-        (flat_map (told.next_object key.now) (map (λ line. line.now) rows.now))) }
+    ensures { OnOk result (AppendsBytes out.old out.new
+        (flat_map (objects.next_object key.now) (map (λ line. line.now) rows.now))) }
 {
     for line in rows {
         push_words(out, ",")?;
@@ -111,25 +118,25 @@ fn push_more(alloc: Global, out: &mut Vec<u8>, key: &[u8], rows: &[&[u8]]) -> Re
 }
 
 fn push_object(alloc: Global, out: &mut Vec<u8>, key: &[u8], line: &[u8]) -> Result<(), AllocError>
-    ensures { OnOk result (AddsBytes out.old out.new (told.object key.now line.now)) }
+    ensures { OnOk result (AppendsBytes out.old out.new (objects.object key.now line.now)) }
 {
     push_words(out, "{")?;
     push_line(alloc, out, key, line)?;
     push_words(out, "}")
 }
 
-/// Adds what a line says, but for its sentence.
+/// Appends the members of a line, without its sentence.
 fn push_line(alloc: Global, out: &mut Vec<u8>, key: &[u8], line: &[u8]) -> Result<(), AllocError>
-    ensures { OnOk result (AddsBytes out.old out.new (told.line_members key.now line.now)) }
+    ensures { OnOk result (AppendsBytes out.old out.new (objects.line_members key.now line.now)) }
 {
-    let found = parts(alloc, b':', line)?;
+    let found = split_at_bytes(alloc, b':', line)?;
     let [fields, ..] = found.as_slice() else {
         return Ok(());
     };
     push_members(alloc, out, key, fields)
 }
 
-/// Adds what stands before the sentence: the first word under the name, and a member for each field.
+/// Appends the members of the part before the sentence: the first word under the name, and a member for each field.
 fn push_members(
     alloc: Global,
     out: &mut Vec<u8>,
@@ -137,18 +144,19 @@ fn push_members(
     fields: &[u8],
 ) -> Result<(), AllocError>
     ensures { OnOk result
-        (AddsBytes out.old out.new (told.members key.now (told.parts 32 fields.now))) }
+        (AppendsBytes out.old out.new (objects.members key.now
+        (objects.split_at_bytes 32 fields.now))) }
 {
-    let words = parts(alloc, b' ', fields)?;
+    let words = split_at_bytes(alloc, b' ', fields)?;
     let [word, members @ ..] = words.as_slice() else {
         return Ok(());
     };
-    push_named(out, key, word)?;
+    push_word_member(out, key, word)?;
     push_fields(alloc, out, members)
 }
 
-fn push_named(out: &mut Vec<u8>, key: &[u8], word: &[u8]) -> Result<(), AllocError>
-    ensures { OnOk result (AddsBytes out.old out.new (told.named key.now word.now)) }
+fn push_word_member(out: &mut Vec<u8>, key: &[u8], word: &[u8]) -> Result<(), AllocError>
+    ensures { OnOk result (AppendsBytes out.old out.new (objects.word_member key.now word.now)) }
 {
     push_quoted(out, key)?;
     push_words(out, ":")?;
@@ -157,7 +165,8 @@ fn push_named(out: &mut Vec<u8>, key: &[u8], word: &[u8]) -> Result<(), AllocErr
 
 fn push_fields(alloc: Global, out: &mut Vec<u8>, fields: &[&[u8]]) -> Result<(), AllocError>
     ensures { OnOk result
-        (AddsBytes out.old out.new (flat_map told.field_member (map (λ field. field.now) fields.now))) }
+        (AppendsBytes out.old out.new (flat_map objects.field_member (map
+        (λ field. field.now) fields.now))) }
 {
     for field in fields {
         push_field(alloc, out, field)?;

@@ -1,15 +1,15 @@
-//! How a core begins or does not, and what is left where memory or the store failed.
+//! The start of a core, and its state after a failed allocation or write.
 use super::*;
 use causal_log::Stable;
 use causal_trace::entry::Entry;
 use causal_trace::trace::Trace;
 
-/// A ring of three, of which process 1's memory is refused once, after so many steps.
+/// A ring of three; process 1 returns `NoMemory` once, after this number of steps.
 pub(super) fn refusing_ring(alloc: Global, steps: u64) -> Result<Vec<Boxed>, NoMemory> {
     ring_with(alloc, process(alloc, Kind::Refusing(2, steps), 3, 1))
 }
 
-/// Why boxes do not begin over a store, which may have a member; None too where memory was refused for them.
+/// The error of a start over a store, which may have a member; None too if allocation failed for the processes.
 fn refusal(
     alloc: Global,
     boxes: Result<Vec<Boxed>, NoMemory>,
@@ -23,7 +23,7 @@ fn refusal(
     Core::start(alloc, 1, boxes, store).err()
 }
 
-/// How many processes of a tally there are, a member of the store, and why they do not begin.
+/// The number of processes of a tally, a member of the store, and the expected error of the start.
 const BEGINNINGS: [(u8, Option<Fields>, Option<StartFault>); 4] = [
     (0, None, Some(StartFault::Processes)),
     (0, Some((0, 0, 0, 0)), Some(StartFault::Processes)),
@@ -32,7 +32,7 @@ const BEGINNINGS: [(u8, Option<Fields>, Option<StartFault>); 4] = [
 ];
 
 #[test]
-fn refused_beginnings(rt: HostRuntime) {
+fn start_refusals(rt: HostRuntime) {
     for (n, member, fault) in &BEGINNINGS {
         assert!(rt;
             refusal(rt.alloc(), processes(rt.alloc(), Kind::Tally, *n), *member) == *fault,
@@ -44,30 +44,34 @@ fn refused_beginnings(rt: HostRuntime) {
     );
 }
 
-const MADE_AGAIN: [(Call, Answer); 2] = [
-    (Call::Deliver(1, 0, 0), Answer::Refused(CoreFault::NoMemory)),
+const MADE_AGAIN: [(Call, ExpectedReply); 2] = [
     (
         Call::Deliver(1, 0, 0),
-        Answer::Delivered(1, (0, 0, 1, 0), 1),
+        ExpectedReply::Refused(CoreFault::NoMemory),
+    ),
+    (
+        Call::Deliver(1, 0, 0),
+        ExpectedReply::Delivered(1, (0, 0, 1, 0), 1),
     ),
 ];
 
-/// Whether a delivery whose step is refused memory is made when it is asked for again.
+/// Returns whether a delivery whose step returned `NoMemory` succeeds when it is repeated.
 pub(super) fn delivers_again(alloc: Global, core: &mut Runtime) -> bool {
     are_answered(alloc, core, &MADE_AGAIN) && core.trace().len() == 3
 }
 
-/// Whether a spare that is refused memory as process 0 restarts by it comes back, and then serves.
+/// Returns whether a spare that fails with `NoMemory` in a restart of process 0 is returned, and then restarts it.
 pub(super) fn spare_comes_back(alloc: Global, core: &mut Runtime) -> bool {
     let is_down = core.crash(Pid(0)) == Ok(1);
     let spare = process(alloc, Kind::Refusing(2, 0), 3, 0);
-    let answer = Answer::Restarted(2, 0, 1);
+    let answer = ExpectedReply::Restarted(2, 0, 1);
     gives_back(core, (0, CoreFault::NoMemory), (0, answer), spare)
         && is_down
         && core.trace().len() == 4
 }
 
-/// Whether just these determinants were written, after the five entries of a tally that delivers two messages.
+/// Returns whether exactly these determinants were written, after the five entries of a tally that delivers two
+/// messages.
 fn has_written(trace: &Trace, dets: &[Fields]) -> bool {
     let mut place: u32 = 5;
     for fields in dets {
@@ -81,28 +85,31 @@ fn has_written(trace: &Trace, dets: &[Fields]) -> bool {
 }
 
 /// The second write of a tally's flush fails.
-const STOPPED: [(Call, Answer); 3] = [
+const STOPPED: [(Call, ExpectedReply); 3] = [
     (
         Call::Deliver(0, 2, 0),
-        Answer::Delivered(2, (2, 0, 0, 0), 1),
+        ExpectedReply::Delivered(2, (2, 0, 0, 0), 1),
     ),
     (
         Call::Deliver(2, 0, 0),
-        Answer::Delivered(4, (0, 0, 2, 0), 0),
+        ExpectedReply::Delivered(4, (0, 0, 2, 0), 0),
     ),
-    (Call::Flush(2), Answer::Stopped(CoreFault::StoreFault, 1)),
+    (
+        Call::Flush(2),
+        ExpectedReply::Stopped(CoreFault::StoreFault, 1),
+    ),
 ];
 
-/// The flush that stopped then writes what was left, and another one what it is to write where no write fails.
-const WRITTEN: [(Call, Answer); 2] = [
-    (Call::Flush(2), Answer::Flushed(1)),
-    (Call::Flush(0), Answer::Flushed(1)),
+/// The flush that stopped writes the rest, and another flush writes its determinants; no write fails.
+const WRITTEN: [(Call, ExpectedReply); 2] = [
+    (Call::Flush(2), ExpectedReply::Flushed(1)),
+    (Call::Flush(0), ExpectedReply::Flushed(1)),
 ];
 
-/// What is written in the end: 2 flushes what it logs, and then 0 what it did not know to be stable.
+/// All written determinants: process 2 flushes its log, then 0 those that it did not know to be stable.
 const ALL_WRITTEN: [Fields; 3] = [(0, 0, 2, 0), (2, 0, 0, 0), (2, 0, 0, 0)];
 
-/// Whether what was written before the fault is recorded, and in the end all that is where no write fails.
+/// Returns whether the determinants written before the failure are recorded, and in the end all of them.
 pub(super) fn flushes_again(alloc: Global, core: &mut Runtime) -> bool {
     are_answered(alloc, core, &STOPPED)
         && has_written(core.trace(), &ALL_WRITTEN[..1])
@@ -110,21 +117,24 @@ pub(super) fn flushes_again(alloc: Global, core: &mut Runtime) -> bool {
         && has_written(core.trace(), &ALL_WRITTEN)
 }
 
-/// With nothing to write the store is not asked.
-const UNWRITTEN: [(Call, Answer); 4] = [
-    (Call::Flush(0), Answer::Flushed(0)),
+/// A flush with nothing to write does not call the store.
+const UNWRITTEN: [(Call, ExpectedReply); 4] = [
+    (Call::Flush(0), ExpectedReply::Flushed(0)),
     (
         Call::Deliver(0, 2, 0),
-        Answer::Delivered(2, (2, 0, 0, 0), 1),
+        ExpectedReply::Delivered(2, (2, 0, 0, 0), 1),
     ),
     (
         Call::Deliver(2, 0, 0),
-        Answer::Delivered(4, (0, 0, 2, 0), 0),
+        ExpectedReply::Delivered(4, (0, 0, 2, 0), 0),
     ),
-    (Call::Flush(2), Answer::Stopped(CoreFault::StoreFault, 0)),
+    (
+        Call::Flush(2),
+        ExpectedReply::Stopped(CoreFault::StoreFault, 0),
+    ),
 ];
 
-/// Whether nothing is written to a store that can count no further fault.
+/// Returns whether nothing is written to a store whose failure count is at its maximum.
 pub(super) fn is_not_written_to(alloc: Global, core: &mut Runtime) -> bool {
     are_answered(alloc, core, &UNWRITTEN) && core.trace().len() == 5
 }

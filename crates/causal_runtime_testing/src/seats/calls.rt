@@ -1,8 +1,9 @@
-//! What single calls answer, and what the seats then know.
+//! Single calls: their results, and the seats' views after them.
 use super::*;
 use crate::runtime::name;
 
-/// Whether the crash of a process that is not there is refused, recorded as that, and moves the seat nowhere.
+/// Returns whether the crash of a process that does not exist is refused, recorded as a refusal, and leaves the `seen`
+/// count unchanged.
 pub(super) fn is_refused<R: Wait>(rt: &R, shared: &Shared<MemStable>, seat: &mut Seat) -> bool {
     let seen = seat.seen();
     let fault = crash(rt, shared, seat, 9);
@@ -12,7 +13,7 @@ pub(super) fn is_refused<R: Wait>(rt: &R, shared: &Shared<MemStable>, seat: &mut
         && seat.seen() == seen
 }
 
-/// The fault of a restart of process 0.
+/// Restarts process 0 and returns the error, if any.
 fn restart<R: Wait>(
     rt: &R,
     alloc: Global,
@@ -24,8 +25,8 @@ fn restart<R: Wait>(
     Some(refused.fault)
 }
 
-/// Whether each call is refused to a seat of another runtime.
-fn is_heard_by_none<R: Wait>(
+/// Returns whether each call refuses the seat of another runtime.
+fn all_calls_refuse<R: Wait>(
     rt: &R,
     alloc: Global,
     shared: &Shared<MemStable>,
@@ -42,51 +43,61 @@ fn is_heard_by_none<R: Wait>(
         && stranger.count() == 0
 }
 
-/// Whether each call with the seat of another runtime, which goes on and differs in its tag alone, is refused and recorded nowhere.
+/// Returns whether each call with a seat of another open runtime, which differs in its tag only, is refused and not
+/// recorded.
 pub(super) fn is_wrong<R: Wait>(rt: &R, alloc: Global, shared: &Shared<MemStable>) -> bool {
-    match Scene::Strangers.opened(alloc, 8) {
+    match Scene::Strangers.open_scene(alloc, 8) {
         Some((other, mut stranger)) => {
-            is_heard_by_none(rt, alloc, shared, &mut stranger)
-                && left(alloc, other, stranger) == Some(Ok(Some((0, 2))))
+            all_calls_refuse(rt, alloc, shared, &mut stranger)
+                && finish_one_seat(alloc, other, stranger) == Some(Ok(Some((0, 2))))
         }
         None => false,
     }
 }
 
-/// How a runtime of two seats ends that is given one.
+#[test]
+fn wrong_seat(rt: HostRuntime) {
+    assert!(rt; Scene::Strangers.is_right(&rt, rt.alloc()));
+}
+
+/// Finishes a runtime of two seats with one of them, and returns the error.
 fn of_one_of_two(alloc: Global) -> Option<FinishFault> {
     match echoing(alloc, 3, 2, 1) {
         Some((shared, mut seats)) => {
             let _second = seats.pop();
-            ended(alloc, shared, seats).err()
+            finish_extent(alloc, shared, seats).err()
         }
         None => None,
     }
 }
 
-/// Whether a seat of the same tag and number is taken for that of a runtime, by a call that the core answers.
+/// Returns whether a seat with the same tag and number is accepted as the runtime's own, in a call that the core
+/// performs.
 fn is_taken<R: Wait>(rt: &R, alloc: Global, shared: &Shared<MemStable>) -> bool {
-    match Scene::Strangers.opened(alloc, 7) {
+    match Scene::Strangers.open_scene(alloc, 7) {
         Some((_other, mut namesake)) => crash(rt, shared, &mut namesake, 0).is_none(),
         None => false,
     }
 }
 
-/// How a runtime ends whose seat's number another of the same tag has used: its history has an item that its own seat lacks.
+/// Finishes a runtime whose seat number was used by a foreign seat with the same tag, and returns the error: the
+/// history has an item that the own seat lacks.
 fn used_by_a_namesake<R: Wait>(rt: &R, alloc: Global) -> Option<FinishFault> {
-    match Scene::Strangers.opened(alloc, 7) {
-        Some((shared, seat)) if is_taken(rt, alloc, &shared) => left(alloc, shared, seat)?.err(),
+    match Scene::Strangers.open_scene(alloc, 7) {
+        Some((shared, seat)) if is_taken(rt, alloc, &shared) => finish_one_seat(
+            alloc, shared, seat,
+        )?.err(),
         _ => None,
     }
 }
 
 #[test]
-fn faults_of_finish(rt: HostRuntime) {
+fn finish_missing(rt: HostRuntime) {
     assert!(rt; of_one_of_two(rt.alloc()) == Some(FinishFault::Missing));
     assert!(rt; used_by_a_namesake(&rt, rt.alloc()) == Some(FinishFault::Mismatch(0)));
 }
 
-/// Whether both numbers of a tally are pending at 0, by sender, and asking of a process that there is not tells so.
+/// Returns whether both messages of a tally are pending at 0, by source, and a process that does not exist is refused.
 pub(super) fn are_all_pending<R: Wait>(rt: &R, shared: &Shared<MemStable>, seat: &Seat) -> bool {
     let none = shared.pending(rt, seat, Pid(9)).err();
     match shared.pending(rt, seat, Pid(0)) {

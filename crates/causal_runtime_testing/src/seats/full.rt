@@ -1,9 +1,14 @@
-//! A history that takes no further item.
+//! A full history.
 use super::*;
 use causal_shared::limits::MAX_ITEMS;
 
-/// How many of so many crashes of a process that is not there are refused for that.
-fn refused<R: Wait>(rt: &R, shared: &Shared<MemStable>, seat: &mut Seat, calls: usize) -> usize {
+/// Crashes a process that does not exist `calls` times, and returns how many were refused for that.
+fn count_refusals<R: Wait>(
+    rt: &R,
+    shared: &Shared<MemStable>,
+    seat: &mut Seat,
+    calls: usize,
+) -> usize {
     let mut refused = 0_usize;
     for _ in 0..calls {
         if crash(rt, shared, seat, 9) == Some(SharedFault::Core(CoreFault::NoProcess)) {
@@ -13,9 +18,10 @@ fn refused<R: Wait>(rt: &R, shared: &Shared<MemStable>, seat: &mut Seat, calls: 
     refused
 }
 
-/// Whether as many items as there may be are refusals, and a further call is refused for want of room.
+/// Returns whether the maximum number of items is recorded, all of them refusals, and a further call returns
+/// `HistoryFull`.
 pub(super) fn fills_up<R: Wait>(rt: &R, shared: &Shared<MemStable>, seat: &mut Seat) -> bool {
-    refused(rt, shared, seat, MAX_ITEMS) == 1_048_576
+    count_refusals(rt, shared, seat, MAX_ITEMS) == 1_048_576
         && crash(rt, shared, seat, 9) == Some(SharedFault::HistoryFull)
         && seat.count() == 1_048_576
 }

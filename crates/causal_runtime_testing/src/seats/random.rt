@@ -1,4 +1,4 @@
-//! Eight seats on eight threads that ask for what comes up.
+//! Eight seats on eight threads that make random calls.
 use super::*;
 use crate::numbers::Numbers;
 use causal_shared::item::Snapshot;
@@ -7,19 +7,19 @@ use causal_trace::trace::Trace;
 use std::thread;
 use std::thread::Threads;
 
-/// How many processes and seats there are.
+/// The number of processes and of seats.
 const SEATS: u8 = 8;
 
-/// How many calls each seat makes.
+/// The number of recorded calls of each seat.
 const CALLS: u32 = 300;
 
-/// How often each seat looks for a call that makes an item.
+/// How often each seat tries to make a recorded call.
 const TURNS: u32 = 10_000;
 
-/// How many deliveries the trace has at least: fewer than end the count of any process.
+/// The minimum number of deliveries in the trace; too few to end the count of any process.
 const ENOUGH: u32 = 100;
 
-/// Whether the call was recorded: it was answered, or the core refused it.
+/// Returns whether the call was recorded: it succeeded, or the core refused it.
 fn is_recorded<A: Drop>(answer: Result<A, SharedFault>) -> bool {
     matches!(
         answer,
@@ -27,7 +27,7 @@ fn is_recorded<A: Drop>(answer: Result<A, SharedFault>) -> bool {
     )
 }
 
-/// Brings p up again, if it is down, and tells whether the call was recorded.
+/// Restarts p, if it is down. Returns whether the call was recorded.
 fn restart<R: Wait>(
     rt: &R,
     alloc: Global,
@@ -44,7 +44,7 @@ fn restart<R: Wait>(
     }
 }
 
-/// Makes the call of this number for process p; tells whether it was recorded.
+/// Makes the call with this number for process p. Returns whether it was recorded.
 fn call<R: Wait>(
     rt: &R,
     alloc: Global,
@@ -61,18 +61,18 @@ fn call<R: Wait>(
     }
 }
 
-/// What a thread has done with its seat.
+/// The seat of a thread, and its number of recorded calls.
 #[derive(Drop)]
-struct Done {
+struct ThreadResult {
     seat: Seat,
     recorded: u32,
 }
 
-fn calls<R: Wait>(rt: &R, alloc: Global, shared: &Shared<MemStable>, seat: Seat) -> Done {
+fn calls<R: Wait>(rt: &R, alloc: Global, shared: &Shared<MemStable>, seat: Seat) -> ThreadResult {
     let mut numbers = Numbers {
         state: u64::from(seat.number()),
     };
-    let mut done = Done { seat, recorded: 0 };
+    let mut done = ThreadResult { seat, recorded: 0 };
     for _ in 0..TURNS {
         if done.recorded == CALLS {
             return done;
@@ -86,8 +86,8 @@ fn calls<R: Wait>(rt: &R, alloc: Global, shared: &Shared<MemStable>, seat: Seat)
     done
 }
 
-/// The seats of threads that all have made their calls.
-fn seats_of(alloc: Global, all: Vec<Done>) -> Option<Vec<Seat>> {
+/// The seats of the threads, if all have made their calls.
+fn seats_of(alloc: Global, all: Vec<ThreadResult>) -> Option<Vec<Seat>> {
     let mut seats = Vec::new(alloc);
     for done in all {
         if done.recorded != CALLS {
@@ -98,14 +98,14 @@ fn seats_of(alloc: Global, all: Vec<Done>) -> Option<Vec<Seat>> {
     Some(seats)
 }
 
-/// Brings up whatever is down.
+/// Restarts all processes that are down.
 fn restart_all<R: Wait>(rt: &R, alloc: Global, shared: &Shared<MemStable>, seat: &mut Seat) {
     for p in 0..SEATS {
         restart(rt, alloc, shared, seat, Pid(p));
     }
 }
 
-/// How many deliveries a snapshot has.
+/// The number of deliveries in a snapshot.
 fn deliveries(shown: &Result<Snapshot, SharedFault>) -> Option<u32> {
     match shown {
         Ok(shown) => Some(shown.trace.deliveries()),
@@ -113,7 +113,7 @@ fn deliveries(shown: &Result<Snapshot, SharedFault>) -> Option<u32> {
     }
 }
 
-/// Delivers until there have been enough deliveries, of which so many were made; tells whether there were.
+/// Delivers until there are enough deliveries, `made` of them earlier ones. Returns whether there are.
 fn deliver_enough<R: Wait>(
     rt: &R,
     shared: &Shared<MemStable>,
@@ -141,7 +141,7 @@ fn crashes(trace: &Trace) -> u32 {
     crashes
 }
 
-/// Whether a snapshot shows enough deliveries, a crash and a restart.
+/// Returns whether a snapshot contains enough deliveries, a crash and a restart.
 fn is_eventful(shown: &Result<Snapshot, SharedFault>) -> bool {
     match shown {
         Ok(shown) => {
@@ -153,7 +153,8 @@ fn is_eventful(shown: &Result<Snapshot, SharedFault>) -> bool {
     }
 }
 
-/// Brings up what the threads have left down, and delivers where they have not delivered enough; tells whether enough has happened.
+/// Restarts the processes that are down, and delivers until there are enough deliveries. Returns whether the trace has
+/// enough of all events.
 fn closes<R: Wait>(rt: &R, alloc: Global, shared: &Shared<MemStable>, seat: &mut Seat) -> bool {
     restart_all(rt, alloc, shared, seat);
     match deliveries(&shared.snapshot(rt, seat)) {
@@ -164,7 +165,8 @@ fn closes<R: Wait>(rt: &R, alloc: Global, shared: &Shared<MemStable>, seat: &mut
     }
 }
 
-/// Whether a runtime ends with all calls of these seats, of which one closes it, each of them in its history.
+/// Returns whether a runtime finishes with all calls of these seats in its history, after one seat has restarted what
+/// is down.
 fn ends_whole<R: Wait>(
     rt: &R,
     alloc: Global,
@@ -176,14 +178,14 @@ fn ends_whole<R: Wait>(
         None => false,
     };
     closed
-        && match ended(alloc, shared, seats) {
+        && match finish_extent(alloc, shared, seats) {
             Ok(Some((items, _entries))) => items >= 2_408,
             _ => false,
         }
 }
 
-/// The seats after the calls of eight threads, each with a seat of its own, that were all made.
-fn used<R: Threads + Wait + Sync>(
+/// Makes the calls of eight threads, each with its own seat, and returns the seats if all calls were made.
+fn call_on_threads<R: Threads + Wait + Sync>(
     rt: &R,
     alloc: Global,
     shared: &Shared<MemStable>,
@@ -201,15 +203,14 @@ fn are_served<R: Threads + Wait + Sync>(
     shared: Shared<MemStable>,
     seats: Vec<Seat>,
 ) -> bool {
-    match used(rt, alloc, &shared, seats) {
+    match call_on_threads(rt, alloc, &shared, seats) {
         Some(seats) => ends_whole(rt, alloc, shared, seats),
         None => false,
     }
 }
 
-// The first call of all that asks for a crash is never refused, and each seat asks for one in the first hundred of its turns,
-// which are 300 at least. So in whatever order the threads call, a process crashes, and it comes up again at the latest once
-// they are done.
+// The first crash call of all is never refused, and each seat makes one in the first hundred of its turns, which are at
+// least 300. So in each order of the calls a process crashes; it restarts at the latest after the threads have ended.
 #[test]
 fn seats_call_at_random(rt: HostRuntime) {
     let served = match echoing(rt.alloc(), 200, SEATS, 2) {

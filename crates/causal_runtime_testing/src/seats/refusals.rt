@@ -1,8 +1,8 @@
-//! A step that is refused memory once, of a process that goes round with itself.
+//! A step that returns `NoMemory` once, of a process that sends to itself.
 use super::*;
 
-/// Asks for the delivery of the message that the process sends itself at its beginning, the only one that there is: the fault
-/// of the answer.
+/// Delivers the message that the process sends to itself at its start, and returns the error, if any. There is no other
+/// message.
 fn deliver_own<R: Wait>(
     rt: &R,
     shared: &Shared<MemStable>,
@@ -11,7 +11,7 @@ fn deliver_own<R: Wait>(
     shared.deliver(rt, seat, Pid(0), Pid(0), 0).err()
 }
 
-/// Whether a snapshot has one entry, and one call was made before it.
+/// Returns whether a snapshot has one entry, and one call was made before it.
 fn is_as_begun<R: Wait>(rt: &R, shared: &Shared<MemStable>, seat: &mut Seat) -> bool {
     match shared.snapshot(rt, seat) {
         Ok(shown) => shown.trace.len() == 1 && shown.calls == 1,
@@ -19,7 +19,8 @@ fn is_as_begun<R: Wait>(rt: &R, shared: &Shared<MemStable>, seat: &mut Seat) -> 
     }
 }
 
-/// Whether that delivery is refused memory, the refusal is an item and changes nothing else, and the delivery is then made.
+/// Returns whether that delivery is refused with `NoMemory`, the refusal is an item and changes nothing else, and the
+/// repeated delivery succeeds.
 pub(super) fn is_made_again<R: Wait>(rt: &R, shared: &Shared<MemStable>, seat: &mut Seat) -> bool {
     deliver_own(rt, shared, seat) == Some(SharedFault::Core(CoreFault::NoMemory))
         && (seat.count(), seat.seen()) == (1, 1)

@@ -1,38 +1,43 @@
-//! Two seats on two threads, neither of which gets on without the other.
+//! Two and 64 seats, each on its own thread, none of which can finish alone: each delivers what its partner sends.
 use super::*;
 use causal_shared::item::{Item, Snapshot};
 use causal_trace::trace::Trace;
 use std::thread;
 use std::thread::Threads;
 
-/// How often a seat asks before it gives up.
+/// How often a seat tries before it stops.
 const TURNS: u32 = 10_000_000;
 
-/// How many messages each of two processes gets that echo a count of three.
+/// The number of messages for each process, if all echo a count of three.
 const EACH: u32 = 4;
 
-/// A seat's first delivery, what it saw after that, and what the auditor says of this.
+/// A seat's first delivery, the snapshot after it, and the verdict on that.
 #[derive(Drop)]
-struct Seen {
+struct FirstSnapshot {
     first: Item,
     snapshot: Snapshot,
     verdict: Option<Verdict>,
 }
 
-/// What a thread has done with its seat.
+/// The seat of a thread, its deliveries, and its first snapshot.
 #[derive(Drop)]
-struct Done {
+struct ThreadResult {
     seat: Seat,
     delivered: u32,
-    seen: Option<Seen>,
+    seen: Option<FirstSnapshot>,
 }
 
-impl Done {
-    /// Takes a snapshot after a delivery, and audits it while the other seats go on.
-    fn look<R: Wait>(&mut self, rt: &R, alloc: Global, shared: &Shared<MemStable>) -> Option<Seen> {
+impl ThreadResult {
+    /// Takes a snapshot after a delivery, and audits it while the other seats continue.
+    fn look<R: Wait>(
+        &mut self,
+        rt: &R,
+        alloc: Global,
+        shared: &Shared<MemStable>,
+    ) -> Option<FirstSnapshot> {
         let first = *self.seat.last()?;
         match shared.snapshot(rt, &mut self.seat) {
-            Ok(snapshot) => Some(Seen {
+            Ok(snapshot) => Some(FirstSnapshot {
                 first,
                 verdict: verdict_of(alloc, &snapshot.trace, snapshot.faults).ok(),
                 snapshot,
@@ -41,7 +46,8 @@ impl Done {
         }
     }
 
-    /// Makes one delivery to the process of the seat's number, if there is a message, and looks after the first.
+    /// Makes one delivery to the process with the seat's number, if a message is pending, and takes a snapshot after
+    /// the first one.
     fn turn<R: Wait>(&mut self, rt: &R, alloc: Global, shared: &Shared<MemStable>) {
         let q = Pid(self.seat.number().min(255) as u8);
         if !deliver_first(rt, shared, &mut self.seat, q) {
@@ -55,9 +61,14 @@ impl Done {
     }
 }
 
-/// Delivers until the process of the seat's number has got all its messages.
-fn delivers_all<R: Wait>(rt: &R, alloc: Global, shared: &Shared<MemStable>, seat: Seat) -> Done {
-    let mut done = Done {
+/// Delivers until the process with the seat's number has received all its messages.
+fn delivers_all<R: Wait>(
+    rt: &R,
+    alloc: Global,
+    shared: &Shared<MemStable>,
+    seat: Seat,
+) -> ThreadResult {
+    let mut done = ThreadResult {
         seat,
         delivered: 0,
         seen: None,
@@ -71,7 +82,7 @@ fn delivers_all<R: Wait>(rt: &R, alloc: Global, shared: &Shared<MemStable>, seat
     done
 }
 
-/// Whether the trace has the delivery that the item tells at the item's place.
+/// Returns whether the trace contains the item's delivery at the item's position.
 fn shows(trace: &Trace, item: &Item) -> bool {
     match item.reply {
         Reply::Delivered(delivered) => trace.det_at(item.first) == Some(delivered.det),
@@ -79,8 +90,9 @@ fn shows(trace: &Trace, item: &Item) -> bool {
     }
 }
 
-/// Whether a seat has made its deliveries, each of which is an item, and saw the first of them.
-fn has_met(done: &Done) -> bool {
+/// Returns whether a seat has made its deliveries, each of which is an item, and its snapshot contains the first of
+/// them.
+fn has_met(done: &ThreadResult) -> bool {
     match &done.seen {
         Some(seen) => {
             done.delivered == 4
@@ -91,8 +103,8 @@ fn has_met(done: &Done) -> bool {
     }
 }
 
-/// Whether a seat's snapshot was accepted, beside a seat that went on, and has a part of the trace, from its beginning.
-fn has_seen(done: &Done, trace: &Trace) -> bool {
+/// Returns whether a seat's snapshot is accepted and is a proper prefix of the final trace.
+fn has_seen(done: &ThreadResult, trace: &Trace) -> bool {
     match &done.seen {
         Some(seen) => {
             seen.verdict == Some(Verdict::Accept)
@@ -104,8 +116,8 @@ fn has_seen(done: &Done, trace: &Trace) -> bool {
     }
 }
 
-/// Whether that holds of each seat.
-fn have_met(done: &[Done], trace: &Trace) -> bool {
+/// Returns whether the checks hold for each seat.
+fn have_met(done: &[ThreadResult], trace: &Trace) -> bool {
     for one in done {
         if !has_met(one) || !has_seen(one, trace) {
             return false;
@@ -114,8 +126,8 @@ fn have_met(done: &[Done], trace: &Trace) -> bool {
     true
 }
 
-/// The seats of threads that are done.
-fn seats_of(alloc: Global, all: Vec<Done>) -> Option<Vec<Seat>> {
+/// The seats of the threads.
+fn seats_of(alloc: Global, all: Vec<ThreadResult>) -> Option<Vec<Seat>> {
     let mut seats = Vec::new(alloc);
     for done in all {
         seats.push(done.seat).ok()?;
@@ -123,36 +135,49 @@ fn seats_of(alloc: Global, all: Vec<Done>) -> Option<Vec<Seat>> {
     Some(seats)
 }
 
-/// Whether the runtime then ends with all eight items, and 16 entries.
-fn ends_whole(alloc: Global, shared: Shared<MemStable>, done: Vec<Done>) -> bool {
+/// Returns whether the runtime finishes with these numbers of items and entries.
+fn ends_whole(
+    alloc: Global,
+    shared: Shared<MemStable>,
+    done: Vec<ThreadResult>,
+    extent: (usize, u32),
+) -> bool {
     match seats_of(alloc, done) {
-        Some(seats) => ended(alloc, shared, seats) == Ok(Some((8, 16))),
+        Some(seats) => finish_extent(alloc, shared, seats) == Ok(Some(extent)),
         None => false,
     }
 }
 
-/// What is recorded once all threads are done.
-fn recorded<R: Wait>(rt: &R, shared: &Shared<MemStable>, done: &mut [Done]) -> Option<Snapshot> {
+/// A snapshot after all threads have ended.
+fn final_snapshot<R: Wait>(
+    rt: &R,
+    shared: &Shared<MemStable>,
+    done: &mut [ThreadResult],
+) -> Option<Snapshot> {
     let one = done.first_mut()?;
     shared.snapshot(rt, &mut one.seat).ok()
 }
 
-/// Whether the seats have met, by what is then recorded.
-fn are_right<R: Wait>(rt: &R, shared: &Shared<MemStable>, done: &mut [Done]) -> bool {
-    match recorded(rt, shared, done) {
+/// Returns whether the checks hold, for the final trace.
+fn are_right<R: Wait>(rt: &R, shared: &Shared<MemStable>, done: &mut [ThreadResult]) -> bool {
+    match final_snapshot(rt, shared, done) {
         Some(whole) => have_met(done, &whole.trace),
         None => false,
     }
 }
 
-/// Whether that is right, of two processes that echo a count of three, with a thread for each.
-fn are_right_of_two<R: Threads + Wait + Sync>(rt: &R, alloc: Global) -> bool {
-    let Some((shared, seats)) = echoing(alloc, 3, 2, 1) else {
+/// Returns whether n seats overlap, with n processes that echo a count of three and a thread for each. Each process
+/// receives four messages; each is an item and two entries.
+fn overlap<R: Threads + Wait + Sync>(rt: &R, alloc: Global, n: u8, extent: (usize, u32)) -> bool {
+    let Some((shared, seats)) = echoing(alloc, 3, n, 1) else {
         return false;
     };
+    if seats.len() != usize::from(n) {
+        return false;
+    }
     match thread::map_vec(rt, seats, &|seat| delivers_all(rt, alloc, &shared, seat)) {
         Ok(mut done) => {
-            are_right(rt, &shared, done.as_mut_slice()) && ends_whole(alloc, shared, done)
+            are_right(rt, &shared, done.as_mut_slice()) && ends_whole(alloc, shared, done, extent)
         }
         Err(_) => false,
     }
@@ -160,5 +185,10 @@ fn are_right_of_two<R: Threads + Wait + Sync>(rt: &R, alloc: Global) -> bool {
 
 #[test]
 fn seats_overlap(rt: HostRuntime) {
-    assert!(rt; are_right_of_two(&rt, rt.alloc()));
+    assert!(rt; overlap(&rt, rt.alloc(), 2, (8, 16)));
+}
+
+#[test]
+fn all_64_seats_overlap(rt: HostRuntime) {
+    assert!(rt; overlap(&rt, rt.alloc(), 64, (256, 512)));
 }

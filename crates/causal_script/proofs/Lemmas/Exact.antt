@@ -1,4 +1,4 @@
--- A text spells one script or has one first fault, and never both.
+-- A text spells exactly one script or has exactly one first error, and never both.
 use Rattle.std.proofs.Common.{◌≡◌, ◌⊎◌, inl, inr, ℕ, zero, suc, ◌+◌, ◌<◌, ◌≤◌, List, [], ◌∷◌, length, take, drop, map, Option, Some, None, Result, Ok, Err, refl, ap, sym, ◌∙◌, subst, arith}
 use Rattle.std.specs.Prelude.{slice_get}
 use Rattle.std.specs.List.{AllByRecursion, range_with_len}
@@ -10,17 +10,17 @@ use Rattle.causal_script.specs.declared.script.ScriptFault.{ScriptFault}
 use Rattle.causal_script.specs.declared.script.ScriptFaultKind.{ScriptFaultKind}
 use Rattle.causal_script.specs.declared.script.ScriptFaultKind.TheVariants.{Big, Script, NoMemory}
 use Rattle.causal_script.specs.declared.start.Start.{Start}
-use Rattle.causal_script.specs.Lines.{lines, feeds}
-use Rattle.causal_script.specs.Spelling.{max_script, Plan, IsStart, IsRequest, Spells, start_line, command_line}
+use Rattle.causal_script.specs.Lines.{lines, count_line_feeds}
+use Rattle.causal_script.specs.Spelling.{max_script, ScriptContent, IsStart, IsRequest, Spells, start_line, command_line}
 use Rattle.causal_script.specs.Faults.{IsInPlace, IsFaultAfter, AreSound, IsFirstFault}
 use Rattle.causal_script.specs.Inside.Reading.{request_of, start_of}
-use Rattle.causal_script.specs.Inside.Place.{IsBigLine, judged}
+use Rattle.causal_script.specs.Inside.Place.{IsBigLine, line_or_fault}
 use Rattle.causal_script.proofs.CommandLines.{request_back, commanded, not_commanded, says_request}
 use Rattle.causal_script.proofs.Starts.{start_back, started, not_started, says_start}
 use Rattle.causal_script.proofs.Texts.{line_here, line_past, judged_ok, not_big, sound_none, sound_more, first_fault, feeds_below, length_lines, no_lines, drop_all}
 use Rattle.causal_script.proofs.Scripts.{length_map, empty_fault}
 
--- ---- one script
+-- ---- at most one script
 
 one_list : (cs ds : List Command) → map (λ c. command_line c.request) cs ≡ map (λ c. command_line c.request) ds → map (λ (c : Command). c.line) cs ≡ map (λ (c : Command). c.line) ds
     → AllByRecursion (λ c. IsRequest c.request) cs → AllByRecursion (λ c. IsRequest c.request) ds → cs ≡ ds
@@ -29,13 +29,13 @@ one_list [] (d ∷ ds) e n f g = absurd (let no : [] ≡ command_line d.request 
 one_list (c ∷ cs) [] e n f g = absurd (let no : command_line c.request ∷ map (λ (c : Command). command_line c.request) cs ≡ [] = e in cc)
 one_list (c ∷ cs) (d ∷ ds) e n f g = grind (arith, same_Some, request_back c.request f.0, request_back d.request g.0, one_list cs ds)
 
--- a text spells one plan
-pub one_plan : (text : List ℕ) (p q : Plan) → Spells text p → Spells text q → p ≡ q
-one_plan text p q a b = grind (arith, same_Some, start_back p.start a.plan.start, start_back q.start b.plan.start, length_map, one_list)
+-- a text spells at most one script content
+pub one_plan : (text : List ℕ) (p q : ScriptContent) → Spells text p → Spells text q → p ≡ q
+one_plan text p q a b = grind (arith, same_Some, start_back p.start a.content.start, start_back q.start b.content.start, length_map, one_list)
 
--- ---- one fault
+-- ---- at most one error
 
--- a text has one first fault
+-- a text has at most one first error
 pub one_fault : (text : List ℕ) (f g : ScriptFault) → IsFirstFault text f → IsFirstFault text g → f ≡ g
 one_fault text f g a b = by_place (cases_lt a.before b.before) (cases_lt b.before a.before) where
   kinds : (k l : ScriptFaultKind) → IsFaultAfter text a.before k → IsFaultAfter text a.before l → (k ≡ Script → IsFaultAfter text a.before Big → ⊥) → (l ≡ Script → IsFaultAfter text a.before Big → ⊥) → k ≡ l
@@ -67,17 +67,17 @@ commands_stand (c ∷ cs) (suc k) h = relabelled k (suc k) (slice_get (map (λ (
 stands : (s : Start) (cs : List Command) (k : ℕ) → IsStart s → AllByRecursion (λ c. IsRequest c.request) cs → IsInPlace k (slice_get (start_line s ∷ map (λ c. command_line c.request) cs) k)
 stands s cs k h all = grind (arith, commands_stand)
 
--- no text both spells a plan and has a first fault
-pub not_both : (text : List ℕ) (p : Plan) (f : ScriptFault) → Spells text p → IsFirstFault text f → ⊥
+-- no text both spells a script content and has a first error
+pub not_both : (text : List ℕ) (p : ScriptContent) (f : ScriptFault) → Spells text p → IsFirstFault text f → ⊥
 not_both text p f a b = by_kind f.kind b.faulty where
   by_kind : (k : ScriptFaultKind) → IsFaultAfter text b.before k → ⊥
   by_kind Big h = let over : max_script < length text = h.0 in omega (arith, a.within)
-  by_kind Script h = h (subst (λ (ls : List (List ℕ)). IsInPlace b.before (slice_get ls b.before)) (sym a.said) (stands p.start p.commands b.before a.plan.start a.plan.requests))
+  by_kind Script h = h (subst (λ (ls : List (List ℕ)). IsInPlace b.before (slice_get ls b.before)) (sym a.said) (stands p.start p.commands b.before a.content.start a.content.requests))
   by_kind NoMemory h = h
 
--- ---- one of them
+-- ---- at least one of both
 
--- the lines from this one on
+-- the parsed lines from this one on
 record AreRead (text : List ℕ) (ls : List (List ℕ)) (count : ℕ) : Type 0 where
   commands : List Command
   said : ls ≡ map (λ c. command_line c.request) commands
@@ -88,13 +88,13 @@ record AreRead (text : List ℕ) (ls : List (List ℕ)) (count : ℕ) : Type 0 w
 cases_big : (text : List ℕ) → (big : Option ℕ) × IsBigLine text big
 cases_big text = by_size (cases_lt max_script (length text)) where
   by_size : (max_script < length text) ⊎ (length text ≤ max_script) → (big : Option ℕ) × IsBigLine text big
-  by_size (inl over) = (Some (feeds (take max_script text) + 1), (over, refl))
+  by_size (inl over) = (Some (count_line_feeds (take max_script text) + 1), (over, refl))
   by_size (inr within) = (None, within)
 
 read_on : (text : List ℕ) (big : Option ℕ) (ls : List (List ℕ)) (k : ℕ) → IsBigLine text big → drop (suc k) (lines text) ≡ ls → suc k ≤ length (lines text) → AreSound text (suc k)
     → AreRead text ls (suc k) ⊎ ((f : ScriptFault) × IsFirstFault text f)
 read_on text big [] k bigs rest within sound = grind (arith, line_past (suc k) (lines text) rest)
-read_on text big (l ∷ ls) k bigs rest within sound = by_line (λ sounder. read_on text big ls (suc k) bigs here.1 inside sounder) (judged big (suc k + 1) (request_of l)) refl where
+read_on text big (l ∷ ls) k bigs rest within sound = by_line (λ sounder. read_on text big ls (suc k) bigs here.1 inside sounder) (line_or_fault big (suc k + 1) (request_of l)) refl where
   here : (slice_get (lines text) (suc k) ≡ Some l) × (drop (suc (suc k)) (lines text) ≡ ls)
   here = line_here (suc k) (lines text) l ls rest
 
@@ -114,7 +114,7 @@ read_on text big (l ∷ ls) k bigs rest within sound = by_line (λ sounder. read
   inside : suc (suc k) ≤ length (lines text)
   inside = grind (arith, drop_all (suc k) (lines text))
 
-  by_line : (AreSound text (suc (suc k)) → AreRead text ls (suc (suc k)) ⊎ ((f : ScriptFault) × IsFirstFault text f)) → (r : Result Request ScriptFault) → judged big (suc k + 1) (request_of l) ≡ r → AreRead text (l ∷ ls) (suc k) ⊎ ((f : ScriptFault) × IsFirstFault text f)
+  by_line : (AreSound text (suc (suc k)) → AreRead text ls (suc (suc k)) ⊎ ((f : ScriptFault) × IsFirstFault text f)) → (r : Result Request ScriptFault) → line_or_fault big (suc k + 1) (request_of l) ≡ r → AreRead text (l ∷ ls) (suc k) ⊎ ((f : ScriptFault) × IsFirstFault text f)
   by_line again (Err f) e = inr (f, first_fault text l (suc k) big (request_of l) f bigs sound here.0 (λ none place. not_commanded l none place) e)
   by_line again (Ok r) e =
       let ok = judged_ok big (suc k + 1) (request_of l) r e in
@@ -123,31 +123,31 @@ read_on text big (l ∷ ls) k bigs rest within sound = by_line (λ sounder. read
       let sounder = sound_more text (suc k) (suc (suc k)) (omega arith) sound (not_big text big (suc k) bigs ok.0) place in
       joined r says.0 says.1 (again sounder)
 
--- what was read is a script
-whole : (text l : List ℕ) (ls : List (List ℕ)) (s : Start) → lines text ≡ l ∷ ls → IsStart s → l ≡ start_line s → AreRead text ls 1 → (p : Plan) × Spells text p
+-- the parsed lines are a script
+whole : (text l : List ℕ) (ls : List (List ℕ)) (s : Start) → lines text ≡ l ∷ ls → IsStart s → l ≡ start_line s → AreRead text ls 1 → (p : ScriptContent) × Spells text p
 whole text l ls s split fits is read =
     let said : lines text ≡ start_line s ∷ map (λ (c : Command). command_line c.request) read.commands = split ∙ ap (λ x. x ∷ ls) is ∙ ap (λ xs. start_line s ∷ xs) read.said in
-    let within : length text ≤ max_script = grind (arith, read.sound (feeds (take max_script text)) Big, feeds_below max_script text) in
+    let within : length text ≤ max_script = grind (arith, read.sound (count_line_feeds (take max_script text)) Big, feeds_below max_script text) in
     let count : length (lines text) ≡ suc (length read.commands) = ap length said ∙ ap suc (length_map (λ (c : Command). command_line c.request) read.commands) in (
       record { start = s; commands = read.commands },
       record {
-        plan = record { start = fits; requests = read.requests; numbered = read.numbered; room = omega (arith, length_lines text) };
+        content = record { start = fits; requests = read.requests; numbered = read.numbered; room = omega (arith, length_lines text) };
         said = said;
         within = within;
       },
     )
 
--- each text spells a plan or has a first fault
-pub one_of_them : (text : List ℕ) → ((p : Plan) × Spells text p) ⊎ ((f : ScriptFault) × IsFirstFault text f)
+-- each text spells a script content or has a first error
+pub one_of_them : (text : List ℕ) → ((p : ScriptContent) × Spells text p) ⊎ ((f : ScriptFault) × IsFirstFault text f)
 one_of_them text = by_lines (lines text) refl where
   big : (b : Option ℕ) × IsBigLine text b
   big = cases_big text
 
-  ended : (l : List ℕ) (ls : List (List ℕ)) (s : Start) → lines text ≡ l ∷ ls → IsStart s → l ≡ start_line s → AreRead text ls 1 ⊎ ((f : ScriptFault) × IsFirstFault text f) → ((p : Plan) × Spells text p) ⊎ ((f : ScriptFault) × IsFirstFault text f)
+  ended : (l : List ℕ) (ls : List (List ℕ)) (s : Start) → lines text ≡ l ∷ ls → IsStart s → l ≡ start_line s → AreRead text ls 1 ⊎ ((f : ScriptFault) × IsFirstFault text f) → ((p : ScriptContent) × Spells text p) ⊎ ((f : ScriptFault) × IsFirstFault text f)
   ended l ls s split fits is (inl read) = inl (whole text l ls s split fits is read)
   ended l ls s split fits is (inr f) = inr f
 
-  by_start : (l : List ℕ) (ls : List (List ℕ)) → lines text ≡ l ∷ ls → (r : Result Start ScriptFault) → judged big.0 1 (start_of l) ≡ r → ((p : Plan) × Spells text p) ⊎ ((f : ScriptFault) × IsFirstFault text f)
+  by_start : (l : List ℕ) (ls : List (List ℕ)) → lines text ≡ l ∷ ls → (r : Result Start ScriptFault) → line_or_fault big.0 1 (start_of l) ≡ r → ((p : ScriptContent) × Spells text p) ⊎ ((f : ScriptFault) × IsFirstFault text f)
   by_start l ls split (Err f) e =
       let here = line_here 0 (lines text) l ls split in
       inr (f, first_fault text l 0 big.0 (start_of l) f big.1 (sound_none text) here.0 (λ none place. not_started l none place) e)
@@ -160,6 +160,6 @@ one_of_them text = by_lines (lines text) refl where
       let some : 1 ≤ length (lines text) = let count : length (lines text) ≡ suc (length ls) = ap length split in omega arith in
       ended l ls s split says.0 says.1 (read_on text big.0 ls 0 big.1 here.1 some sound)
 
-  by_lines : (ls : List (List ℕ)) → lines text ≡ ls → ((p : Plan) × Spells text p) ⊎ ((f : ScriptFault) × IsFirstFault text f)
+  by_lines : (ls : List (List ℕ)) → lines text ≡ ls → ((p : ScriptContent) × Spells text p) ⊎ ((f : ScriptFault) × IsFirstFault text f)
   by_lines [] e = inr (record { line = 1; kind = Script }, empty_fault text (no_lines text e))
-  by_lines (l ∷ ls) e = by_start l ls e (judged big.0 1 (start_of l)) refl
+  by_lines (l ∷ ls) e = by_start l ls e (line_or_fault big.0 1 (start_of l)) refl

@@ -1,4 +1,4 @@
--- What a line says, word by word.
+-- Parsing of one line, token by token.
 use Rattle.std.specs.Prelude.{ℕ, ◌==◌, ◌&&◌, not, Bool, false, List, [], ◌∷◌, codes, bytes_eq, nat_le, nat_lt, if◌then◌else◌, Option, Some, None, option_map}
 use Rattle.std.specs.Char.{is_ascii_digit}
 use Rattle.std.specs.Str.{all_ascii_digits}
@@ -10,84 +10,91 @@ use Rattle.causal_script.specs.declared.script.Kind.{Kind}
 use Rattle.causal_script.specs.declared.script.Kind.TheVariants.{Ring, Echo, Tally}
 use Rattle.causal_script.specs.declared.start.Start.{Start}
 
+-- applies the next parsing step if the first returned a value
 infixl 10 ◌>>=◌
 abbrev pub ◌>>=◌ : {A B : Type 0} → Option A → (A → Option B) → Option B
 None >>= f = None
 (Some x) >>= f = f x
 
--- what stands before the first such byte, and what stands after it
-abbrev pub cut : ℕ → List ℕ → Option (List ℕ × List ℕ)
-cut byte [] = None
-cut byte (x ∷ xs) = if x == byte then Some ([], xs) else option_map (λ parts. (x ∷ parts.0, parts.1)) (cut byte xs)
+-- the bytes before the first such byte, and the bytes after it
+abbrev pub split_at_byte : ℕ → List ℕ → Option (List ℕ × List ℕ)
+split_at_byte byte [] = None
+split_at_byte byte (x ∷ xs) = if x == byte then Some ([], xs) else option_map (λ parts. (x ∷ parts.0, parts.1)) (split_at_byte byte xs)
 
+-- the byte between two tokens
 abbrev pub space : ℕ
 space = 32
 
--- digits, and no zero before others
+-- digits without a leading zero
 abbrev pub is_plain : List ℕ → Bool
 is_plain [] = false
 is_plain (x ∷ []) = is_ascii_digit x
 is_plain (x ∷ y ∷ ys) = not (x == 48) && all_ascii_digits (x ∷ y ∷ ys)
 
--- the number that a word spells, up to a limit
+-- the number that a token spells, up to a limit
 unfoldable pub number_of : ℕ → List ℕ → Option ℕ
 number_of limit word =
     if is_plain word && nat_le (digits_value 10 word) limit then Some (digits_value 10 word) else None
 
+-- the process with the number that a token spells
 unfoldable pub process_of : List ℕ → Option Pid
 process_of word = number_of 255 word >>= λ n. Some (record { 0 = n })
 
--- `Q SOURCE SSN`
+-- the delivery in `Q SOURCE SSN`
 unfoldable pub delivery_of : List ℕ → Option Request
 delivery_of words =
-    cut space words >>= λ a. cut space a.1 >>= λ b.
+    split_at_byte space words >>= λ a. split_at_byte space a.1 >>= λ b.
     process_of a.0 >>= λ q. process_of b.0 >>= λ source. number_of 4294967295 b.1 >>= λ ssn. Some (Deliver q source ssn)
 
--- a command of one process
-unfoldable pub of_process : List ℕ → Pid → Option Request
-of_process name p =
+-- a command with one process, by its name
+unfoldable pub parse_process_command : List ℕ → Pid → Option Request
+parse_process_command name p =
     if bytes_eq name (codes "crash") then Some (Crash p) else
     if bytes_eq name (codes "restart") then Some (Restart p) else
     if bytes_eq name (codes "flush") then Some (Flush p) else
     if bytes_eq name (codes "forget") then Some (Forget p) else
     None
 
+-- a command, by its name and its arguments
 unfoldable pub named_request : List ℕ → List ℕ → Option Request
 named_request name words =
-    if bytes_eq name (codes "deliver") then delivery_of words else process_of words >>= (λ p. of_process name p)
+    if bytes_eq name (codes "deliver") then delivery_of words else process_of words >>= (λ p. parse_process_command name p)
 
--- what a command asks for
+-- the request in a line after the first
 unfoldable pub request_of : List ℕ → Option Request
-request_of line = cut space line >>= λ a. named_request a.0 a.1
+request_of line = split_at_byte space line >>= λ a. named_request a.0 a.1
 
+-- the process count that a token spells, 1 to 256
 unfoldable pub count_of : List ℕ → Option ℕ
 count_of word = number_of 256 word >>= λ n. if nat_lt 0 n then Some n else None
 
--- a start by the words of its two first numbers
+-- a start with the process count and failure bound in these two tokens
 unfoldable pub numbered_start : Kind → List ℕ → List ℕ → ℕ → Option Start
 numbered_start kind n f param =
     count_of n >>= λ n. number_of 65535 f >>= λ f. Some (record { kind = kind; n = n; f = f; param = param })
 
--- `N F PARAM`
-unfoldable pub with_param : Kind → List ℕ → Option Start
-with_param kind words =
-    cut space words >>= λ a. cut space a.1 >>= λ b. number_of 255 b.1 >>= λ param. numbered_start kind a.0 b.0 param
+-- the start in `N F PARAM`
+unfoldable pub parse_start_numbers : Kind → List ℕ → Option Start
+parse_start_numbers kind words =
+    split_at_byte space words >>= λ a. split_at_byte space a.1 >>= λ b. number_of 255 b.1 >>= λ param. numbered_start kind a.0 b.0 param
 
--- `N F`
+-- the start in `N F`
 unfoldable pub tally_of : List ℕ → Option Start
-tally_of words = cut space words >>= λ a. numbered_start Tally a.0 a.1 0
+tally_of words = split_at_byte space words >>= λ a. numbered_start Tally a.0 a.1 0
 
+-- a start, by its kind and its numbers
 unfoldable pub start_of_kind : List ℕ → List ℕ → Option Start
 start_of_kind kind words =
-    if bytes_eq kind (codes "ring") then with_param Ring words else
-    if bytes_eq kind (codes "echo") then with_param Echo words else
+    if bytes_eq kind (codes "ring") then parse_start_numbers Ring words else
+    if bytes_eq kind (codes "echo") then parse_start_numbers Echo words else
     if bytes_eq kind (codes "tally") then tally_of words else
     None
 
+-- a start, by the first token and the rest of the line
 unfoldable pub named_start : List ℕ → List ℕ → Option Start
 named_start name words =
-    if bytes_eq name (codes "start") then cut space words >>= (λ a. start_of_kind a.0 a.1) else None
+    if bytes_eq name (codes "start") then split_at_byte space words >>= (λ a. start_of_kind a.0 a.1) else None
 
--- what a first line says
+-- the start in a first line
 unfoldable pub start_of : List ℕ → Option Start
-start_of line = cut space line >>= λ a. named_start a.0 a.1
+start_of line = split_at_byte space line >>= λ a. named_start a.0 a.1

@@ -1,16 +1,16 @@
--- How the program ends after words that ask for no audit.
+-- How the program ends if the command line requests no command.
 use Rattle.std.specs.Prelude.{Bool, true, false}
 use Rattle.clap.specs.declared.error.kind.ErrorKind.{ErrorKind}
 use Rattle.clap.specs.declared.error.kind.ErrorKind.TheVariants.{OutOfMemory, DisplayHelp, DisplayVersion}
 use Rattle.causal_commands.specs.declared.ended.Ended.TheVariants.{NoMemory, WriteFault}
-use Rattle.causal_tool.specs.declared.words.Refused.{Refused}
-use Rattle.causal_tool.specs.declared.words.Refused.TheVariants.{Status, Ended}
+use Rattle.causal_tool.specs.declared.args.EarlyExit.{EarlyExit}
+use Rattle.causal_tool.specs.declared.args.EarlyExit.TheVariants.{Status, Ended}
 
--- help and the version are answers, once they are printed; want of memory is no fault of the words; all else is
-abbrev pub refusal : ErrorKind → Bool → Refused
-refusal OutOfMemory printed = Ended NoMemory
-refusal DisplayHelp true = Status 0
-refusal DisplayHelp false = Ended WriteFault
-refusal DisplayVersion true = Status 0
-refusal DisplayVersion false = Ended WriteFault
-refusal _ printed = Status 3
+-- help and the version are answers, once printed; an allocation that failed is not bad usage; any other message is
+abbrev pub exit_for_clap_error : ErrorKind → Bool → EarlyExit
+exit_for_clap_error OutOfMemory printed = Ended NoMemory
+exit_for_clap_error DisplayHelp true = Status 0
+exit_for_clap_error DisplayHelp false = Ended WriteFault
+exit_for_clap_error DisplayVersion true = Status 0
+exit_for_clap_error DisplayVersion false = Ended WriteFault
+exit_for_clap_error _ printed = Status 3

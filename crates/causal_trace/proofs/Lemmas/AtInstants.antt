@@ -1,4 +1,4 @@
--- What holds of a run holds of its instants.
+-- Facts of a run that hold at each of its instants.
 use Rattle.std.proofs.Common.{ℕ, zero, suc, cond, ◌≡◌, ◌+◌, ◌-◌, ◌<◌, ◌≤◌, List, [], ◌∷◌, length, drop, reverse, Some, refl, ap, ◌∙◌, arith}
 use Rattle.std.specs.Prelude.{◌==◌}
 use Rattle.std.proofs.lemmas.List.{length-drop, length-reverse, reverse-append, reverse-reverse, drop_at, take-append-drop}
@@ -6,41 +6,41 @@ use Rattle.std.proofs.lemmas.Bool.{cases_lt, cond-false, ne_eqb}
 use Rattle.causal_name.specs.declared.Det.{Det}
 use Rattle.causal_trace.specs.declared.entry.Entry.{Entry}
 use Rattle.causal_trace.specs.Past.{instant, det_at, det_of}
-use Rattle.causal_trace.specs.Rows.{AreAccepted}
+use Rattle.causal_trace.specs.Rows.{AreLegalEntries}
 use Rattle.causal_trace.specs.State.{past_at}
 use Rattle.causal_trace.proofs.Lemmas.Instants.{det_beyond}
 
--- one more entry leaves the instants that there were, and makes one more
+-- one more entry leaves the earlier instants unchanged
 pub instants_stay : (e : Entry) (past : List Entry) (t : ℕ) → t ≤ length past → instant (e ∷ past) t ≡ instant past t
 instants_stay e past t within = grind arith
 
--- and the newest instant is the whole with it
+-- after one more entry, the newest instant is the whole past
 pub one_more_instant : (e : Entry) (past : List Entry) → instant (e ∷ past) (length past + 1) ≡ e ∷ past
 one_more_instant e past = ap (λ n. drop n (e ∷ past)) (let none : length (e ∷ past) - (length past + 1) ≡ 0 = omega arith in none)
 
--- what holds of a past wherever it holds with one more entry holds of each part of it
+-- a fact that survives the removal of the newest entry holds of each older past
 pub older : (P : List Entry → Type 0) → ((e : Entry) (past : List Entry) → P (e ∷ past) → P past) → (n : ℕ) (past : List Entry) → P past → P (drop n past)
 older P step zero past h = h
 older P step (suc n) [] h = h
 older P step (suc n) (e ∷ past) h = older P step n past (step e past h)
 
--- what holds of a past, and of each part of one that it holds of, holds at each instant
+-- so it holds at each instant
 pub at_instant : (P : List Entry → Type 0) → ((e : Entry) (past : List Entry) → P (e ∷ past) → P past) → (past : List Entry) (t : ℕ) → P past → P (instant past t)
 at_instant P step past t h = older P step (length past - t) past h
 
 -- a well-formed run is well formed at each instant
-pub accepted_then : (n : ℕ) (past : List Entry) (t : ℕ) → AreAccepted n past → AreAccepted n (instant past t)
-accepted_then n past t h = at_instant (AreAccepted n) (λ e p k. k.0) past t h
+pub accepted_then : (n : ℕ) (past : List Entry) (t : ℕ) → AreLegalEntries n past → AreLegalEntries n (instant past t)
+accepted_then n past t h = at_instant (AreLegalEntries n) (λ e p k. k.0) past t h
 
--- an instant has so many entries
+-- instant t has t entries
 pub instant_length : (past : List Entry) (t : ℕ) → t ≤ length past → length (instant past t) ≡ t
 instant_length past t within = length-drop (length past - t) past ∙ (let e : length past - (length past - t) ≡ t = omega (arith, within) in e)
 
--- the last instant is the whole
+-- the last instant is the whole past
 pub last_instant : (past : List Entry) → instant past (length past) ≡ past
 last_instant past = ap (λ n. drop n past) (let none : length past - length past ≡ 0 = omega arith in none)
 
--- the states of the entries in their order are the instants
+-- the states of the entries, oldest first, are the instants
 pub read_instant : (past : List Entry) (t : ℕ) → t ≤ length past → past_at (reverse past) t ≡ instant past t
 read_instant past t within =
     grind (
@@ -54,11 +54,11 @@ read_instant past t within =
       length-reverse past,
     )
 
--- a delivery stands within the past
+-- the position of a delivery is below the length of the past
 pub det_within : (past : List Entry) (k : ℕ) (d : Det) → det_at past k ≡ Some d → k < length past
 det_within past k d at = grind (arith, det_beyond)
 
--- what is told of an entry where it is the newest, and kept with each later one, is the same at each later instant
+-- a lookup by position has the same result at each later instant
 pub found_then : {A : Type 0} (at : List Entry → ℕ → A) (of : List Entry → Entry → A) → ((e : Entry) (past : List Entry) (k : ℕ) → at (e ∷ past) k ≡ cond (k == length past) (of past e) (at past k))
     → (past : List Entry) (t k : ℕ) → k < t → t ≤ length past → at (instant past t) k ≡ at past k
 found_then at of more [] t k below within = absurd (omega (arith, below, within))

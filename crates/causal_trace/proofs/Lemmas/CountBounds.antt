@@ -1,4 +1,4 @@
--- What is counted of a recording is at most its length.
+-- Counts of a recording are at most its length.
 use Rattle.std.proofs.Common.{ℕ, suc, ◌+◌, ◌≤◌, Bool, true, false, cond, List, [], ◌∷◌, length, arith}
 use Rattle.std.specs.Prelude.{◌==◌}
 use Rattle.causal_trace.specs.declared.entry.Entry.{Entry}

@@ -1,4 +1,4 @@
--- What one more entry adds to dependence.
+-- How one more entry changes dependence.
 use Rattle.std.proofs.Common.{ℕ, ◌≡◌, ◌+◌, ◌<◌, ◌≤◌, inl, inr, true, false, cond, List, [], ◌∷◌, length, Some, None, sym, ap, subst, ◌∙◌, arith}
 use Rattle.std.specs.Prelude.{◌⊎◌, ◌==◌}
 use Rattle.causal_trace.specs.declared.entry.Entry.{Entry}
@@ -6,13 +6,13 @@ use Rattle.causal_trace.specs.declared.entry.Entry.TheVariants.{Send, Deliver, S
 use Rattle.causal_trace.specs.Past.{is_down, lane}
 use Rattle.causal_trace.specs.Dependence.{AreForward, actor, is_delivery_of, IsEventOf, Delivers, DirectlyPrecedes, in_order, by_message, Reaches, itself, onward, Depends}
 
--- an event stands within the past
+-- the position of an event is below the length of the past
 pub event_below : (past : List Entry) (i p l : ℕ) → IsEventOf past i p l → i < length past
 event_below [] i p l h = absurd h
 event_below (e ∷ past) i p l (inl h) = omega (arith, event_below past i p l h)
 event_below (e ∷ past) i p l (inr h) = omega (arith, h.0)
 
--- an event of one lane is of no other
+-- an event belongs to one lane only
 pub event_once : (past : List Entry) (i p l q m : ℕ) → IsEventOf past i p l → IsEventOf past i q m → (p ≡ q) × (l ≡ m)
 event_once [] i p l q m a b = absurd a
 event_once (e ∷ past) i p l q m (inl a) (inl b) = event_once past i p l q m a b
@@ -28,45 +28,45 @@ lane_grows (Crash who) past p = omega arith
 lane_grows (Forget who listed) past p = omega arith
 lane_grows (Restart who listed) past p = elim (who.0 == p) as (λ b. lane past p ≤ cond b (lane past p + 1) (lane past p)) [ true ↦ omega arith | false ↦ omega arith ]
 
--- no event is of a lane that is yet to come
+-- no event belongs to a future lane
 pub event_lane : (past : List Entry) (i p l : ℕ) → IsEventOf past i p l → l ≤ lane past p
 event_lane [] i p l h = absurd h
 event_lane (e ∷ past) i p l (inl h) = omega (arith, event_lane past i p l h, lane_grows e past p)
 event_lane (e ∷ past) i p l (inr h) = omega (arith, h.2, lane_grows e past p)
 
--- an event but the newest is one without the newest entry
+-- an event other than the newest is an event of the past without the newest entry
 pub event_old : (e : Entry) (past : List Entry) (i p l : ℕ) → i < length past → IsEventOf (e ∷ past) i p l → IsEventOf past i p l
 event_old e past i p l below (inl h) = h
 event_old e past i p l below (inr h) = absurd (omega (arith, below, h.0))
 
--- a delivery stands within the past
+-- the position of a delivery is below the length of the past
 pub delivers_below : (past : List Entry) (j i : ℕ) → Delivers past j i → j < length past
 delivers_below [] j i h = absurd h
 delivers_below (e ∷ past) j i (inl h) = omega (arith, delivers_below past j i h)
 delivers_below (e ∷ past) j i (inr h) = omega (arith, h.0)
 
--- a delivery but the newest is one without the newest entry
+-- a delivery other than the newest is a delivery of the past without the newest entry
 pub delivers_old : (e : Entry) (past : List Entry) (j i : ℕ) → j < length past → Delivers (e ∷ past) j i → Delivers past j i
 delivers_old e past j i below (inl h) = h
 delivers_old e past j i below (inr h) = absurd (omega (arith, below, h.0))
 
--- what precedes an event stands before it
+-- an event that directly precedes another is earlier
 pub precedes_before : (past : List Entry) (i j : ℕ) → AreForward past → DirectlyPrecedes past i j → i < j
 precedes_before past i j forward (in_order p l h a b) = h
 precedes_before past i j forward (by_message h) = forward j i h
 
--- what precedes an event but the newest does so without the newest entry
+-- direct precedence to an event other than the newest holds without the newest entry
 pub precedes_old : (e : Entry) (past : List Entry) (i j : ℕ) → j < length past → DirectlyPrecedes (e ∷ past) i j → DirectlyPrecedes past i j
 precedes_old e past i j below (in_order p l h a b) = in_order p l h (event_old e past i p l (omega (arith, below, h)) a) (event_old e past j p l below b)
 precedes_old e past i j below (by_message h) = by_message (delivers_old e past j i below h)
 
--- between earlier events the newest entry changes nothing
+-- the newest entry changes nothing between earlier events
 pub reaches_old : (e : Entry) (past : List Entry) (i : ℕ) → AreForward (e ∷ past) → (j : ℕ) → j < length past → Reaches (e ∷ past) i j → Reaches past i j
 reaches_old e past i forward j below (itself p l at) = itself p l (event_old e past i p l below at)
 reaches_old e past i forward k below (onward {j} r d) =
     onward (reaches_old e past i forward j (let h : j < k = precedes_before (e ∷ past) j k forward d in omega (arith, below, h)) r) (precedes_old e past j k below d)
 
--- what reaches an event stands within the past
+-- an event that reaches another is in the past
 pub reaches_begins : (past : List Entry) (i j : ℕ) → Reaches past i j → i < length past
 reaches_begins past i j (itself p l at) = event_below past i p l at
 reaches_begins past i j (onward {j = h} r d) = reaches_begins past i h r
@@ -87,12 +87,12 @@ preceded e past i p j k forward is who r (by_message (inl h)) = absurd (omega (a
 preceded e past i p j k forward is who r (by_message (inr h)) =
     through_message j h.1 (reaches_old e past i forward j (omega (arith, forward k j (inr h), is)) r)
 
--- an event that reaches the newest one is it, or reaches one of its lane, or the send of its message
+-- an event that reaches the newest one is it, or reaches an event of its lane or the send of its message
 pub reaches_newest : (e : Entry) (past : List Entry) (i p k : ℕ) → AreForward (e ∷ past) → k ≡ length past → actor e ≡ Some p → Reaches (e ∷ past) i k → ReachesNewest e past i p
 reaches_newest e past i p k forward is who (itself q l at) = is_newest is
 reaches_newest e past i p k forward is who (onward {j} r d) = preceded e past i p j k forward is who r d
 
--- a process that depends on k after one more entry did before, or the entry is its event and k reaches it
+-- a process that depends on k after one more entry did before, or the entry is its event and k reaches that
 pub depends_old : (e : Entry) (past : List Entry) (k p : ℕ) → AreForward (e ∷ past) → is_down past p ≡ false → lane (e ∷ past) p ≡ lane past p → Depends (e ∷ past) k p → Depends past k p ⊎ ((actor e ≡ Some p) × ReachesNewest e past k p)
 depends_old e past k p forward up same d = go d.present
   where
@@ -100,7 +100,7 @@ depends_old e past k p forward up same d = go d.present
     go (inl h) = inl (record { up = up; event = d.event; present = subst (λ l. IsEventOf past d.event p l) same h; reached = reaches_old e past k forward d.event (event_below past d.event p (lane (e ∷ past) p) h) d.reached })
     go (inr h) = inr (h.1, reaches_newest e past k p d.event forward h.0 h.1 d.reached)
 
--- a new lane depends on nothing
+-- a process in a new lane depends on nothing
 pub depends_restarted : (e : Entry) (past : List Entry) (k p : ℕ) → lane (e ∷ past) p ≡ lane past p + 1 → actor e ≡ None → Depends (e ∷ past) k p → ⊥
 depends_restarted e past k p more none d = go d.present
   where

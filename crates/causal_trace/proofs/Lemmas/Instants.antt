@@ -10,14 +10,14 @@ use Rattle.causal_trace.specs.declared.entry.Entry.{Entry}
 use Rattle.causal_trace.specs.State.{past_at}
 use Rattle.causal_trace.specs.Past.{instant, entry_at, det_of, det_at}
 
--- one more instant is one more entry
+-- the next instant has one more entry
 pub past_more : (es : List Entry) (i : ℕ) (x : Entry) → i < length es → x ≡ get_or es i x → past_at es (i + 1) ≡ x ∷ past_at es i
 past_more es i x below is = ap reverse (take_more es i x below ∙ ap (λ y. take i es ++ y ∷ []) (sym is)) ∙ reverse-append (take i es) (x ∷ [])
 
 past_next : (es : List Entry) (i : ℕ) (d : Entry) → i < length es → past_at es (i + 1) ≡ get_or es i d ∷ past_at es i
 past_next es i d below = ap reverse (take_more es i d below) ∙ reverse-append (take i es) (get_or es i d ∷ [])
 
--- a state has so many entries
+-- the state after t entries has t entries
 pub past_length : (es : List Entry) (t : ℕ) → t ≤ length es → length (past_at es t) ≡ t
 past_length es t within = length-reverse (take t es) ∙ length-take-le t es within
 
@@ -31,12 +31,12 @@ entry_there es (suc t) k d within below =
       | inr older ↦ cond-false (k == length (past_at es t)) _ _ (ne_eqb k (length (past_at es t)) (λ e. older.1 (e ∙ past_length es t (omega (arith, within))))) ∙ entry_there es t k d (omega (arith, within)) (let ne : k ≡ t → ⊥ = older.1 in omega (arith, below))
     ]
 
--- no entry stands beyond the past
+-- no position at or above the length has an entry
 pub entry_beyond : (past : List Entry) (k : ℕ) → length past ≤ k → entry_at past k ≡ None
 entry_beyond [] k above = refl
 entry_beyond (e ∷ past) k above = cond-false (k == length past) _ _ (ne_eqb k (length past) (λ is. omega (arith, above, is))) ∙ entry_beyond past k (omega (arith, above))
 
--- the determinant at a position of a state is that of the entry there, by the entries before it
+-- the determinant at a position of a state is that of the entry there, given the entries before it
 pub det_there : (es : List Entry) (t k : ℕ) (d : Entry) → t ≤ length es → k < t → det_at (past_at es t) k ≡ det_of (past_at es k) (get_or es k d)
 det_there es zero k d within below = absurd (omega (arith, below))
 det_there es (suc t) k d within below =
@@ -50,7 +50,7 @@ det_there es (suc t) k d within below =
           ∙ det_there es t k d (omega (arith, within)) (let ne : k ≡ t → ⊥ = older.1 in omega (arith, below))
     ]
 
--- no delivery stands beyond the past
+-- no position at or above the length has a delivery
 pub det_beyond : (past : List Entry) (k : ℕ) → length past ≤ k → det_at past k ≡ None
 det_beyond [] k above = refl
 det_beyond (e ∷ past) k above = cond-false (k == length past) _ _ (ne_eqb k (length past) (λ is. omega (arith, above, is))) ∙ det_beyond past k (omega (arith, above))

@@ -1,10 +1,11 @@
--- What a list of determinants holds.
+-- The list that a value of `Dets` contains.
 use Rattle.std.specs.Prelude.{List, [], ◌∷◌}
 use Rattle.causal_name.specs.declared.Det.{Det}
-use Rattle.causal_trace.specs.declared.entry.Listed.{Listed}
-use Rattle.causal_trace.specs.declared.entry.Listed.TheVariants.{One}
-use Rattle.causal_trace.specs.declared.entry.Listed.TheVariants as Lists
+use Rattle.causal_trace.specs.declared.entry.DetsRepr.{DetsRepr}
+use Rattle.causal_trace.specs.declared.entry.DetsRepr.TheVariants.{One}
+use Rattle.causal_trace.specs.declared.entry.DetsRepr.TheVariants as Lists
 
-abbrev pub dets_in : Listed → List Det
+-- the determinants of either representation
+abbrev pub dets_in : DetsRepr → List Det
 dets_in (One det) = det ∷ []
 dets_in (Lists.List dets) = dets.items

@@ -1,5 +1,5 @@
 use Rattle.causal_audit.proofs.Common.{ℕ, List, length, ◌≡◌, ◌+◌, ◌<◌, ◌∷◌, arith, sym, subst, instant, is_down, Entry, Recording, entries_of, accepted_then}
-use Rattle.causal_audit.specs.Inside.DeliveryStates.{Shows}
+use Rattle.causal_audit.specs.Inside.DeliveryStates.{HasExactly}
 use Rattle.causal_audit.proofs.Shown.{down_members}
 use Rattle.causal_audit.proofs.Steps.{how_many, next_state, nobody_down, down_count, few_at_first, up_to_next}
 use Rattle.causal_audit.proofs.excess.first_excess_in.Goals as goal
@@ -15,7 +15,7 @@ returns-then-len-from c =
     let r = c.args.trace.now.recording in
     let t = c.loop-t.t in
     let next : instant r.past (t + 1) ≡ c.index-recorded-t.result ∷ instant r.past t = next_state r c.entries-recorded.result.now c.entries-recorded.ensures.value t c.index-recorded-t.result (below r c.entries-recorded.result.now t c.entries-recorded.ensures.value c.loop-t-test.true) c.index-recorded-t.is in
-    let shown : Shows c.down_after-down.result (λ p. is_down (instant r.past (t + 1)) p) = subst (λ q. Shows c.down_after-down.result (λ p. is_down q p)) (sym next) (c.down_after-down.ensures (instant r.past t) c.loop-t.invariant.down) in
+    let shown : HasExactly c.down_after-down.result (λ p. is_down (instant r.past (t + 1)) p) = subst (λ q. HasExactly c.down_after-down.result (λ p. is_down q p)) (sym next) (c.down_after-down.ensures (instant r.past t) c.loop-t.invariant.down) in
     record {
       within = omega (arith, below r c.entries-recorded.result.now t c.entries-recorded.ensures.value c.loop-t-test.true);
       before = λ u h. c.loop-t.invariant.before u (omega (arith, h));

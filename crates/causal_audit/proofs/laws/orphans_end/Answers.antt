@@ -1,4 +1,4 @@
-use Rattle.causal_audit.proofs.look.CoverStays.{orphans_end}
+use Rattle.causal_audit.proofs.safety_scan.CoverStays.{orphans_end}
 use Rattle.causal_audit.proofs.laws.orphans_end.Goals as goal
 
 pub returns : goal.returns

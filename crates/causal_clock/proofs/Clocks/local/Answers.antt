@@ -20,10 +20,10 @@ invariant_of-self-2 c =
     let room : length (events_of c.self.inside) < 16777216 = rw (← c.self.view_is) at c.requires.room in
     let x = c.index_mut.result.now in
     let z = c.append.new.lane in
-    let appended : c.append.new.entries.items ≡ c.self.inside.entries.items ++ record { event = record { lane = c.args.lane; send = None }; place = c.index_mut.result.now.events } ∷ [] =
+    let appended : c.append.new.entries.items ≡ c.self.inside.placed_events.items ++ record { event = record { lane = c.args.lane; send = None }; place = c.index_mut.result.now.events } ∷ [] =
     c.append.ensures.appended ∙ (λ i. c.reserve.ensures.items i ++ record { event = record { lane = c.args.lane; send = None }; place = c.index_mut.result.now.events } ∷ []) in
     record {
-      keeps = rw appended (keeps_more c.self.inside.entries.items c.self.inside.lanes.items c.self.invariant.keeps (record { lane = c.args.lane; send = None }) lt x z c.index_mut.ensures.value (λ s is. cc) room
+      keeps = rw appended (keeps_more c.self.inside.placed_events.items c.self.inside.lanes.items c.self.invariant.keeps (record { lane = c.args.lane; send = None }) lt x z c.index_mut.ensures.value (λ s is. cc) room
           (λ source. 0) refl (λ source other. refl) c.append.ensures.counted (λ source. ap (λ l. column_in l source) c.append.ensures.same ∙ sym (raised_none (column_in (rises_in c.index_mut.result.now) source) c.index_mut.result.now.events)));
       lanes = omega (arith, c.self.invariant.lanes, length-set c.self.inside.lanes.items c.args.lane c.append.new.lane);
       opened = c.self.invariant.opened;

@@ -18,5 +18,5 @@ returns c =
     let column = column_was lanes c.args.lane c.index.result.now c.index.result.now there c.index.ensures c.args.source in
     let is = column ∙ sym c.rises.ensures in
     rw (← c.self.view_is) (subst (AreRises es c.args.lane c.args.source) is
-    (rises_are es (counts_in es columns) (length (lengths_of c.self.inside)) k.keeps c.args.lane c.args.source c.requires.apart (columns c.args.lane c.args.source) (k.columns c.args.lane c.args.source)
-    (λ j within of_lane. subst (FirstReach es j c.args.source) (counts_other es columns j c.args.lane c.args.source of_lane c.requires.apart) (k.keeps.reach j within c.args.source))))
+    (rises_are es (counts_in es columns) (length (lengths_of c.self.inside)) k.keeps c.args.lane c.args.source c.requires.other_lane (columns c.args.lane c.args.source) (k.columns c.args.lane c.args.source)
+    (λ j within of_lane. subst (FirstReach es j c.args.source) (counts_other es columns j c.args.lane c.args.source of_lane c.requires.other_lane) (k.keeps.reach j within c.args.source))))

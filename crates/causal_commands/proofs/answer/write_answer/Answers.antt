@@ -13,4 +13,4 @@ returns-clause-written g c =
     ]
 
 pub returns-clause-fault : goal.returns-clause-fault
-returns-clause-fault g c = λ most given h. names most given c.args.f c.args.answer.rejected c.refusal_of-fault.result h c.refusal_of-fault.ensures
+returns-clause-fault g c = λ most given h. names most given c.args.f c.args.answer.refusal c.diagnose-fault.result h c.diagnose-fault.ensures

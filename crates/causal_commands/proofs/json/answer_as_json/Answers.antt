@@ -1,8 +1,8 @@
 use Rattle.std.proofs.Common.{sym, subst}
 use Rattle.causal_commands.specs.Json.{IsObject}
-use Rattle.causal_commands.specs.Inside.Answers.{IsSilent, IsTold}
-use Rattle.causal_commands.specs.Inside.Refusals.{NamesRejected}
-use Rattle.causal_commands.specs.Remarks.{NamesFirstFault}
+use Rattle.causal_commands.specs.Inside.Answers.{WritesNothing, WritesWholeAnswer}
+use Rattle.causal_commands.specs.Inside.Refusals.{IsTrueRefusalFor}
+use Rattle.causal_commands.specs.Diagnostics.{IsDiagnosisFor}
 use Rattle.causal_commands.proofs.Writing.{objects, writes, writes_nothing}
 use Rattle.causal_commands.proofs.json.answer_as_json.Goals as goal
 
@@ -11,7 +11,7 @@ returns-in-Ok-object_answer-clause-writes g c =
     let given = g.I.Read.remaining c.args.input.now in
     let answer = c.in-Ok-object_answer.answer in
     let of = objects c.args.limits.entries c.args.question given c.in-Ok.lines answer c.in-Ok-object_answer.ensures.ended c.in-Ok-object_answer.ensures.line c.in-Ok.ensures.ok in
-    let told = subst IsTold (sym c.in-Ok-object_answer.ensures.ended) c.in-Ok.ensures.told in
+    let told = subst WritesWholeAnswer (sym c.in-Ok-object_answer.ensures.ended) c.in-Ok.ensures.whole_answer in
     writes (λ text. IsObject c.args.limits.entries c.args.question text) given (g.O.Write.contents c.args.output.now) (g.O.Write.contents c.write_answer.new.output)
     answer c.write_answer.result.ended told of c.write_answer.ensures.written
 
@@ -20,11 +20,11 @@ returns-in-Err-clause-writes g c = writes_nothing (λ text. IsObject c.args.limi
 
 pub returns-in-Err-object_answer-clause-writes : goal.returns-in-Err-object_answer-clause-writes
 returns-in-Err-object_answer-clause-writes g c = writes_nothing (λ text. IsObject c.args.limits.entries c.args.question text) (g.I.Read.remaining c.args.input.now) (g.O.Write.contents c.args.output.now)
-    c.in-Err-object_answer.ended (subst IsSilent (sym c.in-Err-object_answer.ensures.err) tt)
+    c.in-Err-object_answer.ended (subst WritesNothing (sym c.in-Err-object_answer.ensures.err) tt)
 
 pub returns-in-Ok-object_answer-clause-fault : goal.returns-in-Ok-object_answer-clause-fault
 returns-in-Ok-object_answer-clause-fault g c =
     let most = c.args.limits.entries in
     let given = g.I.Read.remaining c.args.input.now in
-    subst (λ f. NamesFirstFault most given f c.write_answer.result.fault) c.faults.ensures
-    (c.write_answer.ensures.fault most given (subst (NamesRejected most given) (sym c.in-Ok-object_answer.ensures.rejected) c.in-Ok.ensures.rejected))
+    subst (λ f. IsDiagnosisFor most given f c.write_answer.result.fault) c.faults.ensures
+    (c.write_answer.ensures.fault most given (subst (IsTrueRefusalFor most given) (sym c.in-Ok-object_answer.ensures.rejected) c.in-Ok.ensures.rejected))

@@ -2,14 +2,14 @@ use Rattle.std.proofs.Common.{◌∙◌, subst}
 use Rattle.std.specs.Prelude.{IfSome}
 use Rattle.std.proofs.lemmas.Result.{IfOk-weaker}
 use Rattle.causal_commands.specs.Reasons.{IsReason}
-use Rattle.causal_commands.specs.Runs.{IsPrinted}
+use Rattle.causal_commands.specs.Runs.{IsScriptAnswer}
 use Rattle.causal_commands.proofs.Known.{IfSome-weaker}
 use Rattle.causal_commands.proofs.script.answer_from.Goals as goal
 
 pub returns-in-Ok-clause-ok : goal.returns-in-Ok-clause-ok
 returns-in-Ok-clause-ok g c = IfOk-weaker c.answer_to.result _ _ (λ answer h.
     IfSome-weaker (g.I.Read.remaining c.args.input.now) _ _ (λ given same.
-    subst (λ text. IsPrinted text answer.ended answer.text.items) (c.as_slice.ensures.value ∙ same) h) c.in-Ok.ensures.text) c.answer_to.ensures.ok
+    subst (λ text. IsScriptAnswer text answer.ended answer.text.items) (c.as_slice.ensures.value ∙ same) h) c.in-Ok.ensures.text) c.answer_to.ensures.ok
 
 pub returns-in-Ok-clause-reason : goal.returns-in-Ok-clause-reason
 returns-in-Ok-clause-reason g c = IfOk-weaker c.answer_to.result _ _ (λ answer h.

@@ -12,43 +12,43 @@ use Rattle.causal_name.specs.declared.Pid.{Pid}
 use Rattle.causal_process.specs.declared.message.Outgoing.{Outgoing}
 use Rattle.causal_log.specs.Logs.{dets_of}
 use Rattle.causal_protocol.specs.Steps.{sends_of}
-use Rattle.causal_core.specs.Inside.Commits.{keep_sends, with_sends}
-use Rattle.causal_core.specs.View.{addressed, receivers, sent_bodies}
+use Rattle.causal_core.specs.Inside.DeliveryRecords.{keep_sends, with_sends}
+use Rattle.causal_core.specs.View.{sends_to_processes, receivers, sent_bodies}
 use Rattle.causal_core.specs.Inside.Memories.{memory_of, bodies_of, keep_all}
 use Rattle.causal_core.proofs.RuntimeSend.{addressed_more, keep_more, sends_more, kept_length, sends_length, pushed_last, pushed_length}
 use Rattle.causal_core.proofs.sends.append_sends.Goals as goal
-use Rattle.causal_core.proofs.sends.append_sends.Goals.{After-send-arg-then-from-n-1}
+use Rattle.causal_core.proofs.sends.append_sends.Goals.{After-record_send-arg-then-from-n-1}
 
 pub loop-outgoing-init : goal.loop-outgoing-init
 unfolding sends_of keep_all
 loop-outgoing-init c = grind (arith, append-nil)
 
-abbrev tos : After-send-arg-then-from-n-1 → List Pid
+abbrev tos : After-record_send-arg-then-from-n-1 → List Pid
 tos c = receivers c.args.trace.now.recording.processes c.loop-outgoing.yielded
 
-pub send-requires-clause-delivered : goal.send-requires-clause-delivered
-send-requires-clause-delivered c = rw c.loop-outgoing.invariant.batch (c.loop-outgoing.invariant.delivered (dets_of c.args.cell.now.sent.batch) c.requires.delivered)
+pub record_send-requires-clause-delivered : goal.record_send-requires-clause-delivered
+record_send-requires-clause-delivered c = rw c.loop-outgoing.invariant.batch (c.loop-outgoing.invariant.delivered (dets_of c.args.process_memory.now.sent.batch) c.requires.delivered)
 
-one : (c : After-send-arg-then-from-n-1) → addressed c.args.trace.now.recording.processes (c.loop-outgoing.yielded ++ c.in-Some.outgoing ∷ []) ≡ addressed c.args.trace.now.recording.processes c.loop-outgoing.yielded ++ c.in-Some.outgoing ∷ []
+one : (c : After-record_send-arg-then-from-n-1) → sends_to_processes c.args.trace.now.recording.processes (c.loop-outgoing.yielded ++ c.in-Some.outgoing ∷ []) ≡ sends_to_processes c.args.trace.now.recording.processes c.loop-outgoing.yielded ++ c.in-Some.outgoing ∷ []
 one c = grind (arith, nat_tests, addressed_more)
 
-more : (c : After-send-arg-then-from-n-1) → receivers c.args.trace.now.recording.processes (c.loop-outgoing.yielded ++ c.in-Some.outgoing ∷ []) ≡ tos c ++ c.in-Some.outgoing.to ∷ []
-more c = ap (map (λ (s : Outgoing). s.to)) (one c) ∙ map-append (λ (s : Outgoing). s.to) (addressed c.args.trace.now.recording.processes c.loop-outgoing.yielded) (c.in-Some.outgoing ∷ [])
+more : (c : After-record_send-arg-then-from-n-1) → receivers c.args.trace.now.recording.processes (c.loop-outgoing.yielded ++ c.in-Some.outgoing ∷ []) ≡ tos c ++ c.in-Some.outgoing.to ∷ []
+more c = ap (map (λ (s : Outgoing). s.to)) (one c) ∙ map-append (λ (s : Outgoing). s.to) (sends_to_processes c.args.trace.now.recording.processes c.loop-outgoing.yielded) (c.in-Some.outgoing ∷ [])
 
-more_bodies : (c : After-send-arg-then-from-n-1) → sent_bodies c.args.trace.now.recording.processes (c.loop-outgoing.yielded ++ c.in-Some.outgoing ∷ []) ≡ sent_bodies c.args.trace.now.recording.processes c.loop-outgoing.yielded ++ c.in-Some.outgoing.body ∷ []
-more_bodies c = ap (map (λ (s : Outgoing). s.body)) (one c) ∙ map-append (λ (s : Outgoing). s.body) (addressed c.args.trace.now.recording.processes c.loop-outgoing.yielded) (c.in-Some.outgoing ∷ [])
+more_bodies : (c : After-record_send-arg-then-from-n-1) → sent_bodies c.args.trace.now.recording.processes (c.loop-outgoing.yielded ++ c.in-Some.outgoing ∷ []) ≡ sent_bodies c.args.trace.now.recording.processes c.loop-outgoing.yielded ++ c.in-Some.outgoing.body ∷ []
+more_bodies c = ap (map (λ (s : Outgoing). s.body)) (one c) ∙ map-append (λ (s : Outgoing). s.body) (sends_to_processes c.args.trace.now.recording.processes c.loop-outgoing.yielded) (c.in-Some.outgoing ∷ [])
 
-ssn : (c : After-send-arg-then-from-n-1) → length (memory_of c.loop-outgoing.cell).sent ≡ length (memory_of c.args.cell.now).sent + length (tos c)
-ssn c = ap (λ m. length m.sent) c.loop-outgoing.invariant.memory ∙ kept_length _ _ (tos c) (memory_of c.args.cell.now)
+ssn : (c : After-record_send-arg-then-from-n-1) → length (memory_of c.loop-outgoing.process_memory).sent ≡ length (memory_of c.args.process_memory.now).sent + length (tos c)
+ssn c = ap (λ m. length m.sent) c.loop-outgoing.invariant.memory ∙ kept_length _ _ (tos c) (memory_of c.args.process_memory.now)
 
-position : (c : After-send-arg-then-from-n-1) → length c.loop-outgoing.trace.recording.past ≡ length c.args.trace.now.recording.past + length (tos c)
+position : (c : After-record_send-arg-then-from-n-1) → length c.loop-outgoing.trace.recording.past ≡ length c.args.trace.now.recording.past + length (tos c)
 position c = grind (arith, pushed_length, sends_length)
 
 pub loop-outgoing-preserved-then-from-n : goal.loop-outgoing-preserved-then-from-n
-loop-outgoing-preserved-then-from-n c = let at = (goal.at.loop-outgoing-preserved-then-from-n c).After-send-arg-then-from-n-1 in
+loop-outgoing-preserved-then-from-n c = let at = (goal.at.loop-outgoing-preserved-then-from-n c).After-record_send-arg-then-from-n-1 in
     let inv = c.loop-outgoing.invariant in
     let past = c.args.trace.now.recording.past in
-    let k0 = length (memory_of c.args.cell.now).sent in
+    let k0 = length (memory_of c.args.process_memory.now).sent in
     let to = c.in-Some.outgoing.to in
     let q = c.args.q in
     let longer = length-append c.loop-outgoing.yielded (c.in-Some.outgoing ∷ []) in
@@ -57,51 +57,51 @@ loop-outgoing-preserved-then-from-n c = let at = (goal.at.loop-outgoing-preserve
       number = rw (more at) (omega (arith, one_to, inv.number));
       recording = grind (arith, ssn, pushed_last, sends_more, more);
       memory = grind (arith, position, keep_more, more at);
-      formed = c.send.ensures.formed;
-      fit = c.send.ensures.fit;
-      others = λ p m apart was. c.send.ensures.others p m apart (inv.others p m apart was);
-      delivered = λ ds was. c.send.ensures.delivered ds (inv.delivered ds was);
+      formed = c.record_send.ensures.formed;
+      fit = c.record_send.ensures.fit;
+      others = λ p m apart was. c.record_send.ensures.others p m apart (inv.others p m apart was);
+      delivered = λ ds was. c.record_send.ensures.delivered ds (inv.delivered ds was);
       bodies = grind (arith, append_assoc, more_bodies);
-      batch = c.send.ensures.batch ∙ inv.batch;
+      batch = c.record_send.ensures.batch ∙ inv.batch;
       few = rw (more at) (omega (arith, one_to, longer, inv.few));
-      spare = omega (arith, c.send.ensures.spare, inv.spare, longer);
-      room = omega (arith, c.send.ensures.room, inv.room, longer);
-      short = let grown = ap (λ r. length r.past) c.send.ensures.recording in omega (arith, grown, inv.short, longer);
+      spare = omega (arith, c.record_send.ensures.spare, inv.spare, longer);
+      room = omega (arith, c.record_send.ensures.room, inv.room, longer);
+      short = let grown = ap (λ r. length r.past) c.record_send.ensures.recording in omega (arith, grown, inv.short, longer);
     }
 
 pub loop-outgoing-preserved : goal.loop-outgoing-preserved
 loop-outgoing-preserved c = grind (arith, length-append, nat_tests, addressed_more, append-nil)
 
--- the loop goes over all of them
+-- the loop visits all of them
 all : (sends : Vec Outgoing Global) (s : IntoIter Outgoing Global) → into_iter_items s ≡ sends.items → into_iter_len s ≡ vec_len sends → YieldsList (into_iter_steps {X = Outgoing} {Z = Global}) (λ y. y) s sends.items
 all sends s items count = YieldsList-from_vec sends.items items (grind (arith, common_steps))
 
-from : (c : After-send-arg-then-from-n-1) → c.loop-outgoing.trace.recording.processes ≡ c.args.trace.now.recording.processes
+from : (c : After-record_send-arg-then-from-n-1) → c.loop-outgoing.trace.recording.processes ≡ c.args.trace.now.recording.processes
 from c = ap (λ r. r.processes) c.loop-outgoing.invariant.recording
 
--- not all have been sent
-left : (c : After-send-arg-then-from-n-1) → length c.loop-outgoing.yielded < length c.args.sends.items
+-- sends are left
+left : (c : After-record_send-arg-then-from-n-1) → length c.loop-outgoing.yielded < length c.args.sends.items
 left c = (YieldsList-turn (all c.args.sends c.into_iter-outgoing-iterator.result c.into_iter-outgoing-iterator.ensures.into_iter_gives.0 c.into_iter-outgoing-iterator.ensures.into_iter_gives.1) c.loop-outgoing.yielded c.loop-outgoing.outgoing-iterator c.loop-outgoing.yielded_by c.next.result c.next.new.self c.in-Some.outgoing c.in-Some.is c.next.ensures.steps).0
 
-pub send-requires-clause-from : goal.send-requires-clause-from
-send-requires-clause-from c = grind (arith, from)
+pub record_send-requires-clause-from : goal.record_send-requires-clause-from
+record_send-requires-clause-from c = grind (arith, from)
 
-pub send-requires-clause-to : goal.send-requires-clause-to
-send-requires-clause-to c = grind (arith, from)
+pub record_send-requires-clause-to : goal.record_send-requires-clause-to
+record_send-requires-clause-to c = grind (arith, from)
 
-pub send-requires-clause-spare : goal.send-requires-clause-spare
-send-requires-clause-spare c = grind (arith, left)
+pub record_send-requires-clause-spare : goal.record_send-requires-clause-spare
+record_send-requires-clause-spare c = grind (arith, left)
 
-pub send-requires-clause-room : goal.send-requires-clause-room
-send-requires-clause-room c = grind (arith, left)
+pub record_send-requires-clause-room : goal.record_send-requires-clause-room
+record_send-requires-clause-room c = grind (arith, left)
 
-pub send-requires-clause-short : goal.send-requires-clause-short
-send-requires-clause-short c = grind (arith, left)
+pub record_send-requires-clause-short : goal.record_send-requires-clause-short
+record_send-requires-clause-short c = grind (arith, left)
 
-pub send-requires-clause-ascending : goal.send-requires-clause-ascending
-send-requires-clause-ascending c = ap (λ b. is_ascending (dets_of b)) c.loop-outgoing.invariant.batch ∙ c.requires.ascending
+pub record_send-requires-clause-ascending : goal.record_send-requires-clause-ascending
+record_send-requires-clause-ascending c = ap (λ b. is_ascending (dets_of b)) c.loop-outgoing.invariant.batch ∙ c.requires.ascending
 
--- all have been sent
+-- no sends are left
 done : (c : goal.After-drop-outgoing-iterator) → c.loop-outgoing.yielded ≡ c.args.sends.items
 done c =
     sym (map-id c.loop-outgoing.yielded)
@@ -111,10 +111,10 @@ pub returns-clause-number : goal.returns-clause-number
 returns-clause-number c = c.loop-outgoing.invariant.number ∙ ap (λ xs. length (receivers c.args.trace.now.recording.processes xs)) (done c)
 
 pub returns-clause-recording : goal.returns-clause-recording
-returns-clause-recording c = c.loop-outgoing.invariant.recording ∙ ap (λ xs. with_sends c.args.trace.now.recording c.args.q xs (memory_of c.args.cell.now)) (done c)
+returns-clause-recording c = c.loop-outgoing.invariant.recording ∙ ap (λ xs. with_sends c.args.trace.now.recording c.args.q xs (memory_of c.args.process_memory.now)) (done c)
 
 pub returns-clause-memory : goal.returns-clause-memory
-returns-clause-memory c = c.loop-outgoing.invariant.memory ∙ ap (λ xs. keep_sends c.args.trace.now.recording c.args.cell.now.sent.batch xs (memory_of c.args.cell.now)) (done c)
+returns-clause-memory c = c.loop-outgoing.invariant.memory ∙ ap (λ xs. keep_sends c.args.trace.now.recording c.args.process_memory.now.sent.batch xs (memory_of c.args.process_memory.now)) (done c)
 
 pub returns-clause-bodies : goal.returns-clause-bodies
-returns-clause-bodies c = c.loop-outgoing.invariant.bodies ∙ ap (λ xs. bodies_of c.args.cell.now ++ sent_bodies c.args.trace.now.recording.processes xs) (done c)
+returns-clause-bodies c = c.loop-outgoing.invariant.bodies ∙ ap (λ xs. bodies_of c.args.process_memory.now ++ sent_bodies c.args.trace.now.recording.processes xs) (done c)

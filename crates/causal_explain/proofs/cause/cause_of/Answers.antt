@@ -2,7 +2,7 @@ use Rattle.std.proofs.Common.{arith, subst}
 use Rattle.causal_trace.specs.Past.{instant}
 use Rattle.causal_audit.specs.Verdicts.{IsVerdict}
 use Rattle.causal_explain.proofs.CauseLemmas.{excess_told, orphan_told}
-use Rattle.causal_explain.proofs.Told.{first_entries}
+use Rattle.causal_explain.proofs.FirstEntries.{first_entries}
 use Rattle.causal_explain.proofs.cause.cause_of.Goals as goal
 
 pub returns-in-Exceeded : goal.returns-in-Exceeded
@@ -13,5 +13,5 @@ returns-in-Orphan c f v =
     grind (
       arith,
       first_entries,
-      orphan_told c.args.trace.now.recording f c.in-Orphan.instant c.in-Orphan.delivery c.in-Orphan.crash c.in-Orphan.orphan c.entries-in-Orphan.ensures.formed.accepted c.sweep_law.ensures.newly c.sweep_law.ensures.receiver (subst (IsVerdict c.args.trace.now.recording f) c.in-Orphan.is v),
+      orphan_told c.args.trace.now.recording f c.in-Orphan.instant c.in-Orphan.delivery c.in-Orphan.crash c.in-Orphan.orphan c.entries-in-Orphan.ensures.formed.accepted c.new_orphans_law.ensures.newly c.new_orphans_law.ensures.receiver (subst (IsVerdict c.args.trace.now.recording f) c.in-Orphan.is v),
     )

@@ -7,11 +7,11 @@ use Rattle.causal_trace.proofs.Lemmas.EntryFacts.{accepted_forward}
 use Rattle.causal_trace.proofs.Lemmas.AtInstants.{accepted_then}
 use Rattle.causal_explain.specs.Chains.{ShortestChain}
 use Rattle.causal_explain.proofs.ChainLemmas.{all_least, chain_told}
-use Rattle.causal_explain.proofs.Told.{first_entries}
+use Rattle.causal_explain.proofs.FirstEntries.{first_entries}
 use Rattle.causal_explain.proofs.chain.shortest_chain.Goals as goal
 
-pub ways_from-requires-clause-forward : goal.ways_from-requires-clause-forward
-ways_from-requires-clause-forward c =
+pub shortest_paths-requires-clause-forward : goal.shortest_paths-requires-clause-forward
+shortest_paths-requires-clause-forward c =
     let r = c.args.trace.now.recording in
     let same = first_entries r c.entries.result.now c.args.end c.entries.ensures.value c.requires in
     subst AreForward (sym same) (accepted_forward r.processes (instant r.past c.args.end) (accepted_then r.processes r.past c.args.end c.entries.ensures.formed.accepted))
@@ -24,7 +24,7 @@ returns c =
     let read = reverse (take c.args.end c.entries.result.now) in
     let same : read ≡ instant r.past c.args.end = first_entries r c.entries.result.now c.args.end c.entries.ensures.value c.requires in
     let ways = c.in_ok-ways.ensures in
-    IfOk-weaker c.walked.result _ _
+    IfOk-weaker c.trace_back.result _ _
     (λ found walk. subst (λ past. ShortestChain past from p (option_map (λ chain. chain.items) found)) same
     (chain_told read from p _ _ ways.nearest (walk read from ways.each (all_least read from p _ ways.nearest))))
-    c.walked.ensures
+    c.trace_back.ensures

@@ -1,7 +1,7 @@
 use Rattle.std.proofs.Common.{◌≡◌, length, refl, subst, arith}
 use Rattle.causal_trace.specs.Past.{logs}
 use Rattle.causal_explain.specs.declared.explanation.Holding.{Holding}
-use Rattle.causal_explain.specs.Since.{AreHoldings, HoldsSince}
+use Rattle.causal_explain.specs.ProcessFacts.{AreHoldings, HoldsSince}
 use Rattle.causal_explain.proofs.EachLemmas.{tells_one, tells_skipped}
 use Rattle.causal_explain.proofs.SinceLemmas.{holds_now}
 use Rattle.causal_explain.proofs.holdings.holdings_in.Goals.{in-Some, in_default}
@@ -11,7 +11,7 @@ pub loop-p-preserved : goal.loop-p-preserved
 loop-p-preserved c =
     let p = c.loop-p.p in
     let was = c.loop-p.invariant in
-    elim c.match-since.branch [
+    elim c.match-holds_since.branch [
       | in-Some w ↦ rw w.holdings-is (record {
         told = λ past d stand.
             let standing = stand p c.loop-p-test.true in

@@ -5,7 +5,7 @@ use Rattle.std.proofs.lemmas.Iterator.{IsFirst-from_position, YieldsList-from_sl
 use Rattle.causal_holders.proofs.Words.{shown_empty, lowest}
 use Rattle.causal_holders.proofs.ByteSet.least.Goals as goal
 
--- where the search for a word that is not 0 ended
+-- the result of the search for a word that is not 0
 abbrev FirstUsed : List ℕ → Option ℕ → Type 0
 FirstUsed words r =
     MatchOption r (AllWithin (λ w. w ≡ 0) words 0 (length words)) (λ i. (i < length words) × HoldsAt (λ w. 0 < w) words i × AllWithin (λ w. w ≡ 0) words 0 i)

@@ -1,5 +1,5 @@
 use Rattle.std.proofs.Common.{◌∙◌}
-use Rattle.causal_holders.specs.Same.{have_same_members}
+use Rattle.causal_holders.specs.SameMembers.{have_same_members}
 use Rattle.causal_holders.proofs.Words.{same_words}
 use Rattle.causal_holders.proofs.ByteSetPartialEq.eq.Goals as goal
 

@@ -9,7 +9,7 @@ returns-in_err-number-clause-steps c =
     let nothing : ascending c.args.self.now ≡ [] = ap ascending (sym c.self.view_is ∙ h) ∙ ascending-empty in
     rw c.from_residual.ensures (nothing, nothing)
 
--- the least member goes out
+-- the least member is removed
 taken : (c : goal.After-remove) → ascending c.args.self.now ≡ c.in_ok-number.number ∷ ascending c.remove.new.self
 taken c =
     let h = c.in_ok-number.ensures in

@@ -1,5 +1,5 @@
 use Rattle.std.proofs.Common.{◌≡◌, true, subst}
-use Rattle.causal_holders.specs.Same.{have_same_members, have_same_members-itself, same_members_equal}
+use Rattle.causal_holders.specs.SameMembers.{have_same_members, have_same_members-itself, same_members_equal}
 use Rattle.causal_holders.proofs.laws.equality_law.Goals as goal
 
 pub returns : goal.returns

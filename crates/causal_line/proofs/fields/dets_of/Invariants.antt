@@ -1,7 +1,7 @@
 use Rattle.std.proofs.Common.{◌≡◌, drop}
 use Rattle.serde_json.specs.View.{items_view}
-use Rattle.causal_line.specs.Given.{with_front}
-use Rattle.causal_line.specs.Shapes.{dets_of}
+use Rattle.causal_line.specs.Returns.{with_front}
+use Rattle.causal_line.specs.ParsedLines.{dets_of}
 use Rattle.causal_line.proofs.fields.dets_of.Given as goal
 
 abbrev pub invariant-loop-value : goal.invariant-loop-value

@@ -1,6 +1,6 @@
 use Rattle.std.proofs.Common.{rules}
 use Rattle.std.proofs.lemmas.List.Sorted.{answers_always}
-use Rattle.causal_log.proofs.EntryLemmas.{moved_log, moved_ascend, still_distinct}
+use Rattle.causal_log.proofs.EntryLemmas.{moved_log, moved_ascend}
 use Rattle.causal_log.proofs.table.sort.Goals as goal
 
 pub returns-clause-same : goal.returns-clause-same
@@ -10,6 +10,3 @@ pub returns-clause-ascending : goal.returns-clause-ascending
 returns-clause-ascending c =
     moved_ascend c.args.entries.now.items c.sort_by_key.new.self.items c.sort_by_key.ensures.permutation c.requires
     (c.in_ok-sort_by_key.ensures.sorted (λ e. e.0) (answers_always _ _ _ (λ f a r q k. search rules)))
-
-pub returns-clause-distinct : goal.returns-clause-distinct
-returns-clause-distinct c = still_distinct c.args.entries.now.items c.sort_by_key.new.self.items c.sort_by_key.ensures.permutation c.requires

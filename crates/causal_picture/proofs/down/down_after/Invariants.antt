@@ -2,6 +2,6 @@ use Rattle.causal_trace.specs.State.{past_at}
 use Rattle.causal_picture.specs.Inside.Downs.{ShowsDown}
 use Rattle.causal_picture.proofs.down.down_after.Given as goal
 
--- who is down after the entries so far
+-- the down processes after the entries so far
 abbrev pub invariant-loop-entry : goal.invariant-loop-entry
 invariant-loop-entry l = ShowsDown (past_at l.entries l.entry-index) l.down

@@ -10,11 +10,11 @@ loop-position-preserved c =
     let past = c.args.trace.now.recording.past in
     elim c.match-mark_at.branch [
       | in-Some+in_ok-push w ↦
-          passed-some (mark_at past) c.loop-position.marks.items c.match-mark_at.marks.items (marks_of past c.args.stretch) w.in-Some.mark c.loop-position.position
+          passed-some (mark_at past) c.loop-position.marks.items c.match-mark_at.marks.items (marks_of past c.args.range) w.in-Some.mark c.loop-position.position
           c.end_of-end.result c.loop-position-test.true (sym c.mark_at.ensures ∙ w.in-Some.is) (ap (λ v. v.items) w.marks-is ∙ w.in_ok-push.ensures.items) c.loop-position.invariant
       | in_default w ↦
           rw w.marks-is
-          (passed-none (mark_at past) c.loop-position.marks.items (marks_of past c.args.stretch) c.loop-position.position c.end_of-end.result c.loop-position-test.true
+          (passed-none (mark_at past) c.loop-position.marks.items (marks_of past c.args.range) c.loop-position.position c.end_of-end.result c.loop-position-test.true
           (sym c.mark_at.ensures ∙ w.in_default.is) c.loop-position.invariant)
     ]
 
@@ -22,5 +22,5 @@ pub returns-clause-each : goal.returns-clause-each
 returns-clause-each c =
     grind (
       arith,
-      each_shown c.args.trace.now.recording.processes c.args.trace.now.recording.past c.args.stretch c.loop-position.marks.items c.end_of-end.ensures.formed.accepted c.requires (search rules),
+      each_shown c.args.trace.now.recording.processes c.args.trace.now.recording.past c.args.range c.loop-position.marks.items c.end_of-end.ensures.formed.accepted c.requires (search rules),
     )

@@ -4,7 +4,7 @@ use Rattle.std.specs.List.{range_with_len}
 use Rattle.causal_picture.specs.Pictures.{shaded_row, rows_text}
 use Rattle.causal_picture.proofs.picture.push_rows.Given as goal
 
--- what is written, and what the processes that are left add
+-- the text so far and that of the remaining processes make up the whole text
 abbrev pub invariant-loop-process : goal.invariant-loop-process
 invariant-loop-process l =
     string_bytes l.fn.out ++ rows_text l.trace.recording l.fn.grid l.fn.crash

@@ -4,7 +4,7 @@ use Rattle.std.specs.List.{range_with_len}
 use Rattle.causal_picture.specs.Roles.{process_text, processes_text}
 use Rattle.causal_picture.proofs.roles.push_processes.Given as goal
 
--- what is written, and what the processes that are left add
+-- the text so far and that of the remaining processes make up the whole text
 abbrev pub invariant-loop-process : goal.invariant-loop-process
 invariant-loop-process l =
     string_bytes l.fn.out ++ processes_text l.fn.grid l.fn.x l.focus.orphan

@@ -8,11 +8,11 @@ use Rattle.causal_script.specs.Inside.Place.{IsAfter}
 use Rattle.causal_script.proofs.parse.parse_script.Goals as goal
 use Rattle.causal_script.proofs.parse.parse_script.Goals.{In_ok-kind}
 
--- after the first line, which starts the script
+-- the text after the first line, which starts the script
 after_start : (c : In_ok-kind) → IsAfter c.args.bytes.now 1 c.in-Some.rest.now
 after_start c =
-    after_more c.args.bytes.now c.args.bytes.now c.in-Some.first.now c.in-Some.rest.now 0 1 c.big_line-big.result c.first_line.result c.in_ok-kind.field-0 refl (after_none c.args.bytes.now) c.in-Some.ensures.parts c.big_line-big.ensures
-    (sym c.in_ok-kind.ensures) (λ same. started c.in-Some.first.now c.in_ok-kind.field-0 (sym c.first_line.ensures ∙ same))
+    after_more c.args.bytes.now c.args.bytes.now c.in-Some.first.now c.in-Some.rest.now 0 1 c.first_line_past_limit-big.result c.parse_first_line.result c.in_ok-kind.field-0 refl (after_none c.args.bytes.now) c.in-Some.ensures.parts c.first_line_past_limit-big.ensures
+    (sym c.in_ok-kind.ensures) (λ same. started c.in-Some.first.now c.in_ok-kind.field-0 (sym c.parse_first_line.ensures ∙ same))
 
 pub returns-in_err-kind-clause-err : goal.returns-in_err-kind-clause-err
 returns-in_err-kind-clause-err c =
@@ -20,31 +20,31 @@ returns-in_err-kind-clause-err c =
     let text = c.args.bytes.now in
     let l = c.in-Some.first.now in
     let here = line_here 0 (lines text) l (lines c.in-Some.rest.now) c.in-Some.ensures.parts in
-    rw (p.1, p.2) (λ other. first_fault text l 0 c.big_line-big.result c.first_line.result c.in_err-kind.field-0.0 c.big_line-big.ensures (sound_none text) here.0
-    (λ none. not_started l (sym c.first_line.ensures ∙ none)) (sym c.in_err-kind.ensures))
+    rw (p.1, p.2) (λ other. first_fault text l 0 c.first_line_past_limit-big.result c.parse_first_line.result c.in_err-kind.field-0.0 c.first_line_past_limit-big.ensures (sound_none text) here.0
+    (λ none. not_started l (sym c.parse_first_line.ensures ∙ none)) (sym c.in_err-kind.ensures))
 
 pub returns-in_err-commands-clause-err : goal.returns-in_err-commands-clause-err
 returns-in_err-commands-clause-err c =
     let p = err_from_is_err_and c.from_residual-in_err-commands.result c.from_residual-in_err-commands.ensures.1 in
     let after = after_start (goal.at.returns-in_err-commands-clause-err c).In_ok-kind in
-    rw (p.1, p.2) (λ other. c.in_err-commands.ensures.err other c.args.bytes.now after c.big_line-big.ensures)
+    rw (p.1, p.2) (λ other. c.in_err-commands.ensures.err other c.args.bytes.now after c.first_line_past_limit-big.ensures)
 
 pub returns-in_err-commands-clause-memory : goal.returns-in_err-commands-clause-memory
 returns-in_err-commands-clause-memory c =
     let p = err_from_is_err_and c.from_residual-in_err-commands.result c.from_residual-in_err-commands.ensures.1 in
     let after = after_start (goal.at.returns-in_err-commands-clause-memory c).In_ok-kind in
-    rw (p.1, p.2) (λ memory. c.in_err-commands.ensures.memory memory c.args.bytes.now after c.big_line-big.ensures)
+    rw (p.1, p.2) (λ memory. c.in_err-commands.ensures.memory memory c.args.bytes.now after c.first_line_past_limit-big.ensures)
 
 pub returns-clause-ok : goal.returns-clause-ok
 returns-clause-ok c =
     let text = c.args.bytes.now in
     let l = c.in-Some.first.now in
     let start = c.in_ok-kind.field-0 in
-    let ok = judged_ok c.big_line-big.result 1 c.first_line.result start (sym c.in_ok-kind.ensures) in
-    let says = says_start l start (sym c.first_line.ensures ∙ ok.1) in
+    let ok = judged_ok c.first_line_past_limit-big.result 1 c.parse_first_line.result start (sym c.in_ok-kind.ensures) in
+    let says = says_start l start (sym c.parse_first_line.ensures ∙ ok.1) in
     let after = after_start (goal.at.returns-clause-ok c).In_ok-kind in
-    let r = c.in_ok-commands.ensures.reaches text after c.big_line-big.ensures in
+    let r = c.in_ok-commands.ensures.reaches text after c.first_line_past_limit-big.ensures in
     rw c.new.ensures (spelled text l c.in-Some.rest.now start c.in_ok-commands.commands.items r.0 c.in-Some.ensures.parts says.0 says.1 c.in_ok-commands.ensures.ok r.1)
 
-pub returns-clause-plan : goal.returns-clause-plan
-returns-clause-plan c = (returns-clause-ok c).plan
+pub returns-clause-content : goal.returns-clause-content
+returns-clause-content c = (returns-clause-ok c).content

@@ -5,7 +5,7 @@ use Rattle.causal_shared.specs.declared.fault.FinishFault.{FinishFault}
 use Rattle.causal_shared.specs.declared.fault.FinishFault.TheVariants.{Missing, Mismatch, Opening}
 use Rattle.causal_shared.proofs.shared.finish_fault.Goals as goal
 
--- what is told is one thing
+-- two different errors are not equal
 mismatch_missing : (n : ℕ) → ◌≡◌ {A = Option FinishFault} (Some (Mismatch n)) (Some Missing) → ⊥
 mismatch_missing n e = cc
 
@@ -22,7 +22,7 @@ pub returns-clause-settled : goal.returns-clause-settled
 returns-clause-settled g c = record {
   complete = c.is_complete.ensures.0 c.if-not-is_complete.false;
   agree = rw c.history.ensures at c.in_default.ensures.none;
-  seated = rw c.history-2.ensures at (c.all_seated.ensures.0 c.if-not-all_seated.false);
+  seated = rw c.history-2.ensures at (c.all_have_seats.ensures.0 c.if-not-all_have_seats.false);
   begins = rw (c.core.ensures, c.history-3.ensures) at (c.is_opening.ensures.0 c.if-not-is_opening.false);
 }
 
@@ -38,8 +38,8 @@ returns-then-not-is_complete-clause-opened g c = grind (arith, opening_missing)
 pub returns-in-Some-clause-missing : goal.returns-in-Some-clause-missing
 returns-in-Some-clause-missing g c = grind (arith, mismatch_missing)
 
-pub returns-then-not-all_seated-clause-missing : goal.returns-then-not-all_seated-clause-missing
-returns-then-not-all_seated-clause-missing g c = grind (arith, mismatch_missing)
+pub returns-then-not-all_have_seats-clause-missing : goal.returns-then-not-all_have_seats-clause-missing
+returns-then-not-all_have_seats-clause-missing g c = grind (arith, mismatch_missing)
 
 pub returns-then-not-is_opening-clause-missing : goal.returns-then-not-is_opening-clause-missing
 returns-then-not-is_opening-clause-missing g c = grind (arith, opening_missing)
@@ -50,8 +50,8 @@ returns-clause-missing g c = grind (arith, none_is)
 pub returns-in-Some-clause-opened : goal.returns-in-Some-clause-opened
 returns-in-Some-clause-opened g c = grind (arith, mismatch_opening)
 
-pub returns-then-not-all_seated-clause-opened : goal.returns-then-not-all_seated-clause-opened
-returns-then-not-all_seated-clause-opened g c = grind (arith, mismatch_opening)
+pub returns-then-not-all_have_seats-clause-opened : goal.returns-then-not-all_have_seats-clause-opened
+returns-then-not-all_have_seats-clause-opened g c = grind (arith, mismatch_opening)
 
 pub returns-clause-opened : goal.returns-clause-opened
 returns-clause-opened g c = grind (arith, none_is)

@@ -8,7 +8,7 @@ use Rattle.causal_trace.proofs.chains.reserve_each.Goals.{After-reserve}
 inside : (c : After-reserve) → c.loop-list.list-index < length c.loop-list.lists
 inside c = omega (arith, c.loop-list-test.true, c.loop-list.auto.lists)
 
--- the list keeps its items, and has as much room
+-- the list keeps its items and has the capacity
 same : (c : After-reserve) → c.reserve.new.self.items ≡ (get_or c.loop-list.lists c.loop-list.list-index c.list-item.result).items
 same c = c.reserve.ensures.items
 

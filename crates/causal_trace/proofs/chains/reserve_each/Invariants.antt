@@ -3,7 +3,7 @@ use Rattle.causal_trace.specs.Inside.Chains.{least_room}
 use Rattle.causal_trace.proofs.Rooms.{room}
 use Rattle.causal_trace.proofs.chains.reserve_each.Given as goal
 
--- the lists so far have room, and none has less than it had
+-- the lists so far have the capacity, and none has less than before
 abbrev pub invariant-loop-list : goal.invariant-loop-list
 invariant-loop-list l = record {
   items : map (λ list. list.items) l.lists ≡ map (λ list. list.items) l.fn.lists;

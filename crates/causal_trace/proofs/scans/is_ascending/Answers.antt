@@ -5,7 +5,7 @@ use Rattle.causal_name.specs.Names.{is_before, is_ascending}
 use Rattle.causal_trace.proofs.AscendingLists.{ascending_more, ascending_last}
 use Rattle.causal_trace.proofs.scans.is_ascending.Goals as goal
 
--- the step, at the place that the counter has passed
+-- the step, at the index before the counter
 step : (ds : List Det) (i : ℕ) (d : Det) → 1 ≤ i → i < length ds → is_ascending (drop (i - 1) ds) ≡ (is_before (get_or ds (i - 1) d) (get_or ds i d) && is_ascending (drop i ds))
 step ds i d low high = grind (arith, ascending_more)
 

@@ -5,4 +5,4 @@ use Rattle.causal_workers.proofs.line.set_text.Goals as goal
 
 pub returns : goal.returns
 unfolding set_text
-returns c = grind (arith, IfOk-weaker c.joined.result)
+returns c = grind (arith, IfOk-weaker c.join_numbers.result)

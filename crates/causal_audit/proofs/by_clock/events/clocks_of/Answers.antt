@@ -1,11 +1,11 @@
-use Rattle.causal_audit.proofs.Common.{◌≡◌, ◌+◌, ◌∷◌, ◌++◌, length, take, drop, arith, subst, length-reverse, instant, AreAccepted, accepted_then}
+use Rattle.causal_audit.proofs.Common.{◌≡◌, ◌+◌, ◌∷◌, ◌++◌, length, take, drop, arith, subst, length-reverse, instant, AreLegalEntries, accepted_then}
 use Rattle.std.proofs.lemmas.Grind.{common_steps}
-use Rattle.causal_audit.specs.Inside.ByClock.Stands.{Mirrors}
+use Rattle.causal_audit.specs.Inside.ByClock.ClockOfRun.{IsClockWithLanes}
 use Rattle.causal_audit.proofs.Steps.{next_state}
 use Rattle.causal_audit.proofs.by_clock.events.clocks_of.Goals as goal
 
-pub note-requires : goal.note-requires
-note-requires c = let r = c.args.trace.now.recording in
+pub add_event-requires : goal.add_event-requires
+add_event-requires c = let r = c.args.trace.now.recording in
     let items = c.entries-entry-items.result.now in
     let i = c.loop-entry.entry-index in
     let next : instant r.past (i + 1) ≡ c.entry-item.result ∷ instant r.past i = grind (arith, next_state, length-reverse) in
@@ -15,7 +15,7 @@ note-requires c = let r = c.args.trace.now.recording in
       past = instant r.past i;
       few = formed.count.1;
       some = formed.count.0;
-      accepted = subst (AreAccepted r.processes) next (accepted_then r.processes r.past (i + 1) formed.accepted);
+      accepted = subst (AreLegalEntries r.processes) next (accepted_then r.processes r.past (i + 1) formed.accepted);
       mirrors = rw c.as_mut_slice.ensures.value c.loop-entry.invariant.mirrors;
     }
 
@@ -26,9 +26,9 @@ loop-entry-preserved c = let r = c.args.trace.now.recording in
     let i = c.loop-entry.entry-index in
     let next : instant r.past (i + 1) ≡ c.entry-item.result ∷ instant r.past i = grind (arith, next_state, length-reverse) in
     let formed = c.processes-n.ensures.formed in
-    let accepted : AreAccepted n (c.entry-item.result ∷ instant r.past i) = subst (AreAccepted n) next (accepted_then n r.past (i + 1) formed.accepted) in
-    let noted : Mirrors n (c.entry-item.result ∷ instant r.past i) c.note.new.clocks c.note.new.present = grind arith in
-    let same : take c.loop-entry.present.len (c.note.new.present ++ drop (length c.note.new.present) c.loop-entry.present.items) ≡ c.note.new.present = grind (arith, common_steps) in
+    let accepted : AreLegalEntries n (c.entry-item.result ∷ instant r.past i) = subst (AreLegalEntries n) next (accepted_then n r.past (i + 1) formed.accepted) in
+    let noted : IsClockWithLanes n (c.entry-item.result ∷ instant r.past i) c.add_event.new.clocks c.add_event.new.present = grind arith in
+    let same : take c.loop-entry.present.len (c.add_event.new.present ++ drop (length c.add_event.new.present) c.loop-entry.present.items) ≡ c.add_event.new.present = grind (arith, common_steps) in
     record {
       items = c.loop-entry.invariant.items;
       mirrors = rw (next, same) noted;

@@ -1,5 +1,5 @@
 use Rattle.causal_audit.proofs.Common.{◌+◌, ◌<◌, length, Contains, Some, None, refl, sym, subst, arith, instant, is_down, det_within, HasOrphan, instant_length}
-use Rattle.causal_audit.specs.Inside.DeliveryStates.{Shows}
+use Rattle.causal_audit.specs.Inside.DeliveryStates.{HasExactly}
 use Rattle.causal_audit.proofs.Between.{none_agrees, state_agrees}
 use Rattle.causal_audit.proofs.by_clock.Begun.{unheard_before}
 use Rattle.causal_audit.proofs.by_clock.ReachedEntries.{breach_after, seen_after, unchanged}
@@ -15,8 +15,8 @@ pub loop-t-init : goal.loop-t-init
 loop-t-init c =
     let past = c.args.trace.now.recording.past in
     record {
-      ahead = c.at-ahead.ensures;
-      state = c.begin-state.ensures (instant past 0) c.args.k c.args.det (subst (λ s. Shows s (λ p. is_down (instant past 0) p)) (sym c.none.ensures) (nobody_down past))
+      ahead = c.new-ahead.ensures;
+      state = c.begin-state.ensures (instant past 0) c.args.k c.args.det (subst (λ s. HasExactly s (λ p. is_down (instant past 0) p)) (sym c.none.ensures) (nobody_down past))
           (unheard_before past c.args.k c.args.det 0 (λ v e above below there. absurd (omega (arith, below))) (omega arith) (omega arith));
       before = λ u h. not_yet c.args.trace.now.recording.processes c.args.f (instant past u) c.args.k (omega (arith, h, instant_length past u (omega (arith, h))));
     }
@@ -45,8 +45,8 @@ returns-in-Some c =
     let below : t < length r.past = omega (arith, c.loop-t-test.true, c.requires.within) in
     let seen =
     seen_after r formed c.entries-entries.result.now c.entries-entries.ensures.value c.args.clocks.now.events c.requires.stands c.args.k c.args.det c.requires.delivery c.args.mentions.now c.requires.mentioned c.requires.only t c.index-entries-t.result c.index-entries-t.is below c.next.result c.next.ensures.bounds.0 (c.next.ensures.none c.args.mentions.now i.ahead) (λ here. subst (Contains c.args.mentions.now) here (c.next.ensures.found c.args.mentions.now i.ahead (omega (arith, here, c.loop-t-test.true)))) c.precedes-reached.result (c.precedes-reached.ensures.0, c.precedes-reached.ensures.1)
-    c.loop-t.state c.see.new.self i.state c.see.ensures in
-    let it = breach_after r formed c.args.f c.args.k c.args.det c.requires.delivery (t + 1) (omega (arith, below)) c.see.new.self (Some c.in-Some.found) seen c.in-Some.ensures in
+    c.loop-t.state c.apply_entry.new.self i.state c.apply_entry.ensures in
+    let it = breach_after r formed c.args.f c.args.k c.args.det c.requires.delivery (t + 1) (omega (arith, below)) c.apply_entry.new.self (Some c.in-Some.found) seen c.in-Some.ensures in
     (omega (arith, it.0, c.loop-t-test.true), first_breach_is r c.args.f c.args.k t c.in-Some.found below i.before it.0 it.1 it.2)
 
 pub loop-t-preserved : goal.loop-t-preserved
@@ -58,10 +58,10 @@ loop-t-preserved c =
     let below : t < length r.past = omega (arith, c.loop-t-test.true, c.requires.within) in
     let seen =
     seen_after r formed c.entries-entries.result.now c.entries-entries.ensures.value c.args.clocks.now.events c.requires.stands c.args.k c.args.det c.requires.delivery c.args.mentions.now c.requires.mentioned c.requires.only t c.index-entries-t.result c.index-entries-t.is below c.next.result c.next.ensures.bounds.0 (c.next.ensures.none c.args.mentions.now i.ahead) (λ here. subst (Contains c.args.mentions.now) here (c.next.ensures.found c.args.mentions.now i.ahead (omega (arith, here, c.loop-t-test.true)))) c.precedes-reached.result (c.precedes-reached.ensures.0, c.precedes-reached.ensures.1)
-    c.loop-t.state c.see.new.self i.state c.see.ensures in
+    c.loop-t.state c.apply_entry.new.self i.state c.apply_entry.ensures in
     record {
       ahead = cursor_later c.args.mentions.now t (t + 1) c.next.new.self (omega arith) (c.next.ensures.cursor c.args.mentions.now i.ahead);
       state = seen;
       before = up_to_next (λ u. HasOrphan r.processes c.args.f (instant r.past u) c.args.k → ⊥) t i.before
-          (breach_after r formed c.args.f c.args.k c.args.det c.requires.delivery (t + 1) (omega (arith, below)) c.see.new.self None seen c.in_default.ensures);
+          (breach_after r formed c.args.f c.args.k c.args.det c.requires.delivery (t + 1) (omega (arith, below)) c.apply_entry.new.self None seen c.in_default.ensures);
     }

@@ -1,5 +1,5 @@
 use Rattle.causal_audit.proofs.Common.{ℕ, ◌≤◌, instant, HasOrphan}
-use Rattle.causal_audit.specs.Inside.ByClock.Changes.{IsCursor}
+use Rattle.causal_audit.specs.Inside.PositionLists.{IsCursor}
 use Rattle.causal_audit.specs.Inside.DeliveryStates.{IsDeliveryState}
 use Rattle.causal_audit.proofs.by_clock.orphans.first_orphan.Given as goal
 

@@ -1,5 +1,5 @@
 use Rattle.causal_audit.proofs.Common.{◌-◌, ◌<◌, length, subst, sym, arith}
-use Rattle.causal_audit.specs.Inside.Group.Walk.{IsPut}
+use Rattle.causal_audit.specs.Inside.Group.Walk.{IsPlaceAdded}
 use Rattle.causal_audit.proofs.group.GroupWalk.{put_in}
 use Rattle.causal_audit.proofs.group.reach.put.Goals as goal
 
@@ -9,4 +9,4 @@ returns-clause-put c =
     let start = c.args.start in
     let r = c.args.position in
     let inside : r - start < length rows = omega (arith, c.if-i-len.false, c.len.ensures) in
-    subst (λ new. IsPut start c.args.place r rows new) (sym c.in_ok-put.ensures) (put_in rows start c.args.place (r - start) r (omega (arith, c.if-position-start.false)) inside)
+    subst (λ new. IsPlaceAdded start c.args.place r rows new) (sym c.in_ok-put.ensures) (put_in rows start c.args.place (r - start) r (omega (arith, c.if-position-start.false)) inside)

@@ -1,4 +1,4 @@
-use Rattle.causal_holders.specs.Same.{same_members_equal}
+use Rattle.causal_holders.specs.SameMembers.{same_members_equal}
 use Rattle.causal_audit.proofs.Common.{◌∙◌, sym, empty}
 use Rattle.causal_audit.proofs.group.rows.is_at.Goals as goal
 

@@ -1,10 +1,10 @@
 use Rattle.causal_audit.proofs.Common.{take}
 use Rattle.std.specs.List.{flat_map}
 use Rattle.causal_trace.specs.Numbers.{delivered_dets}
-use Rattle.causal_audit.specs.Quiet.{mentioned_by}
-use Rattle.causal_audit.specs.Inside.Index.Filed.{AreNumbersOf}
+use Rattle.causal_audit.specs.Quiet.{mentioned_dets}
+use Rattle.causal_audit.specs.Inside.Index.Lists.{AreNumbersOf}
 use Rattle.causal_audit.proofs.index.mentions.numbers_of.Given as goal
 
--- those of the entries so far
+-- the numbers of the entries so far
 abbrev pub invariant-loop-entry : goal.invariant-loop-entry
-invariant-loop-entry l = AreNumbersOf l.among (delivered_dets l.trace.recording.past) (flat_map mentioned_by (take l.entry-index l.entries)) l.numbers.items
+invariant-loop-entry l = AreNumbersOf l.among (delivered_dets l.trace.recording.past) (flat_map mentioned_dets (take l.entry-index l.entries)) l.numbers.items

@@ -1,6 +1,6 @@
 use Rattle.std.proofs.Common.{arith}
 use Rattle.std.proofs.lemmas.Grind.{common_steps}
-use Rattle.causal_protocol.proofs.Lemmas.KeptByType.{step_carried}
+use Rattle.causal_protocol.proofs.Lemmas.KeptByType.{step_preserves}
 use Rattle.causal_core.proofs.UpAfterStep.{memories_count}
 use Rattle.causal_core.proofs.RestartMemory.{crash_alone}
 use Rattle.causal_core.proofs.RunAfterStep.{crash_refused, crash_below, crash_filled, crash_stable}
@@ -12,8 +12,8 @@ invariant_of-self g c = grind (arith, crash_refused)
 pub returns-in-Err-clause-refused : goal.returns-in-Err-clause-refused
 returns-in-Err-clause-refused g c = grind (arith, crash_refused)
 
-pub empty_at-requires : goal.empty_at-requires
-empty_at-requires g c = grind (arith, crash_below, memories_count, common_steps)
+pub drop_box-requires : goal.drop_box-requires
+drop_box-requires g c = grind (arith, crash_below, memories_count, common_steps)
 
 pub invariant_of-self-2 : goal.invariant_of-self-2
-invariant_of-self-2 g c = grind (arith, crash_filled, crash_stable, crash_alone, step_carried)
+invariant_of-self-2 g c = grind (arith, crash_filled, crash_stable, crash_alone, step_preserves)

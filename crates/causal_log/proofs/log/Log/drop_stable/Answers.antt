@@ -11,7 +11,7 @@ use Rattle.causal_log.proofs.log.Log.drop_stable.Goals as goal
 pub invariant_of-self : goal.invariant_of-self
 invariant_of-self c = grind (arith, own_entries, filter_ascends)
 
--- the entries left are those of the map without what is marked
+-- the entries left are those of the map without the marked ones
 pub returns-clause-left : goal.returns-clause-left
 returns-clause-left c = grind (arith, same_kept c.self.inside.entries.entries c.drop_stable.ensures.distinct (λ known. not known.stable))
 

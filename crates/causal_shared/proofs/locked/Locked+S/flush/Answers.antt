@@ -3,8 +3,8 @@ use Rattle.causal_shared.proofs.Histories.{count_below}
 use Rattle.causal_shared.proofs.Answered.{if_err_answered, is_recorded, tells_flush}
 use Rattle.causal_shared.proofs.locked.Locked+S.flush.Goals as goal
 
-pub note-requires-clause-call : goal.note-requires-clause-call
-note-requires-clause-call g c = grind (arith, count_below)
+pub append_item-requires-clause-call : goal.append_item-requires-clause-call
+append_item-requires-clause-call g c = grind (arith, count_below)
 
 pub returns-clause-item : goal.returns-clause-item
 returns-clause-item g c = grind (arith, is_recorded, tells_flush)

@@ -5,5 +5,5 @@ use Rattle.causal_shared.proofs.shared.Shared+S.deliver.Goals as goal
 pub returns-clause-item : goal.returns-clause-item
 returns-clause-item g c = grind (arith, seat_called)
 
-pub returns-clause-stranger : goal.returns-clause-stranger
-returns-clause-stranger g c = λ other. c.deliver_under.ensures.wrong.1 (λ seated. other seated.0)
+pub returns-clause-foreign_seat : goal.returns-clause-foreign_seat
+returns-clause-foreign_seat g c = λ other. c.deliver_locked.ensures.wrong.1 (λ seated. other seated.0)

@@ -6,7 +6,7 @@ use Rattle.causal_text.proofs.stream.TraceReader.read_piece.Goals as goal
 
 pub returns-after-n-eq0-clause-ok : goal.returns-after-n-eq0-clause-ok
 returns-after-n-eq0-clause-ok g c =
-    let ok : (b : List ℕ) → HasRead (state.Reading c.args.pieces) b → HasRead c.in-Ok-advance.state (b ++ take c.in-Ok.n c.read.new.buf) = c.in-Ok-advance.ensures.ok in
+    let ok : (b : List ℕ) → HasRead (state.Reading c.args.pieces) b → HasRead c.in-Ok-push_piece.state (b ++ take c.in-Ok.n c.read.new.buf) = c.in-Ok-push_piece.ensures.ok in
     rw (← c.self.view_is) (search (rules, ok))
 
 pub returns-in-Err-clause-text : goal.returns-in-Err-clause-text

@@ -10,7 +10,7 @@ use Rattle.causal_trace.proofs.chains.Chains.add_message.Goals.{After-index_mut-
 inside : (c : After-index_mut-heads) → c.args.message.source.0 < length c.self.inside.heads.items
 inside c = omega (arith, c.requires, ap (λ s. length s.heads) c.self.view_is, length-map c.self.inside.heads.items (λ list. list.items))
 
--- the list's room, by its place
+-- the spare capacity of the list, by its index
 here : (c : After-index_mut-heads) → room c.index_mut-heads.result.now ≡ room (get_or c.self.inside.heads.items c.args.message.source.0 c.index_mut-heads.result.now)
 here c = ap room c.index_mut-heads.ensures.value
 

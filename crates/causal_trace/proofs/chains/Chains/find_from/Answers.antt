@@ -3,27 +3,27 @@ use Rattle.std.specs.Prelude.{nat_lt, ◌&&◌}
 use Rattle.std.specs.Option.{option_map_or}
 use Rattle.std.proofs.lemmas.List.{reverse-reverse, length-reverse}
 use Rattle.std.proofs.lemmas.Bool.{cond-true, cond-false}
-use Rattle.causal_trace.specs.Inside.Chains.{IsBelow, is_of, place_of}
+use Rattle.causal_trace.specs.Inside.Chains.{IsPlaceBelow, is_of, place_of}
 use Rattle.causal_trace.proofs.ReceiptChains.{leads_on, below_higher, walk_falls}
 use Rattle.causal_trace.proofs.DeliveryPlaces.{place_on, place_none}
 use Rattle.causal_trace.proofs.chains.Chains.find_from.Goals as goal
 use Rattle.causal_trace.proofs.chains.Chains.find_from.Goals.{In-Some, After-index-node}
 
 there : (c : In-Some) → c.in-Some.k < length c.args.self.now.nodes
-there c = subst (λ at. IsBelow at (length c.args.self.now.nodes)) c.in-Some.is c.loop-place.invariant.inside
+there c = subst (λ at. IsPlaceBelow at (length c.args.self.now.nodes)) c.in-Some.is c.loop-place.invariant.inside
 
 pub index-node-requires : goal.index-node-requires
 index-node-requires c = grind (arith, there, length-reverse)
 
--- the node that was read is that of the place
+-- the node that was read is the node at the index
 node_is : (c : After-index-node) → get_or (reverse c.args.self.now.nodes) c.in-Some.k c.index-node.result.now ≡ c.index-node.result.now
 node_is c = grind (arith, reverse-reverse c.self.inside.nodes.items)
 
--- it leads to a place below its own
-down : (c : After-index-node) → c.in-Some.k < length c.args.self.now.nodes → IsBelow c.index-node.result.now.next c.in-Some.k
-down c low = subst (λ n. IsBelow n.next c.in-Some.k) (node_is c) (leads_on c.args.self.now.nodes c.in-Some.k c.index-node.result.now c.requires.linked.nodes_lead low).down
+-- it links to a lower index
+down : (c : After-index-node) → c.in-Some.k < length c.args.self.now.nodes → IsPlaceBelow c.index-node.result.now.next c.in-Some.k
+down c low = subst (λ n. IsPlaceBelow n.next c.in-Some.k) (node_is c) (leads_on c.args.self.now.nodes c.in-Some.k c.index-node.result.now c.requires.linked.nodes_lead low).down
 
--- the answer is its place, or that of the rest
+-- the result is its index, or that of the rest of the chain
 rest : (c : After-index-node) → c.in-Some.k < length c.args.self.now.nodes → place_of c.args.among c.args.det c.args.self.now.nodes c.args.begin ≡ cond (nat_lt c.in-Some.k c.args.among && is_of c.args.det c.index-node.result.now.receipt) (Some c.in-Some.k) (place_of c.args.among c.args.det c.args.self.now.nodes c.index-node.result.now.next)
 rest c low =
     grind (

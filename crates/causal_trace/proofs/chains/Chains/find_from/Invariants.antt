@@ -1,15 +1,15 @@
 use Rattle.std.proofs.Common.{◌≡◌, ◌+◌, length}
 use Rattle.std.specs.Option.{option_map_or}
-use Rattle.causal_trace.specs.Inside.Chains.{IsBelow, place_of}
+use Rattle.causal_trace.specs.Inside.Chains.{IsPlaceBelow, place_of}
 use Rattle.causal_trace.proofs.chains.Chains.find_from.Given as goal
 
--- what is sought is in the rest of the chain, if anywhere
+-- the searched receipt is in the rest of the chain, if anywhere
 abbrev pub invariant-loop-place : goal.invariant-loop-place
 invariant-loop-place l = record {
-  inside : IsBelow l.place (length l.self.nodes);
+  inside : IsPlaceBelow l.place (length l.self.nodes);
   rest : place_of l.among l.det l.self.nodes l.fn.begin ≡ place_of l.among l.det l.self.nodes l.place;
 }
 
--- each node leads to an older one
+-- each node links to an older one
 abbrev pub decreases-loop-place : goal.decreases-loop-place
 decreases-loop-place l = option_map_or (λ k. k + 1) l.place 0

@@ -4,7 +4,7 @@ use Rattle.std.proofs.lemmas.List.{take_at, reverse-append}
 use Rattle.causal_trace.specs.Past.{listed_by, message_sent, det_of, lane}
 use Rattle.causal_trace.specs.Rows.{first_fault}
 use Rattle.causal_trace.specs.State.{past_at, with_entry}
-use Rattle.causal_trace.specs.Bounded.{IsBounded}
+use Rattle.causal_trace.specs.Bounds.{IsBounded}
 use Rattle.causal_trace.specs.Inside.Index.{lanes_after, subject}
 use Rattle.causal_trace.specs.Inside.Chains.{heads_after, nodes_after}
 use Rattle.causal_trace.proofs.Lemmas.WellFormed.{kept_push}
@@ -14,7 +14,7 @@ use Rattle.causal_trace.proofs.TraceIndex.{det_there, own_named, sender_there, i
 use Rattle.causal_trace.proofs.trace.Trace.append.Goals as goal
 use Rattle.causal_trace.proofs.trace.Trace.append.Goals.{After-det_of_next-own}
 
--- the entry's determinant, by the entries of the value
+-- the entry's determinant, from the entries of the value
 own_is : (c : After-det_of_next-own) → c.det_of_next-own.result ≡ det_of (reverse c.self.inside.entries.items) c.args.entry
 own_is c = c.det_of_next-own.ensures ∙ ap (λ es. det_of (past_at es (length es)) c.args.entry) c.as_slice.ensures.value ∙ ap (λ past. det_of past c.args.entry) (past_whole c.self.inside.entries.items)
 
@@ -27,11 +27,11 @@ kept c = kept_push _ c.args.entry _ c.self.invariant.kept (next c)
 pub receipt_lane-lane-requires : goal.receipt_lane-lane-requires
 receipt_lane-lane-requires c = grind (arith, common_steps, own_is, det_there)
 
-pub note_lane-requires-clause-there : goal.note_lane-requires-clause-there
-note_lane-requires-clause-there c = grind (arith, subject_there, next)
+pub count_entry-requires-clause-there : goal.count_entry-requires-clause-there
+count_entry-requires-clause-there c = grind (arith, subject_there, next)
 
-pub note_lane-requires-clause-room : goal.note_lane-requires-clause-room
-note_lane-requires-clause-room c = grind (arith, kept, lanes_have_room)
+pub count_entry-requires-clause-room : goal.count_entry-requires-clause-room
+count_entry-requires-clause-room c = grind (arith, kept, lanes_have_room)
 
 at_most_one : (b : Bool) → cond b 1 0 ≤ 1
 at_most_one true = omega arith
@@ -46,26 +46,26 @@ overflow_cast-self c = grind (arith, kept)
 pub overflow_add-self-2 : goal.overflow_add-self-2
 overflow_add-self-2 c = grind (arith, kept)
 
-pub note-requires-clause-sent : goal.note-requires-clause-sent
-note-requires-clause-sent c = grind (arith, sender_there, next)
+pub add_to_chains-requires-clause-sent : goal.add_to_chains-requires-clause-sent
+add_to_chains-requires-clause-sent c = grind (arith, sender_there, next)
 
-pub note-requires-clause-delivered : goal.note-requires-clause-delivered
-note-requires-clause-delivered c = grind (arith, own_is ((goal.at.note-requires-clause-delivered c).After-det_of_next-own), own_named)
+pub add_to_chains-requires-clause-delivered : goal.add_to_chains-requires-clause-delivered
+add_to_chains-requires-clause-delivered c = grind (arith, own_is ((goal.at.add_to_chains-requires-clause-delivered c).After-det_of_next-own), own_named)
 
-pub note-requires-clause-few : goal.note-requires-clause-few
-note-requires-clause-few c = grind (arith, kept, deliveries_in_few)
+pub add_to_chains-requires-clause-few : goal.add_to_chains-requires-clause-few
+add_to_chains-requires-clause-few c = grind (arith, kept, deliveries_in_few)
 
 pub invariant_of-self-2 : goal.invariant_of-self-2
 invariant_of-self-2 c =
     let d : After-det_of_next-own = (goal.at.invariant_of-self-2 c).After-det_of_next-own in
-    let long : length c.note_lane.new.lanes ≡ c.self.inside.lanes.len = ap length c.note_lane.ensures ∙ lanes_length (subject c.args.entry) c.args.entry _ ∙ ap length c.as_mut_slice.ensures.value ∙ sym c.self.inside.lanes.ok.0 in
-    let lanes : take c.self.inside.lanes.len (c.note_lane.new.lanes ++ drop (length c.note_lane.new.lanes) c.self.inside.lanes.items) ≡ lanes_after c.args.entry c.self.inside.lanes.items =
-    take_at c.note_lane.new.lanes _ c.self.inside.lanes.len long ∙ c.note_lane.ensures ∙ ap (lanes_after c.args.entry) c.as_mut_slice.ensures.value in
-    rw (c.push_reserved.ensures.items, c.reserve.ensures.items, c.listed.ensures, c.restarts_in.ensures, lanes, reverse-append)
-    (indexed_push _ c.args.entry _ _ c.receipt_lane-lane.result _ c.self.inside.chains c.note.new.chains c.self.invariant (next d)
+    let long : length c.count_entry.new.lanes ≡ c.self.inside.lanes.len = ap length c.count_entry.ensures ∙ lanes_length (subject c.args.entry) c.args.entry _ ∙ ap length c.as_mut_slice.ensures.value ∙ sym c.self.inside.lanes.ok.0 in
+    let lanes : take c.self.inside.lanes.len (c.count_entry.new.lanes ++ drop (length c.count_entry.new.lanes) c.self.inside.lanes.items) ≡ lanes_after c.args.entry c.self.inside.lanes.items =
+    take_at c.count_entry.new.lanes _ c.self.inside.lanes.len long ∙ c.count_entry.ensures ∙ ap (lanes_after c.args.entry) c.as_mut_slice.ensures.value in
+    rw (c.push_reserved.ensures.items, c.reserve.ensures.items, c.listed_count.ensures, c.restarts_in.ensures, lanes, reverse-append)
+    (indexed_push _ c.args.entry _ _ c.receipt_lane-lane.result _ c.self.inside.chains c.add_to_chains.new.chains c.self.invariant (next d)
     (λ e h. c.receipt_lane-lane.ensures e (own_is d ∙ h) ∙ ap (λ s. lane s.recording.past e.dest.0) (sym c.self.view_is))
-    (c.in_ok-note.ensures.heads ∙ ap (λ o. heads_after (message_sent c.args.entry) o c.self.inside.chains) (own_is d))
-    (c.in_ok-note.ensures.nodes ∙ ap (λ o. nodes_after (message_sent c.args.entry) o c.receipt_lane-lane.result c.self.inside.chains) (own_is d)))
+    (c.in_ok-add_to_chains.ensures.heads ∙ ap (λ o. heads_after (message_sent c.args.entry) o c.self.inside.chains) (own_is d))
+    (c.in_ok-add_to_chains.ensures.nodes ∙ ap (λ o. nodes_after (message_sent c.args.entry) o c.receipt_lane-lane.result c.self.inside.chains) (own_is d)))
 
 pub returns-clause-formed : goal.returns-clause-formed
 returns-clause-formed c = grind (arith, reverse-append, kept)

@@ -14,6 +14,6 @@ returns c =
     let sets = c.self.inside.sets.items in
     let s = c.index-slot.result.now in
     let low : c.args.i < length (sets_of slots sets) = subst (λ rows. c.args.i < length rows) (sym c.self.view_is) c.requires in
-    placed_fresh slots sets c.add.new.sets.items c.self.inside.apart c.args.i s c.args.place c.in_ok-fresh.fresh c.insert-2.new.self low c.index-slot.ensures c.self.invariant c.in_ok-fresh.ensures.added.slot_of
+    placed_fresh slots sets c.add.new.sets.items c.self.inside.unshared c.args.i s c.args.place c.in_ok-fresh.fresh c.insert-2.new.self low c.index-slot.ensures c.self.invariant c.in_ok-fresh.ensures.added.slot_of
     (c.insert-2.ensures ∙ ap (λ x. insert x c.args.place) (c.set_at-places.ensures ∙ (λ i. row (c.deref.ensures.value i) s)))
     ∙ ap (λ rows. set rows c.args.i (insert (row rows c.args.i) c.args.place)) c.self.view_is

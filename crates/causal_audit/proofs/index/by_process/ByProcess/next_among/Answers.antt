@@ -1,5 +1,5 @@
 use Rattle.causal_audit.proofs.Common.{subst, arith}
-use Rattle.causal_audit.specs.Inside.Index.Filed.{lists_in}
+use Rattle.causal_audit.specs.Inside.Index.Lists.{lists_in}
 use Rattle.causal_audit.proofs.group.GroupReach.{fewer}
 use Rattle.causal_audit.proofs.index.Filings.{RestNone, none_rest, rest_less}
 use Rattle.causal_audit.proofs.index.by_process.ByProcess.next_among.Goals as goal

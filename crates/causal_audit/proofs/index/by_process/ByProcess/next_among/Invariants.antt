@@ -1,9 +1,9 @@
 use Rattle.causal_audit.proofs.Common.{◌≤◌, len}
-use Rattle.causal_audit.specs.Inside.Index.Filed.{lists_in}
+use Rattle.causal_audit.specs.Inside.Index.Lists.{lists_in}
 use Rattle.causal_audit.proofs.index.Filings.{RestNone}
 use Rattle.causal_audit.proofs.index.by_process.ByProcess.next_among.Given as goal
 
--- the least of those that are not left
+-- the least over the processes that are done
 abbrev pub invariant-loop-process : goal.invariant-loop-process
 invariant-loop-process l = record {
   late : l.from ≤ l.next;

@@ -1,7 +1,7 @@
 use Rattle.causal_audit.proofs.Common.{◌≡◌, ◌<◌, [], Some, get_or, length, sym, ap, subst, ◌∙◌, arith, option_map_or, Contains, Contains-get_or}
 use Rattle.std.proofs.lemmas.Grind.{common_steps}
 use Rattle.causal_trace.specs.Numbers.{delivered_dets, number_of}
-use Rattle.causal_audit.specs.Inside.Index.Filed.{list_at}
+use Rattle.causal_audit.specs.Inside.Index.Lists.{list_at}
 use Rattle.causal_audit.proofs.index.mentions.Mentions.list_by.Goals as goal
 
 pub returns : goal.returns

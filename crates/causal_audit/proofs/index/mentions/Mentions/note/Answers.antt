@@ -1,7 +1,7 @@
 use Rattle.causal_audit.proofs.Common.{◌≡◌, Some, get_or, length, refl, take, sym, subst, ◌∙◌, arith, take_all}
 use Rattle.causal_trace.specs.Numbers.{number_of}
-use Rattle.causal_audit.specs.Quiet.{mentioned_by}
-use Rattle.causal_audit.specs.Inside.Index.Filed.{AreMentionsWith}
+use Rattle.causal_audit.specs.Quiet.{mentioned_dets}
+use Rattle.causal_audit.specs.Inside.Index.Lists.{AreMentionsWith}
 use Rattle.causal_audit.proofs.index.Filings.{mentions_begun, mentions_done}
 use Rattle.causal_audit.proofs.index.Numbered.{as_many, next_numbered}
 use Rattle.causal_audit.proofs.index.mentions.Mentions.note.Goals as goal
@@ -11,6 +11,9 @@ loop-number-init c = record {
   count = refl;
   noted = λ past delivered dets long numbered are. mentions_begun past delivered c.args.self.now.lists are;
 }
+
+pub add-requires : goal.add-requires
+add-requires c = omega (arith, c.requires c.loop-number.number-index 0 c.loop-number-test.true, c.loop-number.invariant.count)
 
 pub loop-number-preserved : goal.loop-number-preserved
 loop-number-preserved c =
@@ -28,7 +31,7 @@ loop-number-preserved c =
 
 pub returns-clause-noted : goal.returns-clause-noted
 returns-clause-noted c past delivered entry long numbered are =
-    let dets = mentioned_by entry in
+    let dets = mentioned_dets entry in
     let lists = c.loop-number.self.lists in
     let i = c.loop-number.number-index in
     let all : take i dets ≡ dets = take_all i dets (omega (arith, c.loop-number-test.false, as_many (length c.args.self.now.lists) delivered dets c.args.numbers.now numbered)) in

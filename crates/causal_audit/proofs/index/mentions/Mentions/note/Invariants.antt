@@ -1,8 +1,8 @@
 use Rattle.causal_audit.proofs.Common.{◌≡◌, List, length, take, Det, Entry}
-use Rattle.causal_audit.specs.Inside.Index.Filed.{AreMentions, AreMentionsWith, AreNumbersOf}
+use Rattle.causal_audit.specs.Inside.Index.Lists.{AreMentions, AreMentionsWith, AreNumbersOf}
 use Rattle.causal_audit.proofs.index.mentions.Mentions.note.Given as goal
 
--- the determinants so far have it
+-- the lists of the determinants so far contain the entry's position
 abbrev pub invariant-loop-number : goal.invariant-loop-number
 invariant-loop-number l = record {
   count : length l.self.lists ≡ length l.fn.self.lists;

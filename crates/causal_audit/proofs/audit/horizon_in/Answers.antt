@@ -1,8 +1,0 @@
-use Rattle.causal_audit.proofs.Common.{subst, deliveries_in}
-use Rattle.causal_audit.specs.Breaches.{LeastBreachBy}
-use Rattle.causal_audit.proofs.audit.horizon_in.Goals as goal
-
-pub returns-in-None-clause-decides : goal.returns-in-None-clause-decides
-returns-in-None-clause-decides c found by =
-    let r = c.args.trace.now.recording in
-    subst (λ end. LeastBreachBy r c.args.f end 0 (deliveries_in r.past) found) c.deciding_in-end.ensures.value by

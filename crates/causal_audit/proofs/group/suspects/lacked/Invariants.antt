@@ -1,7 +1,0 @@
-use Rattle.causal_audit.proofs.Common.{ℕ, ◌≡◌, true, contains}
-use Rattle.causal_audit.specs.Inside.Group.Walk.{IsLacked}
-use Rattle.causal_audit.proofs.group.suspects.lacked.Given as goal
-
--- those of the processes so far
-abbrev pub invariant-loop-p : goal.invariant-loop-p
-invariant-loop-p l = (j : ℕ) → IsLacked l.present l.held l.p j → contains l.lacked j ≡ true

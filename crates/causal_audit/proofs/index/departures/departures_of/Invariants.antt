@@ -1,0 +1,16 @@
+use Rattle.causal_audit.proofs.Common.{◌≡◌, ◌≤◌, length, Recording, IsWellFormed, entries_of}
+use Rattle.causal_audit.specs.Inside.Index.Departures.{process_at}
+use Rattle.causal_audit.proofs.index.Receivers.{AreSpreadsFrom}
+use Rattle.causal_audit.proofs.index.departures.departures_of.Given as goal
+
+-- the departures of the entries from i on
+abbrev pub invariant-loop-i : goal.invariant-loop-i
+invariant-loop-i l = record {
+  within : l.i ≤ length l.entries;
+  count : length l.departures.items ≡ length l.entries;
+  lanes : length l.outs ≡ 256;
+  departures : (r : Recording) → IsWellFormed r → l.entries ≡ entries_of r → AreSpreadsFrom r.past (process_at r.past) l.i l.departures.items l.outs;
+}
+
+abbrev pub decreases-loop-i : goal.decreases-loop-i
+decreases-loop-i l = l.i

@@ -1,5 +1,0 @@
-use Rattle.causal_audit.proofs.Common.{arith, map-set, get_or-map}
-use Rattle.causal_audit.proofs.index.lists.add_to.Goals as goal
-
-pub returns-clause-added : goal.returns-clause-added
-returns-clause-added c = grind (arith, get_or-map, map-set)

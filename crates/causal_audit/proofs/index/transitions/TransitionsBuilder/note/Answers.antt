@@ -1,0 +1,19 @@
+use Rattle.causal_audit.proofs.Common.{◌∷◌, is_down}
+use Rattle.causal_audit.specs.Inside.DeliveryStates.{HasExactly}
+use Rattle.causal_audit.proofs.index.Filings.{on_ok}
+use Rattle.causal_audit.proofs.index.transitions.TransitionsBuilder.note.Goals as goal
+
+pub returns : goal.returns
+returns c =
+    on_ok c.note-2.result (λ restarted past long filed.
+    let shown : HasExactly c.down_after-self.result (λ p. is_down (c.args.entry.now ∷ past) p) = c.down_after-self.ensures past filed.down in
+    record {
+      down = shown;
+      turned = c.in_ok-note_transition.ensures past long shown filed.turned;
+      crashed = c.in_ok-note.ensures.transitions past long filed.crashed;
+      crashes = c.note.ensures.count;
+      restarted = restarted past long filed.restarted;
+      restarts = c.note-2.ensures.count;
+      lasting = c.last_release_end-self.ensures past long filed.lasting;
+    })
+    c.note-2.ensures.transitions

@@ -1,5 +1,0 @@
-use Rattle.causal_audit.proofs.HeldOutside.{safe_is_held}
-use Rattle.causal_audit.proofs.laws.safe_is_held.Goals as goal
-
-pub returns : goal.returns
-returns c = safe_is_held

@@ -1,0 +1,248 @@
+-- Until when a process remains down or a holder of a determinant, and the determinant's safety until then.
+use Rattle.causal_audit.proofs.Common.{ℕ, ◌≡◌, ◌+◌, ◌<◌, ◌≤◌, inl, inr, Bool, true, false, List, [], ◌∷◌, length, refl, sym, ap, subst, ◌∙◌, arith, Some, None, ◌||◌, ◌&&◌, ◌==◌, not, ◌↔◌, Contains, cases_lt, false≢true, ne_eqb, eqb-true, or_cases, and_parts, or_right, eq-eqb, Det, same_det, count_below, count_below-within, members_counted, Entry, Send, Deliver, Stable, Crash, Restart, Forget, instant, is_down, is_stable, logs, list_has, entry_at, instant_length, det_then, accepted_then, nat_cmp_total, nat_cmp, FinSet, contains, difference, contains-difference, union, len, contains-union, Pid, AreLegalEntries, delivers_up, eqb_tells, nat_tests}
+use Rattle.causal_audit.specs.Laws.{down_or_holding}
+use Rattle.causal_audit.specs.Inside.SafetyScan.Scans.{IsAtRiskAt, RulesOut, IsSafetyOf}
+use Rattle.causal_audit.specs.NoRelease.{may_release, NoneReleasedFrom, RemainsSafe, OrphansEnd}
+use Rattle.causal_audit.proofs.Lemmas.OrphansByCounts.{exposed}
+use Rattle.causal_audit.proofs.NoOrphanSoFar.{not_yet}
+use Rattle.causal_audit.specs.Quiet.{mentioned_dets}
+use Rattle.causal_audit.specs.Inside.SafetyScan.Persistence.{restarts_one, DownOrHoldingPersists, HoldersPersist, MentionsNone, RestartsNone}
+use Rattle.causal_audit.proofs.by_clock.Begun.{onward_to}
+use Rattle.causal_audit.proofs.Between.{logs_stay, next_entry}
+use Rattle.causal_audit.specs.Inside.PositionLists.{HasNoneUntil, AreMentionsOf, HasMentions}
+use Rattle.std.specs.FinSet.{is_subset-contains}
+use Rattle.causal_audit.specs.Inside.Index.Reachability.{HasReached}
+use Rattle.causal_audit.specs.Inside.Index.Departures.{process_at}
+use Rattle.causal_audit.specs.Inside.DeliveryStates.{HasExactly}
+use Rattle.causal_audit.specs.declared.safety_scan.det_safety.DetSafety.{DetSafety}
+use Rattle.causal_audit.specs.declared.safety_scan.det_safety.DetSafety.TheVariants.{Safe, AtRisk, AtRiskWithoutReceiver}
+use Rattle.causal_audit.proofs.Shown.{down_inside, logs_inside}
+use Rattle.causal_audit.proofs.Steps.{entry_cases}
+
+-- ==== when a delivery has no orphan any more
+
+-- ---- a stable determinant remains stable
+
+pub stable_more : (e : Entry) (past : List Entry) (d : Det) → is_stable past d ≡ true → is_stable (e ∷ past) d ≡ true
+stable_more (Send from to ssn) past d h = h
+stable_more (Deliver to send rsn listed) past d h = h
+stable_more (Stable det) past d h = or_right (same_det d det) (is_stable past d) h
+stable_more (Crash who) past d h = h
+stable_more (Restart who listed) past d h = h
+stable_more (Forget who listed) past d h = h
+
+-- ---- a process remains down or a holder if none is released
+
+or_between : (a b c : Bool) → (a || b) ≡ true → (a || (c || b)) ≡ true
+or_between a b c h = grind (arith, nat_tests)
+
+or_turned : (w a b : Bool) → (a || b) ≡ true → ((w || a) || (not w && b)) ≡ true
+or_turned w a b h = grind (arith, nat_tests)
+
+pub gone_more : (e : Entry) (past : List Entry) (d : Det) (p : ℕ) → may_release e ≡ false → down_or_holding past d p ≡ true → down_or_holding (e ∷ past) d p ≡ true
+gone_more (Send from to ssn) past d p departures h = h
+gone_more (Deliver to send rsn listed) past d p departures h = or_between (is_down past p) (logs past p d) (to.0 == p && list_has listed d) h
+gone_more (Stable det) past d p departures h = h
+gone_more (Crash who) past d p departures h = or_turned (who.0 == p) (is_down past p) (logs past p d) h
+gone_more (Restart who listed) past d p departures h = absurd (false≢true (sym departures))
+gone_more (Forget who listed) past d p departures h = absurd (false≢true (sym departures))
+
+none_releases : (past : List Entry) (t : ℕ) → NoneReleasedFrom past t → (v : ℕ) (e : Entry) → t ≤ v → entry_at past v ≡ Some e → may_release e ≡ false
+none_releases [] t none v e late at = absurd (let x : None ≡ Some e = at in cc)
+none_releases (x ∷ past) t none v e late at = grind (arith, entry_cases x past v e at, none_releases past t none.0 v e late)
+
+-- if none is released, a process that is down or holds d does so at each later instant
+pub gone_lasts : (past : List Entry) (d : Det) (t u : ℕ) → NoneReleasedFrom past t → t ≤ u → u ≤ length past → (p : ℕ) → down_or_holding (instant past t) d p ≡ true → down_or_holding (instant past u) d p ≡ true
+gone_lasts past d t u none up within p =
+    onward_to (λ x. down_or_holding x d p ≡ true) past t u up within (λ v e above below at h. gone_more e (instant past v) d p (none_releases past t none v e above at) h)
+
+-- ---- the instant from which it has no orphan
+
+-- so such a determinant is stable, or more than f processes are down or hold it, at each later instant
+pub over_then : (n f : ℕ) (past : List Entry) (d : Det) (t u : ℕ) → RemainsSafe n f past t d → t ≤ u → u ≤ length past → is_stable (instant past u) d ≡ false → count_below n (down_or_holding (instant past u) d) ≤ f → ⊥
+over_then n f past d t u (inl stable) up within unstable few = false≢true (sym unstable ∙ onward_to (λ p. is_stable p d ≡ true) past t u up within (λ v e above below at h. stable_more e (instant past v) d h) stable)
+over_then n f past d t u (inr many) up within unstable few = grind (arith, few, many.1, count_below-within, gone_lasts)
+
+-- so no delivery with such a determinant has an orphan at a later instant
+pub orphans_end : OrphansEnd
+orphans_end n f past k d t u at over up within list_has =
+    elim (cases_lt k u) [
+      | inr ahead ↦ not_yet n f (instant past u) k (omega (arith, ahead, instant_length past u within)) list_has
+      | inl made ↦
+          let e = exposed n f (instant past u) k d (det_then past u k made within ∙ at) list_has in
+          over_then n f past d t u over up within e.unstable e.few
+    ]
+
+-- ---- the position from which no process is released
+
+-- no process is released after the last entry
+pub none_beyond : (past : List Entry) (t : ℕ) → length past ≤ t → NoneReleasedFrom past t
+none_beyond [] t above = tt
+none_beyond (e ∷ past) t above = (none_beyond past t (omega (arith, above)), λ low. absurd (omega (arith, above, low)))
+
+-- if none is released from a position on, none is from a later one on
+pub none_later : (past : List Entry) (t u : ℕ) → t ≤ u → NoneReleasedFrom past t → NoneReleasedFrom past u
+none_later [] t u up none = tt
+none_later (e ∷ past) t u up none = (none_later past t u up none.0, λ late. none.1 (omega (arith, up, late)))
+
+-- ==== until when a process remains down or a holder
+
+-- ---- the processes that are down or hold it
+
+-- a process that restarts is not among the others
+restarts_other : (members : FinSet nat_cmp) (who : Pid) (p : ℕ) → contains members who.0 ≡ false → contains members p ≡ true → (who.0 == p) ≡ false
+restarts_other members who p out inside = ne_eqb who.0 p (λ same. false≢true (sym out ∙ ap (contains members) same ∙ inside))
+
+gone_next : (e : Entry) (past : List Entry) (d : Det) (members : FinSet nat_cmp) (p : ℕ) → list_has (mentioned_dets e) d ≡ false → restarts_one members e ≡ false → contains members p ≡ true → down_or_holding past d p ≡ true → down_or_holding (e ∷ past) d p ≡ true
+gone_next (Send from to ssn) past d members p none out inside h = h
+gone_next (Deliver to send rsn listed) past d members p none out inside h = gone_more (Deliver to send rsn listed) past d p refl h
+gone_next (Stable det) past d members p none out inside h = h
+gone_next (Crash who) past d members p none out inside h = gone_more (Crash who) past d p refl h
+gone_next (Restart who listed) past d members p none out inside h = ap (λ b. (not b && is_down past p) || ((b && list_has listed d) || logs past p d)) (restarts_other members who p out inside) ∙ h
+gone_next (Forget who listed) past d members p none out inside h = ap (λ b. is_down past p || b) (sym (logs_stay (Forget who listed) past d refl none p)) ∙ h
+
+pub gone_stay : DownOrHoldingPersists
+gone_stay past d members t u p up within unmentioned unrestarted inside here =
+    onward_to (λ x. down_or_holding x d p ≡ true) past t u up within
+    (λ v e above below at h. gone_next e (instant past v) d members p (unmentioned v e above below at) (unrestarted v e above below at) inside h) here
+
+-- ---- the processes that hold it
+
+-- a process that holds a determinant is up
+pub holder_up : (n : ℕ) (past : List Entry) (d : Det) (p : ℕ) → AreLegalEntries n past → logs past p d ≡ true → is_down past p ≡ false
+holder_up n [] d p formed h = refl
+holder_up n (Send from to ssn ∷ past) d p formed h = holder_up n past d p formed.0 h
+holder_up n (Deliver to send rsn listed ∷ past) d p formed h =
+    elim (or_cases (to.0 == p && list_has listed d) (logs past p d) h) [
+      | inl new ↦ subst (λ q. is_down past q ≡ false) (eqb-true to.0 p (and_parts (to.0 == p) (list_has listed d) new).0) (delivers_up n past to send rsn listed formed.1)
+      | inr old ↦ holder_up n past d p formed.0 old
+    ]
+holder_up n (Stable det ∷ past) d p formed h = holder_up n past d p formed.0 h
+holder_up n (Crash who ∷ past) d p formed h = grind (arith, holder_up n past d p formed.0 (and_parts (not (who.0 == p)) (logs past p d) h).1)
+holder_up n (Restart who listed ∷ past) d p formed h = grind (arith, holder_up n past d p formed.0)
+holder_up n (Forget who listed ∷ past) d p formed h = holder_up n past d p formed.0 (and_parts (not (who.0 == p && list_has listed d)) (logs past p d) h).1
+
+up_held : (held down : Bool) → (held ≡ true → down ≡ false) → held ≡ (held && not down)
+up_held held down h = grind (arith, nat_tests)
+
+crash_held : (w was down held : Bool) → held ≡ (was && not down) → (not w && held) ≡ (was && not (w || down))
+crash_held w was down held h = grind (arith, nat_tests)
+
+restart_held : (w listed was down held : Bool) → listed ≡ false → (w ≡ true → was ≡ false) → held ≡ (was && not down) → ((w && listed) || held) ≡ (was && not (not w && down))
+restart_held w listed was down held none out h = grind (arith, nat_tests)
+
+held_next : (e : Entry) (past : List Entry) (d : Det) (members : FinSet nat_cmp) (p : ℕ) (was : Bool) → list_has (mentioned_dets e) d ≡ false → restarts_one members e ≡ false → (was ≡ true → contains members p ≡ true)
+    → logs past p d ≡ (was && not (is_down past p)) → logs (e ∷ past) p d ≡ (was && not (is_down (e ∷ past) p))
+held_next (Send from to ssn) past d members p was none out inside h = h
+held_next (Deliver to send rsn listed) past d members p was none out inside h = sym (logs_stay (Deliver to send rsn listed) past d refl none p) ∙ h
+held_next (Stable det) past d members p was none out inside h = h
+held_next (Crash who) past d members p was none out inside h = crash_held (who.0 == p) was (is_down past p) (logs past p d) h
+held_next (Restart who listed) past d members p was none out inside h = grind (arith, restart_held, eqb-true)
+held_next (Forget who listed) past d members p was none out inside h = sym (logs_stay (Forget who listed) past d refl none p) ∙ h
+
+pub holders_stay : HoldersPersist
+holders_stay n past d members t u p formed up within unmentioned unrestarted inside =
+    onward_to (λ x. logs x p d ≡ (logs (instant past t) p d && not (is_down x p))) past t u up within
+    (λ v e above below at h. held_next e (instant past v) d members p (logs (instant past t) p d) (unmentioned v e above below at) (unrestarted v e above below at) inside h)
+    (up_held (logs (instant past t) p d) (is_down (instant past t) p) (holder_up n (instant past t) d p (accepted_then n past t formed)))
+
+-- the difference of two sets, as tests
+pub difference_shown : (s t : FinSet nat_cmp) (p : ℕ) (held down : Bool) → contains s p ≡ held → contains t p ≡ down → contains (difference s t) p ≡ (held && not down)
+difference_shown s t p held down h k = contains-difference nat_cmp_total s t p ∙ (λ i. h i && not (k i))
+
+-- the instant after an entry
+pub entry_then : (past : List Entry) (v : ℕ) (e : Entry) → v < length past → entry_at past v ≡ Some e → instant past (v + 1) ≡ e ∷ instant past v
+entry_then past v e below at = grind (arith, next_entry past v below)
+
+-- ==== a scan over the entries that may change who is down or holds a determinant, and its safety between them
+
+-- ---- the set of processes that are down or hold a determinant
+
+module _ (n : ℕ) (past : List Entry) (d : Det) (formed : AreLegalEntries n past) (down holders : FinSet nat_cmp) (downs : HasExactly down (λ p. is_down past p)) (holds : HasExactly holders (λ p. logs past p d)) where
+  pub gone_shown : (q : ℕ) → contains (union down holders) q ≡ down_or_holding past d q
+  gone_shown q = contains-union nat_cmp_total down holders q ∙ (λ i. downs q i || holds q i)
+
+  pub gone_many : len (union down holders) ≡ count_below n (down_or_holding past d)
+  gone_many =
+      members_counted n (union down holders) (down_or_holding past d) (record {
+        process = λ q h.
+            elim (or_cases (is_down past q) (logs past q d) (sym (gone_shown q) ∙ h)) [
+              | inl fell ↦ down_inside n past q formed fell
+              | inr held ↦ logs_inside n past q d formed held
+            ];
+        member = λ q low. gone_shown q;
+      })
+
+-- a safe determinant is not at risk while all of these processes remain down or holders
+pub kept_still : (n most : ℕ) (past : List Entry) → AreLegalEntries n past → (d : Det) (t u : ℕ) (reached down holders : FinSet nat_cmp) → HasReached past d.dest.0 reached → HasExactly down (λ p. is_down (instant past t) p)
+    → HasExactly holders (λ p. logs (instant past t) p d) → IsSafetyOf Safe most d.dest.0 reached (union down holders) → ((p : ℕ) → down_or_holding (instant past t) d p ≡ true → down_or_holding (instant past u) d p ≡ true) → IsAtRiskAt n most past d u → ⊥
+kept_still n most past formed d t u reached down holders list_has downs holds (inl many) stay thin =
+    grind (arith, thin.few, many, gone_many n (instant past t) d (accepted_then n past t formed) down holders downs holds, count_below-within)
+kept_still n most past formed d t u reached down holders list_has downs holds (inr all) stay thin =
+    grind (
+      arith,
+      is_subset-contains nat_cmp_total reached (union down holders) all (process_at past thin.left_over.1) (list_has thin.left_over.0 thin.left_over.1 thin.left_over.2 thin.left_over.3),
+      gone_shown n (instant past t) d (accepted_then n past t formed) down holders downs holds (process_at past thin.left_over.1),
+    )
+
+-- a change at or before the next mention that is not this mention precedes it
+pub beyond : (change mention : ℕ) → change ≤ mention → (mention == change) ≡ false → change < mention
+beyond change mention low apart = grind (arith, eq-eqb)
+
+pub unmentioned_at : (past : List Entry) (d : Det) (mentions : List ℕ) → HasMentions past d mentions → (t next : ℕ) → HasNoneUntil mentions t next → (v : ℕ) → t ≤ v → v < next → (e : Entry) → entry_at past v ≡ Some e → list_has (mentioned_dets e) d ≡ false
+unmentioned_at past d mentions mentioned t next none v above below e there = mentioned v e there (none v above below)
+
+-- an entry mentions the determinant exactly if its position is in the list of mentions
+pub mentioned_listed : (past : List Entry) (d : Det) (mentions : List ℕ) → HasMentions past d mentions → AreMentionsOf past d mentions → (v : ℕ) (e : Entry) → entry_at past v ≡ Some e → (told : Bool) → (told ≡ true) ↔ Contains mentions v → told ≡ list_has (mentioned_dets e) d
+mentioned_listed past d mentions mentioned only v e there true same =
+    let of = only v (same.0 refl) in
+    let is : Some of.0 ≡ Some e = sym of.1 ∙ there in
+    let one : of.0 ≡ e = cc is in
+    sym (ap (λ x. list_has (mentioned_dets x) d) (sym one) ∙ of.2)
+mentioned_listed past d mentions mentioned only v e there false same = sym (mentioned v e there (λ listed. false≢true (same.1 listed)))
+
+-- up to the next mention, an entry mentions the determinant exactly if it is that mention
+pub mentioned_next : (past : List Entry) (d : Det) (mentions : List ℕ) → HasMentions past d mentions → AreMentionsOf past d mentions → (t next : ℕ) → HasNoneUntil mentions t next
+    → (v : ℕ) → t ≤ v → v ≤ next → (next ≡ v → Contains mentions v) → (e : Entry) → entry_at past v ≡ Some e → (next == v) ≡ list_has (mentioned_dets e) d
+mentioned_next past d mentions mentioned only t next none v above low found e there =
+    elim (eqb_tells next v) [
+      | inl here ↦
+          let of = only v (found here.1) in
+          let is : Some of.0 ≡ Some e = sym of.1 ∙ there in
+          let same : of.0 ≡ e = cc is in
+          here.0 ∙ sym (ap (λ x. list_has (mentioned_dets x) d) (sym same) ∙ of.2)
+      | inr apart ↦ apart.0 ∙ sym (unmentioned_at past d mentions mentioned t next none v above (beyond v next low apart.0) e there)
+    ]
+
+-- ---- until an entry mentions it or restarts one of them
+
+module _ (n : ℕ) (past : List Entry) (formed : AreLegalEntries n past) (d : Det) (t next : ℕ) (within : next ≤ length past) (unmentioned : MentionsNone past d t next) where
+  module _ (down holders : FinSet nat_cmp) (unrestarted : RestartsNone past (union down holders) t next) (downs : HasExactly down (λ p. is_down (instant past t) p)) (holds : HasExactly holders (λ p. logs (instant past t) p d)) where
+    legal : (u : ℕ) → AreLegalEntries n (instant past u)
+    legal u = accepted_then n past u formed
+
+    -- the holders that are not down then still hold it
+    pub holds_until : (u : ℕ) → t ≤ u → u ≤ next → (fell : FinSet nat_cmp) → HasExactly fell (λ p. is_down (instant past u) p) → HasExactly (difference holders fell) (λ p. logs (instant past u) p d)
+    holds_until u up low fell falls p =
+        difference_shown holders fell p (logs (instant past t) p d) (is_down (instant past u) p) (holds p) (falls p)
+        ∙ sym (holders_stay n past d (union down holders) t u p formed up (omega (arith, low, within))
+        (λ v e above below. unmentioned v e above (omega (arith, below, low))) (λ v e above below. unrestarted v e above (omega (arith, below, low)))
+        (λ held. gone_shown n (instant past t) d (legal t) down holders downs holds p ∙ or_right (is_down (instant past t) p) (logs (instant past t) p d) held))
+
+    -- and each of them is still down or holds it
+    gone_until : (u : ℕ) → t ≤ u → u ≤ next → (p : ℕ) → down_or_holding (instant past t) d p ≡ true → down_or_holding (instant past u) d p ≡ true
+    gone_until u up low p here =
+        gone_stay past d (union down holders) t u p up (omega (arith, low, within))
+        (λ v e above below. unmentioned v e above (omega (arith, below, low))) (λ v e above below. unrestarted v e above (omega (arith, below, low)))
+        (gone_shown n (instant past t) d (legal t) down holders downs holds p ∙ here) here
+
+    -- so its safety is unchanged
+    pub stands_until : (most : ℕ) (s : DetSafety) (reached : FinSet nat_cmp) → HasReached past d.dest.0 reached → IsSafetyOf s most d.dest.0 reached (union down holders) → (u : ℕ) → t ≤ u → u ≤ next → RulesOut s n most past d u
+    stands_until most Safe reached list_has keep u up low = kept_still n most past formed d t u reached down holders list_has downs holds keep (gone_until u up low)
+    stands_until most AtRisk reached list_has here u up low = λ without_receiver. false≢true (sym without_receiver.receiver ∙ gone_until u up low d.dest.0 (sym (gone_shown n (instant past t) d (legal t) down holders downs holds d.dest.0) ∙ here))
+    stands_until most AtRiskWithoutReceiver reached list_has here u up low = tt
+
+-- if no mention is left, no entry mentions it
+pub none_mention : (past : List Entry) (d : Det) (mentions : List ℕ) → HasMentions past d mentions → (t next last : ℕ) → next ≤ last → HasNoneUntil mentions t last → MentionsNone past d t next
+none_mention past d mentions mentioned t next last low none v e above below there =
+    unmentioned_at past d mentions mentioned t last none v above (omega (arith, below, low)) e there

@@ -1,0 +1,123 @@
+-- One step of a determinant's scan.
+use Rattle.causal_audit.proofs.Common.{ℕ, ◌≡◌, ◌+◌, ◌<◌, ◌≤◌, inl, true, List, ◌∷◌, length, get_or, Some, sym, ap, subst, ◌∙◌, arith, ◌==◌, Contains, nat_cmp, FinSet, difference, union, Entry, instant, entry_at, list_has, is_down, is_stable, logs, AreLegalEntries, entries_of}
+use Rattle.causal_audit.specs.declared.safety_scan.down_and_holders.DownAndHolders.{DownAndHolders}
+use Rattle.causal_audit.specs.declared.index.cursor.Cursor.{Cursor}
+use Rattle.causal_audit.specs.declared.safety_scan.SafetyScan.{SafetyScan}
+use Rattle.causal_audit.specs.declared.safety_scan.ScanPosition.{ScanPosition}
+use Rattle.causal_audit.specs.declared.safety_scan.det_safety.DetSafety.TheVariants.{Safe}
+use Rattle.causal_audit.specs.declared.safety_scan.det_safety.SafetyInterval.{SafetyInterval}
+use Rattle.causal_audit.specs.declared.index.transitions.TransitionCursor.{TransitionCursor}
+use Rattle.causal_audit.specs.Inside.PositionLists.{HasNoneUntil, IsCursor}
+use Rattle.causal_audit.specs.Inside.Index.RunIndexes.{IsTransitionIndex}
+use Rattle.causal_audit.specs.Inside.SafetyScan.Scans.{IsIntervalPassed, IsScanPosition, IsAtRiskAt, IsSafetyOf}
+use Rattle.causal_audit.specs.Inside.Index.TransitionCursors.{IsCursorAt}
+use Rattle.causal_audit.specs.Inside.DeliveryStates.{HasExactly, ShowsDownAfter, ShowsHoldersAfter}
+use Rattle.causal_audit.specs.Inside.SafetyScan.Persistence.{MentionsNone, RestartsNone}
+use Rattle.causal_audit.specs.Quiet.{mentioned_dets}
+use Rattle.causal_audit.proofs.safety_scan.CoverStays.{gone_lasts, holds_until, kept_still, mentioned_next, none_mention, stands_until, none_later, over_then}
+use Rattle.causal_audit.proofs.index.Cursors.{cursor_later}
+use Rattle.causal_audit.proofs.Steps.{entry_read, entry_then, next_state}
+use Rattle.causal_audit.proofs.index.DownAfterTurns.{passed_down}
+
+-- up to the next change no entry mentions the determinant or restarts a process that was down or held it
+pub record IsChange (look : SafetyScan) (scan_position : ScanPosition) (mention change : ℕ) : Type 0 where
+  pub formed : AreLegalEntries look.run.trace.now.recording.processes look.run.trace.now.recording.past
+  pub at : IsScanPosition look scan_position
+  pub up : scan_position.t ≤ change
+  pub low : change ≤ mention
+  pub early : mention ≤ look.end
+  pub none : HasNoneUntil look.mentions.now scan_position.t mention
+  pub unrestarted : RestartsNone look.run.trace.now.recording.past (union scan_position.down_and_holders.down scan_position.down_and_holders.holders) scan_position.t change
+
+-- the next change is the next mention, or a restart before it
+pub is_change : (look : SafetyScan) (scan_position : ScanPosition) (mention change : ℕ) (gone : FinSet nat_cmp) → AreLegalEntries look.run.trace.now.recording.processes look.run.trace.now.recording.past → IsScanPosition look scan_position → gone ≡ union scan_position.down_and_holders.down scan_position.down_and_holders.holders
+    → (scan_position.t ≤ mention) × (mention ≤ look.end) → (scan_position.t ≤ change) × (change ≤ mention) → ((list : List ℕ) → IsCursor list scan_position.t scan_position.ahead → HasNoneUntil list scan_position.t mention) → RestartsNone look.run.trace.now.recording.past gone scan_position.t change
+    → IsChange look scan_position mention change
+is_change look scan_position mention change gone formed at same early bounds none unrestarted = record {
+  formed = formed;
+  at = at;
+  up = bounds.0;
+  low = bounds.1;
+  early = early.1;
+  none = none look.mentions.now at.mentions;
+  unrestarted = subst (λ s. RestartsNone look.run.trace.now.recording.past s scan_position.t change) same unrestarted;
+}
+
+module _ (look : SafetyScan) (scan_position : ScanPosition) (mention change : ℕ) (is : IsChange look scan_position mention change) where
+  abbrev pub past : List Entry
+  past = look.run.trace.now.recording.past
+
+  abbrev pub n : ℕ
+  n = look.run.trace.now.recording.processes
+
+  within : change ≤ length past
+  within = omega (arith, is.low, is.early, look.within)
+
+  unmentioned : MentionsNone past look.det scan_position.t change
+  unmentioned v e above below there =
+      none_mention (instant past look.end) look.det look.mentions.now look.mentioned scan_position.t change mention is.low is.none v e above below (entry_then past look.end v (omega (arith, below, is.low, is.early)) look.within ∙ there)
+
+  -- the interval up to the next change is passed
+  pub passed_to : (s : SafetyInterval) (next : ℕ) → s.first ≡ scan_position.t → s.last ≡ change → IsSafetyOf s.safety look.limit look.det.dest.0 look.reached (union scan_position.down_and_holders.down scan_position.down_and_holders.holders) → change < next → next ≤ look.end + 1
+      → ((u : ℕ) → change < u → u < next → IsAtRiskAt n look.limit past look.det u → ⊥) → IsIntervalPassed look scan_position.t next s
+  passed_to s next first last stands ahead bound after = record {
+    first = first;
+    order = omega (arith, last, is.up);
+    last = omega (arith, last, ahead);
+    within = bound;
+    stands = λ u above below.
+        stands_until n past is.formed look.det scan_position.t change within unmentioned scan_position.down_and_holders.down scan_position.down_and_holders.holders is.unrestarted is.at.down is.at.holders look.limit s.safety look.reached look.reaching stands u above (omega (arith, below, last));
+    after = λ u above below. after u (omega (arith, above, last)) below;
+  }
+
+  -- ---- the entry of the change
+
+  module _ (es : List Entry) (read : es ≡ entries_of look.run.trace.now.recording) (e : Entry) (value : e ≡ get_or es change e) (apart : change ≡ look.end → ⊥) where
+    below : change < look.end
+    below = omega (arith, is.low, is.early, apart)
+
+    there : entry_at past change ≡ Some e
+    there = entry_read look.run.trace.now.recording es read change e (omega (arith, below, look.within)) value
+
+    next : instant past (change + 1) ≡ e ∷ instant past change
+    next = next_state look.run.trace.now.recording es read change e (omega (arith, below, look.within)) value
+
+    -- if the entry writes the determinant to stable storage, the determinant is not at risk any more
+    pub written : ((p : List Entry) → is_stable (e ∷ p) look.det ≡ true) → (u : ℕ) → change < u → u < look.end + 1 → IsAtRiskAt n look.limit past look.det u → ⊥
+    written writes u above under =
+        λ thin.
+        over_then n look.limit past look.det (change + 1) u (inl (ap (λ x. is_stable x look.det) next ∙ writes (instant past change))) (omega (arith, above)) (omega (arith, under, look.within)) thin.unstable thin.few
+
+    module _ (ahead : Cursor) (cursor : (list : List ℕ) → IsCursor list scan_position.t scan_position.ahead → IsCursor list scan_position.t ahead) (found : (list : List ℕ) → IsCursor list scan_position.t scan_position.ahead → mention < look.end → Contains list mention)
+        (transitions : TransitionCursor) (passes : IsCursorAt scan_position.transitions.transitions.now change transitions) (fell : FinSet nat_cmp)
+        (falls : (entries : List Entry) (t : ℕ) → t ≤ length entries → IsTransitionIndex entries transitions.transitions.now → IsCursorAt transitions.transitions.now t transitions → HasExactly fell (λ p. is_down (instant entries t) p)) (down_and_holders : DownAndHolders) (down_after : ShowsDownAfter e fell down_and_holders.down)
+        (holders_after : ShowsHoldersAfter ((mention == change) ≡ list_has (mentioned_dets e) look.det) e look.det (difference scan_position.down_and_holders.holders fell) down_and_holders.holders) where
+      passed : IsCursorAt look.run.transitions.now change transitions
+      passed = subst (λ ts. IsCursorAt ts change transitions) is.at.transitions passes
+
+      fallen : HasExactly fell (λ p. is_down (instant past change) p)
+      fallen = let walk = passed_down past look.run.transitions.now change transitions look.run.turned passed in falls past change within walk.0 walk.1
+
+      down_then : HasExactly down_and_holders.down (λ p. is_down (instant past (change + 1)) p)
+      down_then = subst (λ x. HasExactly down_and_holders.down (λ p. is_down x p)) (sym next) (down_after (instant past change) fallen)
+
+      told : (mention == change) ≡ list_has (mentioned_dets e) look.det
+      told =
+          mentioned_next (instant past look.end) look.det look.mentions.now look.mentioned look.only scan_position.t mention is.none change is.up is.low
+          (λ same. subst (Contains look.mentions.now) same (found look.mentions.now is.at.mentions (omega (arith, same, below)))) e (entry_then past look.end change below look.within ∙ there)
+
+      holders_then : HasExactly down_and_holders.holders (λ p. logs (instant past (change + 1)) p look.det)
+      holders_then =
+          subst (λ x. HasExactly down_and_holders.holders (λ p. logs x p look.det)) (sym next)
+          (holders_after (instant past change) told
+          (holds_until n past is.formed look.det scan_position.t change within unmentioned scan_position.down_and_holders.down scan_position.down_and_holders.holders is.unrestarted is.at.down is.at.holders change is.up (omega arith) fell fallen))
+
+      -- the scan continues after it
+      pub onward_stop : (new : ScanPosition) → new.t ≡ change + 1 → new.ahead ≡ ahead → new.transitions ≡ transitions → new.down_and_holders ≡ down_and_holders → IsSafetyOf new.safety look.limit look.det.dest.0 look.reached (union down_and_holders.down down_and_holders.holders) → IsScanPosition look new
+      onward_stop new t_is ahead_is turns_is cover_is stands = grind (arith, within, below, cursor_later, down_then, holders_then)
+
+      -- it ends if enough processes are down or hold the determinant and none is released later
+      pub over : look.run.transitions.now.no_release_from ≤ change + 1 → IsSafetyOf Safe look.limit look.det.dest.0 look.reached (union down_and_holders.down down_and_holders.holders) → (u : ℕ) → change < u → u < look.end + 1 → IsAtRiskAt n look.limit past look.det u → ⊥
+      over lasting keep u above under =
+          kept_still n look.limit past is.formed look.det (change + 1) u look.reached down_and_holders.down down_and_holders.holders look.reaching down_then holders_then keep
+          (gone_lasts past look.det (change + 1) u (none_later past look.run.transitions.now.no_release_from (change + 1) lasting look.run.turned.lasting) (omega (arith, above)) (omega (arith, under, look.within)))

@@ -1,0 +1,228 @@
+//! A recorded run prepared for its audit, and parts of its deliveries.
+ghost use Rattle.std.specs.Prelude.{◌≡◌, ◌≤◌, IfOk, length};
+ghost use Rattle.causal_trace.specs.Past.{instant};
+ghost use Rattle.causal_audit.specs.Parts.{AreSufficient, EarliestOf, part_of};
+ghost use Rattle.causal_audit.specs.Inside.Index.RunIndexes.{IsMentionIndex};
+ghost use Rattle.causal_audit.specs.Inside.Group.OpenDeliveries.{AreAllOpen, search_scope};
+
+use crate::breach::Breach;
+use crate::group::walk::GROUP;
+use crate::group::walk_input::{OpenDelivery, WalkInput};
+use crate::group::walk_order::sort_for_groups;
+use crate::index::indexed_trace::IndexedTrace;
+use crate::index::mentions::Mentions;
+use crate::index::run_index::RunIndex;
+use crate::safety_scan::open_delivery_search::open_deliveries_of;
+use causal_name::NoMemory;
+use causal_trace::trace::Trace;
+use std::alloc::Global;
+use std::marker::Model;
+use std::snapshot::Snapshot;
+
+/// A recorded run prepared for its audit for f up to the instant `end`: the deliveries that must be followed, and the
+/// indexes for it. It contains no copy of the trace. The model is the followed deliveries.
+#[derive(Drop)]
+pub struct PreparedRun {
+    run: Snapshot<Trace>,
+    index: RunIndex,
+    f: u16,
+    end: u32,
+    candidates: Vec<OpenDelivery>,
+}
+
+impl Model for PreparedRun {
+    ghost use Rattle.causal_audit.specs.Parts.{FollowedDeliveries};
+    ghost use Rattle.causal_audit.specs.Inside.Group.OpenDeliveries.{IsPrepared, positions_of};
+
+    ghost Value = { FollowedDeliveries };
+
+    ghost view = { λ a. record { run = a.run.value.recording; f = a.f; end = a.end; positions = positions_of a.candidates.items } };
+
+    ghost invariant = { λ a. IsPrepared a.run.value.recording a.f a.end a.index a.candidates.items };
+}
+
+impl PreparedRun {
+    /// Prepares a trace for f up to the instant `end`, which is at most its length. It scans each determinant once to
+    /// find the deliveries that need not be followed. The earliest breach of the others is that of the run.
+    ///
+    /// Takes O(entries + determinants listed before the end) time and memory, and O(log intervals) time for each
+    /// delivery, for the intervals that its scan found. A scan passes the mentions of its determinant, and the restarts
+    /// of processes that were down or held it.
+    ///
+    /// # Errors
+    /// `NoMemory` if allocation fails.
+    pub fn of(alloc: Global, trace: &Trace, f: u16, end: u32) -> Result<PreparedRun, NoMemory>
+        requires { end ≤ length trace.now.recording.past }
+        ensures run { IfOk result (λ prepared. prepared.run ≡ trace.now.recording) }
+        ensures sufficient { IfOk result (AreSufficient trace.now.recording f end) }
+    {
+        let index = RunIndex::of(alloc, trace, end)?;
+        let indexed_trace = IndexedTrace {
+            trace,
+            transitions: &index.transitions,
+        };
+        let candidates = deliveries_to_follow(alloc, indexed_trace, &index.mentions, f, end)?;
+        Ok(PreparedRun {
+            run: Snapshot::of(trace),
+            index,
+            f,
+            end,
+            candidates: candidates,
+        })
+    }
+
+    /// Returns how many deliveries are followed.
+    pub fn followed_count(&self) -> usize
+        ensures { result ≡ length self.now.positions }
+    {
+        self.candidates.len()
+    }
+
+    /// Returns where a share that begins at index `from` ends: at the end of a group, such that the remaining walks are
+    /// divided about evenly among `workers` workers. A walk covers about as many entries as its first delivery is open
+    /// for.
+    pub fn share_end(&self, from: usize, workers: u32) -> usize
+        requires { (from ≤ length self.now.positions) × (1 ≤ workers) }
+        ensures within { (from ≤ result) × (result ≤ length self.now.positions) }
+        ensures last { workers ≡ 1 → result ≡ length self.now.positions }
+    {
+        if workers == 1 {
+            return self.candidates.len();
+        }
+        let rest = &self.candidates[from..];
+        let share = total_walk_length(rest) / u64::from(workers);
+        from + deliveries_for_share(rest, share)
+    }
+
+    /// Returns the part of the followed deliveries from index `from` to below index `to`. The trace must be the one
+    /// that was prepared.
+    pub fn part<'a>(&'a self, trace: &'a Trace, from: usize, to: usize) -> Part<'a>
+        requires same { trace.now.recording ≡ self.now.run }
+        requires places { (from ≤ to) × (to ≤ length self.now.positions) }
+        ensures { result ≡ part_of self.now from to }
+    {
+        let indexed_trace = IndexedTrace {
+            trace,
+            transitions: &self.index.transitions,
+        };
+        let walk_input = WalkInput {
+            indexed_trace: indexed_trace,
+            mentions: &self.index.mentions,
+            end: self.end,
+        };
+        Part {
+            walk_input: walk_input,
+            f: self.f,
+            end: self.end,
+            candidates: &self.candidates[from..to],
+        }
+    }
+
+    /// Returns the earliest breach of all followed deliveries, as [`Part::earliest_breach`]. The trace must be the one that was
+    /// prepared.
+    ///
+    /// # Errors
+    /// `NoMemory` if allocation fails.
+    pub(crate) fn earliest_breach(
+        &self,
+        alloc: Global,
+        trace: &Trace,
+    ) -> Result<Option<Breach>, NoMemory>
+        requires { trace.now.recording ≡ self.now.run }
+        ensures { IfOk result (EarliestOf self.now) }
+    {
+        let whole = self.part(trace, 0, self.followed_count());
+        whole.earliest_breach(alloc)
+    }
+}
+
+/// Returns the deliveries of a run before the instant `end` that must be followed, in walk order.
+///
+/// # Errors
+/// `NoMemory` if allocation fails.
+fn deliveries_to_follow(
+    alloc: Global,
+    indexed_trace: IndexedTrace<'_>,
+    mentions: &Mentions,
+    f: u16,
+    end: u32,
+) -> Result<Vec<OpenDelivery>, NoMemory>
+    requires within { end ≤ length indexed_trace.trace.now.recording.past }
+    requires mentioned { IsMentionIndex indexed_trace.trace.now.recording.past
+        (instant indexed_trace.trace.now.recording.past end) mentions.now }
+    ensures { IfOk result
+        (λ candidates. AreAllOpen (search_scope indexed_trace.entry.trace.now.recording f end) candidates.items) }
+{
+    let mut candidates = open_deliveries_of(alloc, indexed_trace, mentions, f, end)?;
+    sort_for_groups(&mut candidates)?;
+    Ok(candidates)
+}
+
+/// Estimates the number of entries of one walk, by the first delivery of its group.
+fn walk_length(group: &[OpenDelivery]) -> u64 {
+    match group.first() {
+        Some(delivery) => u64::from(delivery.until.saturating_sub(delivery.position)),
+        None => 0,
+    }
+}
+
+/// Estimates the number of entries of all walks that follow these deliveries.
+fn total_walk_length(candidates: &[OpenDelivery]) -> u64 {
+    let mut walked: u64 = 0;
+    for group in candidates.chunks(GROUP) {
+        walked = walked.saturating_add(walk_length(group));
+    }
+    walked
+}
+
+/// Returns the number of deliveries in the first groups whose walks cover about `share` entries.
+fn deliveries_for_share(candidates: &[OpenDelivery], share: u64) -> usize
+    ensures { result ≤ length candidates.now }
+{
+    let mut walked: u64 = 0;
+    for (number, group) in candidates.chunks(GROUP).enumerate() {
+        if walked >= share {
+            return candidates.len().min(number.saturating_mul(GROUP));
+        }
+        walked = walked.saturating_add(walk_length(group));
+    }
+    candidates.len()
+}
+
+/// A part of the followed deliveries of a prepared run. The model is these deliveries.
+#[derive(Drop)]
+pub struct Part<'a> {
+    walk_input: WalkInput<'a>,
+    f: u16,
+    end: u32,
+    candidates: &'a [OpenDelivery],
+}
+
+impl<'a> Model for Part<'a> {
+    ghost use Rattle.causal_audit.specs.Parts.{FollowedDeliveries};
+    ghost use Rattle.std.specs.Prelude.{◌≤◌};
+    ghost use Rattle.causal_audit.specs.Inside.Group.OpenDeliveries.{AreOpenDeliveries, positions_of};
+
+    ghost Value = { FollowedDeliveries };
+
+    ghost view = { λ a. record { run = a.walk_input.run; f = a.f; end = a.end; positions = positions_of a.candidates.now } };
+
+    ghost invariant = { λ a. AreOpenDeliveries a.walk_input.run a.f a.end a.candidates.now × (a.end ≤ a.walk_input.end) };
+}
+
+impl Part<'_> {
+    /// Returns the earliest breach of these deliveries, by instant and then by position, if it comes by the instant up
+    /// to which the run is prepared; `None` if none has an orphan by then.
+    ///
+    /// Memory, freed at the end: 4 bytes for each entry of its longest walk, 32 for each entry that mentions a
+    /// determinant of a group, at most 3.7 MB for the sends, and 32 kB.
+    ///
+    /// # Errors
+    /// `NoMemory` if allocation fails.
+    pub fn earliest_breach(&self, alloc: Global) -> Result<Option<Breach>, NoMemory>
+        ensures { IfOk result (EarliestOf self.now) }
+    {
+        self.walk_input
+            .earliest_of(alloc, self.f, self.end, self.candidates)
+    }
+}

@@ -1,0 +1,58 @@
+//! The processes that are down, those that hold a determinant, and its safety.
+ghost use Rattle.std.specs.Prelude.{◌≡◌};
+ghost use Rattle.std.specs.FinSet as set;
+ghost use Rattle.causal_name.specs.declared.Det.{Det};
+ghost use Rattle.causal_trace.specs.Past.{list_has};
+ghost use Rattle.causal_audit.specs.Quiet.{mentioned_dets};
+ghost use Rattle.causal_audit.specs.Inside.DeliveryStates.{ShowsDownAfter, ShowsHoldersAfter};
+ghost use Rattle.causal_audit.specs.Inside.SafetyScan.Scans.{IsSafetyOf};
+
+use crate::delivery_state::down_after;
+use crate::holders::holders_after;
+use crate::safety_scan::det_safety::DetSafety;
+use causal_holders::Holders;
+use causal_trace::entry::Entry;
+
+/// The processes that are down, and those that hold a determinant, at an instant.
+#[derive(Clone, Copy)]
+pub struct DownAndHolders {
+    pub down: Holders,
+    pub holders: Holders,
+}
+
+impl DownAndHolders {
+    /// Returns the processes that are down or hold the determinant.
+    pub fn down_or_holding(self) -> Holders
+        ensures { result ≡ set.union self.down self.holders }
+    {
+        self.down.union(self.holders)
+    }
+
+    /// Returns the safety of a determinant, given its receiver and the processes that this reaches. At most the given
+    /// number of processes may crash.
+    pub fn safety(&self, most: u16, receiver: u8, reached: Holders) -> DetSafety
+        ensures { IsSafetyOf result most receiver reached
+            (set.union self.now.down self.now.holders) }
+    {
+        let gone = self.down_or_holding();
+        if gone.len() > u32::from(most) || reached.is_subset(gone) {
+            DetSafety::Safe
+        } else if gone.contains(receiver) {
+            DetSafety::AtRisk
+        } else {
+            DetSafety::AtRiskWithoutReceiver
+        }
+    }
+
+    /// Updates the sets by one more entry, before which the processes `down` are down. `mentioned_dets`: the entry mentions
+    /// the determinant. A holder that is down has crashed, so it no longer holds the determinant.
+    pub fn apply_entry(&mut self, down: Holders, entry: &Entry, mentioned: bool)
+        ensures down { ShowsDownAfter entry.now down self.new.down }
+        ensures holders { (d : Det) → ShowsHoldersAfter (mentioned
+            ≡ list_has (mentioned_dets entry.now) d)
+            entry.now d (set.difference self.old.holders down) self.new.holders }
+    {
+        self.down = down_after(down, entry);
+        self.holders = holders_after(self.holders.minus(down), entry, mentioned);
+    }
+}

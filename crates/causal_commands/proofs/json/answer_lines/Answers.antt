@@ -1,0 +1,52 @@
+use Rattle.std.specs.Prelude.{IfSome}
+use Rattle.causal_workers.specs.Streaming.{IsStreamVerdict, ExplainsVerdictError}
+use Rattle.causal_workers.specs.Judgements.{IsJudgementWithin}
+use Rattle.causal_workers.specs.declared.streaming.StreamVerdict.{StreamVerdict}
+use Rattle.causal_workers.specs.declared.streaming.VerdictError.{VerdictError}
+use Rattle.causal_workers.specs.declared.judgement.Judged.{Judged}
+use Rattle.causal_commands.specs.Streams.{IsAnswer}
+use Rattle.causal_commands.specs.EarlyAnswers.{IsEarlyAnswer}
+use Rattle.causal_commands.specs.declared.answer.Answer.{Answer}
+use Rattle.causal_commands.specs.declared.input_audit.StreamRefusal.{StreamRefusal}
+use Rattle.causal_commands.specs.Inside.Answers.{IsVerdictOrRefusal, IsStreamVerdictOrError}
+use Rattle.causal_commands.specs.Inside.Refusals.{IsTrueRefusal, ExplainsStreamRefusal}
+use Rattle.causal_commands.proofs.Known.{IfOk-known}
+use Rattle.causal_commands.proofs.Writing.{tells}
+use Rattle.causal_commands.proofs.json.answer_lines.Goals as goal
+
+pub returns-in-Verdict-clause-ok : goal.returns-in-Verdict-clause-ok
+returns-in-Verdict-clause-ok g c =
+    let given = g.I.Read.remaining c.args.input.now in
+    let f = c.in-Verdict.faults in
+    rw c.in-Verdict.is (IfOk-known c.args.limits.entries given (λ k text. IsVerdictOrRefusal k text f c.judge_input-judged.result) (λ (a : Answer) k text. IsAnswer k text f a.ended a.line.items) c.verdict_answer.result
+    (tells given (λ (j : Judged) text. IsJudgementWithin c.args.limits.entries text f j) (λ (s : StreamRefusal) text. ExplainsStreamRefusal c.args.limits.entries text s) c.judge_input-judged.result c.judge_input-judged.ensures.ok c.judge_input-judged.ensures.err) c.verdict_answer.ensures.ok)
+
+pub returns-in-Verdict-clause-rejected : goal.returns-in-Verdict-clause-rejected
+returns-in-Verdict-clause-rejected g c =
+    IfOk-known c.args.limits.entries (g.I.Read.remaining c.args.input.now) (λ k text. IsVerdictOrRefusal k text c.in-Verdict.faults c.judge_input-judged.result) (λ (a : Answer) k text. IfSome a.refusal (IsTrueRefusal k text)) c.verdict_answer.result
+    (tells _ (λ (j : Judged) text. IsJudgementWithin c.args.limits.entries text c.in-Verdict.faults j) (λ (s : StreamRefusal) text. ExplainsStreamRefusal c.args.limits.entries text s) c.judge_input-judged.result c.judge_input-judged.ensures.ok c.judge_input-judged.ensures.err) c.verdict_answer.ensures.rejected
+
+pub returns-in-Breach-clause-ok : goal.returns-in-Breach-clause-ok
+returns-in-Breach-clause-ok g c =
+    let given = g.I.Read.remaining c.args.input.now in
+    let f = c.in-Breach.faults in
+    let known = c.judge_stream-known.result in
+    rw c.in-Breach.is (IfOk-known c.args.limits.entries given (λ k text. IsStreamVerdictOrError k text f known) (λ (a : Answer) k text. IsEarlyAnswer k text f a.ended a.line.items) c.early_answer.result
+    (tells given (λ (k : StreamVerdict) text. IsStreamVerdict c.args.limits.entries text f k) (λ (u : VerdictError) text. ExplainsVerdictError c.args.limits.entries text f u) known c.judge_stream-known.ensures.ok c.judge_stream-known.ensures.err) c.early_answer.ensures.ok)
+
+pub returns-in-Breach-clause-rejected : goal.returns-in-Breach-clause-rejected
+returns-in-Breach-clause-rejected g c =
+    IfOk-known c.args.limits.entries (g.I.Read.remaining c.args.input.now) (λ k text. IsStreamVerdictOrError k text c.in-Breach.faults c.judge_stream-known.result) (λ (a : Answer) k text. IfSome a.refusal (IsTrueRefusal k text)) c.early_answer.result
+    (tells _ (λ (k : StreamVerdict) text. IsStreamVerdict c.args.limits.entries text c.in-Breach.faults k) (λ (u : VerdictError) text. ExplainsVerdictError c.args.limits.entries text c.in-Breach.faults u) c.judge_stream-known.result c.judge_stream-known.ensures.ok c.judge_stream-known.ensures.err) c.early_answer.ensures.rejected
+
+pub returns-in-Verdict-clause-stops : goal.returns-in-Verdict-clause-stops
+returns-in-Verdict-clause-stops g c = rw c.in-Verdict.is c.judge_input-judged.ensures.stops
+
+pub returns-in-Breach-clause-stops : goal.returns-in-Breach-clause-stops
+returns-in-Breach-clause-stops g c = rw c.in-Breach.is c.judge_stream-known.ensures.stops
+
+pub returns-in-Reason-clause-stops : goal.returns-in-Reason-clause-stops
+returns-in-Reason-clause-stops g c = rw c.in-Reason.is c.view_answer.ensures.stops
+
+pub returns-in-Range-clause-stops : goal.returns-in-Range-clause-stops
+returns-in-Range-clause-stops g c = rw c.in-Range.is c.range_answer.ensures.stops

@@ -1,0 +1,33 @@
+-- The answer to a script's text, before it is written.
+use Rattle.std.specs.Prelude.{◌≢◌, ℕ, List, Option, IfSome, ⊤}
+use Rattle.causal_script.specs.declared.script.Script.{Script}
+use Rattle.causal_script.specs.declared.script.ScriptFault.{ScriptFault}
+use Rattle.causal_script.specs.Spelling.{Spells, script_content}
+use Rattle.causal_script.specs.Faults.{IsFirstFault}
+use Rattle.causal_script.specs.declared.script.ScriptFaultKind.TheVariants as kind
+use Rattle.causal_run.specs.declared.fault.RunFault.{RunFault}
+use Rattle.causal_run.specs.Runs.{ExplainsRunFault}
+use Rattle.causal_run.specs.ScriptProcesses.{IsStartOf}
+use Rattle.causal_commands.specs.declared.ended.Ended.{Ended}
+use Rattle.causal_commands.specs.declared.ended.Ended.TheVariants.{ReadFault, NoMemory, FinishFault}
+use Rattle.causal_commands.specs.Runs.{IsScriptAnswer, script_bytes_read}
+
+-- the answer to the bytes read from a reader, if its bytes are known
+abbrev pub IsPrintedFor : Option (List ℕ) → Ended → List ℕ → Type 0
+IsPrintedFor given ended out = IfSome given (λ text. IsScriptAnswer (script_bytes_read text) ended out)
+
+-- the answer to each text whose first error this is; to any text if the error is `NoMemory`
+abbrev pub IsScriptFaultAnswer : ScriptFault → Ended → List ℕ → Type 0
+IsScriptFaultAnswer fault ended out = (text : List ℕ) → (fault.kind ≢ kind.NoMemory → IsFirstFault text fault) → IsScriptAnswer text ended out
+
+-- the answer to the text of each script of whose run this fault is true
+abbrev pub IsRefusalAnswer : RunFault → Ended → List ℕ → Type 0
+IsRefusalAnswer fault ended out = (text : List ℕ) (script : Script) → Spells text (script_content script)
+    → ExplainsRunFault (IsStartOf script) script.commands fault → IsScriptAnswer text ended out
+
+-- the endings that write nothing
+abbrev pub RunWritesNothing : Ended → Type 0
+RunWritesNothing ReadFault = ⊤
+RunWritesNothing NoMemory = ⊤
+RunWritesNothing FinishFault = ⊤
+RunWritesNothing _ = ⊥

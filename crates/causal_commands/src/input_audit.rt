@@ -1,0 +1,101 @@
+//! Reads the text of a trace and audits it.
+ghost use Rattle.std.specs.Prelude.{◌≡◌, ◌≢◌, ◌≤◌, ℕ, List, IfOk, IfErr, IfSome, Err};
+ghost use Rattle.causal_text.specs.FaultContexts.{IsTrueRefusalWithin, ExplainsReadErrorWithin};
+ghost use Rattle.causal_text.specs.Spelling.{SpellsWithin};
+ghost use Rattle.causal_text.specs.Streams.{StopsOnceDecided};
+ghost use Rattle.causal_workers.specs.Judgements.{IsJudgementWithin};
+ghost use Rattle.causal_commands.specs.Inside.Refusals.{ExplainsStreamRefusal};
+
+use causal_text::{ReadError, TextKind, TextRefusal, read_within};
+use causal_trace::limits::Limits;
+use causal_trace::trace::Trace;
+use causal_workers::{AuditFault, Gate, Judged, judge_trace};
+use std::alloc::Global;
+use std::io::Read;
+use std::sync::Wait;
+use std::thread::Threads;
+
+/// Why a stream got no trace, or no verdict on it.
+#[derive(Drop)]
+pub(crate) enum StreamRefusal {
+    /// The reader failed.
+    Read,
+    /// The text is not a valid trace: its first error, with its context.
+    Text(TextRefusal),
+    NoMemory,
+    NoWorker,
+}
+
+/// Reads the trace that the bytes of a reader spell, within the limits.
+pub(crate) fn read_input<I: Read>(
+    alloc: Global,
+    input: &mut I,
+    limits: Limits,
+) -> Result<Trace, StreamRefusal>
+    ensures ok { IfOk result (λ trace. IfSome (I.remaining input.old)
+        (λ text. SpellsWithin limits.entries text trace.recording)) }
+    ensures err { IfErr result (λ stopped. IfSome (I.remaining input.old)
+        (λ text. ExplainsStreamRefusal limits.entries text stopped)) }
+    ensures stops { StopsOnceDecided limits.entries
+        (I.remaining input.old) (I.remaining input.new) }
+    ensures never_no_worker { result ≢ Err StreamRefusal.NoWorker }
+{
+    match read_within(alloc, input, limits) {
+        Ok(trace) => Ok(trace),
+        Err(unread) => Err(from_read_error(unread)),
+    }
+}
+
+fn from_read_error(unread: ReadError) -> StreamRefusal
+    ensures explains { (most : ℕ) (text : List ℕ) → ExplainsReadErrorWithin most text unread
+        → ExplainsStreamRefusal most text result }
+    ensures never_no_worker { result ≢ StreamRefusal.NoWorker }
+{
+    match unread {
+        ReadError::Source => StreamRefusal::Read,
+        ReadError::Text(rejected) => from_text_refusal(rejected),
+    }
+}
+
+fn from_text_refusal(rejected: TextRefusal) -> StreamRefusal
+    ensures explains { (most : ℕ) (text : List ℕ) → IsTrueRefusalWithin most text rejected
+        → ExplainsStreamRefusal most text result }
+    ensures never_no_worker { result ≢ StreamRefusal.NoWorker }
+{
+    match rejected.fault.kind {
+        TextKind::NoMemory => StreamRefusal::NoMemory,
+        _ => StreamRefusal::Text(rejected),
+    }
+}
+
+/// Reads the trace that the bytes of a reader spell, within the limits, and returns its verdict for f, by 1 to 64
+/// workers. The reader is called for pieces of 4,096 bytes, until it ends or a piece has an error, which comes with its
+/// context. With one worker the error is never `NoWorker`.
+pub(crate) fn judge_input<I: Read, G: Gate + Sync, R: Threads + Wait>(
+    rt: &R,
+    alloc: Global,
+    input: &mut I,
+    limits: Limits,
+    f: u16,
+    workers: u32,
+    gate: &G,
+) -> Result<Judged, StreamRefusal>
+    requires { (1 ≤ workers) × (workers ≤ 64) }
+    ensures ok { IfOk result (λ judged. IfSome (I.remaining input.old)
+        (λ text. IsJudgementWithin limits.entries text f judged)) }
+    ensures err { IfErr result (λ stopped. IfSome (I.remaining input.old)
+        (λ text. ExplainsStreamRefusal limits.entries text stopped)) }
+    ensures stops { StopsOnceDecided limits.entries
+        (I.remaining input.old) (I.remaining input.new) }
+    ensures one_worker { result ≡ Err StreamRefusal.NoWorker → 2 ≤ workers }
+{
+    let trace = match read_input(alloc, input, limits) {
+        Ok(trace) => trace,
+        Err(stopped) => return Err(stopped),
+    };
+    match judge_trace(rt, alloc, &trace, f, workers, gate) {
+        Ok(judged) => Ok(judged),
+        Err(AuditFault::NoMemory) => Err(StreamRefusal::NoMemory),
+        Err(AuditFault::NoWorker) => Err(StreamRefusal::NoWorker),
+    }
+}

@@ -1,0 +1,128 @@
+//! The command `merge`, over any reader and writer.
+ghost use Rattle.std.specs.Prelude.{◌≡◌, [], None, IfOk, IfErr};
+ghost use Rattle.causal_commands.specs.Merges.{WritesMergeFor, ReadsAtMostRecordings};
+ghost use Rattle.causal_commands.specs.Inside.MergeOutcomes.{IsFaultOutcome, IsTraceOutcome, IsMerge, IsMergeFor, MergeWritesNothing};
+
+use crate::bounded_read::{ReadFault, read_at_most};
+use crate::ended::Ended;
+use causal_merge::{MergeFault, MergeKind, MergedTrace, fault_line, max_input_len, merge_within};
+use causal_text::{TextKind, text_of, write_whole};
+use causal_trace::limits::Limits;
+use std::alloc::Global;
+use std::io::{Read, Write};
+
+/// The outcome of a merge: how it ended, the torn lines, and the error.
+#[derive(Drop)]
+pub struct MergeOutcome {
+    pub ended: Ended,
+    /// The numbers of the lines that a kill cut short and that are skipped, from 1, ascending; empty if there is no
+    /// trace.
+    pub torn: Vec<u32>,
+    /// The first error of the recorder files, if its line was written or would have been.
+    pub fault: Option<MergeFault>,
+}
+
+/// Reads the recorder files of all processes of one run within the limits, with their lines in any order, and writes
+/// the merged trace, or the line of their first error. The outcome reports a failure of the reader, the writer or an
+/// allocation.
+///
+/// At most one byte more than the limit is read (67,108,865 bytes by the default limits), so that input that is too
+/// long is detected. The input is read in pieces of 4,096 bytes, before anything is written.
+pub fn answer_merge<I: Read, O: Write>(
+    alloc: Global,
+    input: &mut I,
+    output: &mut O,
+    limits: Limits,
+) -> MergeOutcome
+    ensures writes { WritesMergeFor limits.entries (I.remaining input.old) result
+        (O.contents output.old) (O.contents output.new) }
+    ensures most { ReadsAtMostRecordings limits.entries (I.remaining input.old)
+        (I.remaining input.new) }
+{
+    let MergeAnswer { merging, text } = match answer_from(alloc, input, limits) {
+        Ok(answer) => answer,
+        Err(ended) => return empty_outcome(alloc, ended),
+    };
+    match write_whole(text.as_slice(), output) {
+        Ok(()) => merging,
+        Err(_) => MergeOutcome {
+            ended: Ended::WriteFault,
+            torn: merging.torn,
+            fault: merging.fault,
+        },
+    }
+}
+
+/// Returns an outcome without torn lines and without an error.
+fn empty_outcome(alloc: Global, ended: Ended) -> MergeOutcome
+    ensures { (result.ended ≡ ended) × (result.torn.items ≡ []) × (result.fault ≡ None) }
+{
+    MergeOutcome {
+        ended,
+        torn: Vec::new(alloc),
+        fault: None,
+    }
+}
+
+/// The text that answers the recorder files, and the outcome after it is written.
+#[derive(Drop)]
+struct MergeAnswer {
+    merging: MergeOutcome,
+    text: Vec<u8>,
+}
+
+fn answer_from<I: Read>(alloc: Global, input: &mut I, limits: Limits) -> Result<MergeAnswer, Ended>
+    ensures ok { IfOk result (λ answer. IsMergeFor limits.entries (I.remaining input.old)
+        answer.merging answer.text.items) }
+    ensures err { IfErr result MergeWritesNothing }
+    ensures most { ReadsAtMostRecordings limits.entries (I.remaining input.old)
+        (I.remaining input.new) }
+{
+    match read_at_most(alloc, input, max_input_len(limits) + 1) {
+        Ok(text) => answer_to(alloc, text.as_slice(), limits),
+        Err(ReadFault::Read) => Err(Ended::ReadFault),
+        Err(ReadFault::NoMemory) => Err(Ended::NoMemory),
+    }
+}
+
+fn answer_to(alloc: Global, text: &[u8], limits: Limits) -> Result<MergeAnswer, Ended>
+    ensures ok { IfOk result
+        (λ answer. IsMerge limits.entries text.now answer.merging answer.text.items) }
+    ensures err { IfErr result MergeWritesNothing }
+{
+    match merge_within(alloc, text, limits) {
+        Ok(merged) => trace_answer(alloc, merged),
+        Err(fault) => fault_answer(alloc, fault),
+    }
+}
+
+fn trace_answer(alloc: Global, merged: MergedTrace) -> Result<MergeAnswer, Ended>
+    ensures ok { IfOk result (λ answer. IsTraceOutcome merged answer.merging answer.text.items) }
+    ensures err { IfErr result MergeWritesNothing }
+{
+    let MergedTrace { trace, torn } = merged;
+    let Ok(text) = text_of(alloc, &trace) else {
+        return Err(Ended::NoMemory);
+    };
+    let merging = MergeOutcome {
+        ended: Ended::Merged,
+        torn,
+        fault: None,
+    };
+    Ok(MergeAnswer { merging, text })
+}
+
+fn fault_answer(alloc: Global, fault: MergeFault) -> Result<MergeAnswer, Ended>
+    ensures ok { IfOk result (λ answer. IsFaultOutcome fault answer.merging answer.text.items) }
+    ensures err { IfErr result MergeWritesNothing }
+{
+    if fault.kind == MergeKind::Line(TextKind::NoMemory) {
+        return Err(Ended::NoMemory);
+    }
+    let Ok(text) = fault_line(alloc, &fault) else {
+        return Err(Ended::NoMemory);
+    };
+    let mut merging = empty_outcome(alloc, Ended::Faulted);
+    merging.fault = Some(fault);
+    Ok(MergeAnswer { merging, text })
+}

@@ -1,8 +1,0 @@
-use Rattle.std.proofs.Common.{◌∙◌, sym}
-use Rattle.causal_protocol.specs.declared.request.Request.TheVariants as Ask
-use Rattle.causal_core.proofs.Legal.{tells_reason}
-use Rattle.causal_core.proofs.RuntimeRestart.{none_listed}
-use Rattle.causal_core.proofs.data.Data.prepare_restart.Goals as goal
-
-pub returns-in-Some-clause-refused : goal.returns-in-Some-clause-refused
-returns-in-Some-clause-refused g c = tells_reason c.args.self.now.run (Ask.Restart c.args.p) c.in-Some.fault (none_listed c.args.self.now.run c.args.p c.in-Some.fault (sym c.listing_fault.ensures ∙ c.in-Some.is))

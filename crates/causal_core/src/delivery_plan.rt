@@ -1,0 +1,22 @@
+//! The delivery plan, made before the box steps.
+use causal_log::Batch;
+use causal_name::Det;
+use causal_trace::entry::Dets;
+use std::sync::Arc;
+
+/// Everything that a delivery must allocate, made before the box steps.
+#[derive(Drop)]
+pub struct DeliveryPlan {
+    /// The delivery's determinant.
+    pub own: Det,
+    /// The position of the message's send entry.
+    pub send: u32,
+    /// The determinants that the deliver entry lists.
+    pub listed: Dets,
+    /// The batch that the message carries, shared with its sender.
+    pub piggyback: Arc<Batch>,
+    /// The batch that the next sends carry; the log keeps it.
+    pub next: Arc<Batch>,
+    /// A second reference to `next`, for these sends.
+    pub next_share: Arc<Batch>,
+}

@@ -1,0 +1,12 @@
+use Rattle.std.proofs.Common.{◌≡◌, length}
+use Rattle.causal_trace.specs.Past.{is_down}
+use Rattle.causal_trace.specs.State.{past_at}
+use Rattle.causal_explain.specs.Inside.Validities.{AreValidities}
+use Rattle.causal_explain.proofs.down_processes.down_validity.Given as goal
+
+-- holds after the entries so far
+abbrev pub invariant-loop-i : goal.invariant-loop-i
+invariant-loop-i l = record {
+  count : length l.standings ≡ 256;
+  stand : AreValidities (past_at l.entries l.i) (λ p past. is_down past p) l.standings;
+}

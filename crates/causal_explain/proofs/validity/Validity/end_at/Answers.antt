@@ -1,0 +1,12 @@
+use Rattle.std.proofs.Common.{arith}
+use Rattle.causal_explain.proofs.StandingLemmas.{ends_never, ends, stays_ended}
+use Rattle.causal_explain.proofs.validity.Validity.end_at.Goals as goal
+
+pub returns-in-Never : goal.returns-in-Never
+returns-in-Never c test e past is fails h = grind (arith, ends_never)
+
+pub returns-in-Holds : goal.returns-in-Holds
+returns-in-Holds c test e past is fails h = grind (arith, ends)
+
+pub returns-in-Ended : goal.returns-in-Ended
+returns-in-Ended c test e past is fails h = grind (arith, stays_ended)

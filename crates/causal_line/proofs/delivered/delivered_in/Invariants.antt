@@ -1,5 +1,0 @@
-use Rattle.causal_line.proofs.Firsts.{HasFirst}
-use Rattle.causal_line.proofs.delivered.delivered_in.Given as goal
-
-abbrev pub invariant-loop-k : goal.invariant-loop-k
-invariant-loop-k l = HasFirst l.trace.recording.past l.k l.delivered

@@ -1,4 +1,0 @@
-use Rattle.causal_line.proofs.delivered.undelivered.Given as goal
-
-abbrev pub invariant-loop-det : goal.invariant-loop-det
-invariant-loop-det l = Unit {0}

@@ -1,4 +1,0 @@
-use Rattle.causal_merge.proofs.merger.Merger.take.Goals as goal
-
-pub returns-in-Ok-clause-ok : goal.returns-in-Ok-clause-ok
-returns-in-Ok-clause-ok c = λ before h. c.in-Ok.ensures.ok before c.args.placed.line h

@@ -1,0 +1,162 @@
+//! The content of the lines read so far, as the merge needs it.
+ghost use Rattle.std.specs.Prelude.{◌≡◌, ◌+◌, ◌<◌, ◌≤◌, ◌∷◌, ℕ, List, [], length, sum_by, slice_index_or, true, false, Ok, OnOk, IfOk, IfErr, IfSome, IfNone};
+ghost use Rattle.causal_trace.specs.Limits.{IsProcessCount};
+ghost use Rattle.causal_line.specs.Returns.{IsFaultOrNoMemory};
+ghost use Rattle.causal_merge.specs.declared.event.RecorderLine.{RecorderLine};
+ghost use Rattle.causal_merge.specs.ReadLines.{HasAllHeaders, LacksHeader};
+ghost use Rattle.causal_merge.specs.Reading.{max_bytes, next_line};
+ghost use Rattle.causal_merge.specs.Inside.ParsedFiles.{IsParsed, HasRead, IsFaultOf, IsSound};
+
+use crate::event::{EventAtLine, RecorderLine, RunHeader};
+use crate::fault::{MergeFault, MergeKind};
+use crate::line_parser::next_line;
+use causal_line::kind::TextKind;
+use causal_trace::limits::Limits;
+use std::alloc::Global;
+
+// the first of the n flags that is not set
+fn first_unset(headers_seen: &[bool; 256], n: u16) -> Option<usize>
+    requires { n ≤ 256 }
+    ensures some { IfSome result (λ p. (p < n) ×
+        (slice_index_or headers_seen.now p false ≡ false)) }
+    ensures none { IfNone result ((p : ℕ) → p < n →
+        slice_index_or headers_seen.now p false ≡ true) }
+{
+    for p in 0..n as usize {
+        if !headers_seen[p] {
+            return Some(p);
+        }
+    }
+    None
+}
+
+/// The run of the first header, which processes have headers, the events in the order of the input, the numbers of the
+/// torn lines, and the number of lines.
+#[derive(Drop)]
+pub(crate) struct ParsedFiles {
+    pub run: Option<RunHeader>,
+    pub headers_seen: [bool; 256],
+    pub events: Vec<EventAtLine>,
+    pub torn: Vec<u32>,
+    pub count: u32,
+}
+
+impl ParsedFiles {
+    /// Starts before the first line.
+    pub(crate) fn new(alloc: Global) -> ParsedFiles
+        ensures read { (most : ℕ) → HasRead most result [] }
+        ensures count { result.count ≡ 0 }
+    {
+        ParsedFiles {
+            run: None,
+            headers_seen: [false; 256],
+            events: Vec::new(alloc),
+            torn: Vec::new(alloc),
+            count: 0,
+        }
+    }
+
+    // adds the content of one more line
+    fn note(&mut self, line: RecorderLine) -> Result<(), TextKind>
+        requires few { self.old.count ≤ max_bytes }
+        requires sound { IsSound line }
+        ensures ok { OnOk result
+            ((said : List RecorderLine) → IsParsed self.old said →
+            IsParsed self.new (line ∷ said)) }
+        ensures err { IfErr result (λ kind. kind ≡ TextKind.NoMemory) }
+        ensures count { OnOk result (self.new.count ≡ self.old.count + 1) }
+    {
+        let number = self.count + 1;
+        match line {
+            RecorderLine::Header { process, run } => {
+                self.headers_seen[process.0 as usize] = true;
+                self.run = Some(self.run.unwrap_or(run));
+            }
+            RecorderLine::Event { event } => self.events.push(EventAtLine {
+                line: number,
+                event,
+            })?,
+            RecorderLine::Torn => self.torn.push(number)?,
+            RecorderLine::Blank => {}
+            RecorderLine::Heard => {}
+        }
+        self.count = number;
+        Ok(())
+    }
+
+    // reads one more line, which ends at byte number `end` of the text
+    fn read_line(
+        &mut self,
+        alloc: Global,
+        limits: Limits,
+        end: usize,
+        line: &[u8],
+    ) -> Result<(), TextKind>
+        requires { self.old.count ≤ max_bytes }
+        ensures ok { OnOk result ((said : List RecorderLine) → IsParsed self.old said →
+            (next : RecorderLine)
+            × (next_line limits.entries self.old.run end line.now ≡ Ok next)
+            × IsParsed self.new (next ∷ said)) }
+        ensures err { IfErr result
+            (λ kind. IsFaultOrNoMemory kind kind
+            (next_line limits.entries self.old.run end line.now)) }
+        ensures within { OnOk result (end ≤ max_bytes) }
+        ensures count { OnOk result (self.new.count ≡ self.old.count + 1) }
+    {
+        let said = next_line(alloc, limits, self.run, end, line)?;
+        self.note(said)
+    }
+
+    /// Reads the next line, which ends at byte number `end` of the text.
+    pub(crate) fn push_line(
+        &mut self,
+        alloc: Global,
+        limits: Limits,
+        end: usize,
+        line: &[u8],
+    ) -> Result<(), MergeFault>
+        requires { self.old.count ≤ max_bytes }
+        ensures ok { OnOk result ((before : List (List ℕ)) → HasRead limits.entries self.old before
+            → end ≡ sum_by length (line.now ∷ before)
+            → HasRead limits.entries self.new (line.now ∷ before)) }
+        ensures err { IfErr result (λ fault. (before : List (List ℕ))
+            → HasRead limits.entries self.old before → end ≡ sum_by length (line.now ∷ before)
+            → IsFaultOf limits.entries fault (line.now ∷ before)) }
+        ensures count { OnOk result (self.new.count ≡ self.old.count + 1) }
+        ensures within { OnOk result (end ≤ max_bytes) }
+    {
+        let number = self.count + 1;
+        match self.read_line(alloc, limits, end, line) {
+            Ok(()) => Ok(()),
+            Err(kind) => Err(MergeFault {
+                line: number,
+                kind: MergeKind::Line(kind),
+            }),
+        }
+    }
+
+    /// Returns the run, if each of its processes has a header; else the error `NoHeader`.
+    pub(crate) fn whole_run(&self) -> Result<RunHeader, MergeFault>
+        requires few { self.now.count ≤ max_bytes }
+        requires said { (said : List RecorderLine) × IsParsed self.now said }
+        ensures ok { IfOk result
+            (λ run. (said : List RecorderLine) → IsParsed self.now said → HasAllHeaders said run) }
+        ensures few { IfOk result
+            (λ run. (said : List RecorderLine) → IsParsed self.now said →
+            IsProcessCount run.processes) }
+        ensures err { IfErr result (λ fault. (said : List RecorderLine) → IsParsed self.now said
+            → LacksHeader said × (fault ≡ record { line = length said + 1; kind = MergeKind.NoHeader })) }
+    {
+        let missing = MergeFault {
+            line: self.count + 1,
+            kind: MergeKind::NoHeader,
+        };
+        let Some(run) = self.run else {
+            return Err(missing);
+        };
+        match first_unset(&self.headers_seen, run.processes) {
+            None => Ok(run),
+            Some(_process) => Err(missing),
+        }
+    }
+}

@@ -1,0 +1,107 @@
+-- What the general invariant says of the memories of a run, in which nobody recovers while others go on.
+use Rattle.std.proofs.Common.{ℕ, ◌≡◌, ◌<◌, inl, inr, true, false, List, [], length, slice_get, Option, Some, None, is_none, refl, sym, ap, ◌∙◌, arith}
+use Rattle.std.specs.Option.{option_map, option_map_or}
+use Rattle.std.proofs.lemmas.Bool.{both_ways, or_cases, or_left, or_right, and_from, eq-eqb}
+use Rattle.causal_name.specs.declared.Det.{Det}
+use Rattle.causal_holders.proofs.Lemmas.MemberCounts.{count_below-within}
+use Rattle.causal_trace.specs.declared.entry.Entry.{Entry}
+use Rattle.causal_trace.specs.Past.{is_down, logs}
+use Rattle.causal_trace.specs.Dependence.{AreForward}
+use Rattle.causal_trace.specs.Judgement.{IsSafeTrace}
+use Rattle.causal_steps.specs.Recovery.{must_recover, counts_as_holder, IsRecoverable, HasOrRecovers}
+use Rattle.causal_steps.specs.Transit.{Parcel, IsInTransit, Survives}
+use Rattle.causal_steps.specs.Invariant.{StepInvariant}
+use Rattle.causal_steps.proofs.Lemmas.Reachable.{reachable_safe}
+use Rattle.causal_protocol.specs.Memory.{SentMessage, Memory, Memories, present_at}
+use Rattle.causal_protocol.specs.MemoryQueries.{messages, parcel_of, volatile_of}
+use Rattle.causal_protocol.specs.Invariant.{survives, logs_or_stable, down_or_holding, IsSafeDet, HoldsOrIsDown, FewAreDown, KnownHoldersAreTrue, CarriedHoldersAreTrue, MarksAreTrue, DependentsLog, MessagesCarry, ReceiversHaveSurvivors, SendersHaveCarried, SlotsAreSingle, SurvivorsAreDelivered}
+use Rattle.causal_protocol.specs.Runs.{IsInvariantState}
+use Rattle.causal_protocol.proofs.Places.{at_within}
+use Rattle.causal_protocol.proofs.Sets.{survives_found}
+
+-- a parcel in transit is a message in a memory
+pub message_of_parcel : (ms : Memories) (t : Parcel) → IsInTransit (volatile_of ms) t → (p ssn : ℕ) × (k : SentMessage) × (slice_get (messages ms p) ssn ≡ Some k) × (t ≡ parcel_of p k)
+message_of_parcel ms t (p, ssn, at_it) = by (slice_get (messages ms p) ssn) refl at_it
+  where
+    by : (o : Option SentMessage) → slice_get (messages ms p) ssn ≡ o → option_map (parcel_of p) o ≡ Some t → (p ssn : ℕ) × (k : SentMessage) × (slice_get (messages ms p) ssn ≡ Some k) × (t ≡ parcel_of p k)
+    by None is h = absurd (let e : None ≡ Some t = h in cc)
+    by (Some k) is h = let e : Some (parcel_of p k) ≡ Some t = h in (p, ssn, k, is, cc)
+
+-- and a message in a memory is in transit
+pub parcel_of_message : (ms : Memories) (p ssn : ℕ) (k : SentMessage) → slice_get (messages ms p) ssn ≡ Some k → IsInTransit (volatile_of ms) (parcel_of p k)
+parcel_of_message ms p ssn k h = (p, ssn, ap (option_map (parcel_of p)) h)
+
+-- a process that keeps a message is one of the processes
+pub keeps_within : (ms : Memories) (p ssn : ℕ) (k : SentMessage) → slice_get (messages ms p) ssn ≡ Some k → p < length ms
+unfolding messages
+keeps_within ms p ssn k h = by (present_at ms p) refl
+  where
+    by : (o : Option Memory) → present_at ms p ≡ o → p < length ms
+    by None is = absurd (let e : None ≡ Some k = ap (λ o. slice_get (option_map_or (λ m. m.sent) o []) ssn) (sym is) ∙ h in cc)
+    by (Some m) is = at_within ms p m is
+
+-- and it is up
+no_messages : (ms : Memories) (p ssn : ℕ) (k : SentMessage) → slice_get (messages ms p) ssn ≡ Some k → is_none (present_at ms p) ≡ false
+unfolding messages
+no_messages ms p ssn k h = grind arith
+
+module _ (n f : ℕ) (past : List Entry) (ms : Memories) (s : IsInvariantState n f past ms) where
+  pub invariant : StepInvariant n f past (volatile_of ms)
+  invariant = (reachable_safe n f past (volatile_of ms) s.reached).facts
+
+  pub forward : AreForward past
+  forward = (reachable_safe n f past (volatile_of ms) s.reached).forward
+
+  pub safe : IsSafeTrace (record { processes = n; past = past }) f
+  safe = (reachable_safe n f past (volatile_of ms) s.reached).safe
+
+  -- a process that is up has nothing to recover
+  pub found_up : (p : ℕ) (d : Det) → is_down past p ≡ false → HasOrRecovers past d p → logs_or_stable past p d ≡ true
+  found_up p d up (inl stable) = or_right _ _ stable
+  found_up p d up (inr holds) = elim (or_cases (logs past p d) (must_recover past p d) holds) [ inl has_d ↦ or_left _ _ has_d | inr lost ↦ absurd (both_ways (is_down past p) up (invariant.recovering_are_down p d lost)) ]
+
+  counted : (d : Det) (q : ℕ) → counts_as_holder past d q ≡ true → down_or_holding past d q ≡ true
+  counted d q holds = elim (or_cases (logs past q d) (must_recover past q d) holds) [ inl has_d ↦ or_right _ _ has_d | inr lost ↦ or_left _ _ (invariant.recovering_are_down q d lost) ]
+
+  true_of : (d : Det) (q : ℕ) → HasOrRecovers past d q → HoldsOrIsDown past d q
+  true_of d q (inl stable) = inl stable
+  true_of d q (inr holds) = inr (counted d q holds)
+
+  spread : (d : Det) → IsRecoverable n f past d → IsSafeDet n f past d
+  spread d (inl stable) = inl stable
+  spread d (inr many) = inr (omega (arith, many, count_below-within n (counts_as_holder past d) (down_or_holding past d) (λ p low h. counted d p h)))
+
+  alive : (d : Det) → survives n past d ≡ true → Survives n past (volatile_of ms) d
+  alive d h = elim (survives_found n past d h) [ inl stable ↦ inl stable | inr held ↦ inr (inl held) ]
+
+  pub few_down : FewAreDown n f past ms
+  few_down = invariant.few_down
+
+  pub known_holders_true : KnownHoldersAreTrue n f past ms
+  known_holders_true p d q low h = true_of d q (invariant.known_holders_true p d q low h)
+
+  pub carried_holders_true : CarriedHoldersAreTrue n f past ms
+  carried_holders_true p k d q low keeps h = true_of d q (invariant.carried_holders_true (parcel_of p k) d q (parcel_of_message ms p keeps.0 k keeps.1) (or_left _ _ h))
+
+  pub marks_true : MarksAreTrue n f past ms
+  marks_true p d low h = invariant.known_stable_true p d low h
+
+  pub dependents_log : DependentsLog n f past ms
+  dependents_log i p d low at_it depends = elim (invariant.dependents_log i p d low at_it depends) [ inl has_d ↦ inl has_d | inr many ↦ inr (spread d many) ]
+
+  pub messages_carry : MessagesCarry n f past ms
+  messages_carry i p k d low at_it keeps reaches = elim (invariant.messages_carry i k.send (parcel_of p k) d at_it (parcel_of_message ms p keeps.0 k keeps.1) refl reaches) [ inl goes ↦ inl goes | inr many ↦ inr (spread d many) ]
+
+  pub receivers_have_survivors : ReceiversHaveSurvivors n f past ms
+  receivers_have_survivors d low up h = found_up d.dest.0 d up (invariant.receivers_have_survivors d (alive d h))
+
+  pub senders_have_carried : SendersHaveCarried n f past ms
+  senders_have_carried p k d low keeps h =
+      let up : is_down past p ≡ false = sym (s.fit.state p low) ∙ no_messages ms p keeps.0 k keeps.1 in
+      found_up p d up (invariant.carried_holders_true (parcel_of p k) d p (parcel_of_message ms p keeps.0 k keeps.1) (or_right _ _ (and_from _ _ h (eq-eqb p p refl))))
+
+  pub single_slots : SlotsAreSingle n past
+  single_slots a b ha hb dest rsn = invariant.no_slot_shared a b (alive a ha) (alive b hb) dest rsn
+
+  pub survivors_delivered : SurvivorsAreDelivered n past
+  survivors_delivered d h = invariant.survivors_delivered d (alive d h)

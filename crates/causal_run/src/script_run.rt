@@ -1,0 +1,51 @@
+//! A script, run by processes of its kind.
+ghost use Rattle.std.specs.Prelude.{◌≡◌, ◌≤◌, ◌<◌, IfOk, IfErr};
+ghost use Rattle.causal_trace.specs.Judgement.{IsSafeTrace};
+ghost use Rattle.causal_run.specs.Runs.{IsRunFrom, ExplainsRunFault};
+ghost use Rattle.causal_run.specs.ScriptProcesses.{IsStartOf};
+
+use crate::fault::RunFault;
+use crate::script_commands::perform;
+use crate::script_process::ScriptProcess;
+use causal_process::Process;
+use causal_protocol::request::Request;
+use causal_script::Script;
+use causal_trace::trace::Trace;
+use std::alloc::Global;
+use std::sync::Wait;
+
+/// Returns the number with which the spare for a restart of `p` is made: `p`, or 0 if `p` is not a process of the
+/// script. The core then refuses the restart.
+fn spare_for(script: &Script, p: u8) -> u8
+    requires { 1 ≤ script.now.n }
+    ensures below { result < script.now.n }
+    ensures own { p < script.now.n → result ≡ p }
+{
+    if u16::from(p) < script.n { p } else { 0 }
+}
+
+/// Runs a script: makes its processes and the spares of its restarts, and performs its commands.
+///
+/// # Errors
+/// The errors of `perform`.
+pub fn run_script<R: Wait>(rt: &R, alloc: Global, script: &Script) -> Result<Trace, RunFault>
+    requires some { 1 ≤ script.now.n }
+    requires few { script.now.n ≤ 256 }
+    ensures run { IfOk result
+        (λ trace. IsRunFrom (IsStartOf script.now) script.now.commands trace.recording) }
+    ensures safe { IfOk result (λ trace. IsSafeTrace trace.recording script.now.f) }
+    ensures refused { IfErr result (ExplainsRunFault (IsStartOf script.now) script.now.commands) }
+{
+    let mut boxes: Vec<Box<dyn Process + Send>> = Vec::new(alloc);
+    for me in 0..script.n {
+        boxes.push(Box::new(alloc, ScriptProcess::new(script, me as u8))?)?;
+    }
+    let mut spares: Vec<Box<dyn Process + Send>> = Vec::new(alloc);
+    for command in script.commands.as_slice() {
+        if let Request::Restart { p } = command.request {
+            let me = spare_for(script, p.0);
+            spares.push(Box::new(alloc, ScriptProcess::new(script, me))?)?;
+        }
+    }
+    perform(rt, alloc, script, boxes, spares)
+}

@@ -1,6 +1,0 @@
-use Rattle.std.proofs.Common.{◌≡◌, ◌≤◌, take}
-use Rattle.causal_script.specs.Lines.{feeds}
-use Rattle.causal_script.proofs.parse.feeds.Given as goal
-
-abbrev pub invariant-loop-byte : goal.invariant-loop-byte
-invariant-loop-byte l = (l.feeds ≡ feeds (take l.byte-index l.bytes)) × (l.feeds ≤ l.byte-index)

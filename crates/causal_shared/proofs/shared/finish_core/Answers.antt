@@ -1,0 +1,54 @@
+use Rattle.std.proofs.Common.{arith, ◌≡◌, ap, ◌∙◌}
+use Rattle.std.specs.Prelude.{Option, Result, Some, Ok, Err}
+use Rattle.causal_shared.specs.declared.fault.FinishFault.{FinishFault}
+use Rattle.causal_core.specs.CoreView.{core_run}
+use Rattle.causal_protocol.proofs.Lemmas.KeptByType.{invariant_safe, invariant_single}
+use Rattle.causal_shared.proofs.Totals.{total_is}
+use Rattle.causal_shared.proofs.shared.finish_core.Goals as goal
+
+module _ {A : Type 0} where
+  ok_err : (x : A) (fault : FinishFault) → ◌≡◌ {A = Result A FinishFault} (Ok x) (Err fault) → ⊥
+  ok_err x fault e = cc
+
+  -- the same error is returned and found
+  found : (a b : FinishFault) → ◌≡◌ {A = Result A FinishFault} (Err a) (Err b) → ◌≡◌ {A = Option FinishFault} (Some a) (Some b)
+  found a b e = ap Some (let is : a ≡ b = cc e in is)
+
+  told : (a b : FinishFault) → ◌≡◌ {A = Option FinishFault} (Some a) (Some b) → ◌≡◌ {A = Result A FinishFault} (Err a) (Err b)
+  told a b e = ap Err (let is : a ≡ b = cc e in is)
+
+pub returns-in-Some-clause-missing : goal.returns-in-Some-clause-missing
+returns-in-Some-clause-missing g c = grind (arith, found, told)
+
+pub returns-in-Some-clause-mismatch : goal.returns-in-Some-clause-mismatch
+returns-in-Some-clause-mismatch g c = λ n e. c.finish_fault.ensures.mismatch n (c.in-Some.is ∙ found _ _ e)
+
+pub returns-in-Some-clause-opened : goal.returns-in-Some-clause-opened
+returns-in-Some-clause-opened g c = grind (arith, found)
+
+pub returns-clause-safe : goal.returns-clause-safe
+returns-clause-safe g c = invariant_safe (core_run c.into_parts-core.result.0) c.into_parts-core.result.0.invariant_holds
+
+pub returns-clause-single : goal.returns-clause-single
+returns-clause-single g c = grind (arith, invariant_single)
+
+pub returns-clause-opening : goal.returns-clause-opening
+returns-clause-opening g c = rw (c.into_parts-core.ensures.run, c.into_parts-core.ensures.history) c.in_default.ensures.settled.begins
+
+pub returns-clause-seats : goal.returns-clause-seats
+returns-clause-seats g c = rw c.into_parts-core.ensures.history c.in_default.ensures.settled.agree
+
+pub returns-clause-others : goal.returns-clause-others
+returns-clause-others g c = rw c.into_parts-core.ensures.history c.in_default.ensures.settled.seated
+
+pub returns-clause-total : goal.returns-clause-total
+returns-clause-total g c = grind (arith, total_is)
+
+pub returns-clause-missing : goal.returns-clause-missing
+returns-clause-missing g c = grind (arith, ok_err)
+
+pub returns-clause-mismatch : goal.returns-clause-mismatch
+returns-clause-mismatch g c = grind (arith, ok_err)
+
+pub returns-clause-opened : goal.returns-clause-opened
+returns-clause-opened g c = grind (arith, ok_err)

@@ -1,5 +1,0 @@
-use Rattle.causal_text.proofs.Begun.{none_begins}
-use Rattle.causal_text.proofs.beginning.Beginning.new.Goals as goal
-
-pub returns-clause-none : goal.returns-clause-none
-returns-clause-none c = none_begins

@@ -1,0 +1,10 @@
+-- What the command line requests.
+use Rattle.std.specs.Prelude.{⊤}
+use Rattle.causal_commands.specs.Json.{HasFewWorkers}
+use Rattle.causal_tool.specs.declared.args.Invocation.{Invocation}
+use Rattle.causal_tool.specs.declared.args.Invocation.TheVariants.{Trace}
+
+-- a question on a trace is requested with 1 to 64 workers
+abbrev pub HasWorkerCountInRange : Invocation → Type 0
+HasWorkerCountInRange (Trace question form limits) = HasFewWorkers question
+HasWorkerCountInRange _ = ⊤

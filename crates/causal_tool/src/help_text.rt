@@ -1,0 +1,140 @@
+//! The help of each command after its options.
+
+/// The help of `audit`.
+pub(crate) const ANSWERS: &str = "\
+Answers, as one line on standard output:
+  accept f=F entries=N deliveries=N
+      no crash of at most F processes leaves an orphan
+  exceeded f=F instant=T down=P,..
+      after T entries more than F processes are down
+  orphan f=F instant=T delivery=K crash=P,.. orphan=P
+      after T entries a crash of these (-: of none) loses the delivery of entry K, on which
+      P depends; entries count from 0
+  fault line=L KIND
+      the text is no trace: its first fault is at line L
+With --until-breach a look is taken after 1, 2, 4 entries and so on. Where it finds a breach
+nothing more is read, and the line ends with
+  read=N
+      N entries were read; what comes later may have a fault
+With --json the same as one JSON object:
+  {\"verdict\":\"orphan\",\"f\":F,\"instant\":T,\"delivery\":K,\"crash\":[P,..],\"orphan\":P}
+
+Exit status:
+  0  the trace is accepted
+  1  more than F are down, or there is an orphan
+  2  the text is no trace
+  3  the words ask for nothing that the program does
+  4  reading or writing failed
+  5  memory or a thread was refused
+
+Example:
+  causal_tool audit --faults 1 < trace.jsonl";
+
+/// The help of `explain`.
+pub(crate) const REASONS: &str = "\
+Answers on standard output: the line that `audit` prints, and below it, one fact a line,
+  for `accept`, the least number of faults for which a delivery has an orphan, that delivery and
+      its orphan
+  for `exceeded`, of each process that is down the line of its crash
+  for `orphan`, the delivery and its determinant, who has that in its log and who lost it, who
+      is down, the chain of events by which the orphan comes to depend on the delivery, and
+      the delivery on it whose list lacks the determinant first
+
+Without --faults, for which numbers of faults F the run is safe, a line for each part:
+  exceeded to=F       up to F, at some instant more than F processes are down
+  accept from=F to=F  the run is safe
+  orphan from=F       from F on, at some instant a delivery has an orphan
+
+With --json the same as one JSON object, but for the sentences behind the colons:
+  {\"verdict\":\"orphan\",\"f\":F,..,\"reason\":[{\"fact\":\"delivery\",\"line\":L,..},..]}
+  {\"ranges\":[{\"verdict\":\"accept\",\"from\":F,\"to\":F},..]}
+
+Exit status: as that of `audit`; without --faults 0 for each trace
+
+Example:
+  causal_tool explain --faults 1 < trace.jsonl";
+
+/// The help of `draw`.
+pub(crate) const PICTURES: &str = "\
+Answers on standard output:
+  a space-time diagram in SVG: a line for each process, marks for what happens there, and
+      arrows for messages; with the verdict's instant, the processes of its crash set or those
+      that are down, and the chain of events by which the orphan comes to depend on the
+      delivery; at most 200 entries, those about the instant
+  nothing, where the text is no trace; standard error says what is wrong there
+
+Exit status: as that of `audit`
+
+Example:
+  causal_tool draw --faults 1 < trace.jsonl > picture.svg";
+
+/// The help of `merge`.
+pub(crate) const RECORDINGS: &str = "\
+Reads the recordings of all processes of one run on standard input, their lines in any order.
+A line is one JSON array:
+  [\"recording\",P,1,N,RUN]               the header of process P, of N processes
+  [\"send\",P,C,Q,SSN]                    P sends to Q
+  [\"deliver\",P,C,S,I,SSN,RSN,[DET,..]]  P delivers what S, in incarnation I, sent as SSN
+  [\"stable\",P,C,DET]                    P knows that DET is in stable storage
+  [\"crash\",P,C]                         P goes down
+  [\"restart\",P,C,[DET,..]]              P comes up in its next incarnation
+  [\"forget\",P,C,[DET,..]]               P takes these out of its log
+  [\"heard\",P,C,Q,D]                     passed over
+C is P's clock, which ascends with each line; DET is [SOURCE,SSN,RECEIVER,RSN].
+
+Answers on standard output:
+  the trace, its entries ascending by clock, then process
+  fault line=L KIND
+      the recordings make no trace: their first fault is at line L of the input
+
+Standard error tells each line that a kill has cut, which is passed over, and what a fault means.
+
+Exit status:
+  0  the trace was printed
+  2  the recordings make no trace
+  3  the words ask for nothing that the program does
+  4  reading or writing failed
+  5  memory was refused
+
+Example:
+  cat run/*.log | causal_tool merge | causal_tool audit --faults 1";
+
+/// The help of `run`.
+pub(crate) const SCRIPTS: &str = "\
+A script is lines on standard input, the first of which starts the run:
+  start ring 3 1 2
+  deliver 1 0 0
+  crash 1
+  restart 1
+  deliver 1 0 0
+
+Lines of a script:
+  start KIND N F [H]  N processes (1 to 256), of which at most F may be down at once
+  deliver Q P S       Q delivers the message that P, since it came up, sent as number S
+  crash P             P goes down: its state, its log and its sent messages are lost
+  restart P           P comes up again
+  flush P             what P logs becomes stable
+  forget P            P takes out of its log what it knows to be stable
+
+Kinds of processes (H from 0 to 255):
+  start ring N F H    0 sends H to the next; whoever gets B above 0 sends B - 1 to the next
+  start echo N F H    each sends H to its partner (0 and 1, 2 and 3, ..); whoever gets B
+                      above 0 sends B - 1 back
+  start tally N F     each but 0 sends its number to 0, which tells each the total so far
+
+Answers on standard output:
+  the trace of the run, which an audit for F accepts
+  refused line=L NAME
+      the command of line L cannot be done; no trace is printed
+  fault line=L KIND
+      the text is no script: its first fault is at line L
+
+Exit status:
+  0  the trace was printed
+  2  a command was refused, or the text is no script
+  3  the words ask for nothing that the program does
+  4  reading or writing failed
+  5  memory was refused, or the run could not be finished
+
+Example:
+  causal_tool run < script | causal_tool audit --faults 1";

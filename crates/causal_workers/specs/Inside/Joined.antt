@@ -1,8 +1,0 @@
--- Numbers joined by commas, whose texts are there already.
-use Rattle.std.specs.Prelude.{◌≡◌, ℕ, List, map}
-use Rattle.std.specs.Fmt.{decimal}
-use Rattle.causal_workers.specs.Lines.{joined_by_commas}
-
--- where the texts are those of numbers, the line has them joined by commas
-abbrev pub JoinsNumbers : List (List ℕ) → List ℕ → Type 0
-JoinsNumbers texts line = (ps : List ℕ) → texts ≡ map decimal ps → line ≡ joined_by_commas ps
