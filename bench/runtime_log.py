@@ -15,12 +15,12 @@ CRATES = ("causal_name", "causal_holders", "causal_log")
 LISTED = """\
 causal_name: thiserror
 causal_holders: causal_name
-causal_log: causal_name causal_holders thiserror
+causal_log: causal_name causal_holders indexmap thiserror
 runtime_log: anyhow causal_name causal_log
 """
 RUNS = 5
 RINGS = ((2, 1), (64, 1), (2, 2), (64, 2), (64, 8))
-KEYS = ((256, 512), (1_024, 2_048), (2_048, 4_096), (16_384, 32_768))
+KEYS = (256, 1_024, 2_048, 8_192)
 
 
 def newest(paths):
@@ -100,22 +100,20 @@ def keys():
     """Determinants that were chosen to collide, and the targets."""
     lines = [
         "",
-        "Determinants that a log takes in and tells of, in nanoseconds for each. *spread* are all of a run in which 256 receivers have as many "
-        "deliveries each, and *alike* as many of messages that put them into one group of a hash table whose seed is fixed. *meeting* are all "
-        "of a run in which as many receivers as may be come to one head of the log. *picked* are those of 32,768 deliveries that share as few "
-        "heads as hold them. A log has so many heads for so many determinants, until they are found to be crowded.",
+        "Nanoseconds for each determinant that a log adds and looks up. *spread*: all of a run with 256 receivers. *alike*: chosen to collide "
+        "in a hash table of determinants with a fixed seed. *picked*: those of a run of 32,768 deliveries that collide in a log whose seed is "
+        "known. *seeded*: the same in a log with another seed.",
         "",
-        "| heads | spread | alike | meeting | picked |",
+        "| determinants | spread | alike | picked | seeded |",
         "|---|---|---|---|---|",
     ]
     targets = []
-    for count, heads in KEYS:
-        columns = list(zip(*figures(("keys", count, heads))))
-        alike, meeting, spread, picked = (min(took) / many[0] for many, took in zip(columns[::2], columns[1::2]))
-        lines.append(f"| {heads:,} | {spread:.1f} | {alike:.1f} | {meeting:.1f} | {picked:.1f} |")
-        targets.append((f"{heads:,} heads: determinants chosen to collide in a hash / as many of a run", alike / spread, 1.3))
-        targets.append((f"{heads:,} heads: those of a run whose receivers meet / as many of another run", meeting / spread, 1.3))
-        targets.append((f"{heads:,} heads: those picked of a longer run / as many of a run", picked / spread, 1.3))
+    for count in KEYS:
+        columns = list(zip(*figures(("keys", count))))
+        spread, alike, picked, seeded = (min(took) / many[0] for many, took in zip(columns[::2], columns[1::2]))
+        lines.append(f"| {count:,} | {spread:.1f} | {alike:.1f} | {picked:.1f} | {seeded:.1f} |")
+        targets.append((f"{count:,} determinants chosen to collide in a hash / as many of a run", alike / spread, 1.3))
+        targets.append((f"{count:,} determinants picked of a longer run, with another seed / as many of a run", seeded / spread, 1.3))
     return lines, targets
 
 

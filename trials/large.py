@@ -122,6 +122,26 @@ def replayed(count):
     return 4, entries, 2, accepted(2, entries)
 
 
+def relisted(count):
+    """1 sends to 2 so many messages, and 2 lists the first delivery of 1 with each; then it forgets that, which 1 alone holds from then."""
+    entries = received(1)
+    for number in range(count):
+        entries += [("send", 1, 2, number), ("deliver", 2, len(entries), number, [[0, 0, 1, 0], [1, number, 2, number]])]
+    entries.append(("forget", 2, [[0, 0, 1, 0]]))
+    return 3, entries, 1, orphan(1, len(entries), 1, [1], 2)
+
+
+def token(count):
+    """A token goes round, so many times delivered. Each message brings the determinant of the delivery before it, so two hold each."""
+    hops = [(place % 5, (place + 1) % 5, place // 5) for place in range(count)]
+    dets = [[sender, number, receiver, number] for sender, receiver, number in hops]
+    entries = []
+    for place, (sender, receiver, number) in enumerate(hops):
+        listed = sorted(dets[max(place - 1, 0) : place + 1])
+        entries += [("send", sender, receiver, number), ("deliver", receiver, 2 * place, number, listed)]
+    return 5, entries, 1, accepted(1, entries)
+
+
 ORDERS = (("last", "first", "middle"), ("middle", "last", "first"), ("first", "middle", "last"), ("both", "middle", "last"), ())
 SMALL = [
     unlisted(3),
@@ -129,6 +149,9 @@ SMALL = [
     *(losing(1, kinds) for kinds in ORDERS),
     losing_early(1, 1),
     replayed(3),
+    relisted(3),
+    relisted(300),
+    token(12),
 ]
 LARGE = [
     unlisted(4097),
@@ -136,6 +159,7 @@ LARGE = [
     *(losing(95, kinds) for kinds in ORDERS),
     losing_early(5, 185),
     replayed(190),
+    token(65_537),
 ]
 
 
@@ -152,7 +176,7 @@ def main():
     for n, entries, f, wanted in SMALL + LARGE:
         text = text_of(n, entries)
         for workers in WORKERS:
-            words = [program, "audit", "--faults", str(f), "--workers", str(workers)]
+            words = [program, "audit", "--faults", str(f), "--workers", str(workers), "--entries", str(max(len(entries), 65_536))]
             said = subprocess.run(words, input=text, capture_output=True, timeout=60).stdout.decode().rstrip("\n")
             if said != wanted:
                 wrong += 1

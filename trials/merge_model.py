@@ -81,9 +81,19 @@ SHAPES = {
 TORN = re.compile(rb'\[("[a-z0-9 ,\[\]]*("[a-z0-9 ,\[\]]*)?)?')
 
 
+def stays_open(line):
+    """Whether some bracket is open after each byte of the line."""
+    depth = 0
+    for byte in line:
+        depth += (byte == ord("[")) - (byte == ord("]"))
+        if depth <= 0:
+            return False
+    return True
+
+
 def is_torn(line):
-    """A beginning of a line of a recording, by the definition in docs/MERGING.md; asked only of what is no JSON value."""
-    return TORN.fullmatch(line) is not None and line.count(b"[") > line.count(b"]")
+    """A beginning of one line of a recording, by the definition in docs/MERGING.md; asked only of what is no JSON value."""
+    return TORN.fullmatch(line) is not None and stays_open(line)
 
 
 def is_whole(line):

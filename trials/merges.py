@@ -1,7 +1,7 @@
 #!/usr/bin/env python3
 """Runs the built program's `merge` on random and damaged recordings, and compares what it answers with the plain model
 merge_model.py. Recordings that were not damaged have to make the very trace that was split into them, and so have its verdict.
-Each difference is printed with its input. Then hostile recordings have to cost as their length. Everything is decided by the seed.
+Each beginning of a line of each kind has to be torn, and no line that has a whole line in it. Each difference is printed with its input. Then hostile recordings have to cost as their length. Everything is decided by the seed.
 
     trials/merges.py [--program PATH] [--cases 20000] [--seed 1] [--jobs N] [--bytes 16000000]
 """
@@ -148,6 +148,57 @@ def compare(given):
     return wrong
 
 
+# ---- lines that a kill has cut
+
+HEADERS = b'["recording",0,1,2,7]\n["recording",1,1,2,7]\n'
+# a line of each kind
+KINDS = [
+    b'["recording",1,1,2,7]',
+    b'["send",0,1764118000000001,1,0]',
+    b'["deliver",1,1764118000000002,0,0,0,0,[]]',
+    b'["deliver",1,1764118000000002,0,0,0,0,[[0,0,1,0],[1,0,0,0]]]',
+    b'["stable",1,3,[0,0,1,0]]',
+    b'["crash",1,4]',
+    b'["restart",1,5,[]]',
+    b'["restart", 1, 5, [[0, 0, 1, 0], [1, 0, 0, 0]]]',
+    b'["forget",1,20,[[0,0,1,0]]]',
+    b'["heard",0,3,1,2]',
+]
+
+
+def beginnings(line):
+    return [line[:end] for end in range(1, len(line))]
+
+
+def cuts():
+    """Each text with the number of its torn lines, or with None where line 3 is `Syntax`: the beginnings of each kind of line, each as
+    a line of its own; and a whole line with each beginning of each kind behind it and before it, and a whole line of each kind."""
+    for line in KINDS:
+        parts = beginnings(line)
+        yield HEADERS + b"".join(part + b"\n" for part in parts), len(parts)
+    for line in KINDS:
+        for part in {part for other in KINDS for part in [*beginnings(other), other]}:
+            yield HEADERS + line + part, None
+            yield HEADERS + part + line, None
+
+
+def cut_differently(program, text, torn):
+    wanted = ("fault line=3 Syntax\n", 2, []) if torn is None else (merge_model.spell(2, []), 0, list(range(3, 3 + torn)))
+    return [(who, got) for who, got in (("model", modelled(text)), ("program", answered(program, text))) if got != wanted]
+
+
+def compare_cuts(given):
+    """How many of these texts the model or the program answers otherwise."""
+    wrong, texts = 0, list(cuts())
+    with concurrent.futures.ThreadPoolExecutor(given.jobs) as pool:
+        for (text, _), differs in zip(texts, pool.map(lambda cut: cut_differently(given.program, *cut), texts)):
+            wrong += bool(differs)
+            for who, got in differs:
+                print(f"CUT DIFFERENTLY\n  input {text!r}\n  the {who} gives {got!r}")
+    print(f"{len(texts)} texts with lines that are cut, {wrong} different")
+    return wrong
+
+
 # ---- hostile recordings
 
 
@@ -219,6 +270,7 @@ def main():
     given.add_argument("--bytes", type=int, default=16_000_000, help="of a hostile recording")
     given = given.parse_args()
     wrong = compare(given)
+    wrong += compare_cuts(given)
     wrong += compare_costs(given.program, given.bytes)
     sys.exit(1 if wrong else 0)
 

@@ -1,8 +1,8 @@
-/* A recording from a file of entries in numbers: on the first line how many processes there are; then for each entry a line
+/* A recording from a file of numbers. The first line is the number of processes. Then each entry is a line
 
      KIND SSN RSN SEND SOURCE DEST WHO COUNT
 
-   with COUNT determinants behind it, each as SOURCE SSN DEST RSN. What a kind does not use is 0. */
+   followed by COUNT determinants, each as SOURCE SSN DEST RSN. A number that the kind does not use is 0. */
 #ifndef BINDINGS_ENTRIES_H
 #define BINDINGS_ENTRIES_H
 
@@ -20,13 +20,14 @@ typedef struct recording {
   size_t count;
 } recording;
 
-/* Whether the file could be read. It has to be freed in either case. */
+/* Returns whether the file could be read. The recording must be freed in both cases. */
 int read_recording(const char *path, recording *read);
 
 void free_recording(recording *read);
 
-/* Pushes each entry, up to the first against which something stands: then `at` is its position, and `fault` what stands against
-   it. Where a push is refused memory, `refused` is asked, which may make memory free; the push is tried again where it says so. */
+/* Pushes the entries, up to the first invalid one; then `at` is its position and `fault` the number of its error. If a
+   push returns NIXU_NO_MEMORY, `refused` is called, which may free memory; if it returns nonzero, the push is
+   repeated. */
 uint32_t push_all(nixu_trace *trace, const recording *all, size_t *at, uint32_t *fault, int refused(void));
 
 #endif

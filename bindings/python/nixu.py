@@ -10,11 +10,13 @@ The shared object is made by `bindings/python/build`. It is looked for where the
 """
 from __future__ import annotations
 
+import contextlib
 import ctypes
 import enum
 import os
+import threading
 from dataclasses import dataclass
-from typing import NamedTuple, Sequence, Union
+from typing import Callable, Iterator, NamedTuple, Sequence, Union
 
 __all__ = ["Accepted", "Exceeded", "Orphan", "Verdict", "Fault", "FaultKind", "audit", "audit_each", "line", "explain", "draw", "VERSION"]
 __all__ += ["USUAL_ENTRIES", "MOST_ENTRIES"]
@@ -272,14 +274,48 @@ def draw(text: bytes, faults: int) -> str:
     return _shown(_library.nixu_draw, 196_608, text, faults)
 
 
-class Reader:
-    """Reads a text in pieces, for a run that is judged while it is recorded. It stays on its thread.
+class _Open:
+    """An open handle. One call at a time may use it: a call while another thread is in one raises RuntimeError, and nothing is done.
+
+    It may be made in one thread and used, closed or collected in another.
+    """
+
+    def __init__(self, closing: Callable[[_Handle], None]) -> None:
+        self._handle = _Handle()
+        self._closing = closing
+        self._in_use = threading.Lock()
+
+    @contextlib.contextmanager
+    def _alone(self) -> Iterator[_Handle]:
+        if not self._in_use.acquire(blocking=False):
+            raise RuntimeError("another call uses it")
+        try:
+            yield self._handle
+        finally:
+            self._in_use.release()
+
+    def close(self) -> None:
+        """Gives back what it holds. What is closed already stays so."""
+        with self._alone() as handle:
+            self._closing(handle)
+
+    def __exit__(self, *_: object) -> None:
+        self.close()
+
+    def __del__(self) -> None:
+        # Nobody has it any more, so no call uses it. Where its making has failed it may lack its parts.
+        if hasattr(self, "_in_use"):
+            self._closing(self._handle)
+
+
+class Reader(_Open):
+    """Reads a text in pieces, for a run that is judged while it is recorded. One call at a time may use it, of any thread.
 
     The trace may have up to `entries` entries, which list up to 16 determinants for each in all, and the text up to 512 bytes for each.
     """
 
     def __init__(self, entries: int = USUAL_ENTRIES) -> None:
-        self._handle = _Handle()
+        super().__init__(_library.nixu_reader_close)
         _check(_library.nixu_reader_open_within(self._handle, _entries(entries)))
 
     def feed(self, piece: bytes) -> None:
@@ -289,7 +325,8 @@ class Reader:
         further call raises RuntimeError.
         """
         told = _Summary()
-        status = _library.nixu_reader_feed(self._handle, piece, len(piece), told)
+        with self._alone() as handle:
+            status = _library.nixu_reader_feed(handle, piece, len(piece), told)
         if status == _FAULT:
             raise Fault(told.line, FaultKind(told.fault))
         _check(status)
@@ -301,34 +338,25 @@ class Reader:
     def finish_each(self, faults: Sequence[int]) -> list[Verdict]:
         """The same for several numbers of faults, in their order. Where no number is asked for a fault is not told."""
         count = len(faults)
-        told = (_Summary * count)()
-        status = _library.nixu_reader_finish(self._handle, (ctypes.c_uint16 * count)(*map(_number, faults)), count, told, count)
+        told, numbers = (_Summary * count)(), (ctypes.c_uint16 * count)(*map(_number, faults))
+        with self._alone() as handle:
+            status = _library.nixu_reader_finish(handle, numbers, count, told, count)
         if status != _FAULT:
             _check(status)
         return [_verdict(status, one) for one in told]
 
-    def close(self) -> None:
-        """Gives back what the reader holds. What is closed already stays so."""
-        _library.nixu_reader_close(self._handle)
-
     def __enter__(self) -> Reader:
         return self
 
-    def __exit__(self, *_: object) -> None:
-        self.close()
 
-    def __del__(self) -> None:
-        self.close()
-
-
-class Trace:
-    """A trace of 1 to 256 processes that is made entry by entry, without text. It stays on its thread.
+class Trace(_Open):
+    """A trace of 1 to 256 processes that is made entry by entry, without text. One call at a time may use it, of any thread.
 
     It may have up to `entries` entries, which list up to 16 determinants for each in all.
     """
 
     def __init__(self, processes: int, entries: int = USUAL_ENTRIES) -> None:
-        self._handle = _Handle()
+        super().__init__(_library.nixu_trace_close)
         status = _library.nixu_trace_open_within(self._handle, _fits(processes, 65_535), _entries(entries))
         if status == _MISUSED:
             raise ValueError("a trace has 1 to 256 processes")
@@ -340,37 +368,31 @@ class Trace:
         Raises Refused with what first stands against it, and MemoryError. The trace is as it was then.
         """
         listed, fault = getattr(entry, "listed", ()), ctypes.c_uint32()
-        dets = (_Determinant * len(listed))(*map(_determinant, listed))
-        status = _library.nixu_trace_push(self._handle, _entry(entry), dets, len(listed), fault)
+        dets, given = (_Determinant * len(listed))(*map(_determinant, listed)), _entry(entry)
+        with self._alone() as handle:
+            status = _library.nixu_trace_push(handle, given, dets, len(listed), fault)
         if status == _FAULT:
             raise Refused(FaultKind(fault.value))
         _check(status)
 
     def audit(self, faults: int) -> Verdict:
         """The verdict on the entries so far, with up to `faults` processes down at once. Raises MemoryError."""
-        told = _Summary()
-        return _verdict(_library.nixu_trace_audit(self._handle, _number(faults), told), told)
+        told, number = _Summary(), _number(faults)
+        with self._alone() as handle:
+            status = _library.nixu_trace_audit(handle, number, told)
+        return _verdict(status, told)
 
     def text(self) -> str:
         """The text of the trace so far, which `audit` reads. Raises MemoryError."""
         needed = ctypes.c_size_t()
-        _check(_library.nixu_trace_text(self._handle, None, 0, needed))
-        out = ctypes.create_string_buffer(needed.value)
-        _check(_library.nixu_trace_text(self._handle, out, needed.value, needed))
+        with self._alone() as handle:
+            _check(_library.nixu_trace_text(handle, None, 0, needed))
+            out = ctypes.create_string_buffer(needed.value)
+            _check(_library.nixu_trace_text(handle, out, needed.value, needed))
         return ctypes.string_at(out, needed.value).decode()
-
-    def close(self) -> None:
-        """Gives back what the trace holds. What is closed already stays so."""
-        _library.nixu_trace_close(self._handle)
 
     def __enter__(self) -> Trace:
         return self
-
-    def __exit__(self, *_: object) -> None:
-        self.close()
-
-    def __del__(self) -> None:
-        self.close()
 
 
 def _determinant(det: Determinant) -> _Determinant:

@@ -1,7 +1,9 @@
 """Calls whose answers are worked out by hand: the tables of examples/README.md and of docs/FORMAT.md."""
+import gc
 import os
 import threading
 import unittest
+import weakref
 
 import nixu
 
@@ -148,6 +150,88 @@ class Calls(unittest.TestCase):
         for thread in threads:
             thread.join()
         self.assertEqual(wrong, [])
+
+    def in_a_thread(self, call):
+        """What a call gives or raises in another thread."""
+        told = []
+
+        def ask():
+            try:
+                told.append(call())
+            except Exception as error:
+                told.append(error)
+
+        thread = threading.Thread(target=ask)
+        thread.start()
+        thread.join()
+        return told[0]
+
+    def test_a_second_thread_in_a_handle_is_refused_and_changes_nothing(self):
+        reader, trace = nixu.Reader(), self.orphaned()
+        calls = [lambda: reader.feed(b"["), lambda: reader.finish(1), reader.close]
+        calls += [lambda: trace.push(nixu.Crash(0)), lambda: trace.audit(1), trace.text, trace.close]
+        with reader._alone(), trace._alone():
+            for call in calls:
+                self.assertIsInstance(self.in_a_thread(call), RuntimeError)
+        reader.feed(example("ring.jsonl"))
+        self.assertEqual(self.in_a_thread(lambda: reader.finish(1)), nixu.Accepted(6, 3))
+        self.assertEqual(self.in_a_thread(trace.text).encode(), example("orphan.jsonl"))
+
+    def test_threads_in_one_handle_are_answered_or_refused(self):
+        trace, told = self.orphaned(), []
+        verdict = trace.audit(1)
+
+        def ask():
+            for _ in range(200):
+                try:
+                    told.append(trace.audit(1))
+                except RuntimeError:
+                    told.append(None)
+
+        threads = [threading.Thread(target=ask) for _ in range(4)]
+        for thread in threads:
+            thread.start()
+        for thread in threads:
+            thread.join()
+        self.assertEqual(len(told), 800)
+        self.assertEqual({verdict}, set(told) - {None})
+        self.assertEqual(trace.text().encode(), example("orphan.jsonl"))
+
+    def closed_by_the_collector(self, opened):
+        """The thread in which the collector closes a handle that only a cycle still has, and the thread in which it ran."""
+        closed, close = [], opened._closing
+
+        def closing(handle):
+            closed.append((threading.get_ident(), handle.full))
+            close(handle)
+            closed.append((threading.get_ident(), handle.full))
+
+        opened._closing, opened.itself = closing, opened
+        alive = weakref.ref(opened)
+        del opened
+
+        def collect():
+            gc.collect()
+            return threading.get_ident()
+
+        where = self.in_a_thread(collect)
+        self.assertIsNone(alive())
+        return closed, where
+
+    def test_the_collector_closes_in_its_own_thread(self):
+        gc.disable()
+        try:
+            for make in (nixu.Reader, lambda: nixu.Trace(2)):
+                closed, where = self.closed_by_the_collector(make())
+                self.assertEqual(closed, [(where, 1), (where, 0)])
+                self.assertNotEqual(where, threading.get_ident())
+        finally:
+            gc.enable()
+
+    def test_what_could_not_be_made_is_collected(self):
+        for make in (lambda: nixu.Reader(0), lambda: nixu.Trace(2, 0), lambda: nixu.Trace(-1)):
+            self.assertRaises(ValueError, make)
+        nixu.Reader.__new__(nixu.Reader).__del__()
 
 
 if __name__ == "__main__":

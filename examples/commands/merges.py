@@ -1,6 +1,7 @@
 """Recordings, and what `merge` makes of them."""
 from .row import given
-from .texts import LOGGED, lines, trace
+from .texts import A as FIRST_DET
+from .texts import LOGGED, RING, forget, lines, trace
 
 # how long the recordings may be together
 BYTES = 67_108_864
@@ -26,6 +27,21 @@ causal_tool merge: a recording may be missing
 """
 TOO_LONG = "causal_tool merge: line 2: the trace would be too long\n"
 
+# A message goes once round three processes, and then the one that logged its first delivery forgets it. The line that says so, line 7,
+# may have lost its line feed.
+ROUND = [
+    '["recording",0,1,3,7]', '["recording",1,1,3,7]', '["recording",2,1,3,7]',
+    '["send",0,1,1,0]', '["deliver",1,2,0,0,0,0,[[0,0,1,0]]]', '["send",1,3,2,0]',
+]
+FORGETS = '["forget",1,20,[[0,0,1,0]]]'
+REST = [
+    '["deliver",2,4,1,0,0,0,[[0,0,1,0],[1,0,2,0]]]', '["send",2,5,0,0]', '["deliver",0,6,2,0,0,0,[[1,0,2,0],[2,0,0,0]]]',
+]
+FORGOTTEN = trace(2, 3, RING, forget(1, FIRST_DET))
+RUNS_ON = """causal_tool merge: line 7: the line is not a JSON value
+causal_tool merge: a line that a kill has cut may run into the next one
+"""
+
 # The lines of recordings and the line of their first fault with its kind; where there are two, the first in the rule's order.
 FAULTS = [
     ([], 1, "NoHeader"),
@@ -46,6 +62,13 @@ FAULTS = [
     ([A, B, '["crash",1e999,1]'], 3, "Syntax"),
     ([A, B, SEND + '["send"'], 3, "Syntax"),
     ([A, B, '["send",0]]'], 3, "Syntax"),
+    ([A, B, '["crash",0,1]['], 3, "Syntax"),
+    ([A, B, '["crash",0,1]["'], 3, "Syntax"),
+    ([A, B, '["crash",0,1] [['], 3, "Syntax"),
+    ([A, B, '["restart",0,1,[]]][['], 3, "Syntax"),
+    ([A, B, '[["crash",0,1]'], 3, "Syntax"),
+    ([A, B, '["crash",0,["crash",0,1]'], 3, "Syntax"),
+    ([A, B, "[]["], 3, "Syntax"),
     ([A, B, '["Send"'], 3, "Syntax"),
     ([A, B, "[1"], 3, "Syntax"),
     ([A, B, '["restart",0,1,[]]', "{"], 4, "Syntax"),
@@ -94,6 +117,12 @@ def rows():
     yield given("a torn line", "merge", MESSAGE, 0, MERGED, said=torn(3))
     yield given("lines in another order", "merge", SHUFFLED, 0, MERGED, said=torn(5, 9))
     yield given("of one clock the lower process comes first", "merge", SAME_CLOCKS, 0, IN_ORDER, said="")
+    yield given("a line of an event", "merge", lines(ROUND, FORGETS, REST), 0, FORGOTTEN, said="")
+    yield given("what that event says", "audit --faults 1", FORGOTTEN, 1, "orphan f=1 instant=7 delivery=1 crash=2 orphan=0\n")
+    # were it passed over, the run would be accepted
+    for behind in ("[", '["', REST[0]):
+        text = lines(ROUND, FORGETS + behind, REST)
+        yield given(f"a line of an event with {behind} behind it", "merge", text, 2, "fault line=7 Syntax\n", said=RUNS_ON)
     for texts, line, kind in FAULTS:
         yield given(kind, "merge", lines(texts), 2, f"fault line={line} {kind}\n")
     for begin, unit, end, kind in LONG:

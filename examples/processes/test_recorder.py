@@ -88,6 +88,28 @@ class Recordings(unittest.TestCase):
         self.assertEqual(third.send(1)[:2], (1, 0))
         self.assertEqual(self.bytes_of(0).count(b'"crash"'), 1)
 
+    def test_an_opening_ends_a_line_that_only_lost_its_line_feed(self):
+        self.open(1)
+        first = self.open(0)
+        first.send(1)
+        first.crash()
+        os.truncate(self.path(0), len(self.bytes_of(0)) - 1)
+        second = self.open(0)
+        self.assertTrue(second.down)
+        self.assertTrue(self.bytes_of(0).endswith(b'\n["crash",0,1001]\n["recording",0,1,2,7]\n'))
+        n, _, entries, torn = merge_model.merged(self.bytes_of(0) + self.bytes_of(1))
+        self.assertEqual((n, entries, torn), (2, [["send", 0, 1, 0], ["crash", 0]], []))
+
+    def test_a_whole_line_that_runs_into_the_next_is_no_torn_line(self):
+        first = self.open(0)
+        first.send(1)
+        first.crash()
+        whole = self.bytes_of(0)
+        for rest in (b"[", b'["', b'["recording",0,1', b'["recording",0,1,2,7]\n'):
+            with self.assertRaises(merge_model.Fault) as refused:
+                merge_model.merged(whole[:-1] + rest)
+            self.assertEqual((refused.exception.line, refused.exception.kind), (whole.count(b"\n"), "Syntax"))
+
     def test_two_recordings_make_a_trace(self):
         sender, receiver = self.open(0), self.open(1)
         incarnation, ssn, clock = sender.send(1)
