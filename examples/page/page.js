@@ -9,7 +9,7 @@ const COLORS = {
   holder: "#1f5fa8", instant: "#7a2a8c",
 };
 const MARKED_AT_MOST = 4000; // more entries in the window are shown as counts
-const LABELS = 76; // width of the column of process names
+const LABELS = 86; // width of the column of process names
 const FACTS = {
   delivery: "nobody could replay this delivery", cause: "this entry makes the instant fail", unstable: "not in stable storage up to here",
   holder: "has the determinant since here", loss: "had it, and lost it here", crash: "in the crash set", chain: "on the way to the orphan",
@@ -49,7 +49,8 @@ function indexed(columns) {
     if (kind[i] === DELIVER && delivery[refers[i]] === NONE) delivery[refers[i]] = i;
     else if (kind[i] === CRASH || kind[i] === RESTART) turns[process[i]].push(i);
   }
-  return { ...columns, delivery, begins, turns };
+  const crashes = turns.reduce((sum, found) => sum + Math.ceil(found.length / 2), 0);
+  return { ...columns, delivery, begins, turns, crashes };
 }
 
 // ---- the answer: which positions, processes and marks it has
@@ -85,6 +86,8 @@ const xOf = (at) => LABELS + (at + 0.5 - view.from) * scale();
 const atX = (x) => view.from + (x - LABELS) / scale();
 const rowHeight = () => Math.max(14, Math.min(64, (height() - 8) / view.rows.length));
 const yOf = (p) => (view.rowOf[p] < 0 ? NaN : 4 + (view.rowOf[p] + 0.5) * rowHeight() - view.top);
+
+const isShown = (p) => yOf(p) > -rowHeight() && yOf(p) < height() + rowHeight();
 
 function setRows(rows) {
   view.rows = rows.length ? rows : Array.from({ length: data.processes }, (_, p) => p);
@@ -183,7 +186,7 @@ function drawNames(pen) {
   pen.textAlign = "right";
   pen.textBaseline = "middle";
   pen.font = "12px system-ui, sans-serif";
-  for (const p of view.rows) pen.fillText(data.processes > 99 ? `p. ${p}` : `process ${p}`, LABELS - 6, yOf(p));
+  for (const p of view.rows) pen.fillText(`process ${p}`, LABELS - 6, yOf(p));
 }
 
 function drawShades(pen) {
@@ -195,7 +198,7 @@ function drawShades(pen) {
 // A process's line, and a shade while it is down. Crashes and restarts alternate.
 function drawLife(pen, p) {
   const y = yOf(p), turns = trace.turns[p], shade = Math.min(8, rowHeight() / 3);
-  if (y < -64 || y > height() + 64) return;
+  if (!isShown(p)) return;
   path(pen, COLORS.line, 1, [[LABELS, y], [xOf(trace.n), y]]);
   pen.fillStyle = "rgba(120, 120, 120, 0.28)";
   let painted = 0;
@@ -219,16 +222,16 @@ function drawCounts(pen, first, last) {
     if (kind[i] === CRASH || kind[i] === RESTART) turned.push(i);
   }
   const most = Math.max(2, (2 * (last - first)) / columns / Math.min(rows, 8)), h = rowHeight(), image = new ImageData(columns, rows);
+  const pixels = new Uint32Array(image.data.buffer); // alpha, blue, green, red
   for (let cell = 0; cell < counts.length; cell++) {
-    const ink = counts[cell] && 50 + 205 * Math.min(1, counts[cell] / most);
-    image.data.set([58, 90, 128, ink], 4 * cell);
+    if (counts[cell]) pixels[cell] = ((50 + 205 * Math.min(1, counts[cell] / most)) << 24) | 0x805a3a;
   }
   const small = new OffscreenCanvas(columns, rows);
   small.getContext("2d").putImageData(image, 0, 0);
   pen.imageSmoothingEnabled = false;
   const bar = Math.min(h * 0.6, 24);
-  view.rows.forEach((p, row) => pen.drawImage(small, 0, row, columns, 1, LABELS, yOf(p) - bar / 2, columns, bar));
-  for (const at of turned) {
+  view.rows.forEach((p, row) => isShown(p) && pen.drawImage(small, 0, row, columns, 1, LABELS, yOf(p) - bar / 2, columns, bar));
+  for (const at of turned.filter((i) => isShown(process[i]))) {
     pen.fillStyle = kind[at] === CRASH ? COLORS.crash : COLORS.up;
     pen.fillRect(xOf(at) - 0.5, yOf(process[at]) - h * 0.4, 1, h * 0.8);
   }
@@ -303,6 +306,9 @@ function drawAnswer(pen) {
   for (const fact of factsOf("delivery", "unlisted", "cause", "loss").filter((fact) => fact.line)) {
     ring(pen, fact.fact === "loss" ? COLORS.crash : COLORS.chain, ...pointOf(fact.line - 2));
   }
+  for (const at of ["delivery", "first", "second"].map((key) => positionOf(key, answer[key])).filter((at) => at >= 0)) {
+    ring(pen, COLORS.chain, ...pointOf(at));
+  }
   if (typeof answer.instant === "number") path(pen, COLORS.instant, 2, [[end, 0], [end, height()]]);
   if (typeof answer.orphan !== "number") return;
   pen.fillStyle = COLORS.crash;
@@ -335,7 +341,9 @@ function drawOverview() {
   pen.fillStyle = "#c9d4e0";
   pen.fillRect(LABELS, h / 2 - 5, w, 10);
   pen.fillStyle = COLORS.crash;
+  pen.globalAlpha = Math.max(0.08, Math.min(1, w / trace.crashes / 4));
   for (const turns of trace.turns) for (let i = 0; i < turns.length; i += 2) pen.fillRect(at(turns[i]), 5, 1, h - 10);
+  pen.globalAlpha = 1;
   pen.fillStyle = COLORS.chain;
   for (const i of breachPositions()) pen.fillRect(at(i) - 1, 2, 2, h - 4);
   pen.strokeStyle = COLORS.mark;
