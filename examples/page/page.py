@@ -99,13 +99,19 @@ def main(arguments):
     if len(arguments) not in (1, 2):
         print(__doc__, file=sys.stderr)
         return 3
-    trace, answers = arguments[0], arguments[1:]
-    with sys.stdin if trace == "-" else open(trace, encoding="utf-8") as lines:
-        processes, columns = read(lines)
-    answer = None
-    for name in answers:
-        with open(name, encoding="utf-8") as file:
-            answer = json.load(file)
+    trace, answers, answer = arguments[0], arguments[1:], None
+    try:
+        with sys.stdin if trace == "-" else open(trace, encoding="utf-8") as lines:
+            processes, columns = read(lines)
+        for name in answers:
+            with open(name, encoding="utf-8") as file:
+                answer = json.load(file)
+    except OSError as wrong:
+        print(f"page.py: {wrong}", file=sys.stderr)
+        return 4
+    except ValueError as wrong:
+        print(f"page.py: {answers[0]} is no answer of a command with --json: {wrong}", file=sys.stderr)
+        return 2
     sys.stdout.write(page(os.path.basename(trace), processes, columns, answer))
     return 0
 
