@@ -13,7 +13,6 @@ mod ForgetKeeps
 mod Forgotten
 mod Gathers
 mod Legal
-mod ListInsert
 mod DeliveryMemories
 mod Members
 mod RuntimeDelivery
@@ -22,7 +21,6 @@ mod RestartMemory
 mod ReplayDeliveries
 mod RuntimeRestart
 mod RuntimeSend
-mod SentMessages
 mod RunAfterStep
 mod StoreEntries
 mod DeliveryRows

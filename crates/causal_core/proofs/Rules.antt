@@ -1,12 +1,10 @@
 -- Lemmas that the tactic uses at the goals of a function, in addition to the library's.
-use Rattle.std.proofs.Common.{append_assoc, append-nil}
 use Rattle.std.proofs.lemmas.Bool.Decides.{nat_tests}
-use Rattle.std.proofs.lemmas.List.{take_all, drop_more, drop_all, length-drop}
+use Rattle.std.proofs.lemmas.List.{take_all}
 use Rattle.std.proofs.lemmas.List.Sums.{count_by_more_yes, count_by_more_no}
-use Rattle.causal_core.proofs.BoxLemmas.{answers_at-set_other, map-set, answers_at-set_same, map-set_kept}
+use Rattle.causal_core.proofs.BoxLemmas.{answers_at-set_other, map-set, answers_at-set_same}
 use Rattle.causal_core.proofs.DownSets.{none_in, down_there, none_told, one_in, one_out}
 use Rattle.causal_core.proofs.Gathers.{united_up, united_down, united_end}
-use Rattle.causal_core.proofs.ListInsert.{own_alone, own_kept, own_put}
 use Rattle.causal_core.proofs.PendingMessages.{sent_few, some_read, received_same, sent_there, pending_more, pending_end}
 use Rattle.causal_trace.proofs.Lemmas.WellFormed.{formed_short}
 
@@ -23,9 +21,5 @@ pub ruleset of_maps = (map-set)
 pub ruleset of_down = (none_in, down_there, none_told, one_in, one_out)
 
 pub ruleset of_knowing = (united_up, united_down, united_end)
-
-pub ruleset of_listing = (drop_more, append_assoc, drop_all, append-nil)
-
-pub ruleset of_listed = (own_alone, own_kept, length-drop, take_all, append_assoc, own_put)
 
 pub ruleset of_pending_rows = (sent_there, pending_more, pending_end)

@@ -7,8 +7,6 @@ pub mod DeliveryRecords
 pub mod Limits
 pub mod Listings
 pub mod Memories
-pub mod Namings
 pub mod GatherCaches
-pub mod Outboxes
 pub mod Slots
 pub mod Stables

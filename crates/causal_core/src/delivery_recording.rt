@@ -9,17 +9,18 @@ ghost use Rattle.causal_protocol.specs.Memory.{present_at};
 ghost use Rattle.causal_core.specs.Inside.MemoryInvariant.{MatchesEntries, AllMatchEntries};
 ghost use Rattle.causal_core.specs.Inside.DeliveryRecords.{entry_of, next_batch, memory_after_step, memories_after_step, with_step};
 ghost use Rattle.causal_core.specs.Inside.DeliveryRecords.{IsBatchDelivered, IsLogDelivered, IsLegalNext, OthersStillFit};
-ghost use Rattle.causal_core.specs.Inside.Memories.{memory_of, memories_in, memory_at, bodies_of, bodies_in};
-ghost use Rattle.causal_core.specs.Inside.Memories.{capacity_of, capacities_in, capacity_at};
+ghost use Rattle.causal_node.specs.ProcessMemories.{memory_of, bodies_of, capacity_of};
+ghost use Rattle.causal_core.specs.Inside.Memories.{memories_in, memory_at, bodies_in};
+ghost use Rattle.causal_core.specs.Inside.Memories.{capacities_in, capacity_at};
 ghost use Rattle.causal_core.specs.View.{receivers, sent_bodies, with_bodies};
 ghost use Rattle.causal_trace.specs.Limits.{max_entries};
-ghost use Rattle.causal_core.specs.Inside.DeliveryPlans.{piggyback_of, log_after_plan};
+ghost use Rattle.causal_node.specs.DeliveryPlans.{piggyback_of, log_after_plan};
 
-use crate::delivery_plan::DeliveryPlan;
-use crate::process_memory::ProcessMemory;
 use crate::receipt::record_receipt;
 use crate::sends::append_sends;
 use causal_name::{NoMemory, Pid};
+use causal_node::delivery_plan::DeliveryPlan;
+use causal_node::process_memory::ProcessMemory;
 use causal_process::Outgoing;
 use causal_trace::trace::Trace;
 
@@ -131,40 +132,7 @@ pub(crate) fn record_delivery_at(
     record_delivery(trace, process_memory, q, f, grown, sends)
 }
 
-/// Reserves more capacity than a delivery needs, once for determinants and once for the rest; how much more depends on
-/// the process number. Capacities double from then on, so they do not all grow at the same time, even if all processes
-/// have delivered equally many messages.
-fn reserve_staggered(process_memory: &mut ProcessMemory, q: Pid) -> Result<(), NoMemory>
-    ensures memory { memory_of process_memory.new ≡ memory_of process_memory.old }
-    ensures bodies { bodies_of process_memory.new ≡ bodies_of process_memory.old }
-{
-    let room = 13 + (u32::from(q.0) * 7 + 5) % 16;
-    match process_memory.received.len() {
-        4 => process_memory.log.reserve(room),
-        8 => {
-            process_memory.received.reserve_exact(room as usize + 8)?;
-            Ok(process_memory.sent.reserve_exact(room as usize)?)
-        }
-        _ => Ok(()),
-    }
-}
-
-/// Reserves capacity for a delivery that logs the given number of determinants, and for its sends.
-fn reserve_delivery(process_memory: &mut ProcessMemory, q: Pid, logged: u32) -> Result<(), NoMemory>
-    ensures memory { memory_of process_memory.new ≡ memory_of process_memory.old }
-    ensures bodies { bodies_of process_memory.new ≡ bodies_of process_memory.old }
-    ensures sent { OnOk result (8 ≤ (capacity_of process_memory.new).sent) }
-    ensures received { OnOk result (1 ≤ (capacity_of process_memory.new).received) }
-    ensures log { OnOk result (logged ≤ (capacity_of process_memory.new).log) }
-{
-    reserve_staggered(process_memory, q)?;
-    process_memory.sent.reserve(8)?;
-    process_memory.received.reserve(1)?;
-    process_memory.log.reserve(logged)?;
-    Ok(())
-}
-
-/// Reserves the same capacity for process q, whose memory is an element of the list.
+/// Reserves capacity for a delivery to process q, whose memory is an element of the list.
 pub(crate) fn reserve_delivery_at(
     process_memories: &mut Vec<Option<ProcessMemory>>,
     q: Pid,
@@ -184,5 +152,5 @@ pub(crate) fn reserve_delivery_at(
     let Some(process_memory) = &mut process_memories[usize::from(q.0)] else {
         unreachable!()
     };
-    reserve_delivery(process_memory, q, logged)
+    process_memory.reserve_delivery(q, logged)
 }

@@ -7,11 +7,11 @@ ghost use Rattle.causal_core.specs.Inside.Memories.{memories_in};
 ghost use Rattle.causal_core.specs.CoreView.{core_run};
 ghost use Rattle.causal_trace.specs.Limits.{max_processes};
 
-use crate::process_memory::ProcessMemory;
 use crate::run_data::RunData;
 use crate::runtime::Core;
 use causal_holders::Holders;
 use causal_log::Stable;
+use causal_node::process_memory::ProcessMemory;
 
 /// Returns the processes without volatile memory.
 #[tactic(auto, using(crate::proofs::Rules::of_down))]

@@ -1,13 +1,14 @@
 //! The log that a restart gathers.
 ghost use Rattle.std.specs.Prelude.{◌≡◌, IfOk, OnOk};
 ghost use Rattle.std.specs.FinMap as fin;
-ghost use Rattle.causal_protocol.specs.Gathering.{with_logs_of, with_held, with_stored};
+ghost use Rattle.causal_protocol.specs.Gathering.{with_logs_of};
 ghost use Rattle.causal_core.specs.Inside.Gathers.{log_with_gathered, gathered_log_of};
 ghost use Rattle.causal_core.specs.Inside.Memories.{memories_in};
 
-use crate::process_memory::ProcessMemory;
 use causal_log::Log;
 use causal_name::{Det, NoMemory, Pid};
+use causal_node::learning::{learn_own_holding, learn_stored};
+use causal_node::process_memory::ProcessMemory;
 use std::alloc::Global;
 
 /// Adds the logs of the up processes to a log.
@@ -22,36 +23,6 @@ fn learn_logs(log: &mut Log, process_memories: &[Option<ProcessMemory>]) -> Resu
         }
     }
     Ok(())
-}
-
-/// Adds to a log that p holds each of these determinants.
-#[tactic(auto, using(crate::proofs::Gathers::held_more, crate::proofs::Gathers::held_end))]
-fn learn_held(log: &mut Log, dets: &[Det], p: Pid) -> Result<(), NoMemory>
-    ensures { OnOk result (log.new.map ≡ with_held dets.now p log.old.map) }
-{
-    for det in dets {
-        log.add_own(*det, p)?;
-    }
-    Ok(())
-}
-
-/// Adds to a log that p holds each of these determinants and that they are stable.
-#[tactic(auto, using(crate::proofs::Gathers::stable_more, crate::proofs::Gathers::stable_end))]
-fn learn_stored(log: &mut Log, dets: &[Det], p: Pid) -> Result<(), NoMemory>
-    ensures { OnOk result (log.new.map ≡ with_stored dets.now p log.old.map) }
-{
-    for det in dets {
-        log.add_stable(*det, p)?;
-    }
-    Ok(())
-}
-
-/// Adds to a log that p holds every determinant of it.
-fn learn_own_holding(alloc: Global, log: &mut Log, p: Pid) -> Result<(), NoMemory>
-    ensures { OnOk result (log.new.map ≡ with_held (fin.keys log.old.map) p log.old.map) }
-{
-    let dets = log.dets(alloc)?;
-    learn_held(log, dets.as_slice(), p)
 }
 
 /// Adds the logs of the up processes and the stored determinants to a log, and that p holds all of them.

@@ -9,8 +9,6 @@
 
 /// The boxes of the up processes, in slots.
 mod boxes;
-/// The volatile memory of an up process.
-pub mod process_memory;
 /// Recording of a delivery and its sends, after the box has stepped.
 mod delivery_recording;
 /// The number of determinants that a restart lists, counted without allocation.
@@ -29,24 +27,12 @@ pub mod down_processes;
 pub mod flush;
 /// Forget: stable determinants leave a log.
 pub mod forget;
-/// The memory of a process that begins.
-mod new_memory;
 /// The log that a restart gathers.
 mod gather;
-/// The restart plan, made before the spare begins.
-pub mod restart_plan;
 /// A box steps with a kept message, without a copy of its body.
 mod message_step;
-/// The making of a delivery plan.
-mod delivery_planning;
-/// The delivery plan, made before the box steps.
-pub mod delivery_plan;
-/// The determinants that a delivery lists.
-mod delivery_list;
 /// Laws over the definitions.
 pub mod laws;
-/// The message that is named for a process's next delivery.
-mod naming;
 /// The messages that a process may deliver.
 pub mod pending;
 /// The deliver entry of a step, and what the receiver learns by it.
@@ -63,8 +49,6 @@ pub mod runtime;
 mod memory_lookup;
 /// The sends of a step.
 mod sends;
-/// The outbox: the messages that a process has sent.
-pub mod outbox;
 /// The start of a core.
 pub mod start;
 

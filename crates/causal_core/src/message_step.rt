@@ -7,13 +7,14 @@ ghost use Rattle.causal_protocol.specs.Naming.{message_name};
 ghost use Rattle.causal_protocol.specs.Refusals.{first_fault};
 ghost use Rattle.causal_core.specs.Inside.Slots.{HasBox, IsStepResult};
 ghost use Rattle.causal_core.specs.View.{body_at, body_in};
-ghost use Rattle.causal_core.specs.Inside.Memories.{memory_of, bodies_of, capacity_of, memories_in, memory_at, bodies_in, capacities_in};
+ghost use Rattle.causal_node.specs.ProcessMemories.{memory_of, bodies_of, capacity_of};
+ghost use Rattle.causal_core.specs.Inside.Memories.{memories_in, memory_at, bodies_in, capacities_in};
 
 use crate::boxes::step_box;
-use crate::outbox::Outbox;
-use crate::process_memory::ProcessMemory;
 use crate::run_data::RunData;
 use causal_name::{NoMemory, Pid};
+use causal_node::outbox::Outbox;
+use causal_node::process_memory::ProcessMemory;
 use causal_process::{Body, Input, Outgoing, Process};
 use std::alloc::Global;
 use std::mem;
@@ -45,24 +46,22 @@ fn step_with_body(
     sends
 }
 
-impl Outbox {
-    /// Steps the box of slot q with the message of number `ssn` in this outbox.
-    fn step_with_message(
-        &mut self,
-        slots: &mut Vec<Option<Box<dyn Process + Send>>>,
-        q: usize,
-        alloc: Global,
-        source: Pid,
-        ssn: usize,
-    ) -> Result<Vec<Outgoing>, NoMemory>
-        requires box_there { HasBox slots.old.items q }
-        requires kept { ssn < length self.old.kept }
-        ensures given { IsStepResult answers q (Given source (body_in self.old.bodies ssn)) result
-            slots.old.items slots.new.items }
-        ensures sent { self.new ≡ self.old }
-    {
-        step_with_body(slots, q, alloc, source, &mut self.messages[ssn].body)
-    }
+/// Steps the box of slot q with the message of number `ssn` in an outbox.
+fn step_with_sent(
+    sent: &mut Outbox,
+    slots: &mut Vec<Option<Box<dyn Process + Send>>>,
+    q: usize,
+    alloc: Global,
+    source: Pid,
+    ssn: usize,
+) -> Result<Vec<Outgoing>, NoMemory>
+    requires box_there { HasBox slots.old.items q }
+    requires kept { ssn < length sent.old.kept }
+    ensures given { IsStepResult answers q (Given source (body_in sent.old.bodies ssn)) result
+        slots.old.items slots.new.items }
+    ensures sent { sent.new ≡ sent.old }
+{
+    step_with_body(slots, q, alloc, source, &mut sent.messages[ssn].body)
 }
 
 /// Steps the box of slot q with the message of number `ssn` that one process keeps.
@@ -83,9 +82,7 @@ fn step_with_kept(
     ensures bodies { bodies_of process_memory.new ≡ bodies_of process_memory.old }
     ensures room { capacity_of process_memory.new ≡ capacity_of process_memory.old }
 {
-    process_memory
-        .sent
-        .step_with_message(slots, q, alloc, source, ssn)
+    step_with_sent(&mut process_memory.sent, slots, q, alloc, source, ssn)
 }
 
 /// Steps the box of slot q with the named message, whose sender's memory is an element of the list.

@@ -14,10 +14,11 @@ ghost use Rattle.causal_protocol.specs.Steps.{Steps, reply_of_crash};
 ghost use Rattle.causal_core.specs.Inside.Stables.{IsStored};
 ghost use Rattle.causal_core.specs.Inside.DeliveryRecords.{delivery_request_of};
 ghost use Rattle.causal_core.specs.Inside.Limits.{exceeds_limits_with, exceeds_entries_with};
-ghost use Rattle.causal_core.specs.Inside.Stables.{run_after_flush, with_stable};
+ghost use Rattle.causal_core.specs.Inside.Stables.{run_after_flush};
+ghost use Rattle.causal_node.specs.ProcessMemories.{with_stable};
 ghost use Rattle.causal_core.specs.View.{sent_in};
-ghost use Rattle.causal_core.specs.Inside.DeliveryPlans.{piggyback_of};
-ghost use Rattle.causal_core.specs.Inside.Memories.{memory_of, bodies_of, log_at, memories_in, bodies_in};
+ghost use Rattle.causal_node.specs.DeliveryPlans.{piggyback_of};
+ghost use Rattle.causal_core.specs.Inside.Memories.{log_at, memories_in, bodies_in};
 ghost use Rattle.causal_core.specs.View.{gathering_fault, named_message_of, with_delivery};
 ghost use Rattle.causal_core.specs.Inside.Memories.{stored_for};
 ghost use Rattle.causal_core.specs.View.{with_bodies};
@@ -26,16 +27,16 @@ ghost use Rattle.causal_core.specs.Inside.DeliveryPlans.{IsDeliveryPlan};
 ghost use Rattle.causal_core.specs.Inside.Memories.{HasCapacity};
 ghost use Rattle.causal_trace.specs.Limits.{max_entries};
 
-use crate::delivery_list::listed_len;
-use crate::delivery_plan::DeliveryPlan;
-use crate::delivery_planning::plan_delivery;
 use crate::delivery_recording::{record_delivery_at, reserve_delivery_at};
 use crate::gather::gather;
 use crate::memory_lookup::{count_down, kept_message, process_memory_at};
-use crate::naming::{must_replay_fault, named_message};
-use crate::process_memory::ProcessMemory;
 use causal_log::{Log, Stable};
 use causal_name::{Det, MsgName, NoMemory, Pid};
+use causal_node::delivery_list::listed_len;
+use causal_node::delivery_plan::DeliveryPlan;
+use causal_node::delivery_planning::plan_delivery;
+use causal_node::naming::{must_replay_fault, named_message};
+use causal_node::process_memory::ProcessMemory;
 use causal_process::Outgoing;
 use causal_protocol::limits::{MAX_ENTRIES, MAX_LISTED};
 use causal_protocol::request::{CoreFault, Delivered};
@@ -116,15 +117,7 @@ fn mark_det_stable_at(process_memories: &mut Vec<Option<ProcessMemory>>, p: Pid,
     let Some(process_memory) = &mut process_memories[usize::from(p.0)] else {
         unreachable!()
     };
-    mark_det_stable(process_memory, det);
-}
-
-/// Marks a determinant as stable in the log of one memory.
-fn mark_det_stable(process_memory: &mut ProcessMemory, det: Det)
-    ensures memory { memory_of process_memory.new ≡ with_stable det (memory_of process_memory.old) }
-    ensures bodies { bodies_of process_memory.new ≡ bodies_of process_memory.old }
-{
-    process_memory.log.mark_stable(det);
+    process_memory.mark_stable(det);
 }
 
 impl RunData {

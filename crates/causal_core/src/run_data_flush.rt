@@ -7,13 +7,13 @@ ghost use Rattle.causal_protocol.specs.Memory.{present_at, update_at, with_log};
 ghost use Rattle.causal_protocol.specs.Refusals.{first_fault, dets_to_flush, dets_to_forget};
 ghost use Rattle.causal_protocol.specs.Steps.{extend_run, Steps, reply_of_forget};
 ghost use Rattle.causal_core.specs.View.{IsReason};
-ghost use Rattle.causal_core.specs.Inside.Memories.{memory_of, bodies_of, memories_in, bodies_in};
+ghost use Rattle.causal_core.specs.Inside.Memories.{memories_in, bodies_in};
 ghost use Rattle.causal_trace.specs.Limits.{max_entries};
 
 use crate::memory_lookup::process_memory_at;
-use crate::process_memory::ProcessMemory;
 use crate::run_data::{RunData, exceeds_entries, exceeds_limits, is_process};
 use causal_name::{Det, NoMemory, Pid};
+use causal_node::process_memory::ProcessMemory;
 use causal_protocol::request::CoreFault;
 use causal_trace::entry::{Dets, Entry};
 use std::alloc::Global;
@@ -28,16 +28,7 @@ fn drop_stable_at(process_memories: &mut Vec<Option<ProcessMemory>>, p: Pid)
     let Some(process_memory) = &mut process_memories[usize::from(p.0)] else {
         unreachable!()
     };
-    drop_stable_dets(process_memory);
-}
-
-/// Removes the determinants known to be stable from the log of one memory.
-fn drop_stable_dets(process_memory: &mut ProcessMemory)
-    ensures memory { memory_of process_memory.new
-        ≡ with_log after_drop_stable (memory_of process_memory.old) }
-    ensures bodies { bodies_of process_memory.new ≡ bodies_of process_memory.old }
-{
-    process_memory.log.drop_stable();
+    process_memory.drop_stable();
 }
 
 impl RunData {

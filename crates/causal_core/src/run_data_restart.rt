@@ -1,7 +1,6 @@
 //! Restart, on the run data.
 ghost use Rattle.std.specs.Prelude.{◌≡◌, ◌≤◌, ◌<◌, length, OnOk, IfOk, IfErr, None, Some, slice_set, vec_len, nat_le, unwrap_or, ◌||◌, is_some, false};
 ghost use Rattle.std.specs.FinMap as fin;
-ghost use Rattle.causal_log.specs.Logs.{batch_items};
 ghost use Rattle.causal_trace.specs.Past.{restarts};
 ghost use Rattle.causal_protocol.specs.declared.request.Request.TheVariants as Requests;
 ghost use Rattle.causal_protocol.specs.declared.request.Reply.TheVariants as Replies;
@@ -10,28 +9,28 @@ ghost use Rattle.causal_protocol.specs.Refusals.{first_fault, exceeds_limits};
 ghost use Rattle.causal_protocol.specs.Run.{memories_of, stable_of};
 ghost use Rattle.causal_protocol.specs.Steps.{Steps};
 ghost use Rattle.causal_core.specs.Inside.Stables.{IsStored};
-ghost use Rattle.causal_core.specs.Inside.Gathers.{listing_fault, IsRestartPlan, IsRestartPlanFor};
+ghost use Rattle.causal_core.specs.Inside.Gathers.{listing_fault, IsRestartPlanFor};
+ghost use Rattle.causal_node.specs.RestartPlans.{IsRestartPlan};
 ghost use Rattle.causal_core.specs.View.{sent_in, with_restart, IsReason};
-ghost use Rattle.std.specs.Arc.{arc_value};
 ghost use Rattle.causal_core.specs.Inside.GatherCaches.{IsGatherCache};
 ghost use Rattle.causal_protocol.specs.Memory.{present_at};
-ghost use Rattle.causal_core.specs.Inside.Memories.{memory_of, bodies_of, memories_in, bodies_in};
+ghost use Rattle.causal_node.specs.ProcessMemories.{memory_of, bodies_of};
+ghost use Rattle.causal_core.specs.Inside.Memories.{memories_in, bodies_in};
 
 use crate::gather_cache::{GatherCache, cache_gathered, cached_log};
 use crate::gathered_count::count_gathered;
-use crate::new_memory::new_process_memory;
-use crate::process_memory::ProcessMemory;
-use crate::restart_plan::RestartPlan;
 use crate::run_data::{RunData, exceeds_limits};
 use crate::sends::append_sends;
-use causal_log::{Batch, Log, Stable};
-use causal_name::{Det, NoMemory, Pid};
+use causal_log::{Log, Stable};
+use causal_name::{NoMemory, Pid};
+use causal_node::process_memory::ProcessMemory;
+use causal_node::restart_plan::RestartPlan;
+use causal_node::restart_planning::restart_plan_with;
 use causal_process::Outgoing;
 use causal_protocol::request::{CoreFault, Restarted};
 use causal_trace::entry::{Dets, Entry};
 use causal_trace::limits::MAX_RESTARTS;
 use std::alloc::Global;
-use std::sync::Arc;
 
 /// Stores the memory of process p.
 #[tactic(auto, using(crate::proofs::Rules::of_maps))]
@@ -47,34 +46,6 @@ pub(crate) fn put_memory(
         ≡ slice_set (bodies_in process_memories.old.items) p (bodies_of process_memory) }
 {
     process_memories[p] = Some(process_memory);
-}
-
-/// Returns the batch that a log chooses for f failures, and stores it in the log.
-fn choose_and_cache(alloc: Global, f: u16, log: &mut Log) -> Result<Arc<Batch>, NoMemory>
-    ensures map { log.new.map ≡ log.old.map }
-    ensures batch { IfOk result (λ batch. arc_value batch ≡ batch_items f log.old.map) }
-{
-    let batch = Arc::new(alloc, log.choose(alloc, f)?)?;
-    let share = Arc::try_clone(&batch)?;
-    log.cache_batch(f, batch);
-    Ok(share)
-}
-
-/// Returns the restart plan of a process that restarts with this log, and whose sends carry its batch.
-pub(crate) fn restart_plan_with(
-    alloc: Global,
-    f: u16,
-    mut log: Log,
-) -> Result<RestartPlan, NoMemory>
-    ensures { IfOk result (λ g. IsRestartPlan f log.map g) }
-{
-    let listed = log.dets(alloc)?;
-    let batch = choose_and_cache(alloc, f, &mut log)?;
-    let process_memory = new_process_memory(alloc, log, batch)?;
-    Ok(RestartPlan {
-        listed,
-        process_memory,
-    })
 }
 
 /// Returns the refusal, or `NoMemory` if there is none.

@@ -7,11 +7,11 @@ ghost use Rattle.causal_core.specs.Inside.MemoryInvariant.{MatchesEntries};
 ghost use Rattle.causal_core.specs.Inside.DeliveryRecords.{keep_send, keep_sends, with_send, with_sends};
 ghost use Rattle.causal_core.specs.Inside.DeliveryRecords.{OthersStillFit, StayDelivered};
 ghost use Rattle.causal_core.specs.View.{receivers, sent_bodies};
-ghost use Rattle.causal_core.specs.Inside.Memories.{memory_of, bodies_of};
+ghost use Rattle.causal_node.specs.ProcessMemories.{memory_of, bodies_of};
 ghost use Rattle.causal_trace.specs.Limits.{max_entries};
 
-use crate::process_memory::ProcessMemory;
 use causal_name::Pid;
+use causal_node::process_memory::ProcessMemory;
 use causal_process::Outgoing;
 use causal_trace::entry::Entry;
 use causal_trace::trace::Trace;
@@ -86,5 +86,5 @@ fn record_send(trace: &mut Trace, process_memory: &mut ProcessMemory, q: Pid, ou
     let ssn = process_memory.sent.len() as u32;
     let Outgoing { to, body } = outgoing;
     trace.push_reserved(Entry::Send { from: q, to, ssn });
-    process_memory.sent.push(to, send, body);
+    process_memory.keep_message(to, send, body);
 }

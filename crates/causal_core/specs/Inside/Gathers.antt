@@ -1,22 +1,22 @@
 -- The restart plan, and how the determinants that a restart lists are counted.
-use Rattle.std.specs.Prelude.{◌≡◌, ℕ, ◌≤◌, Bool, false, not, ◌||◌, nat_lt, nat_le, List, [], ◌∷◌, length, Option, count_by, is_some}
+use Rattle.std.specs.Prelude.{◌≡◌, ℕ, Bool, false, not, ◌||◌, nat_lt, nat_le, List, [], ◌∷◌, length, Option, count_by, is_some}
 use Rattle.std.specs.List.{list_any}
 use Rattle.std.specs.Option.{option_map_or}
 use Rattle.std.specs.FinMap as fin
 use Rattle.causal_name.specs.declared.Pid.{Pid}
 use Rattle.causal_name.specs.declared.Det.{Det}
-use Rattle.causal_log.specs.Logs.{LogMap, batch_items}
+use Rattle.causal_log.specs.Logs.{LogMap}
 use Rattle.causal_log.specs.Stores.{DetSet, set_has}
 use Rattle.causal_trace.specs.Limits.{max_restarts}
 use Rattle.causal_trace.specs.Past.{restarts}
-use Rattle.causal_protocol.specs.Memory.{Memories, new_memory, present_at}
+use Rattle.causal_protocol.specs.Memory.{Memories, present_at}
 use Rattle.causal_protocol.specs.Refusals.{first_fault_in, exceeds_limits, fault_if}
 use Rattle.causal_protocol.specs.declared.request.CoreFault.{CoreFault}
 use Rattle.causal_protocol.specs.declared.request.CoreFault.TheVariants as Faults
 use Rattle.causal_protocol.specs.Gathering.{restart_log, with_logs_of, with_held, with_stored}
 use Rattle.causal_protocol.specs.Run.{Run, memories_of, stable_of}
-use Rattle.causal_core.specs.declared.restart_plan.RestartPlan.{RestartPlan}
-use Rattle.causal_core.specs.Inside.Memories.{memory_of, bodies_of}
+use Rattle.causal_node.specs.declared.restart_plan.RestartPlan.{RestartPlan}
+use Rattle.causal_node.specs.RestartPlans.{IsRestartPlan}
 
 -- whether the log of one of these processes contains the determinant
 abbrev pub is_logged : Memories → Det → Bool
@@ -50,14 +50,6 @@ listing_fault r p listed =
     ∷ fault_if (is_some (present_at (memories_of r) p.0)) Faults.NotDown
     ∷ fault_if (exceeds_limits r 9 listed || nat_le max_restarts (restarts r.recording.past)) Faults.Full
     ∷ [])
-
--- the restart plan of a process that restarts with this log, with the bound f
-pub record IsRestartPlan (f : ℕ) (log : LogMap) (g : RestartPlan) : Type 0 where
-  pub listed : g.listed.items ≡ fin.keys log
-  pub batch : g.process_memory.sent.batch ≡ batch_items f log
-  pub memory : memory_of g.process_memory ≡ new_memory log
-  pub bodies : bodies_of g.process_memory ≡ []
-  pub room : 8 ≤ g.process_memory.sent.spare
 
 -- the restart plan of p
 abbrev pub IsRestartPlanFor : Run → Pid → RestartPlan → Type 0

@@ -1,42 +1,27 @@
 -- The memories of the processes: their protocol view, kept bodies and reserved capacities.
-use Rattle.std.specs.Prelude.{◌-◌, ℕ, ◌+◌, ◌≤◌, List, [], ◌∷◌, map, Option, unwrap_or, slice_get, vec_capacity, vec_len}
+use Rattle.std.specs.Prelude.{◌-◌, ℕ, ◌+◌, ◌≤◌, List, [], ◌∷◌, map, Option, unwrap_or, slice_get}
 use Rattle.std.specs.Option.{option_map, option_map_or}
 use Rattle.std.specs.FinMap as fin
 use Rattle.causal_name.specs.declared.Pid.{Pid}
 use Rattle.causal_log.specs.declared.batch.Item.{Item}
 use Rattle.causal_log.specs.Logs.{LogMap}
-use Rattle.causal_core.specs.declared.process_memory.ProcessMemory.{ProcessMemory}
+use Rattle.causal_node.specs.declared.process_memory.ProcessMemory.{ProcessMemory}
 use Rattle.causal_protocol.specs.Memory.{Memory, Memories, new_memory, present_at, with_sent_message}
 use Rattle.causal_protocol.specs.Run.{Run, memories_of, stable_of}
 use Rattle.causal_log.specs.Slots.{first_of_slot}
 use Rattle.causal_log.specs.Stores.{dets_in}
 use Rattle.causal_protocol.specs.Naming.{next_rsn}
 use Rattle.causal_name.specs.declared.Det.{Det}
-use Rattle.causal_core.specs.View.{RunDataState, Capacity}
-
--- the protocol's view of the memory of an up process
-abbrev pub memory_of : ProcessMemory → Memory
-memory_of c = record { log = c.log.map; sent = c.sent.kept; received = c.received.items }
+use Rattle.causal_core.specs.View.{RunDataState}
+use Rattle.causal_node.specs.ProcessMemories.{Capacity, memory_of, bodies_of, no_capacity, capacity_of}
 
 -- the protocol's view of the memories of all processes
 abbrev pub memories_in : List (Option ProcessMemory) → Memories
 memories_in process_memories = map (option_map memory_of) process_memories
 
--- the bodies of the messages that a process keeps, by number
-abbrev pub bodies_of : ProcessMemory → List (List ℕ)
-bodies_of c = c.sent.bodies
-
 -- the bodies that each process keeps
 abbrev pub bodies_in : List (Option ProcessMemory) → List (List (List ℕ))
 bodies_in process_memories = map (λ c. option_map_or bodies_of c []) process_memories
-
--- no capacity
-abbrev pub no_capacity : Capacity
-no_capacity = record { sent = 0; received = 0; log = 0 }
-
--- the reserved capacity of a memory
-abbrev pub capacity_of : ProcessMemory → Capacity
-capacity_of c = record { sent = c.sent.next_spare; received = vec_capacity c.received - vec_len c.received; log = c.log.spare }
 
 -- the reserved capacity of each process; none for a down process
 abbrev pub capacities_in : List (Option ProcessMemory) → List Capacity

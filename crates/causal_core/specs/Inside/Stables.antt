@@ -2,20 +2,14 @@
 use Rattle.std.specs.Prelude.{◌≡◌, ℕ, List, map, Result, Ok, Err}
 use Rattle.causal_name.specs.declared.Pid.{Pid}
 use Rattle.causal_name.specs.declared.Det.{Det}
-use Rattle.causal_log.specs.Logs.{after_mark}
 use Rattle.causal_log.specs.Stores.{DetSet, set_has}
 use Rattle.causal_trace.specs.declared.entry.Entry.{Entry}
 use Rattle.causal_trace.specs.Past.{is_stable}
 use Rattle.causal_protocol.specs.declared.request.FlushFault.{FlushFault}
 use Rattle.causal_trace.specs.declared.entry.Entry.TheVariants.{Stable}
 use Rattle.causal_protocol.specs.declared.request.Request.TheVariants as Requests
-use Rattle.causal_protocol.specs.Memory.{Memory, with_log}
 use Rattle.causal_protocol.specs.Run.{Run}
 use Rattle.causal_protocol.specs.Steps.{extend_run}
-
--- the memory whose log has the determinant marked as stable
-abbrev pub with_stable : Det → Memory → Memory
-with_stable det = with_log (λ log. after_mark log det)
 
 -- the run after a flush of p wrote these determinants
 abbrev pub run_after_flush : Run → Pid → List Det → Run

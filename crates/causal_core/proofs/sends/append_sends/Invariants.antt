@@ -5,7 +5,8 @@ use Rattle.causal_protocol.specs.Memory.{Memory}
 use Rattle.causal_protocol.specs.Steps.{sends_of, append_all}
 use Rattle.causal_core.specs.Inside.MemoryInvariant.{MatchesEntries, MatchesEntriesAt}
 use Rattle.causal_core.specs.View.{receivers, sent_bodies}
-use Rattle.causal_core.specs.Inside.Memories.{memory_of, bodies_of, keep_all}
+use Rattle.causal_node.specs.ProcessMemories.{memory_of, bodies_of}
+use Rattle.causal_core.specs.Inside.Memories.{keep_all}
 use Rattle.causal_core.proofs.sends.append_sends.Given as goal
 
 abbrev pub invariant-loop-outgoing : goal.invariant-loop-outgoing

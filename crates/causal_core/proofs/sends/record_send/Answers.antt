@@ -2,7 +2,7 @@ use Rattle.std.proofs.Common.{◌≡◌, None, arith, length}
 use Rattle.causal_trace.specs.declared.entry.Entry.TheVariants as Entries
 use Rattle.causal_trace.specs.Rows as Rows
 use Rattle.causal_trace.proofs.Lemmas.CountBounds.{sends_few}
-use Rattle.causal_core.specs.Inside.Memories.{memory_of}
+use Rattle.causal_node.specs.ProcessMemories.{memory_of}
 use Rattle.causal_core.proofs.MemoriesFit.{fits_other}
 use Rattle.causal_core.proofs.RuntimeSend.{send_legal, send_fits, send_apart}
 use Rattle.causal_core.proofs.sends.record_send.Goals as goal
@@ -19,7 +19,7 @@ push_reserved-requires-clause-legal c = grind (arith, legal)
 
 pub returns-clause-fit : goal.returns-clause-fit
 returns-clause-fit c =
-    rw (c.push_reserved.ensures.recording, c.len-ssn.ensures, c.push.ensures.kept, c.len-send.ensures.length)
+    rw (c.push_reserved.ensures.recording, c.len-ssn.ensures, c.keep_message.ensures.memory, c.len-send.ensures.length)
     (send_fits c.args.trace.now.recording.past c.args.q c.args.outgoing.to c.args.process_memory.now.sent.batch (memory_of c.args.process_memory.now) c.requires.fit c.requires.ascending c.requires.delivered)
 
 pub returns-clause-others : goal.returns-clause-others

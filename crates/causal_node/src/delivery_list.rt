@@ -9,8 +9,8 @@ use causal_trace::entry::Dets;
 use std::alloc::Global;
 
 /// Returns the number of determinants in a batch with one more, unless the batch contains it.
-#[tactic(auto, using(crate::proofs::ListInsert::put_len, crate::proofs::ListInsert::kept_len))]
-pub(crate) fn listed_len(own: Det, batch: &Batch) -> usize
+#[tactic(auto, using(crate::proofs::Lemmas::ListInsert::put_len, crate::proofs::Lemmas::ListInsert::kept_len))]
+pub fn listed_len(own: Det, batch: &Batch) -> usize
     ensures { result ≡ length (with_own own (dets_of batch.now)) }
 {
     let len = batch.as_slice().len();
@@ -22,7 +22,7 @@ pub(crate) fn listed_len(own: Det, batch: &Batch) -> usize
 
 /// Returns the determinants of a batch, ascending, with one more at its position, unless the batch contains it.
 #[tactic(auto, using(crate::proofs::Rules::of_listed))]
-pub(crate) fn listed_dets(alloc: Global, own: Det, batch: &Batch) -> Result<Dets, NoMemory>
+pub fn listed_dets(alloc: Global, own: Det, batch: &Batch) -> Result<Dets, NoMemory>
     ensures { IfOk result (λ dets. dets ≡ with_own own (dets_of batch.now)) }
 {
     let items = batch.as_slice();

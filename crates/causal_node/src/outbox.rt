@@ -2,7 +2,7 @@
 ghost use Rattle.std.specs.Prelude.{◌≡◌, ◌≤◌, ◌-◌, ◌+◌, ◌++◌, ◌∷◌, [], ◌==◌, length, false, IfOk, OnOk, slice_get};
 ghost use Rattle.std.specs.Arc.{arc_value};
 ghost use Rattle.std.specs.Option.{option_map, option_map_or};
-ghost use Rattle.causal_core.specs.Inside.Outboxes.{kept_message_of};
+ghost use Rattle.causal_node.specs.Outboxes.{kept_message_of};
 
 use causal_log::Batch;
 use causal_name::{NoMemory, Pid};
@@ -35,16 +35,16 @@ pub struct Envelope<'a> {
 /// messages of a step carry the same batch.
 #[derive(Drop)]
 pub struct Outbox {
-    pub(crate) messages: Vec<Message>,
-    pub(crate) batches: Vec<Arc<Batch>>,
+    pub messages: Vec<Message>,
+    pub batches: Vec<Arc<Batch>>,
     /// The number of batches that messages carry; these are the first ones. One more batch, if there is one, is for a
     /// step that has sent nothing yet.
-    pub(crate) used_batches: usize,
+    pub used_batches: usize,
 }
 
 impl Model for Outbox {
     ghost use Rattle.std.specs.Prelude.{◌-◌, vec_capacity, vec_len};
-    ghost use Rattle.causal_core.specs.Inside.Outboxes.{coded_outbox, outbox_from, CarryTheFirst, OutboxState};
+    ghost use Rattle.causal_node.specs.Outboxes.{coded_outbox, outbox_from, CarryTheFirst, OutboxState};
 
     ghost Value = { OutboxState };
 
@@ -68,7 +68,7 @@ fn ends_empty(batches: &[Arc<Batch>]) -> bool
 
 impl Outbox {
     /// Returns an empty outbox. It allocates nothing.
-    pub(crate) fn new(alloc: Global) -> Outbox
+    pub fn new(alloc: Global) -> Outbox
         ensures kept { result.kept ≡ [] }
         ensures bodies { result.bodies ≡ [] }
     {
@@ -80,7 +80,7 @@ impl Outbox {
     }
 
     /// Returns an empty outbox with capacity for the messages of two steps; the first step carries this batch.
-    pub(crate) fn with_first_batch(alloc: Global, batch: Arc<Batch>) -> Result<Outbox, NoMemory>
+    pub fn with_first_batch(alloc: Global, batch: Arc<Batch>) -> Result<Outbox, NoMemory>
         ensures kept { IfOk result (λ sent. sent.kept ≡ []) }
         ensures bodies { IfOk result (λ sent. sent.bodies ≡ []) }
         ensures batch { IfOk result (λ sent. sent.batch ≡ arc_value batch) }
@@ -97,14 +97,14 @@ impl Outbox {
     }
 
     /// Returns the number of messages.
-    pub(crate) fn len(&self) -> usize
+    pub fn len(&self) -> usize
         ensures { result ≡ length self.now.kept }
     {
         self.messages.len()
     }
 
     /// Reserves capacity for `more` messages of the next step.
-    pub(crate) fn reserve(&mut self, more: usize) -> Result<(), NoMemory>
+    pub fn reserve(&mut self, more: usize) -> Result<(), NoMemory>
         ensures kept { self.new.kept ≡ self.old.kept }
         ensures bodies { self.new.bodies ≡ self.old.bodies }
         ensures room { OnOk result (more ≤ self.new.next_spare) }
@@ -115,7 +115,7 @@ impl Outbox {
     }
 
     /// Reserves capacity for exactly `more` messages, each in a separate step.
-    pub(crate) fn reserve_exact(&mut self, more: usize) -> Result<(), NoMemory>
+    pub fn reserve_exact(&mut self, more: usize) -> Result<(), NoMemory>
         ensures kept { self.new.kept ≡ self.old.kept }
         ensures bodies { self.new.bodies ≡ self.old.bodies }
     {
@@ -125,7 +125,7 @@ impl Outbox {
     }
 
     /// Returns the message of this number.
-    pub(crate) fn get(&self, ssn: usize) -> Option<Envelope<'_>>
+    pub fn get(&self, ssn: usize) -> Option<Envelope<'_>>
         ensures { option_map kept_message_of result ≡ slice_get self.now.kept ssn }
     {
         let Some(message) = self.messages.get(ssn) else {
@@ -141,7 +141,7 @@ impl Outbox {
     /// Sets the batch that the next messages carry, in reserved capacity. It replaces a batch that no message carries,
     /// so no batch is kept for a step that sent nothing. If the last batch and this one are both empty, the last one
     /// stays.
-    pub(crate) fn begin_step(&mut self, batch: Arc<Batch>)
+    pub fn begin_step(&mut self, batch: Arc<Batch>)
         requires { 1 ≤ self.old.next_spare }
         ensures kept { self.new.kept ≡ self.old.kept }
         ensures bodies { self.new.bodies ≡ self.old.bodies }
@@ -156,7 +156,7 @@ impl Outbox {
     }
 
     /// Adds a message of the current step, in reserved capacity.
-    pub(crate) fn push(&mut self, to: Pid, send: u32, body: Body)
+    pub fn push(&mut self, to: Pid, send: u32, body: Body)
         requires { 1 ≤ self.old.spare }
         ensures kept { self.new.kept
             ≡ self.old.kept ++ record { to = to; send = send; batch = self.old.batch } ∷ [] }

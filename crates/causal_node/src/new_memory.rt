@@ -2,7 +2,7 @@
 ghost use Rattle.std.specs.Prelude.{◌≡◌, ◌≤◌, [], IfOk};
 ghost use Rattle.std.specs.Arc.{arc_value};
 ghost use Rattle.causal_protocol.specs.Memory.{new_memory};
-ghost use Rattle.causal_core.specs.Inside.Memories.{memory_of, bodies_of};
+ghost use Rattle.causal_node.specs.ProcessMemories.{memory_of, bodies_of};
 
 use crate::outbox::Outbox;
 use crate::process_memory::ProcessMemory;
@@ -13,7 +13,7 @@ use std::sync::Arc;
 
 /// Returns the memory of a process that begins with this log and whose first sends carry this batch. It has sent and
 /// received nothing, and has capacity for the sends of two steps.
-pub(crate) fn new_process_memory(
+pub fn new_process_memory(
     alloc: Global,
     log: Log,
     batch: Arc<Batch>,

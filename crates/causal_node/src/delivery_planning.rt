@@ -1,8 +1,8 @@
 //! The making of a delivery plan.
 ghost use Rattle.std.specs.Prelude.{IfOk};
-ghost use Rattle.causal_core.specs.Inside.DeliveryPlans.{IsPlanFor};
-ghost use Rattle.causal_core.specs.Inside.Memories.{memory_of};
-ghost use Rattle.causal_core.specs.Inside.Outboxes.{kept_message_of};
+ghost use Rattle.causal_node.specs.DeliveryPlans.{IsPlanFor};
+ghost use Rattle.causal_node.specs.ProcessMemories.{memory_of};
+ghost use Rattle.causal_node.specs.Outboxes.{kept_message_of};
 
 use crate::delivery_list::listed_dets;
 use crate::delivery_plan::DeliveryPlan;
@@ -13,7 +13,7 @@ use std::alloc::Global;
 use std::sync::Arc;
 
 /// Returns the plan of the delivery of this message as the determinant `own`.
-pub(crate) fn plan_delivery(
+pub fn plan_delivery(
     alloc: Global,
     f: u16,
     own: Det,

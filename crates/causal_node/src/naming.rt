@@ -1,19 +1,15 @@
 //! The message that is named for a process's next delivery.
 ghost use Rattle.std.specs.Prelude.{◌≡◌, ◌<◌, ◌^◌, vec_len};
 ghost use Rattle.causal_protocol.specs.Refusals.{fault_unless_named};
-ghost use Rattle.causal_core.specs.Inside.Namings.{named_message_by};
-ghost use Rattle.causal_core.specs.Inside.Memories.{memory_of};
+ghost use Rattle.causal_node.specs.Namings.{named_message_by};
+ghost use Rattle.causal_node.specs.ProcessMemories.{memory_of};
 
 use crate::process_memory::ProcessMemory;
 use causal_name::{Det, MsgName, Pid};
 use causal_protocol::request::CoreFault;
 
 /// Returns the message that is named for q's next delivery, by q's log or by what stable storage contains for it.
-pub(crate) fn named_message(
-    process_memory: &ProcessMemory,
-    q: Pid,
-    stored: Option<Det>,
-) -> Option<MsgName>
+pub fn named_message(process_memory: &ProcessMemory, q: Pid, stored: Option<Det>) -> Option<MsgName>
     requires { vec_len process_memory.now.received < 2 ^ 32 }
     ensures { result ≡ named_message_by q (memory_of process_memory.now) stored }
 {
@@ -37,7 +33,7 @@ pub(crate) fn named_message(
 }
 
 /// Returns the refusal of a delivery if another message than the requested one is named.
-pub(crate) fn must_replay_fault(
+pub fn must_replay_fault(
     process_memory: &ProcessMemory,
     q: Pid,
     stored: Option<Det>,

@@ -1,0 +1,2 @@
+-- Lemmas of this crate that other crates may use.
+pub mod ListInsert

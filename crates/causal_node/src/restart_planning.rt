@@ -1,0 +1,36 @@
+//! The making of a restart plan.
+ghost use Rattle.std.specs.Prelude.{◌≡◌, IfOk};
+ghost use Rattle.std.specs.Arc.{arc_value};
+ghost use Rattle.causal_log.specs.Logs.{batch_items};
+ghost use Rattle.causal_node.specs.RestartPlans.{IsRestartPlan};
+
+use crate::new_memory::new_process_memory;
+use crate::restart_plan::RestartPlan;
+use causal_log::{Batch, Log};
+use causal_name::NoMemory;
+use std::alloc::Global;
+use std::sync::Arc;
+
+/// Returns the batch that a log chooses for f failures, and stores it in the log.
+fn choose_and_cache(alloc: Global, f: u16, log: &mut Log) -> Result<Arc<Batch>, NoMemory>
+    ensures map { log.new.map ≡ log.old.map }
+    ensures batch { IfOk result (λ batch. arc_value batch ≡ batch_items f log.old.map) }
+{
+    let batch = Arc::new(alloc, log.choose(alloc, f)?)?;
+    let share = Arc::try_clone(&batch)?;
+    log.cache_batch(f, batch);
+    Ok(share)
+}
+
+/// Returns the restart plan of a process that restarts with this log, and whose sends carry its batch.
+pub fn restart_plan_with(alloc: Global, f: u16, mut log: Log) -> Result<RestartPlan, NoMemory>
+    ensures { IfOk result (λ g. IsRestartPlan f log.map g) }
+{
+    let listed = log.dets(alloc)?;
+    let batch = choose_and_cache(alloc, f, &mut log)?;
+    let process_memory = new_process_memory(alloc, log, batch)?;
+    Ok(RestartPlan {
+        listed,
+        process_memory,
+    })
+}
