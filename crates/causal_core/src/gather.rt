@@ -45,6 +45,7 @@ fn gather_into(
 /// Returns the log of p after it has gathered the logs of the up processes and the stored determinants.
 pub(crate) fn gather(
     alloc: Global,
+    seed: u64,
     process_memories: &[Option<ProcessMemory>],
     stored: &[Det],
     p: Pid,
@@ -52,7 +53,7 @@ pub(crate) fn gather(
     ensures { IfOk result (λ log. log.map
         ≡ gathered_log_of (memories_in process_memories.now) stored.now p) }
 {
-    let mut log = Log::new(alloc);
+    let mut log = Log::with_seed(alloc, seed);
     // The log goes through `and`: each exit that drops a log needs a long proof.
     gather_into(alloc, &mut log, process_memories, stored, p).and(Ok(log))
 }

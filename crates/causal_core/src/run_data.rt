@@ -52,6 +52,8 @@ pub struct RunData {
     pub(crate) faults: u16,
     pub(crate) writers: Vec<Pid>,
     pub(crate) process_memories: Vec<Option<ProcessMemory>>,
+    /// The seed with which logs hash their entries.
+    pub(crate) seed: u64,
 }
 
 impl Model for RunData {
@@ -377,6 +379,7 @@ impl RunData {
         let stored = store.all(alloc)?;
         gather(
             alloc,
+            self.seed,
             self.process_memories.as_slice(),
             stored.as_slice(),
             p,

@@ -22,7 +22,11 @@ use causal_trace::trace::Trace;
 use std::alloc::Global;
 
 /// Returns the memories of n processes before they begin.
-fn new_process_memories(alloc: Global, n: u16) -> Result<Vec<Option<ProcessMemory>>, NoMemory>
+fn new_process_memories(
+    alloc: Global,
+    n: u16,
+    seed: u64,
+) -> Result<Vec<Option<ProcessMemory>>, NoMemory>
     ensures memories { IfOk result
         (λ process_memories. memories_in process_memories.items
         ≡ replicate n (Some (new_memory fin.empty))) }
@@ -31,7 +35,7 @@ fn new_process_memories(alloc: Global, n: u16) -> Result<Vec<Option<ProcessMemor
 {
     let mut process_memories = Vec::new(alloc);
     for i in 0..n {
-        let log = Log::new(alloc);
+        let log = Log::with_seed(alloc, seed);
         let sent = Outbox::new(alloc);
         let received = Vec::new(alloc);
         process_memories.push(Some(ProcessMemory {
@@ -44,14 +48,14 @@ fn new_process_memories(alloc: Global, n: u16) -> Result<Vec<Option<ProcessMemor
 }
 
 impl RunData {
-    /// Returns the data of a run of n processes with the bound f, in which nothing has happened.
-    pub(crate) fn open(alloc: Global, n: u16, f: u16) -> Result<RunData, NoMemory>
+    /// Returns the data of a run of n processes with the bound f, in which nothing has happened. Logs hash with the seed.
+    pub(crate) fn open(alloc: Global, n: u16, f: u16, seed: u64) -> Result<RunData, NoMemory>
         requires some { 1 ≤ n }
         requires few { n ≤ max_processes }
         ensures run { IfOk result (λ run_data. run_data.run ≡ opening n f []) }
         ensures bodies { IfOk result (λ run_data. run_data.bodies ≡ replicate n []) }
     {
-        let process_memories = new_process_memories(alloc, n)?;
+        let process_memories = new_process_memories(alloc, n, seed)?;
         let Ok(trace) = Trace::new(alloc, n) else {
             return Err(NoMemory);
         };
@@ -60,6 +64,7 @@ impl RunData {
             faults: f,
             writers: Vec::new(alloc),
             process_memories: process_memories,
+            seed,
         })
     }
 
@@ -71,7 +76,7 @@ impl RunData {
         ensures room { OnOk result (8 ≤ self.new.spare) }
     {
         self.trace.reserve(8)?;
-        restart_plan_with(alloc, self.faults, Log::new(alloc))
+        restart_plan_with(alloc, self.faults, Log::with_seed(alloc, self.seed))
     }
 
     /// Records what process p sends as it begins.

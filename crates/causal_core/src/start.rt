@@ -88,6 +88,29 @@ impl<S: Stable> Core<S> {
         ensures legal { OnOk result (start_fault (length boxes.items) (S.contents store) ≡ None) }
         ensures refused { IfErr result (IsStartReason (length boxes.items) (S.contents store)) }
     {
+        Core::start_seeded(alloc, f, boxes, store, 0)
+    }
+
+    /// Starts a core as `start`, whose logs hash their entries with this seed. Only costs depend on it: a caller who
+    /// does not know the seed cannot choose requests after which look-ups in logs are slow.
+    ///
+    /// # Errors
+    /// Those of `start`.
+    pub fn start_seeded(
+        alloc: Global,
+        f: u16,
+        boxes: Vec<Box<dyn Process + Send>>,
+        store: S,
+        seed: u64,
+    ) -> Result<Core<S>, StartFault>
+        requires { f < 65536 }
+        ensures ok { IfOk result (λ core. Starts answers f boxes.items (core_state core)) }
+        ensures opens { IfOk result
+            (λ core. IsOpening (length boxes.items) (core_run core).recording.past) }
+        ensures store_empty { IfOk result (λ core. S.contents core.store ≡ fin.empty) }
+        ensures legal { OnOk result (start_fault (length boxes.items) (S.contents store) ≡ None) }
+        ensures refused { IfErr result (IsStartReason (length boxes.items) (S.contents store)) }
+    {
         let n = boxes.len();
         if n == 0 || n > 256 {
             return Err(StartFault::Processes);
@@ -96,7 +119,7 @@ impl<S: Stable> Core<S> {
         if stored > 0 {
             return Err(StartFault::StoreNotEmpty);
         }
-        let Ok(mut run_data) = RunData::open(alloc, n as u16, f) else {
+        let Ok(mut run_data) = RunData::open(alloc, n as u16, f, seed) else {
             return Err(StartFault::NoMemory);
         };
         let Ok(slots) = begin_all(alloc, &mut run_data, boxes) else {

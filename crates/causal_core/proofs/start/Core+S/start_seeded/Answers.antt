@@ -4,7 +4,7 @@ use Rattle.causal_protocol.specs.Runs.{HaveBegunBelow}
 use Rattle.causal_protocol.proofs.Lemmas.KeptByType.{start_satisfies}
 use Rattle.causal_core.proofs.BoxLemmas.{Began_filled}
 use Rattle.causal_core.proofs.ProcessBegins.{all_up, none_stored}
-use Rattle.causal_core.proofs.start.Core+S.start.Goals as goal
+use Rattle.causal_core.proofs.start.Core+S.start_seeded.Goals as goal
 
 pub invariant_of-result : goal.invariant_of-result
 invariant_of-result g c =
