@@ -167,7 +167,7 @@ impl<S: Stable> Locked<S> {
     ghost use Rattle.causal_protocol.specs.declared.request.Reply.TheVariants as Replies;
 
     /// Wraps the core, with an empty history and `k` seats, 1 to 64, numbered from 0. Their `seen` count is the trace's
-    /// length.
+    /// length. The core's logs keep the seed of its start.
     ///
     /// # Errors
     /// `NoMemory`; the core is dropped.

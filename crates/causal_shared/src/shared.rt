@@ -46,7 +46,7 @@ pub struct Shared<S: Stable, B = Box<dyn Process + Send>> {
 
 impl<S: Stable + Send> Shared<S> {
     /// Places the core behind the lock and returns `k` seats, 1 to 64, numbered from 0. The caller chooses the tag; it
-    /// distinguishes the seats of one runtime from those of another.
+    /// distinguishes the seats of one runtime from those of another. The core's logs keep the seed of its start.
     ///
     /// # Errors
     /// `NoMemory`; the core is dropped.
