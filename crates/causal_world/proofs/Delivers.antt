@@ -21,8 +21,8 @@ use Rattle.causal_rounds.proofs.Lemmas.RoundSteps.{set_at_cases}
 use Rattle.causal_rounds.proofs.Lemmas.GatheredSteps.{det_step_preserves}
 use Rattle.causal_world.specs.World.{Packet, World, carrier_of, if_carries, volatile_of, det_state_of}
 use Rattle.causal_world.specs.Invariant.{WorldInvariant}
-use Rattle.causal_world.proofs.Functions.{below_is}
-use Rattle.causal_world.proofs.Transit.{in_transit_of, is_accepted, same_brings_nothing}
+use Rattle.causal_world.proofs.Lemmas.Functions.{below_is}
+use Rattle.causal_world.proofs.Lemmas.Transit.{in_transit_of, is_accepted, same_brings_nothing}
 use Rattle.causal_world.proofs.Crashes.{up_recovers_nothing}
 
 module _ (n f : ℕ) (w : World) (k : WorldInvariant n f w) (to : Pid) (send rsn : ℕ) (listed : List Det) (i : ℕ) (p : Packet) (message : MsgName) (known : ℕ → Det → ℕ → Bool) (low : to.0 < n) (up : w.rounds.down to.0 ≡ false)

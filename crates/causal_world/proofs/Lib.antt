@@ -1,5 +1,4 @@
-mod Functions
-mod Transit
+pub mod Lemmas
 mod Sends
 mod RoundChanges
 mod Crashes
@@ -7,5 +6,4 @@ mod Delivers
 mod Restarts
 mod Storage
 mod Worlds
-mod Openings
 mod Recovery

@@ -20,8 +20,8 @@ use Rattle.causal_rounds.proofs.Lemmas.GatheredSteps.{det_step_preserves}
 use Rattle.causal_rounds.proofs.Lemmas.AcceptanceSteps.{restarts_miss_nothing}
 use Rattle.causal_world.specs.World.{Packet, World, GatheredFrom, carrier_of, is_acceptable, if_carries, volatile_of, det_state_of}
 use Rattle.causal_world.specs.Invariant.{AbsentAreDown, WorldInvariant}
-use Rattle.causal_world.proofs.Functions.{set_at_here, set_at_away, below_is, apart_is}
-use Rattle.causal_world.proofs.Transit.{packet_of, in_transit_of, landed_in_transit, acceptable_is, is_accepted, rounds_bring_nothing}
+use Rattle.causal_world.proofs.Lemmas.Functions.{set_at_here, set_at_away, below_is, apart_is}
+use Rattle.causal_world.proofs.Lemmas.Transit.{packet_of, in_transit_of, landed_in_transit, acceptable_is, is_accepted, rounds_bring_nothing}
 
 module _ (n f : ℕ) (w : World) (k : WorldInvariant n f w) (who : Pid) (listed : List Det) (r : Round) (known : ℕ → Det → ℕ → Bool) (marked : ℕ → Det → Bool) (low : who.0 < n) (at : w.rounds.rounds who.0 ≡ Some r)
     (all_low : (q : ℕ) → q < suc n → (q ≡ who.0 → ⊥) → r.replied q ≡ true) (lists : (d : Det) → w.gathered who.0 d ≡ true → (list_has listed d ≡ true) ⊎ (is_stable w.past d ≡ true))

@@ -14,8 +14,8 @@ use Rattle.causal_rounds.proofs.Lemmas.RoundSteps.{set_at_cases, some_is, none_s
 use Rattle.causal_rounds.proofs.Lemmas.GatheredSteps.{det_step_preserves}
 use Rattle.causal_world.specs.World.{Packet, World, GatheredFrom, volatile_of, det_state_of}
 use Rattle.causal_world.specs.Invariant.{AbsentAreDown, ReadsLast, WorldInvariant}
-use Rattle.causal_world.proofs.Functions.{map_set_at, set_at_here, set_at_away, below_is, apart_is}
-use Rattle.causal_world.proofs.Transit.{rounds_bring_nothing}
+use Rattle.causal_world.proofs.Lemmas.Functions.{map_set_at, set_at_here, set_at_away, below_is, apart_is}
+use Rattle.causal_world.proofs.Lemmas.Transit.{rounds_bring_nothing}
 
 abbrev with_state : DetState → RoundState → (ℕ → Bool) → DetState
 with_state a rounds gathered = record { state = rounds; logs = a.logs; must_recover = a.must_recover; stable = a.stable; carriers = a.carriers; gathered = gathered }

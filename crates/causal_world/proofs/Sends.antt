@@ -17,8 +17,8 @@ use Rattle.causal_rounds.proofs.Lemmas.GatheredSteps.{det_step_preserves}
 use Rattle.causal_world.specs.World.{Packet, World, GatheredFrom, carrier_of, if_carries, volatile_of, det_state_of}
 use Rattle.causal_world.specs.Steps.{IsSentBy}
 use Rattle.causal_world.specs.Invariant.{StoresRight, WorldInvariant}
-use Rattle.causal_world.proofs.Functions.{map_set_at, set_at_same, below_is}
-use Rattle.causal_world.proofs.Transit.{one_is_new}
+use Rattle.causal_world.proofs.Lemmas.Functions.{map_set_at, set_at_same, below_is}
+use Rattle.causal_world.proofs.Lemmas.Transit.{one_is_new}
 
 module _ (n f : ℕ) (w : World) (p i : ℕ) (new : Packet) (s : IsSentBy n w p i new) (k : WorldInvariant n f w) where
   -- the world with the packet, after these entries, which say nothing new of logs

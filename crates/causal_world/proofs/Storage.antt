@@ -23,8 +23,8 @@ use Rattle.causal_rounds.proofs.Lemmas.RoundSteps.{set_at_cases, some_is}
 use Rattle.causal_rounds.proofs.Lemmas.GatheredSteps.{det_step_preserves, restarts_gather_all}
 use Rattle.causal_world.specs.World.{Packet, World, carrier_of, is_acceptable, if_carries, volatile_of, det_state_of}
 use Rattle.causal_world.specs.Invariant.{WorldInvariant}
-use Rattle.causal_world.proofs.Functions.{set_at_here, below_is, apart_is}
-use Rattle.causal_world.proofs.Transit.{packet_of, in_transit_of, landed_in_transit, is_accepted, same_brings_nothing}
+use Rattle.causal_world.proofs.Lemmas.Functions.{set_at_here, below_is, apart_is}
+use Rattle.causal_world.proofs.Lemmas.Transit.{packet_of, in_transit_of, landed_in_transit, is_accepted, same_brings_nothing}
 use Rattle.causal_world.proofs.RoundChanges.{round_low}
 use Rattle.causal_world.proofs.Crashes.{up_recovers_nothing}
 

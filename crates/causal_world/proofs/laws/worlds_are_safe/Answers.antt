@@ -1,4 +1,4 @@
-use Rattle.causal_world.proofs.Openings.{worlds_are_safe, worlds_share_no_slot}
+use Rattle.causal_world.proofs.Lemmas.ReachableWorlds.{worlds_are_safe, worlds_share_no_slot}
 use Rattle.causal_world.proofs.laws.worlds_are_safe.Goals as goal
 
 pub returns : goal.returns

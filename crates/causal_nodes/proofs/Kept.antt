@@ -1,0 +1,195 @@
+-- What stays true of nodes and packets while others make steps.
+use Rattle.std.proofs.Common.{ℕ, ◌≡◌, ◌<◌, ◌≤◌, inl, inr, true, false, List, ◌∷◌, Option, Some, None, refl, sym, ap, subst, ◌∙◌, arith}
+use Rattle.std.specs.Prelude.{◌⊎◌, ◌==◌}
+use Rattle.std.proofs.lemmas.Bool.{false≢true, both_ways, and_from, eq-eqb, eqb-true}
+use Rattle.causal_name.specs.declared.MsgName.{MsgName}
+use Rattle.causal_name.specs.declared.Det.{Det}
+use Rattle.causal_trace.specs.Past.{logs, is_stable, deliveries, message_at}
+use Rattle.causal_rounds.specs.Rounds.{set_at, Round, number}
+use Rattle.causal_rounds.proofs.Lemmas.RoundSteps.{set_at_cases}
+use Rattle.causal_world.specs.World.{Packet, World, GatheredFrom}
+use Rattle.causal_nodes.specs.Node.{UpNode, NodeRound, DownNode, Node, up_node, down_node}
+use Rattle.causal_nodes.specs.Packets.{Sent, message_packet, acknowledgement_packet, write_packet, written_packet, question_packet, answer_packet, not_up_packet, read_packet, stored_packet, number_packet, WasSent, is_of_round}
+use Rattle.causal_nodes.proofs.Represents.{LogFits, IsPacket, IsTold, PacketFits, ReplyFits, IsToldBy, NamesHolderTo, Told, GatheringFits, RoundFits, NodeFits, IsOutOfRound, IsOutOf, names_round, is_in_round}
+
+-- what never goes back
+pub record IsLater (w x : World) : Type 0 where
+  pub numbers : (q : ℕ) → number w.rounds q ≤ number x.rounds q
+  pub packets : (i : ℕ) (p : Packet) → w.packets i ≡ Some p → x.packets i ≡ Some p
+  pub stable : (d : Det) → is_stable w.past d ≡ true → is_stable x.past d ≡ true
+  pub stored : (d : Det) → w.stored d ≡ true → x.stored d ≡ true
+  pub messages : (send : ℕ) (m : MsgName) → message_at w.past send ≡ Some m → message_at x.past send ≡ Some m
+
+-- the world has the same of q
+pub record IsUntouched (w x : World) (q : ℕ) : Type 0 where
+  pub is_down : x.rounds.down q ≡ w.rounds.down q
+  pub lane : x.rounds.lane q ≡ w.rounds.lane q
+  pub floors : (z : ℕ) → x.rounds.floors q z ≡ w.rounds.floors q z
+  pub round : x.rounds.rounds q ≡ w.rounds.rounds q
+  pub gathered : (d : Det) → x.gathered q d ≡ w.gathered q d
+  pub holders : (d : Det) (h : ℕ) → x.knows_holder q d h ≡ w.knows_holder q d h
+  pub stables : (d : Det) → x.knows_stable q d ≡ w.knows_stable q d
+  pub logged : (d : Det) → logs x.past q d ≡ logs w.past q d
+  pub received : deliveries x.past q ≡ deliveries w.past q
+
+module _ (n : ℕ) (w x : World) (later : IsLater w x) where
+  pub packet_later : (p : Packet) → IsPacket n w p → IsPacket n x p
+  packet_later p h = (h.0, later.packets h.0 p h.1, h.2)
+
+  pub told_later : (view : ℕ → ℕ) → IsTold n w view → IsTold n x view
+  told_later view h z low = let a = h z low in let b = later.numbers z in omega (arith, a, b)
+
+  pub packet_fits_later : (k : Sent) → PacketFits n w k → PacketFits n x k
+  packet_fits_later (message_packet name p) h = (packet_later p h.0, (h.1.0, h.1.1, later.messages h.1.0 name h.1.2))
+  packet_fits_later (acknowledgement_packet p) h = packet_later p h
+  packet_fits_later (write_packet p) h = (packet_later p h.0, h.1)
+  packet_fits_later (written_packet dets) h = λ d has. later.stored d (h d has)
+  packet_fits_later (question_packet from name view) h = (h.0, told_later view h.1)
+  packet_fits_later (answer_packet name p) h = (packet_later p h.0, (λ d named. later.stable d (h.1 d named)), h.2)
+  packet_fits_later (not_up_packet from to name) h = h
+  packet_fits_later (read_packet from name view) h = (h.0, told_later view h.1)
+  packet_fits_later (stored_packet to name dets) h = λ d has. later.stored d (h d has)
+  packet_fits_later (number_packet from m) h = let b = later.numbers from in omega (arith, h, b)
+
+  -- the packets that were sent, and a new one
+  pub packets_and_one : (sent : List Sent) (new : Sent) → ((k : Sent) → WasSent sent k → PacketFits n w k) → PacketFits n x new → (k : Sent) → WasSent (new ∷ sent) k → PacketFits n x k
+  packets_and_one sent new old fits k (inl is) = subst (λ y. PacketFits n x y) is fits
+  packets_and_one sent new old fits k (inr was) = packet_fits_later k (old k was)
+
+  pub packets_later : (sent : List Sent) → ((k : Sent) → WasSent sent k → PacketFits n w k) → (k : Sent) → WasSent sent k → PacketFits n x k
+  packets_later sent old k was = packet_fits_later k (old k was)
+
+  pub gathered_later : (s : ℕ) (r : Round) (d : Det) → GatheredFrom w s r d → GatheredFrom x s r d
+  gathered_later s r d h = (h.0, h.1, later.packets h.0 h.1 h.2, h.3, h.4, h.5, h.6)
+
+  pub holder_later : (s : ℕ) (r : Round) (d : Det) (q : ℕ) → NamesHolderTo w s r d q → NamesHolderTo x s r d q
+  holder_later s r d q h = (h.0, h.1, later.packets h.0 h.1 h.2, h.3, h.4, h.5, h.6)
+
+  pub or_stable_later : {A : Type 0} (d : Det) → A ⊎ (is_stable w.past d ≡ true) → A ⊎ (is_stable x.past d ≡ true)
+  or_stable_later d (inl a) = inl a
+  or_stable_later d (inr stable) = inr (later.stable d stable)
+
+  pub told_by_later : (sent : List Sent) (s : ℕ) (nr : NodeRound) (r : Round) (d : Det) (y : ℕ) → IsToldBy w sent s nr r d y → IsToldBy x sent s nr r d y
+  told_by_later sent s nr r d y h = record {
+    answered = h.answered;
+    packet = let p = h.packet in (p.0, p.1, later.packets p.0 p.1 p.2, p.3, p.4, p.5);
+    answers = λ p was to from. or_stable_later d (h.answers p was to from);
+    taken = λ heard. or_stable_later d (h.taken heard);
+  }
+
+  pub all_told_later : (sent : List Sent) (s : ℕ) (nr : NodeRound) (r : Round) (d : Det) → Told n w sent s nr r d → Told n x sent s nr r d
+  all_told_later sent s nr r d (inl h) = inl (h.0, h.1, told_by_later sent s nr r d h.0 h.2)
+  all_told_later sent s nr r d (inr h) = inr (h.0, later.stored d h.1)
+
+  module _ (s : ℕ) (same : (d : Det) → x.gathered s d ≡ w.gathered s d) where
+    pub reply_later : (nr : NodeRound) (r : Round) (k : Sent) → ReplyFits n w s nr r k → ReplyFits n x s nr r k
+    reply_later nr r (message_packet name p) h = tt
+    reply_later nr r (acknowledgement_packet p) h = tt
+    reply_later nr r (write_packet p) h = tt
+    reply_later nr r (written_packet dets) h = tt
+    reply_later nr r (question_packet from name view) h = h
+    reply_later nr r (answer_packet name p) h = h
+    reply_later nr r (not_up_packet from to name) h = h
+    reply_later nr r (read_packet from name view) h = h
+    reply_later nr r (stored_packet to name dets) h = (h.0, λ d has. h.1 d (sym (same d) ∙ has))
+    reply_later nr r (number_packet from m) h = tt
+
+    pub gathering_later : (sent : List Sent) (nr : NodeRound) (r : Round) → GatheringFits n w sent s nr r → GatheringFits n x sent s nr r
+    gathering_later sent nr r g = record {
+      view = g.view;
+      heard = g.heard;
+      gathered = λ d has. elim (g.gathered d has) [ inl from ↦ inl (gathered_later s r d from) | inr stable ↦ inr (later.stable d stable) ];
+      holders = λ d q has. let old = g.holders d q has in (old.0, holder_later s r d q old.1);
+      stable = λ d has. later.stable d (g.stable d has);
+      storage = λ heard. let old = g.storage heard in (old.0, λ d has. old.1 d (sym (same d) ∙ has));
+      told = λ d has. all_told_later sent s nr r d (g.told d (sym (same d) ∙ has));
+      replies = λ k was of. reply_later nr r k (g.replies k was of);
+    }
+
+  module _ (q : ℕ) (same : IsUntouched w x q) where
+    pub log_kept : (a : UpNode) → LogFits w q a.log → LogFits x q a.log
+    log_kept a h = record { has = λ d. h.has d ∙ sym (same.logged d); holder = λ d p. h.holder d p ∙ sym (same.holders d p); stable = λ d. h.stable d ∙ sym (same.stables d) }
+
+    pub node_kept : (sent : List Sent) (node : Node) → NodeFits n w sent q node → NodeFits n x sent q node
+    node_kept sent (up_node a) h = record {
+      is_up = same.is_down ∙ h.is_up;
+      lane = same.lane ∙ h.lane;
+      log = log_kept a h.log;
+      floors = λ z low. same.floors z ∙ h.floors z low;
+      received = h.received ∙ sym same.received;
+    }
+    node_kept sent (down_node y) h = record { is_down = same.is_down ∙ h.is_down; lane = same.lane ∙ h.lane; told = told_later y.told h.told; round = round_kept y.round h.round }
+      where
+        round_kept : (o : Option NodeRound) → RoundFits n w sent q o → RoundFits n x sent q o
+        round_kept None at = same.round ∙ at
+        round_kept (Some nr) h = (h.0, same.round ∙ h.1, gathering_later q same.gathered sent nr h.0 h.2)
+
+-- one packet more, which is not of the round that s is in
+module _ (n : ℕ) (w : World) (sent : List Sent) (new : Sent) (s : ℕ) where
+  pub not_its_answer : (name : ℕ) → is_of_round new s name ≡ false → (p : Packet) → new ≡ answer_packet name p → p.to ≡ s → ⊥
+  not_its_answer name other p is to =
+      both_ways (is_of_round new s name) other (ap (λ k. is_of_round k s name) is ∙ and_from (p.to == s) (name == name) (eq-eqb p.to s to) (eq-eqb name name refl))
+
+  told_by_and_one : (nr : NodeRound) → is_of_round new s nr.name ≡ false → (r : Round) (d : Det) (y : ℕ) → IsToldBy w sent s nr r d y → IsToldBy w (new ∷ sent) s nr r d y
+  told_by_and_one nr other r d y h = record {
+    answered = h.answered;
+    packet = h.packet;
+    answers = λ p was to from. elim was [ inl is ↦ absurd (not_its_answer nr.name other p is to) | inr old ↦ h.answers p old to from ];
+    taken = h.taken;
+  }
+
+  pub gathering_and_one : (nr : NodeRound) → is_of_round new s nr.name ≡ false → (r : Round) → GatheringFits n w sent s nr r → GatheringFits n w (new ∷ sent) s nr r
+  gathering_and_one nr other r g = record {
+    view = g.view;
+    heard = g.heard;
+    gathered = g.gathered;
+    holders = g.holders;
+    stable = g.stable;
+    storage = g.storage;
+    told = λ d has. elim (g.told d has) [ inl h ↦ inl (h.0, h.1, told_by_and_one nr other r d h.0 h.2) | inr h ↦ inr h ];
+    replies = λ k was of. elim was [ inl is ↦ absurd (both_ways (is_of_round new s nr.name) other (ap (λ y. is_of_round y s nr.name) is ∙ of)) | inr old ↦ g.replies k old of ];
+  }
+
+  pub round_out_and_one : (o : Option NodeRound) → IsOutOfRound new s o → RoundFits n w sent s o → RoundFits n w (new ∷ sent) s o
+  round_out_and_one None other at = at
+  round_out_and_one (Some nr) other h = (h.0, h.1, gathering_and_one nr other h.0 h.2)
+
+  pub node_out_and_one : (node : Node) → IsOutOf new s node → NodeFits n w sent s node → NodeFits n w (new ∷ sent) s node
+  node_out_and_one (up_node a) other h = h
+  node_out_and_one (down_node y) other h = record { is_down = h.is_down; lane = h.lane; told = h.told; round = round_out_and_one y.round other h.round }
+
+-- a packet of no round of s, and one of another round of it
+pub out_of_all : (new : Sent) (s : ℕ) → ((name : ℕ) → is_of_round new s name ≡ false) → (node : Node) → IsOutOf new s node
+out_of_all new s other (up_node a) = tt
+out_of_all new s other (down_node y) = by y.round
+  where
+    by : (o : Option NodeRound) → IsOutOfRound new s o
+    by None = tt
+    by (Some nr) = other nr.name
+
+pub out_of_other : (new : Sent) (s name : ℕ) → ((x : ℕ) → (name == x) ≡ false → is_of_round new s x ≡ false) → (node : Node) → is_in_round name node ≡ false → IsOutOf new s node
+out_of_other new s name other (up_node a) out = tt
+out_of_other new s name other (down_node y) out = by y.round out
+  where
+    by : (o : Option NodeRound) → names_round name o ≡ false → IsOutOfRound new s o
+    by None out = tt
+    by (Some nr) out = other nr.name out
+
+pub node_and_one : (n : ℕ) (w : World) (sent : List Sent) (new : Sent) (s : ℕ) → ((name : ℕ) → is_of_round new s name ≡ false) → (node : Node) → NodeFits n w sent s node → NodeFits n w (new ∷ sent) s node
+node_and_one n w sent new s other node h = node_out_and_one n w sent new s node (out_of_all new s other node) h
+
+-- the round that a process is in
+pub round_in : (name : ℕ) (node : Node) → is_in_round name node ≡ true → (x : DownNode) × (nr : NodeRound) × (node ≡ down_node x) × (x.round ≡ Some nr) × (name ≡ nr.name)
+round_in name (up_node a) h = absurd (false≢true h)
+round_in name (down_node x) h = by x.round refl h
+  where
+    by : (o : Option NodeRound) → x.round ≡ o → names_round name o ≡ true → (y : DownNode) × (nr : NodeRound) × (down_node x ≡ down_node y) × (y.round ≡ Some nr) × (name ≡ nr.name)
+    by None is h = absurd (false≢true h)
+    by (Some nr) is h = (x, nr, refl, is, eqb-true name nr.name h)
+
+-- the nodes, one of them changed
+pub nodes_and_one : (n : ℕ) (x : World) (sent : List Sent) (nodes : ℕ → Node) (me : ℕ) (node : Node) → NodeFits n x sent me node → ((q : ℕ) → q < n → (q ≡ me → ⊥) → NodeFits n x sent q (nodes q)) → (p : ℕ) → p < n → NodeFits n x sent p (set_at nodes me node p)
+nodes_and_one n x sent nodes me node mine others p low = elim (set_at_cases nodes me node p) [
+  | inl is ↦ subst (λ y. NodeFits n x sent p y) (sym is.1) (subst (λ q. NodeFits n x sent q node) (sym is.0) mine)
+  | inr other ↦ subst (λ y. NodeFits n x sent p y) (sym other.1) (others p low other.0)
+]

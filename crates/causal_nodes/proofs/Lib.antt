@@ -1,0 +1,14 @@
+mod Represents
+mod Kept
+mod Context
+mod Emits
+mod Logs
+mod Replies
+mod Quiet
+mod Rounds
+mod Replied
+mod NotUp
+mod Storing
+mod Answering
+mod Networks
+mod Recovers

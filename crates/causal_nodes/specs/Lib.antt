@@ -1,0 +1,4 @@
+pub mod Node
+pub mod Packets
+pub mod NodeSteps
+pub mod Network
