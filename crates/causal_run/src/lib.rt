@@ -1,7 +1,7 @@
 //! Runs a script through the shared runtime, by one seat.
 //!
 //! Start at [`run_script`], which makes the script's own processes and returns the trace of the run, or a [`RunFault`].
-//! [`perform`] does the same with processes and spares that the caller passes.
+//! [`perform`] does the same with processes and spares that the caller passes, [`perform_seeded`] also with its seed.
 #![tactic(auto)]
 
 /// The error of a script's run.
@@ -16,5 +16,5 @@ mod script_run;
 mod run_refusals;
 
 pub use fault::RunFault;
-pub use script_commands::perform;
+pub use script_commands::{perform, perform_seeded};
 pub use script_run::run_script;

@@ -106,7 +106,32 @@ pub fn perform<R: Wait>(
     ensures refused { IfErr result
         (ExplainsRunFault (IsStarted answers script.now.f boxes.items) script.now.commands) }
 {
-    let core = Core::start(alloc, script.f, boxes, MemStable::new(alloc))?;
+    perform_seeded(rt, alloc, script, boxes, spares, 0)
+}
+
+/// Runs a script as `perform` does. The logs and the store hash with this seed; only costs depend on it.
+///
+/// # Errors
+/// Those of `perform`.
+pub fn perform_seeded<R: Wait>(
+    rt: &R,
+    alloc: Global,
+    script: &Script,
+    boxes: Vec<Box<dyn Process + Send>>,
+    spares: Vec<Box<dyn Process + Send>>,
+    seed: u64,
+) -> Result<Trace, RunFault>
+    requires some { 1 ≤ script.now.n }
+    requires few { script.now.n ≤ 256 }
+    requires boxes { length boxes.items ≡ script.now.n }
+    requires spares { length spares.items ≡ spares_in script.now.commands }
+    ensures run { IfOk result (λ trace. IsRunOf answers script.now boxes.items trace.recording) }
+    ensures safe { IfOk result (λ trace. IsSafeTrace trace.recording script.now.f) }
+    ensures refused { IfErr result
+        (ExplainsRunFault (IsStarted answers script.now.f boxes.items) script.now.commands) }
+{
+    let store = MemStable::with_seed(alloc, seed);
+    let core = Core::start_seeded(alloc, script.f, boxes, store, seed)?;
     let (shared, mut seats) = Shared::open(alloc, core, 1, 0)?;
     let outcome = issue_all(
         rt,

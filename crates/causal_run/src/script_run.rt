@@ -5,7 +5,7 @@ ghost use Rattle.causal_run.specs.Runs.{IsRunFrom, ExplainsRunFault};
 ghost use Rattle.causal_run.specs.ScriptProcesses.{IsStartOf};
 
 use crate::fault::RunFault;
-use crate::script_commands::perform;
+use crate::script_commands::perform_seeded;
 use crate::script_process::ScriptProcess;
 use causal_process::Process;
 use causal_protocol::request::Request;
@@ -24,11 +24,17 @@ fn spare_for(script: &Script, p: u8) -> u8
     if u16::from(p) < script.n { p } else { 0 }
 }
 
-/// Runs a script: makes its processes and the spares of its restarts, and performs its commands.
+/// Runs a script: makes its processes and the spares of its restarts, and performs its commands. The logs and the store
+/// hash with this seed; only costs depend on it.
 ///
 /// # Errors
 /// The errors of `perform`.
-pub fn run_script<R: Wait>(rt: &R, alloc: Global, script: &Script) -> Result<Trace, RunFault>
+pub fn run_script<R: Wait>(
+    rt: &R,
+    alloc: Global,
+    script: &Script,
+    seed: u64,
+) -> Result<Trace, RunFault>
     requires some { 1 ≤ script.now.n }
     requires few { script.now.n ≤ 256 }
     ensures run { IfOk result
@@ -47,5 +53,5 @@ pub fn run_script<R: Wait>(rt: &R, alloc: Global, script: &Script) -> Result<Tra
             spares.push(Box::new(alloc, ScriptProcess::new(script, me))?)?;
         }
     }
-    perform(rt, alloc, script, boxes, spares)
+    perform_seeded(rt, alloc, script, boxes, spares, seed)
 }

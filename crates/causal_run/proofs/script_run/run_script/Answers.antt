@@ -13,17 +13,17 @@ loop-me-preserved g c =
     let member : value_of c.into_dyn_box.result ≡ script_process_of script.kind script.n script.param c.loop-me.me = value ∙ (c.in_ok-new.ensures.ok ∙ c.new.ensures) in
     more_members _ (λ me. script_process_of script.kind script.n script.param me) c.loop-me.boxes.items c.push.new.self.items c.into_dyn_box.result c.loop-me.me c.in_ok-push.ensures.items c.loop-me.invariant member
 
-pub perform-requires-clause-boxes : goal.perform-requires-clause-boxes
-perform-requires-clause-boxes g c =
+pub perform_seeded-requires-clause-boxes : goal.perform_seeded-requires-clause-boxes
+perform_seeded-requires-clause-boxes g c =
     let script = c.args.script.now in
     as_many _ (λ me. script_process_of script.kind script.n script.param me) c.loop-me.boxes.items c.loop-me.me c.loop-me.invariant ∙ omega arith
 
 pub returns-clause-run : goal.returns-clause-run
 returns-clause-run g c =
-    IfOk-weaker c.perform.result _ _ (λ trace run. run-as _ _ (starts-members _ (λ b. value_of b) (of_each _ (λ b w inputs. refl)) c.args.script.now c.loop-me.boxes.items c.loop-me.me c.loop-me.invariant (omega arith))
-    c.args.script.now.commands trace.recording run) c.perform.ensures.run
+    IfOk-weaker c.perform_seeded.result _ _ (λ trace run. run-as _ _ (starts-members _ (λ b. value_of b) (of_each _ (λ b w inputs. refl)) c.args.script.now c.loop-me.boxes.items c.loop-me.me c.loop-me.invariant (omega arith))
+    c.args.script.now.commands trace.recording run) c.perform_seeded.ensures.run
 
 pub returns-clause-refused : goal.returns-clause-refused
 returns-clause-refused g c =
-    IfErr-weaker c.perform.result _ _ (λ fault told. told-as _ _ (starts-members _ (λ b. value_of b) (of_each _ (λ b w inputs. refl)) c.args.script.now c.loop-me.boxes.items c.loop-me.me c.loop-me.invariant (omega arith))
-    c.args.script.now.commands fault told) c.perform.ensures.refused
+    IfErr-weaker c.perform_seeded.result _ _ (λ fault told. told-as _ _ (starts-members _ (λ b. value_of b) (of_each _ (λ b w inputs. refl)) c.args.script.now c.loop-me.boxes.items c.loop-me.me c.loop-me.invariant (omega arith))
+    c.args.script.now.commands fault told) c.perform_seeded.ensures.refused

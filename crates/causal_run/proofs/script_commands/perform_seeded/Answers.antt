@@ -6,7 +6,7 @@ use Rattle.causal_shared.specs.Shared.{opening_of}
 use Rattle.causal_script.specs.declared.script.Command.{Command}
 use Rattle.causal_run.specs.Inside.IssuedRequests.{ArePerformed, IsRefusedRun}
 use Rattle.causal_run.proofs.Histories.{run-of, refused-as, safe-as, opened-as, one-seat, set-one}
-use Rattle.causal_run.proofs.script_commands.perform.Goals as goal
+use Rattle.causal_run.proofs.script_commands.perform_seeded.Goals as goal
 
 pub returns-in_err-outcome-clause-refused : goal.returns-in_err-outcome-clause-refused
 returns-in_err-outcome-clause-refused g c =
