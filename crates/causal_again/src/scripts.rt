@@ -25,7 +25,7 @@ fn run<R: Print + Eprint + Wait>(rt: &R, alloc: Global, script: &Script) -> Opti
         return None;
     }
     for _ in 0..TRIES {
-        match run_script(rt, alloc, script) {
+        match run_script(rt, alloc, script, 0) {
             Ok(trace) => return Some(trace),
             Err(fault) => print_refusal(rt, "run_script", &fault, true),
         };

@@ -32,12 +32,14 @@ pub enum Reason {
 /// valid script, it writes one line with that, and the outcome has the error or the refusal. The ending reports a failure
 /// of the reader, the writer or an allocation, and a shared runtime that could not be finished.
 ///
-/// At most 1,048,577 bytes of the text are read, one more than a script may have.
+/// At most 1,048,577 bytes of the text are read, one more than a script may have. The logs of the run hash with the seed;
+/// only costs depend on it.
 pub fn answer_script<R: Wait, I: Read, O: Write>(
     rt: &R,
     alloc: Global,
     input: &mut I,
     output: &mut O,
+    seed: u64,
 ) -> Outcome<Reason>
     ensures prints { WritesScriptFor (I.remaining input.old) result.ended
         (O.contents output.old) (O.contents output.new) }
@@ -48,7 +50,7 @@ pub fn answer_script<R: Wait, I: Read, O: Write>(
         ended,
         text,
         reason,
-    } = match answer_from(rt, alloc, input) {
+    } = match answer_from(rt, alloc, input, seed) {
         Ok(answer) => answer,
         Err(ended) => return Outcome { ended, fault: None },
     };
@@ -76,6 +78,7 @@ fn answer_from<R: Wait, I: Read>(
     rt: &R,
     alloc: Global,
     input: &mut I,
+    seed: u64,
 ) -> Result<ScriptAnswer, Ended>
     ensures ok { IfOk result
         (λ answer. IsPrintedFor (I.remaining input.old) answer.ended answer.text.items) }
@@ -84,13 +87,13 @@ fn answer_from<R: Wait, I: Read>(
     ensures most { ReadsAtMostScript (I.remaining input.old) (I.remaining input.new) }
 {
     match read_script(alloc, input) {
-        Ok(text) => answer_to(rt, alloc, text.as_slice()),
+        Ok(text) => answer_to(rt, alloc, text.as_slice(), seed),
         Err(ReadFault::Read) => Err(Ended::ReadFault),
         Err(ReadFault::NoMemory) => Err(Ended::NoMemory),
     }
 }
 
-fn answer_to<R: Wait>(rt: &R, alloc: Global, text: &[u8]) -> Result<ScriptAnswer, Ended>
+fn answer_to<R: Wait>(rt: &R, alloc: Global, text: &[u8], seed: u64) -> Result<ScriptAnswer, Ended>
     ensures ok { IfOk result (λ answer. IsScriptAnswer text.now answer.ended answer.text.items) }
     ensures reason { IfOk result (λ answer. IfSome answer.reason (IsReason text.now)) }
     ensures err { IfErr result RunWritesNothing }
@@ -99,7 +102,7 @@ fn answer_to<R: Wait>(rt: &R, alloc: Global, text: &[u8]) -> Result<ScriptAnswer
         Ok(script) => script,
         Err(fault) => return fault_answer(alloc, fault),
     };
-    match run_script(rt, alloc, &script) {
+    match run_script(rt, alloc, &script, seed) {
         Ok(trace) => line_answer(Ended::Ran, text_of(alloc, &trace), None),
         Err(fault) => refusal_answer(alloc, fault),
     }

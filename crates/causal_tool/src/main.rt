@@ -41,6 +41,7 @@ use causal_workers::OpenGate;
 use std::fmt::Display;
 use std::io::{self, ErrorKind, IsTerminal, Read, Write};
 use std::process::ExitCode;
+use std::random::RandomSource;
 use std::rt::Env;
 use std::sync::Wait;
 use std::thread::Threads;
@@ -149,8 +150,17 @@ fn answer_question<R: Threads + Wait + AllocGlobal, I: Read, O: Write>(
     }
 }
 
+/// Returns a seed from the system's random source, or 0 if that fails: only costs depend on it.
+fn random_seed<R: RandomSource>(rt: &R) -> u64 {
+    let mut bytes = [0; 8];
+    match rt.fill_bytes(&mut bytes) {
+        Ok(()) => u64::from_le_bytes(bytes),
+        Err(_) => 0,
+    }
+}
+
 /// Runs the command, and prints the diagnostic of an invalid input.
-fn run_command<R: Threads + Wait + Eprint + AllocGlobal, I: Read, O: Write>(
+fn run_command<R: Threads + Wait + Eprint + AllocGlobal + RandomSource, I: Read, O: Write>(
     rt: &R,
     asked: Invocation,
     input: &mut I,
@@ -176,11 +186,10 @@ fn run_command<R: Threads + Wait + Eprint + AllocGlobal, I: Read, O: Write>(
             let told = answer_merge(alloc, input, output, limits);
             print_merge_outcome(rt, command, told)
         }
-        Invocation::Run => print_script_outcome(
-            rt,
-            command,
-            answer_script(rt, alloc, input, output),
-        ),
+        Invocation::Run => {
+            let told = answer_script(rt, alloc, input, output, random_seed(rt));
+            print_script_outcome(rt, command, told)
+        }
     }
 }
 
