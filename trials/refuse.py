@@ -93,10 +93,10 @@ AT_ONCE = [
 MADE_AGAIN = ("help", errno.EINTR)
 
 
-def library_in(folder):
+def library_in(folder, name="refuse.c"):
     """The library to preload, built in a folder."""
-    library = os.path.join(folder, "refuse.so")
-    source = os.path.join(HERE, "refuse.c")
+    library = os.path.join(folder, name.replace(".c", ".so"))
+    source = os.path.join(HERE, name)
     compiler = os.environ.get("CC", "cc")
     subprocess.run([compiler, "-shared", "-fPIC", "-O2", "-o", library, source, "-ldl", "-lpthread"], check=True)
     return library
