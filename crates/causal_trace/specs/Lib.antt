@@ -5,6 +5,7 @@ pub mod Numbers
 pub mod Past
 pub mod Rows
 pub mod Sizes
+pub mod Survivors
 pub mod State
 pub mod Dependence
 pub mod Judgement

@@ -1,0 +1,250 @@
+-- What the copies and the slots say of a run.
+use Rattle.std.proofs.Common.{ℕ, ◌≡◌, ◌+◌, ◌<◌, ◌≤◌, inl, inr, Bool, true, false, List, [], ◌∷◌, length, get_or, Option, Some, None, refl, sym, ap, subst, ◌∙◌, arith}
+use Rattle.std.specs.Prelude.{◌==◌, ◌||◌, ◌⊎◌}
+use Rattle.std.specs.Global.{Vec}
+use Rattle.std.specs.Option.{is_some}
+use Rattle.std.proofs.lemmas.Bool.{cases_lt, false≢true, or_cases, ne_eqb, eq-eqb, cond-true}
+use Rattle.std.proofs.lemmas.Bool.Decides.{eqb_tells}
+use Rattle.std.proofs.lemmas.List.{length-reverse}
+use Rattle.causal_name.specs.declared.Det.{Det}
+use Rattle.causal_name.specs.declared.Slot.{Slot}
+use Rattle.causal_name.specs.Sets.{any_below}
+use Rattle.causal_holders.proofs.Lemmas.MemberCounts.{any_below-found}
+use Rattle.causal_trace.specs.declared.entry.Entry.{Entry}
+use Rattle.causal_trace.specs.Past.{instant, logs, is_stable, is_delivered, is_det, det_of, det_at, deliveries_in, list_has}
+use Rattle.causal_trace.specs.Rows.{Recording, AreLegalEntries, IsWellFormed, first_fault}
+use Rattle.causal_trace.specs.State.{entries_of, past_at}
+use Rattle.causal_trace.specs.Survivors.{survives, SlotsAreSingle}
+use Rattle.causal_trace.proofs.Lemmas.AtInstants.{accepted_then, instant_length, det_then, det_within, read_instant}
+use Rattle.causal_trace.proofs.Lemmas.Instants.{past_more}
+use Rattle.causal_trace.proofs.Lemmas.DeliveryNumbers.{delivered_numbered, listed_once}
+use Rattle.causal_replays.specs.Strays.{IsLower, FillsSlot, FirstTwo, LowerAreSingle}
+use Rattle.causal_replays.specs.declared.copies.Copies.{Copies}
+use Rattle.causal_replays.specs.Inside.Copies.{number_in, is_stored, AreCopies, copied_by}
+use Rattle.causal_replays.specs.Inside.Holdings.{holds}
+use Rattle.causal_replays.specs.Inside.Rivals.{IsCopied, IsInSlot, HasRivals, AreNoted, IsCopiedAt, AreFirstTwo, HaveTwo}
+use Rattle.causal_replays.specs.Inside.Slots.{number_at}
+use Rattle.causal_replays.proofs.NumberLemmas.{one_det, is_same, same_is}
+use Rattle.causal_replays.proofs.SurvivorLemmas.{logs_inside, survivor_delivered, logged_survives, stable_survives, survives_step, copied_survives_entry, none_survive}
+
+-- ---- instants
+
+module _ (r : Recording) (es : List Entry) (read : es ≡ entries_of r) where
+  pub how_many : length es ≡ length r.past
+  how_many = ap length read ∙ length-reverse r.past
+
+  state_at : (t : ℕ) → t ≤ length r.past → past_at es t ≡ instant r.past t
+  state_at t within = ap (λ x. past_at x t) read ∙ read_instant r.past t within
+
+  -- the next instant has one more entry
+  pub next_state : (t : ℕ) (e : Entry) → t < length es → e ≡ get_or es t e → instant r.past (t + 1) ≡ e ∷ instant r.past t
+  next_state t e there is =
+      sym (state_at (t + 1) (omega (arith, there, how_many))) ∙ past_more es t e there is ∙ ap (λ p. e ∷ p) (state_at t (omega (arith, there, how_many)))
+
+-- the first instant has no entries
+pub no_entry : (past : List Entry) → instant past 0 ≡ []
+no_entry past = sym (read_instant past 0 (omega arith))
+
+-- ---- positions and numbers of survivors
+
+is_told : (own : Option Det) (d : Det) → own ≡ Some d → is_det own d ≡ true
+is_told own d h = subst (λ o. is_det o d ≡ true) (sym h) (is_same d d refl)
+
+newest_det : (e : Entry) (past : List Entry) (d : Det) → is_det (det_of past e) d ≡ true → (o : Option Det) → det_of past e ≡ o → (k : ℕ) × (det_at (e ∷ past) k ≡ Some d)
+newest_det e past d h None is = absurd (false≢true (subst (λ o. is_det o d ≡ true) is h))
+newest_det e past d h (Some x) is =
+    (length past, cond-true (length past == length past) (det_of past e) (det_at past (length past)) (eq-eqb (length past) (length past) refl) ∙ is ∙ ap (λ y. Some y) (same_is x d (subst (λ o. is_det o d ≡ true) is h)))
+
+older_det : (e : Entry) (past : List Entry) (d : Det) → (k : ℕ) × (det_at past k ≡ Some d) → (k : ℕ) × (det_at (e ∷ past) k ≡ Some d)
+older_det e past d h = grind (arith, det_within, ne_eqb)
+
+found_det : (past : List Entry) (d : Det) → is_delivered past d ≡ true → (k : ℕ) × (det_at past k ≡ Some d)
+found_det [] d h = absurd (false≢true h)
+found_det (e ∷ past) d h = elim (or_cases (is_det (det_of past e) d) (is_delivered past d) h) [
+  | inl new ↦ newest_det e past d new (det_of past e) refl
+  | inr old ↦ older_det e past d (found_det past d old)
+]
+
+or_true : (a : Bool) → (a || true) ≡ true
+or_true true = refl
+or_true false = refl
+
+told_det : (past : List Entry) (d : Det) (k : ℕ) → det_at past k ≡ Some d → is_delivered past d ≡ true
+told_det [] d k h = absurd (let e : None ≡ Some d = h in cc)
+told_det (e ∷ past) d k h = grind (arith, eqb_tells, is_told, cond-true, told_det past d k, or_true)
+
+some_value : (o : Option ℕ) → is_some o ≡ true → (i : ℕ) × (o ≡ Some i)
+some_value None h = absurd (false≢true h)
+some_value (Some i) h = (i, refl)
+
+-- each delivered determinant has a number
+delivered_number : (whole : List Entry) (d : Det) (k : ℕ) → det_at whole k ≡ Some d → (i : ℕ) × (number_in whole d ≡ Some i)
+delivered_number whole d k at = some_value (number_in whole d) (sym (delivered_numbered (deliveries_in whole) whole d (listed_once whole)) ∙ told_det whole d k at)
+
+module _ (r : Recording) (formed : IsWellFormed r) (t : ℕ) (within : t ≤ length r.past) (c : Copies) (are : AreCopies r.past (instant r.past t) c) where
+  legal : AreLegalEntries r.processes (instant r.past t)
+  legal = accepted_then r.processes r.past t formed.accepted
+
+  -- a survivor's delivery
+  survivor_at : (d : Det) → survives r.processes (instant r.past t) d ≡ true → (k : ℕ) × (k < t) × (det_at r.past k ≡ Some d)
+  survivor_at d h =
+      let found = found_det (instant r.past t) d (survivor_delivered r.processes (instant r.past t) d legal h) in
+      let low : found.0 < t = omega (arith, det_within (instant r.past t) found.0 d found.1, instant_length r.past t within) in
+      (found.0, low, sym (det_then r.past t found.0 low within) ∙ found.1)
+
+  -- exactly the survivors have copies
+  pub survivor_copied : (d : Det) → survives r.processes (instant r.past t) d ≡ true → IsCopied r.past c d
+  survivor_copied d h =
+      let at = survivor_at d h in
+      let number = delivered_number r.past d at.0 at.2 in (
+        number.0,
+        number.1,
+        elim (or_cases (is_stable (instant r.past t) d) (any_below r.processes (λ p. logs (instant r.past t) p d)) h) [
+          | inl stable ↦ inl (are.stored d number.0 number.1 ∙ stable)
+          | inr logged ↦ let found = any_below-found r.processes (λ p. logs (instant r.past t) p d) logged in inr (found.0, are.held d number.0 found.0 number.1 ∙ found.2)
+        ],
+      )
+
+  pub copied_survives : (d : Det) → IsCopied r.past c d → survives r.processes (instant r.past t) d ≡ true
+  copied_survives d copied = elim copied.2 [
+    | inl stable ↦ stable_survives r.processes (instant r.past t) d (sym (are.stored d copied.0 copied.1) ∙ stable)
+    | inr held ↦
+        let logged : logs (instant r.past t) held.0 d ≡ true = sym (are.held d copied.0 held.0 copied.1) ∙ held.1 in
+        logged_survives r.processes (instant r.past t) held.0 d (logs_inside r.processes (instant r.past t) held.0 d legal logged) logged
+  ]
+
+  -- two in one slot are the same
+  one_in_slot : (slots : List (Vec (Option ℕ))) (a b : Det) → IsCopied r.past c a → IsCopied r.past c b → IsInSlot r.past slots a → IsInSlot r.past slots b → a.dest.0 ≡ b.dest.0 → a.rsn ≡ b.rsn → a ≡ b
+  one_in_slot slots a b one other in_a in_b dest rsn =
+      let same : Some one.0 ≡ Some other.0 = sym (in_a one.0 one.1) ∙ ap (λ p. number_at slots p a.rsn) dest ∙ ap (λ x. number_at slots b.dest.0 x) rsn ∙ in_b other.0 other.1 in
+      one_det r.past a b other.0 (one.1 ∙ same) other.1
+
+  module _ (slots : List (Vec (Option ℕ))) (test : Det → Bool) (tested : (d : Det) → survives r.processes (instant r.past t) d ≡ true → test d ≡ true) where
+    pub single_now : AreNoted r.past c slots None test → SlotsAreSingle r.processes (instant r.past t)
+    single_now noted a b ha hb dest rsn =
+        let one = survivor_copied a ha in
+        let other = survivor_copied b hb in
+        one_in_slot slots a b one other (noted.in_slots a (tested a ha) one tt) (noted.in_slots b (tested b hb) other tt) (ap (λ p. p.0) dest) rsn
+
+    pub lower_now : (s : Slot) → AreNoted r.past c slots (Some s) test → LowerAreSingle r.processes (instant r.past t) s
+    lower_now s noted a b ha hb same lower =
+        let one = survivor_copied a ha in
+        let other = survivor_copied b hb in
+        one_in_slot slots a b one other (noted.in_slots a (tested a ha) one lower) (noted.in_slots b (tested b hb) other (subst (λ x. IsLower x s) same lower)) (ap (λ (x : Slot). x.dest.0) same) (ap (λ (x : Slot). x.rsn) same)
+
+  -- rivals have deliveries before the instant
+  pub two_now : (s : Slot) → HasRivals r.past c s → HaveTwo r.past c s t
+  two_now s rivals =
+      let a = rivals.0 in
+      let b = rivals.1 in
+      let are_rivals = rivals.2 in
+      let at_a = survivor_at a (copied_survives a are_rivals.one) in
+      let at_b = survivor_at b (copied_survives b are_rivals.other) in
+      record {
+        one = a;
+        two = b;
+        at = at_a.0;
+        also_at = at_b.0;
+        early = at_a.1;
+        also_early = at_b.1;
+        first = record { delivered = at_a.2; copied = are_rivals.one; fills = are_rivals.one_fills };
+        second = record { delivered = at_b.2; copied = are_rivals.other; fills = are_rivals.other_fills };
+        differ = are_rivals.differ;
+      }
+
+  fills_of : (s : Slot) (k : ℕ) (d : Det) → k < t → IsCopiedAt r.past c s k d → FillsSlot r.processes (instant r.past t) s k d
+  fills_of s k d low at = record { delivered = det_then r.past t k low within ∙ at.delivered; alive = copied_survives d at.copied; fills = at.fills }
+
+  low_of : (s : Slot) (k : ℕ) (d : Det) → FillsSlot r.processes (instant r.past t) s k d → k < t
+  low_of s k d fill = omega (arith, det_within (instant r.past t) k d fill.delivered, instant_length r.past t within)
+
+  copied_of : (s : Slot) (k : ℕ) (d : Det) → FillsSlot r.processes (instant r.past t) s k d → IsCopiedAt r.past c s k d
+  copied_of s k d fill = record { delivered = sym (det_then r.past t k (low_of s k d fill) within) ∙ fill.delivered; copied = survivor_copied d fill.alive; fills = fill.fills }
+
+  -- the first two deliveries with copies are those of survivors
+  pub pair_now : (s : Slot) (k l : ℕ) → AreFirstTwo r.past c s t k l → FirstTwo r.processes (instant r.past t) s k l
+  pair_now s k l two = record {
+    one = two.one;
+    other = two.two;
+    first = first;
+    second = second;
+    differ = differ;
+    order = order (cases_lt k l);
+    none_before = none_before;
+    none_between = λ j d fill low. sym (same_det_some two.one d (two.second.first j d low (copied_of s j d fill)));
+  }
+    where
+      first : FillsSlot r.processes (instant r.past t) s k two.one
+      first = fills_of s k two.one two.first.within two.first.here
+
+      second : FillsSlot r.processes (instant r.past t) s l two.two
+      second = fills_of s l two.two two.second.within two.second.here
+
+      differ : two.one ≡ two.two → ⊥
+      differ e = two.second.other (ap (λ x. Some x) e)
+
+      same_det_some : (a b : Det) → Some a ≡ Some b → a ≡ b
+      same_det_some a b e = cc
+
+      none_before : (j : ℕ) (d : Det) → FillsSlot r.processes (instant r.past t) s j d → k ≤ j
+      none_before j d fill = elim (cases_lt j k) [
+        | inl low ↦ absurd (let e : None ≡ Some d = two.first.first j d low (copied_of s j d fill) in cc)
+        | inr late ↦ late
+      ]
+
+      order : (k < l) ⊎ (l ≤ k) → k < l
+      order (inl low) = low
+      order (inr late) =
+          let least : k ≤ l = none_before l two.two second in
+          let same : k ≡ l = omega (arith, least, late) in
+          absurd (differ (same_det_some two.one two.two (sym first.delivered ∙ ap (det_at (instant r.past t)) same ∙ second.delivered)))
+
+-- ---- the next entry
+
+-- a property of each instant up to t, and of the next, is one of each up to the next
+pub up_to_next : (P : ℕ → Type 0) (t : ℕ) → ((u : ℕ) → u ≤ t → P u) → P (t + 1) → (u : ℕ) → u ≤ t + 1 → P u
+up_to_next P t before here u h = grind arith
+
+module _ (r : Recording) (formed : IsWellFormed r) (t : ℕ) (e : Entry) (inside : t + 1 ≤ length r.past) (next : instant r.past (t + 1) ≡ e ∷ instant r.past t) where
+  legal_entry : first_fault r.processes (instant r.past t) e ≡ None
+  legal_entry = (subst (AreLegalEntries r.processes) next (accepted_then r.processes r.past (t + 1) formed.accepted)).1
+
+  -- what survives after the entry survived before, or the entry makes a copy of it
+  pub tested : (dets : List Det) → dets ≡ copied_by e → (d : Det) → survives r.processes (instant r.past (t + 1)) d ≡ true → (survives r.processes (instant r.past t) d || list_has dets d) ≡ true
+  tested dets are d h =
+      subst (λ x. (survives r.processes (instant r.past t) d || list_has x d) ≡ true) (sym are)
+      (survives_step r.processes (instant r.past t) d e (subst (λ p. survives r.processes p d ≡ true) next h))
+
+  module _ (c now : Copies) (copied : AreCopies r.past (instant r.past t) c) (copied_now : AreCopies r.past (instant r.past (t + 1)) now) where
+    -- what the entry makes a copy of has one
+    pub listed_copied : (dets : List Det) → dets ≡ copied_by e → (d : Det) → list_has dets d ≡ true → IsCopied r.past now d
+    listed_copied dets are d h =
+        survivor_copied r formed (t + 1) inside now copied_now d
+        (subst (λ p. survives r.processes p d ≡ true) (sym next) (copied_survives_entry r.processes (instant r.past t) d e legal_entry (subst (λ x. list_has x d ≡ true) are h)))
+
+    -- the earlier survivors stay in their slots
+    pub noted_kept : (slots : List (Vec (Option ℕ))) → AreNoted r.past c slots None (survives r.processes (instant r.past t)) → AreNoted r.past now slots None (survives r.processes (instant r.past t))
+    noted_kept slots noted = record {
+      of_slots = noted.of_slots;
+      in_slots = λ d h has below. noted.in_slots d h (survivor_copied r formed t (omega (arith, inside)) c copied d h) tt;
+      rivals = tt;
+    }
+
+-- ---- the first instant
+
+module _ (r : Recording) where
+  none_yet : (d : Det) → survives r.processes (instant r.past 0) d ≡ true → ⊥
+  none_yet d h = none_survive r.processes d (subst (λ p. survives r.processes p d ≡ true) (no_entry r.past) h)
+
+  pub copied_first : (c : Copies) → ((i p : ℕ) → holds c.holders.items i p ≡ false) → ((i : ℕ) → is_stored c.stable.items i ≡ false) → AreCopies r.past (instant r.past 0) c
+  copied_first c unheld unstored = subst (λ p. AreCopies r.past p c) (sym (no_entry r.past)) (record { held = λ d i p at. unheld i p; stored = λ d i at. unstored i })
+
+  pub noted_first : (c : Copies) (slots : List (Vec (Option ℕ))) → ((p s : ℕ) → number_at slots p s ≡ None) → AreNoted r.past c slots None (survives r.processes (instant r.past 0))
+  noted_first c slots none = record {
+    of_slots = λ p s j h. absurd (let x : None ≡ Some j = sym (none p s) ∙ h in cc);
+    in_slots = λ d h has below. absurd (none_yet d h);
+    rivals = tt;
+  }
+
+  pub single_first : (u : ℕ) → u ≤ 0 → SlotsAreSingle r.processes (instant r.past u)
+  single_first u h a b ha hb dest rsn = absurd (none_yet a (subst (λ x. survives r.processes (instant r.past x) a ≡ true) (let z : u ≡ 0 = omega (arith, h) in z) ha))

@@ -1,0 +1,45 @@
+//! The first instant at which a run strays from what survives.
+ghost use Rattle.std.specs.Prelude.{IfOk, MatchOption};
+ghost use Rattle.causal_trace.specs.Survivors.{IsFollowed};
+ghost use Rattle.causal_replays.specs.Strays.{IsFirstStray};
+
+use crate::copies::{apply_entry, copied_by, no_copies};
+use crate::rivals::note_dets;
+use crate::search::first_two;
+use crate::slots::empty_lists;
+use crate::stray::Stray;
+use causal_name::NoMemory;
+use causal_trace::trace::Trace;
+use std::alloc::Global;
+
+/// Returns the first instant at which two different determinants that survive fill one slot, the least such slot, and the
+/// first deliveries of two such determinants; `None` if each slot has at most one survivor at each instant. A determinant
+/// survives if it is stable or in the log of a process (Alvisi and Marzullo 1998).
+///
+/// One pass: O(entries + listed determinants) steps, each with O(lanes that delivered the message) for a determinant's
+/// number. It needs 33 bytes for each delivery, 8 for each slot, and 4 for each determinant in a log.
+///
+/// # Errors
+/// `NoMemory` if an allocation failed.
+pub fn first_stray(alloc: Global, trace: &Trace) -> Result<Option<Stray>, NoMemory>
+    ensures { IfOk result (λ stray. MatchOption stray
+        (IsFollowed trace.now.recording) (IsFirstStray trace.now.recording)) }
+{
+    let recorded = trace.entries();
+    let mut copies = no_copies(alloc, trace.deliveries() as usize)?;
+    let mut slots = empty_lists(alloc)?;
+    for (t, entry) in recorded.iter().enumerate() {
+        apply_entry(&mut copies, trace, entry)?;
+        if let Some(slot) = note_dets(&mut slots, &copies, trace, copied_by(entry))? {
+            let instant = t as u32 + 1;
+            let (first, second) = first_two(trace, &copies, slot, instant);
+            return Ok(Some(Stray {
+                instant,
+                slot,
+                first,
+                second,
+            }));
+        }
+    }
+    Ok(None)
+}
