@@ -4,6 +4,7 @@ use Rattle.causal_name.specs.declared.Det.{Det}
 use Rattle.causal_trace.specs.declared.entry.Entry.{Entry}
 use Rattle.causal_trace.specs.Past.{is_delivered}
 use Rattle.causal_trace.specs.Judgement.{IsSafeTrace}
+use Rattle.causal_trace.specs.Survivors.{IsFollowed}
 use Rattle.causal_steps.specs.Transit.{VolatileState, Survives}
 use Rattle.causal_steps.specs.Invariant.{NoSlotIsShared}
 use Rattle.causal_steps.specs.Steps.{IsStep}
@@ -26,6 +27,10 @@ ReachableAreSafe = (n f : ℕ) (past : List Entry) (v : VolatileState) → IsRea
 -- no two determinants that survive, in transit too, share a slot
 abbrev pub ReachableShareNoSlot : Type 0
 ReachableShareNoSlot = (n f : ℕ) (past : List Entry) (v : VolatileState) → IsReachableState n f past v → NoSlotIsShared n past v
+
+-- at each instant of the recording no two determinants that are stable or logged share a slot
+abbrev pub ReachableAreFollowed : Type 0
+ReachableAreFollowed = (n f : ℕ) (past : List Entry) (v : VolatileState) → IsReachableState n f past v → IsFollowed (record { processes = n; past = past })
 
 -- what survives is the determinant of a delivery so far
 abbrev pub ReachableSurvivorsAreDelivered : Type 0

@@ -1,6 +1,6 @@
 //! Laws over the definitions. Each function does nothing: what it ensures is the law.
 ghost use Rattle.causal_steps.specs.Steps.{EachStepPreserves};
-ghost use Rattle.causal_steps.specs.Reachable.{ReachableAreSafe, ReachableShareNoSlot, ReachableSurvivorsAreDelivered};
+ghost use Rattle.causal_steps.specs.Reachable.{ReachableAreFollowed, ReachableAreSafe, ReachableShareNoSlot, ReachableSurvivorsAreDelivered};
 
 /// Each legal step preserves the invariant.
 pub fn steps_preserve_invariant()
@@ -13,4 +13,10 @@ pub fn reachable_states_are_safe()
     ensures safe { ReachableAreSafe }
     ensures single { ReachableShareNoSlot }
     ensures delivered { ReachableSurvivorsAreDelivered }
+{}
+
+/// In each state that legal steps reach, at each of its instants, no two different determinants that are stable or
+/// logged share a slot: a recovery delivers what the survivors say.
+pub fn reachable_states_are_followed()
+    ensures { ReachableAreFollowed }
 {}
