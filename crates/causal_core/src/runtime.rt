@@ -38,6 +38,7 @@ pub struct Core<S: Stable, B = Box<dyn Process + Send>> {
 impl<S: Stable> Core<S> {
     ghost use Rattle.causal_trace.specs.Past.{det_at};
     ghost use Rattle.causal_trace.specs.Judgement.{IsSafeTrace};
+    ghost use Rattle.causal_trace.specs.Survivors.{IsFollowed};
     ghost use Rattle.causal_protocol.specs.Invariant.{SlotsAreSingle};
     ghost use Rattle.causal_core.specs.CoreView.{core_run, core_state, core_store, IsUnchanged, Delivers, Crashes};
     ghost use Rattle.causal_core.specs.View.{named_message_of, gathering_fault};
@@ -47,20 +48,23 @@ impl<S: Stable> Core<S> {
 
     /// Returns the recorded trace. It is safe for the bound that `faults` returns: at no instant does a crash of at
     /// most that many processes leave an orphan (Alvisi and Marzullo 1998). No two different determinants that up
-    /// processes log, or that are in stable storage, are of the same delivery.
+    /// processes log, or that are in stable storage, are of the same delivery, at any instant: recoveries follow what
+    /// survives.
     pub fn trace(&self) -> &Trace
         ensures recording { result.now.recording ≡ (core_run self.now).recording }
         ensures safe { IsSafeTrace result.now.recording (core_run self.now).faults }
         ensures single { SlotsAreSingle result.now.recording.processes result.now.recording.past }
+        ensures followed { IsFollowed result.now.recording }
     {
         self.run_data.trace()
     }
 
-    /// Returns the recorded trace, without a copy; it is safe like that of `trace`. The processes and the store are
-    /// dropped.
+    /// Returns the recorded trace, without a copy; it is safe and followed like that of `trace`. The processes and the
+    /// store are dropped.
     pub fn into_trace(self) -> Trace
         ensures recording { result.recording ≡ (core_run self).recording }
         ensures safe { IsSafeTrace result.recording (core_run self).faults }
+        ensures followed { IsFollowed result.recording }
     {
         let Core {
             run_data: run_data,

@@ -3,16 +3,15 @@
 -- may remove from its log what is stable.
 use Rattle.std.specs.Prelude.{◌≡◌, ℕ, ◌<◌, ◌≤◌, Bool, true, false, ◌||◌, List, Some, ◌⊎◌}
 use Rattle.causal_name.specs.declared.Det.{Det}
-use Rattle.causal_name.specs.Sets.{count_below, any_below}
+use Rattle.causal_name.specs.Sets.{count_below}
 use Rattle.causal_trace.specs.declared.entry.Entry.{Entry}
 use Rattle.causal_trace.specs.Past.{is_down, logs, is_stable, det_at, is_delivered}
 use Rattle.causal_trace.specs.Dependence.{Reaches, Depends}
 use Rattle.causal_protocol.specs.Memory.{SentMessage, Memories}
 use Rattle.causal_protocol.specs.MemoryQueries.{knows_holder, knows_stable, HasSent, has_item, item_holder}
 
--- whether d survives: it is stable, or in the log of one of n processes
-abbrev pub survives : ℕ → List Entry → Det → Bool
-survives n past d = is_stable past d || any_below n (λ p. logs past p d)
+-- whether d survives, and that no two survivors fill one slot: so at most one message is named for a delivery
+pub use Rattle.causal_trace.specs.Survivors.{survives, SlotsAreSingle}
 
 -- whether p has d in its log or d is in stable storage
 abbrev pub logs_or_stable : List Entry → ℕ → Det → Bool
@@ -61,10 +60,6 @@ ReceiversHaveSurvivors n f past ms = (d : Det) → d.dest.0 < n → is_down past
 -- what a message carries is in its sender's log or stable
 abbrev pub SendersHaveCarried : ℕ → ℕ → List Entry → Memories → Type 0
 SendersHaveCarried n f past ms = (p : ℕ) (k : SentMessage) (d : Det) → p < n → HasSent ms p k → has_item d k.batch ≡ true → logs_or_stable past p d ≡ true
-
--- no two surviving determinants fill one slot, so at most one message is named for a delivery
-abbrev pub SlotsAreSingle : ℕ → List Entry → Type 0
-SlotsAreSingle n past = (a b : Det) → survives n past a ≡ true → survives n past b ≡ true → a.dest ≡ b.dest → a.rsn ≡ b.rsn → a ≡ b
 
 -- each surviving determinant is that of a delivery so far
 abbrev pub SurvivorsAreDelivered : ℕ → List Entry → Type 0

@@ -5,6 +5,7 @@ use Rattle.causal_name.specs.declared.Det.{Det}
 use Rattle.causal_trace.specs.declared.entry.Entry.{Entry}
 use Rattle.causal_trace.specs.Past.{is_down, logs, message_at}
 use Rattle.causal_trace.specs.Judgement.{IsSafeTrace}
+use Rattle.causal_trace.specs.Survivors.{IsFollowed}
 use Rattle.causal_steps.specs.Reachable.{IsReachableState}
 use Rattle.causal_protocol.specs.declared.request.Request.{Request}
 use Rattle.causal_protocol.specs.declared.request.Request.TheVariants as Requests
@@ -54,6 +55,10 @@ IsSafeRun r = IsSafeTrace r.recording r.faults
 -- no two surviving determinants fill one slot
 abbrev pub HasSingleSlots : Run → Type 0
 HasSingleSlots r = SlotsAreSingle r.recording.processes r.recording.past
+
+-- at each instant of a run no two surviving determinants fill one slot
+abbrev pub IsFollowedRun : Run → Type 0
+IsFollowedRun r = IsFollowed r.recording
 
 -- each surviving determinant is that of a delivery so far
 abbrev pub HasDeliveredSurvivors : Run → Type 0

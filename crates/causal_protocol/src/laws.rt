@@ -1,6 +1,6 @@
 //! Laws over the definitions. Each function has an empty body: its contract is the law.
 ghost use Rattle.causal_protocol.specs.Runs.{StartSatisfiesInvariant, StepsPreserveInvariant, RefusalsChangeNothing, RepliesMatchEntries, OfInvariantRuns, OfReachableRuns};
-ghost use Rattle.causal_protocol.specs.Runs.{IsSafeRun, HasSingleSlots, HasDeliveredSurvivors, StepsEstablish};
+ghost use Rattle.causal_protocol.specs.Runs.{IsSafeRun, IsFollowedRun, HasSingleSlots, HasDeliveredSurvivors, StepsEstablish};
 ghost use Rattle.causal_protocol.specs.Runs.{IsDelivery, IsCrash, IsRestart, IsFlush, IsForgetting};
 ghost use Rattle.causal_protocol.specs.Contributions.{HoldersAreContributed, MarksAreContributed};
 ghost use Rattle.causal_protocol.specs.EntryLists.{DeliveryListsAreExact, RestartListsAreExact};
@@ -20,6 +20,12 @@ pub fn invariant_implies_safe()
     ensures safe { OfInvariantRuns IsSafeRun }
     ensures single { OfInvariantRuns HasSingleSlots }
     ensures delivered { OfInvariantRuns HasDeliveredSurvivors }
+{}
+
+/// No run strays from what survives: at each of its instants no two different surviving determinants fill one slot.
+pub fn runs_are_followed()
+    ensures reachable { OfReachableRuns IsFollowedRun }
+    ensures invariant { OfInvariantRuns IsFollowedRun }
 {}
 
 /// The initial state, in which all processes have begun, satisfies the invariant, and each legal step preserves it.

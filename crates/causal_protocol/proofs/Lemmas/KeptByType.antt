@@ -5,9 +5,12 @@ use Rattle.std.proofs.Math.Logic.{∥∥₁_map, ∥∥₁_elim}
 use Rattle.causal_trace.specs.declared.entry.Entry.{Entry}
 use Rattle.causal_trace.specs.Rows.{Recording}
 use Rattle.causal_trace.specs.Judgement.{IsSafe, IsSafeTrace}
+use Rattle.causal_trace.specs.Survivors.{IsFollowed}
+use Rattle.causal_steps.proofs.Lemmas.Followed.{reachable_followed}
 use Rattle.causal_protocol.specs.declared.request.Request.{Request}
 use Rattle.causal_protocol.specs.declared.request.Reply.{Reply}
 use Rattle.causal_protocol.specs.Run.{Run, memories_of}
+use Rattle.causal_protocol.specs.MemoryQueries.{volatile_of}
 use Rattle.causal_protocol.specs.Steps.{Steps}
 use Rattle.causal_protocol.specs.Invariant.{SlotsAreSingle}
 use Rattle.causal_protocol.specs.Runs.{HaveBegunBelow, SatisfiesInvariant}
@@ -40,3 +43,10 @@ invariant_safe r kept = ∥∥₁_elim kept (IsSafeTrace-prop r.recording r.faul
 -- the invariant implies that no two survivors share a slot
 pub invariant_single : (r : Run) → ∥ SatisfiesInvariant r ∥₁ → SlotsAreSingle r.recording.processes r.recording.past
 invariant_single r kept = ∥∥₁_elim kept (SlotsAreSingle-prop r.recording.processes r.recording.past) (λ s. single_slots r.recording.processes r.faults r.recording.past (memories_of r) s)
+
+IsFollowed-prop : (r : Recording) → IsProp (IsFollowed r)
+IsFollowed-prop r = Prim.hlevel (props, SlotsAreSingle-prop)
+
+-- the invariant implies that the run follows what survives
+pub invariant_followed : (r : Run) → ∥ SatisfiesInvariant r ∥₁ → IsFollowed r.recording
+invariant_followed r kept = ∥∥₁_elim kept (IsFollowed-prop r.recording) (λ s. reachable_followed r.recording.processes r.faults r.recording.past (volatile_of (memories_of r)) s.reached)
