@@ -91,11 +91,14 @@ pub record IsHead (n : ℕ) (head : Head) : Type 0 where
   pub lane : head.lane < 2 ^ 32
   pub clock : head.clock < 2 ^ 62
 
--- a parcel of a run
-pub record IsParcel (run : Run) (parcel : Head × Contents) : Type 0 where
+-- a run of at most 256 processes
+pub record IsRun (run : Run) : Type 0 where
   pub id : run.id < 2 ^ 64
   pub processes : run.processes ≤ 256
   pub f : run.f < 2 ^ 16
+
+-- a parcel of a run
+pub record IsParcel (run : Run) (parcel : Head × Contents) : Type 0 where
   pub head : IsHead run.processes parcel.0
   pub contents : AreContents run.processes parcel.0.source.0 parcel.1
 

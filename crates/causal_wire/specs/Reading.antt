@@ -90,16 +90,22 @@ flag_at (zero ∷ rest) = Ok (false, rest)
 flag_at (suc zero ∷ rest) = Ok (true, rest)
 flag_at (suc (suc b) ∷ rest) = Err faults.Flag
 
+-- from whom, to whom, of which lane and when
+unfoldable pub route_at : ℕ → List ℕ → Result (Head × List ℕ) WireFault
+route_at n bytes = do
+  source ← process_at n bytes
+  dest ← process_at n source.1
+  lane ← number_at w32 dest.1
+  clock ← clock_at lane.1
+  Ok (record { source = source.0; dest = dest.0; lane = lane.0; clock = clock.0 }, clock.1)
+
 unfoldable pub head_at : Run → List ℕ → Result (Kind × Head × List ℕ) WireFault
 head_at run bytes = do
   version ← version_at bytes
   kind ← kind_at version
   same ← run_at run kind.1
-  source ← process_at run.processes same
-  dest ← process_at run.processes source.1
-  lane ← number_at w32 dest.1
-  clock ← clock_at lane.1
-  Ok (kind.0, record { source = source.0; dest = dest.0; lane = lane.0; clock = clock.0 }, clock.1)
+  head ← route_at run.processes same
+  Ok (kind.0, head.0, head.1)
 
 unfoldable pub det_at : ℕ → List ℕ → Result (Det × List ℕ) WireFault
 det_at n bytes = do
@@ -194,7 +200,7 @@ nothing number = tt
 abbrev pub next_number_at : Unit {0} → List ℕ → Result (ℕ × List ℕ) WireFault
 next_number_at _ bytes = number_at w32 bytes
 
-unfoldable pub view_at : ℕ → List ℕ → Result (List ℕ × List ℕ) WireFault
+abbrev pub view_at : ℕ → List ℕ → Result (List ℕ × List ℕ) WireFault
 view_at n bytes = list_at nothing next_number_at tt n bytes
 
 -- the contents of a parcel of this kind, from this source

@@ -1,7 +1,7 @@
 //! Reading of single fields from the front of a slice. Each function returns the value and the bytes after it.
 ghost use Rattle.std.specs.Prelude.{◌≡◌};
 ghost use Rattle.std.specs.Int.{w16, w32, w64};
-ghost use Rattle.causal_wire.specs.Reading.{Gives, byte_at, number_at, bytes_at, version_at, kind_of, kind_at, run_at, process_at, clock_at, flag_at, head_at, det_at, short_list_at, body_at};
+ghost use Rattle.causal_wire.specs.Reading.{Gives, byte_at, number_at, bytes_at, version_at, kind_of, kind_at, run_at, process_at, clock_at, flag_at, route_at, head_at, det_at, short_list_at, body_at};
 
 use crate::fault::{ReadFault, WireFault};
 use crate::parcel::{Head, Run};
@@ -165,16 +165,13 @@ pub(crate) fn flag_at(bytes: &[u8]) -> Result<(bool, &[u8]), ReadFault>
     }
 }
 
-/// Returns the head with the kind of the parcel.
-#[tactic(auto, unfolding(crate::specs::Reading::head_at))]
-pub(crate) fn head_at(run: Run, bytes: &[u8]) -> Result<(Kind, Head, &[u8]), ReadFault>
-    ensures { Gives (λ x. (x.0, x.1, x.2.now)) result (head_at run bytes.now) }
+/// Returns the source, the destination, the lane and the clock.
+#[tactic(auto, unfolding(crate::specs::Reading::route_at))]
+fn route_at(n: u16, bytes: &[u8]) -> Result<(Head, &[u8]), ReadFault>
+    ensures { Gives (λ x. (x.0, x.1.now)) result (route_at n bytes.now) }
 {
-    let rest = version_at(bytes)?;
-    let (kind, rest) = kind_at(rest)?;
-    let rest = run_at(run, rest)?;
-    let (source, rest) = process_at(run.processes, rest)?;
-    let (dest, rest) = process_at(run.processes, rest)?;
+    let (source, rest) = process_at(n, bytes)?;
+    let (dest, rest) = process_at(n, rest)?;
     let (lane, rest) = u32_at(rest)?;
     let (clock, rest) = clock_at(rest)?;
     let head = Head {
@@ -183,6 +180,18 @@ pub(crate) fn head_at(run: Run, bytes: &[u8]) -> Result<(Kind, Head, &[u8]), Rea
         lane,
         clock,
     };
+    Ok((head, rest))
+}
+
+/// Returns the kind of the parcel and its head.
+#[tactic(auto, unfolding(crate::specs::Reading::head_at))]
+pub(crate) fn head_at(run: Run, bytes: &[u8]) -> Result<(Kind, Head, &[u8]), ReadFault>
+    ensures { Gives (λ x. (x.0, x.1, x.2.now)) result (head_at run bytes.now) }
+{
+    let rest = version_at(bytes)?;
+    let (kind, rest) = kind_at(rest)?;
+    let rest = run_at(run, rest)?;
+    let (head, rest) = route_at(run.processes, rest)?;
     Ok((kind, head, rest))
 }
 

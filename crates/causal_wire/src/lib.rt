@@ -10,8 +10,16 @@
 mod fault;
 /// Reading of single fields.
 mod fields;
+/// Reading of lists.
+mod lists;
 /// What processes send each other.
 mod parcel;
+/// Reading of whole parcels.
+mod reading;
+/// Writing of parcels.
+mod writing;
 
 pub use fault::{ReadFault, WireFault};
 pub use parcel::{Content, Head, Item, LogEntry, Parcel, Run};
+pub use reading::read;
+pub use writing::write;
