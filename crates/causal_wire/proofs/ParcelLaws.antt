@@ -1,6 +1,12 @@
 -- The two laws of the format: what is read has these bytes, and what is written is read back.
 use Rattle.std.proofs.Common.{◌≡◌, ℕ, ◌+◌, ◌<◌, ◌≤◌, ◌^◌, Bool, true, false, cond, eqb, List, [], ◌∷◌, ◌++◌, length, Result, Ok, Err, refl, sym, ap, subst, ◌∙◌, append_assoc, arith}
 use Rattle.std.specs.Prelude.{IfOk}
+use Rattle.std.specs.List.{AllByRecursion}
+use Rattle.std.specs.FinSet as set
+use Rattle.std.proofs.lemmas.List.Elements.{All-from_recursion}
+use Rattle.causal_name.specs.declared.Det.{Det}
+use Rattle.causal_wire.specs.declared.parcel.Item.{Item}
+use Rattle.causal_wire.specs.declared.parcel.LogEntry.{LogEntry}
 use Rattle.std.specs.Int.{w32, w64}
 use Rattle.std.proofs.lemmas.Bool.{eqb-true}
 use Rattle.std.proofs.lemmas.List.{append-nil, nil_from_length}
@@ -12,8 +18,8 @@ use Rattle.causal_wire.specs.declared.fields.Kind.TheVariants as kinds
 use Rattle.causal_wire.specs.declared.parcel.Run.{Run}
 use Rattle.causal_wire.specs.declared.parcel.Head.{Head}
 use Rattle.causal_wire.specs.declared.parcel.Parcel.{Parcel}
-use Rattle.causal_wire.specs.Parcels.{Contents, message, acknowledgement, question, answer, own_number, not_up, AreContents, IsHead, IsRun, IsParcel, value_of}
-use Rattle.causal_wire.specs.Bytes.{number_bytes, head_bytes, item_bytes, entry_bytes, list_bytes, body_bytes, view_bytes, kind_byte, contents_bytes, parcel_bytes}
+use Rattle.causal_wire.specs.Parcels.{Contents, message, acknowledgement, question, answer, own_number, not_up, AreContents, IsItem, IsHead, IsRun, IsParcel, IsWritable, value_of}
+use Rattle.causal_wire.specs.Bytes.{byte, det_bytes, number_bytes, head_bytes, item_bytes, entry_bytes, list_bytes, body_bytes, view_bytes, kind_byte, contents_bytes, parcel_bytes}
 use Rattle.causal_wire.specs.Reading.{◌>>=◌, Gives, number_at, body_at, items_at, entries_at, view_at, head_at, contents_at, parcel_at}
 use Rattle.causal_wire.proofs.FieldLaws.{IsBytes, bind_ok, guard_passed, ok_is, Takes, Takes-then, wide32, wide64, number_takes, number_again, body_takes, body_again, number_of, head_takes, head_again}
 use Rattle.causal_wire.proofs.ItemLaws.{items_take, items_again, entries_take, entries_again, view_takes, view_again}
@@ -134,3 +140,26 @@ parcel_again run p is_run fits =
 pub is_found : (run : Run) (bytes : List ℕ) (r : Result Parcel ReadFault) → IsBytes bytes → Gives value_of r (parcel_at run bytes) → IfOk r (λ p. IsParcelOf run bytes (value_of p))
 is_found run bytes (Ok p) fits given = parcel_takes run bytes (value_of p) fits given
 is_found run bytes (Err e) fits given = tt
+
+-- ---- what can be written
+
+others_apart : (n source : ℕ) (items : List Item) → AllByRecursion (IsItem n source) items → AllByRecursion (λ (item : Item). set.contains item.others source ≡ false) items
+others_apart n source [] each = tt
+others_apart n source (item ∷ items) each = (each.0.others.others, others_apart n source items each.1)
+
+entries_apart : (n source : ℕ) (entries : List LogEntry) → AllByRecursion (λ (entry : LogEntry). IsItem n source entry.item) entries → AllByRecursion (λ (entry : LogEntry). set.contains entry.item.others source ≡ false) entries
+entries_apart n source [] each = tt
+entries_apart n source (entry ∷ entries) each = (each.0.others.others, entries_apart n source entries each.1)
+
+pub is_writable : (n source : ℕ) (contents : Contents) → AreContents n source contents → IsWritable source contents
+is_writable n source (message ssn items body) fits = (fits.1.count, All-from_recursion (λ (item : Item). set.contains item.others source ≡ false) items (others_apart n source items fits.1.each), fits.2)
+is_writable n source (acknowledgement items) fits = (fits.count, All-from_recursion (λ (item : Item). set.contains item.others source ≡ false) items (others_apart n source items fits.each))
+is_writable n source (question round view) fits = tt
+is_writable n source (answer round entries) fits = (fits.1.count, All-from_recursion (λ (entry : LogEntry). set.contains entry.item.others source ≡ false) entries (entries_apart n source entries fits.1.each))
+is_writable n source (own_number round) fits = tt
+is_writable n source (not_up round) fits = tt
+
+-- the bytes of a determinant, a count and a list
+pub length_of_item : (d : Det) (count : ℕ) (listed : List ℕ) → length (det_bytes d ++ (byte count ++ listed)) ≡ 11 + length listed
+unfolding number_bytes
+length_of_item d count listed = omega arith

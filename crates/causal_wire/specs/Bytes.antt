@@ -71,7 +71,7 @@ contents_bytes (answer round entries) = number_bytes w64 round ++ list_bytes ent
 contents_bytes (own_number round) = number_bytes w64 round
 contents_bytes (not_up round) = number_bytes w64 round
 
--- from whom, to whom, of which lane and when
+-- source, destination, lane and clock
 abbrev pub route_bytes : Head → List ℕ
 route_bytes head = byte head.source.0 ++ (byte head.dest.0 ++ (number_bytes w32 head.lane ++ number_bytes w64 head.clock))
 

@@ -90,7 +90,7 @@ flag_at (zero ∷ rest) = Ok (false, rest)
 flag_at (suc zero ∷ rest) = Ok (true, rest)
 flag_at (suc (suc b) ∷ rest) = Err faults.Flag
 
--- from whom, to whom, of which lane and when
+-- source, destination, lane and clock
 unfoldable pub route_at : ℕ → List ℕ → Result (Head × List ℕ) WireFault
 route_at n bytes = do
   source ← process_at n bytes

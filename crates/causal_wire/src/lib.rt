@@ -10,7 +10,9 @@
 mod fault;
 /// Reading of single fields.
 mod fields;
-/// Reading of lists.
+/// Laws of parcels.
+pub mod laws;
+/// Reading of holders, items and lists.
 mod lists;
 /// What processes send each other.
 mod parcel;
@@ -22,4 +24,4 @@ mod writing;
 pub use fault::{ReadFault, WireFault};
 pub use parcel::{Content, Head, Item, LogEntry, Parcel, Run};
 pub use reading::read;
-pub use writing::write;
+pub use writing::{write, write_message};

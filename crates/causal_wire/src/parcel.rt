@@ -13,7 +13,7 @@ pub struct Run {
     pub f: u16,
 }
 
-/// Who sent a parcel to whom, and when.
+/// The source, the destination, the lane and the clock of a parcel.
 #[derive(Clone, Copy, Debug, PartialEq, Eq)]
 pub struct Head {
     pub source: Pid,
@@ -53,7 +53,7 @@ pub enum Content {
     Acknowledgement {
         items: Vec<Item>,
     },
-    /// The source, which is not up, has begun this round. The view has the number of each process, in their order: its
+    /// The source, which is not up, begins this round. The view has the number of each process, in their order: its
     /// lane, or its next lane if the source knows that it is not up.
     Question {
         round: u64,
@@ -68,7 +68,7 @@ pub enum Content {
     OwnNumber {
         round: u64,
     },
-    /// The source is not up, and gives up its own round, if it has one.
+    /// The source is not up, and abandons its own round, if it has one.
     NotUp {
         round: u64,
     },

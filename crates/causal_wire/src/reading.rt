@@ -101,7 +101,7 @@ fn parcel_at(alloc: Global, run: Run, bytes: &[u8]) -> Result<Parcel, ReadFault>
     Ok(Parcel { head, content })
 }
 
-/// Returns the parcel of a run that has exactly these bytes.
+/// Returns the parcel whose bytes, in a run, are exactly these.
 ///
 /// The bytes are read once, from the first to the last; a list takes memory as its elements are read. So time and
 /// memory are O(bytes), whatever the bytes contain.

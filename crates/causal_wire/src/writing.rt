@@ -3,7 +3,7 @@ ghost use Rattle.std.specs.Prelude.{◌≡◌, ◌<◌, ◌^◌, ◌++◌, false
 ghost use Rattle.std.specs.List.{flat_map};
 ghost use Rattle.std.specs.Int.{w16, w32, w64};
 ghost use Rattle.std.specs.FinSet as set;
-ghost use Rattle.causal_wire.specs.Parcels.{IsWritable, AreWithoutSource, AreEntriesWithoutSource, contents_of, value_of};
+ghost use Rattle.causal_wire.specs.Parcels.{IsWritable, AreWithoutSource, AreEntriesWithoutSource, message, contents_of, value_of};
 ghost use Rattle.causal_wire.specs.Bytes.{number_bytes, run_bytes, head_bytes, det_bytes, others_bytes, item_bytes, entry_bytes, list_bytes, body_bytes, view_bytes, kind_byte, contents_bytes, parcel_bytes};
 
 use crate::fields::VERSION;
@@ -166,17 +166,29 @@ fn kind_byte(content: &Content) -> u8
     }
 }
 
+fn put_message(
+    out: &mut Vec<u8>,
+    source: Pid,
+    ssn: u32,
+    items: &[Item],
+    body: &[u8],
+) -> Result<(), NoMemory>
+    requires { IsWritable source.0 (message ssn items.now body.now) }
+    ensures { OnOk result
+        (out.new.items ≡ out.old.items ++ contents_bytes (message ssn items.now body.now)) }
+{
+    put_u32(out, ssn)?;
+    put_items(out, source, items)?;
+    put_body(out, body)
+}
+
 fn put_contents(out: &mut Vec<u8>, source: Pid, content: &Content) -> Result<(), NoMemory>
     requires { IsWritable source.0 (contents_of content.now) }
     ensures { OnOk result
         (out.new.items ≡ out.old.items ++ contents_bytes (contents_of content.now)) }
 {
     match content {
-        Content::Message { ssn, items, body } => {
-            put_u32(out, *ssn)?;
-            put_items(out, source, items)?;
-            put_body(out, body)
-        }
+        Content::Message { ssn, items, body } => put_message(out, source, *ssn, items, body),
         Content::Acknowledgement { items } => put_items(out, source, items),
         Content::Question { round, view } => {
             put_u64(out, *round)?;
@@ -188,6 +200,54 @@ fn put_contents(out: &mut Vec<u8>, source: Pid, content: &Content) -> Result<(),
         }
         Content::OwnNumber { round } => put_u64(out, *round),
         Content::NotUp { round } => put_u64(out, *round),
+    }
+}
+
+/// The number of bytes of a head.
+const HEAD: usize = 28;
+
+/// Returns about as many bytes as a message has, so that writing one seldom moves it.
+fn message_capacity(items: usize, body: usize) -> usize {
+    items
+        .saturating_mul(12)
+        .saturating_add(body)
+        .saturating_add(HEAD + 12)
+}
+
+/// Returns the bytes of a message, as [`write`] does, of items and a body that are kept elsewhere.
+///
+/// There are fewer than 2^32 items and bytes of the body, and no item has the source among its other holders; the
+/// caller guarantees this. O(bytes) time.
+///
+/// # Errors
+///
+/// `NoMemory`.
+pub fn write_message(
+    alloc: Global,
+    run: Run,
+    head: Head,
+    ssn: u32,
+    items: &[Item],
+    body: &[u8],
+) -> Result<Vec<u8>, NoMemory>
+    requires { IsWritable head.source.0 (message ssn items.now body.now) }
+    ensures { IfOk result
+        (λ bytes. bytes.items ≡ parcel_bytes run (head, message ssn items.now body.now)) }
+{
+    let mut out = Vec::with_capacity(alloc, message_capacity(items.len(), body.len()))?;
+    put_head(&mut out, run, 0, head)?;
+    put_message(&mut out, head.source, ssn, items, body)?;
+    Ok(out)
+}
+
+fn capacity(content: &Content) -> usize {
+    match content {
+        Content::Message { items, body, .. } => message_capacity(items.len(), body.len()),
+        Content::Acknowledgement { items } => message_capacity(items.len(), 0),
+        Content::Answer { entries, .. } => message_capacity(entries.len(), entries.len()),
+        Content::Question { view, .. } => view.len().saturating_mul(4).saturating_add(HEAD + 8),
+        Content::OwnNumber { .. } => HEAD + 8,
+        Content::NotUp { .. } => HEAD + 8,
     }
 }
 
@@ -204,7 +264,7 @@ pub fn write(alloc: Global, run: Run, parcel: &Parcel) -> Result<Vec<u8>, NoMemo
     requires { IsWritable parcel.now.head.source.0 (contents_of parcel.now.content) }
     ensures { IfOk result (λ bytes. bytes.items ≡ parcel_bytes run (value_of parcel.now)) }
 {
-    let mut out = Vec::new(alloc);
+    let mut out = Vec::with_capacity(alloc, capacity(&parcel.content))?;
     put_head(&mut out, run, kind_byte(&parcel.content), parcel.head)?;
     put_contents(&mut out, parcel.head.source, &parcel.content)?;
     Ok(out)
