@@ -1,5 +1,5 @@
 -- Items, log entries and views that are read have the bytes that are written of them, and what is written is read back.
-use Rattle.std.proofs.Common.{◌≡◌, ℕ, ◌+◌, ◌<◌, ◌≤◌, ◌^◌, Bool, true, false, cond, List, [], ◌∷◌, ◌++◌, length, Option, Some, None, Result, Ok, Err, refl, sym, ap, subst, ◌∙◌, append_assoc, arith}
+use Rattle.std.proofs.Common.{◌≡◌, ℕ, ◌<◌, ◌≤◌, ◌^◌, Bool, true, false, cond, List, ◌++◌, length, Option, None, Result, Ok, Err, refl, sym, ap, subst, ◌∙◌, append_assoc}
 use Rattle.std.specs.Int.{w32}
 use Rattle.std.specs.Ordering.{nat_cmp}
 use Rattle.std.specs.FinSet as set
@@ -13,7 +13,7 @@ use Rattle.causal_wire.specs.Parcels.{IsDet, AreOthers, IsItem, AreItems, AreEnt
 use Rattle.causal_wire.specs.Bytes.{byte, number_bytes, det_bytes, others_bytes, item_bytes, flag_byte, entry_bytes, list_bytes, view_bytes}
 use Rattle.causal_wire.specs.Reading.{◌>>=◌, det_at, short_list_at, others_of, follows, item_of, det_and_listed_at, item_at, flag_at, entry_at, items_at, entries_at, item_det, entry_det, nothing, next_number_at, view_at}
 use Rattle.causal_wire.proofs.FieldLaws.{IsBytes, bind_ok, ok_is, Takes, Takes-then, wide32, number_takes, number_again, det_takes, det_again, short_list_takes, short_list_again, flag_takes, flag_again}
-use Rattle.causal_wire.proofs.ListLaws.{Chain, FitsAfter, list_takes, list_again, counted_takes, counted_again, chain_each, chain_ascends, chain_from, plain_each, plain_chain}
+use Rattle.causal_wire.proofs.ListLaws.{FitsAfter, list_takes, list_again, counted_takes, counted_again, chain_each, chain_ascends, chain_from, plain_each, plain_chain}
 use Rattle.causal_wire.proofs.Members.{others_take, others_again}
 
 -- a determinant and the bytes of its listed holders that were read

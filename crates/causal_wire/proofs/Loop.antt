@@ -9,7 +9,6 @@ use Rattle.std.specs.FinSet as set
 use Rattle.causal_name.specs.declared.Det.{Det}
 use Rattle.causal_wire.specs.declared.fault.WireFault.TheVariants as faults
 use Rattle.causal_wire.specs.declared.parcel.Item.{Item}
-use Rattle.causal_wire.specs.declared.parcel.LogEntry.{LogEntry}
 use Rattle.causal_wire.specs.Reading.{◌>>=◌, Fails, list_at, det_and_listed_at, item_of, item_at, entry_at, flag_at, follows, others_of}
 
 abbrev done : {A : Type 0} → A → Result A WireFault

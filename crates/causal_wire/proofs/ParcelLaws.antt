@@ -1,5 +1,5 @@
 -- The two laws of the format: what is read has these bytes, and what is written is read back.
-use Rattle.std.proofs.Common.{◌≡◌, ℕ, ◌+◌, ◌<◌, ◌≤◌, ◌^◌, Bool, true, false, cond, eqb, List, [], ◌∷◌, ◌++◌, length, Result, Ok, Err, refl, sym, ap, subst, ◌∙◌, append_assoc, arith}
+use Rattle.std.proofs.Common.{◌≡◌, ℕ, ◌+◌, ◌≤◌, ◌^◌, false, cond, eqb, List, [], ◌∷◌, ◌++◌, length, Result, Ok, Err, refl, sym, ap, subst, ◌∙◌, append_assoc, arith}
 use Rattle.std.specs.Prelude.{IfOk}
 use Rattle.std.specs.List.{AllByRecursion}
 use Rattle.std.specs.FinSet as set
@@ -10,7 +10,6 @@ use Rattle.causal_wire.specs.declared.parcel.LogEntry.{LogEntry}
 use Rattle.std.specs.Int.{w32, w64}
 use Rattle.std.proofs.lemmas.Bool.{eqb-true}
 use Rattle.std.proofs.lemmas.List.{append-nil, nil_from_length}
-use Rattle.causal_wire.specs.declared.fault.WireFault.{WireFault}
 use Rattle.causal_wire.specs.declared.fault.WireFault.TheVariants as faults
 use Rattle.causal_wire.specs.declared.fault.ReadFault.{ReadFault}
 use Rattle.causal_wire.specs.declared.fields.Kind.{Kind}
@@ -18,7 +17,7 @@ use Rattle.causal_wire.specs.declared.fields.Kind.TheVariants as kinds
 use Rattle.causal_wire.specs.declared.parcel.Run.{Run}
 use Rattle.causal_wire.specs.declared.parcel.Head.{Head}
 use Rattle.causal_wire.specs.declared.parcel.Parcel.{Parcel}
-use Rattle.causal_wire.specs.Parcels.{Contents, message, acknowledgement, question, answer, own_number, not_up, AreContents, IsItem, IsHead, IsRun, IsParcel, IsWritable, value_of}
+use Rattle.causal_wire.specs.Parcels.{Contents, message, acknowledgement, question, answer, own_number, not_up, AreContents, IsItem, IsRun, IsParcel, IsWritable, value_of}
 use Rattle.causal_wire.specs.Bytes.{byte, det_bytes, number_bytes, head_bytes, item_bytes, entry_bytes, list_bytes, body_bytes, view_bytes, kind_byte, contents_bytes, parcel_bytes}
 use Rattle.causal_wire.specs.Reading.{◌>>=◌, Gives, number_at, body_at, items_at, entries_at, view_at, head_at, contents_at, parcel_at}
 use Rattle.causal_wire.proofs.FieldLaws.{IsBytes, bind_ok, guard_passed, ok_is, Takes, Takes-then, wide32, wide64, number_takes, number_again, body_takes, body_again, number_of, head_takes, head_again}

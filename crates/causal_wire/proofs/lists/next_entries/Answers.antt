@@ -1,4 +1,4 @@
-use Rattle.std.proofs.Common.{◌≡◌, None, ap, Some}
+use Rattle.std.proofs.Common.{None, ap, Some}
 use Rattle.std.proofs.lemmas.Result.{err_from_is_err_and}
 use Rattle.causal_name.specs.declared.Det.{Det}
 use Rattle.causal_wire.specs.Reading.{list_at, entry_det, entry_at}

@@ -1,8 +1,8 @@
-use Rattle.std.proofs.Common.{◌≡◌, None, ap, Some}
+use Rattle.std.proofs.Common.{None, ap, Some}
 use Rattle.std.proofs.lemmas.Result.{err_from_is_err_and}
 use Rattle.causal_name.specs.declared.Det.{Det}
 use Rattle.causal_wire.specs.Reading.{list_at, item_det, item_at}
-use Rattle.causal_wire.proofs.Loop.{goes_on, fails, is_done, item_fails_first, item_fails_then, item_is, item_names, entry_fails_first, entry_fails_then, entry_is}
+use Rattle.causal_wire.proofs.Loop.{goes_on, fails, is_done, item_fails_first, item_fails_then, item_is, item_names}
 use Rattle.causal_wire.proofs.lists.next_items.Goals as goal
 
 pub returns-in_err-det : goal.returns-in_err-det

@@ -1,4 +1,4 @@
-use Rattle.std.proofs.Common.{◌≡◌, refl}
+use Rattle.std.proofs.Common.{refl}
 use Rattle.std.proofs.lemmas.Result.{err_from_is_err_and}
 use Rattle.causal_wire.specs.Reading.{view_at, nothing, next_number_at}
 use Rattle.causal_wire.proofs.Loop.{goes_on, fails, is_done}

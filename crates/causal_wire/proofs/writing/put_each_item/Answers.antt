@@ -1,5 +1,4 @@
-use Rattle.std.proofs.Common.{◌≡◌, ◌++◌, ◌∷◌, [], ap, sym, ◌∙◌, append_assoc, take}
-use Rattle.std.specs.List.{flat_map}
+use Rattle.std.proofs.Common.{◌∙◌}
 use Rattle.causal_wire.specs.Bytes.{item_bytes}
 use Rattle.causal_wire.proofs.Holders.{flat_map-next}
 use Rattle.causal_wire.proofs.writing.put_each_item.Goals as goal
