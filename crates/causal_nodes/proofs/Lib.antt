@@ -12,3 +12,5 @@ mod Storing
 mod Answering
 mod Networks
 mod Recovers
+mod Rows
+mod Recording

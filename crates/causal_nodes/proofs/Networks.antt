@@ -6,7 +6,7 @@ use Rattle.causal_trace.specs.declared.entry.Entry.{Entry}
 use Rattle.causal_trace.specs.Judgement.{IsSafeTrace}
 use Rattle.causal_steps.specs.Transit.{Survives}
 use Rattle.causal_rounds.specs.Rounds.{set_at}
-use Rattle.causal_rounds.specs.Acceptance.{by_floor}
+use Rattle.causal_rounds.specs.Acceptance.{by_floor, by_sender}
 use Rattle.causal_world.specs.World.{Packet, World, carrier_of, volatile_of}
 use Rattle.causal_world.specs.Reachable.{IsOpening, IsReachableWorld, opening}
 use Rattle.causal_world.proofs.Lemmas.Functions.{below_is}
@@ -15,9 +15,9 @@ use Rattle.causal_world.proofs.Lemmas.ReachableWorlds.{worlds_are_safe, worlds_s
 use Rattle.causal_nodes.specs.Node.{Node, number_of}
 use Rattle.causal_nodes.specs.Packets.{Sent, message_packet, acknowledgement_packet, write_packet, written_packet, question_packet, answer_packet, not_up_packet, read_packet, stored_packet, number_packet, WasSent, WasTaken}
 use Rattle.causal_nodes.specs.NodeSteps.{NodeStep, send_row, deliver_row, acknowledge_row, learn_row, write_row, mark_row, forget_row, answer_row, tell_row, hear_number_row, begin_row, not_up_row, give_up_row, hear_answer_row, hear_not_up_row, read_row, take_stored_row, hear_stored_row, restart_row}
-use Rattle.causal_nodes.specs.Network.{Network, HasFreshName, NetworkEvent, step_event, crash_event, store_event, read_event, IsNewNetwork, IsReachableNetwork, new_network, next_network, IsCarrying, SurvivesIn, in_storage, in_log, in_transit, NodesAreSafe, NodesShareNoSlot}
+use Rattle.causal_nodes.specs.Network.{Network, HasFreshName, NetworkEvent, step_event, crash_event, store_event, read_event, IsNewNetwork, IsReachableNetwork, new_network, next_network, IsCarrying, SurvivesIn, in_storage, in_log, in_transit, in_transit_to_down, in_write, NodesAreSafe, NodesShareNoSlot}
 use Rattle.causal_nodes.proofs.Represents.{IsPacket, PacketFits, NodeFits, Represents}
-use Rattle.causal_nodes.proofs.Context.{IsWorldOf, invariant, up_of}
+use Rattle.causal_nodes.proofs.Context.{IsWorldOf, invariant, up_of, down_of}
 use Rattle.causal_nodes.proofs.Emits.{new_packet, emits_silently, sends}
 use Rattle.causal_nodes.proofs.Logs.{delivers, learns, marks_stable, forgets}
 use Rattle.causal_nodes.proofs.Quiet.{tells, hears_number, hears_answer, hears_not_up, hears_stored, asks_storage, takes_stored}
@@ -33,8 +33,8 @@ module _ (n f : ℕ) (net : Network) (w : World) (reach : IsReachableWorld n f w
   -- each row of a node's step is a step of the world, or two, or none
   node_step : (old : Node) (taken : Option Sent) (node : Node) (emitted : List Sent) (entries : List Entry) → NodeStep n f me (length net.past) old taken node emitted entries → net.nodes me.0 ≡ old → WasTaken net.sent taken
       → ((new : Sent) → WasSent emitted new → HasFreshName net.sent new) → IsWorldOf n f (after_step node emitted entries)
-  node_step old taken node emitted entries (send_row a to new of_log to_is position left_out) is was fresh = sends n f net w reach rep me low a (up_of n f net w reach rep me.0 a low is) new of_log to position left_out
-  node_step old taken node emitted entries (deliver_row a name p send listed to floor at_send once only lists) is was fresh =
+  node_step old taken node emitted entries (send_row a to new low_to of_log to_is position left_out) is was fresh = sends n f net w reach rep me low a (up_of n f net w reach rep me.0 a low is) new of_log to position left_out
+  node_step old taken node emitted entries (deliver_row a name p send listed ascending to floor at_send once only lists) is was fresh =
       delivers n f net w reach rep me low a (up_of n f net w reach rep me.0 a low is) name p send listed was to floor at_send only lists
   node_step old taken node emitted entries (acknowledge_row a new of_log none) is was fresh =
       let fits = up_of n f net w reach rep me.0 a low is in
@@ -44,7 +44,7 @@ module _ (n f : ℕ) (net : Network) (w : World) (reach : IsReachableWorld n f w
       let fits = up_of n f net w reach rep me.0 a low is in
       emits_silently n f net w reach rep me low a fits new of_log (write_packet new) (new_packet n f net w reach rep me low a fits new of_log w.past, to) (λ q name. refl) none
   node_step old taken node emitted entries (mark_row a dets det has) is was fresh = marks_stable n f net w reach rep me low a (up_of n f net w reach rep me.0 a low is) dets det was has
-  node_step old taken node emitted entries (forget_row a listed known repeated) is was fresh = forgets n f net w reach rep me low a (up_of n f net w reach rep me.0 a low is) listed known repeated
+  node_step old taken node emitted entries (forget_row a listed ascending known repeated) is was fresh = forgets n f net w reach rep me low a (up_of n f net w reach rep me.0 a low is) listed known repeated
   node_step old taken node emitted entries (answer_row a s name view new own of_log to none whole) is was fresh = answers n f net w reach rep me low a is new of_log s name view was own to none whole
   node_step old taken node emitted entries (tell_row same) is was fresh =
       subst (λ (y : Node). IsWorldOf n f (after_step y (number_packet me.0 (number_of y) ∷ []) [])) is (tells n f net w reach rep me.0 low)
@@ -57,9 +57,9 @@ module _ (n f : ℕ) (net : Network) (w : World) (reach : IsReachableWorld n f w
   node_step old taken node emitted entries (read_row x r has all) is was fresh = asks_storage n f net w reach rep me.0 low x is r has all
   node_step old taken node emitted entries (take_stored_row x r dets det has has_det) is was fresh = takes_stored n f net w reach rep me.0 low x is r has dets det was has_det
   node_step old taken node emitted entries (hear_stored_row x r dets has all) is was fresh = hears_stored n f net w reach rep me.0 low x is r has dets was all
-  node_step old taken node emitted entries (restart_row x r listed has all lists) is was fresh = restarts n f net w reach rep me low x is r has listed all lists
+  node_step old taken node emitted entries (restart_row x r listed ascending has all lists) is was fresh = restarts n f net w reach rep me low x is r has listed all lists
 
-event_steps : (n f : ℕ) (net next : Network) → NetworkEvent n f net next → IsWorldOf n f net → IsWorldOf n f next
+pub event_steps : (n f : ℕ) (net next : Network) → NetworkEvent n f net next → IsWorldOf n f net → IsWorldOf n f next
 event_steps n f net next (step_event me taken node emitted entries low was step fresh) h = node_step n f net h.0 h.1 h.2 me low (net.nodes me.0) taken node emitted entries step refl was fresh
 event_steps n f net next (crash_event who a low is few) h = crashes n f net h.0 h.1 h.2 who low a (up_of n f net h.0 h.1 h.2 who.0 a low is) few
 event_steps n f net next (store_event p was floor) h = stores n f net h.0 h.1 h.2 p was floor
@@ -119,7 +119,7 @@ opens n f net o = (
       nothing_landed = λ i. refl;
     }
 
-world_of : (n f : ℕ) (net : Network) → IsReachableNetwork n f net → IsWorldOf n f net
+pub world_of : (n f : ℕ) (net : Network) → IsReachableNetwork n f net → IsWorldOf n f net
 world_of n f net (new_network same o) = opens n f net o
 world_of n f net (next_network before next h event) = event_steps n f before net event (world_of n f before h)
 
@@ -140,7 +140,7 @@ module _ (n f : ℕ) (net : Network) (w : World) (reach : IsReachableWorld n f w
   packet_of (number_packet from m) t is h = absurd is
 
   -- what survives in the network survives in the world
-  survives : (d : Det) → SurvivesIn n net d → Survives n w.past (volatile_of n w) d
+  pub survives : (d : Det) → SurvivesIn n net d → Survives n w.past (volatile_of n w) d
   survives d (in_storage stored) =
       let from = (invariant n f net w reach rep).stores.stored_from d (rep.stored d ∙ stored) in
       inr (inr (from.1.parcel, landed_in_transit n w from.0 from.1 from.2 from.3, from.4))
@@ -149,6 +149,16 @@ module _ (n f : ℕ) (net : Network) (w : World) (reach : IsReachableWorld n f w
       let packet = packet_of k t carrying (rep.packets k was) in
       let fits = up_of n f net w reach rep t.to a low is in
       inr (inr (t.parcel, in_transit_of n w packet.0 t packet.1 (is_accepted (suc n) w.rounds (carrier_of t) (by_floor fits.is_up (subst (λ m. m ≤ t.lane) (sym (fits.floors t.parcel.from packet.2)) floor))), carries))
+  survives d (in_transit_to_down k t x a was carrying low is up lane carries) =
+      let packet = packet_of k t carrying (rep.packets k was) in
+      let sender = up_of n f net w reach rep t.parcel.from a packet.2 up in
+      let receiver = down_of n f net w reach rep t.to x low is in
+      inr (inr (t.parcel, in_transit_of n w packet.0 t packet.1 (is_accepted (suc n) w.rounds (carrier_of t) (by_sender receiver.is_down sender.is_up (lane ∙ sym sender.lane))), carries))
+  survives d (in_write t was floor carries) =
+      let packet = rep.packets (write_packet t) was in
+      let up : w.rounds.down t.to ≡ false = ap w.rounds.down packet.1 ∙ (invariant n f net w reach rep).storage.up in
+      let above : w.rounds.floors t.to t.parcel.from ≤ t.lane = subst (λ q. w.rounds.floors q t.parcel.from ≤ t.lane) (sym packet.1) (subst (λ m. m ≤ t.lane) (sym (rep.floors t.parcel.from packet.0.2)) floor) in
+      inr (inr (t.parcel, in_transit_of n w packet.0.0 t packet.0.1 (is_accepted (suc n) w.rounds (carrier_of t) (by_floor up above)), carries))
 
 pub nodes_share_no_slot : NodesShareNoSlot
 nodes_share_no_slot n f net h a b a_survives b_survives =

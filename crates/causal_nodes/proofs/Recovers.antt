@@ -1,6 +1,6 @@
 -- A recovery, step by step: of two processes the second one delivers a message and sends another one, crashes, and
 -- recovers the determinant of its delivery from the first one.
-use Rattle.std.proofs.Common.{ℕ, zero, suc, ◌≡◌, ◌<◌, inl, inr, Bool, true, false, ◌&&◌, ◌||◌, List, [], ◌∷◌, ◌++◌, length, Option, Some, None, refl, sym, ap, subst, ◌∙◌, arith}
+use Rattle.std.proofs.Common.{ℕ, zero, suc, ◌≡◌, ◌<◌, inl, inr, Bool, true, false, ◌&&◌, ◌||◌, List, [], ◌∷◌, ◌++◌, length, Option, Some, None, refl, sym, subst, ◌∙◌, arith}
 use Rattle.std.specs.Prelude.{◌==◌}
 use Rattle.std.proofs.lemmas.Bool.{false≢true, or_left, or_right, and_parts, and_from}
 use Rattle.causal_name.specs.declared.Pid.{Pid}
@@ -33,6 +33,12 @@ one_fresh sent k fresh new (inr was) = absurd was
 or_false : (b : Bool) → (b || false) ≡ b
 or_false true = refl
 or_false false = refl
+
+turned : (a b : Bool) → (a || (b || false)) ≡ (b || a)
+turned true true = refl
+turned true false = refl
+turned false true = refl
+turned false false = refl
 
 abbrev first : Pid
 first = record { 0 = 0 }
@@ -67,7 +73,7 @@ sent = after_step start 0 (up_node (with_one_sent new_node)) (message_packet nam
 
 sends : IsReachableNetwork 2 1 sent
 sends = steps start first None (up_node (with_one_sent new_node)) (message_packet name message ∷ []) (Send first second 0 ∷ []) (omega arith) starts tt
-    (send_row new_node second message (record { from = refl; lane = refl; logged = λ d h. absurd (false≢true h); known_holders = λ d q h. absurd (false≢true h); known_stable = λ d h. absurd (false≢true h); names_sender = λ d h. absurd (false≢true h) }) refl refl (λ d h. absurd (false≢true h)))
+    (send_row new_node second message (omega arith) (record { from = refl; lane = refl; logged = λ d h. absurd (false≢true h); known_holders = λ d q h. absurd (false≢true h); known_stable = λ d h. absurd (false≢true h); names_sender = λ d h. absurd (false≢true h) }) refl refl (λ d h. absurd (false≢true h)))
     (one_fresh start.sent (message_packet name message) tt)
 
 -- the second one delivers it
@@ -85,7 +91,7 @@ delivered = after_step sent 1 (up_node receiver) [] (Deliver second 0 0 listed �
 
 delivers : IsReachableNetwork 2 1 delivered
 delivers = steps sent second (Some (message_packet name message)) (up_node receiver) [] (Deliver second 0 0 listed ∷ []) (omega arith) sends (inl refl)
-    (deliver_row new_node name message 0 listed refl (omega arith) refl refl (λ d h dest rsn. absurd (false≢true h)) (λ d. refl)) (λ new was. absurd was)
+    (deliver_row new_node name message 0 listed refl refl (omega arith) refl refl (λ d h dest rsn. absurd (false≢true h)) (λ d. refl)) (λ new was. absurd was)
 
 -- it sends a message that carries the determinant of its delivery
 abbrev reply : Packet
@@ -112,14 +118,14 @@ replied = after_step delivered 1 (up_node (with_one_sent receiver)) (message_pac
 
 replies : IsReachableNetwork 2 1 replied
 replies = steps delivered second None (up_node (with_one_sent receiver)) (message_packet reply_name reply ∷ []) (Send second first 0 ∷ []) (omega arith) delivers tt
-    (send_row receiver first reply of_receiver refl refl (λ d h. inl (sym (receiver_has d) ∙ h))) (one_fresh delivered.sent (message_packet reply_name reply) tt)
+    (send_row receiver first reply (omega arith) of_receiver refl refl (λ d h. inl (sym (receiver_has d) ∙ h))) (one_fresh delivered.sent (message_packet reply_name reply) tt)
 
 -- the first one delivers it, and so logs that determinant too
 abbrev other : Det
 other = det_from first 0 reply_name
 
 abbrev both : List Det
-both = other ∷ own ∷ []
+both = own ∷ other ∷ []
 
 abbrev holder : UpNode
 holder = after_delivery 0 reply_name both reply.parcel (with_one_sent new_node)
@@ -129,7 +135,7 @@ spread = after_step replied 0 (up_node holder) [] (Deliver first 2 0 both ∷ []
 
 spreads : IsReachableNetwork 2 1 spread
 spreads = steps replied first (Some (message_packet reply_name reply)) (up_node holder) [] (Deliver first 2 0 both ∷ []) (omega arith) replies (inl refl)
-    (deliver_row (with_one_sent new_node) reply_name reply 2 both refl (omega arith) refl refl (λ d h dest rsn. absurd (false≢true h)) (λ d. ap (λ b. same_det d other || b) (or_false (same_det d own)))) (λ new was. absurd was)
+    (deliver_row (with_one_sent new_node) reply_name reply 2 both refl refl (omega arith) refl refl (λ d h dest rsn. absurd (false≢true h)) (λ d. turned (same_det d own) (same_det d other))) (λ new was. absurd was)
 
 -- the second one crashes, and begins a round
 abbrev crashed : Network
@@ -221,7 +227,7 @@ abbrev recovered : Network
 recovered = after_step ready 1 (up_node (after_restart 1 1 read_round)) [] (Restart second both ∷ [])
 
 restarts : IsReachableNetwork 2 1 recovered
-restarts = steps ready second None (up_node (after_restart 1 1 read_round)) [] (Restart second both ∷ []) (omega arith) readies tt (restart_row (down_with read_round) read_round both refl all (λ d. sym (or_false (list_has both d)))) (λ new was. absurd was)
+restarts = steps ready second None (up_node (after_restart 1 1 read_round)) [] (Restart second both ∷ []) (omega arith) readies tt (restart_row (down_with read_round) read_round both refl refl all (λ d. sym (or_false (list_has both d)))) (λ new was. absurd was)
   where
     all : (q : ℕ) → q < 3 → (q ≡ 1 → ⊥) → read_round.heard q ≡ true
     all zero low apart = refl

@@ -2,3 +2,4 @@ pub mod Node
 pub mod Packets
 pub mod NodeSteps
 pub mod Network
+pub mod Recordings

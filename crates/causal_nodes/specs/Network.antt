@@ -8,7 +8,7 @@ use Rattle.causal_trace.specs.declared.entry.Entry.TheVariants.{Crash}
 use Rattle.causal_trace.specs.Judgement.{IsSafeTrace}
 use Rattle.causal_rounds.specs.Rounds.{set_at}
 use Rattle.causal_world.specs.World.{Packet}
-use Rattle.causal_nodes.specs.Node.{UpNode, Node, up_node, down_node, is_node_down}
+use Rattle.causal_nodes.specs.Node.{UpNode, DownNode, Node, up_node, down_node, is_node_down}
 use Rattle.causal_nodes.specs.Packets.{Sent, message_packet, acknowledgement_packet, write_packet, written_packet, question_packet, answer_packet, read_packet, stored_packet, WasSent, WasTaken, is_of_round}
 use Rattle.causal_nodes.specs.NodeSteps.{NodeStep, raised, fallen_node}
 
@@ -30,10 +30,13 @@ HasFreshName sent _ = Unit {0}
 -- processes are down at a crash, and a process is down only after its crash; the number of its lane outlives it, and
 -- names of rounds are fresh; stable storage keeps what it has stored, and takes no write below its floors.
 pub data NetworkEvent (n f : ℕ) (net : Network) : Network → Type 0 where
-  step_event : (me : Pid) (taken : Option Sent) (node : Node) (emitted : List Sent) (entries : List Entry) → me.0 < n → WasTaken net.sent taken
-      → NodeStep n f me (length net.past) (net.nodes me.0) taken node emitted entries → ((new : Sent) → WasSent emitted new → HasFreshName net.sent new)
+  step_event : (me : Pid) (taken : Option Sent) (node : Node) (emitted : List Sent) (entries : List Entry) → me.0 < n
+      → WasTaken net.sent taken
+      → NodeStep n f me (length net.past) (net.nodes me.0) taken node emitted entries
+      → ((new : Sent) → WasSent emitted new → HasFreshName net.sent new)
       → NetworkEvent n f net (record { past = entries ++ net.past; nodes = set_at net.nodes me.0 node; sent = emitted ++ net.sent; stored = net.stored; floors = net.floors })
-  crash_event : (who : Pid) (a : UpNode) → who.0 < n → net.nodes who.0 ≡ up_node a → count_below n (λ q. is_node_down (net.nodes q)) < f
+  crash_event : (who : Pid) (a : UpNode) → who.0 < n → net.nodes who.0 ≡ up_node a
+      → count_below n (λ q. is_node_down (net.nodes q)) < f
       → NetworkEvent n f net (record { past = Crash who ∷ net.past; nodes = set_at net.nodes who.0 (down_node (fallen_node a.lane)); sent = net.sent; stored = net.stored; floors = net.floors })
   -- stable storage takes a write of no refused lane, and confirms it
   store_event : (p : Packet) → WasSent net.sent (write_packet p) → net.floors p.parcel.from ≤ p.lane
@@ -62,7 +65,8 @@ pub record IsNewNetwork (n : ℕ) (net : Network) : Type 0 where
 
 pub data IsReachableNetwork (n f : ℕ) : Network → Type 0 where
   new_network : (net : Network) → IsNewNetwork n net → IsReachableNetwork n f net
-  next_network : (net next : Network) → IsReachableNetwork n f net → NetworkEvent n f net next → IsReachableNetwork n f next
+  next_network : (net next : Network) → IsReachableNetwork n f net → NetworkEvent n f net next
+      → IsReachableNetwork n f next
 
 -- what a packet carries to a log, if it carries anything
 abbrev pub IsCarrying : Sent → Packet → Type 0
@@ -72,11 +76,20 @@ IsCarrying (write_packet p) q = p ≡ q
 IsCarrying (answer_packet name p) q = p ≡ q
 IsCarrying _ q = ⊥
 
--- d survives: stable storage has it, or the log of a process that is up, or a packet that such a process accepts
+-- d survives: stable storage has it, or the log of a process that is up, or a packet that its receiver may still take
 pub data SurvivesIn (n : ℕ) (net : Network) (d : Det) : Type 0 where
   in_storage : net.stored d ≡ true → SurvivesIn n net d
   in_log : (p : ℕ) (a : UpNode) → p < n → net.nodes p ≡ up_node a → a.log.has d ≡ true → SurvivesIn n net d
-  in_transit : (k : Sent) (t : Packet) (a : UpNode) → WasSent net.sent k → IsCarrying k t → t.to < n → net.nodes t.to ≡ up_node a → a.floors t.parcel.from ≤ t.lane → t.parcel.carries d ≡ true → SurvivesIn n net d
+  -- its receiver is up, and does not refuse its lane
+  in_transit : (k : Sent) (t : Packet) (a : UpNode) → WasSent net.sent k → IsCarrying k t → t.to < n
+      → net.nodes t.to ≡ up_node a → a.floors t.parcel.from ≤ t.lane → t.parcel.carries d ≡ true → SurvivesIn n net d
+  -- its receiver is down, and its sender is up in the lane that sent it
+  in_transit_to_down : (k : Sent) (t : Packet) (x : DownNode) (a : UpNode) → WasSent net.sent k → IsCarrying k t
+      → t.to < n → net.nodes t.to ≡ down_node x → net.nodes t.parcel.from ≡ up_node a → t.lane ≡ a.lane
+      → t.parcel.carries d ≡ true → SurvivesIn n net d
+  -- it is a write that stable storage does not refuse
+  in_write : (t : Packet) → WasSent net.sent (write_packet t) → net.floors t.parcel.from ≤ t.lane
+      → t.parcel.carries d ≡ true → SurvivesIn n net d
 
 -- the recording of each network that nodes reach is safe for f at each instant: no crash that f allows leaves an orphan
 abbrev pub NodesAreSafe : Type 0

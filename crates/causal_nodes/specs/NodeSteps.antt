@@ -4,7 +4,7 @@ use Rattle.std.specs.List.{list_any}
 use Rattle.causal_name.specs.declared.Pid.{Pid}
 use Rattle.causal_name.specs.declared.MsgName.{MsgName}
 use Rattle.causal_name.specs.declared.Det.{Det}
-use Rattle.causal_name.specs.Names.{same_det, same_message, message_of}
+use Rattle.causal_name.specs.Names.{same_det, same_message, message_of, is_ascending}
 use Rattle.causal_name.specs.Sets.{count_below}
 use Rattle.causal_trace.specs.declared.entry.Entry.{Entry}
 use Rattle.causal_trace.specs.declared.entry.Entry.TheVariants.{Send, Deliver, Stable, Restart, Forget}
@@ -117,7 +117,8 @@ pub record IsOfNodeLog (p : ℕ) (a : UpNode) (new : Packet) : Type 0 where
   pub from : new.parcel.from ≡ p
   pub lane : new.lane ≡ a.lane
   pub logged : (d : Det) → new.parcel.carries d ≡ true → a.log.has d ≡ true
-  pub known_holders : (d : Det) (q : ℕ) → new.parcel.names_holder d q ≡ true → (a.log.holder d q ≡ true) × (new.parcel.carries d ≡ true)
+  pub known_holders : (d : Det) (q : ℕ) → new.parcel.names_holder d q ≡ true
+      → (a.log.holder d q ≡ true) × (new.parcel.carries d ≡ true)
   pub known_stable : (d : Det) → new.parcel.names_stable d ≡ true → a.log.stable d ≡ true
   pub names_sender : (d : Det) → new.parcel.carries d ≡ true → new.parcel.names_holder d p ≡ true
 
@@ -125,33 +126,44 @@ pub record IsOfNodeLog (p : ℕ) (a : UpNode) (new : Packet) : Type 0 where
 -- its entries. `position` is the number of entries recorded so far, by all processes.
 pub data NodeStep (n f : ℕ) (me : Pid) (position : ℕ) : Node → Option Sent → Node → List Sent → List Entry → Type 0 where
   -- a message is sent; what it leaves out of the log is known to be stable, or has more than f known holders
-  send_row : (a : UpNode) (to : Pid) (new : Packet) → IsOfNodeLog me.0 a new → new.to ≡ to.0 → new.parcel.send ≡ Some position
+  send_row : (a : UpNode) (to : Pid) (new : Packet) → to.0 < n → IsOfNodeLog me.0 a new → new.to ≡ to.0
+      → new.parcel.send ≡ Some position
       → ((d : Det) → a.log.has d ≡ true → (new.parcel.carries d ≡ true) ⊎ ((a.log.stable d ≡ true) ⊎ (f < count_below n (a.log.holder d))))
       → NodeStep n f me position (up_node a) None (up_node (with_one_sent a)) (message_packet (record { source = me; ssn = a.sent }) new ∷ []) (Send me to a.sent ∷ [])
   -- a message of no refused lane is delivered, once in a lane; if the log has a determinant for the slot, it names
   -- this message
-  deliver_row : (a : UpNode) (name : MsgName) (p : Packet) (send : ℕ) (listed : List Det) → p.to ≡ me.0 → a.floors p.parcel.from ≤ p.lane → p.parcel.send ≡ Some send → list_any (same_message name) a.received ≡ false
+  deliver_row : (a : UpNode) (name : MsgName) (p : Packet) (send : ℕ) (listed : List Det) → is_ascending listed ≡ true
+      → p.to ≡ me.0
+      → a.floors p.parcel.from ≤ p.lane → p.parcel.send ≡ Some send → list_any (same_message name) a.received ≡ false
       → ((d : Det) → a.log.has d ≡ true → d.dest ≡ me → d.rsn ≡ length a.received → message_of d ≡ name)
       → ((d : Det) → list_has listed d ≡ (same_det d (det_from me (length a.received) name) || p.parcel.carries d))
       → NodeStep n f me position (up_node a) (Some (message_packet name p)) (up_node (after_delivery me.0 name listed p.parcel a)) [] (Deliver me send (length a.received) listed ∷ [])
-  acknowledge_row : (a : UpNode) (new : Packet) → IsOfNodeLog me.0 a new → new.parcel.send ≡ None → NodeStep n f me position (up_node a) None (up_node a) (acknowledgement_packet new ∷ []) []
+  acknowledge_row : (a : UpNode) (new : Packet) → IsOfNodeLog me.0 a new → new.parcel.send ≡ None
+      → NodeStep n f me position (up_node a) None (up_node a) (acknowledgement_packet new ∷ []) []
   learn_row : (a : UpNode) (p : Packet) → p.to ≡ me.0 → a.floors p.parcel.from ≤ p.lane
       → NodeStep n f me position (up_node a) (Some (acknowledgement_packet p)) (up_node (with_log a (log_after_acknowledgement p.parcel a.log))) [] []
-  write_row : (a : UpNode) (new : Packet) → IsOfNodeLog me.0 a new → new.to ≡ n → new.parcel.send ≡ None → NodeStep n f me position (up_node a) None (up_node a) (write_packet new ∷ []) []
+  write_row : (a : UpNode) (new : Packet) → IsOfNodeLog me.0 a new → new.to ≡ n → new.parcel.send ≡ None
+      → NodeStep n f me position (up_node a) None (up_node a) (write_packet new ∷ []) []
   -- what stable storage has confirmed is recorded, and known to be stable
-  mark_row : (a : UpNode) (dets : Det → Bool) (det : Det) → dets det ≡ true → NodeStep n f me position (up_node a) (Some (written_packet dets)) (up_node (with_log a (log_after_mark det a.log))) [] (Stable det ∷ [])
+  mark_row : (a : UpNode) (dets : Det → Bool) (det : Det) → dets det ≡ true
+      → NodeStep n f me position (up_node a) (Some (written_packet dets)) (up_node (with_log a (log_after_mark det a.log))) [] (Stable det ∷ [])
   -- what is known to be stable is forgotten, but nothing of its own that is still to be repeated
-  forget_row : (a : UpNode) (listed : List Det) → ((d : Det) → list_has listed d ≡ true → a.log.stable d ≡ true) → ((d : Det) → list_has listed d ≡ true → d.dest.0 ≡ me.0 → d.rsn < length a.received)
+  forget_row : (a : UpNode) (listed : List Det) → is_ascending listed ≡ true
+      → ((d : Det) → list_has listed d ≡ true → a.log.stable d ≡ true)
+      → ((d : Det) → list_has listed d ≡ true → d.dest.0 ≡ me.0 → d.rsn < length a.received)
       → NodeStep n f me position (up_node a) None (up_node (with_log a (log_without listed a.log))) [] (Forget me listed ∷ [])
   -- a question with its own lane is answered with the whole log; what is below the view is refused from now on
-  answer_row : (a : UpNode) (s name : ℕ) (view : ℕ → ℕ) (new : Packet) → view me.0 ≡ a.lane → IsOfNodeLog me.0 a new → new.to ≡ s → new.parcel.send ≡ None → ((d : Det) → new.parcel.carries d ≡ a.log.has d)
+  answer_row : (a : UpNode) (s name : ℕ) (view : ℕ → ℕ) (new : Packet) → view me.0 ≡ a.lane → IsOfNodeLog me.0 a new
+      → new.to ≡ s → new.parcel.send ≡ None → ((d : Det) → new.parcel.carries d ≡ a.log.has d)
       → NodeStep n f me position (up_node a) (Some (question_packet s name view)) (up_node (with_floors a (raised a.floors view))) (answer_packet name new ∷ []) []
   -- any process tells its number
   tell_row : (old : Node) → NodeStep n f me position old None old (number_packet me.0 (number_of old) ∷ []) []
   -- a process that is down hears a number
-  hear_number_row : (x : DownNode) (q number : ℕ) → NodeStep n f me position (down_node x) (Some (number_packet q number)) (down_node (record { lane = x.lane; told = set_at x.told q number; round = x.round })) [] []
+  hear_number_row : (x : DownNode) (q number : ℕ)
+      → NodeStep n f me position (down_node x) (Some (number_packet q number)) (down_node (record { lane = x.lane; told = set_at x.told q number; round = x.round })) [] []
   -- a round begins, with its next lane, and numbers not above those that others have told
-  begin_row : (x : DownNode) (name : ℕ) (view : ℕ → ℕ) → view me.0 ≡ x.lane + 1 → ((q : ℕ) → (q ≡ me.0 → ⊥) → view q ≤ x.told q)
+  begin_row : (x : DownNode) (name : ℕ) (view : ℕ → ℕ) → view me.0 ≡ x.lane + 1
+      → ((q : ℕ) → (q ≡ me.0 → ⊥) → view q ≤ x.told q)
       → NodeStep n f me position (down_node x) None (down_node (with_round x (Some (new_node_round name view)))) (question_packet me.0 name view ∷ []) []
   -- a question with its next lane is answered by a process that is down; it gives up its own round
   not_up_row : (x : DownNode) (s name : ℕ) (view : ℕ → ℕ) → (s ≡ me.0 → ⊥) → view me.0 ≡ x.lane + 1
@@ -167,10 +179,13 @@ pub data NodeStep (n f : ℕ) (me : Pid) (position : ℕ) : Node → Option Sent
   read_row : (x : DownNode) (r : NodeRound) → x.round ≡ Some r → ((q : ℕ) → q < n → (q ≡ me.0 → ⊥) → r.heard q ≡ true)
       → NodeStep n f me position (down_node x) None (down_node x) (read_packet me.0 r.name r.view ∷ []) []
   -- what it has stored is recorded, one determinant after the other, and then the reply counts
-  take_stored_row : (x : DownNode) (r : NodeRound) (dets : Det → Bool) (det : Det) → x.round ≡ Some r → dets det ≡ true
+  take_stored_row : (x : DownNode) (r : NodeRound) (dets : Det → Bool) (det : Det) → x.round ≡ Some r
+      → dets det ≡ true
       → NodeStep n f me position (down_node x) (Some (stored_packet me.0 r.name dets)) (down_node (with_round x (Some (with_stored det r)))) [] (Stable det ∷ [])
-  hear_stored_row : (x : DownNode) (r : NodeRound) (dets : Det → Bool) → x.round ≡ Some r → ((d : Det) → dets d ≡ true → r.gathered.has d ≡ true)
+  hear_stored_row : (x : DownNode) (r : NodeRound) (dets : Det → Bool) → x.round ≡ Some r
+      → ((d : Det) → dets d ≡ true → r.gathered.has d ≡ true)
       → NodeStep n f me position (down_node x) (Some (stored_packet me.0 r.name dets)) (down_node (with_round x (Some (with_heard n r)))) [] []
   -- after all replies the process comes up in its next lane with what it has gathered
-  restart_row : (x : DownNode) (r : NodeRound) (listed : List Det) → x.round ≡ Some r → ((q : ℕ) → q < suc n → (q ≡ me.0 → ⊥) → r.heard q ≡ true) → ((d : Det) → list_has listed d ≡ r.gathered.has d)
+  restart_row : (x : DownNode) (r : NodeRound) (listed : List Det) → is_ascending listed ≡ true → x.round ≡ Some r
+      → ((q : ℕ) → q < suc n → (q ≡ me.0 → ⊥) → r.heard q ≡ true) → ((d : Det) → list_has listed d ≡ r.gathered.has d)
       → NodeStep n f me position (down_node x) None (up_node (after_restart me.0 (x.lane + 1) r)) [] (Restart me listed ∷ [])
