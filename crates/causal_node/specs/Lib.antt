@@ -3,3 +3,8 @@ pub mod Outboxes
 pub mod Namings
 pub mod DeliveryPlans
 pub mod RestartPlans
+pub mod NodeStates
+pub mod NodeRefusals
+pub mod NodeSteps
+pub mod NodeRecovery
+pub mod NodeAnswers

@@ -15,6 +15,20 @@ pub mod learning;
 pub mod naming;
 /// The memory of a process that begins.
 pub mod new_memory;
+/// One process of a run, without input or output.
+pub mod node;
+/// A node replies to another process's round.
+pub mod node_answer;
+/// A node delivers a message.
+pub mod node_delivery;
+/// Why a node refuses a call.
+pub mod node_fault;
+/// A node begins.
+pub mod node_opening;
+/// A node recovers.
+pub mod node_recovery;
+/// A node sends a message.
+pub mod node_sending;
 /// The outbox: the messages that a process has sent.
 pub mod outbox;
 /// The volatile memory of an up process, and how it changes.

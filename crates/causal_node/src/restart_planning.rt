@@ -12,7 +12,7 @@ use std::alloc::Global;
 use std::sync::Arc;
 
 /// Returns the batch that a log chooses for f failures, and stores it in the log.
-fn choose_and_cache(alloc: Global, f: u16, log: &mut Log) -> Result<Arc<Batch>, NoMemory>
+pub(crate) fn choose_and_cache(alloc: Global, f: u16, log: &mut Log) -> Result<Arc<Batch>, NoMemory>
     ensures map { log.new.map ≡ log.old.map }
     ensures batch { IfOk result (λ batch. arc_value batch ≡ batch_items f log.old.map) }
 {

@@ -1,0 +1,96 @@
+//! A node replies to another process's round.
+ghost use Rattle.std.specs.Prelude.{◌≡◌, IfOk, IfErr, OnOk, OnErr, None};
+ghost use Rattle.causal_node.specs.NodeAnswers.{after_answer, answer_fault, raised, reply_of};
+ghost use Rattle.causal_node.specs.NodeRefusals.{node_reason_of};
+ghost use Rattle.causal_node.specs.NodeStates.{floor_of};
+
+use crate::node::{Node, Stage};
+use crate::node_fault::NodeFault;
+use causal_name::{NoMemory, Pid};
+use std::alloc::Global;
+
+/// The reply to a question.
+#[derive(Clone, Copy, Debug, PartialEq, Eq)]
+pub enum Reply {
+    /// The process is up: its log goes to the asker.
+    Log,
+    /// The view has a wrong number for the process, whose lane is the right one.
+    OwnNumber,
+    /// The process is not up, and has given up its round.
+    NotUp,
+}
+
+/// Returns the greater of each floor and the number in the view.
+fn raised(alloc: Global, floors: &[u32], view: &[u32]) -> Result<Vec<u32>, NoMemory>
+    ensures { IfOk result (λ new. new.items ≡ raised floors.now view.now) }
+{
+    let pairs = floors.iter().zip(view);
+    Ok(
+        pairs
+            .map(|(floor, number)| (*floor).max(*number))
+            .collect(alloc)?,
+    )
+}
+
+impl Node {
+    /// Returns the number that the view has for a process; 0 if it has none.
+    fn number_in(view: &[u32], p: Pid) -> u32
+        ensures { result ≡ floor_of view.now p }
+    {
+        view.get(usize::from(p.0)).copied().unwrap_or(0)
+    }
+
+    /// Returns the first refusal that applies to a question, if there is one.
+    fn answer_fault(&self, asker: Pid, view: &[u32]) -> Option<NodeFault>
+        ensures { result ≡ answer_fault self.now asker view.now }
+    {
+        if u16::from(asker.0) >= self.identity.processes || asker == self.identity.me {
+            return Some(NodeFault::NoProcess);
+        }
+        if view.len() != usize::from(self.identity.processes) {
+            return Some(NodeFault::View);
+        }
+        if Node::number_in(view, asker) < self.floor(asker) {
+            return Some(NodeFault::OldLane);
+        }
+        let right = Node::number_in(view, self.identity.me) == self.lane;
+        match self.stage {
+            Stage::Gathering(_) if right && asker > self.identity.me => Some(NodeFault::NotYet),
+            _ => None,
+        }
+    }
+
+    /// Replies to the question of a process that has begun a round with this view: a number for each process, its lane,
+    /// or its next one if it is not up. If this process is up, it accepts from now on nothing from lanes below the view.
+    /// If it is not up, it gives up its own round.
+    ///
+    /// # Errors
+    /// The first of `NoProcess`, `View`, `OldLane`, and `NotYet`: this process gathers, and goes first, since its number
+    /// is less; if none applies, `NoMemory` if allocation failed. A refusal changes nothing.
+    pub fn answer(&mut self, asker: Pid, view: &[u32]) -> Result<Reply, NodeFault>
+        ensures ok { IfOk result (λ reply. reply ≡ reply_of self.old view.now) }
+        ensures after { OnOk result (self.new ≡ after_answer self.old view.now) }
+        ensures legal { OnOk result (answer_fault self.old asker view.now ≡ None) }
+        ensures refused { IfErr result
+            (λ fault. answer_fault self.old asker view.now ≡ node_reason_of fault) }
+        ensures unchanged { OnErr result (self.new ≡ self.old) }
+    {
+        if let Some(fault) = self.answer_fault(asker, view) {
+            return Err(fault);
+        }
+        if Node::number_in(view, self.identity.me) != self.lane {
+            return Ok(Reply::OwnNumber);
+        }
+        if !matches!(self.stage, Stage::Up) {
+            self.stage = Stage::Down;
+            return Ok(Reply::NotUp);
+        }
+        match raised(self.alloc, self.floors.as_slice(), view) {
+            Ok(floors) => {
+                self.floors = floors;
+                Ok(Reply::Log)
+            }
+            Err(_) => Err(NodeFault::NoMemory),
+        }
+    }
+}

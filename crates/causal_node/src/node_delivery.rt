@@ -1,0 +1,141 @@
+//! A node delivers a message.
+#![tactic(auto, using(crate::proofs::Lemmas::ListInsert::items_listed))]
+
+ghost use Rattle.std.specs.Prelude.{◌≡◌, ◌≤◌, IfOk, IfErr, OnOk, OnErr, None, length};
+ghost use Rattle.std.specs.Arc.{arc_value};
+ghost use Rattle.causal_trace.specs.Past.{det_from};
+ghost use Rattle.causal_node.specs.DeliveryPlans.{IsPlanFor};
+ghost use Rattle.causal_node.specs.NodeRefusals.{deliver_fault, node_reason_of};
+ghost use Rattle.causal_node.specs.NodeSteps.{after_delivery, IsDelivery};
+
+use crate::delivery_list::listed_len;
+use crate::delivery_plan::DeliveryPlan;
+use crate::delivery_planning::plan_delivery;
+use crate::node::{Node, Stage};
+use crate::node_fault::NodeFault;
+use crate::outbox::Envelope;
+use causal_log::Batch;
+use causal_name::{Det, MsgName, NoMemory};
+use causal_protocol::limits::{MAX_ENTRIES, MAX_LISTED};
+use causal_trace::entry::Dets;
+use std::sync::Arc;
+
+/// A delivery, for the recording.
+#[derive(Drop)]
+pub struct Delivery {
+    pub det: Det,
+    /// The determinants that the deliver entry lists.
+    pub listed: Dets,
+}
+
+impl Node {
+    /// Returns the determinant of the next delivery, if it is of this message.
+    fn next_det(&self, name: MsgName) -> Det
+        ensures { result ≡ det_from self.now.identity.me (length self.now.memory.received) name }
+    {
+        Det {
+            source: name.source,
+            ssn: name.ssn,
+            dest: self.identity.me,
+            rsn: self.memory.received.len() as u32,
+        }
+    }
+
+    /// Returns the first refusal that applies to a delivery, if there is one.
+    fn deliver_fault(&self, lane: u32, name: MsgName, batch: &Batch) -> Option<NodeFault>
+        ensures { result ≡ deliver_fault self.now lane name batch.now }
+    {
+        if !matches!(self.stage, Stage::Up) {
+            return Some(NodeFault::NotUp);
+        }
+        if u16::from(name.source.0) >= self.identity.processes {
+            return Some(NodeFault::NoProcess);
+        }
+        if lane < self.floor(name.source) {
+            return Some(NodeFault::OldLane);
+        }
+        if self.received.contains(&name) {
+            return Some(NodeFault::Duplicate);
+        }
+        match self.due() {
+            Some(other) if other != name => return Some(NodeFault::MustReplay(other)),
+            None if self.reserved.contains(&name) => return Some(NodeFault::Reserved),
+            _ => (),
+        }
+        if self.memory.received.len() >= MAX_ENTRIES as usize
+            || listed_len(self.next_det(name), batch) > MAX_LISTED
+        {
+            return Some(NodeFault::Full);
+        }
+        None
+    }
+
+    /// Returns the plan of a delivery as this determinant.
+    fn delivery_plan(&self, det: Det, piggyback: &Arc<Batch>) -> Result<DeliveryPlan, NoMemory>
+        ensures plan { IfOk result (λ g. IsPlanFor self.now.identity.faults det self.now.memory
+            (record { to = self.now.identity.me; send = det.ssn; batch = arc_value piggyback.now }) g) }
+        ensures longer { IfOk result (λ g. length (arc_value piggyback.now) ≤ length g.listed) }
+    {
+        let message = Envelope {
+            to: self.identity.me,
+            send: det.ssn,
+            batch: piggyback,
+        };
+        plan_delivery(self.alloc, self.identity.faults, det, &self.memory, message)
+    }
+
+    /// Delivers a message with this piggyback, which `name`'s sender sent from `lane`. The process acts on the message
+    /// after the delivery is recorded.
+    ///
+    /// # Errors
+    /// The first of `NotUp`, `NoProcess`, `OldLane`, `Duplicate`, `MustReplay` or `Reserved`, and `Full`; if none
+    /// applies, `NoMemory` if allocation failed. A refusal changes nothing. After `MustReplay` and `Reserved` the
+    /// message may be delivered later, after `OldLane` and `Duplicate` never.
+    pub fn deliver(
+        &mut self,
+        lane: u32,
+        name: MsgName,
+        piggyback: &Arc<Batch>,
+    ) -> Result<Delivery, NodeFault>
+        ensures ok { OnOk result
+            (self.new ≡ after_delivery self.old name (arc_value piggyback.now)) }
+        ensures listed { IfOk result (IsDelivery self.old name (arc_value piggyback.now)) }
+        ensures legal { OnOk result
+            (deliver_fault self.old lane name (arc_value piggyback.now) ≡ None) }
+        ensures refused { IfErr result (λ fault.
+            deliver_fault self.old lane name (arc_value piggyback.now) ≡ node_reason_of fault) }
+        ensures unchanged { OnErr result (self.new ≡ self.old) }
+    {
+        if let Some(fault) = self.deliver_fault(lane, name, &**piggyback) {
+            return Err(fault);
+        }
+        let det = self.next_det(name);
+        let Ok(plan) = self.delivery_plan(det, piggyback) else {
+            return Err(NodeFault::NoMemory);
+        };
+        // The entry lists what the message carries, and the delivery's own determinant.
+        let logged = plan.listed.as_slice().len() as u32 + 1;
+        if self
+            .memory
+            .reserve_delivery(self.identity.me, logged)
+            .is_err()
+        {
+            return Err(NodeFault::NoMemory);
+        }
+        let Ok(_) = self.received.insert(name) else {
+            return Err(NodeFault::NoMemory);
+        };
+        let DeliveryPlan {
+            own: _,
+            send: _,
+            listed,
+            piggyback,
+            next,
+            next_share,
+        } = plan;
+        self.memory
+            .receive(det, &*piggyback, self.identity.faults, next);
+        self.next_batch = Some(next_share);
+        Ok(Delivery { det, listed })
+    }
+}
