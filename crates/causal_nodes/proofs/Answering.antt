@@ -256,7 +256,7 @@ module _ (n f : ℕ) (net : Network) (w : World) (reach : IsReachableWorld n f w
       in_either : (d : Det) → told.gathered s d ≡ true → (w.gathered s d ≡ true) ⊎ (logs w.past me.0 d ≡ true)
       in_either d h = or_cases (w.gathered s d) (logs w.past me.0 d) (sym (ap (λ (g : Det → Bool). g d) (set_at_here w.gathered s (λ e. w.gathered s e || logs w.past me.0 e))) ∙ h)
 
-      -- what it logs it has told
+      -- what it logs it has sent
       told_now : (d : Det) → logs w.past me.0 d ≡ true → IsToldBy told (reply ∷ net.sent) s nr (with_reply r me.0 true) d me.0
       told_now d h = record {
         answered = set_at_here r.answered me.0 true;

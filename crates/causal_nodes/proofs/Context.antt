@@ -1,4 +1,4 @@
--- What is at hand at each event: a reachable world that stands for the network.
+-- What each proof about an event uses: a reachable world that represents the network.
 use Rattle.std.proofs.Common.{ℕ, ◌≡◌, ◌<◌, Bool, true, false, ◌&&◌, ◌||◌, List, ◌∷◌, length, Some, refl, sym, ap, subst, ◌∙◌, arith}
 use Rattle.std.specs.Prelude.{◌==◌}
 use Rattle.std.specs.Option.{option_and_then}
@@ -16,7 +16,7 @@ use Rattle.causal_nodes.specs.Network.{Network}
 use Rattle.causal_nodes.proofs.Represents.{UpFits, DownFits, NodeFits, Represents}
 use Rattle.causal_nodes.proofs.Kept.{IsLater}
 
--- a world that stands for the network can be reached
+-- a reachable world represents the network
 abbrev pub IsWorldOf : ℕ → ℕ → Network → Type 0
 IsWorldOf n f net = (w : World) × IsReachableWorld n f w × Represents n net w
 

@@ -62,7 +62,7 @@ module _ (n f : ℕ) (net : Network) (w : World) (reach : IsReachableWorld n f w
   pub silent_later : IsLater w (with_packet w.past)
   silent_later = record { numbers = λ q. omega arith; packets = still; stable = λ d h. h; stored = λ d h. h; messages = λ send m h. h }
 
-  -- something that is no message
+  -- a packet that is not a message
   pub emits_silently : (k : Sent) → PacketFits n (with_packet w.past) k → ((q name : ℕ) → is_of_round k q name ≡ false) → new.parcel.send ≡ None
       → IsWorldOf n f (record { past = net.past; nodes = set_at net.nodes me.0 (up_node a); sent = k ∷ net.sent; stored = net.stored; floors = net.floors })
   emits_silently k k_fits no_round none = (

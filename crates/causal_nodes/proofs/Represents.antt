@@ -1,4 +1,4 @@
--- How a world stands for a network of nodes.
+-- How a world represents a network of nodes.
 use Rattle.std.proofs.Common.{ℕ, ◌≡◌, ◌<◌, ◌≤◌, Bool, true, false, List, length, Option, Some, None}
 use Rattle.std.specs.Prelude.{◌⊎◌, ◌==◌}
 use Rattle.causal_name.specs.declared.Det.{Det}
@@ -61,7 +61,7 @@ pub record IsToldBy (w : World) (sent : List Sent) (s : ℕ) (nr : NodeRound) (r
 abbrev pub NamesHolderTo : World → ℕ → Round → Det → ℕ → Type 0
 NamesHolderTo w s r d q = (i : ℕ) × (p : Packet) × (w.packets i ≡ Some p) × (p.to ≡ s) × (r.replied p.parcel.from ≡ true) × (r.view p.parcel.from ≤ p.lane) × (p.parcel.names_holder d q ≡ true)
 
--- where what the round of s has gathered in the world comes from
+-- the source of what the round of s has gathered in the world
 abbrev pub Told : ℕ → World → List Sent → ℕ → NodeRound → Round → Det → Type 0
 Told n w sent s nr r d = ((y : ℕ) × (y < n) × IsToldBy w sent s nr r d y) ⊎ ((r.replied n ≡ true) × (w.stored d ≡ true))
 
@@ -108,7 +108,7 @@ abbrev pub is_in_round : ℕ → Node → Bool
 is_in_round name (up_node a) = false
 is_in_round name (down_node x) = names_round name x.round
 
--- the world stands for the network
+-- the world represents the network
 pub record Represents (n : ℕ) (net : Network) (w : World) : Type 0 where
   pub past : w.past ≡ net.past
   pub nodes : (p : ℕ) → p < n → NodeFits n w net.sent p (net.nodes p)

@@ -1,4 +1,4 @@
--- Stable storage takes a write, or tells what it has.
+-- Stable storage takes a write, or sends what it has.
 use Rattle.std.proofs.Common.{ℕ, ◌≡◌, ◌<◌, ◌≤◌, inl, inr, Bool, true, false, cond, ◌||◌, nat_lt, ◌∷◌, Some, refl, sym, ap, subst, ◌∙◌, arith}
 use Rattle.std.specs.Prelude.{◌⊎◌, ◌==◌, max}
 use Rattle.std.proofs.Math.Nat.{le-max_left, le-max_right, max-le}

@@ -41,11 +41,11 @@ pub data NetworkEvent (n f : ℕ) (net : Network) : Network → Type 0 where
   -- stable storage takes a write of no refused lane, and confirms it
   store_event : (p : Packet) → WasSent net.sent (write_packet p) → net.floors p.parcel.from ≤ p.lane
       → NetworkEvent n f net (record { past = net.past; nodes = net.nodes; sent = written_packet p.parcel.carries ∷ net.sent; stored = λ d. net.stored d || p.parcel.carries d; floors = net.floors })
-  -- stable storage tells all that it has, and refuses from now on what is below the view
+  -- stable storage sends all that it has, and refuses from now on what is below the view
   read_event : (s name : ℕ) (view : ℕ → ℕ) → WasSent net.sent (read_packet s name view)
       → NetworkEvent n f net (record { past = net.past; nodes = net.nodes; sent = stored_packet s name net.stored ∷ net.sent; stored = net.stored; floors = raised net.floors view })
 
--- a process that has begun: in lane 0, with an empty log
+-- a new process: in lane 0, with an empty log
 pub record IsNewNode (a : UpNode) : Type 0 where
   pub lane : a.lane ≡ 0
   pub empty : (d : Det) → a.log.has d ≡ false
@@ -55,7 +55,7 @@ pub record IsNewNode (a : UpNode) : Type 0 where
   pub sent : a.sent ≡ 0
   pub received : a.received ≡ []
 
--- n processes have begun, and nothing was sent or stored
+-- n new processes; nothing was sent or stored
 pub record IsNewNetwork (n : ℕ) (net : Network) : Type 0 where
   pub past : net.past ≡ []
   pub nodes : (p : ℕ) → p < n → (a : UpNode) × (net.nodes p ≡ up_node a) × IsNewNode a

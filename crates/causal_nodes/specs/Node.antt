@@ -26,8 +26,8 @@ pub record NodeRound : Type 0 where
   pub heard : ℕ → Bool
   pub gathered : NodeLog
 
--- what a process that is down has: the number of its last lane, which alone outlives a crash; the numbers that others
--- have told since; and a round, if one has begun
+-- what a process that is down has: the number of its last lane, which alone outlives a crash; the numbers of others
+-- that it has learned since; and its round, if it has one
 pub record DownNode : Type 0 where
   pub lane : ℕ
   pub told : ℕ → ℕ

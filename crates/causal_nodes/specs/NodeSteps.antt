@@ -147,7 +147,8 @@ pub data NodeStep (n f : ℕ) (me : Pid) (position : ℕ) : Node → Option Sent
   -- what stable storage has confirmed is recorded, and known to be stable
   mark_row : (a : UpNode) (dets : Det → Bool) (det : Det) → dets det ≡ true
       → NodeStep n f me position (up_node a) (Some (written_packet dets)) (up_node (with_log a (log_after_mark det a.log))) [] (Stable det ∷ [])
-  -- what is known to be stable is forgotten, but nothing of its own that is still to be repeated
+  -- what is known to be stable is forgotten, but no determinant of the process that is still to be
+  -- repeated
   forget_row : (a : UpNode) (listed : List Det) → is_ascending listed ≡ true
       → ((d : Det) → list_has listed d ≡ true → a.log.stable d ≡ true)
       → ((d : Det) → list_has listed d ≡ true → d.dest.0 ≡ me.0 → d.rsn < length a.received)
@@ -156,16 +157,16 @@ pub data NodeStep (n f : ℕ) (me : Pid) (position : ℕ) : Node → Option Sent
   answer_row : (a : UpNode) (s name : ℕ) (view : ℕ → ℕ) (new : Packet) → view me.0 ≡ a.lane → IsOfNodeLog me.0 a new
       → new.to ≡ s → new.parcel.send ≡ None → ((d : Det) → new.parcel.carries d ≡ a.log.has d)
       → NodeStep n f me position (up_node a) (Some (question_packet s name view)) (up_node (with_floors a (raised a.floors view))) (answer_packet name new ∷ []) []
-  -- any process tells its number
+  -- any process sends its number
   tell_row : (old : Node) → NodeStep n f me position old None old (number_packet me.0 (number_of old) ∷ []) []
   -- a process that is down hears a number
   hear_number_row : (x : DownNode) (q number : ℕ)
       → NodeStep n f me position (down_node x) (Some (number_packet q number)) (down_node (record { lane = x.lane; told = set_at x.told q number; round = x.round })) [] []
-  -- a round begins, with its next lane, and numbers not above those that others have told
+  -- a round begins, with its next lane, and numbers not above those that others have sent
   begin_row : (x : DownNode) (name : ℕ) (view : ℕ → ℕ) → view me.0 ≡ x.lane + 1
       → ((q : ℕ) → (q ≡ me.0 → ⊥) → view q ≤ x.told q)
       → NodeStep n f me position (down_node x) None (down_node (with_round x (Some (new_node_round name view)))) (question_packet me.0 name view ∷ []) []
-  -- a question with its next lane is answered by a process that is down; it gives up its own round
+  -- a question with its next lane is answered by a process that is down; its own round ends
   not_up_row : (x : DownNode) (s name : ℕ) (view : ℕ → ℕ) → (s ≡ me.0 → ⊥) → view me.0 ≡ x.lane + 1
       → NodeStep n f me position (down_node x) (Some (question_packet s name view)) (down_node (with_round x None)) (not_up_packet me.0 s name ∷ []) []
   -- the process dies while it is down: it has given up its round
