@@ -1,5 +1,5 @@
 -- Entries keyed by slot and number: look-ups find each determinant, and all determinants of a slot.
-use Rattle.std.proofs.Common.{ℕ, zero, suc, ◌≡◌, ◌∙◌, ◌⊎◌, inl, inr, ◌<◌, ◌+◌, ◌||◌, ◌==◌, Bool, true, false, cond, All, Contains, Option, Some, None, IfSome, is_some, unwrap_or, List, filter, [], ◌∷◌, ◌++◌, length, set, slice_get, get_or, true≢false, refl, sym, ap, subst, arith}
+use Rattle.std.proofs.Common.{ℕ, zero, suc, ◌≡◌, ◌∙◌, ◌⊎◌, inl, inr, ◌<◌, ◌≤◌, ◌+◌, ◌||◌, ◌==◌, Bool, true, false, cond, All, Contains, Option, Some, None, IfSome, is_some, unwrap_or, List, filter, [], ◌∷◌, ◌++◌, length, set, slice_get, get_or, true≢false, refl, sym, ap, subst, arith}
 use Rattle.std.proofs.lemmas.Bool.{cases_eq, false_from_ne_true}
 use Rattle.std.proofs.lemmas.List.{map-append, get_or-map, length-map}
 use Rattle.std.specs.List.Sorted.{IsSortedByKey}
@@ -210,6 +210,13 @@ module _ (es : Entries) (numbers : ℕ) (keyed : All (HasSlotKey numbers) es) wh
     absent_everywhere d none = false_from_ne_true (list_any (same_det d) (keys_of (values_of es))) (λ h.
         let way = entry_of_det d h in
         true≢false (sym (same_itself d) ∙ subst (λ o. IfSome o (λ e. same_det d e.0 ≡ false)) way.3 (none way.0 way.2)))
+
+    -- if all entries have the number 0, a determinant whose slot has no entry is not in the list
+    pub absent_if_first : (slot : Slot) (d : Det) → slot ≡ slot_of d → numbers ≤ 1 → entry_of_key es slot 0 ≡ None → list_any (same_det d) (keys_of (values_of es)) ≡ false
+    absent_if_first slot d own few none = absent_everywhere d (λ j low.
+        let zeroth : j ≡ 0 = omega (arith, low, few) in
+        let nothing : entry_of_key es (slot_of d) j ≡ None = ap (λ i. entry_of_key es (slot_of d) i) zeroth ∙ ap (λ s. entry_of_key es s 0) (sym own) ∙ none in
+        subst (λ o. IfSome o (λ e. same_det d e.0 ≡ false)) (sym nothing) tt)
 
     -- the least of all numbers is the least of the slot
     pub least_of_all : (slot : Slot) (least : Option Det) → IsLeastBelow es slot numbers least → IsLeastOfSlot slot.dest slot.rsn (keys_of (values_of es)) least

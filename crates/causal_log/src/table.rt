@@ -6,7 +6,7 @@ ghost use Rattle.std.specs.List.{IsDistinct, list_any};
 ghost use Rattle.std.specs.Map.{keys_of};
 ghost use Rattle.std.specs.FinMap as fin;
 ghost use Rattle.std.specs.Option.{option_map};
-ghost use Rattle.indexmap.specs.IndexMap.{get, spare, values};
+ghost use Rattle.indexmap.specs.IndexMap.{get, spare, values, IsUnique};
 ghost use Rattle.causal_name.specs.declared.Det.{Det};
 ghost use Rattle.causal_name.specs.Names.{same_det, is_ascending, is_before};
 ghost use Rattle.causal_log.specs.declared.known.Known.{Known};
@@ -21,6 +21,7 @@ use crate::hashing::SeededState;
 use crate::known::Known;
 use causal_name::{Det, NoMemory, Pid, Slot};
 use indexmap::IndexMap;
+use indexmap::map::Entry;
 use std::alloc::Global;
 use std::marker::Model;
 
@@ -144,6 +145,26 @@ impl Table {
         self.numbers = self.numbers.max(number + 1);
         self.room -= 1;
         self.entries.len() - 1
+    }
+
+    /// Appends an entry in reserved capacity and returns its index, if its slot has none. Otherwise changes nothing,
+    /// and returns the index of the slot's entry if that is the only one; the caller has to check it.
+    fn add_first(&mut self, det: Det, known: &Known) -> Result<usize, usize>
+        ensures new { OnOk result (fin.get (log_of self.old.entries) det ≡ None) }
+        ensures put { OnOk result
+            (log_of self.new.entries ≡ fin.insert (log_of self.old.entries) det known.now) }
+        ensures spare { OnOk result (self.old.spare ≡ self.new.spare + 1) }
+        ensures same { OnErr result (self.new ≡ self.old) }
+    {
+        if self.room == 0 || self.numbers > 1 {
+            return Err(self.entries.len());
+        }
+        let slot = det.slot();
+        let key = SlotKey { slot, number: 0 };
+        let place = insert_unless_used(&mut self.entries, key, (det, *known))?;
+        self.numbers = 1;
+        self.room -= 1;
+        Ok(place)
     }
 
     pub(crate) fn reserve(&mut self, more: usize) -> Result<(), NoMemory>
@@ -279,6 +300,33 @@ fn insert_new(entries: &mut Entries, key: SlotKey, entry: (Det, Known))
     entries.insert(key, entry).unwrap();
 }
 
+/// Appends an entry in reserved capacity and returns its index, unless another has the key: then returns the index of
+/// that one as an error.
+fn insert_unless_used(
+    entries: &mut Entries,
+    key: SlotKey,
+    entry: (Det, Known),
+) -> Result<usize, usize>
+    requires room { 0 < spare entries.old }
+    ensures new { OnOk result (get same_slot_key entries.old key ≡ None) }
+    ensures entries { OnOk result
+        (entries.new.entries ≡ entries.old.entries ++ (key, entry) ∷ []) }
+    ensures same { OnErr result (entries.new.entries ≡ entries.old.entries) }
+    ensures room { spare entries.old ≤ spare entries.new + 1 }
+    ensures kept { OnErr result (spare entries.old ≤ spare entries.new) }
+    ensures unique { IsUnique same_slot_key entries.old }
+{
+    match entries.entry(key) {
+        Ok(Entry::Vacant(vacant)) => {
+            let place = vacant.index();
+            vacant.insert(entry);
+            Ok(place)
+        }
+        Ok(Entry::Occupied(occupied)) => Err(occupied.index()),
+        Err(_) => unreachable!(),
+    }
+}
+
 /// Returns the least number that no entry of this slot has.
 fn unused_number(entries: &Entries, numbers: u32, slot: Slot) -> u32
     requires { All (HasSlotKey numbers) entries.now.entries }
@@ -293,9 +341,36 @@ fn unused_number(entries: &Entries, numbers: u32, slot: Slot) -> u32
     numbers
 }
 
-/// Learns something of one determinant, in reserved capacity if it is not logged; returns the index of its entry.
+/// Learns something of one determinant, in reserved capacity if it is not logged; returns the index of its entry. One
+/// look-up suffices if no slot has had two determinants, as in every run.
 #[inline(never)]
 pub(crate) fn learn(entries: &mut Table, det: Det, news: Known) -> usize
+    requires room { fin.get (log_of entries.old.entries) det ≡ None → 1 ≤ entries.old.spare }
+    ensures learned { log_of entries.new.entries
+        ≡ after_learn (log_of entries.old.entries) det news }
+    ensures spare { entries.old.spare ≤ entries.new.spare + 1 }
+{
+    match entries.add_first(det, &news) {
+        Ok(place) => place,
+        Err(place) => learn_at(entries, place, det, news),
+    }
+}
+
+/// Learns something of one determinant, whose entry may be at this index.
+fn learn_at(entries: &mut Table, place: usize, det: Det, news: Known) -> usize
+    requires room { fin.get (log_of entries.old.entries) det ≡ None → 1 ≤ entries.old.spare }
+    ensures learned { log_of entries.new.entries
+        ≡ after_learn (log_of entries.old.entries) det news }
+    ensures spare { entries.old.spare ≤ entries.new.spare + 1 }
+{
+    match entries.known_at(place, det) {
+        Some(_) => entries.merge_at(place, news),
+        None => learn_among_others(entries, det, news),
+    }
+}
+
+/// Learns something of one determinant, as `learn` does, whatever other determinants its slot has.
+fn learn_among_others(entries: &mut Table, det: Det, news: Known) -> usize
     requires room { fin.get (log_of entries.old.entries) det ≡ None → 1 ≤ entries.old.spare }
     ensures learned { log_of entries.new.entries
         ≡ after_learn (log_of entries.old.entries) det news }
