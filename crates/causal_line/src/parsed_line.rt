@@ -21,9 +21,9 @@ pub enum ParsedLine {
 }
 
 // a line of more bytes is scanned before its JSON tree is built
-const PRESCAN_ABOVE: usize = 262_144;
+const PRESCAN_ABOVE: usize = 16_384;
 
-/// Parses a line. A line of more than 262,144 bytes is scanned before its JSON tree is built.
+/// Parses a line. A line of more than 16,384 bytes is scanned before its JSON tree is built.
 ///
 /// # Errors
 /// `Syntax` if it is not a JSON value, `Form` if the value is not a valid line, `NoMemory` if an allocation failed.

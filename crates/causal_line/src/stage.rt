@@ -3,6 +3,7 @@ ghost use Rattle.std.specs.Prelude.{◌≡◌, ◌≤◌, None, IfErr, IfSome, O
 ghost use Rattle.causal_line.specs.Returns.{Returns};
 ghost use Rattle.causal_line.specs.Refusals.{ReturnsLineRefusal, IsContextAt, IsContextOf};
 ghost use Rattle.causal_line.specs.Stages.{max_text_len, longest_text, open_text, apply_line, advance_stage};
+ghost use Rattle.causal_line.specs.Values.{parse_line};
 ghost use Rattle.causal_line.specs.Versions.{version_of};
 
 use crate::kind::TextKind;
@@ -193,4 +194,35 @@ pub fn advance_stage(
         Err(kind) => return Err(refusal_without_context(kind)),
     };
     apply_line(alloc, limits, stage, shape)
+}
+
+/// Applies the next line, which was parsed before its turn, as by another thread.
+///
+/// # Errors
+/// Those of [`advance_stage`].
+pub fn advance_parsed(
+    alloc: Global,
+    limits: Limits,
+    stage: Stage,
+    end: usize,
+    line: &[u8],
+    parsed: Result<ParsedLine, TextKind>,
+) -> Result<Stage, LineRefusal>
+    requires { Returns parsed (parse_line line.now) }
+    ensures value { ReturnsLineRefusal result (advance_stage limits.entries stage end line.now) }
+    ensures within { OnOk result (end ≤ max_text_len limits.entries) }
+    ensures few { OnOk result (end ≤ longest_text) }
+    ensures context { IfErr result (λ refused. IsContextAt stage line.now refused.context) }
+{
+    let _line = line;
+    if let Stage::Ended { .. } = &stage {
+        return Err(refusal_without_context(TextKind::After));
+    }
+    if end > max_text_len(limits) {
+        return Err(refusal_without_context(TextKind::Big));
+    }
+    match parsed {
+        Ok(parsed_line) => apply_line(alloc, limits, stage, parsed_line),
+        Err(kind) => Err(refusal_without_context(kind)),
+    }
 }
