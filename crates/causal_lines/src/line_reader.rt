@@ -3,9 +3,12 @@ ghost use Rattle.std.specs.Prelude.{◌≡◌, ◌≢◌, ◌+◌, ◌<◌, ◌�
 ghost use Rattle.causal_trace.specs.Rows.{Recording};
 ghost use Rattle.causal_lines.specs.ReadPositions.{start_position, position_after, finish_at, IsFaultFrom, HasRoomFor};
 ghost use Rattle.causal_line.specs.Refusals.{ReturnsTextRefusal, IsWithinText, IsContextAt};
+ghost use Rattle.causal_line.specs.Returns.{Returns};
+ghost use Rattle.causal_line.specs.Values.{parse_line};
 
 use causal_line::kind::{TextFault, TextKind};
-use causal_line::stage::{LineRefusal, Stage, advance_stage, max_text_len};
+use causal_line::parsed_line::ParsedLine;
+use causal_line::stage::{LineRefusal, Stage, advance_parsed, advance_stage, max_text_len};
 use causal_line::text_refusal::TextRefusal;
 use causal_line::trace_builder::TraceBuilder;
 use causal_trace::limits::Limits;
@@ -82,6 +85,42 @@ impl LineReader {
                     kind,
                 },
                 context: before,
+            }),
+        }
+    }
+
+    /// Reads the next line, which was parsed before its turn.
+    ///
+    /// # Errors
+    /// Those of `push_line`.
+    pub fn push_parsed_line(
+        self,
+        alloc: Global,
+        limits: Limits,
+        line: &[u8],
+        parsed: Result<ParsedLine, TextKind>,
+    ) -> Result<LineReader, TextRefusal>
+        requires some { 0 < length line.now }
+        requires parsed { Returns parsed (parse_line line.now) }
+        ensures value { ReturnsTextRefusal result (position_after limits.entries self line.now) }
+        ensures line { IfErr result (λ rejected. rejected.fault.line ≡ self.count + 1) }
+        ensures context { IfErr result
+            (λ rejected. IsContextAt self.stage line.now rejected.context) }
+    {
+        let LineReader { stage, count, size } = self;
+        let end = size.saturating_add(line.len());
+        match advance_parsed(alloc, limits, stage, end, line, parsed) {
+            Ok(stage) => Ok(LineReader {
+                stage,
+                count: count + 1,
+                size: end,
+            }),
+            Err(LineRefusal { kind, context }) => Err(TextRefusal {
+                fault: TextFault {
+                    line: count + 1,
+                    kind,
+                },
+                context,
             }),
         }
     }
