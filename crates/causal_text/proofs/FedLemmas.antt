@@ -1,5 +1,5 @@
 -- What a reader of pieces has read, under its own limits.
-use Rattle.std.proofs.Common.{arith, ◌≡◌, ◌≢◌, ℕ, List, ◌++◌, Ok, Option, Some, None, subst}
+use Rattle.std.proofs.Common.{arith, ◌≡◌, ◌≢◌, ◌+◌, ℕ, List, ◌++◌, Ok, Option, Some, None, subst}
 use Rattle.std.specs.Prelude.{IfSome}
 use Rattle.causal_trace.specs.Rows.{Recording}
 use Rattle.causal_line.specs.declared.kind.TextKind.TheVariants.{NoMemory}
@@ -12,7 +12,8 @@ use Rattle.causal_text.specs.Inside.PartialLines.{FitsLimit, IsFaultOfAll, finis
 use Rattle.causal_text.specs.Pieces.{PieceState, RepresentsBytes}
 use Rattle.causal_text.specs.Spelling.{SpellsWithin, IsReadAt}
 use Rattle.causal_text.specs.Streams.{HasReadWithin}
-use Rattle.causal_text.proofs.Feeds.{reading-ending}
+use Rattle.causal_text.proofs.BeforeLemmas.{kept_of_none}
+use Rattle.causal_text.proofs.Feeds.{IsReadAt-stands, reading-ending}
 use Rattle.causal_text.proofs.Spellings.{Spells-reading, IsFirstFault-reading}
 use Rattle.causal_text.proofs.StreamLemmas.{read_more}
 
@@ -40,3 +41,12 @@ fed_refusal n most h b bytes rejected same faulty at context =
 -- the bytes read spell the recording that the end of the text returns
 pub fed_spells : (n most : ℕ) (h : PieceState) (b : List ℕ) (r : Recording) → n ≡ most → finish_reading n h ≡ Ok r → HasReadWithin most (state.Reading h) b → SpellsWithin most b r
 fed_spells n most h b r same ends = grind (arith, Spells-reading, reading-ending)
+
+-- `NoMemory` at the line that is being read is a true refusal, whatever follows
+pub no_memory_refusal : (most : ℕ) (h : PieceState) (b : List ℕ) (rejected : TextRefusal) → rejected.fault.kind ≡ NoMemory → rejected.fault.line ≡ h.place.count + 1 → rejected.context ≡ None
+    → HasReadWithin most (state.Reading h) b → IsTrueRefusalAlways most b rejected
+no_memory_refusal most h b rejected wants at none s = λ more. record {
+  first = λ other. absurd (other wants);
+  memory = λ _. IsReadAt-stands most h b rejected.fault.line s.0 at more;
+  kept = context_at most b more rejected.fault.line rejected.context (kept_of_none most b rejected none);
+}

@@ -2,6 +2,7 @@ pub mod Lemmas
 mod BeforeLemmas
 mod Begun
 mod Canonicals
+mod ChunkLemmas
 mod Complete
 mod FedLemmas
 mod Feeds

@@ -50,13 +50,17 @@ max_piece = 4096
 abbrev pub IsUndecided : ℕ → List ℕ → Type 0
 IsUndecided most bytes = (held : PieceState) × HasReadWithin most (state.Reading held) bytes
 
--- the bytes consumed of a source decide nothing of its text, but for one last piece at most
-pub record StopsOnceDecided (most : ℕ) (old new : Option (List ℕ)) : Type 0 where
+-- the bytes consumed of a source decide nothing of its text, but for one last piece of at most `size` bytes
+pub record StopsWithin (most size : ℕ) (old new : Option (List ℕ)) : Type 0 where
   pub before : List ℕ
   pub piece : List ℕ
   pub consumed : Consumes old new (before ++ piece)
   pub undecided : IsUndecided most before
-  pub one_piece : length piece ≤ max_piece
+  pub one_piece : length piece ≤ size
+
+-- the bytes consumed of a source decide nothing of its text, but for one last piece at most
+abbrev pub StopsOnceDecided : ℕ → Option (List ℕ) → Option (List ℕ) → Type 0
+StopsOnceDecided most old new = StopsWithin most max_piece old new
 
 -- `More` follows a piece with bytes, `Ended` an empty piece
 abbrev pub HasPiece : Progress → List ℕ → Type 0

@@ -6,10 +6,13 @@ ghost use Rattle.causal_trace.specs.Rows.{Recording};
 ghost use Rattle.causal_text.specs.FaultContexts.{IsTrueRefusalWithin, IsTrueRefusalAlways};
 ghost use Rattle.causal_text.specs.Prefixes.{HasPrefixSpelling, SpellsSoFar, IsRefusedAt};
 ghost use Rattle.causal_text.specs.PushReaders.{HasReceived};
+ghost use Rattle.causal_text.specs.Inside.Chunks.{IsParsed};
 ghost use Rattle.causal_line.specs.Lines.{IsComplete, no_feed};
 ghost use Rattle.causal_text.specs.Spelling.{SpellsWithin};
 
+use crate::parsed_chunk::{ChunkLine, ParsedChunk};
 use crate::reader::PieceReader;
+use causal_line::kind::TextKind;
 use causal_line::text_refusal::TextRefusal;
 use causal_trace::limits::{DEFAULT_LIMITS, Limits};
 use causal_trace::trace::Trace;
@@ -137,6 +140,60 @@ impl PushReader {
             }),
             Err(rejected) => Err(rejected),
         }
+    }
+
+    // reads a complete line that was parsed before its turn
+    fn push_parsed_line(self, line: ChunkLine<'_>) -> Result<PushReader, TextRefusal>
+        requires { IsParsed line }
+        ensures ok { IfOk result (λ next. (most : ℕ) (b : List ℕ) → HasReceived most self b
+            → HasReceived most next (b ++ line.entry.bytes.now)) }
+        ensures err { IfErr result (λ rejected. (most : ℕ) (b : List ℕ) → HasReceived most self b
+            → IsRefusedAt most b line.entry.bytes.now rejected) }
+    {
+        let PushReader {
+            alloc,
+            limits,
+            pieces,
+        } = self;
+        match pieces.finish_parsed_line(alloc, limits, line) {
+            Ok(pieces) => Ok(PushReader {
+                alloc,
+                limits,
+                pieces,
+            }),
+            Err(rejected) => Err(rejected),
+        }
+    }
+
+    /// Reads the bytes of a chunk whose lines were parsed before. If a partial line is buffered, the chunk's first line
+    /// is its rest, and is parsed again with it.
+    ///
+    /// # Errors
+    /// Those of `feed`.
+    pub fn feed_parsed(self, chunk: ParsedChunk<'_>) -> Result<PushReader, TextRefusal>
+        ensures ok { IfOk result (λ next. (most : ℕ) (b : List ℕ) → HasReceived most self b
+            → HasReceived most next (b ++ chunk.entry)) }
+        ensures err { IfErr result (λ rejected. (most : ℕ) (b : List ℕ) → HasReceived most self b
+            → IsTrueRefusalAlways most (b ++ chunk.entry) rejected) }
+    {
+        let ParsedChunk { lines, rest } = chunk;
+        let mut reader = self;
+        for line in lines {
+            match reader.push_parsed_line(line) {
+                Ok(next) => reader = next,
+                Err(rejected) => return Err(rejected),
+            }
+        }
+        reader.feed(rest)
+    }
+
+    /// Returns `NoMemory` as the error of the line that is being read.
+    pub fn no_memory(&self) -> TextRefusal
+        ensures kind { result.fault.kind ≡ TextKind.NoMemory }
+        ensures refusal { (most : ℕ) (b : List ℕ) → HasReceived most self.now b
+            → IsTrueRefusalAlways most b result }
+    {
+        TextRefusal::without_context(self.pieces.no_memory())
     }
 
     /// Returns the trace of the complete lines; None before the header and after the end line.

@@ -4,6 +4,7 @@ ghost use Rattle.causal_trace.specs.Limits.{default_entries};
 ghost use Rattle.causal_trace.specs.Rows.{Recording};
 ghost use Rattle.causal_text.specs.FaultContexts.{HasTrueContextWithin};
 ghost use Rattle.causal_line.specs.Refusals.{ReturnsTextRefusal, IsWithinText, IsContextAt};
+ghost use Rattle.causal_text.specs.Inside.Chunks.{IsParsed};
 ghost use Rattle.causal_text.specs.Inside.Contexts.{HasTrueContextAlways};
 ghost use Rattle.causal_text.specs.Inside.LineByLine.{read_text};
 ghost use Rattle.causal_text.specs.Pieces.{RepresentsBytes};
@@ -11,6 +12,7 @@ ghost use Rattle.causal_text.specs.Streams.{HasNothingAfterEnd};
 ghost use Rattle.causal_text.specs.Inside.PartialLines.{IsFaultOfAll, with_line, IsLimitFault, finish_reading, FitsLimit};
 ghost use Rattle.causal_text.specs.Spelling.{Spells, SpellsWithin, IsFirstFault, IsFirstFaultWithin, IsReadUpTo, IsReadAt};
 
+use crate::parsed_chunk::ChunkLine;
 use causal_line::kind::{TextFault, TextKind};
 use causal_line::lines::split_complete;
 use causal_line::text_refusal::TextRefusal;
@@ -98,6 +100,35 @@ impl PieceReader {
         Ok(PieceReader {
             lines,
             partial_line: rest,
+        })
+    }
+
+    /// Reads the rest of a line, with its line feed, which was parsed as a line of its own: as far as it is one.
+    pub(crate) fn finish_parsed_line(
+        self,
+        alloc: Global,
+        limits: Limits,
+        line: ChunkLine<'_>,
+    ) -> Result<PieceReader, TextRefusal>
+        requires some { 0 < length line.bytes.now }
+        requires parsed { IsParsed line }
+        ensures value { ReturnsTextRefusal result (with_line limits.entries self line.entry.bytes.now) }
+        ensures line { IfErr result (λ rejected. rejected.fault.line ≡ self.place.count + 1) }
+        ensures before { IfErr result (λ rejected.
+            IsContextAt self.place.stage (self.rest ++ line.entry.bytes.now) rejected.context) }
+    {
+        let ChunkLine { bytes, parsed } = line;
+        if !self.partial_line.is_empty() {
+            return self.finish_line(alloc, limits, bytes);
+        }
+        let PieceReader {
+            lines,
+            partial_line,
+        } = self;
+        let lines = lines.push_parsed_line(alloc, limits, bytes, parsed)?;
+        Ok(PieceReader {
+            lines,
+            partial_line,
         })
     }
 

@@ -1,4 +1,3 @@
-use Rattle.std.proofs.Common.{arith}
 use Rattle.causal_text.proofs.Begun.{newly_begins}
 use Rattle.causal_text.proofs.Stops.{line_read, line_stops}
 use Rattle.causal_text.proofs.push_reader.PushReader.push_line.Goals as goal
