@@ -1,0 +1,76 @@
+-- More bytes of a text, part after part.
+use Rattle.std.proofs.Common.{arith, ◌≡◌, ◌≤◌, ◌*◌, ℕ, zero, suc, List, [], ◌++◌, length, take, drop, Result, Ok, Err, Option, Some, None, ap, sym, subst, ◌∙◌, append_assoc}
+use Rattle.std.specs.Prelude.{IfOk, IfErr, IfSome}
+use Rattle.std.specs.Io.KnownBytes.{Consumes, Keeps}
+use Rattle.std.proofs.Math.Seq.{take-append_seam}
+use Rattle.std.proofs.lemmas.List.{take-append-drop}
+use Rattle.std.proofs.KnownBytes.{Consumes-kept, Consumes-nil, Consumes-trans}
+use Rattle.causal_line.specs.declared.text_refusal.TextRefusal.{TextRefusal}
+use Rattle.causal_text.specs.FaultContexts.{IsTrueRefusalWithin, IsTrueRefusalAlways}
+use Rattle.causal_text.specs.PushReaders.{PushReaderState, HasReceived}
+use Rattle.causal_text.specs.Streams.{StopsWithin, StopsOnceDecided, max_piece}
+use Rattle.causal_reading.specs.Reads.{max_read}
+use Rattle.causal_reading.specs.Inside.Feeding.{IsFedBy}
+
+-- what `feed` and `feed_parsed` ensure of bytes
+pub fed_of : (reader : PushReaderState) (bytes : List ℕ) (r : Result PushReaderState TextRefusal) → IfOk r (λ next. (most : ℕ) (b : List ℕ) → HasReceived most reader b → HasReceived most next (b ++ bytes))
+    → IfErr r (λ refusal. (most : ℕ) (b : List ℕ) → HasReceived most reader b → IsTrueRefusalAlways most (b ++ bytes) refusal) → IsFedBy reader bytes r
+fed_of reader bytes (Ok next) ok err = ok
+fed_of reader bytes (Err refusal) ok err = err
+
+-- the bytes in front, and then the last ones
+pub fed_both : (first second : PushReaderState) (front last : List ℕ) (r : Result PushReaderState TextRefusal) → IsFedBy first front (Ok second) → IsFedBy second last r → IsFedBy first (front ++ last) r
+fed_both first second front last (Ok next) before then = λ most b s. subst (λ xs. HasReceived most next xs) (append_assoc b front last) (then most (b ++ front) (before most b s))
+fed_both first second front last (Err refusal) before then = λ most b s. subst (λ xs. IsTrueRefusalAlways most xs refusal) (append_assoc b front last) (then most (b ++ front) (before most b s))
+
+-- a refusal that is true whatever follows is true of more bytes
+refused_more : (most : ℕ) (b more : List ℕ) (refusal : TextRefusal) → IsTrueRefusalAlways most b refusal → IsTrueRefusalAlways most (b ++ more) refusal
+refused_more most b more refusal h rest = subst (λ text. IsTrueRefusalWithin most text refusal) (sym (append_assoc b more rest)) (h (more ++ rest))
+
+-- the bytes in front are refused
+pub fed_refused : (first : PushReaderState) (front last : List ℕ) (refusal : TextRefusal) → IsFedBy first front (Err refusal) → IsFedBy first (front ++ last) (Err refusal)
+fed_refused first front last refusal before = λ most b s. subst (λ xs. IsTrueRefusalAlways most xs refusal) (append_assoc b front last) (refused_more most (b ++ front) last refusal (before most b s))
+
+-- after the bytes in front, a refusal of them and whatever follows
+pub fed_stopped : (first second : PushReaderState) (front last : List ℕ) (refusal : TextRefusal) → IsFedBy first front (Ok second) → ((most : ℕ) (b : List ℕ) → HasReceived most second b → IsTrueRefusalAlways most b refusal)
+    → IsFedBy first (front ++ last) (Err refusal)
+fed_stopped first second front last refusal before stops = fed_refused first front last refusal (λ most b s. stops most (b ++ front) (before most b s))
+
+-- ---- the bytes of a source
+
+-- a buffer that was written over its whole length
+pub written_over : (size : ℕ) (bytes behind : List ℕ) → length bytes ≡ size → take size (bytes ++ behind) ≡ bytes
+written_over size bytes behind same = subst (λ (n : ℕ). take n (bytes ++ behind) ≡ bytes) same (take-append_seam bytes behind)
+
+-- a limit on one piece implies a greater one
+pub stops_wider : (most few many : ℕ) (old new : Option (List ℕ)) → few ≤ many → StopsWithin most few old new → StopsWithin most many old new
+stops_wider most few many old new wider s = record { before = s.before; piece = s.piece; consumed = s.consumed; undecided = s.undecided; one_piece = omega (arith, wider, s.one_piece) }
+
+-- several workers read 65,536 bytes for each
+pub max_read_many : (workers : ℕ) → 2 ≤ workers → max_read workers ≡ 65536 * workers
+max_read_many workers many = grind arith
+
+pub max_read_least : (workers : ℕ) → max_piece ≤ max_read workers
+max_read_least workers = grind arith
+
+-- the bytes read decide nothing, and one more piece was consumed
+pub piece_stops : (most size : ℕ) (old mid new : Option (List ℕ)) (read piece : List ℕ) (reader : PushReaderState) → Consumes old mid read → Consumes mid new piece → length piece ≤ size → HasReceived most reader read
+    → StopsWithin most size old new
+piece_stops most size old mid new read piece reader p q few s = record { before = read; piece = piece; consumed = Consumes-trans old mid new read piece p q; undecided = (reader.pieces, s.1); one_piece = few }
+
+-- the bytes read decide nothing, and no more were consumed
+pub failure_stops : (most size : ℕ) (old mid new : Option (List ℕ)) (read : List ℕ) (reader : PushReaderState) → Consumes old mid read → Keeps mid new → HasReceived most reader read → StopsWithin most size old new
+failure_stops most size old mid new read reader p q s = piece_stops most size old new new read [] reader (Consumes-kept old mid new read p q) (Consumes-nil new) (omega arith) s
+
+-- a property of all continuations of the bytes read is one of the source's bytes
+pub going_on : (old mid new : Option (List ℕ)) (read piece : List ℕ) (P : List ℕ → Type 0) → Consumes old mid read → Consumes mid new piece → ((more : List ℕ) → P ((read ++ piece) ++ more)) → IfSome old P
+going_on None mid new read piece P before last p = tt
+going_on (Some text) None new read piece P before last p = absurd before
+going_on (Some text) (Some rest) None read piece P before last p = absurd last
+going_on (Some text) (Some rest) (Some left) read piece P before last p = grind (arith, append_assoc read piece left)
+
+-- ---- a text in memory
+
+-- the text is what was read, the next piece and the rest
+pub cut_more : (text done left piece after : List ℕ) (n : ℕ) → text ≡ done ++ left → piece ≡ take n left → after ≡ drop n left → text ≡ (done ++ piece) ++ after
+cut_more text done left piece after n whole front back = grind (arith, take-append-drop n left, append_assoc done piece after)

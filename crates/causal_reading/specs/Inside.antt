@@ -1,0 +1,2 @@
+-- Definitions of private functions; no public contract uses them.
+pub mod Feeding

@@ -1,0 +1,101 @@
+//! More bytes of a text, cut into chunks that several workers parse.
+ghost use Rattle.std.specs.Prelude.{◌≡◌, ◌≤◌, ◌++◌, List, ℕ, IfOk, length};
+ghost use Rattle.causal_text.specs.PushReaders.{PushReaderState};
+ghost use Rattle.causal_reading.specs.Inside.Feeding.{IsFedBy};
+
+use causal_name::NoMemory;
+use causal_text::lines::split_complete;
+use causal_text::{ParsedChunk, PushReader, TextRefusal, parse_chunk};
+use std::alloc::Global;
+use std::thread::{Threads, join};
+
+/// A piece of at most this many bytes is not divided. So a text below 64 KB starts no thread: of its pieces, each as
+/// long as all before it and 4,096 bytes, none is longer.
+const UNDIVIDED: usize = 32_768;
+
+/// The least mean size of the chunks of a piece, in bytes.
+const CHUNK: usize = 8_192;
+
+/// Reads one more piece. Several workers parse it if it is long.
+pub(crate) fn feed_by<R: Threads>(
+    rt: &R,
+    alloc: Global,
+    reader: PushReader,
+    piece: &[u8],
+    workers: u32,
+) -> Result<PushReader, TextRefusal>
+    ensures { IsFedBy reader piece.now result }
+{
+    if piece.len() <= UNDIVIDED {
+        return feed_here(reader, piece);
+    }
+    let chunks = (piece.len() / CHUNK).min(workers as usize);
+    feed_chunks(rt, alloc, reader, piece, chunks)
+}
+
+/// Reads more bytes in the calling thread.
+fn feed_here(reader: PushReader, bytes: &[u8]) -> Result<PushReader, TextRefusal>
+    ensures { IsFedBy reader bytes.now result }
+{
+    reader.feed(bytes)
+}
+
+/// Reads more bytes, whose chunks are parsed at the same time: the last by a thread of its own, those before it in the
+/// same way, the first by the calling thread.
+#[cycle(chunks)]
+fn feed_chunks<R: Threads>(
+    rt: &R,
+    alloc: Global,
+    reader: PushReader,
+    bytes: &[u8],
+    chunks: usize,
+) -> Result<PushReader, TextRefusal>
+    ensures { IsFedBy reader bytes.now result }
+{
+    if chunks < 2 {
+        return feed_here(reader, bytes);
+    }
+    let (front, last) = split_lines(bytes, bytes.len() - bytes.len() / chunks);
+    if last.is_empty() {
+        return feed_chunks(rt, alloc, reader, bytes, chunks - 1);
+    }
+    let parse = move || -> Result<ParsedChunk<'_>, NoMemory>
+        ensures { IfOk result (λ chunk. chunk ≡ last.entry.now) }
+    { parse_chunk(alloc, last) };
+    let feed = move || -> Result<PushReader, TextRefusal>
+        requires { 2 ≤ chunks }
+        ensures { IsFedBy reader front.entry.now result }
+    { feed_chunks(rt, alloc, reader, front, chunks - 1) };
+    let (parsed, fed) = join(rt, parse, feed);
+    feed_after(fed, parsed)
+}
+
+/// Reads a parsed chunk after the bytes before it.
+fn feed_after(
+    fed: Result<PushReader, TextRefusal>,
+    parsed: Result<ParsedChunk<'_>, NoMemory>,
+) -> Result<PushReader, TextRefusal>
+    ensures { (reader : PushReaderState) (front last : List ℕ) → IsFedBy reader front fed
+        → IfOk parsed.entry (λ chunk. chunk ≡ last) → IsFedBy reader (front ++ last) result }
+{
+    let reader = match fed {
+        Ok(reader) => reader,
+        Err(refusal) => return Err(refusal),
+    };
+    match parsed {
+        Ok(chunk) => reader.feed_parsed(chunk),
+        Err(NoMemory) => Err(reader.no_memory()),
+    }
+}
+
+/// Splits bytes after the first line feed from index `at` on; the second part is empty if there is none.
+fn split_lines(bytes: &[u8], at: usize) -> (&[u8], &[u8])
+    requires { at ≤ length bytes.now }
+    ensures { bytes.now ≡ result.0.now ++ result.1.now }
+{
+    let (_, back) = bytes.split_at(at);
+    match split_complete(back) {
+        Some((_, after)) => bytes.split_at(bytes.len() - after.len()),
+        None => (bytes, &[]),
+    }
+}
