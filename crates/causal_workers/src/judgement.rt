@@ -7,7 +7,8 @@ ghost use Rattle.causal_workers.specs.Judgements.{IsJudgement, IsFaultOf};
 use crate::gate::Gate;
 use crate::parallel_audit::{AuditFault, audit};
 use causal_audit::Verdict;
-use causal_text::{TextFault, read_trace};
+use causal_reading::read_trace_by;
+use causal_text::TextFault;
 use causal_trace::trace::Trace;
 use std::alloc::Global;
 use std::sync::Wait;
@@ -53,8 +54,8 @@ impl From<AuditFault> for AuditTextFault {
     }
 }
 
-/// Returns the verdict for f on the trace that a text spells, by 1 to 64 workers. It is the same for every number of
-/// workers.
+/// Returns the verdict for f on the trace that a text spells, by 1 to 64 workers, who also parse its lines. It is the
+/// same for every number of workers.
 ///
 /// # Errors
 /// `Text` with the text's first error if it spells no trace, or of kind `NoMemory` if allocation fails during the
@@ -74,7 +75,7 @@ pub fn audit_text<G: Gate + Sync, R: Threads + Wait>(
     ensures err { IfErr result (IsFaultOf bytes.now) }
     ensures one_worker { result ≡ Err (AuditTextFault.Audit AuditFault.NoWorker) → 2 ≤ workers }
 {
-    let trace = read_trace(alloc, bytes)?;
+    let trace = read_trace_by(rt, alloc, bytes, workers)?;
     let judged = judge_trace(rt, alloc, &trace, f, workers, gate)?;
     Ok(judged)
 }
