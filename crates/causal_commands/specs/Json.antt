@@ -1,7 +1,8 @@
 -- What `audit` and `explain` write as JSON.
 -- `most` is the maximum number of entries of a trace.
 use Rattle.std.specs.Prelude.{◌≡◌, ℕ, ◌≤◌, List, Option, IfSome}
-use Rattle.causal_text.specs.Streams.{StopsOnceDecided}
+use Rattle.causal_text.specs.Streams.{StopsOnceDecided, StopsWithin}
+use Rattle.causal_reading.specs.Reads.{max_read}
 use Rattle.causal_workers.specs.Streaming.{StopsOnceJudged}
 use Rattle.causal_report.specs.Objects.{verdict_object, ranges_object}
 use Rattle.causal_commands.specs.declared.ended.Ended.{Ended}
@@ -34,6 +35,7 @@ HasFewWorkers question = (1 ≤ workers_of question) × (workers_of question ≤
 
 -- the bytes consumed of a source decide nothing of the question on its text, but for one last piece at most
 abbrev pub StopsFor : ℕ → Question → Option (List ℕ) → Option (List ℕ) → Type 0
+StopsFor most (Verdict faults workers) old new = StopsWithin most (max_read workers) old new
 StopsFor most (Breach faults workers) old new = StopsOnceJudged most faults old new
 StopsFor most _ old new = StopsOnceDecided most old new
 

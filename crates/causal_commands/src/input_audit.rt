@@ -2,10 +2,12 @@
 ghost use Rattle.std.specs.Prelude.{◌≡◌, ◌≢◌, ◌≤◌, ℕ, List, IfOk, IfErr, IfSome, Err};
 ghost use Rattle.causal_text.specs.FaultContexts.{IsTrueRefusalWithin, ExplainsReadErrorWithin};
 ghost use Rattle.causal_text.specs.Spelling.{SpellsWithin};
-ghost use Rattle.causal_text.specs.Streams.{StopsOnceDecided};
+ghost use Rattle.causal_text.specs.Streams.{StopsOnceDecided, StopsWithin};
+ghost use Rattle.causal_reading.specs.Reads.{max_read};
 ghost use Rattle.causal_workers.specs.Judgements.{IsJudgementWithin};
 ghost use Rattle.causal_commands.specs.Inside.Refusals.{ExplainsStreamRefusal};
 
+use causal_reading::read_by;
 use causal_text::{ReadError, TextKind, TextRefusal, read_within};
 use causal_trace::limits::Limits;
 use causal_trace::trace::Trace;
@@ -46,6 +48,29 @@ pub(crate) fn read_input<I: Read>(
     }
 }
 
+/// Reads the trace that the bytes of a reader spell, within the limits, by 1 to 64 workers, who parse its lines.
+fn read_input_by<I: Read, R: Threads>(
+    rt: &R,
+    alloc: Global,
+    input: &mut I,
+    limits: Limits,
+    workers: u32,
+) -> Result<Trace, StreamRefusal>
+    requires { (1 ≤ workers) × (workers ≤ 64) }
+    ensures ok { IfOk result (λ trace. IfSome (I.remaining input.old)
+        (λ text. SpellsWithin limits.entries text trace.recording)) }
+    ensures err { IfErr result (λ stopped. IfSome (I.remaining input.old)
+        (λ text. ExplainsStreamRefusal limits.entries text stopped)) }
+    ensures stops { StopsWithin limits.entries (max_read workers)
+        (I.remaining input.old) (I.remaining input.new) }
+    ensures never_no_worker { result ≢ Err StreamRefusal.NoWorker }
+{
+    match read_by(rt, alloc, input, limits, workers) {
+        Ok(trace) => Ok(trace),
+        Err(unread) => Err(from_read_error(unread)),
+    }
+}
+
 fn from_read_error(unread: ReadError) -> StreamRefusal
     ensures explains { (most : ℕ) (text : List ℕ) → ExplainsReadErrorWithin most text unread
         → ExplainsStreamRefusal most text result }
@@ -69,8 +94,8 @@ fn from_text_refusal(rejected: TextRefusal) -> StreamRefusal
 }
 
 /// Reads the trace that the bytes of a reader spell, within the limits, and returns its verdict for f, by 1 to 64
-/// workers. The reader is called for pieces of 4,096 bytes, until it ends or a piece has an error, which comes with its
-/// context. With one worker the error is never `NoWorker`.
+/// workers, who also parse its lines. The reader is called for pieces, as `read_by` does, until it ends or a piece has an
+/// error, which comes with its context. With one worker the error is never `NoWorker`.
 pub(crate) fn judge_input<I: Read, G: Gate + Sync, R: Threads + Wait>(
     rt: &R,
     alloc: Global,
@@ -85,11 +110,11 @@ pub(crate) fn judge_input<I: Read, G: Gate + Sync, R: Threads + Wait>(
         (λ text. IsJudgementWithin limits.entries text f judged)) }
     ensures err { IfErr result (λ stopped. IfSome (I.remaining input.old)
         (λ text. ExplainsStreamRefusal limits.entries text stopped)) }
-    ensures stops { StopsOnceDecided limits.entries
+    ensures stops { StopsWithin limits.entries (max_read workers)
         (I.remaining input.old) (I.remaining input.new) }
     ensures one_worker { result ≡ Err StreamRefusal.NoWorker → 2 ≤ workers }
 {
-    let trace = match read_input(alloc, input, limits) {
+    let trace = match read_input_by(rt, alloc, input, limits, workers) {
         Ok(trace) => trace,
         Err(stopped) => return Err(stopped),
     };

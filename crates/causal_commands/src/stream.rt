@@ -1,6 +1,7 @@
 //! The command `audit`, over any reader and writer.
 ghost use Rattle.std.specs.Prelude.{◌≡◌, ◌≤◌};
-ghost use Rattle.causal_text.specs.Streams.{StopsOnceDecided};
+ghost use Rattle.causal_text.specs.Streams.{StopsWithin};
+ghost use Rattle.causal_reading.specs.Reads.{max_read};
 ghost use Rattle.causal_trace.specs.Limits.{default_entries};
 ghost use Rattle.causal_commands.specs.Diagnostics.{IsDiagnosisFor};
 ghost use Rattle.causal_commands.specs.Streams.{WritesFor, WritesWithin};
@@ -28,7 +29,8 @@ pub struct Outcome<F> {
 /// verdict, or the text's first error. The ending reports a failure of the reader, the writer, an allocation or a
 /// thread start. With one worker it is never `NoWorker`.
 ///
-/// The text is read in pieces of 4,096 bytes, to its end or to the piece with its first error.
+/// The text is read in pieces, of 4,096 bytes with one worker and otherwise of at most 65,536 for each, to its end or to
+/// the piece with its first error.
 pub fn audit_stream<R: Threads + Wait, I: Read, O: Write, G: Gate + Sync>(
     rt: &R,
     alloc: Global,
@@ -41,7 +43,7 @@ pub fn audit_stream<R: Threads + Wait, I: Read, O: Write, G: Gate + Sync>(
     requires { (1 ≤ workers) × (workers ≤ 64) }
     ensures writes { WritesFor (I.remaining input.old) f result
         (O.contents output.old) (O.contents output.new) }
-    ensures stops { StopsOnceDecided default_entries
+    ensures stops { StopsWithin default_entries (max_read workers)
         (I.remaining input.old) (I.remaining input.new) }
     ensures one_worker { result ≡ Ended.NoWorker → 2 ≤ workers }
 {
@@ -64,7 +66,7 @@ pub fn answer_audit<R: Threads + Wait, I: Read, O: Write, G: Gate + Sync>(
     ensures writes { WritesWithin limits.entries (I.remaining input.old) f result.ended
         (O.contents output.old) (O.contents output.new) }
     ensures fault { IsDiagnosisFor limits.entries (I.remaining input.old) f result.fault }
-    ensures stops { StopsOnceDecided limits.entries
+    ensures stops { StopsWithin limits.entries (max_read workers)
         (I.remaining input.old) (I.remaining input.new) }
     ensures one_worker { result.ended ≡ Ended.NoWorker → 2 ≤ workers }
 {
