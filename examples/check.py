@@ -305,6 +305,12 @@ def wrong_progress(program):
 # Each has orphan.jsonl as its standard input. `clap` says what is wrong; an answer is the row of examples/README.md.
 USAGE = "error: "
 SAFE = b"accept f=0 entries=4 deliveries=2\n"
+UNKNOWN_WORKERS = """unexpected argument '--workers' found
+
+  tip: to pass '--workers' as a value, use '-- --workers'
+
+Usage: causal_tool explain [OPTIONS] [FILE]
+"""
 WORDS = [
     (["audit", "--faults", "0"], SAFE, "", 0),
     (["audit", "--faults=0"], SAFE, "", 0),
@@ -339,14 +345,17 @@ WORDS = [
     (["draw", "--faults", "0", "--entries", "3"], b"", "causal_tool draw: line 5: the trace would be too long\n", 2),
     (["audit", "--faults", "0", "--json", "--entries", "3"], b'{"verdict":"fault","line":5,"kind":"TooLong"}\n', "causal_tool audit: line 5: ", 2),
     (["audit", "--faults", "0", "--faults", "1"], b"", USAGE + "the argument '--faults <F>' cannot be used multiple times\n", 3),
-    (["audit", "--faults", "0", "trace.jsonl"], b"", USAGE + "unexpected argument 'trace.jsonl' found\n", 3),
-    (["explain", "--faults", "1", "--workers", "2"], b"", USAGE + "unexpected argument '--workers' found\n", 3),
+    (["audit", "--faults", "0", "trace.jsonl"], b"", "read fault\ncausal_tool audit: trace.jsonl: No such file or directory (os error 2)\n", 4),
+    (["audit", "--faults", "0", "-"], SAFE, "", 0),
+    (["audit", "--faults", "0", "--", "-"], SAFE, "", 0),
+    (["audit", "--faults", "0", "-", "trace.jsonl"], b"", USAGE + "unexpected argument 'trace.jsonl' found\n", 3),
+    (["explain", "--faults", "1", "--workers", "2"], b"", USAGE + UNKNOWN_WORKERS, 3),
     (["draw", "--faults", "1", "--json"], b"", USAGE + "unexpected argument '--json' found\n", 3),
     (["merge", "--json"], b"", USAGE + "unexpected argument '--json' found\n", 3),
-    (["merge", "run.log"], b"", USAGE + "unexpected argument 'run.log' found\n", 3),
+    (["merge", "run.log"], b"", "read fault\ncausal_tool merge: run.log: No such file or directory (os error 2)\n", 4),
     (["run", "--json"], b"", USAGE + "unexpected argument '--json' found\n", 3),
     (["run", "--faults", "1"], b"", USAGE + "unexpected argument '--faults' found\n", 3),
-    (["run", "script"], b"", USAGE + "unexpected argument 'script' found\n", 3),
+    (["run", "script"], b"", "read fault\ncausal_tool run: script: No such file or directory (os error 2)\n", 4),
     (["replay"], b"", USAGE + "unrecognized subcommand 'replay'\n", 3),
     ([b"\xff"], b"", USAGE + "the arguments are no UTF-8 text\n", 3),
     (["--version"], b"causal_tool 1.0.0\n", "", 0),
@@ -355,12 +364,12 @@ WORDS = [
 HELP = {
     ("--help",): "Audits recorded runs of processes that log their messages causally, and records such runs\n",
     ("help",): "Audits recorded runs of processes that log their messages causally, and records such runs\n",
-    ("audit", "--help"): "Audits the trace on standard input\n",
-    ("explain", "--help"): "Audits the trace on standard input, and tells why the verdict is so; or for which F it is safe\n",
-    ("draw", "--help"): "Audits the trace on standard input, and draws it with the verdict\n",
-    ("merge", "--help"): "Merges the recordings on standard input into one trace\n",
-    ("run", "--help"): "Runs the script on standard input and prints its trace\n",
-    ("help", "run"): "Runs the script on standard input and prints its trace\n",
+    ("audit", "--help"): "Audits a trace\n",
+    ("explain", "--help"): "Audits a trace, and tells why the verdict is so; or for which F it is safe\n",
+    ("draw", "--help"): "Audits a trace, and draws it with the verdict\n",
+    ("merge", "--help"): "Merges recordings into one trace\n",
+    ("run", "--help"): "Runs a script and prints its trace\n",
+    ("help", "run"): "Runs a script and prints its trace\n",
 }
 
 

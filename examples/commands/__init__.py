@@ -6,10 +6,10 @@ import merge_model
 import scripts as runtime
 import traces as auditor
 
-from . import breaches, faults, merges, pictures, reasons, scripts, verdicts
+from . import breaches, faults, files, helps, merges, pictures, reasons, scripts, verdicts
 from .row import difference
 
-MODULES = (verdicts, breaches, faults, reasons, pictures, scripts, merges)
+MODULES = (verdicts, breaches, faults, reasons, pictures, scripts, merges, files, helps)
 SHORT = 300_000  # bytes of a text that a plain model reads in no time
 
 
@@ -44,7 +44,7 @@ def merged(text):
 
 def modelled(row):
     """What a plain model answers to a row, where there is one."""
-    if len(row.text) > SHORT or row.seen is not bytes.decode or {"--entries", "--json"} & set(row.words):
+    if row.files is not None or len(row.text) > SHORT or row.seen is not bytes.decode or {"--entries", "--json"} & set(row.words):
         return None
     if row.words[0] == "audit":
         answered = auditor.audited_until_breach if "--until-breach" in row.words else auditor.audited

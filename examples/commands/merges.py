@@ -22,8 +22,22 @@ IN_ORDER = lines(
     '["trace",2,2]', '["send",0,1,0]', '["crash",0]', '["crash",1]', '["restart",0,[]]', '["restart",1,[]]', '["send",0,1,0]',
     '["deliver",1,5,0,[[0,0,1,0]]]', '["forget",1,[]]', '["end",8]',
 )
+# What is told where headers are missing: the processes that have none, if one header says how many there are.
 NO_HEADER = """causal_tool merge: line 3: some process has no header
+causal_tool merge: process 1 has no header
 causal_tool merge: a recording may be missing
+"""
+THREE_MISSING = """causal_tool merge: line 3: some process has no header
+causal_tool merge: process 0 has no header
+causal_tool merge: process 2 has no header
+causal_tool merge: process 4 has no header
+causal_tool merge: a recording may be missing
+"""
+NONE_KNOWN = """causal_tool merge: line 2: some process has no header
+causal_tool merge: a recording may be missing
+"""
+OTHER_RUN = """causal_tool merge: line 3: the header differs from the first one
+causal_tool merge: these may be recordings of two runs
 """
 TOO_LONG = "causal_tool merge: line 2: the trace would be too long\n"
 
@@ -109,6 +123,12 @@ def long_line(begin, unit, end):
     return lines(A, B) + begin + unit * (REPEATED // len(unit) + 1) + end
 
 
+def all_but(process):
+    """What is told where of 256 processes this one alone has a header, in line 1."""
+    missing = "".join(f"causal_tool merge: process {p} has no header\n" for p in range(256) if p != process)
+    return "causal_tool merge: line 2: some process has no header\n" + missing
+
+
 def torn(*numbers):
     return "".join(f"causal_tool merge: torn line={number}: passed over\n" for number in numbers)
 
@@ -130,6 +150,10 @@ def rows():
     for begin, unit in TORN:
         yield given(f"a long line that is cut, {begin}", "merge", long_line(begin, unit, ""), 0, trace(1, 2), said=torn(3))
     yield given("no header", "merge", lines(A) + '["send"', 2, "fault line=3 NoHeader\n", said=NO_HEADER)
+    yield given("of five processes two have headers", "merge", lines('["recording",3,1,5,7]', '["recording",1,1,5,7]'), 2, "fault line=3 NoHeader\n", said=THREE_MISSING)
+    yield given("one of 256 has a header", "merge", lines('["recording",255,1,256,7]'), 2, "fault line=2 NoHeader\n", said=all_but(255))
+    yield given("no recording at all", "merge", lines('["heard",0,1,1,2]'), 2, "fault line=2 NoHeader\n", said=NONE_KNOWN)
+    yield given("a recording of another run", "merge", lines(A, B, '["recording",0,1,2,8]'), 2, "fault line=3 Header\n", said=OTHER_RUN)
     # one byte too many is read, and no further one
     yield given("much too long", "merge", " " * (BYTES + 1 + 5_000), 2, "fault line=1 Big\n", left=5_000)
     yield given("as many events as asked for", "merge --entries 2", MESSAGE, 0, MERGED)

@@ -12,7 +12,7 @@ LONGEST = 120  # seconds for one answer
 class Row(typing.NamedTuple):
     """`out` is what is printed on standard output. Where `seen` is given, it is what that makes of it, as of a picture the lines that
     show the verdict. `said` is what standard error begins with, where it is empty nothing stands there, and `left` how many bytes of
-    the input are not read."""
+    the input are not read. `files` are the files that lie where the program runs, their texts by their names."""
 
     name: str
     words: tuple
@@ -22,6 +22,7 @@ class Row(typing.NamedTuple):
     seen: typing.Callable = bytes.decode
     said: str | None = None
     left: int | None = None
+    files: dict | None = None
 
 
 def given(name, command, text, status, out, **more):
@@ -36,11 +37,14 @@ def status_of(line):
 
 def difference(program, row):
     """What differs from a row as the program answers it, and nothing where it is right."""
-    with tempfile.TemporaryFile() as file:
+    with tempfile.TemporaryFile() as file, tempfile.TemporaryDirectory() as folder:
         file.write(row.text)
         file.seek(0)
+        for name, text in (row.files or {}).items():
+            with open(os.path.join(folder, name), "wb") as written:
+                written.write(text if isinstance(text, bytes) else text.encode())
         try:
-            ended = subprocess.run([program, *row.words], stdin=file, capture_output=True, timeout=LONGEST)
+            ended = subprocess.run([os.path.abspath(program), *row.words], stdin=file, capture_output=True, timeout=LONGEST, cwd=folder)
         except subprocess.TimeoutExpired:
             return f"no answer after {LONGEST} seconds"
         left = len(row.text) - os.lseek(file.fileno(), 0, os.SEEK_CUR)

@@ -1,5 +1,6 @@
 mod SafeAccepts
 mod Known
+pub mod Excerpts
 mod MergeLemmas
 mod PrintLemmas
 mod ReadLemmas

@@ -30,6 +30,6 @@ merged_whole most known old new m out bytes same p a =
 
 -- a proper prefix of the answer was appended
 pub merged_first : (most : ℕ) (known old new : Option (List ℕ)) (m : MergeOutcome) (out bytes : List ℕ) (n : ℕ) → bytes ≡ out → IsMergeFor most known m out → n < length bytes → Appends old new (take n bytes)
-    → WritesMergeFor most known (record { ended = WriteFault; torn = m.torn; fault = m.fault }) old new
+    → WritesMergeFor most known (record { ended = WriteFault; torn = m.torn; fault = m.fault; excerpt = m.excerpt }) old new
 merged_first most known old new m out bytes n same p some a =
     IfSome-weaker known _ _ (λ text is. (m.ended, out, n, is, subst (λ b. n < length b) same some, subst (λ b. Appends old new (take n b)) same a)) p

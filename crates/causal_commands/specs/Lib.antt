@@ -15,3 +15,5 @@ pub mod Runs
 pub mod Streams
 pub mod EarlyAnswers
 pub mod AnswerWrites
+pub mod Chains
+pub mod Excerpts

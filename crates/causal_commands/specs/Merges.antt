@@ -11,6 +11,7 @@ use Rattle.causal_merge.specs.declared.fault.MergeFault.{MergeFault}
 use Rattle.causal_commands.specs.declared.ended.Ended.{Ended}
 use Rattle.causal_commands.specs.declared.ended.Ended.TheVariants.{Merged, Faulted, ReadFault, WriteFault, NoMemory}
 use Rattle.causal_commands.specs.declared.merge_command.MergeOutcome.{MergeOutcome}
+use Rattle.causal_commands.specs.Excerpts.{excerpt}
 use Rattle.causal_commands.specs.Reading.{ReadsAtMost}
 
 -- the bytes that are read: at most one more than recorder files may have
@@ -50,6 +51,14 @@ WritesMerge most ended text torn told old new = (out : List ℕ) × IsMergeAnswe
 -- `WritesMerge` for an outcome and the bytes read from a reader, if its bytes are known
 abbrev pub WritesMergeFor : ℕ → Option (List ℕ) → MergeOutcome → Option (List ℕ) → Option (List ℕ) → Type 0
 WritesMergeFor most given m old new = IfSome given (λ text. WritesMerge most m.ended (bytes_read most text) m.torn.items m.fault old new)
+
+-- an outcome with an error has the first bytes of the error's line in this text
+abbrev pub HasExcerpt : List ℕ → MergeOutcome → Type 0
+HasExcerpt text m = IfSome m.fault (λ fault. m.excerpt.items ≡ excerpt text fault.line)
+
+-- `HasExcerpt` for the bytes read from a reader, if its bytes are known
+abbrev pub HasExcerptFor : ℕ → Option (List ℕ) → MergeOutcome → Type 0
+HasExcerptFor most given m = IfSome given (λ text. HasExcerpt (bytes_read most text) m)
 
 -- the reader advances by at most the bytes that are read of recorder files
 abbrev pub ReadsAtMostRecordings : ℕ → Option (List ℕ) → Option (List ℕ) → Type 0

@@ -1,8 +1,9 @@
 -- Why `run` writes no trace for the text of a script.
-use Rattle.std.specs.Prelude.{List, ℕ, Option, IfSome}
+use Rattle.std.specs.Prelude.{List, ℕ, Option, Some, None, IfSome}
 use Rattle.causal_script.specs.declared.script.Script.{Script}
 use Rattle.causal_script.specs.Spelling.{Spells, script_content}
 use Rattle.causal_script.specs.Faults.{IsFirstFault}
+use Rattle.causal_run.specs.declared.fault.RunFault.TheVariants as run_fault
 use Rattle.causal_run.specs.Runs.{ExplainsRunFault}
 use Rattle.causal_run.specs.ScriptProcesses.{IsStartOf}
 use Rattle.causal_commands.specs.Runs.{script_bytes_read}
@@ -18,3 +19,9 @@ IsReason text (Why.Run fault) = (script : Script) × Spells text (script_content
 -- the returned reason, if any, is true of the bytes read from a reader, if its bytes are known
 abbrev pub IsReasonFor : Option (List ℕ) → Option Reason → Type 0
 IsReasonFor given told = IfSome given (λ text. IfSome told (IsReason (script_bytes_read text)))
+
+-- the number of the line with the error or the refused command; None if the run failed for another reason
+abbrev pub line_of : Reason → Option ℕ
+line_of (Why.Script fault) = Some fault.line
+line_of (Why.Run (run_fault.Refused line fault)) = Some line
+line_of (Why.Run _) = None

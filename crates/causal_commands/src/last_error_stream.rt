@@ -17,6 +17,11 @@ impl<S: Drop> LastErrorStream<S> {
         }
     }
 
+    /// Returns the stream.
+    pub fn stream(&self) -> &S {
+        &self.stream
+    }
+
     /// Returns the error of the last call that failed; None if none has failed.
     pub fn error(&self) -> Option<Error> {
         self.error

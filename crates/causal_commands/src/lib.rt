@@ -9,7 +9,8 @@
 //! - [`answer_as_json`] writes an answer of `audit` or `explain` as one JSON object.
 //! - [`answer_merge`] is `merge`, and [`answer_script`] is `run`.
 //! - [`audit_stream`] is `audit` within the default limits, and returns the ending alone.
-//! - [`read_script`] reads a script's text; [`LastErrorStream`] keeps the error of a failed stream.
+//! - [`read_script`] reads a script's text; [`LastErrorStream`] keeps the error of a failed stream; a [`ChainedStream`] reads
+//!   streams one after the other.
 //! - [`audit_core`] audits what the runtime has recorded.
 #![tactic(auto)]
 
@@ -21,6 +22,8 @@ mod answer;
 pub mod diagnostic_texts;
 /// How a command ends: its exit status and its message.
 pub mod ended;
+/// The first bytes of a line, to be shown with an error.
+mod excerpt;
 /// Hints on invalid lines of a script.
 pub mod hint;
 /// The answers of `audit` and `explain` as one JSON object.
@@ -29,6 +32,8 @@ pub mod json;
 mod input_audit;
 /// The command `merge`.
 pub mod merge_command;
+/// Streams that are read one after the other.
+pub mod chained_stream;
 /// A stream that keeps its last error.
 pub mod last_error_stream;
 /// The bounds f for which a run is safe: `explain` without a bound.
@@ -47,6 +52,7 @@ pub mod stream;
 pub mod early_audit;
 
 pub use bounded_read::{MAX_SCRIPT_READ, ReadFault, read_script};
+pub use chained_stream::ChainedStream;
 pub use diagnostic::{DiagnosedFault, Diagnostic};
 pub use diagnostic_texts::diagnostic_text;
 pub use early_audit::answer_until_breach;

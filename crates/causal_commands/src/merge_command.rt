@@ -1,10 +1,11 @@
 //! The command `merge`, over any reader and writer.
 ghost use Rattle.std.specs.Prelude.{◌≡◌, [], None, IfOk, IfErr};
-ghost use Rattle.causal_commands.specs.Merges.{WritesMergeFor, ReadsAtMostRecordings};
+ghost use Rattle.causal_commands.specs.Merges.{WritesMergeFor, HasExcerpt, HasExcerptFor, ReadsAtMostRecordings};
 ghost use Rattle.causal_commands.specs.Inside.MergeOutcomes.{IsFaultOutcome, IsTraceOutcome, IsMerge, IsMergeFor, MergeWritesNothing};
 
 use crate::bounded_read::{ReadFault, read_at_most};
 use crate::ended::Ended;
+use crate::excerpt::line_excerpt;
 use causal_merge::{MergeFault, MergeKind, MergedTrace, fault_line, max_input_len, merge_within};
 use causal_text::{TextKind, text_of, write_whole};
 use causal_trace::limits::Limits;
@@ -20,6 +21,8 @@ pub struct MergeOutcome {
     pub torn: Vec<u32>,
     /// The first error of the recorder files, if its line was written or would have been.
     pub fault: Option<MergeFault>,
+    /// The first 80 bytes of the line of that error, without its line feed; empty if there is no error.
+    pub excerpt: Vec<u8>,
 }
 
 /// Reads the recorder files of all processes of one run within the limits, with their lines in any order, and writes
@@ -36,6 +39,7 @@ pub fn answer_merge<I: Read, O: Write>(
 ) -> MergeOutcome
     ensures writes { WritesMergeFor limits.entries (I.remaining input.old) result
         (O.contents output.old) (O.contents output.new) }
+    ensures excerpt { HasExcerptFor limits.entries (I.remaining input.old) result }
     ensures most { ReadsAtMostRecordings limits.entries (I.remaining input.old)
         (I.remaining input.new) }
 {
@@ -49,6 +53,7 @@ pub fn answer_merge<I: Read, O: Write>(
             ended: Ended::WriteFault,
             torn: merging.torn,
             fault: merging.fault,
+            excerpt: merging.excerpt,
         },
     }
 }
@@ -61,6 +66,7 @@ fn empty_outcome(alloc: Global, ended: Ended) -> MergeOutcome
         ended,
         torn: Vec::new(alloc),
         fault: None,
+        excerpt: Vec::new(alloc),
     }
 }
 
@@ -75,6 +81,8 @@ fn answer_from<I: Read>(alloc: Global, input: &mut I, limits: Limits) -> Result<
     ensures ok { IfOk result (λ answer. IsMergeFor limits.entries (I.remaining input.old)
         answer.merging answer.text.items) }
     ensures err { IfErr result MergeWritesNothing }
+    ensures excerpt { IfOk result
+        (λ answer. HasExcerptFor limits.entries (I.remaining input.old) answer.merging) }
     ensures most { ReadsAtMostRecordings limits.entries (I.remaining input.old)
         (I.remaining input.new) }
 {
@@ -89,16 +97,18 @@ fn answer_to(alloc: Global, text: &[u8], limits: Limits) -> Result<MergeAnswer, 
     ensures ok { IfOk result
         (λ answer. IsMerge limits.entries text.now answer.merging answer.text.items) }
     ensures err { IfErr result MergeWritesNothing }
+    ensures excerpt { IfOk result (λ answer. HasExcerpt text.now answer.merging) }
 {
     match merge_within(alloc, text, limits) {
         Ok(merged) => trace_answer(alloc, merged),
-        Err(fault) => fault_answer(alloc, fault),
+        Err(fault) => fault_answer(alloc, text, fault),
     }
 }
 
 fn trace_answer(alloc: Global, merged: MergedTrace) -> Result<MergeAnswer, Ended>
     ensures ok { IfOk result (λ answer. IsTraceOutcome merged answer.merging answer.text.items) }
     ensures err { IfErr result MergeWritesNothing }
+    ensures faultless { IfOk result (λ answer. answer.merging.fault ≡ None) }
 {
     let MergedTrace { trace, torn } = merged;
     let Ok(text) = text_of(alloc, &trace) else {
@@ -108,21 +118,30 @@ fn trace_answer(alloc: Global, merged: MergedTrace) -> Result<MergeAnswer, Ended
         ended: Ended::Merged,
         torn,
         fault: None,
+        excerpt: Vec::new(alloc),
     };
     Ok(MergeAnswer { merging, text })
 }
 
-fn fault_answer(alloc: Global, fault: MergeFault) -> Result<MergeAnswer, Ended>
+fn fault_answer(alloc: Global, input: &[u8], fault: MergeFault) -> Result<MergeAnswer, Ended>
     ensures ok { IfOk result (λ answer. IsFaultOutcome fault answer.merging answer.text.items) }
     ensures err { IfErr result MergeWritesNothing }
+    ensures excerpt { IfOk result (λ answer. HasExcerpt input.now answer.merging) }
 {
-    if fault.kind == MergeKind::Line(TextKind::NoMemory) {
+    if matches!(fault.kind, MergeKind::Line(TextKind::NoMemory)) {
         return Err(Ended::NoMemory);
     }
-    let Ok(text) = fault_line(alloc, &fault) else {
+    let (Ok(text), Ok(excerpt)) = (
+        fault_line(alloc, &fault),
+        line_excerpt(alloc, input, fault.line),
+    ) else {
         return Err(Ended::NoMemory);
     };
-    let mut merging = empty_outcome(alloc, Ended::Faulted);
-    merging.fault = Some(fault);
+    let merging = MergeOutcome {
+        ended: Ended::Faulted,
+        torn: Vec::new(alloc),
+        fault: Some(fault),
+        excerpt,
+    };
     Ok(MergeAnswer { merging, text })
 }

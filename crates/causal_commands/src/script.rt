@@ -28,6 +28,21 @@ pub enum Reason {
     Run(RunFault),
 }
 
+impl Reason {
+    ghost use Rattle.causal_commands.specs.Reasons.{line_of};
+
+    /// Returns the number of the line with the error or the refused command; None if the run failed for another reason.
+    pub fn line(self) -> Option<u32>
+        ensures { result ≡ line_of self }
+    {
+        match self {
+            Reason::Script(fault) => Some(fault.line),
+            Reason::Run(RunFault::Refused { line, .. }) => Some(line),
+            Reason::Run(_) => None,
+        }
+    }
+}
+
 /// Reads the text of a script, runs it and writes the trace of the run. If a command is refused or the text is not a
 /// valid script, it writes one line with that, and the outcome has the error or the refusal. The ending reports a failure
 /// of the reader, the writer or an allocation, and a shared runtime that could not be finished.

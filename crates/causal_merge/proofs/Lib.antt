@@ -1,4 +1,5 @@
 mod Looks
+pub mod MissingHeaders
 mod Outlines
 mod Prefixes
 mod SendLemmas

@@ -1,6 +1,8 @@
 -- The invariant after all lines, against the definitions on the text.
 use Rattle.std.proofs.Common.{◌≡◌, ℕ, ◌+◌, List, length, reverse, Option, Some, Ok, Err, IfSome, inl, inr, ap, ◌∙◌, subst, arith}
 use Rattle.std.proofs.lemmas.List.{length-reverse}
+use Rattle.std.specs.Ordering.{nat_cmp}
+use Rattle.std.specs.FinSet.{FinSet}
 use Rattle.causal_trace.specs.Limits.{IsProcessCount}
 use Rattle.causal_trace.specs.Rows.{Recording}
 use Rattle.causal_line.specs.Lines.{lines}
@@ -25,16 +27,16 @@ pub merges : (most : ℕ) (text : List ℕ) (g : ParsedFiles) (run : RunHeader) 
     → r.processes ≡ run.processes → merge_events_of most run.processes (reverse order) ≡ Ok r.past → MergesWithin most text r g.torn.items
 merges most text g run order r read whole ordered processes entries = grind arith
 
-missing_at : ℕ → MergeFault
-missing_at n = record { line = n + 1; kind = kind.NoHeader }
+missing_at : FinSet nat_cmp → ℕ → MergeFault
+missing_at missing n = record { line = n + 1; kind = kind.NoHeader missing }
 
 -- if a header is missing, that is the first error
-pub header_fault : (most : ℕ) (text : List ℕ) (g : ParsedFiles) (f : MergeFault) → HasRead most g (reverse (lines text)) → ((said : List RecorderLine) → IsParsed g said → LacksHeader said × (f ≡ record { line = length said + 1; kind = kind.NoHeader })) → IsFirstFaultWithin most text f
+pub header_fault : (most : ℕ) (text : List ℕ) (g : ParsedFiles) (f : MergeFault) → HasRead most g (reverse (lines text)) → ((said : List RecorderLine) → IsParsed g said → (missing : FinSet nat_cmp) × LacksHeader said missing × (f ≡ record { line = length said + 1; kind = kind.NoHeader missing })) → IsFirstFaultWithin most text f
 unfolding missing_at
 header_fault most text g f read lacks =
     let h = lacks read.0 read.2 in
     let count : length read.0 ≡ length (lines text) = reading-length most (reverse (lines text)) read.0 read.1 ∙ length-reverse (lines text) in
-    inr (inl (record { contents = read.0; parses = read.1; lacks = h.0; is = h.1 ∙ ap missing_at count }))
+    inr (inl (record { contents = read.0; parses = read.1; missing = h.0; lacks = h.1; is = h.2 ∙ ap (missing_at h.0) count }))
 
 -- if no header is missing, an error of the ordered events is the first
 pub event_fault : (most : ℕ) (text : List ℕ) (g : ParsedFiles) (run : RunHeader) (order : List EventAtLine) (f : MergeFault) → HasRead most g (reverse (lines text)) → ((said : List RecorderLine) → IsParsed g said → HasAllHeaders said run) → IsMergedOrder g.events.items order

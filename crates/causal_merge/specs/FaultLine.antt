@@ -11,7 +11,7 @@ named_line line name = codes "fault line=" ++ (decimal line ++ (codes " " ++ (na
 
 -- the line of an error of this kind
 abbrev pub kind_line : ℕ → MergeKind → List ℕ
-kind_line line kind.NoHeader = named_line line (codes "NoHeader")
+kind_line line (kind.NoHeader missing) = named_line line (codes "NoHeader")
 kind_line line kind.Twice = named_line line (codes "Twice")
 kind_line line (kind.Line k) = text.fault_line (record { line = line; kind = k })
 

@@ -19,6 +19,6 @@ line_hint _ = None
 
 -- the hint on a kind of error; None if its sentence is enough
 abbrev pub hint_of : MergeKind → Option (List ℕ)
-hint_of kind.NoHeader = Some (codes "a recording may be missing")
+hint_of (kind.NoHeader missing) = Some (codes "a recording may be missing")
 hint_of kind.Twice = Some (codes "a recording may stand twice, or a clock fell back at a restart")
 hint_of (kind.Line k) = line_hint k

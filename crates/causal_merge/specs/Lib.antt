@@ -7,5 +7,6 @@ pub mod EventMerge
 pub mod Merges
 pub mod FaultLine
 pub mod Hints
+pub mod Sentences
 pub mod Laws
 pub mod Inside

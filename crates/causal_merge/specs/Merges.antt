@@ -1,6 +1,8 @@
 -- The trace that recorder files merge into, or the first error of those that do not merge.
 -- `most` is the maximum number of entries of the trace. It determines the maximum size of the files.
 use Rattle.std.specs.Prelude.{◌≡◌, ℕ, ◌+◌, ◌⊎◌, List, length, reverse, Ok, Err}
+use Rattle.std.specs.Ordering.{nat_cmp}
+use Rattle.std.specs.FinSet.{FinSet}
 use Rattle.causal_trace.specs.Limits.{default_entries}
 use Rattle.causal_trace.specs.Rows.{Recording}
 use Rattle.causal_line.specs.Lines.{lines}
@@ -38,12 +40,13 @@ Merges text r torn = MergesWithin default_entries text r torn
 abbrev pub IsLineFault : ℕ → List ℕ → MergeFault → Type 0
 IsLineFault most text fault = read_all_lines most (reverse (lines text)) ≡ Err fault
 
--- no line has an error, and a header is missing; the error's line is the one after the last
+-- no line has an error, and headers are missing; the error's line is the one after the last
 pub record IsHeaderFault (most : ℕ) (text : List ℕ) (fault : MergeFault) : Type 0 where
   pub contents : List RecorderLine
   pub parses : ParsesTo most text contents
-  pub lacks : LacksHeader contents
-  pub is : fault ≡ record { line = length (lines text) + 1; kind = NoHeader }
+  pub missing : FinSet nat_cmp
+  pub lacks : LacksHeader contents missing
+  pub is : fault ≡ record { line = length (lines text) + 1; kind = NoHeader missing }
 
 -- no line has an error, no header is missing, and this is the error of the first event in the merge order that has one
 pub record IsEventFault (most : ℕ) (text : List ℕ) (fault : MergeFault) : Type 0 where

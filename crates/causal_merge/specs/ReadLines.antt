@@ -1,6 +1,9 @@
 -- The content of the lines read so far.
 -- Lists have the newest line first. Lines are numbered from 1, in the order of the input.
-use Rattle.std.specs.Prelude.{◌≡◌, ℕ, ◌+◌, ◌<◌, ◌==◌, ◌||◌, ◌⊎◌, Bool, true, false, List, [], ◌∷◌, ◌++◌, length, Option, Some, None}
+use Rattle.std.specs.Prelude.{◌≡◌, ℕ, ◌+◌, ◌<◌, ◌==◌, ◌||◌, ◌⊎◌, not, Bool, true, false, List, [], ◌∷◌, ◌++◌, length, Option, Some, None}
+use Rattle.std.specs.Ordering.{nat_cmp}
+use Rattle.std.specs.FinSet.{FinSet, empty}
+use Rattle.causal_holders.specs.Members.{HasMembers}
 use Rattle.causal_merge.specs.declared.event.RunHeader.{RunHeader}
 use Rattle.causal_merge.specs.declared.event.EventAtLine.{EventAtLine}
 use Rattle.causal_merge.specs.declared.event.RecorderLine.{RecorderLine}
@@ -40,14 +43,20 @@ pub record HasAllHeaders (said : List RecorderLine) (run : RunHeader) : Type 0 w
   pub first : run_in said ≡ Some run
   pub headers_seen : (p : ℕ) → p < run.processes → has_header said p ≡ true
 
--- a process of the run has no header
-pub record LacksHeaderOf (said : List RecorderLine) : Type 0 where
+-- a process of the run has no header; these are all that have none
+pub record LacksHeaderOf (said : List RecorderLine) (missing : FinSet nat_cmp) : Type 0 where
   pub run : RunHeader
   pub first : run_in said ≡ Some run
   pub process : ℕ
   pub within : process < run.processes
-  pub missing : has_header said process ≡ false
+  pub lacks : has_header said process ≡ false
+  pub all : HasMembers run.processes missing (λ p. not (has_header said p))
+
+-- there is no header, so that the processes of the run are not known
+pub record LacksRun (said : List RecorderLine) (missing : FinSet nat_cmp) : Type 0 where
+  pub none : run_in said ≡ None
+  pub unknown : missing ≡ empty
 
 -- a header is missing: there is none, or a process of the run has none
-abbrev pub LacksHeader : List RecorderLine → Type 0
-LacksHeader said = (run_in said ≡ None) ⊎ LacksHeaderOf said
+abbrev pub LacksHeader : List RecorderLine → FinSet nat_cmp → Type 0
+LacksHeader said missing = LacksRun said missing ⊎ LacksHeaderOf said missing

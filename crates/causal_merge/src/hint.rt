@@ -1,22 +1,43 @@
-//! Possible causes of an error of recorder files.
+//! The error messages of recorder files, and possible causes.
 ghost use Rattle.std.specs.Prelude.{◌≡◌, option_map};
 ghost use Rattle.causal_merge.specs.Hints.{hint_of, line_hint};
+ghost use Rattle.causal_merge.specs.Sentences.{line_sentence, sentence_of};
 
 use crate::fault::MergeKind;
 use causal_line::kind::TextKind;
 
 impl MergeKind {
+    /// Returns the error message of the kind.
+    pub fn sentence(self) -> &'static str
+        ensures { result.now ≡ sentence_of self }
+    {
+        match self {
+            MergeKind::NoHeader { .. } => "some process has no header",
+            MergeKind::Twice => "another line of this process has the same clock",
+            MergeKind::Line(kind) => line_sentence(kind),
+        }
+    }
+
     /// Returns a possible cause of an error of this kind, for people; None if its sentence is enough.
     pub fn hint(self) -> Option<&'static str>
         ensures { option_map (λ text. text.now) result ≡ hint_of self }
     {
         match self {
-            MergeKind::NoHeader => Some("a recording may be missing"),
+            MergeKind::NoHeader { .. } => Some("a recording may be missing"),
             MergeKind::Twice => Some(
                 "a recording may stand twice, or a clock fell back at a restart",
             ),
             MergeKind::Line(kind) => line_hint(kind),
         }
+    }
+}
+
+fn line_sentence(kind: TextKind) -> &'static str
+    ensures { result.now ≡ line_sentence kind }
+{
+    match kind {
+        TextKind::Header => "the header differs from the first one",
+        kind => kind.sentence(),
     }
 }
 

@@ -11,7 +11,7 @@ mod event;
 pub mod fault;
 /// The content of the lines read so far.
 mod parsed_files;
-/// Possible causes of an error.
+/// Error messages, and possible causes.
 mod hint;
 /// The maximum size of recorder files.
 pub mod limits;

@@ -1,5 +1,8 @@
 //! The content of the lines read so far, as the merge needs it.
-ghost use Rattle.std.specs.Prelude.{◌≡◌, ◌+◌, ◌<◌, ◌≤◌, ◌∷◌, ℕ, List, [], length, sum_by, slice_index_or, true, false, Ok, OnOk, IfOk, IfErr, IfSome, IfNone};
+ghost use Rattle.std.specs.Prelude.{◌≡◌, ◌+◌, ◌<◌, ◌≤◌, ◌∷◌, ℕ, List, [], length, sum_by, slice_index_or, true, false, Ok, OnOk, IfOk, IfErr, not};
+ghost use Rattle.std.specs.Ordering.{nat_cmp};
+ghost use Rattle.std.specs.FinSet.{FinSet};
+ghost use Rattle.causal_holders.specs.Members.{HasMembers};
 ghost use Rattle.causal_trace.specs.Limits.{IsProcessCount};
 ghost use Rattle.causal_line.specs.Returns.{IsFaultOrNoMemory};
 ghost use Rattle.causal_merge.specs.declared.event.RecorderLine.{RecorderLine};
@@ -10,24 +13,24 @@ ghost use Rattle.causal_merge.specs.Inside.ParsedFiles.{IsParsed, HasRead, IsFau
 use crate::event::{EventAtLine, RecorderLine, RunHeader};
 use crate::fault::{MergeFault, MergeKind};
 use crate::line_parser::next_line;
+use causal_holders::ByteSet;
 use causal_line::kind::TextKind;
 use causal_trace::limits::Limits;
 use std::alloc::Global;
 
-// the first of the n flags that is not set
-fn first_unset(headers_seen: &[bool; 256], n: u16) -> Option<usize>
+// those of the first n flags that are not set
+#[tactic(auto, using(crate::proofs::MissingHeaders::of_missing))]
+fn unset_among(headers_seen: &[bool; 256], n: u16) -> ByteSet
     requires { n ≤ 256 }
-    ensures some { IfSome result (λ p. (p < n) ×
-        (slice_index_or headers_seen.now p false ≡ false)) }
-    ensures none { IfNone result ((p : ℕ) → p < n →
-        slice_index_or headers_seen.now p false ≡ true) }
+    ensures { HasMembers n result (λ p. not (slice_index_or headers_seen.now p false)) }
 {
-    for p in 0..n as usize {
-        if !headers_seen[p] {
-            return Some(p);
+    let mut missing = ByteSet::none();
+    for p in 0..n {
+        if !headers_seen[p as usize] {
+            missing.insert(p as u8);
         }
     }
-    None
+    missing
 }
 
 /// The run of the first header, which processes have headers, the events in the order of the input, the numbers of the
@@ -145,18 +148,21 @@ impl ParsedFiles {
             (λ run. (said : List RecorderLine) → IsParsed self.now said →
             IsProcessCount run.processes) }
         ensures err { IfErr result (λ fault. (said : List RecorderLine) → IsParsed self.now said
-            → LacksHeader said × (fault ≡ record { line = length said + 1; kind = MergeKind.NoHeader })) }
+            → (missing : FinSet nat_cmp) × LacksHeader said missing
+            × (fault ≡ record { line = length said + 1; kind = MergeKind.NoHeader missing })) }
     {
-        let missing = MergeFault {
-            line: self.count + 1,
-            kind: MergeKind::NoHeader,
-        };
+        let line = self.count + 1;
         let Some(run) = self.run else {
-            return Err(missing);
+            let kind = MergeKind::NoHeader {
+                missing: ByteSet::none(),
+            };
+            return Err(MergeFault { line, kind });
         };
-        match first_unset(&self.headers_seen, run.processes) {
+        let missing = unset_among(&self.headers_seen, run.processes);
+        let kind = MergeKind::NoHeader { missing };
+        match missing.least() {
             None => Ok(run),
-            Some(_process) => Err(missing),
+            Some(_process) => Err(MergeFault { line, kind }),
         }
     }
 }

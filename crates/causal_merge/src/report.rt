@@ -22,7 +22,7 @@ pub fn fault_line(alloc: Global, fault: &MergeFault) -> Result<Vec<u8>, NoMemory
 {
     let line = fault.line;
     match fault.kind {
-        MergeKind::NoHeader => named_line(alloc, line, "NoHeader"),
+        MergeKind::NoHeader { .. } => named_line(alloc, line, "NoHeader"),
         MergeKind::Twice => named_line(alloc, line, "Twice"),
         MergeKind::Line(kind) => report::fault_line(alloc, &TextFault { line, kind }),
     }

@@ -1,6 +1,7 @@
 -- What the command line requests.
 use Rattle.std.specs.Prelude.{⊤}
 use Rattle.causal_commands.specs.Json.{HasFewWorkers}
+use Rattle.causal_tool.specs.declared.args.CommandLine.{CommandLine}
 use Rattle.causal_tool.specs.declared.args.Invocation.{Invocation}
 use Rattle.causal_tool.specs.declared.args.Invocation.TheVariants.{Trace}
 
@@ -8,3 +9,7 @@ use Rattle.causal_tool.specs.declared.args.Invocation.TheVariants.{Trace}
 abbrev pub HasWorkerCountInRange : Invocation → Type 0
 HasWorkerCountInRange (Trace question form limits) = HasFewWorkers question
 HasWorkerCountInRange _ = ⊤
+
+-- what a command line requests is within range
+abbrev pub AsksWithinRange : CommandLine → Type 0
+AsksWithinRange line = HasWorkerCountInRange line.asked

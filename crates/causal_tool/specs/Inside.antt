@@ -1,2 +1,3 @@
 -- Definitions for private contracts; no public contract cites them.
 pub mod Refusals
+pub mod Sources

@@ -2,7 +2,7 @@
 ghost use Rattle.std.specs.Prelude.{◌≡◌, Bool, IfOk, IfSome};
 ghost use Rattle.clap.specs.Values.{kind_of};
 ghost use Rattle.causal_tool.specs.Inside.Refusals.{exit_for_clap_error};
-ghost use Rattle.causal_tool.specs.Args.{HasWorkerCountInRange};
+ghost use Rattle.causal_tool.specs.Args.{HasWorkerCountInRange, AsksWithinRange};
 
 use crate::help_text::{ANSWERS, PICTURES, REASONS, RECORDINGS, SCRIPTS};
 use causal_commands::{Ended, Question};
@@ -19,6 +19,9 @@ const BAD_USAGE: u8 = 3;
 
 const ARGUMENTS_NOT_UTF8: &str =
     "error: the arguments are no UTF-8 text\n\nFor more information, try '--help'.";
+
+/// The usage of `explain`, none of whose options must be given.
+const EXPLAIN_USAGE: &str = "Usage: causal_tool explain [OPTIONS] [FILE]";
 
 /// How an answer is written.
 #[derive(Clone, Copy)]
@@ -51,6 +54,13 @@ pub(crate) enum Invocation {
     Run,
 }
 
+/// A command line: what it requests, and the files that it names; without one, standard input is read.
+#[derive(Drop)]
+pub(crate) struct CommandLine {
+    pub asked: Invocation,
+    pub files: Vec<String>,
+}
+
 /// Why no command is run.
 #[derive(Clone, Copy)]
 pub(crate) enum EarlyExit {
@@ -64,8 +74,8 @@ pub(crate) enum EarlyExit {
 /// Arguments that are not UTF-8 are bad usage, too.
 pub(crate) fn parse_command_line<R: Env + Print + Eprint + AllocGlobal>(
     rt: &R,
-) -> Result<Invocation, EarlyExit>
-    ensures { IfOk result HasWorkerCountInRange }
+) -> Result<CommandLine, EarlyExit>
+    ensures { IfOk result AsksWithinRange }
 {
     let words = match env::args(rt) {
         Ok(args) => args.collect::<Vec<String>>(rt.alloc()),
@@ -81,7 +91,7 @@ pub(crate) fn parse_command_line<R: Env + Print + Eprint + AllocGlobal>(
         return Err(EarlyExit::Ended(Ended::NoMemory));
     };
     match parse_args(rt.alloc(), words.as_slice()) {
-        Ok(Some(asked)) => Ok(asked),
+        Ok(Some(line)) => Ok(line),
         Ok(None) => Err(EarlyExit::Status(BAD_USAGE)),
         Err(error) => Err(print_clap_error(rt, error)),
     }
@@ -94,9 +104,29 @@ fn print_clap_error<R: Print + Eprint + AllocGlobal>(rt: &R, error: Error) -> Ea
     let kind = error.kind();
     let printed = match kind {
         ErrorKind::OutOfMemory => false,
+        ErrorKind::UnknownArgument => print_unknown_argument(rt, &error),
         _ => error.print(rt).is_ok(),
     };
     exit_for_clap_error(kind, printed)
+}
+
+/// Prints the message on an unknown argument, and returns whether it was written. `clap` shows an option of `explain` that was
+/// given as one that must be; the usage of the command replaces that.
+fn print_unknown_argument<R: Eprint + AllocGlobal>(rt: &R, error: &Error) -> bool {
+    let Ok(text) = format!(in rt.alloc(); "{error}") else {
+        return false;
+    };
+    for line in text.as_str().lines() {
+        let line = if line.starts_with("Usage: ") && line.contains(" explain ") {
+            EXPLAIN_USAGE
+        } else {
+            line
+        };
+        if rt.eprintln(line).is_err() {
+            return false;
+        }
+    }
+    true
 }
 
 /// Returns how the program ends after a message of `clap`, which was printed or not. Help that was requested must be
@@ -118,20 +148,45 @@ fn exit_for_clap_error(kind: ErrorKind, printed: bool) -> EarlyExit
 }
 
 /// Parses the arguments, the first of which is the program's name. None if they contain no command.
-fn parse_args<'a, S: AsStr>(alloc: Global, words: &'a [S]) -> Result<Option<Invocation>, Error>
-    ensures { IfOk result (λ asked. IfSome asked HasWorkerCountInRange) }
+fn parse_args<'a, S: AsStr>(alloc: Global, words: &'a [S]) -> Result<Option<CommandLine>, Error>
+    ensures { IfOk result (λ line. IfSome line AsksWithinRange) }
 {
     let matches = command_line(alloc)?.try_get_matches_from(words)?;
-    match matches.subcommand() {
-        Some(("audit", given)) => Ok(parse_audit(given)),
-        Some(("explain", given)) => Ok(Some(parse_explain(given))),
-        Some(("draw", given)) => Ok(parse_draw(given)),
-        Some(("merge", given)) => Ok(Some(Invocation::Merge {
-            limits: parse_limits(given),
+    let Some((name, given)) = matches.subcommand() else {
+        return Ok(None);
+    };
+    match parse_command(name, given) {
+        Some(asked) => Ok(Some(CommandLine {
+            asked,
+            files: parse_files(alloc, given)?,
         })),
-        Some(("run", _)) => Ok(Some(Invocation::Run)),
-        _ => Ok(None),
+        None => Ok(None),
     }
+}
+
+/// Returns what the command with this name requests.
+fn parse_command(name: &str, given: &ArgMatches) -> Option<Invocation>
+    ensures { IfSome result HasWorkerCountInRange }
+{
+    match name {
+        "audit" => parse_audit(given),
+        "explain" => Some(parse_explain(given)),
+        "draw" => parse_draw(given),
+        "merge" => Some(Invocation::Merge {
+            limits: parse_limits(given),
+        }),
+        "run" => Some(Invocation::Run),
+        _ => None,
+    }
+}
+
+/// Returns the names of the files in their order.
+fn parse_files(alloc: Global, given: &ArgMatches) -> Result<Vec<String>, AllocError> {
+    let mut files = Vec::new(alloc);
+    for name in given.get_strs("file").unwrap_or(&[]) {
+        files.push(String::from_str(alloc, name)?)?;
+    }
+    Ok(files)
 }
 
 fn parse_audit(given: &ArgMatches) -> Option<Invocation>
@@ -206,6 +261,10 @@ enum OptionKind {
     UntilBreach,
     /// The answer is JSON.
     Json,
+    /// The file that is read.
+    File,
+    /// The files that are read, one after the other.
+    Files,
 }
 
 /// A command, with the texts of its help and its options.
@@ -220,9 +279,10 @@ struct CommandSpec {
 const COMMANDS: [CommandSpec; 5] = [
     CommandSpec {
         name: "audit",
-        about: "Audits the trace on standard input",
+        about: "Audits a trace",
         help: ANSWERS,
         given: &[
+            OptionKind::File,
             OptionKind::Faults { is_required: true },
             OptionKind::Workers,
             OptionKind::Entries,
@@ -232,9 +292,10 @@ const COMMANDS: [CommandSpec; 5] = [
     },
     CommandSpec {
         name: "explain",
-        about: "Audits the trace on standard input, and tells why the verdict is so; or for which F it is safe",
+        about: "Audits a trace, and tells why the verdict is so; or for which F it is safe",
         help: REASONS,
         given: &[
+            OptionKind::File,
             OptionKind::Faults { is_required: false },
             OptionKind::Entries,
             OptionKind::Json,
@@ -242,24 +303,25 @@ const COMMANDS: [CommandSpec; 5] = [
     },
     CommandSpec {
         name: "draw",
-        about: "Audits the trace on standard input, and draws it with the verdict",
+        about: "Audits a trace, and draws it with the verdict",
         help: PICTURES,
         given: &[
+            OptionKind::File,
             OptionKind::Faults { is_required: true },
             OptionKind::Entries,
         ],
     },
     CommandSpec {
         name: "merge",
-        about: "Merges the recordings on standard input into one trace",
+        about: "Merges recordings into one trace",
         help: RECORDINGS,
-        given: &[OptionKind::Entries],
+        given: &[OptionKind::Files, OptionKind::Entries],
     },
     CommandSpec {
         name: "run",
-        about: "Runs the script on standard input and prints its trace",
+        about: "Runs a script and prints its trace",
         help: SCRIPTS,
-        given: &[],
+        given: &[OptionKind::File],
     },
 ];
 
@@ -307,6 +369,21 @@ fn flag<'a>(alloc: Global, name: &'static str, help: &'static str) -> Arg<'a> {
         .action(ArgAction::SetTrue)
 }
 
+/// Returns the argument that names the file that is read.
+fn file_argument<'a>(alloc: Global) -> Arg<'a> {
+    Arg::new(alloc, "file")
+        .value_name("FILE")
+        .help("The file that is read; -, or none, is standard input")
+}
+
+/// Returns the argument that names any number of files.
+fn files_argument<'a>(alloc: Global) -> Arg<'a> {
+    Arg::new(alloc, "file")
+        .value_name("FILE")
+        .help("The files that are read, one after the other; -, or none, is standard input")
+        .num_args(0..)
+}
+
 fn option<'a>(alloc: Global, given: OptionKind) -> Arg<'a> {
     match given {
         OptionKind::Faults { is_required } => faults(alloc, is_required),
@@ -318,6 +395,8 @@ fn option<'a>(alloc: Global, given: OptionKind) -> Arg<'a> {
             "Ends at the first breach found, without reading on",
         ),
         OptionKind::Json => flag(alloc, "json", "Answers with one JSON object"),
+        OptionKind::File => file_argument(alloc),
+        OptionKind::Files => files_argument(alloc),
     }
 }
 

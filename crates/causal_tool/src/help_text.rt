@@ -28,7 +28,7 @@ Exit status:
   5  memory or a thread was refused
 
 Example:
-  causal_tool audit --faults 1 < trace.jsonl";
+  causal_tool audit --faults 1 trace.jsonl";
 
 /// The help of `explain`.
 pub(crate) const REASONS: &str = "\
@@ -52,7 +52,7 @@ With --json the same as one JSON object, but for the sentences behind the colons
 Exit status: as that of `audit`; without --faults 0 for each trace
 
 Example:
-  causal_tool explain --faults 1 < trace.jsonl";
+  causal_tool explain --faults 1 trace.jsonl";
 
 /// The help of `draw`.
 pub(crate) const PICTURES: &str = "\
@@ -66,11 +66,11 @@ Answers on standard output:
 Exit status: as that of `audit`
 
 Example:
-  causal_tool draw --faults 1 < trace.jsonl > picture.svg";
+  causal_tool draw --faults 1 trace.jsonl > picture.svg";
 
 /// The help of `merge`.
 pub(crate) const RECORDINGS: &str = "\
-Reads the recordings of all processes of one run on standard input, their lines in any order.
+Reads the recordings of all processes of one run, their lines in any order.
 A line is one JSON array:
   [\"recording\",P,1,N,RUN]               the header of process P, of N processes
   [\"send\",P,C,Q,SSN]                    P sends to Q
@@ -85,9 +85,10 @@ C is P's clock, which ascends with each line; DET is [SOURCE,SSN,RECEIVER,RSN].
 Answers on standard output:
   the trace, its entries ascending by clock, then process
   fault line=L KIND
-      the recordings make no trace: their first fault is at line L of the input
+      the recordings make no trace: their first fault is at line L, counted over all files
 
-Standard error tells each line that a kill has cut, which is passed over, and what a fault means.
+Standard error tells each line that a kill has cut, which is passed over, and what a fault means;
+it names FILE:LINE.
 
 Exit status:
   0  the trace was printed
@@ -97,11 +98,11 @@ Exit status:
   5  memory was refused
 
 Example:
-  cat run/*.log | causal_tool merge | causal_tool audit --faults 1";
+  causal_tool merge run/*.log | causal_tool audit --faults 1";
 
 /// The help of `run`.
 pub(crate) const SCRIPTS: &str = "\
-A script is lines on standard input, the first of which starts the run:
+A script is lines, the first of which starts the run:
   start ring 3 1 2
   deliver 1 0 0
   crash 1
@@ -137,4 +138,4 @@ Exit status:
   5  memory was refused, or the run could not be finished
 
 Example:
-  causal_tool run < script | causal_tool audit --faults 1";
+  causal_tool run script | causal_tool audit --faults 1";

@@ -1,4 +1,4 @@
-//! Audits or draws the recorded run, merges the recorder files, or runs the script on standard input.
+//! Audits or draws a recorded run, merges recorder files, or runs a script: of files, or on standard input.
 //!
 //! The commands are calls of `causal_commands`, over any reader and any writer. Their contracts are what the program
 //! guarantees.
@@ -8,43 +8,48 @@
 //! - [`answer_as_json`] is `audit` and `explain` with `--json`.
 //! - [`answer_merge`] is `merge`, and [`answer_script`] is `run`.
 //!
-//! [`parse_command_line`] parses the command line. `main` adds the standard streams, the exit status, and the name of the
-//! command before each line on standard error.
+//! [`parse_command_line`] parses the command line, [`open_sources`] opens what it names, and [`run_command`] runs the command.
+//! `main` adds the standard streams, the exit status, and the name of the command before each line on standard error.
 #![tactic(auto)]
 
 ghost use Rattle.std.specs.Prelude.{◌≡◌};
 ghost use Rattle.std.specs.Process.{exit_status};
 ghost use Rattle.causal_commands.specs.Endings.{status_of};
-ghost use Rattle.causal_commands.specs.Json.{HasFewWorkers};
-ghost use Rattle.causal_tool.specs.Args.{HasWorkerCountInRange};
+ghost use Rattle.causal_tool.specs.Commands.{ended_of};
 
-/// The help of each command after its options.
-mod help_text;
-/// Messages on recorder files for standard error.
-mod merge_diagnostics;
-/// A stream that prints the progress of a long read on a terminal.
-mod progress;
 /// The command line.
 mod args;
+/// Messages on the input of a command, for standard error.
+mod diagnostics;
+/// The help of each command after its options.
+mod help_text;
+/// What standard error adds to the message of an error.
+mod hints;
+/// Messages on recorder files for standard error.
+mod merge_diagnostics;
+/// The place of a line of the input.
+mod place;
+/// A stream that prints the progress of a long read on a terminal.
+mod progress;
+/// Runs the command of a command line.
+mod run;
+/// The shapes of lines, as messages show them.
+mod shapes;
+/// What a command line names: files, and standard input.
+mod source;
+/// A stream that counts its lines and keeps what was read last.
+mod tracked_stream;
 
-use crate::args::{EarlyExit, Form, Invocation, parse_command_line};
-use crate::merge_diagnostics::print_merge_outcome;
+use crate::args::{CommandLine, EarlyExit, Invocation, parse_command_line};
+use crate::diagnostics::{print_diagnostics, print_error_line};
+use crate::place::{InputNames, file_name};
 use crate::progress::ProgressStream;
+use crate::run::{CommandOutcome, run_command};
+use crate::source::{OpenFault, is_standard_input, open_sources};
 pub use causal_commands::audit_stream;
-use causal_commands::{
-    DiagnosedFault, Ended, LastErrorStream, Outcome, Question, Reason, View, answer_as_json,
-    answer_audit, answer_merge, answer_range, answer_script, answer_until_breach, answer_view,
-    diagnostic_text, hint_of,
-};
-use causal_trace::limits::Limits;
-use causal_workers::OpenGate;
-use std::fmt::Display;
-use std::io::{self, ErrorKind, IsTerminal, Read, Write};
+use causal_commands::{Ended, LastErrorStream, Question};
+use std::io::{self, ErrorKind, IsTerminal};
 use std::process::ExitCode;
-use std::random::RandomSource;
-use std::rt::Env;
-use std::sync::Wait;
-use std::thread::Threads;
 
 /// Returns the prefix of each line on standard error.
 fn name_of(asked: Invocation) -> &'static str {
@@ -60,14 +65,10 @@ fn name_of(asked: Invocation) -> &'static str {
     }
 }
 
-/// Prints a message as one line on standard error, if it can be written.
-pub(crate) fn print_error_line<R: Eprint, D: Display>(rt: &R, command: &str, said: &D) {
-    let _ = eprintln!(rt; "{command}: {said}");
-}
-
 /// Prints what is read, if it has to be typed at a terminal.
-fn prompt(rt: &HostRuntime, asked: Invocation) {
-    if !rt.stdin().is_terminal() {
+fn prompt(rt: &HostRuntime, asked: Invocation, files: &[String]) {
+    let is_typed = files.is_empty() || files.iter().any(|name| is_standard_input(name.as_str()));
+    if !is_typed || !rt.stdin().is_terminal() {
         return;
     }
     let what = match asked {
@@ -79,134 +80,29 @@ fn prompt(rt: &HostRuntime, asked: Invocation) {
     let _ = eprintln!(rt; "{command}: reading {what} from the terminal; end it with control-D");
 }
 
-/// Prints the diagnostic of an invalid trace, and returns the ending.
-fn print_outcome<R: Eprint + AllocGlobal>(
-    rt: &R,
+/// Prints why no answer was written whole, if so, with the name of the file that failed. It prints nothing if the answer's
+/// reader closed the pipe.
+fn print_ending(
+    rt: &HostRuntime,
     command: &str,
-    f: u16,
-    told: Outcome<DiagnosedFault>,
-) -> Ended
-    ensures { result ≡ told.ended }
-{
-    let Outcome { ended, fault } = told;
-    print_diagnostic(rt, command, f, fault);
-    ended
-}
-
-fn print_diagnostic<R: Eprint + AllocGlobal>(
-    rt: &R,
-    command: &str,
-    f: u16,
-    fault: Option<DiagnosedFault>,
+    ended: Ended,
+    file: Option<&str>,
+    reason: Option<io::Error>,
 ) {
-    let Some(refusal) = fault else {
-        return;
-    };
-    let Ok(bytes) = diagnostic_text(rt.alloc(), command, f, &refusal) else {
-        return;
-    };
-    if let Ok(text) = String::from_utf8_lossy(rt.alloc(), bytes.as_slice()) {
-        let _ = rt.eprint(text);
-    }
-}
-
-/// Prints why a script was not run to its end, and returns the ending.
-fn print_script_outcome<R: Eprint>(rt: &R, command: &str, told: Outcome<Reason>) -> Ended
-    ensures { result ≡ told.ended }
-{
-    if let Some(reason) = told.fault {
-        print_error_line(rt, command, &reason);
-        if let Some(hint) = hint_of(reason) {
-            print_error_line(rt, command, &hint);
-        }
-    }
-    told.ended
-}
-
-/// Answers a question on a trace within the limits.
-fn answer_question<R: Threads + Wait + AllocGlobal, I: Read, O: Write>(
-    rt: &R,
-    input: &mut I,
-    output: &mut O,
-    limits: Limits,
-    question: Question,
-    form: Form,
-) -> Outcome<DiagnosedFault>
-    requires { HasFewWorkers question }
-{
-    let alloc = rt.alloc();
-    match (form, question) {
-        (Form::Json, _) => answer_as_json(rt, alloc, input, output, limits, question),
-        (Form::Lines, Question::Verdict { faults, workers }) => {
-            answer_audit(rt, alloc, input, output, limits, faults, workers, &OpenGate)
-        }
-        (Form::Lines, Question::Breach { faults, workers }) => {
-            answer_until_breach(rt, alloc, input, output, limits, faults, workers, &OpenGate)
-        }
-        (Form::Lines, Question::Reason { faults }) => {
-            answer_view(rt, alloc, input, output, limits, faults, View::Reason)
-        }
-        (Form::Lines, Question::Range) => answer_range(alloc, input, output, limits),
-    }
-}
-
-/// Returns a seed from the system's random source, or 0 if that fails: only costs depend on it.
-fn random_seed<R: RandomSource>(rt: &R) -> u64 {
-    let mut bytes = [0; 8];
-    match rt.fill_bytes(&mut bytes) {
-        Ok(()) => u64::from_le_bytes(bytes),
-        Err(_) => 0,
-    }
-}
-
-/// Runs the command, and prints the diagnostic of an invalid input.
-fn run_command<R: Threads + Wait + Eprint + AllocGlobal + RandomSource, I: Read, O: Write>(
-    rt: &R,
-    asked: Invocation,
-    input: &mut I,
-    output: &mut O,
-) -> Ended
-    requires { HasWorkerCountInRange asked }
-{
-    let (alloc, command) = (rt.alloc(), name_of(asked));
-    match asked {
-        Invocation::Trace {
-            question,
-            form,
-            limits,
-        } => {
-            let told = answer_question(rt, input, output, limits, question, form);
-            print_outcome(rt, command, question.faults(), told)
-        }
-        Invocation::Draw { faults, limits } => {
-            let told = answer_view(rt, alloc, input, output, limits, faults, View::Picture);
-            print_outcome(rt, command, faults, told)
-        }
-        Invocation::Merge { limits } => {
-            let told = answer_merge(alloc, input, output, limits);
-            print_merge_outcome(rt, command, told)
-        }
-        Invocation::Run => {
-            let told = answer_script(rt, alloc, input, output, random_seed(rt));
-            print_script_outcome(rt, command, told)
-        }
-    }
-}
-
-/// Prints why no answer was written whole, if so. It prints nothing if the answer's reader closed the pipe.
-fn print_ending(rt: &HostRuntime, command: &str, ended: Ended, reason: Option<io::Error>) {
     let Some(text) = ended.text() else {
         return;
     };
-    match reason {
-        Some(error) if error.kind() == ErrorKind::BrokenPipe => {}
-        Some(error) => {
-            let _ = rt.eprintln(text);
-            print_error_line(rt, command, &error);
+    let is_closed = matches!(&reason, Some(error) if error.kind() == ErrorKind::BrokenPipe);
+    if is_closed {
+        return;
+    }
+    let _ = rt.eprintln(text);
+    match (reason, file) {
+        (Some(error), Some(file)) => {
+            let _ = eprintln!(rt; "{command}: {file}: {error}");
         }
-        None => {
-            let _ = rt.eprintln(text);
-        }
+        (Some(error), None) => print_error_line(rt, command, &error),
+        (None, _) => {}
     }
 }
 
@@ -216,26 +112,69 @@ fn exit_code_of(ended: Ended) -> ExitCode
     ExitCode::from(ended.status())
 }
 
-fn main(rt: HostRuntime) -> ExitCode {
-    let asked = match parse_command_line(&rt) {
-        Ok(asked) => asked,
-        Err(EarlyExit::Status(exit_code_of)) => return ExitCode::from(exit_code_of),
-        Err(EarlyExit::Ended(ended)) => {
-            print_ending(&rt, "causal_tool", ended, None);
-            return exit_code_of(ended);
+/// Prints why a file was not opened, and returns the exit code.
+fn exit_unopened(rt: &HostRuntime, command: &str, files: &[String], fault: OpenFault) -> ExitCode {
+    match fault {
+        OpenFault::Refused { file, error } => {
+            let name = file_name(files, file);
+            print_ending(rt, command, Ended::ReadFault, name, Some(error));
+            exit_code_of(Ended::ReadFault)
         }
+        OpenFault::NoMemory => {
+            print_ending(rt, command, Ended::NoMemory, None, None);
+            exit_code_of(Ended::NoMemory)
+        }
+    }
+}
+
+/// Prints the diagnostics of the outcome, and why no answer was written whole, if so; returns the exit code.
+fn exit_after<S: Drop>(
+    rt: &HostRuntime,
+    command: &str,
+    input: &InputNames<'_, S>,
+    outcome: CommandOutcome,
+    read_error: Option<io::Error>,
+    write_error: Option<io::Error>,
+) -> ExitCode
+    ensures { exit_status result ≡ status_of (ended_of outcome) }
+{
+    let ended = print_diagnostics(rt, command, input, outcome);
+    let (file, reason) = match ended {
+        Ended::ReadFault => (input.present_file(), read_error),
+        Ended::WriteFault => (None, write_error),
+        _ => (None, None),
     };
-    prompt(&rt, asked);
+    print_ending(rt, command, ended, file, reason);
+    exit_code_of(ended)
+}
+
+/// Prints why no command is run, and returns the exit code.
+fn exit_early(rt: &HostRuntime, exit: EarlyExit) -> ExitCode {
+    match exit {
+        EarlyExit::Status(status) => ExitCode::from(status),
+        EarlyExit::Ended(ended) => {
+            print_ending(rt, "causal_tool", ended, None, None);
+            exit_code_of(ended)
+        }
+    }
+}
+
+fn main(rt: HostRuntime) -> ExitCode {
+    let CommandLine { asked, files } = match parse_command_line(&rt) {
+        Ok(line) => line,
+        Err(exit) => return exit_early(&rt, exit),
+    };
+    let command = name_of(asked);
+    let sources = match open_sources(&rt, rt.alloc(), files.as_slice()) {
+        Ok(sources) => sources,
+        Err(fault) => return exit_unopened(&rt, command, files.as_slice(), fault),
+    };
+    prompt(&rt, asked, files.as_slice());
     let is_watched = rt.stderr().is_terminal();
-    let reader = ProgressStream::new(rt, name_of(asked), rt.reader(), is_watched);
+    let reader = ProgressStream::new(rt, command, sources, is_watched);
     let mut input = LastErrorStream::new(reader);
     let mut output = LastErrorStream::new(io::writer(&rt));
-    let ended = run_command(&rt, asked, &mut input, &mut output);
-    let reason = match ended {
-        Ended::ReadFault => input.error(),
-        Ended::WriteFault => output.error(),
-        _ => None,
-    };
-    print_ending(&rt, name_of(asked), ended, reason);
-    exit_code_of(ended)
+    let outcome = run_command(&rt, asked, &mut input, &mut output);
+    let names = InputNames::new(files.as_slice(), input.stream().stream());
+    exit_after(&rt, command, &names, outcome, input.error(), output.error())
 }

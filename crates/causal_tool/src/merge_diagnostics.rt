@@ -1,27 +1,49 @@
 //! Messages on recorder files for standard error.
 ghost use Rattle.std.specs.Prelude.{◌≡◌};
 
-use crate::print_error_line;
+use crate::diagnostics::{print_at_line, print_error_line};
+use crate::hints::{Content, print_hints};
+use crate::place::InputNames;
 use causal_commands::{Ended, MergeOutcome};
-use causal_merge::MergeFault;
+use causal_merge::{MergeFault, MergeKind};
 
 // maximum number of torn lines that are printed one by one
 const MAX_TORN_PRINTED: usize = 1000;
 
 /// Prints the torn lines, which a kill cut short, or the error of the recorder files with its possible cause. It
 /// returns the ending.
-pub(crate) fn print_merge_outcome<R: Eprint>(rt: &R, command: &str, told: MergeOutcome) -> Ended
+pub(crate) fn print_merge_diagnostics<R: Eprint + AllocGlobal, S: Drop>(
+    rt: &R,
+    command: &str,
+    input: &InputNames<'_, S>,
+    told: MergeOutcome,
+) -> Ended
     ensures { result ≡ told.ended }
 {
-    let MergeOutcome { ended, torn, fault } = told;
-    print_torn_lines(rt, command, torn.as_slice());
-    print_merge_fault(rt, command, fault);
+    let MergeOutcome {
+        ended,
+        torn,
+        fault,
+        excerpt,
+    } = told;
+    print_torn_lines(rt, command, input, torn.as_slice());
+    if let Some(fault) = fault {
+        print_merge_fault(rt, command, input, fault, excerpt.as_slice());
+    }
     ended
 }
 
-fn print_torn_lines<R: Eprint>(rt: &R, command: &str, torn: &[u32]) {
+fn print_torn_lines<R: Eprint, S: Drop>(
+    rt: &R,
+    command: &str,
+    input: &InputNames<'_, S>,
+    torn: &[u32],
+) {
     for line in torn.iter().take(MAX_TORN_PRINTED) {
-        let _ = eprintln!(rt; "{command}: torn line={line}: passed over");
+        let _ = match input.file_label(*line) {
+            Some(label) => eprintln!(rt; "{command}: {label}: torn line={line}: passed over"),
+            None => eprintln!(rt; "{command}: torn line={line}: passed over"),
+        };
     }
     if torn.len() > MAX_TORN_PRINTED {
         let more = torn.len() - MAX_TORN_PRINTED;
@@ -29,11 +51,28 @@ fn print_torn_lines<R: Eprint>(rt: &R, command: &str, torn: &[u32]) {
     }
 }
 
-fn print_merge_fault<R: Eprint>(rt: &R, command: &str, fault: Option<MergeFault>) {
-    let Some(fault) = fault else {
+/// Prints each process that has no header, if that is the error.
+fn print_missing_headers<R: Eprint>(rt: &R, command: &str, kind: &MergeKind) {
+    let MergeKind::NoHeader { missing } = kind else {
         return;
     };
-    print_error_line(rt, command, &fault);
+    for process in missing.iter() {
+        let _ = eprintln!(rt; "{command}: process {process} has no header");
+    }
+}
+
+fn print_merge_fault<R: Eprint + AllocGlobal, S: Drop>(
+    rt: &R,
+    command: &str,
+    input: &InputNames<'_, S>,
+    fault: MergeFault,
+    start: &[u8],
+) {
+    print_at_line(rt, command, input, fault.line, &fault);
+    print_missing_headers(rt, command, &fault.kind);
+    if let MergeKind::Line(kind) = &fault.kind {
+        print_hints(rt, command, Content::Recordings, *kind, Some(start));
+    }
     if let Some(hint) = fault.kind.hint() {
         print_error_line(rt, command, &hint);
     }

@@ -115,6 +115,13 @@ impl<R: Clock + Drop, S: Drop> ProgressStream<R, S> {
     }
 }
 
+impl<R: Drop, S: Drop> ProgressStream<R, S> {
+    /// Returns the stream.
+    pub(crate) fn stream(&self) -> &S {
+        &self.stream
+    }
+}
+
 impl<R: Clock + Eprint + Drop, S: Read + Drop> Read for ProgressStream<R, S> {
     ghost remaining = { λ watched. S.remaining watched.stream };
 

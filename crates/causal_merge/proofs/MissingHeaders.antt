@@ -1,0 +1,60 @@
+-- The set of the processes without a header.
+use Rattle.std.proofs.Common.{ℕ, ◌≡◌, ◌+◌, ◌<◌, ◌≤◌, ◌∙◌, Bool, true, false, List, Some, None, inl, inr, ap, sym, arith}
+use Rattle.std.specs.Prelude.{◌||◌, ◌==◌, not, slice_index_or}
+use Rattle.std.specs.Ordering.{nat_cmp}
+use Rattle.std.specs.Cmp.{nat_cmp_total, unsigned_tied}
+use Rattle.std.specs.FinSet.{FinSet, empty, insert, contains, contains-empty, contains-insert}
+use Rattle.std.proofs.lemmas.Bool.{false≢true, true_from_ne_false, false_from_ne_true}
+use Rattle.causal_holders.specs.Members.{HasMembers}
+use Rattle.causal_merge.specs.declared.event.RunHeader.{RunHeader}
+use Rattle.causal_merge.specs.declared.event.RecorderLine.{RecorderLine}
+use Rattle.causal_merge.specs.declared.parsed_files.ParsedFiles.{ParsedFiles}
+use Rattle.causal_merge.specs.ReadLines.{has_header, HasAllHeaders, LacksHeader}
+use Rattle.causal_merge.specs.Inside.ParsedFiles.{IsParsed}
+
+contains_more : (s : FinSet nat_cmp) (n q : ℕ) → contains (insert s n) q ≡ (q == n || contains s q)
+contains_more s n q = contains-insert nat_cmp_total s n q ∙ ap (λ t. t || contains s q) (unsigned_tied q n)
+
+module _ (n : ℕ) (s : FinSet nat_cmp) (test : ℕ → Bool) (m : HasMembers n s test) where
+  -- a process that passes is inserted
+  pub one_in : test n ≡ true → HasMembers (n + 1) (insert s n) test
+  one_in is = grind (arith, contains_more)
+
+  -- a process that does not pass is left out
+  pub one_out : test n ≡ false → HasMembers (n + 1) s test
+  one_out is = grind arith
+
+-- of no processes none is missing
+pub none_in : (s : FinSet nat_cmp) (test : ℕ → Bool) → s ≡ empty → HasMembers 0 s test
+none_in s test is = grind (arith, contains-empty)
+
+pub ruleset of_missing = (none_in, one_in, one_out)
+
+-- if there is no header, the processes of the run are not known
+pub no_run : (g : ParsedFiles) (said : List RecorderLine) (missing : FinSet nat_cmp) → IsParsed g said → g.run ≡ None → missing ≡ empty → LacksHeader said missing
+no_run g said missing parsed is unknown = inl (record { none = sym parsed.run ∙ is; unknown = unknown })
+
+module _ (g : ParsedFiles) (said : List RecorderLine) (run : RunHeader) (missing : FinSet nat_cmp) (parsed : IsParsed g said) (is : g.run ≡ Some run) (few : run.processes ≤ 256)
+    (m : HasMembers run.processes missing (λ p. not (slice_index_or g.headers_seen p false))) where
+  member : (p : ℕ) → p < run.processes → contains missing p ≡ not (has_header said p)
+  member p below = m.member p below ∙ ap not (parsed.headers_seen p (omega (arith, below, few)))
+
+  -- if none is missing, each process has a header
+  pub none_missing : missing ≡ empty → HasAllHeaders said run
+  none_missing none = record {
+    first = sym parsed.run ∙ is;
+    headers_seen = λ p below. true_from_ne_false _ (λ h.
+        let out : contains missing p ≡ false = ap (λ s. contains s p) none ∙ contains-empty nat_cmp p in
+        false≢true (sym out ∙ member p below ∙ ap not h));
+  }
+
+  -- if one is missing, it has no header, and the set has all that have none
+  pub some_missing : (p : ℕ) → contains missing p ≡ true → LacksHeader said missing
+  some_missing p held = inr (record {
+    run = run;
+    first = sym parsed.run ∙ is;
+    process = p;
+    within = m.process p held;
+    lacks = false_from_ne_true _ (λ h. false≢true (sym (member p (m.process p held) ∙ ap not h) ∙ held));
+    all = record { process = m.process; member = member };
+  })

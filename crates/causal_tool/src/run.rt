@@ -1,0 +1,115 @@
+//! Runs the command of a command line, over any reader and any writer.
+ghost use Rattle.std.specs.Prelude.{◌≡◌};
+ghost use Rattle.causal_commands.specs.Diagnostics.{IsDiagnosisFor};
+ghost use Rattle.causal_commands.specs.Json.{HasFewWorkers, StopsFor, faults_of};
+ghost use Rattle.causal_tool.specs.Args.{HasWorkerCountInRange};
+ghost use Rattle.causal_tool.specs.Commands.{WritesAnswerIn, Answers, ReadsFor};
+
+use crate::args::{Form, Invocation};
+use causal_commands::{
+    DiagnosedFault, MergeOutcome, Outcome, Question, Reason, View, answer_as_json, answer_audit,
+    answer_merge, answer_range, answer_script, answer_until_breach, answer_view,
+};
+use causal_trace::limits::Limits;
+use causal_workers::OpenGate;
+use std::io::{Read, Write};
+use std::random::RandomSource;
+use std::sync::Wait;
+use std::thread::Threads;
+
+/// The outcome of a command.
+#[derive(Drop)]
+pub(crate) enum CommandOutcome {
+    /// Of a question on a trace or its picture, for the bound f.
+    Trace {
+        f: u16,
+        outcome: Outcome<DiagnosedFault>,
+    },
+    /// Of a merge of recordings.
+    Merge {
+        outcome: MergeOutcome,
+    },
+    /// Of the run of a script.
+    Script {
+        outcome: Outcome<Reason>,
+    },
+}
+
+/// Answers a question on a trace within the limits, in this form.
+fn answer_question<R: Threads + Wait + AllocGlobal, I: Read, O: Write>(
+    rt: &R,
+    input: &mut I,
+    output: &mut O,
+    limits: Limits,
+    question: Question,
+    form: Form,
+) -> Outcome<DiagnosedFault>
+    requires { HasFewWorkers question }
+    ensures writes { WritesAnswerIn form limits.entries question (I.remaining input.old)
+        result.ended (O.contents output.old) (O.contents output.new) }
+    ensures fault { IsDiagnosisFor limits.entries (I.remaining input.old)
+        (faults_of question) result.fault }
+    ensures reads { StopsFor limits.entries question (I.remaining input.old)
+        (I.remaining input.new) }
+{
+    let alloc = rt.alloc();
+    match form {
+        Form::Json => answer_as_json(rt, alloc, input, output, limits, question),
+        Form::Lines => match question {
+            Question::Verdict { faults, workers } => {
+                answer_audit(rt, alloc, input, output, limits, faults, workers, &OpenGate)
+            }
+            Question::Breach { faults, workers } => {
+                answer_until_breach(rt, alloc, input, output, limits, faults, workers, &OpenGate)
+            }
+            Question::Reason { faults } => {
+                answer_view(rt, alloc, input, output, limits, faults, View::Reason)
+            }
+            Question::Range => answer_range(alloc, input, output, limits),
+        },
+    }
+}
+
+/// Returns a seed from the system's random source, or 0 if that fails: only costs depend on it.
+fn random_seed<R: RandomSource>(rt: &R) -> u64 {
+    let mut bytes = [0; 8];
+    match rt.fill_bytes(&mut bytes) {
+        Ok(()) => u64::from_le_bytes(bytes),
+        Err(_) => 0,
+    }
+}
+
+/// Runs the command, and returns its outcome.
+pub(crate) fn run_command<R: Threads + Wait + AllocGlobal + RandomSource, I: Read, O: Write>(
+    rt: &R,
+    asked: Invocation,
+    input: &mut I,
+    output: &mut O,
+) -> CommandOutcome
+    requires { HasWorkerCountInRange asked }
+    ensures answers { Answers asked result (I.remaining input.old)
+        (O.contents output.old) (O.contents output.new) }
+    ensures reads { ReadsFor asked (I.remaining input.old) (I.remaining input.new) }
+{
+    let alloc = rt.alloc();
+    match asked {
+        Invocation::Trace {
+            question,
+            form,
+            limits,
+        } => CommandOutcome::Trace {
+            f: question.faults(),
+            outcome: answer_question(rt, input, output, limits, question, form),
+        },
+        Invocation::Draw { faults, limits } => CommandOutcome::Trace {
+            f: faults,
+            outcome: answer_view(rt, alloc, input, output, limits, faults, View::Picture),
+        },
+        Invocation::Merge { limits } => CommandOutcome::Merge {
+            outcome: answer_merge(alloc, input, output, limits),
+        },
+        Invocation::Run => CommandOutcome::Script {
+            outcome: answer_script(rt, alloc, input, output, random_seed(rt)),
+        },
+    }
+}

@@ -1,0 +1,82 @@
+//! What a command line names: files, and standard input.
+use crate::tracked_stream::TrackedStream;
+use causal_commands::ChainedStream;
+use std::alloc::Global;
+use std::fs;
+use std::fs::Files;
+use std::io::{self, Error, Input, Read, Result};
+
+/// The name of standard input on the command line.
+const STANDARD_INPUT: &str = "-";
+
+/// An open stream that a command line names.
+#[derive(Drop)]
+pub(crate) enum Source<I: Drop, F: Drop> {
+    Standard(I),
+    File(F),
+}
+
+impl<I: Read + Drop, F: Read + Drop> Read for Source<I, F> {
+    ghost use Rattle.causal_tool.specs.Inside.Sources.{bytes_in_source};
+
+    ghost remaining = { bytes_in_source I.remaining F.remaining };
+
+    fn read(&mut self, buf: &mut [u8]) -> Result<usize> {
+        match self {
+            Source::Standard(stream) => stream.read(buf),
+            Source::File(file) => file.read(buf),
+        }
+    }
+}
+
+/// The sources of a command line, read one after the other.
+pub(crate) type Sources<R> = ChainedStream<
+    TrackedStream<Source<<R as Input>::Reader, <R as Files>::File>>,
+>;
+
+/// Why a file was not opened.
+#[derive(Drop)]
+pub(crate) enum OpenFault {
+    /// The system refused the file with this index.
+    Refused { file: usize, error: Error },
+    /// An allocation failed.
+    NoMemory,
+}
+
+/// Whether this name is that of standard input.
+pub(crate) fn is_standard_input(name: &str) -> bool {
+    name == STANDARD_INPUT
+}
+
+/// Opens each file in its order; standard input, if none is named.
+pub(crate) fn open_sources<R: Files + Input>(
+    rt: &R,
+    alloc: Global,
+    files: &[String],
+) -> std::result::Result<Sources<R>, OpenFault> {
+    let mut sources = Vec::new(alloc);
+    if files.is_empty() {
+        let source = Source::Standard(rt.reader());
+        if sources.push(TrackedStream::new(alloc, source)).is_err() {
+            return Err(OpenFault::NoMemory);
+        }
+    }
+    for (file, name) in files.iter().enumerate() {
+        let source = match open_source(rt, name.as_str()) {
+            Ok(source) => source,
+            Err(error) => return Err(OpenFault::Refused { file, error }),
+        };
+        if sources.push(TrackedStream::new(alloc, source)).is_err() {
+            return Err(OpenFault::NoMemory);
+        }
+    }
+    Ok(ChainedStream::new(sources))
+}
+
+fn open_source<R: Files + Input>(rt: &R, name: &str) -> io::Result<Source<R::Reader, R::File>> {
+    if is_standard_input(name) {
+        Ok(Source::Standard(rt.reader()))
+    } else {
+        Ok(Source::File(fs::open(rt, name)?))
+    }
+}
