@@ -20,6 +20,9 @@ mod kinds;
 /// Logs, their batches, and the store in memory: each call once, on hand-computed values.
 #[cfg(test)]
 mod logs;
+/// Nodes: a process crashes, gathers what the others log, and repeats its delivery.
+#[cfg(test)]
+mod nodes;
 /// Reproducible pseudorandom numbers.
 #[cfg(test)]
 mod numbers;
