@@ -32,3 +32,6 @@ mod runtime;
 /// Seats on their own threads, hand-computed calls, random calls, and a full history.
 #[cfg(test)]
 mod seats;
+/// Parcels and their bytes, worked by hand.
+#[cfg(test)]
+mod wire;
