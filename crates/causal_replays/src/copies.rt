@@ -16,8 +16,8 @@ use causal_trace::trace::Trace;
 use std::alloc::Global;
 use std::slice;
 
-/// The copies of each determinant after some entries, by number. `logs` contains for each process the numbers in its log,
-/// and perhaps others.
+/// The copies of each determinant after some entries, by number. `logs` contains for each process the numbers in its
+/// log, and perhaps others.
 #[derive(Drop)]
 pub struct Copies {
     pub holders: Vec<Holders>,
@@ -25,7 +25,7 @@ pub struct Copies {
     pub logs: Vec<Vec<u32>>,
 }
 
-/// Returns the number of a determinant of this trace; None if it has no delivery with it.
+/// Returns the number of a determinant of this trace; None if no delivery has it.
 pub fn number_of(trace: &Trace, det: Det) -> Option<u32>
     ensures value { result ≡ number_in trace.now.recording.past det }
     ensures below { IfSome result (λ i. i < deliveries_in trace.now.recording.past) }

@@ -1,6 +1,6 @@
-//! Whether the recoveries of a recorded run follow what survives. A determinant survives if it is stable or in the log of
-//! a process. If two different ones fill one slot, a recovered process has delivered another message than the survivors
-//! say. Start at [`first_stray`](crate::replays::first_stray).
+//! Whether the recoveries of a recorded run follow what survives. A determinant survives if it is stable or in the log
+//! of a process. If two different ones fill one slot, a process has delivered another message than a survivor names.
+//! Start at [`first_stray`](crate::replays::first_stray).
 #![tactic(auto)]
 
 /// The copies of all determinants, entry by entry.

@@ -12,9 +12,9 @@ use causal_name::NoMemory;
 use causal_trace::trace::Trace;
 use std::alloc::Global;
 
-/// Returns the first instant at which two different determinants that survive fill one slot, the least such slot, and the
-/// first deliveries of two such determinants; `None` if each slot has at most one survivor at each instant. A determinant
-/// survives if it is stable or in the log of a process (Alvisi and Marzullo 1998).
+/// Returns the first instant at which two different determinants that survive fill one slot, the least such slot, and
+/// the first deliveries of two such determinants; `None` if each slot has at most one survivor at each instant. A
+/// determinant survives if it is stable or in the log of a process (Alvisi and Marzullo 1998).
 ///
 /// One pass: O(entries + listed determinants) steps, each with O(lanes that delivered the message) for a determinant's
 /// number. It needs 33 bytes for each delivery, 8 for each slot, and 4 for each determinant in a log.

@@ -13,7 +13,7 @@ use causal_name::{Det, NoMemory, Slot};
 use causal_trace::trace::Trace;
 
 /// Returns the lower one of a slot and of the least so far.
-fn lesser(least: Option<Slot>, slot: Slot) -> Slot
+fn lower_slot(least: Option<Slot>, slot: Slot) -> Slot
     ensures { IsLesser least slot result }
 {
     match least {
@@ -70,7 +70,7 @@ fn note_det(
         unreachable!();
     };
     if has_rival(slots, copies, trace, det.slot(), number) {
-        return Ok(Some(lesser(least, det.slot())));
+        return Ok(Some(lower_slot(least, det.slot())));
     }
     set_number(slots, det.slot(), number)?;
     Ok(least)

@@ -38,8 +38,8 @@ fn is_other(known: Option<Det>, det: Det) -> bool
     }
 }
 
-/// Returns the position and the determinant of the first delivery before `end` that has a determinant with a copy in this
-/// slot, other than the known one.
+/// Returns the position and the determinant of the first delivery before `end` that has a determinant with a copy in
+/// this slot, other than the known one.
 fn first_other(
     trace: &Trace,
     copies: &Copies,
