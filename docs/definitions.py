@@ -27,8 +27,7 @@ A state of a run is its **past**: the list of the entries so far, newest first. 
 `e ∷ past` has the position `length past`.
 
 Sources: Lamport 1978 (CACM 21(7)) for happened-before; Alvisi and Marzullo 1998 (IEEE TSE 24(2)) for determinants and causal logging; Elnozahy, Alvisi,
-Wang and Johnson 2002 (ACM Computing Surveys 34(3)) for `Depend`, `Log`, `Stable` and orphans. The bound f, the rule that a determinant is safe if more
-than f processes hold it, lanes as numbers, the format and the verdict are this project's own.
+Wang and Johnson 2002 (ACM Computing Surveys 34(3)) for `Depend`, `Log`, `Stable` and orphans. Other notions are this project's own.
 """
 IMPORT = re.compile(r"\buse Rattle\.(\w+)\.specs\.([\w.]+?)(?:\.\{([^}]*)\}| as (\w+))", re.S)
 PUBLIC = re.compile(r"\s*pub (?:const |unsafe )*(?:extern \"C\" )?fn \w")
