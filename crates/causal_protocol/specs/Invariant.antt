@@ -9,7 +9,6 @@ use Rattle.causal_trace.specs.Past.{is_down, logs, is_stable, det_at, is_deliver
 use Rattle.causal_trace.specs.Dependence.{Reaches, Depends}
 use Rattle.causal_protocol.specs.Memory.{SentMessage, Memories}
 use Rattle.causal_protocol.specs.MemoryQueries.{knows_holder, knows_stable, HasSent, has_item, item_holder}
-
 -- whether d survives, and that no two survivors fill one slot: so at most one message is named for a delivery
 pub use Rattle.causal_trace.specs.Survivors.{survives, SlotsAreSingle}
 
