@@ -1,7 +1,7 @@
 -- Legal entries, the errors of others in order, and well-formed recordings.
 use Rattle.std.specs.Prelude.{◌≡◌, ℕ, ◌+◌, ◌≤◌, Bool, false, not, ◌==◌, ◌&&◌, ◌||◌, nat_lt, nat_le, if◌then◌else◌, List, [], ◌∷◌, length, Option, Some, None, MatchBool, unwrap_or}
 use Rattle.std.specs.List.{list_all}
-use Rattle.std.specs.Option.{option_map_or}
+use Rattle.std.specs.Option.{option_map, option_map_or}
 use Rattle.causal_name.specs.declared.Det.{Det}
 use Rattle.causal_trace.specs.declared.entry.Entry.{Entry}
 use Rattle.causal_trace.specs.declared.entry.Entry.TheVariants.{Send, Deliver, Stable, Crash, Restart, Forget}
@@ -110,6 +110,10 @@ fault_within entries r e = if exceeds entries r.past (length (listed_by e)) then
 -- the error of a refused entry: its first error, or `NoMemory` if it is legal
 abbrev pub refusal_within : ℕ → Recording → Entry → TraceFault
 refusal_within entries r e = unwrap_or (fault_within entries r e) NoMemory
+
+-- the entry that comes back with a refusal: the entry itself if it has a first error, None if memory was refused
+abbrev pub returned_entry : ℕ → Recording → Entry → Option Entry
+returned_entry entries r e = option_map (λ _. e) (fault_within entries r e)
 
 -- the first error under the default limits
 abbrev pub fault_next : Recording → Entry → Option TraceFault

@@ -6,7 +6,7 @@ use crate::scans;
 use causal_name::{Det, Pid};
 use std::alloc::AllocError;
 use std::marker::Model;
-use std::slice;
+use std::{fmt, slice};
 
 /// A list of determinants, in the order of the entry that lists them. A list of one allocates nothing.
 #[derive(Drop)]
@@ -56,6 +56,12 @@ impl PartialEq for Dets {
     }
 }
 
+impl fmt::Debug for Dets {
+    fn fmt<W: fmt::Write>(&self, f: &mut fmt::Formatter<W>) -> fmt::Result {
+        f.debug_list().entries(self.as_slice()).finish()
+    }
+}
+
 impl Eq for Dets {
     ghost use Rattle.std.specs.Cmp.Lexicographic.{lists_equiv};
     ghost use Rattle.causal_name.specs.SameDets.{same_det_equiv};
@@ -99,7 +105,7 @@ impl Dets {
 }
 
 /// One step of a run. Positions of entries, and sequence numbers within a lane (incarnation), count from 0.
-#[derive(Clone, Drop, PartialEq, Eq)]
+#[derive(Clone, Debug, Drop, PartialEq, Eq)]
 pub enum Entry {
     /// `from` sends its lane's message number `ssn` to `to`, which may be down, and may be the sender.
     Send {

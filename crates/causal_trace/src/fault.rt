@@ -66,7 +66,7 @@ impl TraceFault {
 }
 
 /// An entry that a trace refused.
-#[derive(Drop)]
+#[derive(Debug, Drop)]
 pub struct RefusedEntry {
     pub fault: TraceFault,
     /// The entry as the caller passed it; None if an allocation failed.

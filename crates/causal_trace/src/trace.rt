@@ -70,7 +70,7 @@ impl Trace {
     ghost use Rattle.causal_name.specs.declared.Det.{Det};
     ghost use Rattle.causal_trace.specs.Past.{lane, entry_at, listed_in, restarts, deliveries_in, det_at, is_delivered, has_delivered};
     ghost use Rattle.causal_trace.specs.Numbers.{delivered_dets, number_of};
-    ghost use Rattle.causal_trace.specs.Rows.{fault_by_refusal_rows, fault_within, fault_next, refusal_within, refusal_next, IsNewRefusal, exceeds, exceeds_any_limit, are_delivered_with, first_refusal, IsWellFormed};
+    ghost use Rattle.causal_trace.specs.Rows.{fault_by_refusal_rows, fault_within, fault_next, refusal_within, refusal_next, returned_entry, IsNewRefusal, exceeds, exceeds_any_limit, are_delivered_with, first_refusal, IsWellFormed};
     ghost use Rattle.causal_trace.specs.Inside.Index.{lane_of};
     ghost use Rattle.causal_trace.specs.State.{entries_of, with_entry, is_up_at, lane_at};
 
@@ -144,7 +144,8 @@ impl Trace {
         ensures ok { OnOk result (self.new.recording ≡ with_entry self.old.recording entry) }
         ensures refused { IfErr result (λ refused. refused.fault ≡
             refusal_within limits.entries self.old.recording entry) }
-        ensures same_entry { IfErr result (λ refused. IfSome refused.entry (λ same. same ≡ entry)) }
+        ensures returned { IfErr result (λ refused. refused.entry ≡
+            returned_entry limits.entries self.old.recording entry) }
         ensures err { OnErr result (self.new.recording ≡ self.old.recording) }
         ensures spare { self.old.spare ≤ self.new.spare + 1 }
         ensures memory { IfErr result (λ refused. refused.fault ≡ TraceFault.NoMemory →
