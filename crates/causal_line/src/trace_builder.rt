@@ -1,7 +1,7 @@
 //! A trace under construction. Its contracts see only the recording, which the lines of a text determine.
-ghost use Rattle.std.specs.Prelude.{◌≡◌, length, None, IfOk, IfErr, IfSome, OnOk, OnErr};
+ghost use Rattle.std.specs.Prelude.{◌≡◌, length, None, IfOk, IfErr, OnOk, OnErr};
 ghost use Rattle.causal_trace.specs.Limits.{IsProcessCount};
-ghost use Rattle.causal_trace.specs.Rows.{fault_within, refusal_within, IsNewRefusal, IsWellFormed};
+ghost use Rattle.causal_trace.specs.Rows.{fault_within, refusal_within, returned_entry, IsNewRefusal, IsWellFormed};
 ghost use Rattle.causal_trace.specs.State.{with_entry};
 ghost use Rattle.causal_line.specs.Stages.{empty_recording};
 
@@ -45,7 +45,8 @@ impl TraceBuilder {
         ensures ok { OnOk result (self.new ≡ with_entry self.old entry) }
         ensures refused { IfErr result
             (λ refused. refused.fault ≡ refusal_within limits.entries self.old entry) }
-        ensures same_entry { IfErr result (λ refused. IfSome refused.entry (λ same. same ≡ entry)) }
+        ensures returned { IfErr result (λ refused. refused.entry ≡
+            returned_entry limits.entries self.old entry) }
         ensures unchanged { OnErr result (self.new ≡ self.old) }
     {
         self.trace.try_push(limits, entry)
