@@ -69,7 +69,8 @@ impl Model for Batch {
 }
 
 impl Batch {
-    pub(crate) fn new(items: Vec<Item>) -> Batch
+    /// Returns the batch of these items, whose determinants strictly ascend.
+    pub fn new(items: Vec<Item>) -> Batch
         requires { is_ascending (dets_of items.items) ≡ true }
         ensures { result ≡ items.items }
     {

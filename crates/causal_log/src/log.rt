@@ -7,7 +7,7 @@ ghost use Rattle.std.specs.FinMap as fin;
 ghost use Rattle.std.specs.Arc.{arc_value};
 ghost use Rattle.causal_name.specs.Names.{is_ascending};
 ghost use Rattle.causal_log.specs.Knowledge.{held_by, stable_and_held_by};
-ghost use Rattle.causal_log.specs.Logs.{log_of, after_learn, dets_of, after_absorb, after_delivery, after_union, after_mark, stable_in, unstable_in, after_drop_stable, batch_items, named_message, SameMultiset};
+ghost use Rattle.causal_log.specs.Logs.{log_of, after_learn, after_learn_all, dets_of, after_absorb, after_delivery, after_union, after_mark, stable_in, unstable_in, after_drop_stable, batch_items, named_message, SameMultiset};
 ghost use Rattle.causal_log.specs.Inside.BatchCache.{open_items_of, open_cached_items};
 
 use crate::batch::{Batch, Item};
@@ -344,9 +344,19 @@ impl Log {
         ensures succeeds { fin.len other.now.map ≤ self.old.spare → IsOk result }
         ensures spare { self.old.spare ≤ self.new.spare + fin.len other.now.map }
     {
-        let others = other.entries.entries();
-        self.entries.reserve(others.len())?;
-        learn_entries(&mut self.entries, others);
+        self.learn_all(other.entries.entries())
+    }
+
+    /// Learns what these entries contain, one after the other. If out of memory, changes
+    /// nothing. Takes one look-up for each.
+    pub fn learn_all(&mut self, entries: &[(Det, Known)]) -> Result<(), NoMemory>
+        ensures ok { OnOk result (self.new.map ≡ after_learn_all entries.now self.old.map) }
+        ensures err { OnErr result (self.new.map ≡ self.old.map) }
+        ensures succeeds { length entries.now ≤ self.old.spare → IsOk result }
+        ensures spare { self.old.spare ≤ self.new.spare + length entries.now }
+    {
+        self.entries.reserve(entries.len())?;
+        learn_entries(&mut self.entries, entries);
         self.sorted = false;
         self.cached_batch = None;
         Ok(())
