@@ -34,6 +34,26 @@ none_later : {X : Type 0} (d : Det) (es : List (Det × X)) → AllByRecursion (�
 none_later d [] h = refl
 none_later d (e ∷ es) h = ap (λ b. cond b (Some e.1) (lookup (same_det d) es)) h.0 ∙ none_later d es h.1
 
+-- the value of a determinant, if both pass a test
+abbrev passing : {X : Type 0} → (Det × X → Bool) → Det → Option X → Option X
+passing P q None = None
+passing P q (Some x) = cond (P (q, x)) (Some x) None
+
+-- a look-up in the entries that pass a test
+lookup_passing : {X : Type 0} (P : Det × X → Bool) (q : Det) (es : List (Det × X)) → IsDistinct same_det (keys_of es) → lookup (same_det q) (filter P es) ≡ passing P q (lookup (same_det q) es)
+unfolding IsDistinct
+lookup_passing P q [] distinct = refl
+lookup_passing P q (e ∷ es) distinct = by (same_det q e.0) (P e) refl refl (lookup_passing P q es distinct.1)
+  where
+    by : (b p : Bool) → same_det q e.0 ≡ b → P e ≡ p → lookup (same_det q) (filter P es) ≡ passing P q (lookup (same_det q) es)
+        → lookup (same_det q) (cond p (e ∷ filter P es) (filter P es)) ≡ passing P q (cond b (Some e.1) (lookup (same_det q) es))
+    by true true is passes later = ap (λ b. cond b (Some e.1) (lookup (same_det q) (filter P es))) is ∙ sym (ap (λ d. cond (P (d, e.1)) (Some e.1) None) (same_is q e.0 is) ∙ ap (λ b. cond b (Some e.1) None) passes)
+    by true false is passes later =
+        later ∙ ap (passing P q) (ap (λ d. lookup (same_det d) es) (same_is q e.0 is) ∙ none_later e.0 es distinct.0)
+        ∙ sym (ap (λ d. cond (P (d, e.1)) (Some e.1) None) (same_is q e.0 is) ∙ ap (λ b. cond b (Some e.1) None) passes)
+    by false true is passes later = ap (λ b. cond b (Some e.1) (lookup (same_det q) (filter P es))) is ∙ later
+    by false false is passes later = later
+
 module _ {X : Type 0} where
   -- the entries, sorted as in the map that they make
   abbrev pub in_order : List (Det × X) → List (Det × X)
@@ -87,6 +107,11 @@ module _ {X : Type 0} where
     pub same_kept : (P : X → Bool) → fin.from_entries {R = det_cmp} (filter (λ e. P e.1) es) ≡ fin.from_entries (filter (λ e. P e.1) (in_order es))
     same_kept P = same_log (filter (λ e. P e.1) es) (filter (λ e. P e.1) (in_order es)) (λ q.
         grind (arith, lookup-filter-values det_equiv P q es distinct, lookup-filter-values det_equiv P q (in_order es) (order_distinct es), found_order es q))
+
+    -- the sorted entries that pass a test of determinant and value make the same map
+    pub same_passing : (P : Det × X → Bool) → fin.from_entries {R = det_cmp} (filter P es) ≡ fin.from_entries (filter P (in_order es))
+    same_passing P = same_log (filter P es) (filter P (in_order es)) (λ q.
+        grind (arith, lookup_passing P q es distinct, lookup_passing P q (in_order es) (order_distinct es), found_order es q))
 
     -- as many determinants pass a test
     pub same_counted : (P : Det → Bool) → count_by P (keys_of es) ≡ count_by P (keys_of (in_order es))

@@ -1,6 +1,6 @@
 -- A volatile log as contracts see it: a map from determinants to what is known of them.
 -- After Alvisi and Marzullo 1998.
-use Rattle.std.specs.Prelude.{◌≡◌, ℕ, Bool, true, false, not, ◌&&◌, ◌+◌, List, [], ◌∷◌, ◌++◌, map, filter, length, slice_get, count_by, Option, Some, None, is_none, unwrap_or, refl}
+use Rattle.std.specs.Prelude.{◌≡◌, ℕ, Bool, true, false, not, nat_le, ◌&&◌, ◌+◌, List, [], ◌∷◌, ◌++◌, map, filter, length, slice_get, count_by, Option, Some, None, is_none, unwrap_or, refl}
 use Rattle.std.specs.Coded.{Coded, code_by, coded×, coded_ℕ}
 use Rattle.std.specs.Option.{option_map}
 use Rattle.std.specs.List.{list_any}
@@ -9,7 +9,8 @@ use Rattle.std.specs.FinSet as set
 use Rattle.causal_name.specs.declared.Det.{Det}
 use Rattle.causal_name.specs.declared.MsgName.{MsgName}
 use Rattle.causal_name.specs.declared.Pid.{Pid}
-use Rattle.causal_name.specs.Names.{det_cmp, same_det, message_of, is_ascending}
+use Rattle.causal_name.specs.declared.Slot.{Slot}
+use Rattle.causal_name.specs.Names.{det_cmp, same_pid, same_det, message_of, is_ascending}
 use Rattle.causal_log.specs.declared.known.Known.{Known}
 use Rattle.causal_log.specs.declared.batch.Item.{Item}
 use Rattle.causal_log.specs.Slots.{first_of_slot}
@@ -97,6 +98,18 @@ unstable_in log = map (λ e. e.0) (filter (λ e. not e.1.stable) (fin.entries lo
 -- the log without the determinants that are known to be stable
 abbrev pub after_drop_stable : LogMap → LogMap
 after_drop_stable log = log_of (filter (λ e. not e.1.stable) (fin.entries log))
+
+-- whether a process whose next delivery has this slot forgets an entry: it is known to be stable, and is of no delivery
+-- that the process has still to make
+abbrev pub is_forgotten : Slot → Det × Known → Bool
+is_forgotten next e = e.1.stable && not (same_pid e.0.dest next.dest && nat_le next.rsn e.0.rsn)
+
+-- the determinants that it forgets, ascending, and the log after
+abbrev pub forgotten_in : Slot → LogMap → List Det
+forgotten_in next log = map (λ e. e.0) (filter (is_forgotten next) (fin.entries log))
+
+abbrev pub after_forget : Slot → LogMap → LogMap
+after_forget next log = log_of (filter (λ e. not (is_forgotten next e)) (fin.entries log))
 
 -- the item of a log entry: its determinant with its known holders
 abbrev pub item_of : Det × Known → Item

@@ -7,15 +7,15 @@ ghost use Rattle.std.specs.FinMap as fin;
 ghost use Rattle.std.specs.Arc.{arc_value};
 ghost use Rattle.causal_name.specs.Names.{is_ascending};
 ghost use Rattle.causal_log.specs.Knowledge.{held_by, stable_and_held_by};
-ghost use Rattle.causal_log.specs.Logs.{log_of, after_learn, after_learn_all, dets_of, after_absorb, after_delivery, after_union, after_mark, stable_in, unstable_in, after_drop_stable, batch_items, named_message, SameMultiset};
+ghost use Rattle.causal_log.specs.Logs.{log_of, after_learn, after_learn_all, dets_of, after_absorb, after_delivery, after_union, after_mark, stable_in, unstable_in, after_drop_stable, forgotten_in, after_forget, batch_items, named_message, SameMultiset};
 ghost use Rattle.causal_log.specs.Inside.BatchCache.{open_items_of, open_cached_items};
 
 use crate::batch::{Batch, Item};
 use crate::known::Known;
 use crate::next_batch_merge::{Delivery, next_batch};
 use crate::table::{
-    Table, chosen_items, det_at_rank, dets, in_order, learn, learn_entries, learn_items,
-    sorted_chosen_items, unstable_len,
+    Table, chosen_items, det_at_rank, dets, in_order, is_forgotten, learn, learn_entries,
+    learn_items, sorted_chosen_items, unstable_len,
 };
 use causal_name::{Det, MsgName, NoMemory, Pid, Slot};
 use std::alloc::Global;
@@ -388,6 +388,27 @@ impl Log {
     {
         self.cached_batch = None;
         self.entries.drop_stable()
+    }
+}
+
+impl Log {
+    /// Returns the determinants that a process whose next delivery has this slot forgets, ascending: those known to be
+    /// stable, except of deliveries that it has still to make. Fails only if out of memory.
+    pub fn forgotten_dets(&self, alloc: Global, next: Slot) -> Result<Vec<Det>, NoMemory>
+        ensures { IfOk result (λ dets. dets.items ≡ forgotten_in next self.now.map) }
+    {
+        let sorted = in_order(alloc, self.entries.entries())?;
+        let forgotten = sorted.iter().filter(|entry| is_forgotten(next, entry));
+        Ok(forgotten.map(|(det, _)| *det).collect(alloc)?)
+    }
+
+    /// Removes these determinants. Takes O(entries) time and allocates nothing.
+    pub fn forget(&mut self, next: Slot)
+        ensures left { self.new.map ≡ after_forget next self.old.map }
+        ensures spare { self.new.spare ≡ self.old.spare }
+    {
+        self.cached_batch = None;
+        self.entries.forget(next);
     }
 }
 

@@ -11,7 +11,7 @@ ghost use Rattle.causal_name.specs.declared.Det.{Det};
 ghost use Rattle.causal_name.specs.Names.{same_det, is_ascending, is_before};
 ghost use Rattle.causal_log.specs.declared.known.Known.{Known};
 ghost use Rattle.causal_log.specs.Knowledge.{union_with, is_carried};
-ghost use Rattle.causal_log.specs.Logs.{log_of, item_of, batch_items, after_learn, IsLogged, after_absorb, after_learn_all};
+ghost use Rattle.causal_log.specs.Logs.{is_forgotten, log_of, item_of, batch_items, after_learn, IsLogged, after_absorb, after_learn_all};
 ghost use Rattle.causal_log.specs.Inside.BatchCache.{is_open};
 ghost use Rattle.causal_log.specs.Inside.Ranks.{IsLeastOfSlot, has_rank, lesser_det};
 ghost use Rattle.causal_log.specs.Inside.Tables.{HasSlotKey, slot_key, same_slot_key};
@@ -213,6 +213,18 @@ impl Table {
         (before - self.entries.len()) as u32
     }
 
+    pub(crate) fn forget(&mut self, next: Slot)
+        ensures left { self.new.entries ≡ filter (λ e. not (is_forgotten next e)) self.old.entries }
+        ensures distinct { IsDistinct same_det (keys_of self.old.entries) }
+        ensures spare { self.new.spare ≡ self.old.spare }
+    {
+        self.entries.retain(
+            |_key: &SlotKey, entry: &mut (Det, Known)| -> bool
+                ensures { (result ≡ not (is_forgotten next entry.old)) × (entry.new ≡ entry.old) }
+            { !is_forgotten(next, entry) },
+        );
+    }
+
     pub(crate) fn sort(&mut self) -> Result<(), NoMemory>
         ensures same { log_of self.new.entries ≡ log_of self.old.entries }
         ensures ascending { OnOk result (is_ascending (keys_of self.new.entries) ≡ true) }
@@ -226,6 +238,14 @@ impl Table {
         )?;
         Ok(())
     }
+}
+
+/// Returns whether a process whose next delivery has this slot forgets an entry.
+pub(crate) fn is_forgotten(next: Slot, entry: &(Det, Known)) -> bool
+    ensures { result ≡ is_forgotten next entry.now }
+{
+    let (det, known) = entry;
+    known.stable && !(det.dest == next.dest && det.rsn >= next.rsn)
 }
 
 /// Entries by slot and number.
