@@ -4,11 +4,11 @@ use Rattle.std.specs.Prelude.{is_some, unwrap_or}
 use Rattle.std.specs.Option.{option_map, option_map_or, option_and_then}
 use Rattle.std.proofs.lemmas.Option.{slice_get_read, slice_get-map, slice_get_within}
 use Rattle.causal_core.proofs.Lemmas.Slices.{slice_get-set_same}
-use Rattle.causal_node.specs.declared.process_memory.ProcessMemory.{ProcessMemory}
+use Rattle.causal_memory.specs.declared.process_memory.ProcessMemory.{ProcessMemory}
 use Rattle.causal_name.specs.declared.Pid.{Pid}
 use Rattle.causal_protocol.specs.Memory.{Memory, Memories, present_at}
 use Rattle.causal_protocol.specs.Naming.{if_addressed_to, sent_message_for, message_name}
-use Rattle.causal_node.specs.ProcessMemories.{memory_of, bodies_of, capacity_of}
+use Rattle.causal_memory.specs.ProcessMemories.{memory_of, bodies_of, capacity_of}
 use Rattle.causal_core.specs.Inside.Memories.{memories_in, memory_at, bodies_in, capacities_in, capacity_at}
 use Rattle.causal_core.specs.View.{body_in, with_bodies}
 use Rattle.causal_core.proofs.BoxLemmas.{map-set}

@@ -6,7 +6,7 @@ use Rattle.std.specs.Cmp.{nat_cmp_total, unsigned_tied}
 use Rattle.std.specs.FinSet.{FinSet, empty, insert, contains, contains-empty, contains-insert}
 use Rattle.std.proofs.lemmas.Option.{slice_get-map}
 use Rattle.causal_holders.specs.Members.{HasMembers}
-use Rattle.causal_node.specs.declared.process_memory.ProcessMemory.{ProcessMemory}
+use Rattle.causal_memory.specs.declared.process_memory.ProcessMemory.{ProcessMemory}
 use Rattle.causal_protocol.specs.Memory.{present_at}
 use Rattle.causal_core.specs.Inside.Memories.{memories_in}
 use Rattle.causal_core.proofs.Cells.{read_at}

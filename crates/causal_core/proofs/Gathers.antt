@@ -3,10 +3,10 @@ use Rattle.std.proofs.Common.{arith, ℕ, ◌≡◌, ◌+◌, ◌<◌, ◌≤◌
 use Rattle.std.specs.Option.{option_map}
 use Rattle.std.proofs.lemmas.List.{drop_more, drop_all}
 use Rattle.causal_log.specs.Logs.{LogMap, after_union}
-use Rattle.causal_node.specs.declared.process_memory.ProcessMemory.{ProcessMemory}
+use Rattle.causal_memory.specs.declared.process_memory.ProcessMemory.{ProcessMemory}
 use Rattle.causal_protocol.specs.Memory.{Memory, Memories}
 use Rattle.causal_protocol.specs.Gathering.{with_logs_of}
-use Rattle.causal_node.specs.ProcessMemories.{memory_of}
+use Rattle.causal_memory.specs.ProcessMemories.{memory_of}
 use Rattle.causal_core.specs.Inside.Memories.{memories_in}
 
 united_one : Option Memory → LogMap → LogMap

@@ -20,15 +20,15 @@ use Rattle.causal_protocol.specs.Naming.{message_name, if_addressed_to, sent_mes
 use Rattle.causal_protocol.specs.Refusals.{refusal_rows, first_fault, exceeds_limits}
 use Rattle.causal_protocol.specs.Steps.{delivery_of}
 use Rattle.causal_core.specs.Inside.MemoryInvariant.{IsSentAt, MatchesEntries, MatchesEntriesAt, AllMatchEntries}
-use Rattle.causal_node.specs.declared.delivery_plan.DeliveryPlan.{DeliveryPlan}
+use Rattle.causal_memory.specs.declared.delivery_plan.DeliveryPlan.{DeliveryPlan}
 use Rattle.causal_core.specs.View.{RunDataState}
 use Rattle.causal_core.specs.Inside.DeliveryPlans.{IsDeliveryPlan}
-use Rattle.causal_node.specs.DeliveryPlans.{piggyback_of}
+use Rattle.causal_memory.specs.DeliveryPlans.{piggyback_of}
 use Rattle.causal_core.specs.Inside.Memories.{memory_at}
 use Rattle.causal_core.proofs.MemoriesFit.{all_more}
 use Rattle.std.proofs.lemmas.List.{length-map}
 use Rattle.std.proofs.lemmas.Option.{slice_get_within}
-use Rattle.causal_node.proofs.Lemmas.ListInsert.{with_all, with_ascending, with_longer}
+use Rattle.causal_memory.proofs.Lemmas.ListInsert.{with_all, with_ascending, with_longer}
 use Rattle.causal_core.proofs.Legal.{row_none, when_false, there}
 use Rattle.causal_core.proofs.DeliveryRows.{kept_found}
 

@@ -11,9 +11,9 @@ use Rattle.causal_name.specs.declared.Pid.{Pid}
 use Rattle.causal_trace.proofs.Lemmas.CountBounds.{sends_few}
 use Rattle.causal_trace.specs.declared.entry.Entry.{Entry}
 use Rattle.causal_protocol.specs.Memory.{Memory, Memories, present_at}
-use Rattle.causal_node.specs.declared.process_memory.ProcessMemory.{ProcessMemory}
+use Rattle.causal_memory.specs.declared.process_memory.ProcessMemory.{ProcessMemory}
 use Rattle.causal_core.specs.Inside.MemoryInvariant.{MatchesEntriesAt, AllMatchEntries, SameReceived}
-use Rattle.causal_node.specs.ProcessMemories.{memory_of}
+use Rattle.causal_memory.specs.ProcessMemories.{memory_of}
 use Rattle.causal_core.specs.Inside.Memories.{memories_in}
 use Rattle.causal_core.specs.Pendings.{is_pending, names_sent, names_from}
 use Rattle.causal_core.proofs.Cells.{read_at}

@@ -23,8 +23,8 @@ use Rattle.causal_log.proofs.Lemmas.Ascents.{ascending_tail, first_before, map_a
 use Rattle.causal_protocol.specs.Memory.{Memory, Memories}
 use Rattle.causal_protocol.specs.Gathering.{with_logs_of, with_held, with_stored, restart_log}
 use Rattle.causal_core.specs.Inside.Gathers.{is_logged}
-use Rattle.causal_node.specs.declared.process_memory.ProcessMemory.{ProcessMemory}
-use Rattle.causal_node.specs.ProcessMemories.{memory_of}
+use Rattle.causal_memory.specs.declared.process_memory.ProcessMemory.{ProcessMemory}
+use Rattle.causal_memory.specs.ProcessMemories.{memory_of}
 use Rattle.causal_core.specs.Inside.Memories.{memories_in}
 use Rattle.causal_core.proofs.StoreEntries.{has_with}
 

@@ -15,7 +15,7 @@ use Rattle.causal_protocol.specs.declared.request.Request.TheVariants as Request
 use Rattle.causal_trace.specs.declared.entry.Entry.TheVariants as Entries
 use Rattle.causal_protocol.specs.Refusals.{fault_if, first_fault_in, first_fault, restart_list}
 use Rattle.causal_protocol.specs.Naming.{next_det, next_ssn}
-use Rattle.causal_node.specs.ProcessMemories.{Capacity}
+use Rattle.causal_memory.specs.ProcessMemories.{Capacity}
 use Rattle.causal_protocol.specs.Steps.{delivery_of, extend_run, reason_of, sends_of}
 
 -- a run, the bodies of the kept messages, and the reserved capacities, which are not part of the run

@@ -9,18 +9,18 @@ ghost use Rattle.causal_protocol.specs.Memory.{present_at};
 ghost use Rattle.causal_core.specs.Inside.MemoryInvariant.{MatchesEntries, AllMatchEntries};
 ghost use Rattle.causal_core.specs.Inside.DeliveryRecords.{entry_of, next_batch, memory_after_step, memories_after_step, with_step};
 ghost use Rattle.causal_core.specs.Inside.DeliveryRecords.{IsBatchDelivered, IsLogDelivered, IsLegalNext, OthersStillFit};
-ghost use Rattle.causal_node.specs.ProcessMemories.{memory_of, bodies_of, capacity_of};
+ghost use Rattle.causal_memory.specs.ProcessMemories.{memory_of, bodies_of, capacity_of};
 ghost use Rattle.causal_core.specs.Inside.Memories.{memories_in, memory_at, bodies_in};
 ghost use Rattle.causal_core.specs.Inside.Memories.{capacities_in, capacity_at};
 ghost use Rattle.causal_core.specs.View.{receivers, sent_bodies, with_bodies};
 ghost use Rattle.causal_trace.specs.Limits.{max_entries};
-ghost use Rattle.causal_node.specs.DeliveryPlans.{piggyback_of, log_after_plan};
+ghost use Rattle.causal_memory.specs.DeliveryPlans.{piggyback_of, log_after_plan};
 
 use crate::receipt::record_receipt;
 use crate::sends::append_sends;
+use causal_memory::delivery_plan::DeliveryPlan;
+use causal_memory::process_memory::ProcessMemory;
 use causal_name::{NoMemory, Pid};
-use causal_node::delivery_plan::DeliveryPlan;
-use causal_node::process_memory::ProcessMemory;
 use causal_process::Outgoing;
 use causal_trace::trace::Trace;
 

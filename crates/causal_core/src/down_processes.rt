@@ -11,7 +11,7 @@ use crate::run_data::RunData;
 use crate::runtime::Core;
 use causal_holders::Holders;
 use causal_log::Stable;
-use causal_node::process_memory::ProcessMemory;
+use causal_memory::process_memory::ProcessMemory;
 
 /// Returns the processes without volatile memory.
 #[tactic(auto, using(crate::proofs::Rules::of_down))]

@@ -6,9 +6,9 @@ ghost use Rattle.causal_core.specs.Inside.Gathers.{log_with_gathered, gathered_l
 ghost use Rattle.causal_core.specs.Inside.Memories.{memories_in};
 
 use causal_log::Log;
+use causal_memory::learning::{learn_own_holding, learn_stored};
+use causal_memory::process_memory::ProcessMemory;
 use causal_name::{Det, NoMemory, Pid};
-use causal_node::learning::{learn_own_holding, learn_stored};
-use causal_node::process_memory::ProcessMemory;
 use std::alloc::Global;
 
 /// Adds the logs of the up processes to a log.

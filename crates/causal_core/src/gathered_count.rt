@@ -3,14 +3,14 @@ ghost use Rattle.std.specs.Prelude.{◌≡◌, ◌≤◌, ◌<◌, ◌^◌, leng
 ghost use Rattle.std.specs.Option.{option_map, option_map_or};
 ghost use Rattle.std.specs.FinMap as fin;
 ghost use Rattle.causal_log.specs.Stores.{count_in};
-ghost use Rattle.causal_node.specs.ProcessMemories.{memory_of};
+ghost use Rattle.causal_memory.specs.ProcessMemories.{memory_of};
 ghost use Rattle.causal_core.specs.Inside.Memories.{memories_in};
 ghost use Rattle.causal_core.specs.Inside.Gathers.{count_unseen, is_logged, is_unseen, IsGatheredCount};
 ghost use Rattle.causal_trace.specs.Limits.{max_entries, max_processes};
 
 use causal_log::{Log, Stable};
+use causal_memory::process_memory::ProcessMemory;
 use causal_name::Det;
-use causal_node::process_memory::ProcessMemory;
 
 /// Returns whether the process is up and logs the determinant.
 fn logs(process_memory: &Option<ProcessMemory>, det: Det) -> bool

@@ -3,13 +3,13 @@ ghost use Rattle.std.specs.Prelude.{◌≡◌, is_none, count_by};
 ghost use Rattle.std.specs.Option.{option_map, option_copied};
 ghost use Rattle.causal_protocol.specs.Memory.{present_at};
 ghost use Rattle.causal_protocol.specs.Naming.{sent_message_for, message_name};
-ghost use Rattle.causal_node.specs.ProcessMemories.{memory_of};
+ghost use Rattle.causal_memory.specs.ProcessMemories.{memory_of};
 ghost use Rattle.causal_core.specs.Inside.Memories.{memories_in};
-ghost use Rattle.causal_node.specs.Outboxes.{kept_message_of};
+ghost use Rattle.causal_memory.specs.Outboxes.{kept_message_of};
 
+use causal_memory::outbox::Envelope;
+use causal_memory::process_memory::ProcessMemory;
 use causal_name::Pid;
-use causal_node::outbox::Envelope;
-use causal_node::process_memory::ProcessMemory;
 
 /// Returns the number of down processes.
 pub(crate) fn count_down(process_memories: &[Option<ProcessMemory>]) -> usize

@@ -7,14 +7,14 @@ ghost use Rattle.causal_protocol.specs.Naming.{message_name};
 ghost use Rattle.causal_protocol.specs.Refusals.{first_fault};
 ghost use Rattle.causal_core.specs.Inside.Slots.{HasBox, IsStepResult};
 ghost use Rattle.causal_core.specs.View.{body_at, body_in};
-ghost use Rattle.causal_node.specs.ProcessMemories.{memory_of, bodies_of, capacity_of};
+ghost use Rattle.causal_memory.specs.ProcessMemories.{memory_of, bodies_of, capacity_of};
 ghost use Rattle.causal_core.specs.Inside.Memories.{memories_in, memory_at, bodies_in, capacities_in};
 
 use crate::boxes::step_box;
 use crate::run_data::RunData;
+use causal_memory::outbox::Outbox;
+use causal_memory::process_memory::ProcessMemory;
 use causal_name::{NoMemory, Pid};
-use causal_node::outbox::Outbox;
-use causal_node::process_memory::ProcessMemory;
 use causal_process::{Body, Input, Outgoing, Process};
 use std::alloc::Global;
 use std::mem;

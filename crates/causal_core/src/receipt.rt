@@ -9,11 +9,11 @@ ghost use Rattle.causal_trace.specs.Past.{message_at};
 ghost use Rattle.causal_protocol.specs.Memory.{log_after_delivery, with_received};
 ghost use Rattle.causal_core.specs.Inside.MemoryInvariant.{MatchesEntries};
 ghost use Rattle.causal_core.specs.Inside.DeliveryRecords.{IsLogDelivered, IsLegalNext, OthersStillFit};
-ghost use Rattle.causal_node.specs.ProcessMemories.{memory_of, capacity_of, bodies_of};
+ghost use Rattle.causal_memory.specs.ProcessMemories.{memory_of, capacity_of, bodies_of};
 
 use causal_log::Batch;
+use causal_memory::process_memory::ProcessMemory;
 use causal_name::{Det, Pid};
-use causal_node::process_memory::ProcessMemory;
 use causal_trace::entry::{Dets, Entry};
 use causal_trace::trace::Trace;
 use std::sync::Arc;

@@ -12,8 +12,8 @@ ghost use Rattle.causal_trace.specs.Limits.{max_entries};
 
 use crate::memory_lookup::process_memory_at;
 use crate::run_data::{RunData, exceeds_entries, exceeds_limits, is_process};
+use causal_memory::process_memory::ProcessMemory;
 use causal_name::{Det, NoMemory, Pid};
-use causal_node::process_memory::ProcessMemory;
 use causal_protocol::request::CoreFault;
 use causal_trace::entry::{Dets, Entry};
 use std::alloc::Global;

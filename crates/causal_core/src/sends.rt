@@ -7,11 +7,11 @@ ghost use Rattle.causal_core.specs.Inside.MemoryInvariant.{MatchesEntries};
 ghost use Rattle.causal_core.specs.Inside.DeliveryRecords.{keep_send, keep_sends, with_send, with_sends};
 ghost use Rattle.causal_core.specs.Inside.DeliveryRecords.{OthersStillFit, StayDelivered};
 ghost use Rattle.causal_core.specs.View.{receivers, sent_bodies};
-ghost use Rattle.causal_node.specs.ProcessMemories.{memory_of, bodies_of};
+ghost use Rattle.causal_memory.specs.ProcessMemories.{memory_of, bodies_of};
 ghost use Rattle.causal_trace.specs.Limits.{max_entries};
 
+use causal_memory::process_memory::ProcessMemory;
 use causal_name::Pid;
-use causal_node::process_memory::ProcessMemory;
 use causal_process::Outgoing;
 use causal_trace::entry::Entry;
 use causal_trace::trace::Trace;

@@ -1,8 +1,3 @@
-pub mod ProcessMemories
-pub mod Outboxes
-pub mod Namings
-pub mod DeliveryPlans
-pub mod RestartPlans
 pub mod NodeStates
 pub mod NodeRefusals
 pub mod NodeSteps

@@ -16,7 +16,7 @@ use Rattle.causal_protocol.specs.Memory.{new_memory}
 use Rattle.causal_node.specs.declared.node.Identity.{Identity}
 use Rattle.causal_node.specs.declared.node_fault.NodeFault.{NodeFault}
 use Rattle.causal_node.specs.declared.node_fault.NodeFault.TheVariants as Faults
-use Rattle.causal_node.specs.ProcessMemories.{with_stable}
+use Rattle.causal_memory.specs.ProcessMemories.{with_stable}
 use Rattle.causal_node.specs.NodeStates.{NodeState, Recovery, RoundState, floor_of, with_memory}
 use Rattle.causal_node.specs.NodeRefusals.{or_else}
 use Rattle.causal_trace.specs.Limits.{max_processes}

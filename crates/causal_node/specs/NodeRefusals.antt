@@ -11,7 +11,7 @@ use Rattle.causal_protocol.specs.Naming.{with_own}
 use Rattle.causal_trace.specs.Past.{det_from}
 use Rattle.causal_node.specs.declared.node_fault.NodeFault.{NodeFault}
 use Rattle.causal_node.specs.declared.node_fault.NodeFault.TheVariants as Faults
-use Rattle.causal_node.specs.Namings.{named_message_by}
+use Rattle.causal_memory.specs.Namings.{named_message_by}
 use Rattle.causal_node.specs.NodeStates.{NodeState, Recovery, floor_of, has_name}
 
 -- the fault of a node that is not up

@@ -16,7 +16,7 @@ use Rattle.causal_name.specs.Names.{message_cmp}
 use Rattle.causal_log.specs.declared.batch.Item.{Item}
 use Rattle.causal_log.specs.Knowledge.{coded_det, coded_known}
 use Rattle.causal_log.specs.Logs.{LogMap, batch_items}
-use Rattle.causal_node.specs.Outboxes.{coded_kept}
+use Rattle.causal_memory.specs.Outboxes.{coded_kept}
 use Rattle.causal_protocol.specs.Limits.{max_entries}
 use Rattle.causal_protocol.specs.Memory.{Memory, SentMessage}
 use Rattle.causal_trace.specs.Limits.{max_processes}

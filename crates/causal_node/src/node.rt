@@ -2,15 +2,15 @@
 ghost use Rattle.std.specs.Prelude.{◌≡◌, None, IfOk, slice_get};
 ghost use Rattle.std.specs.Option.{option_map};
 ghost use Rattle.causal_log.specs.Logs.{unstable_in};
-ghost use Rattle.causal_node.specs.Outboxes.{kept_message_of};
-ghost use Rattle.causal_node.specs.Namings.{named_message_by};
+ghost use Rattle.causal_memory.specs.Outboxes.{kept_message_of};
+ghost use Rattle.causal_memory.specs.Namings.{named_message_by};
 ghost use Rattle.causal_node.specs.NodeStates.{floor_of};
 
-use crate::naming::named_message;
-use crate::outbox::Envelope;
-use crate::process_memory::ProcessMemory;
 use causal_holders::Holders;
 use causal_log::{Batch, Log};
+use causal_memory::naming::named_message;
+use causal_memory::outbox::Envelope;
+use causal_memory::process_memory::ProcessMemory;
 use causal_name::{Det, MsgName, NoMemory, Pid};
 use std::alloc::Global;
 use std::collections::BTreeSet;
@@ -71,7 +71,7 @@ pub struct Node {
 }
 
 impl Model for Node {
-    ghost use Rattle.causal_node.specs.ProcessMemories.{memory_of, bodies_of};
+    ghost use Rattle.causal_memory.specs.ProcessMemories.{memory_of, bodies_of};
     ghost use Rattle.causal_node.specs.NodeStates.{coded_node, recovery_of, IsNode, NodeState};
 
     ghost Value = { NodeState };

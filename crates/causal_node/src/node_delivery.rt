@@ -1,20 +1,20 @@
 //! A node delivers a message.
-#![tactic(auto, using(crate::proofs::Lemmas::ListInsert::items_listed))]
+#![tactic(auto, using(causal_memory::proofs::Lemmas::ListInsert::items_listed))]
 
 ghost use Rattle.std.specs.Prelude.{◌≡◌, ◌≤◌, IfOk, IfErr, OnOk, OnErr, None, length};
 ghost use Rattle.std.specs.Arc.{arc_value};
 ghost use Rattle.causal_trace.specs.Past.{det_from};
-ghost use Rattle.causal_node.specs.DeliveryPlans.{IsPlanFor};
+ghost use Rattle.causal_memory.specs.DeliveryPlans.{IsPlanFor};
 ghost use Rattle.causal_node.specs.NodeRefusals.{deliver_fault, node_reason_of};
 ghost use Rattle.causal_node.specs.NodeSteps.{after_delivery, IsDelivery};
 
-use crate::delivery_list::listed_len;
-use crate::delivery_plan::DeliveryPlan;
-use crate::delivery_planning::plan_delivery;
 use crate::node::{Node, Stage};
 use crate::node_fault::NodeFault;
-use crate::outbox::Envelope;
 use causal_log::Batch;
+use causal_memory::delivery_list::listed_len;
+use causal_memory::delivery_plan::DeliveryPlan;
+use causal_memory::delivery_planning::plan_delivery;
+use causal_memory::outbox::Envelope;
 use causal_name::{Det, MsgName, NoMemory};
 use causal_protocol::limits::{MAX_ENTRIES, MAX_LISTED};
 use causal_trace::entry::Dets;

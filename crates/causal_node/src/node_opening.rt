@@ -6,10 +6,10 @@ ghost use Rattle.causal_node.specs.NodeRefusals.{node_reason_of};
 
 use crate::node::{Identity, Node, Stage};
 use crate::node_fault::NodeFault;
-use crate::restart_plan::RestartPlan;
-use crate::restart_planning::restart_plan_with;
 use causal_holders::Holders;
 use causal_log::Log;
+use causal_memory::restart_plan::RestartPlan;
+use causal_memory::restart_planning::restart_plan_with;
 use causal_name::NoMemory;
 use std::alloc::Global;
 use std::collections::BTreeSet;

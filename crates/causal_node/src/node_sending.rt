@@ -7,8 +7,8 @@ ghost use Rattle.causal_node.specs.NodeSteps.{after_send};
 
 use crate::node::{Node, Stage};
 use crate::node_fault::NodeFault;
-use crate::restart_planning::choose_and_cache;
 use causal_log::Batch;
+use causal_memory::restart_planning::choose_and_cache;
 use causal_name::{NoMemory, Pid};
 use causal_process::Body;
 use causal_protocol::limits::MAX_ENTRIES;

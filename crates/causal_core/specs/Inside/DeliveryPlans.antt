@@ -4,8 +4,8 @@ use Rattle.std.specs.Arc.{arc_value}
 use Rattle.causal_name.specs.declared.Pid.{Pid}
 use Rattle.causal_name.specs.declared.MsgName.{MsgName}
 use Rattle.causal_log.specs.Logs.{batch_items}
-use Rattle.causal_node.specs.declared.delivery_plan.DeliveryPlan.{DeliveryPlan}
-use Rattle.causal_node.specs.DeliveryPlans.{piggyback_of, log_after_plan}
+use Rattle.causal_memory.specs.declared.delivery_plan.DeliveryPlan.{DeliveryPlan}
+use Rattle.causal_memory.specs.DeliveryPlans.{piggyback_of, log_after_plan}
 use Rattle.causal_protocol.specs.Memory.{batch_of}
 use Rattle.causal_protocol.specs.Run.{memories_of}
 use Rattle.causal_protocol.specs.Naming.{own_det, send_of, listed_for}

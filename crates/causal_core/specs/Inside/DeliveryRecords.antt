@@ -15,9 +15,9 @@ use Rattle.causal_protocol.specs.declared.request.Request.{Request}
 use Rattle.causal_protocol.specs.declared.request.Request.TheVariants as Requests
 use Rattle.causal_protocol.specs.Memory.{Memory, Memories, with_sent_message, with_received}
 use Rattle.causal_protocol.specs.Steps.{sends_of, append_all}
-use Rattle.causal_node.specs.declared.delivery_plan.DeliveryPlan.{DeliveryPlan}
+use Rattle.causal_memory.specs.declared.delivery_plan.DeliveryPlan.{DeliveryPlan}
 use Rattle.causal_core.specs.View.{receivers}
-use Rattle.causal_node.specs.DeliveryPlans.{piggyback_of}
+use Rattle.causal_memory.specs.DeliveryPlans.{piggyback_of}
 use Rattle.causal_core.specs.Inside.Memories.{memory_at, keep_all}
 use Rattle.causal_core.specs.Inside.MemoryInvariant.{MatchesEntriesAt}
 

@@ -15,8 +15,8 @@ use Rattle.causal_protocol.specs.declared.request.CoreFault.{CoreFault}
 use Rattle.causal_protocol.specs.declared.request.CoreFault.TheVariants as Faults
 use Rattle.causal_protocol.specs.Gathering.{restart_log, with_logs_of, with_held, with_stored}
 use Rattle.causal_protocol.specs.Run.{Run, memories_of, stable_of}
-use Rattle.causal_node.specs.declared.restart_plan.RestartPlan.{RestartPlan}
-use Rattle.causal_node.specs.RestartPlans.{IsRestartPlan}
+use Rattle.causal_memory.specs.declared.restart_plan.RestartPlan.{RestartPlan}
+use Rattle.causal_memory.specs.RestartPlans.{IsRestartPlan}
 
 -- whether the log of one of these processes contains the determinant
 abbrev pub is_logged : Memories → Det → Bool

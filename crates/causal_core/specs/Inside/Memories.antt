@@ -5,7 +5,7 @@ use Rattle.std.specs.FinMap as fin
 use Rattle.causal_name.specs.declared.Pid.{Pid}
 use Rattle.causal_log.specs.declared.batch.Item.{Item}
 use Rattle.causal_log.specs.Logs.{LogMap}
-use Rattle.causal_node.specs.declared.process_memory.ProcessMemory.{ProcessMemory}
+use Rattle.causal_memory.specs.declared.process_memory.ProcessMemory.{ProcessMemory}
 use Rattle.causal_protocol.specs.Memory.{Memory, Memories, new_memory, present_at, with_sent_message}
 use Rattle.causal_protocol.specs.Run.{Run, memories_of, stable_of}
 use Rattle.causal_log.specs.Slots.{first_of_slot}
@@ -13,7 +13,7 @@ use Rattle.causal_log.specs.Stores.{dets_in}
 use Rattle.causal_protocol.specs.Naming.{next_rsn}
 use Rattle.causal_name.specs.declared.Det.{Det}
 use Rattle.causal_core.specs.View.{RunDataState}
-use Rattle.causal_node.specs.ProcessMemories.{Capacity, memory_of, bodies_of, no_capacity, capacity_of}
+use Rattle.causal_memory.specs.ProcessMemories.{Capacity, memory_of, bodies_of, no_capacity, capacity_of}
 
 -- the protocol's view of the memories of all processes
 abbrev pub memories_in : List (Option ProcessMemory) → Memories

@@ -1,7 +1,7 @@
 use Rattle.std.proofs.Common.{◌≡◌, subst, Some, slice_get, arith}
 use Rattle.causal_core.specs.Inside.MemoryInvariant.{MatchesEntriesAt}
 use Rattle.causal_core.specs.Inside.Memories.{memory_at, memories_in, capacity_at, capacities_in}
-use Rattle.causal_node.specs.ProcessMemories.{memory_of, capacity_of}
+use Rattle.causal_memory.specs.ProcessMemories.{memory_of, capacity_of}
 use Rattle.causal_core.proofs.MemoriesFit.{all_fit_set}
 use Rattle.causal_core.proofs.Cells.{lent_at, there, memory_there, room_there, memories_put, bodies_more}
 use Rattle.causal_core.proofs.delivery_recording.record_delivery_at.Goals as goal

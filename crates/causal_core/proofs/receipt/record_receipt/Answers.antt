@@ -1,7 +1,7 @@
 use Rattle.std.proofs.Common.{arith}
 use Rattle.causal_name.specs.Names.{message_of}
 use Rattle.causal_protocol.specs.Memory.{log_after_delivery}
-use Rattle.causal_node.specs.ProcessMemories.{memory_of}
+use Rattle.causal_memory.specs.ProcessMemories.{memory_of}
 use Rattle.causal_core.proofs.MemoriesFit.{fits_other}
 use Rattle.causal_core.proofs.RuntimeDelivery.{received_fits}
 use Rattle.causal_core.proofs.receipt.record_receipt.Goals as goal

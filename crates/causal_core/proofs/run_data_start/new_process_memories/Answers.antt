@@ -3,7 +3,7 @@ use Rattle.std.specs.FinMap as fin
 use Rattle.std.specs.Option.{option_map, option_map_or}
 use Rattle.std.proofs.lemmas.List.{map-append, replicate-append-replicate}
 use Rattle.causal_protocol.specs.Memory.{new_memory}
-use Rattle.causal_node.specs.ProcessMemories.{memory_of, bodies_of}
+use Rattle.causal_memory.specs.ProcessMemories.{memory_of, bodies_of}
 use Rattle.causal_core.specs.Inside.Memories.{memories_in, bodies_in}
 use Rattle.causal_core.proofs.run_data_start.new_process_memories.Goals as goal
 

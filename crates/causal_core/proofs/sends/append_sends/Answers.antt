@@ -14,7 +14,7 @@ use Rattle.causal_log.specs.Logs.{dets_of}
 use Rattle.causal_protocol.specs.Steps.{sends_of}
 use Rattle.causal_core.specs.Inside.DeliveryRecords.{keep_sends, with_sends}
 use Rattle.causal_core.specs.View.{sends_to_processes, receivers, sent_bodies}
-use Rattle.causal_node.specs.ProcessMemories.{memory_of, bodies_of}
+use Rattle.causal_memory.specs.ProcessMemories.{memory_of, bodies_of}
 use Rattle.causal_core.specs.Inside.Memories.{keep_all}
 use Rattle.causal_core.proofs.RuntimeSend.{addressed_more, keep_more, sends_more, kept_length, sends_length, pushed_last, pushed_length}
 use Rattle.causal_core.proofs.sends.append_sends.Goals as goal

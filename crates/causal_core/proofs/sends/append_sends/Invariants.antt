@@ -5,7 +5,7 @@ use Rattle.causal_protocol.specs.Memory.{Memory}
 use Rattle.causal_protocol.specs.Steps.{sends_of, append_all}
 use Rattle.causal_core.specs.Inside.MemoryInvariant.{MatchesEntries, MatchesEntriesAt}
 use Rattle.causal_core.specs.View.{receivers, sent_bodies}
-use Rattle.causal_node.specs.ProcessMemories.{memory_of, bodies_of}
+use Rattle.causal_memory.specs.ProcessMemories.{memory_of, bodies_of}
 use Rattle.causal_core.specs.Inside.Memories.{keep_all}
 use Rattle.causal_core.proofs.sends.append_sends.Given as goal
 

@@ -2,7 +2,7 @@ use Rattle.std.proofs.Common.{◌≡◌, None, arith, length}
 use Rattle.causal_trace.specs.declared.entry.Entry.TheVariants as Entries
 use Rattle.causal_trace.specs.Rows as Rows
 use Rattle.causal_trace.proofs.Lemmas.CountBounds.{sends_few}
-use Rattle.causal_node.specs.ProcessMemories.{memory_of}
+use Rattle.causal_memory.specs.ProcessMemories.{memory_of}
 use Rattle.causal_core.proofs.MemoriesFit.{fits_other}
 use Rattle.causal_core.proofs.RuntimeSend.{send_legal, send_fits, send_apart}
 use Rattle.causal_core.proofs.sends.record_send.Goals as goal

@@ -13,8 +13,8 @@ use Rattle.causal_protocol.specs.Naming.{message_name, next_det, sent_message_fo
 use Rattle.causal_protocol.specs.Refusals.{first_fault, fault_unless_named, exceeds_limits}
 use Rattle.causal_core.specs.View.{run_from}
 use Rattle.causal_core.specs.Inside.Memories.{memories_in}
-use Rattle.causal_node.specs.ProcessMemories.{memory_of}
-use Rattle.causal_node.specs.Outboxes.{kept_message_of}
+use Rattle.causal_memory.specs.ProcessMemories.{memory_of}
+use Rattle.causal_memory.specs.Outboxes.{kept_message_of}
 use Rattle.causal_core.proofs.DeliveryRows.{tell_process, tell_down, tell_other, tell_absent, tell_again, tell_full, received_few}
 use Rattle.causal_core.proofs.run_data.RunData.delivery_fault.Goals as goal
 use Rattle.causal_core.proofs.run_data.RunData.delivery_fault.Goals.{After-are_processes, In-Some, After-must_replay_fault, In-Some-kept_message, After-exceeds_limits}

@@ -10,8 +10,8 @@ use Rattle.causal_protocol.specs.Naming.{message_name, sent_message_for}
 use Rattle.causal_protocol.specs.Refusals.{first_fault}
 use Rattle.causal_core.specs.View.{RunDataState, run_from}
 use Rattle.causal_core.specs.Inside.Memories.{memories_in, bodies_in, capacities_in}
-use Rattle.causal_node.specs.ProcessMemories.{memory_of}
-use Rattle.causal_node.specs.Outboxes.{kept_message_of}
+use Rattle.causal_memory.specs.ProcessMemories.{memory_of}
+use Rattle.causal_memory.specs.Outboxes.{kept_message_of}
 use Rattle.causal_core.proofs.DeliveryRows.{received_few}
 use Rattle.causal_core.proofs.LegalDelivery.{receiver_up, receiver_below, message_there}
 use Rattle.causal_core.proofs.run_data.RunData.delivery_plan_for.Goals as goal

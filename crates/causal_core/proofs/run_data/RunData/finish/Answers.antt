@@ -19,7 +19,7 @@ use Rattle.causal_protocol.specs.Steps.{LegalStep, Steps, delivery_of, sends_of}
 use Rattle.causal_core.specs.Inside.MemoryInvariant.{AllMatchEntries}
 use Rattle.causal_core.specs.View.{RunDataState, sent_in, with_delivery, run_from, receivers, with_bodies}
 use Rattle.causal_core.specs.Inside.DeliveryPlans.{IsDeliveryPlan}
-use Rattle.causal_node.specs.DeliveryPlans.{piggyback_of}
+use Rattle.causal_memory.specs.DeliveryPlans.{piggyback_of}
 use Rattle.causal_core.specs.Inside.Memories.{memories_in, memory_at, bodies_in, capacities_in}
 use Rattle.causal_core.proofs.RuntimeSend.{are_sends, receivers_below, receivers_long, addressed_few}
 use Rattle.causal_core.proofs.Legal.{held_fit}

@@ -16,9 +16,9 @@ use Rattle.causal_protocol.specs.Run.{Run, memories_of, stable_of}
 use Rattle.causal_protocol.specs.Refusals.{first_fault, restart_list}
 use Rattle.causal_protocol.specs.Steps.{LegalStep, Steps, append_all, sends_of}
 use Rattle.causal_core.specs.Inside.MemoryInvariant.{MatchesEntriesAt, AllMatchEntries}
-use Rattle.causal_node.specs.RestartPlans.{IsRestartPlan}
+use Rattle.causal_memory.specs.RestartPlans.{IsRestartPlan}
 use Rattle.causal_core.specs.View.{RunDataState, run_from, receivers}
-use Rattle.causal_node.specs.ProcessMemories.{memory_of}
+use Rattle.causal_memory.specs.ProcessMemories.{memory_of}
 use Rattle.causal_core.specs.Inside.Memories.{memories_in, bodies_in, capacities_in, keep_all}
 use Rattle.causal_core.proofs.MemoriesFit.{fits_other, all_fit_set, delivered_more}
 use Rattle.causal_core.proofs.RuntimeSend.{are_sends, receivers_below, receivers_long, addressed_few}

@@ -4,7 +4,7 @@ use Rattle.std.proofs.lemmas.Grind.{common_steps}
 use Rattle.causal_trace.proofs.Lemmas.WellFormed.{formed_short}
 use Rattle.causal_protocol.specs.Memory.{present_at}
 use Rattle.causal_core.specs.Inside.Memories.{memories_in}
-use Rattle.causal_node.specs.ProcessMemories.{memory_of}
+use Rattle.causal_memory.specs.ProcessMemories.{memory_of}
 use Rattle.causal_core.proofs.DeliveryRows.{received_few}
 use Rattle.causal_core.proofs.Cells.{some_within}
 use Rattle.causal_core.proofs.run_data.RunData.named_message.Goals as goal

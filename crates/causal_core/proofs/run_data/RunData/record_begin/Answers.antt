@@ -5,9 +5,9 @@ use Rattle.causal_log.proofs.Lemmas.ChosenLemmas.{chosen_ascend}
 use Rattle.causal_protocol.specs.Run.{Run}
 use Rattle.causal_protocol.specs.Steps.{append_all, sends_of}
 use Rattle.causal_core.specs.Inside.Begins.{CanBegin}
-use Rattle.causal_node.specs.RestartPlans.{IsRestartPlan}
+use Rattle.causal_memory.specs.RestartPlans.{IsRestartPlan}
 use Rattle.causal_core.specs.View.{run_from, receivers}
-use Rattle.causal_node.specs.ProcessMemories.{memory_of}
+use Rattle.causal_memory.specs.ProcessMemories.{memory_of}
 use Rattle.causal_core.specs.Inside.Memories.{memories_in}
 use Rattle.causal_core.proofs.MemoriesFit.{all_fit_set, at-set_other}
 use Rattle.causal_core.proofs.RuntimeDelivery.{chosen_all}

@@ -4,7 +4,7 @@ use Rattle.std.specs.Arc.{arc_value}
 use Rattle.causal_name.specs.declared.Det.{Det}
 use Rattle.causal_log.specs.declared.batch.Item.{Item}
 use Rattle.causal_log.specs.Logs.{LogMap, batch_items, dets_of}
-use Rattle.causal_node.specs.declared.delivery_plan.DeliveryPlan.{DeliveryPlan}
+use Rattle.causal_memory.specs.declared.delivery_plan.DeliveryPlan.{DeliveryPlan}
 use Rattle.causal_protocol.specs.Memory.{SentMessage, Memory, log_after_delivery}
 use Rattle.causal_protocol.specs.Naming.{with_own}
 

@@ -1,9 +1,9 @@
 use Rattle.std.proofs.Common.{◌∙◌, ◌-◌, ◌++◌, ◌∷◌, [], take, length, map, ap}
 use Rattle.std.specs.Arc.{arc_value}
 use Rattle.std.specs.Option.{option_map_or}
-use Rattle.causal_node.specs.Outboxes.{batch_at, kept_among}
-use Rattle.causal_node.proofs.SentMessages.{first_stay, kept_same, last_there}
-use Rattle.causal_node.proofs.outbox.Outbox.begin_step.Goals as goal
+use Rattle.causal_memory.specs.Outboxes.{batch_at, kept_among}
+use Rattle.causal_memory.proofs.SentMessages.{first_stay, kept_same, last_there}
+use Rattle.causal_memory.proofs.outbox.Outbox.begin_step.Goals as goal
 
 pub returns-clause-kept : goal.returns-clause-kept
 returns-clause-kept c =

@@ -4,8 +4,8 @@ use Rattle.std.specs.Arc.{arc_value}
 use Rattle.std.specs.declared.sync.Arc.{Arc}
 use Rattle.std.specs.Option.{option_map_or}
 use Rattle.causal_log.specs.declared.batch.Item.{Item}
-use Rattle.causal_node.specs.declared.outbox.Message.{Message}
-use Rattle.causal_node.specs.Outboxes.{kept_among}
+use Rattle.causal_memory.specs.declared.outbox.Message.{Message}
+use Rattle.causal_memory.specs.Outboxes.{kept_among}
 
 -- messages that carry one of the first batches are unchanged if those batches are
 pub kept_same : (used_batches : ℕ) (old new : List (Arc (List Item) Global)) (messages : List Message) → ((ssn : ℕ) (m : Message) → slice_get messages ssn ≡ Some m → m.step < used_batches) → ((step : ℕ) → step < used_batches → slice_get new step ≡ slice_get old step) → map (kept_among new) messages ≡ map (kept_among old) messages

@@ -2,7 +2,7 @@
 ghost use Rattle.std.specs.Prelude.{◌≡◌, IfOk};
 ghost use Rattle.std.specs.Arc.{arc_value};
 ghost use Rattle.causal_log.specs.Logs.{batch_items};
-ghost use Rattle.causal_node.specs.RestartPlans.{IsRestartPlan};
+ghost use Rattle.causal_memory.specs.RestartPlans.{IsRestartPlan};
 
 use crate::new_memory::new_process_memory;
 use crate::restart_plan::RestartPlan;
@@ -12,7 +12,7 @@ use std::alloc::Global;
 use std::sync::Arc;
 
 /// Returns the batch that a log chooses for f failures, and stores it in the log.
-pub(crate) fn choose_and_cache(alloc: Global, f: u16, log: &mut Log) -> Result<Arc<Batch>, NoMemory>
+pub fn choose_and_cache(alloc: Global, f: u16, log: &mut Log) -> Result<Arc<Batch>, NoMemory>
     ensures map { log.new.map ≡ log.old.map }
     ensures batch { IfOk result (λ batch. arc_value batch ≡ batch_items f log.old.map) }
 {

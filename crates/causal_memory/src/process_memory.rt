@@ -3,7 +3,7 @@ ghost use Rattle.std.specs.Prelude.{◌≡◌, ◌≤◌, ◌+◌, ◌++◌, ◌
 ghost use Rattle.std.specs.Arc.{arc_value};
 ghost use Rattle.causal_log.specs.Logs.{after_drop_stable, batch_items};
 ghost use Rattle.causal_protocol.specs.Memory.{log_after_delivery, with_log, with_received, with_sent_message};
-ghost use Rattle.causal_node.specs.ProcessMemories.{memory_of, bodies_of, capacity_of, with_stable};
+ghost use Rattle.causal_memory.specs.ProcessMemories.{memory_of, bodies_of, capacity_of, with_stable};
 
 use crate::outbox::Outbox;
 use causal_log::{Batch, Log};

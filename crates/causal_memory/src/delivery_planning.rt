@@ -1,8 +1,8 @@
 //! The making of a delivery plan.
 ghost use Rattle.std.specs.Prelude.{IfOk};
-ghost use Rattle.causal_node.specs.DeliveryPlans.{IsPlanFor};
-ghost use Rattle.causal_node.specs.ProcessMemories.{memory_of};
-ghost use Rattle.causal_node.specs.Outboxes.{kept_message_of};
+ghost use Rattle.causal_memory.specs.DeliveryPlans.{IsPlanFor};
+ghost use Rattle.causal_memory.specs.ProcessMemories.{memory_of};
+ghost use Rattle.causal_memory.specs.Outboxes.{kept_message_of};
 
 use crate::delivery_list::listed_dets;
 use crate::delivery_plan::DeliveryPlan;

@@ -1,7 +1,7 @@
 use Rattle.std.proofs.Common.{◌≡◌, ◌≤◌, ◌+◌, ◌++◌, drop, length}
 use Rattle.std.specs.Prelude.{vec_len, vec_capacity}
 use Rattle.causal_log.specs.Logs.{dets_of}
-use Rattle.causal_node.proofs.delivery_list.append_dets.Given as goal
+use Rattle.causal_memory.proofs.delivery_list.append_dets.Given as goal
 
 abbrev pub invariant-loop-item : goal.invariant-loop-item
 invariant-loop-item l = record {

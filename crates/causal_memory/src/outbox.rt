@@ -2,7 +2,7 @@
 ghost use Rattle.std.specs.Prelude.{◌≡◌, ◌≤◌, ◌-◌, ◌+◌, ◌++◌, ◌∷◌, [], ◌==◌, length, false, IfOk, OnOk, slice_get};
 ghost use Rattle.std.specs.Arc.{arc_value};
 ghost use Rattle.std.specs.Option.{option_map, option_map_or};
-ghost use Rattle.causal_node.specs.Outboxes.{kept_message_of};
+ghost use Rattle.causal_memory.specs.Outboxes.{kept_message_of};
 
 use causal_log::Batch;
 use causal_name::{NoMemory, Pid};
@@ -44,7 +44,7 @@ pub struct Outbox {
 
 impl Model for Outbox {
     ghost use Rattle.std.specs.Prelude.{◌-◌, vec_capacity, vec_len};
-    ghost use Rattle.causal_node.specs.Outboxes.{coded_outbox, outbox_from, CarryTheFirst, OutboxState};
+    ghost use Rattle.causal_memory.specs.Outboxes.{coded_outbox, outbox_from, CarryTheFirst, OutboxState};
 
     ghost Value = { OutboxState };
 

@@ -2,7 +2,7 @@
 ghost use Rattle.std.specs.Prelude.{◌≡◌, ◌≤◌, [], IfOk};
 ghost use Rattle.std.specs.Arc.{arc_value};
 ghost use Rattle.causal_protocol.specs.Memory.{new_memory};
-ghost use Rattle.causal_node.specs.ProcessMemories.{memory_of, bodies_of};
+ghost use Rattle.causal_memory.specs.ProcessMemories.{memory_of, bodies_of};
 
 use crate::outbox::Outbox;
 use crate::process_memory::ProcessMemory;

@@ -1,8 +1,8 @@
 //! The message that is named for a process's next delivery.
 ghost use Rattle.std.specs.Prelude.{◌≡◌, ◌<◌, ◌^◌, vec_len};
 ghost use Rattle.causal_protocol.specs.Refusals.{fault_unless_named};
-ghost use Rattle.causal_node.specs.Namings.{named_message_by};
-ghost use Rattle.causal_node.specs.ProcessMemories.{memory_of};
+ghost use Rattle.causal_memory.specs.Namings.{named_message_by};
+ghost use Rattle.causal_memory.specs.ProcessMemories.{memory_of};
 
 use crate::process_memory::ProcessMemory;
 use causal_name::{Det, MsgName, Pid};

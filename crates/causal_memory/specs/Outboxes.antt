@@ -7,8 +7,8 @@ use Rattle.std.specs.declared.sync.Arc.{Arc}
 use Rattle.std.proofs.Common.{Global, refl}
 use Rattle.causal_log.specs.declared.batch.Item.{Item}
 use Rattle.causal_log.specs.Knowledge.{coded_item}
-use Rattle.causal_node.specs.declared.outbox.Message.{Message}
-use Rattle.causal_node.specs.declared.outbox.Envelope.{Envelope}
+use Rattle.causal_memory.specs.declared.outbox.Message.{Message}
+use Rattle.causal_memory.specs.declared.outbox.Envelope.{Envelope}
 use Rattle.causal_protocol.specs.Memory.{SentMessage}
 
 -- the kept messages, their bodies, the batch of the current step, and how many further messages of this step, and of
