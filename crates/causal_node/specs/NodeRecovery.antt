@@ -1,5 +1,5 @@
 -- The recovery of a node: its rounds, its replies to others' rounds, and its restart.
-use Rattle.std.specs.Prelude.{◌==◌, ℕ, suc, zero, Bool, not, ◌&&◌, ◌||◌, nat_lt, nat_le, max, List, [], length, replicate, slice_set, Option, Some, None, if◌then◌else◌}
+use Rattle.std.specs.Prelude.{◌==◌, ℕ, suc, zero, Bool, true, false, not, ◌&&◌, ◌||◌, nat_lt, nat_le, max, List, [], length, replicate, slice_set, Option, Some, None, if◌then◌else◌}
 use Rattle.std.specs.List.{list_any}
 use Rattle.std.specs.BTreeMap.{is_at}
 use Rattle.std.specs.Ordering.{nat_cmp}
@@ -32,7 +32,7 @@ with_recovery n recovery = record n { recovery = recovery }
 
 -- a round to which nobody has replied
 abbrev pub new_round : Identity → ℕ → RoundState
-new_round who name = record { name = name; awaited = set.remove (processes_below who.processes) who.me.0; log = fin.empty }
+new_round who name = record { name = name; awaited = set.remove (processes_below who.processes) who.me.0; log = fin.empty; read = false }
 
 -- the node with a determinant that its process read from stable storage in a round
 abbrev pub with_stored_in : NodeState → RoundState → Det → NodeState
@@ -97,7 +97,19 @@ stored_fault (Some (Some r)) = or_else (nat_lt 0 (set.len r.awaited)) Faults.Wai
 abbrev pub restart_fault : Recovery → Option NodeFault
 restart_fault None = Some Faults.Up
 restart_fault (Some None) = Some Faults.NoRound
-restart_fault (Some (Some r)) = or_else (nat_lt 0 (set.len r.awaited)) Faults.Waiting None
+restart_fault (Some (Some r)) = or_else (nat_lt 0 (set.len r.awaited) || not r.read) Faults.Waiting None
+
+-- the first refusal that applies to the question to stable storage
+abbrev pub ask_fault : Recovery → Option NodeFault
+ask_fault None = Some Faults.Up
+ask_fault (Some None) = Some Faults.NoRound
+ask_fault (Some (Some r)) = or_else (nat_lt 0 (set.len r.awaited)) Faults.Waiting None
+
+-- the first refusal that applies to the end of a read, in the round of this name
+abbrev pub read_fault : Recovery → ℕ → Option NodeFault
+read_fault None name = Some Faults.Up
+read_fault (Some None) name = Some Faults.Unasked
+read_fault (Some (Some r)) name = or_else (not (r.name == name)) Faults.Unasked (or_else (nat_lt 0 (set.len r.awaited)) Faults.Waiting None)
 
 -- the first refusal that applies to a reply of q to the round of this name
 abbrev pub reply_fault : Recovery → ℕ → Pid → Option NodeFault
@@ -107,11 +119,15 @@ reply_fault (Some (Some r)) name q = or_else (not (r.name == name && set.contain
 
 -- the round after q has replied with this log
 abbrev pub with_log_of : RoundState → ℕ → LogMap → RoundState
-with_log_of r q log = record { name = r.name; awaited = set.remove r.awaited q; log = after_union r.log log }
+with_log_of r q log = record { name = r.name; awaited = set.remove r.awaited q; log = after_union r.log log; read = r.read }
 
 -- the round after q has replied that it is not up
 abbrev pub without_awaited : RoundState → ℕ → RoundState
-without_awaited r q = record { name = r.name; awaited = set.remove r.awaited q; log = r.log }
+without_awaited r q = record { name = r.name; awaited = set.remove r.awaited q; log = r.log; read = r.read }
+
+-- the round once stable storage has been read
+abbrev pub after_read : RoundState → RoundState
+after_read r = record { name = r.name; awaited = r.awaited; log = r.log; read = true }
 
 -- the stage with a changed round, if there is one
 abbrev pub map_round : (RoundState → RoundState) → Recovery → Recovery

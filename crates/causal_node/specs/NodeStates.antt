@@ -4,7 +4,7 @@ use Rattle.std.specs.List.{list_any}
 use Rattle.std.specs.BTreeMap.{is_at}
 use Rattle.std.specs.Option.{IfSome}
 use Rattle.std.specs.Ordering.{nat_cmp}
-use Rattle.std.specs.Coded.{Coded, code_by, coded×, coded_list, coded_option, coded_ℕ}
+use Rattle.std.specs.Coded.{Coded, code_by, coded×, coded_list, coded_option, coded_ℕ, coded_bool}
 use Rattle.std.specs.FinMap as fin
 use Rattle.std.specs.FinSet as set
 use Rattle.std.specs.Arc.{arc_value}
@@ -25,11 +25,13 @@ use Rattle.causal_node.specs.declared.node.Round.{Round}
 use Rattle.causal_node.specs.declared.node.Stage.{Stage}
 use Rattle.causal_node.specs.declared.node.Stage.TheVariants as Stages
 
--- a round of a recovery: its name, the processes that have still to reply, and the log gathered so far
+-- a round of a recovery: its name, the processes that have still to reply, the log gathered so far, and whether stable
+-- storage has been read
 pub record RoundState : Type 0 where
   pub name : ℕ
   pub awaited : set.FinSet nat_cmp
   pub log : LogMap
+  pub read : Bool
 
 -- none if a process is up; if it is not, its round, if it has begun one
 abbrev pub Recovery : Type 0
@@ -49,7 +51,7 @@ pub record NodeState : Type 0 where
   pub recovery : Recovery
 
 abbrev pub round_of : Round → RoundState
-round_of r = record { name = r.name; awaited = r.awaited; log = r.log.map }
+round_of r = record { name = r.name; awaited = r.awaited; log = r.log.map; read = r.read }
 
 abbrev pub recovery_of : Stage → Recovery
 recovery_of Stages.Up = None
@@ -67,8 +69,8 @@ coded_memory =
 
 abbrev pub coded_round : Coded RoundState
 coded_round =
-    code_by (ℕ × (set.FinSet nat_cmp × LogMap)) (coded× coded_ℕ (coded× (set.code coded_ℕ) (fin.code coded_det coded_known)))
-    (λ r. (r.name, (r.awaited, r.log))) (λ p. record { name = p.0; awaited = p.1.0; log = p.1.1 }) (λ _. refl)
+    code_by (ℕ × (set.FinSet nat_cmp × (LogMap × Bool))) (coded× coded_ℕ (coded× (set.code coded_ℕ) (coded× (fin.code coded_det coded_known) coded_bool)))
+    (λ r. (r.name, (r.awaited, (r.log, r.read)))) (λ p. record { name = p.0; awaited = p.1.0; log = p.1.1.0; read = p.1.1.1 }) (λ _. refl)
 
 abbrev pub coded_identity : Coded Identity
 coded_identity =

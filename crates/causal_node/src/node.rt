@@ -36,6 +36,8 @@ pub struct Round {
     pub awaited: Holders,
     /// The union of the logs that were received.
     pub log: Log,
+    /// Whether stable storage has been read.
+    pub read: bool,
 }
 
 /// Whether a process is up.

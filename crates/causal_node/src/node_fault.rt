@@ -38,8 +38,8 @@ pub enum NodeFault {
     /// The process gathers, and goes before the asker.
     #[error("the process gathers first")]
     NotYet,
-    /// Some process has still to reply.
-    #[error("a process has still to reply")]
+    /// Some process, or stable storage, has still to reply.
+    #[error("a process or stable storage has still to reply")]
     Waiting,
     /// A limit would be exceeded.
     #[error("a limit would be exceeded")]

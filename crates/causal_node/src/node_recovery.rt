@@ -1,8 +1,9 @@
 //! A node recovers: it begins a round, takes the replies, and restarts.
 ghost use Rattle.std.specs.Prelude.{◌≡◌, IfOk, IfErr, OnOk, OnErr, None, Some};
+ghost use Rattle.std.specs.Option.{option_and_then, option_map};
 ghost use Rattle.std.specs.FinMap as fin;
 ghost use Rattle.causal_name.specs.declared.MsgName.{MsgName as Message};
-ghost use Rattle.causal_node.specs.NodeRecovery.{after_not_up, after_number, after_restart_at, after_stored, begin_fault, is_named_for, map_round, new_round, reply_fault, restart_fault, restart_log_of, stored_fault, with_log_of, with_recovery};
+ghost use Rattle.causal_node.specs.NodeRecovery.{after_not_up, after_number, after_read, after_restart_at, after_stored, ask_fault, begin_fault, is_named_for, map_round, new_round, read_fault, reply_fault, restart_fault, restart_log_of, stored_fault, with_log_of, with_recovery};
 ghost use Rattle.causal_node.specs.NodeRefusals.{node_reason_of};
 ghost use Rattle.causal_node.specs.NodeStates.{has_name, round_of};
 ghost use Rattle.causal_memory.specs.RestartPlans.{IsRestartPlan};
@@ -78,6 +79,7 @@ impl Node {
             name,
             awaited,
             log: Log::with_seed(self.alloc, self.seed),
+            read: false,
         });
         Ok(())
     }
@@ -180,8 +182,54 @@ impl Node {
         match &self.stage {
             Stage::Up => Some(NodeFault::Up),
             Stage::Down => Some(NodeFault::NoRound),
-            Stage::Gathering(round) if round.awaited.len() > 0 => Some(NodeFault::Waiting),
+            Stage::Gathering(round) if round.awaited.len() > 0 || !round.read => {
+                Some(NodeFault::Waiting)
+            }
             Stage::Gathering(_) => None,
+        }
+    }
+
+    /// Returns the name of the round, once all other processes have replied to it: the question to stable storage has this
+    /// name, and `floors` as its view.
+    ///
+    /// # Errors
+    /// The first of `Up`, `NoRound` and `Waiting`.
+    pub fn ask_storage(&self) -> Result<u64, NodeFault>
+        ensures ok { IfOk result (λ name.
+            option_and_then (option_map (λ r. r.name)) self.now.recovery ≡ Some name) }
+        ensures legal { OnOk result (ask_fault self.now.recovery ≡ None) }
+        ensures refused { IfErr result (λ fault. ask_fault self.now.recovery ≡ Some fault) }
+    {
+        match &self.stage {
+            Stage::Up => Err(NodeFault::Up),
+            Stage::Down => Err(NodeFault::NoRound),
+            Stage::Gathering(round) if round.awaited.len() > 0 => Err(NodeFault::Waiting),
+            Stage::Gathering(round) => Ok(round.name),
+        }
+    }
+
+    /// Takes the end of the reply of stable storage to the round of this name: `stored` has been called for each
+    /// determinant in it.
+    ///
+    /// # Errors
+    /// The first of `Up`, `Unasked` and `Waiting`. A refusal changes nothing.
+    pub fn finish_read(&mut self, name: u64) -> Result<(), NodeFault>
+        ensures ok { OnOk result (self.new
+            ≡ with_recovery self.old (map_round after_read self.old.recovery)) }
+        ensures legal { OnOk result (read_fault self.old.recovery name ≡ None) }
+        ensures refused { IfErr result (λ fault. read_fault self.old.recovery name ≡ Some fault) }
+        ensures unchanged { OnErr result (self.new ≡ self.old) }
+    {
+        match &mut self.stage {
+            Stage::Up => Err(NodeFault::Up),
+            Stage::Gathering(round) if round.name == name => {
+                if round.awaited.len() > 0 {
+                    return Err(NodeFault::Waiting);
+                }
+                round.read = true;
+                Ok(())
+            }
+            _ => Err(NodeFault::Unasked),
         }
     }
 
@@ -197,8 +245,9 @@ impl Node {
         }
     }
 
-    /// Stable storage has this determinant: it has confirmed a write of the process, or the process has read it after
-    /// the last reply to its round. An embedder calls this for each determinant that it reads, and records each.
+    /// Stable storage has this determinant: it has confirmed a write of the process, or the process has read it in its
+    /// round, after the last reply of another process. An embedder calls this for each determinant that it reads, and
+    /// records each; then `finish_read`.
     ///
     /// # Errors
     /// The first of `NoRound` and `Waiting`; if neither applies, `NoMemory` if allocation failed. A refusal changes
@@ -231,8 +280,8 @@ impl Node {
     /// determinants that the restart entry lists.
     ///
     /// # Errors
-    /// The first of `Up`, `NoRound` and `Waiting`; if none applies, `NoMemory` if allocation failed. A refusal changes
-    /// nothing.
+    /// The first of `Up`, `NoRound` and `Waiting`, for a process or stable storage; if none applies, `NoMemory` if
+    /// allocation failed. A refusal changes nothing.
     pub fn restart(&mut self) -> Result<Vec<Det>, NodeFault>
         ensures ok { OnOk result
             (self.new ≡ after_restart_at self.old self.old.recovery self.new.reserved_names) }

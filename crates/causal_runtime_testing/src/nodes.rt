@@ -56,6 +56,9 @@ fn recovers(alloc: Global) -> Result<bool, NodeFault> {
     again.take_log(7, Pid(0), zero.log())?;
     let waits = matches!(again.restart(), Err(NodeFault::Waiting));
     again.take_log(7, Pid(2), two.log())?;
+    let unread = matches!(again.restart(), Err(NodeFault::Waiting));
+    let read = again.ask_storage()?;
+    again.finish_read(read)?;
     let listed = again.restart()?;
     let name = MsgName {
         source: Pid(0),
@@ -70,7 +73,7 @@ fn recovers(alloc: Global) -> Result<bool, NodeFault> {
         return Ok(false);
     };
     let repeated = again.deliver(zero.lane(), name, message.batch)?;
-    Ok(passed && asked && waits && due && replays && fenced && repeated.det == first)
+    Ok(passed && asked && waits && unread && due && replays && fenced && repeated.det == first)
 }
 
 #[test]
