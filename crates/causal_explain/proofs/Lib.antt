@@ -9,6 +9,7 @@ mod OrphanLemmas
 mod RangeLemmas
 mod SinceLemmas
 mod StandingLemmas
+mod TransitLemmas
 mod FirstEntries
 mod WalkLemmas
 mod WayLemmas

@@ -7,8 +7,9 @@ use Rattle.causal_audit.specs.declared.breach.Breach.{Breach}
 use Rattle.causal_explain.specs.declared.explanation.Explanation.{Explanation}
 use Rattle.causal_explain.specs.Chains.{IsShortestChain, first_lacking}
 use Rattle.causal_explain.specs.ProcessFacts.{AreDown, AreHoldings, AreLosses}
+use Rattle.causal_explain.specs.Underway.{FirstUnderway}
 
--- All facts are those at the breach's instant. The delivery, the crash set and the orphan are the breach's. The
+-- All facts but the last are those at the breach's instant. The delivery, the crash set and the orphan are the breach's. The
 -- determinant is the delivery's, and not stable. The lists of holders, losses and down processes are complete, and the
 -- chain is a shortest.
 pub record IsExplanation (r : Recording) (b : Breach) (x : Explanation) : Type 0 where
@@ -23,3 +24,4 @@ pub record IsExplanation (r : Recording) (b : Breach) (x : Explanation) : Type 0
   pub down : AreDown r.processes (past.instant r.past b.instant) x.down.items
   pub chain : IsShortestChain (past.instant r.past b.instant) b.delivery b.orphan x.chain.items
   pub unlisted : x.unlisted ≡ first_lacking (past.instant r.past b.instant) x.det x.chain.items
+  pub underway : FirstUnderway r.past b.instant x.det x.unlisted x.underway

@@ -5,3 +5,4 @@ pub mod Losing
 pub mod Bisection
 pub mod Validities
 pub mod ShortestPaths
+pub mod Transits

@@ -5,3 +5,4 @@ pub mod Explanations
 pub mod Inside
 pub mod Ranges
 pub mod ProcessFacts
+pub mod Underway

@@ -10,6 +10,7 @@ use crate::down_processes::down_since;
 use crate::explanation::Explanation;
 use crate::holdings::holder_history;
 use crate::missing_det::first_lacking;
+use crate::underway::first_underway;
 use causal_audit::Breach;
 use causal_name::NoMemory;
 use causal_trace::trace::Trace;
@@ -17,7 +18,7 @@ use std::alloc::Global;
 
 /// Returns how the delivery of a breach comes to have the breach's orphan, at the breach's instant.
 ///
-/// It takes O(entries + listed determinants) time and O(entries) memory, both up to the instant.
+/// It takes O(entries + listed determinants) time, of the whole trace, and O(entries up to the instant) memory.
 ///
 /// # Errors
 /// `NoMemory` if an allocation failed.
@@ -36,6 +37,7 @@ pub fn explain(alloc: Global, trace: &Trace, breach: &Breach) -> Result<Explanat
     let found = shortest_chain(alloc, trace, breach.instant, breach.delivery, breach.orphan)?;
     let Some(chain) = found else { unreachable!() };
     let unlisted = first_lacking(alloc, trace, breach.instant, chain.as_slice(), det)?;
+    let underway = first_underway(alloc, trace, breach.instant, unlisted, det)?;
     Ok(Explanation {
         delivery: breach.delivery,
         det,
@@ -47,5 +49,6 @@ pub fn explain(alloc: Global, trace: &Trace, breach: &Breach) -> Result<Explanat
         down,
         chain,
         unlisted,
+        underway,
     })
 }

@@ -59,4 +59,7 @@ pub struct Explanation {
     pub chain: Vec<u32>,
     /// The first delivery on the chain after which its receiver's log lacks the determinant, if there is one.
     pub unlisted: Option<u32>,
+    /// The first delivery after the instant that lists the determinant, by a process that did not hold it at the
+    /// instant, of a message then in transit that a holder had sent before the message of `unlisted`; if there is one.
+    pub underway: Option<u32>,
 }

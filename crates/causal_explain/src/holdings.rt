@@ -23,7 +23,7 @@ pub struct HolderHistory {
 }
 
 /// Whether a list contains the determinant.
-fn lists_det(listed: &Dets, det: Det) -> bool
+pub(crate) fn lists_det(listed: &Dets, det: Det) -> bool
     ensures { result ≡ list_has listed.now det }
 {
     listed.as_slice().iter().any(|other| det == *other)
@@ -61,7 +61,7 @@ pub(crate) fn holder_change(entry: &Entry, det: Det) -> Change
 }
 
 /// Returns for each process whether its log contains the determinant after these entries, and since when.
-fn holder_validity(entries: &[Entry], det: Det) -> [Validity; 256]
+pub(crate) fn holder_validity(entries: &[Entry], det: Det) -> [Validity; 256]
     requires { length entries.now ≤ max_entries }
     ensures { AreValidities (reverse entries.now) (λ p past. logs past p det) result }
 {

@@ -20,6 +20,8 @@ mod holdings;
 mod missing_det;
 /// The bounds f for which a run is safe.
 pub mod range;
+/// The first delivery by which a determinant that was in transit at an instant arrives.
+mod underway;
 /// Whether a fact holds of each process and since when, updated entry by entry.
 mod validity;
 /// Shortest paths from an event to the others; each step goes from an event to one that it directly precedes.

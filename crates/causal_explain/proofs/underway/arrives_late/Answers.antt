@@ -1,0 +1,9 @@
+use Rattle.causal_explain.proofs.TransitLemmas.{late_told}
+use Rattle.causal_explain.proofs.underway.arrives_late.Goals as goal
+
+pub returns-in-Deliver : goal.returns-in-Deliver
+returns-in-Deliver c past transit stand =
+    let e = c.in-Deliver in
+    rw e.is
+    (late_told past c.args.before e.to e.send e.rsn e.listed c.args.det c.args.in_transit.now c.all_hold.result c.is_marked_before-is_underway.result c.log_lacks_det-is_lacking.result c.lists_det-is_listed.result
+    c.all_hold.ensures c.is_marked_before-is_underway.ensures transit (c.log_lacks_det-is_lacking.ensures past c.args.det stand) c.lists_det-is_listed.ensures)
