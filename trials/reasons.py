@@ -117,7 +117,21 @@ def facts_of_orphan(trace, t, k, crash, orphan, chain_told):
     for i in lacking[:1]:
         yield f"unlisted line={i + 2} send={entries[i][1][1] + 2} process={entries[i][1][0]}"
     yield from ["listed"] * (not lacking)
+    if lacking:
+        yield from underway(trace, t, entries[lacking[0]][1][1], det, over)
     yield f"orphan process={orphan}"
+
+
+def underway(trace, t, left_out, det, over):
+    """The first delivery after the instant t that lists the determinant, where its receiver did not have it at t, and the message was
+    sent before the one that left it out, by a process that had it then, and was delivered nowhere up to t."""
+    arrived = {fields[1] for word, fields in trace.entries[:t] if word == "deliver"}
+    sent = {k for k in range(left_out) if trace.entries[k][0] == "send" and det in over[k][trace.entries[k][1][0]]}
+    for j in range(t, len(trace.entries)):
+        word, fields = trace.entries[j]
+        if word == "deliver" and fields[1] in sent - arrived and list(det) in fields[3] and det not in over[t][fields[0]]:
+            yield f"underway send={fields[1] + 2} line={j + 2} process={fields[0]}"
+            return
 
 
 def closest(text, f, n):

@@ -47,6 +47,13 @@ def unlisted(line, sent, process):
     )
 
 
+def underway(sent, line, process):
+    return (
+        f"underway send={sent} line={line} process={process}: "
+        f"the message that line {sent} sends was in transit, and brings the determinant to process {process} only at line {line}\n"
+    )
+
+
 def orphan(process):
     return f"orphan process={process}: {LACKS.format(process)}"
 
@@ -85,6 +92,28 @@ REASONS = [
         DELIVERY + by_delivery(11, 3, 10) + unstable(11) + holder(1, 3) + holder(2, 7) + holder(4, 5) + crashes(1) + crashes(2)
         + crashes(4) + CHAIN + sends(8, 1, 1, 2) + delivers(9, 2, 8) + sends(10, 2, 0, 3) + delivers(11, 3, 10) + unlisted(11, 10, 3)
         + orphan(3),
+    ),
+    (
+        "a holder that was counted while the determinant was on its way to it",
+        texts.IN_TRANSIT,
+        "orphan f=1 instant=5 delivery=1 crash=1 orphan=2\n",
+        DELIVERY + by_delivery(6, 2, 5) + unstable(6) + holder(1, 3) + crashes(1) + CHAIN + sends(5, 1, 1, 2) + delivers(6, 2, 5)
+        + unlisted(6, 5, 2) + underway(4, 7, 3) + orphan(2),
+    ),
+    (
+        "of five messages that bring it later, the first that a holder had sent before and that was in transit",
+        texts.MANY_IN_TRANSIT,
+        "orphan f=2 instant=10 delivery=1 crash=1,4 orphan=2\n",
+        DELIVERY + by_delivery(11, 2, 9) + unstable(11) + holder(1, 3) + holder(4, 6) + crashes(1) + crashes(4) + CHAIN
+        + sends(9, 1, 2, 2) + delivers(11, 2, 9) + unlisted(11, 9, 2) + underway(7, 15, 3) + orphan(2),
+    ),
+    (
+        "a message in transit to one that holds it, one that was delivered before a crash, and one that does not bring it",
+        texts.NONE_IN_TRANSIT,
+        "orphan f=2 instant=14 delivery=1 crash=1,4 orphan=2\n",
+        DELIVERY + by_delivery(15, 2, 14) + unstable(15) + holder(1, 3) + holder(4, 8)
+        + "loss process=3 line=10 by=crash: process 3 lost the determinant from its log at line 10, by its crash\n"
+        + crashes(1) + crashes(4) + CHAIN + sends(14, 1, 4, 2) + delivers(15, 2, 14) + unlisted(15, 14, 2) + orphan(2),
     ),
     (
         "a restart that leaves out what another process holds",

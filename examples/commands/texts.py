@@ -68,6 +68,25 @@ HELD_BEFORE = trace(
     1, 5, LOGGED, send(1, 4, 0), deliver(4, 2, 0, A, TO_4), send(4, 2, 0), deliver(2, 4, 0, A, TO_4, TO_2),
     send(1, 2, 1), deliver(2, 6, 1, SECOND), send(2, 3, 0), deliver(3, 8, 0, TO_4, SECOND, TO_3, TO_2),
 )
+# Process 1 sends 3 a message with the determinant and then 2 one without it. 2 delivers before 3 does.
+IN_TRANSIT = trace(
+    1, 4, LOGGED, send(1, 3, 0), send(1, 2, 1), deliver(2, 3, 0, [1, 1, 2, 0]), deliver(3, 2, 0, A, [1, 0, 3, 0]),
+)
+# 4 has the determinant, when process 1 sends 2 a message without it. Later it comes to 0 by a message that 1 sent after that one, and to
+# 3 four times: by one of 0, which did not have it, by one of 4 (twice, in two incarnations) and by one of 1.
+MANY_IN_TRANSIT = trace(
+    1, 5, LOGGED, send(1, 3, 0), send(1, 4, 1), deliver(4, 3, 0, A, [1, 1, 4, 0]), send(4, 3, 0), send(0, 3, 1),
+    send(1, 2, 2), send(1, 0, 3), deliver(2, 7, 0, [1, 2, 2, 0]),
+    deliver(0, 8, 0, A, [1, 3, 0, 0]), deliver(3, 6, 0, A, [0, 1, 3, 0]), send(0, 3, 2), deliver(3, 5, 1, A, [4, 0, 3, 1]),
+    deliver(3, 2, 2, A, [1, 0, 3, 2]), crash(3), restart(3), deliver(3, 5, 0, A, [4, 0, 3, 0]),
+)
+# Three messages of process 1 are delivered after 2 delivered one without the determinant. The first brings it to 4, which has it; the
+# second to 3, for the second time, after a crash; the third does not bring it to 0.
+NONE_IN_TRANSIT = trace(
+    1, 5, LOGGED, send(1, 4, 0), send(1, 3, 1), send(1, 0, 2), send(1, 4, 3), deliver(4, 5, 0, A, [1, 3, 4, 0]),
+    deliver(3, 3, 0, A, [1, 1, 3, 0]), crash(3), restart(3), send(4, 0, 0), send(0, 4, 1), send(1, 2, 4), deliver(2, 12, 0, [1, 4, 2, 0]),
+    deliver(4, 2, 1, A, [1, 0, 4, 1]), deliver(3, 3, 0, A, [1, 1, 3, 0]), deliver(0, 4, 0, [1, 2, 0, 0]),
+)
 RING_CRASHED = trace(1, 3, RING, crash(1), crash(2))
 RING_FORGETTING = trace(2, 3, RING, forget(1, A))
 # Both that held the first determinant forget it.

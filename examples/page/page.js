@@ -15,7 +15,7 @@ const FACTS = {
   holder: "has the determinant since here", loss: "had it, and lost it here", crash: "in the crash set", chain: "on the way to the orphan",
   unlisted: "the first delivery after which its receiver lacks it", listed: "no delivery of the chain lacks it",
   orphan: "depends on the delivery, lacks its determinant", down: "down since here",
-  closest: "the least number of failures that fails", underway: "the send that could carry it",
+  closest: "the least number of failures that fails", underway: "it was in transit, and arrives only here",
 };
 
 const byId = (id) => document.getElementById(id);

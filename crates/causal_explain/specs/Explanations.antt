@@ -9,9 +9,9 @@ use Rattle.causal_explain.specs.Chains.{IsShortestChain, first_lacking}
 use Rattle.causal_explain.specs.ProcessFacts.{AreDown, AreHoldings, AreLosses}
 use Rattle.causal_explain.specs.Underway.{FirstUnderway}
 
--- All facts but the last are those at the breach's instant. The delivery, the crash set and the orphan are the breach's. The
--- determinant is the delivery's, and not stable. The lists of holders, losses and down processes are complete, and the
--- chain is a shortest.
+-- All facts but the last are those at the breach's instant. The delivery, the crash set and the orphan are the breach's.
+-- The determinant is the delivery's, and not stable. The lists of holders, losses and down processes are complete, and
+-- the chain is a shortest.
 pub record IsExplanation (r : Recording) (b : Breach) (x : Explanation) : Type 0 where
   pub delivery : x.delivery ≡ b.delivery
   pub instant : x.instant ≡ b.instant

@@ -15,6 +15,7 @@ use Rattle.causal_report.specs.Places.{line_at, line_before}
 use Rattle.causal_report.specs.Causes.{cause_line}
 use Rattle.causal_report.specs.Excesses.{downs_text}
 use Rattle.causal_report.specs.Chains.{chain_text, unlisted_text}
+use Rattle.causal_report.specs.Underway.{underway_text}
 
 -- the line of a delivery and its determinant, as fields
 unfoldable pub delivery_fields : ℕ → Det → List ℕ
@@ -92,9 +93,10 @@ orphan_line process =
     ++ codes " depends on the delivery by this chain, and lacks its determinant\n")))
 
 -- the delivery with its determinant, the cause, the holders, the losses, the down processes, the crash set, the chain
--- from the delivery to the orphan, its first delivery without the determinant, and the orphan
+-- from the delivery to the orphan, its first delivery without the determinant, the determinant's late arrival, and the
+-- orphan
 abbrev pub explanation_text : Recording → Explanation → Cause → List ℕ
 explanation_text r e cause =
     delivery_line e.delivery e.det ++ (cause_line e.instant cause ++ (unstable_line e.instant ++ (holders_text e.holders.items
     ++ (losses_text e.losses.items ++ (downs_text e.down.items ++ (crash_text e.crash
-    ++ (chain_text r e.chain.items ++ (unlisted_text r e.delivery e.unlisted ++ orphan_line e.orphan))))))))
+    ++ (chain_text r e.chain.items ++ (unlisted_text r e.delivery e.unlisted ++ (underway_text r e.underway ++ orphan_line e.orphan)))))))))

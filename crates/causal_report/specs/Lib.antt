@@ -4,6 +4,7 @@ pub mod Events
 pub mod Excesses
 pub mod Causes
 pub mod Chains
+pub mod Underway
 pub mod Closest
 pub mod Explanations
 pub mod Reasons

@@ -7,6 +7,7 @@ use crate::cause::push_cause;
 use crate::chain::{push_chain, push_unlisted};
 use crate::excess::push_down_processes;
 use crate::place::{line_at, line_before};
+use crate::underway::push_underway;
 use causal_explain::{Cause, Explanation, Holding, Loss, LostBy};
 use causal_holders::Holders;
 use causal_name::{Det, NoMemory};
@@ -16,7 +17,8 @@ use std::alloc::{AllocError, Global};
 /// Formats the explanation of an orphan, one fact a line, in this order: the delivery; the cause; that the determinant
 /// is not stable; its holders, its losses and the down processes, each with the line of its entry; the crash set; the
 /// chain from the delivery to the orphan; the chain's first delivery after which the receiver's log lacks the
-/// determinant; and the orphan.
+/// determinant; the first delivery after the instant by which the determinant arrives that was in transit; and the
+/// orphan.
 ///
 /// # Errors
 /// `NoMemory` if allocation failed.
@@ -52,6 +54,7 @@ fn push_explanation(
     push_crash(out, explanation.crash)?;
     push_chain(out, trace, explanation.chain.as_slice())?;
     push_unlisted(out, trace, explanation.delivery, explanation.unlisted)?;
+    push_underway(out, trace, explanation.underway)?;
     push_orphan(out, explanation.orphan)
 }
 

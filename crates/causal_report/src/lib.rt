@@ -26,6 +26,8 @@ mod json;
 mod place;
 /// The text that explains a verdict on a trace.
 pub mod reason;
+/// The text of the first delivery that brings a determinant which was in transit.
+mod underway;
 
 pub use closest::closest_text;
 pub use drawing::drawing_of;
