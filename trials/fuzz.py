@@ -287,11 +287,41 @@ def draw_case(rng):
     return ["draw", "--faults", str(f)], text, lambda _: (listing(pictures.told(text)), traces.audited(text, f)[1])
 
 
-def listing(marks):
-    """The marks of a picture as a text, which begins otherwise where there is no whole picture."""
+def listing(marks, covered=()):
+    """The marks of a picture as a text, which begins otherwise where there is no whole picture, and what covers what in it."""
     if marks is None:
         return "no picture\n"
-    return "picture\n" + "".join(f"{line} {words}{' (faint)' if faint else ''}\n" for line, words, faint in marks)
+    lines = [f"{line} {words}{' (faint)' if faint else ''}\n" for line, words, faint in marks]
+    return "".join(["picture\n", *lines, *(f"COVERED {words}\n" for words in covered)])
+
+
+def drawn(printed):
+    """What is compared of a picture."""
+    marks = pictures.marks(printed)
+    return listing(marks, () if marks is None else pictures.overlaps(printed))
+
+
+def window_case(rng):
+    """A run of many entries and processes, most of them idle, in which a process comes to depend on a delivery without its determinant.
+    Of its picture the marks are not compared, but no label may cover another."""
+    n, length = rng.choice((3, 5, 14, 40, 64, 200, 256)), rng.choice((30, 77, 190, 201, 260, 420))
+    first = rng.randrange(1, length - 4)
+    sent = rng.randrange(first + 1, length - 2)
+    last = rng.randrange(sent + 1, length)
+    p, q = rng.sample(range(n), 2)
+    entries = [("forget", [rng.randrange(n), []]) for _ in range(length)]
+    entries[first - 1], entries[first] = ("send", [0, p, 0]), ("deliver", [p, first - 1, 0, [[0, 0, p, 0]]])
+    ssn, is_logged = 0 if p else 1, rng.random() < 0.8
+    entries[sent] = ("send", [p, q, ssn])
+    entries[last] = ("deliver", [q, sent, 0, [[p, ssn, q, 0]] if is_logged else []])
+    lines = [("trace", 2, n), *[(word, *fields) for word, fields in entries], ("end", length)]
+    text = ("\n".join(map(scripts.spelled, lines)) + "\n").encode()
+    return ["draw", "--faults", str(1 if is_logged else rng.choice((0, 1)))], text, uncovered
+
+
+def uncovered(said):
+    """The same picture without what covers another, and the status of an orphan."""
+    return "".join(line for line in said.splitlines(keepends=True) if not line.startswith("COVERED ")), 1
 
 
 # ---- scripts
@@ -357,7 +387,7 @@ def run_case(rng):
 
 # ---- both
 
-MAKERS = {"audit": [audit_case, audit_case, raised_case], "explain": [explain_case], "draw": [draw_case], "run": [run_case]}
+MAKERS = {"audit": [audit_case, audit_case, raised_case], "explain": [explain_case], "draw": [draw_case, window_case], "run": [run_case]}
 
 # What a trial of all cases has to meet at least once in so many.
 LEAST = {"accept": 10, "exceeded": 50, "orphan crash=-": 50, "orphan": 100, "with a replay": 50, "with a forgetting": 20, "with a stable": 20}
@@ -375,7 +405,7 @@ def one(program, words, text):
     """What the program prints, of the lines of `explain` the words before the colon, of a picture its marks, and its status."""
     ended = subprocess.run([program, *words], input=text, capture_output=True, timeout=60)
     if words[0] == "draw":
-        return listing(pictures.marks(ended.stdout)), ended.returncode
+        return drawn(ended.stdout), ended.returncode
     said = ended.stdout.decode("utf-8", "replace")
     if words[0] == "explain":
         said = "".join(line.split(":")[0] + "\n" for line in said.splitlines())

@@ -1,4 +1,7 @@
-"""The plain model of `draw`: which entries a picture shows, and what their marks are called. Where things stand it does not say."""
+"""The plain model of `draw`: which entries a picture shows, and what their marks are called; and a check that no two labels of a picture
+cover each other, nor a mark one of those that say who holds the determinant. Where else things stand it does not say."""
+import itertools
+import re
 import xml.etree.ElementTree
 
 import traces
@@ -20,6 +23,61 @@ def marks(printed):
             line, words = title.text.removeprefix("line ").split(": ", 1)
             found.append((int(line), words, "opacity" in mark.attrib))
     return found
+
+
+# How wide letters are, in thousandths of the font's size: those of DejaVu Sans, a wide font. A bold letter is a tenth wider.
+WIDTHS = {" ": 318, ",": 318, ":": 337, "=": 838, "l": 278, "i": 278, "f": 352, "t": 392, "r": 411, "s": 521, "c": 550, "m": 974, "w": 818}
+OTHERS = 640  # digits, and the other letters
+ABOVE, BELOW = 0.76, 0.24  # how far letters reach above and below their line, in parts of the font's size
+MARK = 8.5  # how far a mark reaches from its middle
+
+
+def box_of(text):
+    """The left, upper, right and lower end of a label."""
+    given = text.attrib
+    size = float(given.get("font-size", 12))
+    wide = sum(WIDTHS.get(letter, OTHERS) for letter in text.text) * size / 1000 * (1.1 if "font-weight" in given else 1)
+    left = {"start": 0, "middle": -wide / 2, "end": -wide}[given.get("text-anchor", "start")] + float(given.get("dx", 0))
+    line = float(given.get("dy", 0))
+    upper, lower = line - ABOVE * size, line + BELOW * size
+    turned = re.fullmatch(r"translate\((\d+),(\d+)\)rotate\(-90\)", given.get("transform", ""))
+    if turned:
+        x, y = map(float, turned.groups())
+        return x + upper, y - left - wide, x + lower, y - left
+    x, y = float(given["x"]), float(given["y"])
+    return x + left, y + upper, x + left + wide, y + lower
+
+
+def meet(one, other):
+    return one[0] < other[2] and other[0] < one[2] and one[1] < other[3] and other[1] < one[3]
+
+
+def overlaps(printed):
+    """What covers what in a picture: labels each other, or marks of entries the label of a process at the instant."""
+    root = xml.etree.ElementTree.fromstring(printed)
+    wide, high = float(root.attrib["width"]), float(root.attrib["height"])
+    labels = [(text.text, box_of(text), text.get("fill") == "#0072b2") for text in root.iter(SVG + "text")]
+    for (words, box, _), (others, other, _) in itertools.combinations(labels, 2):
+        if meet(box, other):
+            yield f"{words!r} and {others!r}"
+    for words, box, _ in labels:
+        if box[1] < 0 or box[2] > wide or box[3] > high:
+            yield f"{words!r} and the picture's edge"
+    roles = [(words, box) for words, box, is_blue in labels if is_blue]
+    for x, y in glyphs_of_entries(root):
+        for words, box in roles:
+            if meet(box, (x - MARK, y - MARK, x + MARK, y + MARK)):
+                yield f"{words!r} and the mark at {x},{y}"
+
+
+def glyphs_of_entries(root):
+    """The points of the marks of entries."""
+    for mark in root.iter(SVG + "g"):
+        title = mark.find(SVG + "title")
+        if title is not None and title.text.startswith("line "):
+            for path in mark.iter(SVG + "path"):
+                if "transform" in path.attrib:
+                    yield tuple(map(int, re.findall(r"\d+", path.attrib["transform"])))
 
 
 def listed(dets):

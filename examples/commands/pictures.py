@@ -5,19 +5,25 @@ from . import faults, texts, verdicts
 from .row import given, status_of
 from .texts import A, B, FIRST, SENT, crash, deliver, forget, restart, send, trace
 
-# how the lines of a picture end that show a verdict: the shade behind a process, the chain, the instant, and who is what there
+# how the lines of a picture end that show a verdict: the shade behind a process, since when a holder is one, the chain, the instant, and
+# who is what there
 OF_VERDICT = (
     " stroke='#ffe3b3' stroke-width='34'/>",
+    " stroke='#0072b2' stroke-width='10' stroke-opacity='0.25' pointer-events='none'/>",
     " stroke='#d55e00' stroke-width='4' stroke-opacity='0.75'/>",
     " stroke='#0072b2' stroke-width='2' stroke-dasharray='7 4'/>",
     ": orphan</text>",
     ": holder</text>",
 )
-IN_WORDS = "<text x='10' y='20' "
+IN_WORDS = "<text x='10' y='15' "
 
 
 def shade(y):
     return f"<path d='M0 {y}H600' fill='none' stroke='#ffe3b3' stroke-width='34'/>\n"
+
+
+def band(since, end, y):
+    return f"<path d='M{since} {y}H{end}' fill='none' stroke='#0072b2' stroke-width='10' stroke-opacity='0.25' pointer-events='none'/>\n"
 
 
 def chain(points):
@@ -29,29 +35,30 @@ def instant(x):
 
 
 def named(x, y, process, what):
-    return f"<text x='{x}' y='{y}' dx='9' dy='-5' font-size='10' fill='#0072b2'>process {process}: {what}</text>\n"
+    return f"<text x='{x}' y='{y}' dx='9' dy='4' font-size='10' fill='#0072b2'>process {process}: {what}</text>\n"
 
 
 def in_words(words):
     return f"{IN_WORDS}font-size='14' font-weight='bold' fill='#222'>{words}</text>\n"
 
 
-# By the layout process p has its line at 92 + 40 p, the entry at position k stands at 110 + 30 k, the instant t at 95 + 30 t, and what
-# stands below three rows begins at 212.
+# By the layout process p has its line at 92 + 40 p, the entry at position k stands at 110 + 30 k, the instant t at 95 + 30 t, the lines of
+# e entries end at 110 + 30 e, and what stands below three rows begins at 212.
 DRAWN = [
     (
         "1 may crash, and 2 depends on its delivery by positions 1, 2 and 3",
         texts.PASSED_ON_BARE,
         1,
-        shade(132) + chain("140,132 170,132 200,172") + instant(215) + named(215, 132, 1, "holder") + named(215, 172, 2, "orphan")
+        shade(132) + band(140, 215, 132) + chain("140,132 170,132 200,172") + instant(215) + named(230, 132, 1, "holder")
+        + named(230, 172, 2, "orphan")
         + in_words("orphan f=1: process 2 depends on the delivery of line 3"),
     ),
     (
         "1 and 2 may crash, and 0 depends on the delivery of 1 by all that follows in the ring",
         texts.RING_TEXT,
         2,
-        shade(132) + shade(172) + chain("140,132 170,132 200,172 230,172 260,92") + instant(275) + named(275, 92, 0, "orphan")
-        + named(275, 132, 1, "holder") + named(275, 172, 2, "holder")
+        shade(132) + shade(172) + band(140, 275, 132) + band(200, 275, 172) + chain("140,132 170,132 200,172 230,172 260,92")
+        + instant(275) + named(290, 92, 0, "orphan") + named(290, 132, 1, "holder") + named(290, 172, 2, "holder")
         + in_words("orphan f=2: process 0 depends on the delivery of line 3"),
     ),
     (

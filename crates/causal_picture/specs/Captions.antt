@@ -27,4 +27,4 @@ verdict_text faults None = codes "accept f=" ++ (decimal faults ++ codes ": no d
 -- the caption, in the picture's upper left corner
 unfoldable pub caption_text : ℕ → Option Focus → List ℕ
 caption_text faults focus =
-    codes "<text x='10' y='20' font-size='14' font-weight='bold' fill='#222'>" ++ (verdict_text faults focus ++ codes "</text>\n")
+    codes "<text x='10' y='15' font-size='14' font-weight='bold' fill='#222'>" ++ (verdict_text faults focus ++ codes "</text>\n")

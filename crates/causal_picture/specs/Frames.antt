@@ -38,10 +38,10 @@ shade_text g p is_shaded =
 unfoldable pub process_title : ℕ → List ℕ
 process_title p = codes "<g><title>process " ++ (decimal p ++ codes "</title>\n")
 
--- the name of a process above its line, if the line is long enough
+-- the name of a process above its line, unless the line ends near it or before it
 abbrev pub repeated_name : Grid → ℕ → ℕ → List ℕ
 repeated_name g p x =
-    if nat_lt x (right_of g)
+    if nat_lt (x + 30) (right_of g)
     then label_text x (y_of g p) NameAgain p
     else []
 
@@ -59,12 +59,12 @@ row_text g p is_shaded =
 unfoldable pub cut_title : ℕ → List ℕ → List ℕ
 cut_title hidden side = codes "<g><title>" ++ (decimal hidden ++ (codes " entries " ++ (side ++ codes " are not shown</title>\n")))
 
--- a mark for hidden entries: a dotted line and their number
+-- a mark for hidden entries: a dotted line, and below it their number
 unfoldable pub cut_mark : ℕ → List ℕ → ℕ → List ℕ → ℕ → List ℕ
 cut_mark hidden side x anchor bottom =
     cut_title hidden side ++ (upright_text x bottom (codes "stroke='#555' stroke-dasharray='2 4'")
-    ++ (codes "<text x='" ++ (decimal x ++ (codes "' y='38' text-anchor='" ++ (anchor ++ (codes "' fill='#555'>" ++ (decimal hidden ++ (codes " entries "
-    ++ (side ++ codes "</text>\n</g>\n")))))))))
+    ++ (codes "<text x='" ++ (decimal x ++ (codes "' y='" ++ (decimal (bottom + 27) ++ (codes "' text-anchor='" ++ (anchor ++ (codes "' fill='#555'>" ++ (decimal hidden ++ (codes " entries "
+    ++ (side ++ codes "</text>\n</g>\n")))))))))))
 
 -- a mark for hidden entries, if there are any
 abbrev pub cut_text : ℕ → List ℕ → ℕ → List ℕ → ℕ → List ℕ

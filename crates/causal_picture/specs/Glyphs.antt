@@ -2,7 +2,7 @@
 use Rattle.std.specs.Prelude.{ℕ, ◌+◌, ◌-◌, ◌/◌, List, ◌++◌, codes, decimal}
 use Rattle.causal_picture.specs.declared.marks.MarkEvent.{MarkEvent}
 use Rattle.causal_picture.specs.declared.glyphs.Glyph.{Glyph}
-use Rattle.causal_picture.specs.declared.glyphs.Glyph.TheVariants.{OpenDot, Dot, Square, Cross, Ring, Triangle, Halo, Shade, FaintDot, Diamond, OpenDiamond}
+use Rattle.causal_picture.specs.declared.glyphs.Glyph.TheVariants.{OpenDot, Dot, Square, Cross, Ring, Triangle, Halo, Shade, FaintDot, Diamond, OpenDiamond, Band}
 use Rattle.causal_picture.specs.declared.marks.MarkEvent.TheVariants.{Send, Delivery, Stable, Crash, Restart, Forget}
 
 -- How a glyph is drawn around the origin, as the attributes of a path.
@@ -18,6 +18,7 @@ attributes_of Shade = codes "d='M-9-9H9V9H-9z' fill='#ffe3b3'"
 attributes_of FaintDot = codes "d='M-4.5 0a4.5 4.5 0 1 0 9 0a4.5 4.5 0 1 0-9 0z' fill='white' stroke='#222' stroke-width='1.5' opacity='0.4'"
 attributes_of Diamond = codes "d='M0-8L6 0L0 8L-6 0z' fill='#0072b2'"
 attributes_of OpenDiamond = codes "d='M0-8L6 0L0 8L-6 0z' fill='white' stroke='#c00000' stroke-width='2'"
+attributes_of Band = codes "d='M-9-5H9V5H-9z' fill='#0072b2' fill-opacity='0.25'"
 
 -- the glyph of an event
 abbrev pub glyph_of : MarkEvent → Glyph

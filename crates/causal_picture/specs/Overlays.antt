@@ -1,10 +1,11 @@
--- The SVG text over the events: the chain and the instant.
-use Rattle.std.specs.Prelude.{ℕ, if◌then◌else◌, List, [], ◌∷◌, ◌++◌, codes, decimal, flat_map, Option, None}
+-- The SVG text over the events: the bands, the chain and the instant.
+use Rattle.std.specs.Prelude.{ℕ, if◌then◌else◌, List, [], ◌∷◌, ◌++◌, codes, decimal, flat_map, Option, Some, None}
 use Rattle.std.specs.List.{filter_map}
 use Rattle.std.specs.Option.{option_map}
 use Rattle.causal_trace.specs.declared.entry.Entry.{Entry}
 use Rattle.causal_picture.specs.declared.overlay.Point.{Point}
 use Rattle.causal_picture.specs.declared.marks.Mark.{Mark}
+use Rattle.causal_picture.specs.declared.focus.Band.{Band}
 use Rattle.causal_picture.specs.declared.focus.Orphan.{Orphan}
 use Rattle.causal_picture.specs.declared.entry_range.Grid.{Grid}
 use Rattle.causal_picture.specs.declared.glyphs.Label.TheVariants.{Instant}
@@ -14,7 +15,7 @@ use Rattle.causal_picture.specs.Roles.{processes_text}
 use Rattle.causal_picture.specs.EntryRanges.{is_shown}
 use Rattle.causal_picture.specs.Marks.{mark_at, process_of}
 use Rattle.causal_picture.specs.declared.glyphs.Glyph.TheVariants.{Halo}
-use Rattle.causal_picture.specs.Glyphs.{glyph_text, upright_text}
+use Rattle.causal_picture.specs.Glyphs.{glyph_text, level_text, upright_text}
 
 -- the point of an event
 unfoldable pub point_of : Grid → Mark → Point
@@ -58,6 +59,20 @@ instant_title instant = codes "<g><title>instant " ++ (decimal instant ++ codes 
 abbrev pub shown_chain : List Point → List ℕ
 shown_chain [] = []
 shown_chain (p ∷ ps) = chain_text (p ∷ ps)
+
+-- the right end of a band: at the entry that ends it, or at the instant
+abbrev pub band_end : Grid → ℕ → Option ℕ → ℕ
+band_end g t (Some position) = x_of g position
+band_end g t None = x_of_instant g t
+
+-- a band along the line of its process
+unfoldable pub band_text : Grid → ℕ → Band → List ℕ
+band_text g t b =
+    level_text (x_of g b.from) (band_end g t b.to) (y_of g b.process) (codes "stroke='#0072b2' stroke-width='10' stroke-opacity='0.25' pointer-events='none'")
+
+-- all bands
+abbrev pub bands_text : Grid → ℕ → List Band → List ℕ
+bands_text g t bands = flat_map (band_text g t) bands
 
 -- the instant: a vertical line between the entries before and after it, and the processes' names next to it
 unfoldable pub instant_text : Grid → ℕ → Option Orphan → List ℕ

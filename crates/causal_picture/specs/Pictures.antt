@@ -10,7 +10,7 @@ use Rattle.causal_picture.specs.Captions.{caption_text}
 use Rattle.causal_picture.specs.Frames.{head_text, row_text, cuts_text}
 use Rattle.causal_picture.specs.Layout.{bottom_of}
 use Rattle.causal_picture.specs.Legends.{legend_text}
-use Rattle.causal_picture.specs.Overlays.{points_of, shown_chain, instant_text}
+use Rattle.causal_picture.specs.Overlays.{points_of, bands_text, shown_chain, instant_text}
 use Rattle.causal_picture.specs.Panels.{early_text, late_text}
 use Rattle.causal_picture.specs.EntryRanges.{grid_around, instant_of}
 
@@ -27,11 +27,13 @@ abbrev pub crash_of : Option Focus → FinSet nat_cmp
 crash_of None = empty
 crash_of (Some f) = f.crash
 
--- the chain and the instant of a focus
+-- the bands, the chain and the instant of a focus
 unfoldable pub focus_text : Recording → Grid → Focus → List ℕ
-focus_text r g f = shown_chain (points_of r.past g f.chain.now) ++ instant_text g (instant_of (length r.past) f) f.orphan
+focus_text r g f =
+    bands_text g (instant_of (length r.past) f) f.bands.now
+    ++ (shown_chain (points_of r.past g f.chain.now) ++ instant_text g (instant_of (length r.past) f) f.orphan)
 
--- the chain and the instant of a focus, if there is one
+-- the bands, the chain and the instant of a focus, if there is one
 abbrev pub any_focus_text : Recording → Grid → Option Focus → List ℕ
 any_focus_text r g None = []
 any_focus_text r g (Some f) = focus_text r g f

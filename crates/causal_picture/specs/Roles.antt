@@ -7,7 +7,7 @@ use Rattle.causal_picture.specs.declared.roles.Role.{Role}
 use Rattle.causal_picture.specs.declared.roles.Role.TheVariants as role
 use Rattle.causal_picture.specs.declared.glyphs.Glyph.TheVariants.{Diamond, OpenDiamond}
 use Rattle.causal_picture.specs.declared.entry_range.Grid.{Grid}
-use Rattle.causal_picture.specs.Layout.{y_of}
+use Rattle.causal_picture.specs.Layout.{right_of, y_of}
 use Rattle.causal_picture.specs.Glyphs.{glyph_text}
 
 -- the words after a process's name
@@ -31,11 +31,11 @@ sign_text x y role.Orphan = glyph_text x y OpenDiamond
 sign_text x y role.Holder = glyph_text x y Diamond
 sign_text x y role.Other = []
 
--- a process at the instant: its glyph, and next to it its name with its role
+-- a process at the instant: its glyph there, and at the right end of its line its name with its role
 unfoldable pub process_text : Grid → ℕ → Option Orphan → ℕ → List ℕ
 process_text g x o p =
-    sign_text x (y_of g p) (role_of o p) ++ (codes "<text x='" ++ (decimal x ++ (codes "' y='" ++ (decimal (y_of g p)
-    ++ (codes "' dx='9' dy='-5' font-size='10' fill='#0072b2'>process " ++ (decimal p ++ (words_of (role_of o p) ++ codes "</text>\n")))))))
+    sign_text x (y_of g p) (role_of o p) ++ (codes "<text x='" ++ (decimal (right_of g) ++ (codes "' y='" ++ (decimal (y_of g p)
+    ++ (codes "' dx='9' dy='4' font-size='10' fill='#0072b2'>process " ++ (decimal p ++ (words_of (role_of o p) ++ codes "</text>\n")))))))
 
 -- all processes at the instant
 unfoldable pub processes_text : Grid → ℕ → Option Orphan → List ℕ

@@ -42,7 +42,7 @@ pub fn push_caption(
 {
     push_words(
         out,
-        "<text x='10' y='20' font-size='14' font-weight='bold' fill='#222'>",
+        "<text x='10' y='15' font-size='14' font-weight='bold' fill='#222'>",
     )?;
     push_verdict(out, faults, focus)?;
     push_words(out, "</text>\n")

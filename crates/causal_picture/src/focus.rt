@@ -12,14 +12,25 @@ pub struct Orphan {
     pub holders: Holders,
 }
 
+/// How long a process's volatile log contains the determinant: from the entry at a position on, to the entry at another;
+/// if there is none, to the instant.
+#[derive(Clone, Copy)]
+pub struct Band {
+    pub process: u8,
+    pub from: u32,
+    pub to: Option<u32>,
+}
+
 /// What a picture shows besides the run: the instant, as a vertical line; a crash set, with shaded lines; a chain of
-/// entries, by their positions, as a thick line, possibly empty; and an orphan and the holders, as glyphs at the
-/// instant. An instant after the last means the last. Processes of the sets that are not in the run, and entries of the
-/// chain that the picture hides, are not shown.
+/// entries, by their positions, as a thick line, possibly empty; an orphan and the holders, as glyphs at the instant;
+/// and bands along the lines of processes. An instant after the last means the last. Processes of the sets that are not
+/// in the run, and entries of the chain that the picture hides, are not shown. A band begins or ends at the cut if its
+/// entry is hidden.
 #[derive(Clone, Copy)]
 pub struct Focus<'a> {
     pub instant: u32,
     pub crash: Holders,
     pub chain: &'a [u32],
     pub orphan: Option<Orphan>,
+    pub bands: &'a [Band],
 }

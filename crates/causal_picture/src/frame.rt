@@ -1,5 +1,5 @@
 //! The parts around the events: the head, the processes' rows, the marks for hidden entries.
-ghost use Rattle.std.specs.Prelude.{◌≤◌, ◌<◌, ◌+◌};
+ghost use Rattle.std.specs.Prelude.{◌≤◌, ◌<◌, ◌+◌, ◌^◌};
 ghost use Rattle.std.specs.FinSet.{contains};
 ghost use Rattle.causal_picture.specs.Appends.{Appends};
 ghost use Rattle.causal_picture.specs.Frames as frames;
@@ -65,11 +65,12 @@ pub fn push_process_title(out: &mut String, process: u16) -> Result<(), AllocErr
     write!(out, "<g><title>process {process}</title>\n")
 }
 
-/// Appends the name of a process above its line, if the line is long enough.
+/// Appends the name of a process above its line, unless the line ends near it or before it.
 fn push_repeated_name(out: &mut String, grid: Grid, process: u16, x: u64) -> Result<(), AllocError>
+    requires { x < 2000 }
     ensures { Appends result out.old out.new (frames.repeated_name grid process x) }
 {
-    if x >= right_of(grid) {
+    if x + 30 >= right_of(grid) {
         return Ok(());
     }
     let y = y_of(grid, process);
@@ -124,7 +125,8 @@ fn push_cut_title(out: &mut String, hidden: u32, side: &str) -> Result<(), Alloc
     )
 }
 
-/// Appends a mark for hidden entries, if there are any: a dotted line and their number.
+/// Appends a mark for hidden entries, if there are any: a dotted line, and below it, under the label of an instant, their
+/// number.
 #[tactic(auto, unfolding(crate::specs::Frames::cut_mark))]
 fn push_cut(
     out: &mut String,
@@ -134,6 +136,7 @@ fn push_cut(
     anchor: &str,
     bottom: u32,
 ) -> Result<(), AllocError>
+    requires { bottom < 2 ^ 22 }
     ensures { Appends result out.old out.new (frames.cut_text hidden side.now x anchor.now bottom) }
 {
     if hidden == 0 {
@@ -141,9 +144,10 @@ fn push_cut(
     }
     push_cut_title(out, hidden, side)?;
     push_upright(out, x, bottom, "stroke='#555' stroke-dasharray='2 4'")?;
+    let below = bottom + 27;
     write!(
         out,
-        "<text x='{x}' y='38' text-anchor='{anchor}' fill='#555'>{hidden} entries {side}</text>\n</g>\n"
+        "<text x='{x}' y='{below}' text-anchor='{anchor}' fill='#555'>{hidden} entries {side}</text>\n</g>\n"
     )
 }
 

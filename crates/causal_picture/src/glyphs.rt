@@ -22,6 +22,7 @@ pub enum Glyph {
     Shade,
     Diamond,
     OpenDiamond,
+    Band,
 }
 
 impl Glyph {
@@ -49,6 +50,7 @@ impl Glyph {
             Glyph::Diamond => "d='M0-8L6 0L0 8L-6 0z' fill='#0072b2'",
             Glyph::OpenDiamond =>
                 "d='M0-8L6 0L0 8L-6 0z' fill='white' stroke='#c00000' stroke-width='2'",
+            Glyph::Band => "d='M-9-5H9V5H-9z' fill='#0072b2' fill-opacity='0.25'",
         }
     }
 }

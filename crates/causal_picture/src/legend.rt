@@ -29,15 +29,23 @@ fn push_upper(out: &mut String, y: u32) -> Result<(), AllocError>
     push_key(out, 520, y, Glyph::Square, "stable")
 }
 
+#[tactic(auto, unfolding(crate::specs::Legends::lower_text))]
+fn push_lower(out: &mut String, y: u32) -> Result<(), AllocError>
+    ensures { Appends result out.old out.new (legends.lower_text y) }
+{
+    push_key(out, 20, y, Glyph::Triangle, "forgetting")?;
+    push_key(out, 120, y, Glyph::Halo, "chain")?;
+    push_key(out, 220, y, Glyph::Shade, "crash set")?;
+    push_key(out, 320, y, Glyph::Diamond, "holder")?;
+    push_key(out, 420, y, Glyph::OpenDiamond, "orphan")?;
+    push_key(out, 520, y, Glyph::Band, "in its log")
+}
+
 /// Appends two rows of glyphs with their meanings.
 #[tactic(auto, unfolding(crate::specs::Legends::legend_text))]
 pub fn push_legend(out: &mut String, upper: u32, lower: u32) -> Result<(), AllocError>
     ensures { Appends result out.old out.new (legends.legend_text upper lower) }
 {
     push_upper(out, upper)?;
-    push_key(out, 20, lower, Glyph::Triangle, "forgetting")?;
-    push_key(out, 120, lower, Glyph::Halo, "chain")?;
-    push_key(out, 220, lower, Glyph::Shade, "crash set")?;
-    push_key(out, 320, lower, Glyph::Diamond, "holder")?;
-    push_key(out, 420, lower, Glyph::OpenDiamond, "orphan")
+    push_lower(out, lower)
 }

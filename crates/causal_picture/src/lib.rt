@@ -39,5 +39,5 @@ mod titles;
 /// Fixed words in the picture.
 mod words;
 
-pub use focus::{Focus, Orphan};
+pub use focus::{Band, Focus, Orphan};
 pub use picture::picture_of;

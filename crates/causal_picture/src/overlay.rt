@@ -1,11 +1,11 @@
-//! The parts over the events: the chain and the instant.
+//! The parts over the events: the bands, the chain and the instant.
 ghost use Rattle.std.specs.Prelude.{◌≡◌, ◌<◌, IfOk};
 ghost use Rattle.causal_picture.specs.Appends.{Appends};
 ghost use Rattle.causal_picture.specs.Overlays as overlays;
 
 use crate::entry_range::Grid;
-use crate::focus::Focus;
-use crate::glyphs::{Glyph, Label, push_glyph, push_label, push_upright};
+use crate::focus::{Band, Focus};
+use crate::glyphs::{Glyph, Label, push_glyph, push_label, push_level, push_upright};
 use crate::layout::{bottom_of, is_shown, x_of, x_of_instant, y_of};
 use crate::marks::{Mark, mark_at};
 use crate::roles::push_processes;
@@ -106,6 +106,45 @@ fn push_chain(out: &mut String, points: &[Point]) -> Result<(), AllocError>
     )?;
     push_rings(out, points)?;
     push_words(out, "</g>\n")
+}
+
+/// The right end of a band: at the entry that ends it, or at the instant.
+fn band_end(grid: Grid, instant: u32, to: Option<u32>) -> u64
+    ensures { result ≡ overlays.band_end grid instant to }
+{
+    match to {
+        Some(position) => x_of(grid, position),
+        None => x_of_instant(grid, instant),
+    }
+}
+
+/// Appends a band along the line of its process. Like the chain it receives no pointer events.
+#[tactic(auto, unfolding(crate::specs::Overlays::band_text))]
+fn push_band(out: &mut String, grid: Grid, instant: u32, band: Band) -> Result<(), AllocError>
+    ensures { Appends result out.old out.new (overlays.band_text grid instant band) }
+{
+    push_level(
+        out,
+        x_of(grid, band.from),
+        band_end(grid, instant, band.to),
+        y_of(grid, u16::from(band.process)),
+        "stroke='#0072b2' stroke-width='10' stroke-opacity='0.25' pointer-events='none'",
+    )
+}
+
+/// Appends the bands.
+pub fn push_bands(
+    out: &mut String,
+    grid: Grid,
+    instant: u32,
+    bands: &[Band],
+) -> Result<(), AllocError>
+    ensures { Appends result out.old out.new (overlays.bands_text grid instant bands.now) }
+{
+    for band in bands {
+        push_band(out, grid, instant, *band)?;
+    }
+    Ok(())
 }
 
 /// Appends the instant: a vertical line between the entries before and after it, and the processes' names next to it.

@@ -11,7 +11,7 @@ use crate::focus::Focus;
 use crate::frame::{push_cuts, push_head, push_row};
 use crate::layout::{bottom_of, early_panel};
 use crate::legend::push_legend;
-use crate::overlay::{points_of, push_instant, push_shown_chain};
+use crate::overlay::{points_of, push_bands, push_instant, push_shown_chain};
 use crate::panel::{push_late, push_panel};
 use crate::words::push_words;
 use causal_holders::Holders;
@@ -40,7 +40,7 @@ fn crash_of(focus: Option<&Focus<'_>>) -> Holders
     }
 }
 
-/// Appends the chain and the instant of a focus, if there is one.
+/// Appends the bands, the chain and the instant of a focus, if there is one.
 #[tactic(auto, unfolding(crate::specs::Pictures::focus_text))]
 fn push_focus(
     alloc: Global,
@@ -58,6 +58,7 @@ fn push_focus(
     };
     let points = points_of(alloc, trace, grid, focus.chain)?;
     let instant = focus.instant.min(trace.len());
+    push_bands(out, grid, instant, focus.bands)?;
     push_shown_chain(out, &points)?;
     push_instant(out, grid, instant, focus)?;
     Ok(())

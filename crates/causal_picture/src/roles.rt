@@ -1,4 +1,4 @@
-//! The processes at the instant: each name again, and a glyph for the orphan and for each holder.
+//! The processes at the instant: a glyph for the orphan and for each holder, and each name again at the end of its line.
 ghost use Rattle.std.specs.Prelude.{◌≡◌, ◌<◌};
 ghost use Rattle.causal_picture.specs.Appends.{Appends};
 ghost use Rattle.causal_picture.specs.Roles as roles;
@@ -6,7 +6,7 @@ ghost use Rattle.causal_picture.specs.Roles as roles;
 use crate::entry_range::Grid;
 use crate::focus::{Focus, Orphan};
 use crate::glyphs::{Glyph, push_glyph};
-use crate::layout::y_of;
+use crate::layout::{right_of, y_of};
 use std::alloc::AllocError;
 
 /// The role of a process at the instant, if a delivery has an orphan.
@@ -53,7 +53,8 @@ fn push_sign(out: &mut String, x: u64, y: u32, role: Role) -> Result<(), AllocEr
     }
 }
 
-/// Appends a process at the instant: its glyph, and next to it its name with its role.
+/// Appends a process at the instant: its glyph there, and at the right end of its line its name with its role, where no
+/// event and no other name is.
 #[tactic(auto, unfolding(crate::specs::Roles::process_text))]
 fn push_process(
     out: &mut String,
@@ -65,13 +66,13 @@ fn push_process(
     requires { process < 256 }
     ensures { Appends result out.old out.new (roles.process_text grid x focus.now.orphan process) }
 {
-    let y = y_of(grid, process);
+    let (right, y) = (right_of(grid), y_of(grid, process));
     let role = role_of(focus, process);
     let words = words_of(role);
     push_sign(out, x, y, role)?;
     write!(
         out,
-        "<text x='{x}' y='{y}' dx='9' dy='-5' font-size='10' fill='#0072b2'>process {process}{words}</text>\n"
+        "<text x='{right}' y='{y}' dx='9' dy='4' font-size='10' fill='#0072b2'>process {process}{words}</text>\n"
     )
 }
 

@@ -1,5 +1,5 @@
 -- The picture of a recording with its verdict.
-use Rattle.std.specs.Prelude.{◌≡◌, ℕ, List, [], fold, Option, Some, None}
+use Rattle.std.specs.Prelude.{◌≡◌, ℕ, List, [], fold, map, Option, Some, None}
 use Rattle.std.specs.Ordering.{nat_cmp}
 use Rattle.std.specs.FinSet.{FinSet, empty, insert}
 use Rattle.causal_name.specs.declared.Det.{Det}
@@ -11,6 +11,7 @@ use Rattle.causal_audit.specs.declared.verdict.Verdict.TheVariants.{Accept, Exce
 use Rattle.causal_explain.specs.declared.explanation.Holding.{Holding}
 use Rattle.causal_explain.specs.Chains.{IsShortestChain}
 use Rattle.causal_explain.specs.ProcessFacts.{AreHoldings}
+use Rattle.causal_picture.specs.declared.focus.Band.{Band}
 use Rattle.causal_picture.specs.declared.focus.Focus.{Focus}
 use Rattle.causal_picture.specs.declared.focus.Orphan as focus_words
 use Rattle.causal_picture.specs.Pictures.{picture}
@@ -19,14 +20,23 @@ use Rattle.causal_picture.specs.Pictures.{picture}
 abbrev pub holders_of : List Holding → FinSet nat_cmp
 holders_of holdings = fold (λ members (x : Holding). insert members x.process) empty holdings
 
--- the picture of the recording for f with this instant and crash set, and a chain and an orphan that satisfy the
+-- the band of a holder: from the entry since which it holds the determinant, to the instant
+abbrev pub band_of : Holding → Band
+band_of h = record { process = h.process; from = h.since; to = None }
+
+-- the bands of a list of holdings
+abbrev pub bands_of : List Holding → List Band
+bands_of holdings = map band_of holdings
+
+-- the picture of the recording for f with this instant and crash set, and a chain, an orphan and bands that satisfy the
 -- predicates
-pub record IsPictureOf (r : Recording) (f t : ℕ) (crash : FinSet nat_cmp) (IsChain : List ℕ → Type 0) (IsOrphan : Option focus_words.Orphan → Type 0) (text : List ℕ) : Type 0 where
+pub record IsPictureOf (r : Recording) (f t : ℕ) (crash : FinSet nat_cmp) (IsChain : List ℕ → Type 0) (IsOrphan : Option focus_words.Orphan → Type 0) (AreBands : List Band → Type 0) (text : List ℕ) : Type 0 where
   pub focus : Focus
   pub at_instant : focus.instant ≡ t
   pub crashed : focus.crash ≡ crash
   pub linked : IsChain focus.chain.now
   pub orphaned : IsOrphan focus.orphan
+  pub banded : AreBands focus.bands.now
   pub pictured : text ≡ picture r f (Some focus)
 
 -- the picture's orphan of the delivery at position k, with the processes whose log contains the determinant at an
@@ -40,10 +50,15 @@ abbrev pub IsShownOrphan : Recording → ℕ → ℕ → ℕ → Option focus_wo
 IsShownOrphan r t k orphan shown =
     (d : Det) × (det_at r.past k ≡ Some d) × (holdings : List Holding) × ShowsOrphan r.processes (instant r.past t) k orphan d holdings shown
 
+-- the bands of the processes that hold the determinant of delivery k at instant t
+abbrev pub AreShownBands : Recording → ℕ → ℕ → List Band → Type 0
+AreShownBands r t k bands =
+    (d : Det) × (det_at r.past k ≡ Some d) × (holdings : List Holding) × AreHoldings r.processes (instant r.past t) d holdings × (bands ≡ bands_of holdings)
+
 -- accept: the run alone. Exceeded: the down processes. Orphan: the crash set, a shortest chain to the orphan, the
--- orphan, and the processes that hold the determinant.
+-- orphan, and the processes that hold the determinant, with how long they do.
 abbrev pub IsDrawing : Recording → ℕ → Verdict → List ℕ → Type 0
 IsDrawing r f Accept text = text ≡ picture r f None
-IsDrawing r f (Exceeded t down) text = IsPictureOf r f t down (λ chain. chain ≡ []) (λ orphan. orphan ≡ None) text
+IsDrawing r f (Exceeded t down) text = IsPictureOf r f t down (λ chain. chain ≡ []) (λ orphan. orphan ≡ None) (λ bands. bands ≡ []) text
 IsDrawing r f (Orphan t k crash orphan) text =
-    IsPictureOf r f t crash (IsShortestChain (instant r.past t) k orphan) (IsShownOrphan r t k orphan) text
+    IsPictureOf r f t crash (IsShortestChain (instant r.past t) k orphan) (IsShownOrphan r t k orphan) (AreShownBands r t k) text

@@ -2,13 +2,13 @@
 ghost use Rattle.std.specs.Prelude.{◌≡◌, IfOk};
 ghost use Rattle.causal_audit.specs.Verdicts.{IsVerdict};
 ghost use Rattle.std.specs.FinSet as set;
-ghost use Rattle.causal_report.specs.Drawings.{IsDrawing, holders_of};
+ghost use Rattle.causal_report.specs.Drawings.{IsDrawing, band_of, bands_of, holders_of};
 
 use causal_audit::{Breach, Verdict};
 use causal_explain::{Holding, explain};
 use causal_holders::Holders;
 use causal_name::NoMemory;
-use causal_picture::{Focus, Orphan, picture_of};
+use causal_picture::{Band, Focus, Orphan, picture_of};
 use causal_trace::trace::Trace;
 use std::alloc::Global;
 
@@ -29,8 +29,26 @@ fn holders_of(holdings: &[Holding]) -> Holders
     )
 }
 
-/// The diagram of a delivery with an orphan: the chain to the orphan, the crash set, the holders of the determinant,
-/// and the instant.
+/// The band of a holder: from the entry by which its log came to contain the determinant, to the instant.
+fn band_of(holding: &Holding) -> Band
+    ensures { result ≡ band_of holding.now }
+{
+    Band {
+        process: holding.process,
+        from: holding.since,
+        to: None,
+    }
+}
+
+/// The bands of the processes that hold a determinant.
+fn bands_of(alloc: Global, holdings: &[Holding]) -> Result<Vec<Band>, NoMemory>
+    ensures { IfOk result (λ bands. bands.items ≡ bands_of holdings.now) }
+{
+    Ok(holdings.iter().map(band_of).collect(alloc)?)
+}
+
+/// The diagram of a delivery with an orphan: the chain to the orphan, the crash set, the holders of the determinant
+/// with how long they hold it, and the instant.
 fn breach_drawing(
     alloc: Global,
     trace: &Trace,
@@ -43,6 +61,7 @@ fn breach_drawing(
         (Verdict.Orphan breach.now.instant breach.now.delivery breach.now.crash breach.now.orphan) text.items) }
 {
     let explanation = explain(alloc, trace, breach)?;
+    let bands = bands_of(alloc, explanation.holders.as_slice())?;
     let focus = Focus {
         instant: breach.instant,
         crash: breach.crash,
@@ -52,13 +71,14 @@ fn breach_drawing(
             delivery: breach.delivery,
             holders: holders_of(explanation.holders.as_slice()),
         }),
+        bands: bands.as_slice(),
     };
     picture_of(alloc, trace, f, Some(&focus))
 }
 
 /// Draws the space-time diagram of a trace with its verdict for f, in SVG. For an excess it shows the down processes
 /// and the instant; for an orphan, a shortest chain from the delivery to it, the crash set, the holders of the
-/// determinant and the instant; if the verdict is accept, the run alone.
+/// determinant and since when they hold it, and the instant; if the verdict is accept, the run alone.
 ///
 /// O(entries + listed determinants) time.
 ///
@@ -80,6 +100,7 @@ pub fn drawing_of(
                 crash: down,
                 chain: &[],
                 orphan: None,
+                bands: &[],
             };
             picture_of(alloc, trace, f, Some(&focus))
         }

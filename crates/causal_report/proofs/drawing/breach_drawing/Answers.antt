@@ -3,7 +3,7 @@ use Rattle.std.specs.Prelude.{Some}
 use Rattle.std.proofs.lemmas.Result.{IfOk-weaker}
 use Rattle.causal_trace.specs.Past.{instant}
 use Rattle.causal_explain.specs.Chains.{IsShortestChain}
-use Rattle.causal_report.specs.Drawings.{holders_of}
+use Rattle.causal_report.specs.Drawings.{bands_of, holders_of}
 use Rattle.causal_report.proofs.drawing.breach_drawing.Goals as goal
 
 pub returns : goal.returns
@@ -12,14 +12,15 @@ returns c =
     let past = c.args.trace.now.recording.past in
     let x = c.in_ok-explanation.explanation in
     let told = c.in_ok-explanation.ensures in
-    let held = c.holders_of.ensures ∙ ap holders_of c.as_slice-2.ensures.value in
+    let held = c.holders_of.ensures ∙ ap holders_of c.as_slice-3.ensures.value in
     IfOk-weaker c.picture_of.result _ _
     (λ text same. record {
       focus = _;
       at_instant = refl;
       crashed = refl;
-      linked = subst (IsShortestChain (instant past b.instant) b.delivery b.orphan) (sym c.as_slice.ensures.value) told.chain;
+      linked = subst (IsShortestChain (instant past b.instant) b.delivery b.orphan) (sym c.as_slice-2.ensures.value) told.chain;
       orphaned = (x.det, told.det, x.holders.items, record { held = told.holders; shows = ap (λ h. Some (record { process = b.orphan; delivery = b.delivery; holders = h })) held });
+      banded = (x.det, told.det, x.holders.items, told.holders, c.as_slice-4.ensures.value ∙ c.in_ok-bands.ensures ∙ ap bands_of c.as_slice.ensures.value);
       pictured = same;
     })
     c.picture_of.ensures
