@@ -100,6 +100,7 @@ SHOWN = {
     "orphan.svg": ("draw", "orphan.jsonl", 1),
     "orphan.txt": ("explain", "orphan.jsonl", 1),
     "gap.txt": ("explain", "gap.jsonl", 3),
+    "transit.txt": ("explain", "transit.jsonl", 1),
     "gathered.txt": ("explain", "gathered.jsonl", 1),
     "forgotten.txt": ("explain", "forgotten.jsonl", 1),
     "crashes.txt": ("explain", "crashes.jsonl", 1),
@@ -121,10 +122,12 @@ def wrong_reasons():
 
 # Where things stand in the picture, by the layout (crates/causal_picture/specs/Layout.antt): the first process at 92 and each 40 below
 # the one before it, from 80 to 230, and its shade from edge to edge; the first entry at 110 and each 30 to the right of the one before
-# it; the instant in the middle after the fourth, down to 92 + 3 * 40. Beside the instant each process is named.
+# it; the instant in the middle after the fourth, down to 92 + 3 * 40. At the right end of its line each process is named, and a band goes
+# from the delivery that process 1 logged to the instant.
 ROWS = ["80 92H230", "80 132H230", "80 172H230"]
 SHADED = ["0 132H600"]
 INSTANT = ["215 70V212"]
+BANDS = ["140 132H215"]
 CHAIN = ["140,132 170,132 200,172"]
 NAMED = ["process 0", "process 1: holder", "process 2: orphan"]
 VERDICT = ["orphan f=1: process 2 depends on the delivery of line 3"]
@@ -133,18 +136,19 @@ VERDICT = ["orphan f=1: process 2 depends on the delivery of line 3"]
 def wrong_in_the_picture():
     """Tells where orphan.svg, which has to be XML, is not as the layout has it, and gives how often: three processes with a line each,
     of which the crash set of the answer is shaded, one dashed line at the instant 4, the chain from line 3 by line 4 to line 5, and in
-    words the verdict, and beside the instant who is an orphan and who holds the determinant."""
+    words the verdict, and who is an orphan, who holds the determinant, and since when."""
     root = xml.etree.ElementTree.fromstring(bytes_of("orphan.svg"))
     name = "{http://www.w3.org/2000/svg}"
     paths = [path.attrib for path in root.iter(name + "path") if "transform" not in path.attrib]
     solid = [path["d"][1:] for path in paths if path.get("stroke-width") == "1.5" and "stroke-dasharray" not in path]
     shaded = [path["d"][1:] for path in paths if path.get("stroke-width") == "34"]
+    bands = [path["d"][1:] for path in paths if path.get("stroke-width") == "10"]
     dashed = [path["d"][1:] for path in paths if path.get("stroke-dasharray") == "7 4"]
     chain = [line.attrib["points"].strip() for line in root.iter(name + "polyline")]
     words = [text for text in root.iter(name + "text") if text.text]
     named = [text.text for text in words if text.get("dx") == "9"]
     verdict = [text.text for text in words if text.get("font-weight") == "bold"]
-    facts = {"lines": (solid, ROWS), "shade": (shaded, SHADED), "instant": (dashed, INSTANT), "chain": (chain, CHAIN)}
+    facts = {"lines": (solid, ROWS), "shade": (shaded, SHADED), "instant": (dashed, INSTANT), "chain": (chain, CHAIN), "bands": (bands, BANDS)}
     facts |= {"names": (named, NAMED), "verdict": (verdict, VERDICT)}
     wrong = 0
     for fact, (shown, wanted) in facts.items():
@@ -451,6 +455,27 @@ OBJECTS = [
                 {"fact": "chain", "line": 4, "process": 1},
                 {"fact": "chain", "line": 5, "process": 2},
                 {"fact": "unlisted", "line": 5, "send": 4, "process": 2},
+                {"fact": "orphan", "process": 2},
+            ],
+        },
+        1,
+    ),
+    (
+        ("explain", "--faults", "1"),
+        "transit.jsonl",
+        {
+            "verdict": "orphan", "f": 1, "instant": 5, "delivery": 1, "crash": [1], "orphan": 2,
+            "reason": [
+                {"fact": "delivery", "line": 3, "process": 1, "source": 0, "ssn": 0, "rsn": 0},
+                {"fact": "cause", "line": 6, "process": 2, "by": "deliver"},
+                {"fact": "unstable", "line": 6},
+                {"fact": "holder", "process": 1, "line": 3},
+                {"fact": "crash", "process": 1},
+                {"fact": "chain", "line": 3, "process": 1},
+                {"fact": "chain", "line": 5, "process": 1},
+                {"fact": "chain", "line": 6, "process": 2},
+                {"fact": "unlisted", "line": 6, "send": 5, "process": 2},
+                {"fact": "underway", "send": 4, "line": 7, "process": 3},
                 {"fact": "orphan", "process": 2},
             ],
         },
