@@ -61,6 +61,54 @@ class Calls(unittest.TestCase):
             self.assertRaises(ValueError, nixu.audit_each, example("ring.jsonl"), [faults])
         self.assertIsInstance(nixu.audit(example("ring.jsonl"), 65_535), nixu.Orphan)
 
+    def raises(self, error, message, call, *given):
+        with self.assertRaises(error) as raised:
+            call(*given)
+        self.assertEqual(str(raised.exception), message)
+
+    def test_an_argument_of_a_wrong_type_is_named(self):
+        text, trace, reader = example("ring.jsonl"), nixu.Trace(3), nixu.Reader()
+        det = nixu.Determinant(0, 0, 1, "0")
+        for call in (nixu.audit, nixu.line, nixu.explain, nixu.draw):
+            self.raises(TypeError, "text must be bytes, not str", call, "hello", 1)
+            self.raises(TypeError, "faults must be an int, not str", call, text, "1")
+        self.raises(TypeError, "text must be bytes, not str", nixu.audit_each, "hello", [1])
+        self.raises(TypeError, "faults must be a sequence of ints, not int", nixu.audit_each, text, 1)
+        self.raises(TypeError, "faults[1] must be an int, not NoneType", nixu.audit_each, text, [1, None])
+        self.raises(TypeError, "processes must be an int, not str", nixu.Trace, "3")
+        self.raises(TypeError, "entries must be an int, not float", nixu.Reader, 1e6)
+        self.raises(TypeError, "piece must be bytes, not str", reader.feed, "[")
+        self.raises(TypeError, "faults must be an int, not list", reader.finish, [1])
+        self.raises(TypeError, "faults must be an int, not str", trace.audit, "1")
+        for message, entry in {
+            "Send.ssn must be an int, not str": nixu.Send(0, 1, ssn="x"),
+            "Deliver.listed must be a sequence of Determinants, not int": nixu.Deliver(1, 0, 0, 7),
+            "Restart.listed[0] must be a Determinant, not int": nixu.Restart(1, [7]),
+            "Forget.listed[0].rsn must be an int, not str": nixu.Forget(1, [det]),
+            "Stable.determinant.rsn must be an int, not str": nixu.Stable(det),
+            "entry must be a Send, Deliver, Stable, Crash, Restart or Forget, not tuple": (0, 1, 0),
+        }.items():
+            self.raises(TypeError, message, trace.push, entry)
+        self.assertEqual((trace.text(), reader.feed(text)), ('["trace",1,3]\n["end",0]\n', None))
+
+    def test_an_argument_out_of_range_is_named(self):
+        trace = nixu.Trace(3)
+        self.raises(ValueError, "faults must be from 0 to 65535, not 65536", nixu.audit, b"", 65_536)
+        self.raises(ValueError, "processes must be from 1 to 256, not 257", nixu.Trace, 257)
+        self.raises(ValueError, "entries must be from 1 to 16777216, not 0", nixu.Reader, 0)
+        self.raises(ValueError, "Crash.who must be from 0 to 255, not 256", trace.push, nixu.Crash(256))
+        self.raises(ValueError, "Send.ssn must be from 0 to 4294967295, not -1", trace.push, nixu.Send(0, 1, -1))
+
+    def test_a_closed_handle_is_named(self):
+        trace, reader = nixu.Trace(3), nixu.Reader()
+        for handle in (trace, reader):
+            handle.close()
+            handle.close()
+        for call, given in ((trace.push, [nixu.Crash(0)]), (trace.audit, [1]), (trace.text, [])):
+            self.raises(RuntimeError, "the Trace is closed", call, *given)
+        for call, given in ((reader.feed, [b""]), (reader.finish, [1]), (reader.finish_each, [[]])):
+            self.raises(RuntimeError, "the Reader is closed", call, *given)
+
     def test_each_fault_has_a_sentence_of_its_own(self):
         self.assertEqual(len({kind.sentence for kind in nixu.FaultKind}), 20)
 

@@ -1,41 +1,40 @@
-//! Links libnixu.a and the heap that it stands on.
-//!
-//! `NIXU_LIB` is the folder of libnixu.a; without it, that into which `rt lib` writes in this repository. `NIXU_HEAP` is the folder of
-//! liblibc_c.a; without it, that of the kit whose `rt` is on the path.
-use std::env;
+//! Links libnixu.a: of the folder `NIXU_LIB`, else of `lib` beside this package, as in a release, else where `bindings/build` leaves it.
 use std::path::{Path, PathBuf};
-use std::process::Command;
+use std::{env, fs};
+
+const ARCHIVE: &str = "libnixu.a";
 
 fn main() {
-    let library = folder("NIXU_LIB", "libnixu.a", library_of_the_repository());
-    let heap = folder("NIXU_HEAP", "liblibc_c.a", heap_of_the_kit());
-    for (folder, name) in [(library, "nixu"), (heap, "libc_c")] {
-        println!("cargo:rustc-link-search=native={}", folder.display());
-        println!("cargo:rustc-link-lib=static={name}");
+    println!("cargo:rerun-if-env-changed=NIXU_LIB");
+    let folders = match env::var_os("NIXU_LIB") {
+        Some(named) => vec![PathBuf::from(named)],
+        None => folders_beside(PathBuf::from(env::var_os("CARGO_MANIFEST_DIR").expect("cargo sets it"))),
+    };
+    for folder in &folders {
+        println!("cargo:rerun-if-changed={}", folder.join(ARCHIVE).display());
     }
-}
-
-/// The folder that a variable names, or else another one; the file has to be in it.
-fn folder(variable: &str, file: &str, other: Option<PathBuf>) -> PathBuf {
-    println!("cargo:rerun-if-env-changed={variable}");
-    let folder = env::var_os(variable).map(PathBuf::from).or(other);
-    match folder.filter(|folder| folder.join(file).is_file()) {
+    match folders.iter().find(|folder| folder.join(ARCHIVE).is_file()) {
         Some(folder) => {
-            println!("cargo:rerun-if-changed={}", folder.join(file).display());
-            folder
+            warn_if_unproved(&folder.join(ARCHIVE));
+            println!("cargo:rustc-link-search=native={}", folder.display());
+            println!("cargo:rustc-link-lib=static=nixu");
         }
-        None => panic!("{file} was not found: {variable} has to name its folder (docs/LIBRARY.md)"),
+        None => {
+            let searched: Vec<_> = folders.iter().map(|folder| folder.display().to_string()).collect();
+            eprintln!("there is no {ARCHIVE} in {}: run bindings/build, or set NIXU_LIB to its folder", searched.join(" or "));
+            std::process::exit(1);
+        }
     }
 }
 
-fn library_of_the_repository() -> Option<PathBuf> {
-    let here = PathBuf::from(env::var_os("CARGO_MANIFEST_DIR")?);
-    Some(here.join("../../crates/nixu/out"))
+fn folders_beside(package: PathBuf) -> Vec<PathBuf> {
+    let beside = package.parent().unwrap_or(&package).to_path_buf();
+    vec![beside.join("lib"), beside.join("out/lib")]
 }
 
-/// `rt doc` prints the path of the kit's first page.
-fn heap_of_the_kit() -> Option<PathBuf> {
-    let said = Command::new("rt").arg("doc").output().ok()?;
-    let page = String::from_utf8(said.stdout).ok()?;
-    Some(Path::new(page.trim()).parent()?.join("c"))
+fn warn_if_unproved(archive: &Path) {
+    const MARK: &[u8] = b"nixu_unproved";
+    if fs::read(archive).is_ok_and(|bytes| bytes.windows(MARK.len()).any(|part| part == MARK)) {
+        println!("cargo:warning={} is built without proof", archive.display());
+    }
 }

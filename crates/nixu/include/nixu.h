@@ -1,7 +1,6 @@
 /* nixu 1: the audit of recorded runs, inside a program.
 
-   Link libnixu.a (`rt lib` in crates/nixu) and the toolchain's heap, or three functions of your own instead of it
-   (docs/LIBRARY.md).
+   Link libnixu.a, which needs a C library alone (docs/LIBRARY.md).
 
    Rules for every call:
    - A pointer points to `length`, `count` or `room` elements; no other thread may change them meanwhile. Memory that

@@ -6,29 +6,27 @@
 
 A Reader is fed with the pieces of a text while the run is recorded. A Trace is made of entries, without text.
 
-The shared object is made by `bindings/python/build`. It is looked for where the variable NIXU_SO says, else in out/ beside this file.
+An argument of a wrong type raises TypeError, one that is out of range ValueError, and a call on what is closed RuntimeError.
 """
 from __future__ import annotations
 
 import contextlib
 import ctypes
 import enum
-import os
 import threading
+from collections.abc import Callable, Iterator, Sequence
 from dataclasses import dataclass
-from typing import Callable, Iterator, NamedTuple, Sequence, Union
+from typing import NamedTuple, Union
+
+from . import _library as c
+from ._library import MOST_ENTRIES, VERSION
 
 __all__ = ["Accepted", "Exceeded", "Orphan", "Verdict", "Fault", "FaultKind", "audit", "audit_each", "line", "explain", "draw", "VERSION"]
 __all__ += ["USUAL_ENTRIES", "MOST_ENTRIES"]
 __all__ += ["Reader", "Trace", "Refused", "Entry", "Send", "Deliver", "Stable", "Crash", "Restart", "Forget", "Determinant"]
 
-VERSION = 1
-"""The version of the interface for which this module was written."""
-
-USUAL_ENTRIES, MOST_ENTRIES = 65_536, 16_777_216
-"""How many entries a trace may have where no other number is given, and the greatest number that may be."""
-
-_OK, _FAULT, _NO_MEMORY, _MISUSED, _CLOSED = range(5)
+USUAL_ENTRIES = 65_536
+"""How many entries a trace may have where no other number is given."""
 
 
 @dataclass(frozen=True)
@@ -95,7 +93,7 @@ class FaultKind(enum.IntEnum):
     def sentence(self) -> str:
         """The sentence that the program prints."""
         out, needed = ctypes.create_string_buffer(128), ctypes.c_size_t()
-        _check(_library.nixu_fault_text(self.value, out, len(out), needed))
+        _check(c.library.nixu_fault_text(self.value, out, len(out), needed))
         return out.raw[: needed.value].decode()
 
 
@@ -171,89 +169,23 @@ class Forget(NamedTuple):
 Entry = Union[Send, Deliver, Stable, Crash, Restart, Forget]
 
 
-class _Summary(ctypes.Structure):
-    _fields_ = [
-        ("kind", ctypes.c_uint32),
-        ("entries", ctypes.c_uint32),
-        ("deliveries", ctypes.c_uint32),
-        ("instant", ctypes.c_uint32),
-        ("delivery", ctypes.c_uint32),
-        ("orphan", ctypes.c_uint32),
-        ("line", ctypes.c_uint32),
-        ("fault", ctypes.c_uint32),
-        ("processes", ctypes.c_uint8 * 256),
-    ]
-
-
-class _Handle(ctypes.Structure):
-    _fields_ = [("held", ctypes.c_void_p), ("full", ctypes.c_uint32)]
-
-
-class _Determinant(ctypes.Structure):
-    _fields_ = [("ssn", ctypes.c_uint32), ("rsn", ctypes.c_uint32), ("source", ctypes.c_uint8), ("dest", ctypes.c_uint8)]
-
-
-class _Entry(ctypes.Structure):
-    _fields_ = [*((name, ctypes.c_uint32) for name in ("kind", "ssn", "rsn", "send"))]
-    _fields_ += [(name, ctypes.c_uint8) for name in ("source", "dest", "who")]
-
-
-def _loaded() -> ctypes.CDLL:
-    path = os.environ.get("NIXU_SO") or os.path.join(os.path.dirname(os.path.abspath(__file__)), "out", "libnixu.so")
-    try:
-        library = ctypes.CDLL(path)
-    except OSError as error:
-        raise ImportError(f"{error}; bindings/python/build makes the library") from None
-    text, size = [ctypes.c_char_p, ctypes.c_size_t], ctypes.c_size_t
-    bytes_out = [ctypes.c_char_p, size, ctypes.POINTER(size)]
-    structs = ctypes.POINTER(_Summary)
-    library.nixu_version.argtypes = []
-    library.nixu_audit.argtypes = [*text, ctypes.c_uint16, structs]
-    library.nixu_audit_each.argtypes = [*text, ctypes.POINTER(ctypes.c_uint16), size, structs, size]
-    for call in (library.nixu_line, library.nixu_explain, library.nixu_draw):
-        call.argtypes = [*text, ctypes.c_uint16, *bytes_out]
-    library.nixu_fault_text.argtypes = [ctypes.c_uint32, *bytes_out]
-    handle, faults = ctypes.POINTER(_Handle), [ctypes.POINTER(ctypes.c_uint16), size]
-    library.nixu_reader_open_within.argtypes = [handle, ctypes.c_uint32]
-    library.nixu_reader_feed.argtypes = [handle, *text, structs]
-    library.nixu_reader_finish.argtypes = [handle, *faults, structs, size]
-    library.nixu_trace_open_within.argtypes = [handle, ctypes.c_uint16, ctypes.c_uint32]
-    listed = [ctypes.POINTER(_Determinant), size]
-    library.nixu_trace_push.argtypes = [handle, ctypes.POINTER(_Entry), *listed, ctypes.POINTER(ctypes.c_uint32)]
-    library.nixu_trace_audit.argtypes = [handle, ctypes.c_uint16, structs]
-    library.nixu_trace_text.argtypes = [handle, *bytes_out]
-    for name in _ANSWERING:
-        getattr(library, f"nixu_{name}").restype = ctypes.c_uint32
-    for close in (library.nixu_reader_close, library.nixu_trace_close):
-        close.argtypes, close.restype = [handle], None
-    if library.nixu_version() != VERSION:
-        raise ImportError(f"{path} has version {library.nixu_version()}, and this module is for {VERSION}")
-    return library
-
-
-_ANSWERING = ["version", "audit", "audit_each", "line", "explain", "draw", "fault_text"]
-_ANSWERING += ["reader_open_within", "reader_feed", "reader_finish"]
-_ANSWERING += ["trace_open_within", "trace_push", "trace_audit", "trace_text"]
-
-_library = _loaded()
-
-
 def audit(text: bytes, faults: int) -> Verdict:
     """The verdict on the trace that a text spells, with up to `faults` processes down at once, 0 to 65535.
 
     Raises Fault where the text spells no trace, and MemoryError.
     """
-    told = _Summary()
-    status = _library.nixu_audit(text, len(text), _number(faults), told)
+    told = c.Summary()
+    status = c.library.nixu_audit(c.text_of("text", text), len(text), _bound(faults), told)
     return _verdict(status, told)
 
 
 def audit_each(text: bytes, faults: Sequence[int]) -> list[Verdict]:
     """The verdicts for several numbers of faults, in their order, of a text that is read once. Raises as audit does."""
-    count = len(faults)
-    told = (_Summary * count)()
-    status = _library.nixu_audit_each(text, len(text), (ctypes.c_uint16 * count)(*map(_number, faults)), count, told, count)
-    if status == _FAULT:
+    bounds = c.bounds_of(faults)
+    count = len(bounds)
+    told = (c.Summary * count)()
+    status = c.library.nixu_audit_each(c.text_of("text", text), len(text), bounds, count, told, count)
+    if status == c.FAULT:
         audit(text, 0)
     _check(status)
     return [_verdict(status, one) for one in told]
@@ -261,17 +193,17 @@ def audit_each(text: bytes, faults: Sequence[int]) -> list[Verdict]:
 
 def line(text: bytes, faults: int) -> str:
     """The line of the verdict, as `causal_tool audit` prints it, with its line feed. Raises as audit does."""
-    return _shown(_library.nixu_line, 2_048, text, faults)
+    return _shown(c.library.nixu_line, 2_048, text, faults)
 
 
 def explain(text: bytes, faults: int) -> str:
     """The line of the verdict and below it what tells why it is so, as `causal_tool explain` prints them. Raises as audit does."""
-    return _shown(_library.nixu_explain, 16_384, text, faults)
+    return _shown(c.library.nixu_explain, 16_384, text, faults)
 
 
 def draw(text: bytes, faults: int) -> str:
     """The space-time diagram of the run with its verdict, in SVG, as `causal_tool draw` prints it. Raises as audit does."""
-    return _shown(_library.nixu_draw, 196_608, text, faults)
+    return _shown(c.library.nixu_draw, 196_608, text, faults)
 
 
 class _Open:
@@ -280,15 +212,15 @@ class _Open:
     It may be made in one thread and used, closed or collected in another.
     """
 
-    def __init__(self, closing: Callable[[_Handle], None]) -> None:
-        self._handle = _Handle()
+    def __init__(self, closing: Callable[[c.Handle], None]) -> None:
+        self._handle = c.Handle()
         self._closing = closing
         self._in_use = threading.Lock()
 
     @contextlib.contextmanager
-    def _alone(self) -> Iterator[_Handle]:
+    def _alone(self) -> Iterator[c.Handle]:
         if not self._in_use.acquire(blocking=False):
-            raise RuntimeError("another call uses it")
+            raise RuntimeError(f"another call uses the {type(self).__name__}")
         try:
             yield self._handle
         finally:
@@ -315,8 +247,8 @@ class Reader(_Open):
     """
 
     def __init__(self, entries: int = USUAL_ENTRIES) -> None:
-        super().__init__(_library.nixu_reader_close)
-        _check(_library.nixu_reader_open_within(self._handle, _entries(entries)))
+        super().__init__(c.library.nixu_reader_close)
+        _check(c.library.nixu_reader_open_within(self._handle, c.number_of("entries", entries, MOST_ENTRIES, 1)))
 
     def feed(self, piece: bytes) -> None:
         """Reads one more piece, of any length.
@@ -324,25 +256,26 @@ class Reader(_Open):
         Raises Fault with the text's first fault, as soon as a line has one, and MemoryError. The reader is closed then, and each
         further call raises RuntimeError.
         """
-        told = _Summary()
+        told, piece = c.Summary(), c.text_of("piece", piece)
         with self._alone() as handle:
-            status = _library.nixu_reader_feed(handle, piece, len(piece), told)
-        if status == _FAULT:
+            status = c.library.nixu_reader_feed(handle, piece, len(piece), told)
+        if status == c.FAULT:
             raise Fault(told.line, FaultKind(told.fault))
-        _check(status)
+        _check(status, "Reader")
 
     def finish(self, faults: int) -> Verdict:
         """Ends the text, and tells the verdict on the trace that the pieces spell. Raises as feed does; the reader is closed."""
-        return self.finish_each([faults])[0]
+        return self.finish_each([_bound(faults)])[0]
 
     def finish_each(self, faults: Sequence[int]) -> list[Verdict]:
         """The same for several numbers of faults, in their order. Where no number is asked for a fault is not told."""
-        count = len(faults)
-        told, numbers = (_Summary * count)(), (ctypes.c_uint16 * count)(*map(_number, faults))
+        bounds = c.bounds_of(faults)
+        count = len(bounds)
+        told = (c.Summary * count)()
         with self._alone() as handle:
-            status = _library.nixu_reader_finish(handle, numbers, count, told, count)
-        if status != _FAULT:
-            _check(status)
+            status = c.library.nixu_reader_finish(handle, bounds, count, told, count)
+        if status != c.FAULT:
+            _check(status, "Reader")
         return [_verdict(status, one) for one in told]
 
     def __enter__(self) -> Reader:
@@ -356,78 +289,90 @@ class Trace(_Open):
     """
 
     def __init__(self, processes: int, entries: int = USUAL_ENTRIES) -> None:
-        super().__init__(_library.nixu_trace_close)
-        status = _library.nixu_trace_open_within(self._handle, _fits(processes, 65_535), _entries(entries))
-        if status == _MISUSED:
-            raise ValueError("a trace has 1 to 256 processes")
-        _check(status)
+        super().__init__(c.library.nixu_trace_close)
+        processes, entries = c.number_of("processes", processes, 256, 1), c.number_of("entries", entries, MOST_ENTRIES, 1)
+        _check(c.library.nixu_trace_open_within(self._handle, processes, entries))
 
     def push(self, entry: Entry) -> None:
         """Adds an entry at the end.
 
         Raises Refused with what first stands against it, and MemoryError. The trace is as it was then.
         """
-        listed, fault = getattr(entry, "listed", ()), ctypes.c_uint32()
-        dets, given = (_Determinant * len(listed))(*map(_determinant, listed)), _entry(entry)
+        given, listed, fault = _entry(entry), _listed(entry), ctypes.c_uint32()
         with self._alone() as handle:
-            status = _library.nixu_trace_push(handle, given, dets, len(listed), fault)
-        if status == _FAULT:
+            status = c.library.nixu_trace_push(handle, given, listed, len(listed), fault)
+        if status == c.FAULT:
             raise Refused(FaultKind(fault.value))
-        _check(status)
+        _check(status, "Trace")
 
     def audit(self, faults: int) -> Verdict:
         """The verdict on the entries so far, with up to `faults` processes down at once. Raises MemoryError."""
-        told, number = _Summary(), _number(faults)
+        told, bound = c.Summary(), _bound(faults)
         with self._alone() as handle:
-            status = _library.nixu_trace_audit(handle, number, told)
+            status = c.library.nixu_trace_audit(handle, bound, told)
+        _check(status, "Trace")
         return _verdict(status, told)
 
     def text(self) -> str:
         """The text of the trace so far, which `audit` reads. Raises MemoryError."""
         needed = ctypes.c_size_t()
         with self._alone() as handle:
-            _check(_library.nixu_trace_text(handle, None, 0, needed))
+            _check(c.library.nixu_trace_text(handle, None, 0, needed), "Trace")
             out = ctypes.create_string_buffer(needed.value)
-            _check(_library.nixu_trace_text(handle, out, needed.value, needed))
+            _check(c.library.nixu_trace_text(handle, out, needed.value, needed))
         return ctypes.string_at(out, needed.value).decode()
 
     def __enter__(self) -> Trace:
         return self
 
 
-def _determinant(det: Determinant) -> _Determinant:
+def _determinant(name: str, det: Determinant) -> c.CDeterminant:
+    if not isinstance(det, tuple) or len(det) != 4:
+        c.refuse_type(name, "a Determinant", det)
     source, ssn, dest, rsn = det
-    return _Determinant(_fits(ssn), _fits(rsn), _fits(source, 255), _fits(dest, 255))
+    numbers = _number(f"{name}.ssn", ssn), _number(f"{name}.rsn", rsn)
+    return c.CDeterminant(*numbers, _process(f"{name}.source", source), _process(f"{name}.dest", dest))
 
 
-def _entry(entry: Entry) -> _Entry:
+def _listed(entry: Entry) -> ctypes.Array[c.CDeterminant]:
+    name, listed = f"{type(entry).__name__}.listed", getattr(entry, "listed", ())
+    if not isinstance(listed, Sequence):
+        c.refuse_type(name, "a sequence of Determinants", listed)
+    return (c.CDeterminant * len(listed))(*(_determinant(f"{name}[{i}]", det) for i, det in enumerate(listed)))
+
+
+def _entry(entry: Entry) -> c.CEntry:
     if isinstance(entry, Send):
-        return _Entry(kind=0, source=_fits(entry.sender, 255), dest=_fits(entry.to, 255), ssn=_fits(entry.ssn))
+        source, dest = _process("Send.sender", entry.sender), _process("Send.to", entry.to)
+        return c.CEntry(kind=0, source=source, dest=dest, ssn=_number("Send.ssn", entry.ssn))
     if isinstance(entry, Deliver):
-        return _Entry(kind=1, dest=_fits(entry.to, 255), send=_fits(entry.send), rsn=_fits(entry.rsn))
+        dest, send = _process("Deliver.to", entry.to), _number("Deliver.send", entry.send)
+        return c.CEntry(kind=1, dest=dest, send=send, rsn=_number("Deliver.rsn", entry.rsn))
     if isinstance(entry, Stable):
-        det = _determinant(entry.determinant)
-        return _Entry(kind=2, source=det.source, dest=det.dest, ssn=det.ssn, rsn=det.rsn)
-    kinds = {Crash: 3, Restart: 4, Forget: 5}
-    return _Entry(kind=kinds[type(entry)], who=_fits(entry.who, 255))
+        det = _determinant("Stable.determinant", entry.determinant)
+        return c.CEntry(kind=2, source=det.source, dest=det.dest, ssn=det.ssn, rsn=det.rsn)
+    for kind, words in ((3, Crash), (4, Restart), (5, Forget)):
+        if isinstance(entry, words):
+            return c.CEntry(kind=kind, who=_process(f"{words.__name__}.who", entry.who))
+    c.refuse_type("entry", "a Send, Deliver, Stable, Crash, Restart or Forget", entry)
 
 
-def _shown(call, room: int, text: bytes, faults: int) -> str:
+def _shown(call: Callable[..., int], room: int, text: bytes, faults: int) -> str:
     """What a call gives. It is asked with a first room, and once more where that was too small."""
     out, needed = ctypes.create_string_buffer(room), ctypes.c_size_t()
-    status = call(text, len(text), _number(faults), out, room, needed)
+    status = call(c.text_of("text", text), len(text), _bound(faults), out, room, needed)
     if needed.value > room:
         room = needed.value
         out = ctypes.create_string_buffer(room)
         status = call(text, len(text), faults, out, room, needed)
-    if status == _FAULT:
+    if status == c.FAULT:
         audit(text, faults)
     _check(status)
     return ctypes.string_at(out, needed.value).decode()
 
 
-def _verdict(status: int, told: _Summary) -> Verdict:
-    if status == _FAULT:
+def _verdict(status: int, told: c.Summary) -> Verdict:
+    if status == c.FAULT:
         raise Fault(told.line, FaultKind(told.fault))
     _check(status)
     processes = frozenset(process for process, is_in in enumerate(told.processes) if is_in)
@@ -438,29 +383,23 @@ def _verdict(status: int, told: _Summary) -> Verdict:
     return Orphan(told.entries, told.deliveries, told.instant, told.delivery, processes, told.orphan)
 
 
-def _number(faults: int) -> int:
-    """ctypes would cut a number that does not fit."""
-    if not 0 <= faults <= 65_535:
-        raise ValueError("a number of faults is from 0 to 65535")
-    return faults
+def _bound(faults: int) -> int:
+    return c.number_of("faults", faults, 65_535)
 
 
-def _entries(entries: int) -> int:
-    if not 1 <= entries <= MOST_ENTRIES:
-        raise ValueError(f"a trace may have 1 to {MOST_ENTRIES} entries")
-    return entries
+def _number(name: str, number: int) -> int:
+    return c.number_of(name, number, 2**32 - 1)
 
 
-def _fits(number: int, most: int = 2**32 - 1) -> int:
-    if not 0 <= number <= most:
-        raise ValueError(f"the number has to be from 0 to {most}")
-    return number
+def _process(name: str, process: int) -> int:
+    return c.number_of(name, process, 255)
 
 
-def _check(status: int) -> None:
-    if status == _NO_MEMORY:
-        raise MemoryError("the audit was refused memory")
-    if status == _CLOSED:
-        raise RuntimeError("it is closed")
-    if status != _OK:
-        raise RuntimeError(f"the library answers with the status {status}, which has no meaning here")
+def _check(status: int, handle: str = "handle") -> None:
+    """Raises the error of a status; `handle` is what a call on a closed one names."""
+    if status == c.NO_MEMORY:
+        raise MemoryError("an allocation of the library failed")
+    if status == c.CLOSED:
+        raise RuntimeError(f"the {handle} is closed")
+    if status != c.OK:
+        raise RuntimeError(f"the library returned the status {status}, which this call does not have")

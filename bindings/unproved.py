@@ -1,0 +1,129 @@
+"""Compiles the library without proof. The kit builds no unproved library, but `rt try` compiles an unproved program: here one that calls
+each function of the library. What the compiler made of it is kept while it is there, and compiled again as a library. It has the checks of
+`rt try`: a process in which one fails ends by a signal."""
+import os
+import re
+import shutil
+import subprocess
+import time
+
+CALLS = """
+use crate::c_entry::CEntry;
+use crate::c_verdict::CVerdict;
+use crate::handle::Handle;
+use std::rt::HostRuntime;
+
+fn main(rt: HostRuntime) {
+    let alloc = rt.alloc();
+    let mut verdict = CVerdict {
+        kind: 0, entries: 0, deliveries: 0, instant: 0, delivery: 0, orphan: 0, line: 0, fault: 0, processes: [0u8; 256],
+    };
+    let entry = CEntry { kind: 3, ssn: 0, rsn: 0, send: 0, source: 0, dest: 0, who: 0 };
+    let mut handle = Handle::new_closed(alloc);
+    let mut out = [0u8; 1];
+    let mut needed = 0usize;
+    let mut fault = 0u32;
+    audit::nixu_version();
+    audit::nixu_audit(alloc, b"", 0, &mut verdict);
+    audit::nixu_audit_each(alloc, b"", &[], &mut []);
+    views::nixu_line(alloc, b"", 0, &mut out, &mut needed);
+    views::nixu_explain(alloc, b"", 0, &mut out, &mut needed);
+    views::nixu_draw(alloc, b"", 0, &mut out, &mut needed);
+    faults::nixu_fault_text(0, &mut out, &mut needed);
+    reader::nixu_reader_open(alloc, &mut handle);
+    reader::nixu_reader_open_within(alloc, &mut handle, 1);
+    reader::nixu_reader_feed(alloc, &mut handle, b"", &mut verdict);
+    reader::nixu_reader_finish(alloc, &mut handle, &[], &mut []);
+    reader::nixu_reader_close(alloc, &mut handle);
+    recorder::nixu_trace_open(alloc, &mut handle, 1);
+    recorder::nixu_trace_open_within(alloc, &mut handle, 1, 1);
+    recorder::nixu_trace_push(alloc, &mut handle, &entry, &[], &mut fault);
+    recorder::nixu_trace_audit(alloc, &mut handle, 0, &mut verdict);
+    recorder::nixu_trace_text(alloc, &mut handle, &mut out, &mut needed);
+    recorder::nixu_trace_close(alloc, &mut handle);
+}
+"""
+
+# A linker prints the text of this section as a warning.
+WARNING = """
+module asm ".pushsection .gnu.warning"
+module asm ".ascii \\22this libnixu.a is built without proof\\22"
+module asm ".popsection"
+@nixu_unproved = constant i32 1
+"""
+
+
+class Failed(Exception):
+    pass
+
+
+def lay_out(top, room, crates):
+    """Writes a repository of these crates, given with their lines of crates.txt, in which the library is the program that calls its own functions."""
+    os.makedirs(os.path.join(room, ".git"))
+    shutil.copy(os.path.join(top, "HANDLES"), room)
+    with open(os.path.join(room, "crates.txt"), "w") as file:
+        file.writelines(line.replace(" staticlib", "").replace(" core std_alloc std_heap", " std") for line in crates.values())
+    for crate in crates:
+        for part in ("src", "specs", "proofs"):
+            there = os.path.join(top, "crates", crate, part)
+            if os.path.isdir(there):
+                shutil.copytree(there, os.path.join(room, "crates", crate, part))
+    source = os.path.join(room, "crates", "nixu", "src")
+    os.rename(os.path.join(source, "lib.rt"), os.path.join(source, "main.rt"))
+    with open(os.path.join(source, "main.rt"), "a") as file:
+        file.write(CALLS)
+
+
+def caught_module(room):
+    """Runs `rt try`, and keeps the largest module that it hands to its compiler. The kit removes it, so it is linked as long as it is there."""
+    modules, temporary = os.path.join(room, "modules"), os.path.join(room, "tmp")
+    for folder in (modules, temporary):
+        os.mkdir(folder)
+    with open(os.path.join(room, "log"), "wb+") as log:
+        given = {"cwd": os.path.join(room, "crates", "nixu"), "env": {**os.environ, "TMPDIR": temporary}}
+        running = subprocess.Popen(["rt", "try"], stdin=subprocess.DEVNULL, stdout=log, stderr=log, **given)
+        while running.poll() is None:
+            keep_modules(temporary, modules)
+            time.sleep(0.02)
+        log.seek(0)
+        said = log.read().decode("utf-8", "replace")
+    if not re.search(r"^run=ended status=0 .*proved=no$", said, re.M):
+        raise Failed(f"rt try compiled no unproved library\n{said[-3000:]}")
+    found = sorted((os.path.join(modules, name) for name in os.listdir(modules)), key=os.path.getsize)
+    if not found:
+        raise Failed("rt try has left no module to compile as a library")
+    return found[-1]
+
+
+def keep_modules(temporary, modules):
+    for at, _, names in os.walk(temporary):
+        for name in names:
+            if name == "module.bc":
+                try:
+                    os.link(os.path.join(at, name), os.path.join(modules, os.path.basename(at)))
+                except OSError:
+                    pass  # it is kept already, or gone
+
+
+def as_library(module, names):
+    """The text of a module in which these functions are public, under their names in C, and no other is."""
+    module = re.sub(r"^define i32 @main\(", 'define internal i32 @"no main"(', module, flags=re.M)
+    module = re.sub(r'@"nixu::\w+::(nixu_\w+)"', r"@\1", module)
+    module, count = re.subn(r"^define internal (.*@nixu_\w+\()", r"define \1", module, flags=re.M)
+    found = set(re.findall(r"^define .*?@(nixu_\w+)\(", module, re.M))
+    if found != set(names) or count != len(names):
+        raise Failed(f"nixu.h and the calls of unproved.py differ in {', '.join(sorted(found ^ set(names)))}")
+    return module + WARNING
+
+
+def unproved_object(top, kit, room, crates, names):
+    """Compiles the library without proof, and returns the object file."""
+    lay_out(top, room, crates)
+    clang, text, made = os.path.join(kit, "toolchain", "bin", "clang"), os.path.join(room, "nixu.ll"), os.path.join(room, "nixu.o")
+    subprocess.run([clang, "-x", "ir", "-S", "-emit-llvm", caught_module(room), "-o", text], check=True)
+    with open(text) as file:
+        module = as_library(file.read(), names)
+    with open(text, "w") as file:
+        file.write(module)
+    subprocess.run([clang, "-O2", "-fPIC", "-x", "ir", "-c", text, "-o", made], check=True)
+    return made
