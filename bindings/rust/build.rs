@@ -34,7 +34,8 @@ fn folders_beside(package: PathBuf) -> Vec<PathBuf> {
 
 fn warn_if_unproved(archive: &Path) {
     const MARK: &[u8] = b"nixu_unproved";
-    if fs::read(archive).is_ok_and(|bytes| bytes.windows(MARK.len()).any(|part| part == MARK)) {
+    let bytes = fs::read(archive).unwrap_or_default();
+    if bytes.windows(MARK.len()).any(|part| part == MARK) {
         println!("cargo:warning={} is built without proof", archive.display());
     }
 }

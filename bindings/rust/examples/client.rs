@@ -67,10 +67,10 @@ fn fed(text: &[u8], faults: u16) -> Result<Audit, Error> {
 /// An entry of a file of entries, whose form ../c/entries.h tells.
 fn entry(line: &str) -> Option<Entry> {
     let numbers: Vec<u32> = line.split(' ').map(str::parse).collect::<Result<_, _>>().ok()?;
-    let &[kind, ssn, rsn, send, source, dest, who, _, ref behind @ ..] = &numbers[..] else { return None };
+    let [kind, ssn, rsn, send, source, dest, who, _]: [u32; 8] = numbers.get(..8)?.try_into().ok()?;
     let (source, dest, who) = (source as u8, dest as u8, who as u8);
     let determinant = |det: &[u32]| Determinant { source: det[0] as u8, ssn: det[1], dest: det[2] as u8, rsn: det[3] };
-    let listed = behind.chunks(4).map(determinant).collect();
+    let listed = numbers[8..].chunks(4).map(determinant).collect();
     match kind {
         0 => Some(Entry::Send { from: source, to: dest, ssn }),
         1 => Some(Entry::Deliver { to: dest, send, rsn, listed }),
@@ -111,9 +111,9 @@ fn answer(word: &str, text: &[u8], faults: u16) -> Result<String, Error> {
 fn main() -> Result<(), Box<dyn std::error::Error>> {
     let tasks = std::fs::read_to_string(std::env::args().nth(1).ok_or("usage: client TASKS")?)?;
     for task in tasks.lines() {
-        let mut words = task.splitn(3, ' ');
-        let (Some(word), Some(faults), Some(path)) = (words.next(), words.next(), words.next()) else {
-            return Err(format!("no task: {task}").into());
+        let (word, faults, path) = match task.splitn(3, ' ').collect::<Vec<_>>()[..] {
+            [word, faults, path] => (word, faults, path),
+            _ => return Err(format!("no task: {task}").into()),
         };
         let told = answer(word, &std::fs::read(path)?, faults.parse()?)?;
         write!(io::stdout(), "{}\n{told}", told.len())?;
