@@ -33,6 +33,9 @@ pub(crate) struct SlotKey {
     pub number: u32,
 }
 
+/// Tables with a larger capacity use all of it: a run has few of them.
+const MOST_STAGGERED: usize = 1152;
+
 /// Entries in insertion order, unless they were sorted since.
 #[derive(Drop)]
 pub(crate) struct Table {
@@ -41,6 +44,9 @@ pub(crate) struct Table {
     numbers: u32,
     /// How many more entries can be added without allocation.
     room: usize,
+    /// Which share of a capacity up to `MOST_STAGGERED` stays unused, in parts of 768. Capacities are 9 times a power of
+    /// two, so logs of one run would all grow during the same deliveries; with different shares they do not.
+    unused: u8,
 }
 
 impl Model for Table {
@@ -65,6 +71,7 @@ impl Table {
             entries: IndexMap::with_hasher(alloc, SeededState::new(seed)),
             numbers: 0,
             room: 0,
+            unused: unused_share(seed),
         }
     }
 
@@ -181,8 +188,14 @@ impl Table {
         if more > u32::MAX as usize - count {
             return Err(NoMemory);
         }
+        if more <= spare_of(&self.entries) {
+            // if this fails, the unused share is used
+            let _ = self
+                .entries
+                .reserve(spare_of(&self.entries).saturating_add(1));
+        }
         self.entries.reserve(more)?;
-        let room = self.entries.capacity() - self.entries.len();
+        let room = usable_spare(&self.entries, self.unused).max(more);
         self.room = room.min(u32::MAX as usize - count);
         Ok(())
     }
@@ -195,6 +208,7 @@ impl Table {
             entries: self.entries.clone()?,
             numbers: self.numbers,
             room: 0,
+            unused: self.unused,
         })
     }
 
@@ -250,6 +264,31 @@ pub(crate) fn is_forgotten(next: Slot, entry: &(Det, Known)) -> bool
 
 /// Entries by slot and number.
 type Entries = IndexMap<SlotKey, (Det, Known), SeededState>;
+
+/// Returns which share of its capacity a table with this seed leaves unused, in parts of 768: less than a third. The shares
+/// of consecutive seeds are far apart.
+fn unused_share(seed: u64) -> u8 {
+    ((seed % 256) as u8).wrapping_mul(159)
+}
+
+/// Returns how many more entries the capacity holds.
+fn spare_of(entries: &Entries) -> usize
+    ensures { result ≡ spare entries.now }
+{
+    entries.capacity() - entries.len()
+}
+
+/// Returns how many more entries it holds without the unused share, which is given in parts of 768.
+fn usable_spare(entries: &Entries, unused: u8) -> usize
+    ensures { result ≤ spare entries.now }
+{
+    let capacity = entries.capacity();
+    if capacity > MOST_STAGGERED {
+        return spare_of(entries);
+    }
+    let left = capacity.saturating_mul(usize::from(unused)) / 768;
+    spare_of(entries).saturating_sub(left)
+}
 
 /// Returns the index of a determinant's entry, and what is known of it. Each entry's number is less than `numbers`.
 fn search(entries: &Entries, numbers: u32, det: Det) -> Option<(usize, Known)>
@@ -402,6 +441,20 @@ fn learn_among_others(entries: &mut Table, det: Det, news: Known) -> usize
     }
 }
 
+/// Learns something of one determinant, as `learn` does; looks first at an index where its entry is likely to be.
+#[inline]
+fn learn_guessed(entries: &mut Table, guess: usize, det: Det, news: Known) -> usize
+    requires room { fin.get (log_of entries.old.entries) det ≡ None → 1 ≤ entries.old.spare }
+    ensures learned { log_of entries.new.entries
+        ≡ after_learn (log_of entries.old.entries) det news }
+    ensures spare { entries.old.spare ≤ entries.new.spare + 1 }
+{
+    match entries.known_at(guess, det) {
+        Some(_) => entries.merge_at(guess, news),
+        None => learn(entries, det, news),
+    }
+}
+
 /// Learns the items of a message, in reserved capacity. Entries of a list were usually added in the order of its
 /// determinants, at a constant distance. So the index of each is guessed from the two before it, and looked up if the
 /// guess is wrong.
@@ -420,21 +473,23 @@ pub(crate) fn learn_items(entries: &mut Table, items: &[Item], from: Pid, me: Pi
         let guess = place.wrapping_mul(2).wrapping_sub(last);
         last = place;
         let news = item.receiver_knowledge(&both);
-        place = match entries.known_at(guess, item.det) {
-            Some(_) => entries.merge_at(guess, news),
-            None => learn(entries, item.det, news),
-        };
+        place = learn_guessed(entries, guess, item.det, news);
     }
 }
 
+/// Learns the entries of another log, in reserved capacity. Indices are guessed as in `learn_items`: logs often list
+/// the same determinants in the same order.
 pub(crate) fn learn_entries(entries: &mut Table, others: &[(Det, Known)])
     requires room { length others.now ≤ entries.old.spare }
     ensures learned { log_of entries.new.entries ≡
         after_learn_all others.now (log_of entries.old.entries) }
     ensures spare { entries.old.spare ≤ entries.new.spare + length others.now }
 {
+    let (mut last, mut place): (usize, usize) = (0, 0);
     for (det, news) in others {
-        learn(entries, *det, *news);
+        let guess = place.wrapping_mul(2).wrapping_sub(last);
+        last = place;
+        place = learn_guessed(entries, guess, *det, *news);
     }
 }
 
