@@ -379,7 +379,7 @@ impl RunData {
         let stored = store.all(alloc)?;
         gather(
             alloc,
-            self.seed,
+            self.log_seed(p),
             self.process_memories.as_slice(),
             stored.as_slice(),
             p,

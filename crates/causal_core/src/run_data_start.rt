@@ -68,15 +68,20 @@ impl RunData {
         })
     }
 
-    /// Makes everything that the next process must allocate when it begins.
-    pub(crate) fn prepare_begin(&mut self, alloc: Global) -> Result<RestartPlan, NoMemory>
+    /// Returns the seed of p's log: another one for each process, so that logs do not all grow at the same time.
+    pub(crate) fn log_seed(&self, p: Pid) -> u64 {
+        self.seed.wrapping_add(u64::from(p.0))
+    }
+
+    /// Makes everything that process p must allocate when it begins.
+    pub(crate) fn prepare_begin(&mut self, alloc: Global, p: Pid) -> Result<RestartPlan, NoMemory>
         ensures run { self.new.run ≡ self.old.run }
         ensures bodies { self.new.bodies ≡ self.old.bodies }
         ensures gathered { IfOk result (λ g. IsRestartPlan self.old.run.faults fin.empty g) }
         ensures room { OnOk result (8 ≤ self.new.spare) }
     {
         self.trace.reserve(8)?;
-        restart_plan_with(alloc, self.faults, Log::with_seed(alloc, self.seed))
+        restart_plan_with(alloc, self.faults, Log::with_seed(alloc, self.log_seed(p)))
     }
 
     /// Records what process p sends as it begins.

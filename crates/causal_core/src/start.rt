@@ -41,7 +41,7 @@ fn begin(
         (Begins answers process slots.old.items slots.new.items run_data.old run_data.new) }
 {
     let p = Pid(slots.len() as u8);
-    let fresh = run_data.prepare_begin(alloc)?;
+    let fresh = run_data.prepare_begin(alloc, p)?;
     let sends = begin_box(&mut process, alloc)?;
     run_data.record_begin(p, fresh, sends);
     slots.push(Some(process))?;
