@@ -1,7 +1,8 @@
 #!/usr/bin/env python3
 """Runs the built program with each allocation, each thread start, each read and each write refused in turn, one alone
 and all from the k-th on, and says what was wrong. Some runs have streams that give and take a byte at a time, with each call
-refused. The calls are refused by a small library that is preloaded; it is built from refuse.c with the machine's C compiler.
+refused. The calls are refused by a small library that is preloaded; it is built from refuse.c with the machine's C compiler. Another
+one, from seeds.c, gives each run of the same words the same random seed, and so the same allocations.
 
     trials/refuse.py [--program PATH] [--seconds N]
 
@@ -22,6 +23,7 @@ HERE = os.path.dirname(os.path.abspath(__file__))
 TOP = os.path.dirname(HERE)
 PROGRAM = os.path.join(TOP, "crates", "causal_tool", "out", "causal_tool")
 MOST = 20_000  # tries of one kind in one run
+SEED = 1
 
 RING = '["trace",1,3]\n["send",0,1,0]\n["deliver",1,0,0,[[0,0,1,0]]]\n["send",1,2,0]\n' \
     '["deliver",2,2,0,[[0,0,1,0],[1,0,2,0]]]\n["send",2,0,0]\n["deliver",0,4,0,[[1,0,2,0],[2,0,0,0]]]\n["end",6]\n'
@@ -103,15 +105,15 @@ def library_in(folder, name="refuse.c"):
 
 
 class Tries:
-    def __init__(self, program, library, folder, seconds):
-        self.program, self.library, self.folder = program, library, folder
+    def __init__(self, program, preloaded, folder, seconds):
+        self.program, self.preloaded, self.folder = program, preloaded, folder
         self.end = time.monotonic() + seconds
         self.tried, self.survived, self.left, self.wrong = 0, 0, 0, []
 
     def once(self, words, text, **refuse):
         count = os.path.join(self.folder, f"count{threading.get_ident()}")
         settings = {f"REFUSE_{name.upper()}": str(value) for name, value in refuse.items()}
-        environment = {**os.environ, "LD_PRELOAD": self.library, "REFUSE_COUNT": count, **settings}
+        environment = {**os.environ, "LD_PRELOAD": self.preloaded, "REFUSE_COUNT": count, "SEED_BYTES": str(SEED), **settings}
         ended = subprocess.run(
             [self.program, *words], input=text.encode(), capture_output=True, env=environment, timeout=60
         )
@@ -195,7 +197,8 @@ def main():
     given.add_argument("--seconds", type=float, default=float("inf"))
     words = given.parse_args()
     with tempfile.TemporaryDirectory() as folder, concurrent.futures.ThreadPoolExecutor(os.cpu_count()) as pool:
-        tries = Tries(words.program, library_in(folder), folder, words.seconds)
+        libraries = " ".join(library_in(folder, name) for name in ("refuse.c", "seeds.c"))
+        tries = Tries(words.program, libraries, folder, words.seconds)
         plain = {}
         for name, said, text, status in RUNS:
             plain[name] = tries.once(said, text, kind="none")
