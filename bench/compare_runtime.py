@@ -1,0 +1,130 @@
+#!/usr/bin/env python3
+"""Measures two builds of the runtime in turn, row by row, and prints the rows of both side by side: deliveries on a core, the command
+`run`, and determinants picked to collide.
+
+    bench/compare_runtime.py BEFORE AFTER [--turns 9]
+
+Each folder has the programs `runtime_bench` (of `runtime/`), `runtime_log` and `causal_tool` of one build. A figure is the least of the
+turns; instructions are counted by `valgrind` once, since other work changes them little.
+"""
+import argparse
+import os
+import sys
+
+import measure_runtime
+import run_scripts
+from measure_runtime import KINDS, SIZES, figures, instructions, least, written
+
+MOST_AVERAGE, MOST_PACE, MOST_DELIVERY, MOST_RUN, MOST_PICKED = 1.35, 2.2, 1.2, 2.2, 1.3
+KEYS = (256, 1_024, 2_048, 8_192)
+
+
+def table(names, rows):
+    lines = ["| " + " | ".join(names) + " |", "|" + "---|" * len(names)]
+    return "\n".join(lines + ["| " + " | ".join(map(str, row)) + " |" for row in rows])
+
+
+class Builds:
+    """The two builds, and how many turns each row has."""
+
+    def __init__(self, before, after, turns):
+        self.folders, self.turns, self.targets = (before, after), turns, []
+
+    def program(self, name):
+        return [os.path.join(folder, name) for folder in self.folders]
+
+    def in_turn(self, programs, words):
+        """The least figures of each program, one run of each after the other; `words` has the words of each."""
+        turns = [[figures(said, program=program) for program, said in zip(programs, words)] for _ in range(self.turns)]
+        return [least(runs) or sys.exit(f"no figures: {words}") for runs in zip(*turns)]
+
+    def aim(self, target, most, values):
+        worst, row = max(values)
+        self.targets.append((target, most, f"{worst:.2f} ({row})", "yes" if worst <= most else "no"))
+
+
+def short_lists(builds):
+    """Deliveries for f = 0, and the slowest thousand beside the fastest."""
+    rows, times, paces = [], [], []
+    for kind in KINDS:
+        for n in SIZES:
+            told = builds.in_turn(builds.program("runtime_bench"), [["core", kind, n, 0, 1000]] * 2)
+            each = [sum(run[4:]) / run[1] / 1e3 for run in told]
+            pace = [max(whole) / min(whole) for whole in (run[4 : 4 + run[1] // 1000] for run in told)]
+            rows.append((kind, n, *(f"{x:.3f}" for x in each), f"{each[1] / each[0]:.2f}", *(f"{x:.2f}" for x in pace)))
+            times.append((each[1] / each[0], f"{kind} of {n}"))
+            paces.append((pace[1], f"{kind} of {n}"))
+    builds.aim("f = 0: a delivery / before", MOST_DELIVERY, times)
+    builds.aim("f = 0: the slowest thousand / the fastest", MOST_PACE, paces)
+    return table(["kind", "n", "µs before", "µs", "/ before", "slowest / fastest before", "slowest / fastest"], rows)
+
+
+def long_lists(builds):
+    """Deliveries for f of 1, 2, 8 and n: nanoseconds for each listed determinant, beside plain Rust."""
+    rows, ratios, plain = [], [], []
+    programs = [*builds.program("runtime_bench"), measure_runtime.YARDSTICK]
+    for fault in (1, 2, 8, "n"):
+        for kind in KINDS:
+            for n in SIZES:
+                f = n if fault == "n" else fault
+                if fault != "n" and f >= n:
+                    continue
+                words = ["core", kind, n, f, 1000]
+                told = builds.in_turn(programs, [words, words, words[1:4]])
+                before, after, beside = (sum(run[first:]) / run[listed] for run, first, listed in zip(told, (4, 4, 2), (2, 2, 1)))
+                rows.append((kind, n, f, f"{before:.0f}", f"{after:.0f}", f"{after / before:.2f}", f"{beside:.0f}", f"{after / beside:.2f}"))
+                plain.append((after / beside, f"{kind} of {n} for {f}"))
+                if fault != "n":
+                    ratios.append(after / before)
+    builds.aim(f"a listed determinant / before, on average over {len(ratios)} rows for f of 1, 2 and 8", MOST_AVERAGE,
+               [(sum(ratios) / len(ratios), "average")])
+    builds.aim("a listed determinant / plain Rust", 1.0, plain)
+    return table(["kind", "n", "f", "ns before", "ns", "/ before", "plain ns", "/ plain"], rows)
+
+
+def scripts(builds):
+    """The command `run` beside reading the script and making the text."""
+    rows, ratios = [], []
+    for script in run_scripts.SCRIPTS:
+        text, _ = run_scripts.make(script, 1)
+        path, wrong = written(f"script-{script}", text), written(f"misended-{script}", run_scripts.misended(text))
+        cells = []
+        for tool, bench in zip(builds.program("causal_tool"), builds.program("runtime_bench")):
+            calls, whole = (instructions([bench, "script", part], path) for part in ("calls", "text"))
+            read, run = instructions([tool, "run"], wrong), instructions([tool, "run"], path)
+            cells += [run / 1e6, run / (read + whole - calls)]
+        rows.append((script, f"{cells[0]:.1f}", f"{cells[2]:.1f}", f"{cells[2] / cells[0]:.2f}", f"{cells[1]:.2f}", f"{cells[3]:.2f}"))
+        ratios.append((cells[3], script))
+    builds.aim("`run` / (read + text)", MOST_RUN, ratios)
+    return table(["script", "run M before", "run M", "/ before", "run / (read + text) before", "run / (read + text)"], rows)
+
+
+def collisions(builds):
+    """Determinants picked to collide, with a known seed and with another one."""
+    rows, ratios = [], []
+    program = builds.program("runtime_log")[1]
+    for count in KEYS:
+        told = builds.in_turn([program], [["keys", count]])[0]
+        each = [took / many for many, took in zip(told[::2], told[1::2])]
+        rows.append((f"{count:,}", *(f"{x:.1f}" for x in each)))
+        ratios += [(each[1] / each[0], f"alike, {count:,}"), (each[3] / each[0], f"seeded, {count:,}")]
+    builds.aim("picked and colliding / spread, with a seed", MOST_PICKED, ratios)
+    return table(["determinants", "spread", "alike", "picked", "seeded"], rows)
+
+
+def main():
+    given = argparse.ArgumentParser(description=__doc__.split("\n\n")[0])
+    given.add_argument("before")
+    given.add_argument("after")
+    given.add_argument("--turns", type=int, default=9)
+    words = given.parse_args()
+    os.makedirs(measure_runtime.INPUTS, exist_ok=True)
+    os.makedirs(os.path.dirname(measure_runtime.YARDSTICK), exist_ok=True)
+    measure_runtime.build_yardstick()
+    builds = Builds(words.before, words.after, words.turns)
+    parts = [part(builds) for part in (short_lists, long_lists, scripts, collisions)]
+    print(table(["Target", "At most", "Worst", "Met"], builds.targets), *parts, sep="\n\n")
+
+
+if __name__ == "__main__":
+    main()
