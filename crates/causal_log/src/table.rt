@@ -188,13 +188,7 @@ impl Table {
         if more > u32::MAX as usize - count {
             return Err(NoMemory);
         }
-        if more <= spare_of(&self.entries) {
-            // if this fails, the unused share is used
-            let _ = self
-                .entries
-                .reserve(spare_of(&self.entries).saturating_add(1));
-        }
-        self.entries.reserve(more)?;
+        grow(&mut self.entries, self.unused, more)?;
         let room = usable_spare(&self.entries, self.unused).max(more);
         self.room = room.min(u32::MAX as usize - count);
         Ok(())
@@ -276,6 +270,20 @@ fn spare_of(entries: &Entries) -> usize
     ensures { result ≡ spare entries.now }
 {
     entries.capacity() - entries.len()
+}
+
+/// Makes room for this many more entries. Grows too if they only fit into the unused share.
+fn grow(entries: &mut Entries, unused: u8, more: usize) -> Result<(), NoMemory>
+    ensures entries { entries.new.entries ≡ entries.old.entries }
+    ensures ok { OnOk result (more ≤ spare entries.new) }
+    ensures spare { spare entries.old ≤ spare entries.new }
+{
+    if usable_spare(entries, unused) < more && more <= spare_of(entries) {
+        // if this fails, the unused share is used
+        let _ = entries.reserve(spare_of(entries).saturating_add(1));
+    }
+    entries.reserve(more)?;
+    Ok(())
 }
 
 /// Returns how many more entries it holds without the unused share, which is given in parts of 768.

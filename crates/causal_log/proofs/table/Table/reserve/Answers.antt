@@ -12,7 +12,7 @@ any_err (Err e) p = p
 
 pub returns-in_err-reserve-clause-refused : goal.returns-in_err-reserve-clause-refused
 returns-in_err-reserve-clause-refused c =
-    let same : c.reserve.new.self.entries ≡ c.self.inside.entries.entries = c.reserve.ensures.entries in
+    let same : c.grow.new.entries.entries ≡ c.self.inside.entries.entries = c.grow.ensures.entries in
     let low : c.args.self.now.spare < c.args.more = omega (arith, ap (λ t. t.spare) c.self.view_is, c.if-more-self.false) in
     any_err c.from_residual.result (ap (the_state c.self.inside.room) same ∙ c.self.view_is, low)
   where
