@@ -10,8 +10,8 @@ any_err : {T E P : Type 0} (r : Result T E) → P → OnErr r P
 any_err (Ok x) p = tt
 any_err (Err e) p = p
 
-pub returns-in_err-reserve-clause-refused : goal.returns-in_err-reserve-clause-refused
-returns-in_err-reserve-clause-refused c =
+pub returns-in_err-grow-clause-refused : goal.returns-in_err-grow-clause-refused
+returns-in_err-grow-clause-refused c =
     let same : c.grow.new.entries.entries ≡ c.self.inside.entries.entries = c.grow.ensures.entries in
     let low : c.args.self.now.spare < c.args.more = omega (arith, ap (λ t. t.spare) c.self.view_is, c.if-more-self.false) in
     any_err c.from_residual.result (ap (the_state c.self.inside.room) same ∙ c.self.view_is, low)
