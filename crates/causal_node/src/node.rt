@@ -1,6 +1,7 @@
 //! One process of a run, without input or output.
-ghost use Rattle.std.specs.Prelude.{◌≡◌, None, IfOk, slice_get};
+ghost use Rattle.std.specs.Prelude.{◌≡◌, None, IfOk, length, slice_get};
 ghost use Rattle.std.specs.Option.{option_map};
+ghost use Rattle.std.specs.FinMap as fin;
 ghost use Rattle.causal_log.specs.Logs.{unstable_in};
 ghost use Rattle.causal_memory.specs.Outboxes.{kept_message_of};
 ghost use Rattle.causal_memory.specs.Namings.{named_message_by};
@@ -93,6 +94,27 @@ impl Node {
         named_message(&self.memory, self.identity.me, None)
     }
 
+    /// Returns which process of the run the node is.
+    pub fn identity(&self) -> Identity
+        ensures { result ≡ self.now.identity }
+    {
+        self.identity
+    }
+
+    /// Returns how many messages the present lane has sent.
+    pub fn sent_len(&self) -> u32
+        ensures { result ≡ length self.now.memory.sent }
+    {
+        self.memory.sent.len() as u32
+    }
+
+    /// Returns how many messages the present lane has received.
+    pub fn received_len(&self) -> u32
+        ensures { result ≡ length self.now.memory.received }
+    {
+        self.memory.received.len() as u32
+    }
+
     /// Returns the least lane of a process that is accepted.
     pub fn floor(&self, p: Pid) -> u32
         ensures { result ≡ floor_of self.now.floors p }
@@ -105,6 +127,13 @@ impl Node {
         ensures { result ≡ self.now.lane }
     {
         self.lane
+    }
+
+    /// Returns an empty log, which hashes its entries as the node's logs do.
+    pub fn new_log(&self) -> Log
+        ensures { result.map ≡ fin.empty }
+    {
+        Log::with_seed(self.alloc, self.seed)
     }
 
     /// Returns the log, which a process that is up gives to one that gathers.

@@ -41,7 +41,7 @@ impl Node {
     }
 
     /// Returns the first refusal that applies to a question, if there is one.
-    fn answer_fault(&self, asker: Pid, view: &[u32]) -> Option<NodeFault>
+    pub fn answer_fault(&self, asker: Pid, view: &[u32]) -> Option<NodeFault>
         ensures { result ≡ answer_fault self.now asker view.now }
     {
         if u16::from(asker.0) >= self.identity.processes || asker == self.identity.me {
@@ -57,6 +57,19 @@ impl Node {
         match self.stage {
             Stage::Gathering(_) if right && asker > self.identity.me => Some(NodeFault::NotYet),
             _ => None,
+        }
+    }
+
+    /// Returns the reply to a question with this view.
+    pub fn reply(&self, view: &[u32]) -> Reply
+        ensures { result ≡ reply_of self.now view.now }
+    {
+        if Node::number_in(view, self.identity.me) != self.lane {
+            return Reply::OwnNumber;
+        }
+        match self.stage {
+            Stage::Up => Reply::Log,
+            _ => Reply::NotUp,
         }
     }
 
@@ -78,19 +91,15 @@ impl Node {
         if let Some(fault) = self.answer_fault(asker, view) {
             return Err(fault);
         }
-        if Node::number_in(view, self.identity.me) != self.lane {
-            return Ok(Reply::OwnNumber);
+        let reply = self.reply(view);
+        match reply {
+            Reply::OwnNumber => (),
+            Reply::NotUp => self.stage = Stage::Down,
+            Reply::Log => match raised(self.alloc, self.floors.as_slice(), view) {
+                Ok(floors) => self.floors = floors,
+                Err(_) => return Err(NodeFault::NoMemory),
+            },
         }
-        if !matches!(self.stage, Stage::Up) {
-            self.stage = Stage::Down;
-            return Ok(Reply::NotUp);
-        }
-        match raised(self.alloc, self.floors.as_slice(), view) {
-            Ok(floors) => {
-                self.floors = floors;
-                Ok(Reply::Log)
-            }
-            Err(_) => Err(NodeFault::NoMemory),
-        }
+        Ok(reply)
     }
 }

@@ -42,7 +42,7 @@ impl Node {
     }
 
     /// Returns the first refusal that applies to a delivery, if there is one.
-    fn deliver_fault(&self, lane: u32, name: MsgName, batch: &Batch) -> Option<NodeFault>
+    pub fn deliver_fault(&self, lane: u32, name: MsgName, batch: &Batch) -> Option<NodeFault>
         ensures { result ≡ deliver_fault self.now lane name batch.now }
     {
         if !matches!(self.stage, Stage::Up) {

@@ -85,7 +85,7 @@ impl Node {
     }
 
     /// Returns the first refusal that applies to a reply, if there is one.
-    fn reply_fault(&self, name: u64, q: Pid) -> Option<NodeFault>
+    pub fn reply_fault(&self, name: u64, q: Pid) -> Option<NodeFault>
         ensures { result ≡ reply_fault self.now.recovery name q }
     {
         match &self.stage {
@@ -176,7 +176,7 @@ impl Node {
     }
 
     /// Returns the first refusal that applies to a restart, if there is one.
-    fn restart_fault(&self) -> Option<NodeFault>
+    pub fn restart_fault(&self) -> Option<NodeFault>
         ensures { result ≡ restart_fault self.now.recovery }
     {
         match &self.stage {
@@ -234,7 +234,7 @@ impl Node {
     }
 
     /// Returns the first refusal that applies to a determinant that storage has, if there is one.
-    fn stored_fault(&self) -> Option<NodeFault>
+    pub fn stored_fault(&self) -> Option<NodeFault>
         ensures { result ≡ stored_fault self.now.recovery }
     {
         match &self.stage {

@@ -16,7 +16,7 @@ use std::sync::Arc;
 
 impl Node {
     /// Returns the first refusal that applies to a send, if there is one.
-    fn send_fault(&self, to: Pid) -> Option<NodeFault>
+    pub fn send_fault(&self, to: Pid) -> Option<NodeFault>
         ensures { result ≡ send_fault self.now to }
     {
         if !matches!(self.stage, Stage::Up) {
@@ -31,8 +31,8 @@ impl Node {
         None
     }
 
-    /// Returns the batch that messages carry now, and caches it.
-    fn current_batch(&mut self) -> Result<Arc<Batch>, NoMemory>
+    /// Returns the batch that messages carry now, and caches it. Fails only if out of memory.
+    pub fn current_batch(&mut self) -> Result<Arc<Batch>, NoMemory>
         ensures state { self.new ≡ self.old }
         ensures batch { IfOk result (λ batch.
             arc_value batch ≡ batch_items self.old.identity.faults self.old.memory.log) }
