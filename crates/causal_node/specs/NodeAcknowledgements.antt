@@ -1,4 +1,4 @@
--- An acknowledgement that reaches a node: it learns holders of what it logs.
+-- Acknowledgements: to whom a node sends one, and the holders that it learns from one.
 use Rattle.std.specs.Prelude.{ℕ, Bool, false, not, nat_lt, is_some, List, map, filter, Option, None}
 use Rattle.std.specs.FinMap as fin
 use Rattle.causal_name.specs.declared.Pid.{Pid}
@@ -31,6 +31,10 @@ learn_fault n lane from =
     (or_else (not (nat_lt from.0 n.identity.processes)) Faults.NoProcess
     (or_else (nat_lt lane (floor_of n.floors from)) Faults.OldLane
     None))
+
+-- the first refusal that applies to sending an acknowledgement to a process
+abbrev pub acknowledge_fault : NodeState → Pid → Option NodeFault
+acknowledge_fault n to = unless_up n.recovery (or_else (not (nat_lt to.0 n.identity.processes)) Faults.NoProcess None)
 
 -- the node after an acknowledgement with these items, whose holders include its sender
 abbrev pub after_acknowledgement : NodeState → List Item → NodeState

@@ -3,7 +3,7 @@
 
 /// One process of a run, without input or output.
 pub mod node;
-/// A node learns holders from an acknowledgement.
+/// A node sends an acknowledgement, and learns holders from one.
 pub mod node_acknowledgement;
 /// A node replies to another process's round.
 pub mod node_answer;
@@ -19,5 +19,7 @@ pub mod node_opening;
 pub mod node_recovery;
 /// The round of a node that recovers.
 pub mod node_round;
+/// The messages that a node keeps.
+pub mod node_sent;
 /// A node sends a message.
 pub mod node_sending;

@@ -1,6 +1,6 @@
-//! A node learns holders from an acknowledgement.
+//! A node sends an acknowledgement, and learns holders from one.
 ghost use Rattle.std.specs.Prelude.{◌≡◌, IfOk, IfErr, OnOk, OnErr, None, map};
-ghost use Rattle.causal_node.specs.NodeAcknowledgements.{known_by_item, logged_items, learn_fault, after_acknowledgement};
+ghost use Rattle.causal_node.specs.NodeAcknowledgements.{known_by_item, logged_items, acknowledge_fault, learn_fault, after_acknowledgement};
 ghost use Rattle.causal_node.specs.NodeRefusals.{node_reason_of};
 
 use crate::node::{Node, Stage};
@@ -11,7 +11,8 @@ use std::alloc::Global;
 
 /// Returns what the items say of the determinants that are logged.
 fn news_of(alloc: Global, log: &Log, items: &[Item]) -> Result<Vec<(Det, Known)>, NoMemory>
-    ensures { IfOk result (λ news. news.items ≡ map known_by_item (logged_items log.now.map items.now)) }
+    ensures { IfOk result (λ news. news.items
+        ≡ map known_by_item (logged_items log.now.map items.now)) }
 {
     let logged = items.iter().filter(|item| log.known(item.det).is_some());
     let news = logged.map(|item| {
@@ -25,6 +26,19 @@ fn news_of(alloc: Global, log: &Log, items: &[Item]) -> Result<Vec<(Det, Known)>
 }
 
 impl Node {
+    /// Returns the first refusal that applies to sending an acknowledgement, if there is one: `NotUp` or `NoProcess`.
+    pub fn acknowledge_fault(&self, to: Pid) -> Option<NodeFault>
+        ensures { result ≡ acknowledge_fault self.now to }
+    {
+        if !matches!(self.stage, Stage::Up) {
+            return Some(NodeFault::NotUp);
+        }
+        if u16::from(to.0) >= self.identity.processes {
+            return Some(NodeFault::NoProcess);
+        }
+        None
+    }
+
     /// Returns the first refusal that applies to an acknowledgement, if there is one.
     pub fn learn_fault(&self, lane: u32, from: Pid) -> Option<NodeFault>
         ensures { result ≡ learn_fault self.now lane from }
