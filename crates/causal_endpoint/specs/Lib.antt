@@ -1,0 +1,10 @@
+pub mod Endpoints
+pub mod Items
+pub mod Refusals
+pub mod Opening
+pub mod Sending
+pub mod Acknowledging
+pub mod Resending
+pub mod Receiving
+pub mod Recovering
+pub mod Forgetting

@@ -1,0 +1,131 @@
+//! A process of a run, over the bytes of parcels.
+ghost use Rattle.std.specs.Prelude.{◌≡◌, IfOk, IfErr, OnOk, None};
+ghost use Rattle.causal_node.specs.NodeRecovery.{opened};
+ghost use Rattle.causal_endpoint.specs.Endpoints.{run_of, head_to, next_clock};
+ghost use Rattle.causal_endpoint.specs.Refusals.{clock_fault, reason_of};
+ghost use Rattle.causal_endpoint.specs.Opening.{open_fault};
+
+use crate::fault::EndpointFault;
+use causal_name::Pid;
+use causal_node::node::{Identity, Node};
+use causal_wire::{Head, Run};
+use std::alloc::Global;
+use std::marker::Model;
+
+/// No clock is as great as this.
+pub const CLOCK_END: u64 = 1 << 62;
+
+/// One process of a run: a [`Node`] that takes and returns the bytes of parcels, at hybrid logical clocks. It has no
+/// input and no output: its embedder moves bytes, passes the machine's time, and writes the recording.
+#[derive(Drop)]
+pub struct Endpoint {
+    pub(crate) alloc: Global,
+    pub(crate) node: Node,
+    /// A number that no other run has.
+    pub(crate) run: u64,
+    /// The clock of the last event, and at least each clock that was received.
+    pub(crate) clock: u64,
+}
+
+impl Model for Endpoint {
+    ghost use Rattle.std.specs.Prelude.{◌<◌, ◌^◌};
+    ghost use Rattle.causal_endpoint.specs.Endpoints.{EndpointState, coded_endpoint};
+
+    ghost Value = { EndpointState };
+
+    ghost coded = { coded_endpoint };
+
+    ghost view = { λ e. record { node = e.node; run = e.run; clock = e.clock } };
+
+    ghost invariant = { λ e. e.clock < 2 ^ 62 };
+}
+
+impl Endpoint {
+    /// Returns the endpoint of a process of the run with this number. In lane 0 it begins and is up. After a crash
+    /// `lane` is one more than the number of its restarts so far, `clock` the greatest clock of its recording, and the
+    /// process has to recover before it comes up. Logs hash their entries with the seed, which strangers should not
+    /// know.
+    ///
+    /// # Errors
+    /// The first of `Clock` and `NoProcess` (a run cannot have so many processes, or `me` is none of them); if neither
+    /// applies, `NoMemory` if allocation failed.
+    pub fn open(
+        alloc: Global,
+        identity: Identity,
+        run: u64,
+        lane: u32,
+        clock: u64,
+        seed: u64,
+    ) -> Result<Endpoint, EndpointFault>
+        ensures ok { IfOk result (λ e. e
+            ≡ record { node = opened identity lane; run = run; clock = clock }) }
+        ensures legal { OnOk result (open_fault identity clock ≡ None) }
+        ensures refused { IfErr result (λ fault. open_fault identity clock ≡ reason_of fault) }
+    {
+        if clock >= CLOCK_END {
+            return Err(EndpointFault::Clock);
+        }
+        let node = Node::open(alloc, identity, lane, seed)?;
+        Ok(Endpoint {
+            alloc,
+            node,
+            run,
+            clock,
+        })
+    }
+
+    /// Returns the node.
+    pub fn node(&self) -> &Node
+        ensures { result.now ≡ self.now.node }
+    {
+        &self.node
+    }
+
+    /// Returns the clock of the last event.
+    pub fn clock(&self) -> u64
+        ensures { result ≡ self.now.clock }
+    {
+        self.clock
+    }
+
+    /// Returns the run, as parcels name it.
+    pub(crate) fn run(&self) -> Run
+        ensures { result ≡ run_of self.now }
+    {
+        let identity = self.node.identity();
+        Run {
+            id: self.run,
+            processes: identity.processes,
+            f: identity.faults,
+        }
+    }
+
+    /// Returns the head of a parcel.
+    pub(crate) fn head_to(&self, dest: Pid, clock: u64) -> Head
+        ensures { result ≡ head_to self.now dest clock }
+    {
+        Head {
+            source: self.node.identity().me,
+            dest,
+            lane: self.node.lane(),
+            clock,
+        }
+    }
+
+    /// Returns the clock of the next event.
+    pub(crate) fn next_clock(&self, now: u64) -> u64
+        ensures { result ≡ next_clock now self.now.clock }
+    {
+        now.max(self.clock + 1)
+    }
+}
+
+/// Returns the refusal of a clock, if it is too great.
+pub(crate) fn clock_fault(clock: u64) -> Option<EndpointFault>
+    ensures { result ≡ clock_fault clock }
+{
+    if clock >= CLOCK_END {
+        return Some(EndpointFault::Clock);
+    }
+    None
+}
