@@ -8,6 +8,9 @@ mod cores;
 /// `NoMemory` once.
 #[cfg(test)]
 mod doubles;
+/// Endpoints: bytes worked by hand, and a recovery.
+#[cfg(test)]
+mod endpoints;
 /// The process from the documentation of `causal_process`, compiled and proved.
 #[cfg(test)]
 mod example;
