@@ -1,0 +1,407 @@
+-- The calls of a node that recovers are steps of a process that is down, or give up a round.
+use Rattle.std.proofs.Common.{ℕ, zero, suc, ◌≡◌, ◌∙◌, ◌==◌, ◌<◌, ◌≤◌, ◌+◌, Bool, true, false, not, cond, ◌&&◌, ◌||◌, List, [], ◌∷◌, length, max, Option, Some, None, inl, inr, replicate, refl, sym, ap, subst, arith}
+use Rattle.std.specs.Prelude.{◌⊎◌, nat_lt, nat_le, if◌then◌else◌, slice_set}
+use Rattle.std.specs.Cmp.{nat_cmp_total}
+use Rattle.std.specs.Ordering.{nat_cmp, is_eq}
+use Rattle.std.specs.FinMap as fin
+use Rattle.std.specs.FinSet as set
+use Rattle.std.proofs.lemmas.Bool.{false≢true, true≢false, or_cases, or_left, or_right, and_parts, and_from, eqb-true, eq-eqb, both_ways}
+use Rattle.std.proofs.lemmas.Bool.Decides.{eqb_tells}
+use Rattle.causal_name.specs.declared.Pid.{Pid}
+use Rattle.causal_name.specs.declared.MsgName.{MsgName}
+use Rattle.causal_name.specs.declared.Det.{Det}
+use Rattle.causal_name.specs.Names.{same_det}
+use Rattle.causal_name.proofs.Lemmas.DetOrder.{nat_ties}
+use Rattle.causal_trace.specs.declared.entry.Entry.{Entry}
+use Rattle.causal_trace.specs.declared.entry.Entry.TheVariants.{Stable, Restart}
+use Rattle.causal_trace.specs.Past.{list_has}
+use Rattle.causal_log.specs.Knowledge.{stable_and_held_by}
+use Rattle.causal_log.specs.Logs.{LogMap, after_union}
+use Rattle.causal_log.proofs.Lemmas.KnowledgeGrows.{united_logged, united_holders, united_stable}
+use Rattle.causal_log.proofs.Lemmas.LogLists.{keys_logged}
+use Rattle.causal_log.proofs.Lemmas.Ascents.{map_ascends}
+use Rattle.causal_protocol.specs.MemoryQueries.{has_entry, log_knows_holder, log_knows_stable}
+use Rattle.causal_rounds.specs.Rounds.{set_at}
+use Rattle.causal_node.specs.declared.node_answer.Reply.TheVariants as Replies
+use Rattle.causal_node.specs.NodeStates.{NodeState, Recovery, RoundState, floor_of}
+use Rattle.causal_node.specs.NodeRecovery.{reply_fault, ask_fault, restart_fault, new_round, with_recovery, map_round, with_log_of, without_awaited, after_not_up, after_number, raised_at, after_stored, after_read, after_restart_at, restart_log_of, opened, processes_below}
+use Rattle.causal_node.specs.NodeAnswers.{answer_fault, after_answer, after_answer_at, knows_number, reply_of}
+use Rattle.causal_nodes.specs.Node.{NodeRound, DownNode, Node, up_node, down_node}
+use Rattle.causal_nodes.specs.Packets.{Sent, question_packet, answer_packet, not_up_packet, read_packet, stored_packet, number_packet}
+use Rattle.causal_nodes.specs.NodeSteps.{NodeStep, hear_number_row, begin_row, not_up_row, give_up_row, hear_answer_row, hear_not_up_row, read_row, take_stored_row, hear_stored_row, restart_row, with_round, fallen_node, new_node_round, with_heard, with_stored}
+use Rattle.causal_nodes.specs.NodeSteps as theory
+use Rattle.causal_calls.specs.Views.{numbers, up_view, log_view, RepresentsAt, Represents, IsRoundOf, HasRoundOf, IsDownView, IsNodeState, IsRecoveryState}
+use Rattle.causal_calls.specs.Parcels.{log_packet}
+use Rattle.causal_calls.specs.StepLaws.{IsStepOf, IsNoStep}
+use Rattle.causal_calls.proofs.LogViews.{same_log, nothing_logged, nothing_held, nothing_stable, one_entry, one_holder, one_stable, one_holds, held_has, held_holder, held_stable, entry_of_holder}
+use Rattle.causal_calls.proofs.Names.{from_not, or_else_none, of_round, set_other, set_here, zeros}
+use Rattle.causal_calls.proofs.UpCalls.{replies_not_up, not_below}
+
+-- the processes below n are those
+pub is_below : (n q : ℕ) → q < n → set.contains (processes_below n) q ≡ true
+unfolding processes_below
+is_below zero q low = absurd (omega (arith, low))
+is_below (suc n) q low = set.contains-insert nat_cmp_total (processes_below n) n q ∙ is_last_or (eqb_tells q n) (λ apart. is_below n q (omega (arith, low, apart)))
+  where
+    is_last_or : ((q == n ≡ true) × (q ≡ n)) ⊎ ((q == n ≡ false) × (q ≡ n → ⊥)) → ((q ≡ n → ⊥) → set.contains (processes_below n) q ≡ true) → (is_eq (nat_cmp q n) || set.contains (processes_below n) q) ≡ true
+    is_last_or (inl is) rest = or_left _ _ (sym (nat_ties q n) ∙ is.0)
+    is_last_or (inr other) rest = or_right _ _ (rest other.1)
+
+-- all others but one were awaited
+pub still_awaited : (n me q : ℕ) → q < n → (q ≡ me → ⊥) → set.contains (set.remove (processes_below n) me) q ≡ true
+still_awaited n me q low apart =
+    set.contains-remove nat_cmp_total (processes_below n) me q
+    ∙ by (eqb_tells q me)
+  where
+    by : ((q == me ≡ true) × (q ≡ me)) ⊎ ((q == me ≡ false) × (q ≡ me → ⊥)) → (not (is_eq (nat_cmp q me)) && set.contains (processes_below n) q) ≡ true
+    by (inl is) = absurd (apart is.1)
+    by (inr other) = and_from _ _ (ap not (sym (nat_ties q me) ∙ other.0)) (is_below n q low)
+
+-- after one is not awaited any more
+pub removed : (awaited : set.FinSet nat_cmp) (q p : ℕ) → set.contains (set.remove awaited q) p ≡ (not (p == q) && set.contains awaited p)
+removed awaited q p = set.contains-remove nat_cmp_total awaited q p ∙ ap (λ b. not b && set.contains awaited p) (sym (nat_ties p q))
+
+-- nobody is awaited
+pub awaits_none : (awaited : set.FinSet nat_cmp) → nat_lt 0 (set.len awaited) ≡ false → (q : ℕ) → set.contains awaited q ≡ false
+awaits_none awaited none q = ap (λ s. set.contains s q) (set.empty_of_len awaited (omega (arith, not_below 0 (set.len awaited) none))) ∙ set.contains-empty nat_cmp q
+
+-- one process more has replied
+heard_more : (heard : ℕ → Bool) (awaited : set.FinSet nat_cmp) (q p : ℕ) → (set.contains awaited p ≡ false → heard p ≡ true) → set.contains (set.remove awaited q) p ≡ false → set_at heard q true p ≡ true
+heard_more heard awaited q p before gone = by (p == q) refl
+  where
+    by : (b : Bool) → (p == q) ≡ b → (if b then true else heard p) ≡ true
+    by true is = refl
+    by false is = before (sym (ap (λ b. not b && set.contains awaited p) is) ∙ sym (removed awaited q p) ∙ gone)
+
+still_heard : (heard : ℕ → Bool) (q p : ℕ) → heard p ≡ true → set_at heard q true p ≡ true
+still_heard heard q p h = by (p == q)
+  where
+    by : (b : Bool) → (if b then true else heard p) ≡ true
+    by true = refl
+    by false = h
+
+now_heard : (heard : ℕ → Bool) (q : ℕ) → set_at heard q true q ≡ true
+now_heard heard q = ap (λ b. if b then true else heard q) (eq-eqb q q refl)
+
+-- the greater of two numbers
+max_low : (a b : ℕ) → a ≤ b → max a b ≡ b
+max_low a b h = omega (arith, h)
+
+below_of : (a b : ℕ) → nat_lt a b ≡ true → a < b
+below_of a b h = grind (arith, h)
+
+-- a list after a number that is not less is set at one place, if it has the place
+set_number : (xs : List ℕ) (q value p : ℕ) → numbers xs q ≤ value → ((p == q ≡ true) × (p ≡ q)) ⊎ ((p == q ≡ false) × (p ≡ q → ⊥)) → (b : Bool) → nat_lt q (length xs) ≡ b
+    → ((p ≡ q) × (numbers (if b then slice_set xs q value else xs) p ≤ value)) ⊎ ((p ≡ q → ⊥) × (numbers (if b then slice_set xs q value else xs) p ≡ numbers xs p))
+set_number xs q value p low (inl same) true within = inl (same.1, subst (λ m. numbers (slice_set xs q value) m ≤ value) (sym same.1) (omega (arith, set_here xs q value (below_of q (length xs) within))))
+set_number xs q value p low (inl same) false within = inl (same.1, subst (λ m. numbers xs m ≤ value) (sym same.1) low)
+set_number xs q value p low (inr other) true within = inr (other.1, set_other xs q value p other.1)
+set_number xs q value p low (inr other) false within = inr (other.1, refl)
+
+module _ (position : ℕ) (s : NodeState) (k : IsNodeState s) where
+  abbrev me : Pid
+  me = s.identity.me
+
+  abbrev n : ℕ
+  n = s.identity.processes
+
+  module _ (round : Option RoundState) (down : s.recovery ≡ Some round) (x : DownNode) (is_down : IsDownView s round x) where
+    abbrev here : Node
+    here = down_node x
+
+    pub begins : (name : ℕ) → IsStepOf position s here None (with_recovery s (Some (Some (new_round s.identity name)))) (question_packet me.0 name (numbers s.floors) ∷ []) []
+    begins name = record {
+      next = down_node (with_round x (Some (new_node_round name (numbers s.floors))));
+      step = begin_row x name (numbers s.floors) (k.own_floor ∙ is_down.lane) is_down.told;
+      represents = (
+        with_round x (Some (new_node_round name (numbers s.floors))),
+        refl,
+        record {
+          lane = is_down.lane;
+          told = is_down.told;
+          round = (
+            new_node_round name (numbers s.floors),
+            refl,
+            record {
+              name = refl;
+              view = refl;
+              heard = λ q low apart gone. absurd (both_ways _ gone (still_awaited n me.0 q low apart));
+              read = λ h. absurd (false≢true h);
+              has = λ d. sym (nothing_logged d);
+              holder = λ d q apart. sym (nothing_held d q);
+              own = λ d h. absurd (false≢true h);
+              stable = λ d. sym (nothing_stable d);
+            },
+          );
+        },
+      );
+    }
+
+    pub says_not_up : (asker : Pid) (name : ℕ) (view : List ℕ) → answer_fault s asker view ≡ None → reply_of s view ≡ Replies.NotUp
+        → IsStepOf position s here (Some (question_packet asker.0 name (numbers view))) (after_answer s view) (not_up_packet me.0 asker.0 name ∷ []) []
+    says_not_up asker name view legal reply =
+        let knows = (replies_not_up (knows_number s view) s.recovery reply).0 in
+        let apart : asker.0 ≡ me.0 → ⊥ = λ e. both_ways _ (or_else_none _ _ _ legal).0 (or_right _ _ (eq-eqb asker.0 me.0 e)) in
+        let after : after_answer s view ≡ with_recovery s (Some None) = λ i. if knows i then after_answer_at s view (down i) else s in
+        subst (λ (t : NodeState). IsStepOf position s here (Some (question_packet asker.0 name (numbers view))) t (not_up_packet me.0 asker.0 name ∷ []) []) (sym after) (record {
+          next = down_node (with_round x None);
+          step = not_up_row x asker.0 name (numbers view) apart (eqb-true _ _ knows ∙ is_down.lane);
+          represents = (with_round x None, refl, record { lane = is_down.lane; told = is_down.told; round = tt });
+        })
+
+    floors_after : (q : Pid) (number p : ℕ) → ((p ≡ q.0) × (numbers (raised_at s.floors q number) p ≤ max number (numbers s.floors q.0))) ⊎ ((p ≡ q.0 → ⊥) × (numbers (raised_at s.floors q number) p ≡ numbers s.floors p))
+    floors_after q number p = set_number s.floors q.0 (max number (floor_of s.floors q)) p (omega arith) (eqb_tells p q.0) (nat_lt q.0 (length s.floors)) refl
+
+    -- a number is heard, or is not above what was heard before
+    pub hears_number : (q : Pid) (number : ℕ) → (q.0 ≡ me.0 → ⊥) → IsStepOf position s here (Some (number_packet q.0 number)) (after_number s q number) [] [] ⊎ IsNoStep here (after_number s q number) [] []
+    hears_number q number apart = by (nat_lt number (numbers s.floors q.0)) refl
+      where
+        by : (b : Bool) → nat_lt number (numbers s.floors q.0) ≡ b → IsStepOf position s here (Some (number_packet q.0 number)) (after_number s q number) [] [] ⊎ IsNoStep here (after_number s q number) [] []
+        by true lower = inr (record {
+          silent = refl;
+          unrecorded = refl;
+          represents = (
+            x,
+            refl,
+            record {
+              lane = is_down.lane;
+              told = λ p other. elim (floors_after q number p) [
+                | inl same ↦
+                    let old = is_down.told q.0 apart in
+                    let less : number < numbers s.floors q.0 = grind (arith, lower) in
+                    subst (λ m. numbers (raised_at s.floors q number) p ≤ x.told m) (sym same.0) (omega (arith, same.1, old, less))
+                | inr elsewhere ↦ subst (λ m. m ≤ x.told p) (sym elsewhere.1) (is_down.told p other)
+              ];
+              round = tt;
+            },
+          );
+        })
+        by false higher = inl (record {
+          next = down_node (record { lane = x.lane; told = set_at x.told q.0 number; round = x.round });
+          step = hear_number_row x q.0 number;
+          represents = (
+            record { lane = x.lane; told = set_at x.told q.0 number; round = x.round },
+            refl,
+            record {
+              lane = is_down.lane;
+              told = λ p other. elim (floors_after q number p) [
+                | inl same ↦
+                    let enough = not_below number (numbers s.floors q.0) higher in
+                    let here_is : set_at x.told q.0 number p ≡ number = ap (λ (b : Bool). if b then number else x.told p) (eq-eqb p q.0 same.0) in
+                    omega (arith, same.1, enough, here_is)
+                | inr elsewhere ↦
+                    let off : (p == q.0) ≡ false = elim (eqb_tells p q.0) [ inl is ↦ absurd (elsewhere.0 is.1) | inr not_it ↦ not_it.0 ] in
+                    let away : set_at x.told q.0 number p ≡ x.told p = ap (λ (b : Bool). if b then number else x.told p) off in
+                    let old = is_down.told p other in
+                    omega (arith, elsewhere.1, away, old)
+              ];
+              round = tt;
+            },
+          );
+        })
+
+    pub opens_again : IsStepOf position s here None (opened s.identity s.lane) [] []
+    opens_again = record {
+      next = down_node (fallen_node x.lane);
+      step = give_up_row x;
+      represents = subst (λ (o : Recovery). RepresentsAt (opened s.identity s.lane) o (down_node (fallen_node x.lane))) (ap {B = Recovery} (λ (b : Bool). if b then None else Some None) (sym not_first)) (
+        fallen_node x.lane,
+        refl,
+        record {
+          lane = is_down.lane;
+          told = λ q apart. omega (arith, set_other (replicate n 0) me.0 s.lane q apart, zeros n q);
+          round = tt;
+        },
+      );
+    }
+      where
+        not_first : (s.lane == 0) ≡ false
+        not_first = elim (eqb_tells s.lane 0) [ inl is ↦ absurd (omega (arith, is.1, is_down.lane)) | inr other ↦ other.0 ]
+
+  module _ (r : RoundState) (gathers : s.recovery ≡ Some (Some r)) (x : DownNode) (is_down : IsDownView s (Some r) x) where
+    abbrev there : Node
+    there = down_node x
+
+    abbrev y : NodeRound
+    y = is_down.round.0
+
+    abbrev fits : IsRoundOf s r y
+    fits = is_down.round.2
+
+    kept : IsRecoveryState s.identity (Some (Some r))
+    kept = subst (λ o. IsRecoveryState s.identity o) gathers k.recovery
+
+    -- a state with a changed round represents the process with a changed round
+    as_round : (change : RoundState → RoundState) (next : NodeRound) → IsRoundOf s (change r) next → Represents (with_recovery s (map_round change s.recovery)) (down_node (with_round x (Some next)))
+    as_round change next is = subst (λ o. RepresentsAt (with_recovery s (map_round change s.recovery)) (map_round change o) (down_node (with_round x (Some next)))) (sym gathers) (
+      with_round x (Some next),
+      refl,
+      record {
+        lane = is_down.lane;
+        told = is_down.told;
+        round = (next, refl, record { name = is.name; view = is.view; heard = is.heard; read = is.read; has = is.has; holder = is.holder; own = is.own; stable = is.stable });
+      },
+    )
+
+    pub takes_log : (name lane : ℕ) (q : Pid) (log : LogMap) → r.name ≡ name
+        → IsStepOf position s there (Some (answer_packet name (log_packet q.0 lane me.0 log))) (with_recovery s (map_round (λ r. with_log_of r q.0 log) s.recovery)) [] []
+    takes_log name lane q log named = subst (λ (m : ℕ). IsStepOf position s there (Some (answer_packet m (log_packet q.0 lane me.0 log))) (with_recovery s (map_round (λ r. with_log_of r q.0 log) s.recovery)) [] []) (fits.name ∙ named) (record {
+      next = down_node (with_round x (Some (theory.after_answer q.0 (log_packet q.0 lane me.0 log).parcel y)));
+      step = hear_answer_row x y (log_packet q.0 lane me.0 log) is_down.round.1 refl;
+      represents = as_round (λ r. with_log_of r q.0 log) (theory.after_answer q.0 (log_packet q.0 lane me.0 log).parcel y) (record {
+        name = fits.name;
+        view = fits.view;
+        heard = λ p low apart gone. heard_more y.heard r.awaited q.0 p (fits.heard p low apart) gone;
+        read = λ h. still_heard y.heard q.0 n (fits.read h);
+        has = λ d. ap (λ b. b || has_entry d log) (fits.has d) ∙ sym (united_logged r.log log d);
+        holder = λ d p apart. ap (λ b. b || log_knows_holder d p log) (fits.holder d p apart) ∙ sym (united_holders r.log log d p);
+        own = λ d h. elim (or_cases _ _ h) [ inl old ↦ or_left _ _ (fits.own d old) | inr new ↦ or_right _ _ (entry_of_holder log d me.0 new) ];
+        stable = λ d. ap (λ b. b || log_knows_stable d log) (fits.stable d) ∙ sym (united_stable r.log log d);
+      });
+    })
+
+    pub takes_not_up : (name : ℕ) (q : Pid) → r.name ≡ name
+        → IsStepOf position s there (Some (not_up_packet q.0 me.0 name)) (after_not_up s q (floor_of s.floors q)) [] []
+    takes_not_up name q named =
+        let after : with_recovery s (map_round (λ r. without_awaited r q.0) s.recovery) ≡ after_not_up s q (floor_of s.floors q) =
+        λ i. if sym (eq-eqb (floor_of s.floors q) (floor_of s.floors q) refl) i then with_recovery s (map_round (λ r. without_awaited r q.0) s.recovery) else after_number s q (floor_of s.floors q)
+        in
+        subst (λ (t : NodeState). IsStepOf position s there (Some (not_up_packet q.0 me.0 name)) t [] []) after
+        (subst (λ (m : ℕ). IsStepOf position s there (Some (not_up_packet q.0 me.0 m)) (with_recovery s (map_round (λ r. without_awaited r q.0) s.recovery)) [] []) (fits.name ∙ named) (record {
+          next = down_node (with_round x (Some (with_heard q.0 y)));
+          step = hear_not_up_row x y q.0 is_down.round.1;
+          represents = as_round (λ r. without_awaited r q.0) (with_heard q.0 y) (record {
+            name = fits.name;
+            view = fits.view;
+            heard = λ p low apart gone. heard_more y.heard r.awaited q.0 p (fits.heard p low apart) gone;
+            read = λ h. still_heard y.heard q.0 n (fits.read h);
+            has = fits.has;
+            holder = fits.holder;
+            own = fits.own;
+            stable = fits.stable;
+          });
+        }))
+
+    nobody : ask_fault s.recovery ≡ None → nat_lt 0 (set.len r.awaited) ≡ false
+    nobody legal = (or_else_none _ _ None (sym (ap ask_fault gathers) ∙ legal)).0
+
+    all_heard : nat_lt 0 (set.len r.awaited) ≡ false → (q : ℕ) → q < n → (q ≡ me.0 → ⊥) → y.heard q ≡ true
+    all_heard none q low apart = fits.heard q low apart (awaits_none r.awaited none q)
+
+    pub asks_storage : ask_fault s.recovery ≡ None → IsStepOf position s there None s (read_packet me.0 r.name (numbers s.floors) ∷ []) []
+    asks_storage legal = subst (λ (k : Sent). IsStepOf position s there None s (k ∷ []) []) (λ i. read_packet me.0 (fits.name i) (fits.view i)) (record {
+      next = there;
+      step = read_row x y is_down.round.1 (all_heard (nobody legal));
+      represents = subst (λ o. RepresentsAt s o there) (sym gathers) (x, refl, is_down);
+    })
+
+    pub takes_stored : (dets : Det → Bool) (det : Det) → dets det ≡ true
+        → IsStepOf position s there (Some (stored_packet me.0 r.name dets)) (after_stored s det s.recovery) [] (Stable det ∷ [])
+    takes_stored dets det has = subst (λ (m : ℕ). IsStepOf position s there (Some (stored_packet me.0 m dets)) (after_stored s det s.recovery) [] (Stable det ∷ [])) fits.name
+        (subst (λ (o : Recovery). IsStepOf position s there (Some (stored_packet me.0 y.name dets)) (after_stored s det o) [] (Stable det ∷ [])) (sym gathers) (record {
+          next = down_node (with_round x (Some (with_stored det y)));
+          step = take_stored_row x y dets det is_down.round.1 has;
+          represents = (
+            with_round x (Some (with_stored det y)),
+            refl,
+            record {
+              lane = is_down.lane;
+              told = is_down.told;
+              round = (
+                with_stored det y,
+                refl,
+                record {
+                  name = fits.name;
+                  view = fits.view;
+                  heard = fits.heard;
+                  read = fits.read;
+                  has = λ d. ap (λ b. b || same_det d det) (fits.has d) ∙ ap (λ b. has_entry d r.log || b) (plain (same_det d det)) ∙ sym (one_entry r.log det (stable_and_held_by me) d);
+                  holder = λ d q apart. fits.holder d q apart ∙ unheld (log_knows_holder d q r.log) (same_det d det) (q == me.0) (elim (eqb_tells q me.0) [ inl is ↦ absurd (apart is.1) | inr other ↦ other.0 ])
+                      ∙ ap (λ b. log_knows_holder d q r.log || ((same_det d det && b) || false)) (sym (one_holds me.0 q)) ∙ sym (one_holder r.log det (stable_and_held_by me) d q);
+                  own = λ d h. or_left _ _ (fits.own d h);
+                  stable = λ d. ap (λ b. b || same_det d det) (fits.stable d) ∙ marked_too (log_knows_stable d r.log) (same_det d det) ∙ sym (one_stable r.log det (stable_and_held_by me) d);
+                },
+              );
+            },
+          );
+        }))
+      where
+        plain : (b : Bool) → b ≡ (b || false)
+        plain b = grind arith
+
+        unheld : (a b e : Bool) → e ≡ false → a ≡ (a || ((b && e) || false))
+        unheld a b e h = grind (arith, h)
+
+        marked_too : (a b : Bool) → (a || b) ≡ (a || ((b && true) || false))
+        marked_too a b = grind arith
+
+    pub finishes : (dets : Det → Bool) → ((d : Det) → dets d ≡ true → has_entry d r.log ≡ true)
+        → IsStepOf position s there (Some (stored_packet me.0 r.name dets)) (with_recovery s (map_round after_read s.recovery)) [] []
+    finishes dets all = subst (λ (m : ℕ). IsStepOf position s there (Some (stored_packet me.0 m dets)) (with_recovery s (map_round after_read s.recovery)) [] []) fits.name (record {
+      next = down_node (with_round x (Some (with_heard n y)));
+      step = hear_stored_row x y dets is_down.round.1 (λ d h. fits.has d ∙ all d h);
+      represents = as_round after_read (with_heard n y) (record {
+        name = fits.name;
+        view = fits.view;
+        heard = λ p low apart gone. still_heard y.heard n p (fits.heard p low apart gone);
+        read = λ h. now_heard y.heard n;
+        has = fits.has;
+        holder = fits.holder;
+        own = fits.own;
+        stable = fits.stable;
+      });
+    })
+
+    -- the log of a restart is the theory's
+    restarted_has : (d : Det) → has_entry d (restart_log_of me r.log) ≡ has_entry d r.log
+    restarted_has d = held_has me d (fin.keys r.log) r.log ∙ ap (λ b. has_entry d r.log || b) (keys_logged r.log d) ∙ twice (has_entry d r.log)
+      where
+        twice : (b : Bool) → (b || b) ≡ b
+        twice b = grind arith
+
+    listed_is : (d : Det) → list_has (fin.keys (restart_log_of me r.log)) d ≡ has_entry d r.log
+    listed_is d = keys_logged (restart_log_of me r.log) d ∙ restarted_has d
+
+    restarted_holder : (d : Det) (q : ℕ) → log_knows_holder d q (restart_log_of me r.log) ≡ ((y.gathered.has d && q == me.0) || y.gathered.holder d q)
+    restarted_holder d q =
+        held_holder me d q (fin.keys r.log) r.log
+        ∙ ap (λ b. log_knows_holder d q r.log || (b && q == me.0)) (keys_logged r.log d ∙ sym (fits.has d))
+        ∙ by (eqb_tells q me.0)
+      where
+        mine : (knows has gathered e : Bool) → (knows ≡ true → has ≡ true) → (gathered ≡ true → has ≡ true) → e ≡ true → (knows || (has && e)) ≡ ((has && e) || gathered)
+        mine knows true gathered e a b is = grind (arith, is)
+        mine true false gathered e a b is = absurd (false≢true (a refl))
+        mine false false true e a b is = absurd (false≢true (b refl))
+        mine false false false e a b is = refl
+
+        others : (knows has gathered e : Bool) → gathered ≡ knows → e ≡ false → (knows || (has && e)) ≡ ((has && e) || gathered)
+        others knows has gathered e same is = grind (arith, same, is)
+
+        by : ((q == me.0 ≡ true) × (q ≡ me.0)) ⊎ ((q == me.0 ≡ false) × (q ≡ me.0 → ⊥)) → (log_knows_holder d q r.log || (y.gathered.has d && q == me.0)) ≡ ((y.gathered.has d && q == me.0) || y.gathered.holder d q)
+        by (inl is) = mine (log_knows_holder d q r.log) (y.gathered.has d) (y.gathered.holder d q) (q == me.0) (λ h. fits.has d ∙ entry_of_holder r.log d q h) (λ h. fits.own d (subst (λ p. y.gathered.holder d p ≡ true) is.1 h)) is.0
+        by (inr other) = others (log_knows_holder d q r.log) (y.gathered.has d) (y.gathered.holder d q) (q == me.0) (fits.holder d q other.1) other.0
+
+    restarted_log : (theory.after_restart me.0 (x.lane + 1) y).log ≡ log_view (restart_log_of me r.log)
+    restarted_log = same_log _ _ (λ d. fits.has d ∙ sym (restarted_has d)) (λ d q. sym (restarted_holder d q)) (λ d. fits.stable d ∙ sym (held_stable me d (fin.keys r.log) r.log))
+
+    pub restarts : (reserved : List MsgName) → restart_fault s.recovery ≡ None
+        → IsStepOf position s there None (after_restart_at s s.recovery reserved) [] (Restart me (fin.keys (after_restart_at s s.recovery reserved).memory.log) ∷ [])
+    restarts reserved legal =
+        let done = or_else_none _ _ None (sym (ap restart_fault gathers) ∙ legal) in
+        let none = no_left _ _ done.0 in
+        let read = from_not _ (no_right _ _ done.0) in
+        subst (λ (o : Recovery). IsStepOf position s there None (after_restart_at s o reserved) [] (Restart me (fin.keys (after_restart_at s o reserved).memory.log) ∷ [])) (sym gathers) (record {
+          next = up_node (theory.after_restart me.0 (x.lane + 1) y);
+          step = restart_row x y (fin.keys (restart_log_of me r.log)) (map_ascends (restart_log_of me r.log)) is_down.round.1 (λ q low apart. by q low apart none read (eqb_tells q n)) (λ d. listed_is d ∙ sym (fits.has d));
+          represents = λ i. up_node (record { lane = sym is_down.lane i; log = restarted_log i; floors = fits.view i; sent = 0; received = [] });
+        })
+      where
+        no_left : (a b : Bool) → (a || b) ≡ false → a ≡ false
+        no_left a b h = grind (arith, h)
+
+        no_right : (a b : Bool) → (a || b) ≡ false → b ≡ false
+        no_right a b h = grind (arith, h)
+
+        by : (q : ℕ) → q < suc n → (q ≡ me.0 → ⊥) → nat_lt 0 (set.len r.awaited) ≡ false → r.read ≡ true → ((q == n ≡ true) × (q ≡ n)) ⊎ ((q == n ≡ false) × (q ≡ n → ⊥)) → y.heard q ≡ true
+        by q low apart none read (inl is) = ap y.heard is.1 ∙ fits.read read
+        by q low apart none read (inr other) = all_heard none q (omega (arith, low, other.1)) apart

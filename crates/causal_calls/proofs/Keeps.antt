@@ -1,0 +1,214 @@
+-- Each call of a node keeps what is true of its states, and what it sends names only processes.
+use Rattle.std.proofs.Common.{ℕ, zero, suc, ◌≡◌, ◌∙◌, ◌==◌, ◌<◌, ◌≤◌, ◌+◌, Bool, true, false, not, cond, ◌&&◌, ◌||◌, List, [], ◌∷◌, ◌++◌, length, max, Option, Some, None, inl, inr, replicate, refl, sym, ap, subst, arith}
+use Rattle.std.specs.Prelude.{◌⊎◌, nat_lt, nat_le, if◌then◌else◌, slice_set}
+use Rattle.std.specs.List.{list_any}
+use Rattle.std.specs.FinMap as fin
+use Rattle.std.specs.FinSet as set
+use Rattle.std.proofs.lemmas.Bool.{false≢true, or_cases, or_left, or_right, and_parts, and_from, eqb-true, eq-eqb, both_ways}
+use Rattle.std.proofs.lemmas.Bool.Decides.{eqb_tells}
+use Rattle.std.proofs.lemmas.List.Folds.{list_any-append}
+use Rattle.causal_name.specs.declared.Pid.{Pid}
+use Rattle.causal_name.specs.declared.MsgName.{MsgName}
+use Rattle.causal_name.specs.declared.Det.{Det}
+use Rattle.causal_name.specs.Names.{same_message, message_cmp}
+use Rattle.causal_trace.specs.declared.entry.Entry.{Entry}
+use Rattle.causal_trace.specs.Past.{list_has, det_from}
+use Rattle.causal_log.specs.declared.batch.Item.{Item}
+use Rattle.causal_log.specs.Knowledge.{stable_and_held_by}
+use Rattle.causal_log.specs.Logs.{LogMap, after_union, after_mark, after_learn, dets_of, batch_items, is_in_batch}
+use Rattle.causal_log.proofs.Lemmas.KnowledgeGrows.{united_holders}
+use Rattle.causal_log.proofs.Lemmas.LogLists.{keys_logged}
+use Rattle.causal_protocol.specs.MemoryQueries.{has_entry, log_knows_holder, has_item, item_holder}
+use Rattle.causal_protocol.specs.Naming.{with_own}
+use Rattle.causal_world.specs.World.{Packet}
+use Rattle.causal_node.specs.declared.node.Identity.{Identity}
+use Rattle.causal_node.specs.NodeStates.{NodeState, Recovery, RoundState, floor_of}
+use Rattle.causal_node.specs.NodeRefusals.{deliver_fault}
+use Rattle.causal_node.specs.NodeSteps.{after_delivery}
+use Rattle.causal_node.specs.NodeRecovery.{reply_fault, new_round, with_recovery, map_round, with_log_of, without_awaited, after_not_up, after_number, raised_at, after_stored, after_read, after_restart_at, restart_log_of, opened, processes_below}
+use Rattle.causal_node.specs.NodeAnswers.{answer_fault, after_answer, after_answer_at, knows_number, raised}
+use Rattle.causal_nodes.specs.Node.{NodeLog}
+use Rattle.causal_nodes.specs.Packets.{Sent, WasSent, message_packet}
+use Rattle.causal_calls.specs.Views.{numbers, HasHoldersBelow, IsNodeState, IsRecoveryState, log_view}
+use Rattle.causal_calls.specs.Parcels.{message_with}
+use Rattle.causal_calls.specs.StepLaws.{NamesProcesses}
+use Rattle.causal_calls.proofs.LogViews.{delivered_has, delivered_holder, marked, one_holder, one_holds, held_has, held_holder, entry_of_holder, nothing_held, nothing_logged}
+use Rattle.causal_calls.proofs.Names.{from_not, or_else_none, unless_up_none, of_round, has_names, inserted_name, set_other, set_here, set_length, zeros, zeros_length, raised_numbers, raised_length}
+use Rattle.causal_calls.proofs.DownCalls.{removed}
+use Rattle.causal_calls.proofs.UpCalls.{below_from}
+
+-- a node that is opened
+pub opening : (who : Identity) (lane : ℕ) → who.me.0 < who.processes → IsNodeState (opened who lane)
+opening who lane low = record {
+  process = low;
+  floors = set_length (replicate who.processes 0) who.me.0 lane ∙ zeros_length who.processes;
+  own_floor = set_here (replicate who.processes 0) who.me.0 lane (subst (λ m. who.me.0 < m) (sym (zeros_length who.processes)) low);
+  holders = λ d q h. absurd (both_ways _ (nothing_held d q) h);
+  own = λ d h. absurd (both_ways _ (nothing_logged d) h);
+  received = λ m. refl;
+  recovery = by (lane == 0);
+}
+  where
+    by : (b : Bool) → IsRecoveryState who (if b then None else Some None)
+    by true = tt
+    by false = tt
+
+-- a view that is answered has a number for each process
+sized : (s : NodeState) (asker : Pid) (view : List ℕ) → answer_fault s asker view ≡ None → s.identity.processes ≡ length view
+sized s asker view legal = sym (eqb-true _ _ (from_not _ (or_else_none _ _ _ (or_else_none _ _ _ legal).1).0))
+
+module _ (s : NodeState) (k : IsNodeState s) where
+  abbrev me : Pid
+  me = s.identity.me
+
+  abbrev n : ℕ
+  n = s.identity.processes
+
+  -- the same floors, log and received names
+  pub with_other : (recovery : Recovery) → IsRecoveryState s.identity recovery → IsNodeState (with_recovery s recovery)
+  with_other recovery is = record { process = k.process; floors = k.floors; own_floor = k.own_floor; holders = k.holders; own = k.own; received = k.received; recovery = is }
+
+  pub delivered : (lane : ℕ) (name : MsgName) (at : ℕ) (items : List Item) → NamesProcesses n (message_packet name (message_with lane me at name items)) → IsNodeState (after_delivery s name items)
+  delivered lane name at items names =
+      let own = det_from me (length s.memory.received) name in
+      record {
+        process = k.process;
+        floors = k.floors;
+        own_floor = k.own_floor;
+        holders = λ d q h. elim (or_cases _ _ (sym (delivered_holder items own s.memory.log d q) ∙ h)) [
+          | inl new ↦ elim (or_cases _ _ (and_parts _ _ new).1) [
+            | inl told ↦ names (message_with lane me at name items) refl d q told
+            | inr mine ↦ subst (λ p. p < n) (sym (eqb-true q me.0 mine)) k.process
+          ]
+          | inr old ↦ k.holders d q old
+        ];
+        own = λ d h. delivered_holder items own s.memory.log d me.0 ∙ elim (or_cases _ _ (sym (delivered_has items own s.memory.log d) ∙ h)) [
+          | inl listed ↦ or_left _ _ (and_from _ _ listed (or_right _ _ (eq-eqb me.0 me.0 refl)))
+          | inr old ↦ or_right _ _ (k.own d old)
+        ];
+        received = λ m. has_names _ m ∙ inserted_name s.received_names name m ∙ ap (λ b. b || same_message m name) (sym (has_names s.received_names m) ∙ k.received m)
+            ∙ sym (list_any-append (same_message m) s.memory.received (name ∷ []) ∙ ap (λ b. list_any (same_message m) s.memory.received || b) (alone (same_message m name)));
+        recovery = k.recovery;
+      }
+    where
+      alone : (b : Bool) → (b || false) ≡ b
+      alone b = grind arith
+
+  mark_holder : (det d : Det) (q : ℕ) → log_knows_holder d q (after_mark s.memory.log det) ≡ log_knows_holder d q s.memory.log
+  mark_holder det d q = ap (λ (log : NodeLog). log.holder d q) (marked s.memory.log det)
+
+  mark_has : (det d : Det) → has_entry d (after_mark s.memory.log det) ≡ has_entry d s.memory.log
+  mark_has det d = ap (λ (log : NodeLog). log.has d) (marked s.memory.log det)
+
+  pub marked_stable : (det : Det) → s.recovery ≡ None → IsNodeState (after_stored s det s.recovery)
+  marked_stable det up = subst (λ (o : Recovery). IsNodeState (after_stored s det o)) (sym up) (record {
+    process = k.process;
+    floors = k.floors;
+    own_floor = k.own_floor;
+    holders = λ d q h. k.holders d q (sym (mark_holder det d q) ∙ h);
+    own = λ d h. mark_holder det d me.0 ∙ k.own d (sym (mark_has det d) ∙ h);
+    received = k.received;
+    recovery = k.recovery;
+  })
+
+  pub answered : (asker : Pid) (view : List ℕ) → answer_fault s asker view ≡ None → IsNodeState (after_answer s view)
+  answered asker view legal = by (knows_number s view) refl
+    where
+      size : length s.floors ≡ length view
+      size = k.floors ∙ sized s asker view legal
+
+      at_recovery : floor_of view me ≡ s.lane → (o : Recovery) → IsRecoveryState s.identity s.recovery → IsNodeState (after_answer_at s view o)
+      at_recovery same None is = record {
+        process = k.process;
+        floors = raised_length s.floors view size ∙ k.floors;
+        own_floor = raised_numbers s.floors view size me.0 ∙ (λ i. max (k.own_floor i) (same i)) ∙ twice s.lane;
+        holders = k.holders;
+        own = k.own;
+        received = k.received;
+        recovery = is;
+      }
+        where
+          twice : (a : ℕ) → max a a ≡ a
+          twice a = omega arith
+      at_recovery same (Some r) is = with_other (Some None) tt
+
+      by : (b : Bool) → knows_number s view ≡ b → IsNodeState (if b then after_answer_at s view s.recovery else s)
+      by true is = at_recovery (eqb-true _ _ is) s.recovery k.recovery
+      by false is = k
+
+  pub begun : (name : ℕ) → IsNodeState (with_recovery s (Some (Some (new_round s.identity name))))
+  begun name = with_other (Some (Some (new_round s.identity name))) (λ d q h. absurd (both_ways _ (nothing_held d q) h), removed (processes_below n) me.0 me.0 ∙ ap (λ b. not b && set.contains (processes_below n) me.0) (eq-eqb me.0 me.0 refl))
+
+  module _ (r : RoundState) (gathers : s.recovery ≡ Some (Some r)) where
+    pub kept : IsRecoveryState s.identity (Some (Some r))
+    kept = subst (λ o. IsRecoveryState s.identity o) gathers k.recovery
+
+    pub changed : (change : RoundState → RoundState) → IsRecoveryState s.identity (Some (Some (change r))) → IsNodeState (with_recovery s (map_round change s.recovery))
+    changed change is = with_other (map_round change s.recovery) (subst (λ o. IsRecoveryState s.identity (map_round change o)) (sym gathers) is)
+
+    not_mine : (q : ℕ) → set.contains (set.remove r.awaited q) me.0 ≡ false
+    not_mine q = removed r.awaited q me.0 ∙ ap (λ b. not (me.0 == q) && b) kept.1 ∙ nothing (not (me.0 == q))
+      where
+        nothing : (b : Bool) → (b && false) ≡ false
+        nothing b = grind arith
+
+    pub log_taken : (q : Pid) (log : LogMap) → HasHoldersBelow n log → IsNodeState (with_recovery s (map_round (λ r. with_log_of r q.0 log) s.recovery))
+    log_taken q log names = changed (λ r. with_log_of r q.0 log) (λ d p h. elim (or_cases _ _ (sym (united_holders r.log log d p) ∙ h)) [ inl old ↦ kept.0 d p old | inr new ↦ names d p new ], not_mine q.0)
+
+    -- a reply that is awaited is of another process
+    pub apart : (q : Pid) → set.contains r.awaited q.0 ≡ true → q.0 ≡ me.0 → ⊥
+    apart q awaited is = both_ways _ kept.1 (ap (set.contains r.awaited) (sym is) ∙ awaited)
+
+    number_floors : (q : Pid) (number : ℕ) → (q.0 ≡ me.0 → ⊥) → (b : Bool) → IsNodeState (record s { floors = if b then slice_set s.floors q.0 (max number (floor_of s.floors q)) else s.floors; recovery = Some None })
+    number_floors q number other true = record {
+      process = k.process;
+      floors = set_length s.floors q.0 _ ∙ k.floors;
+      own_floor = set_other s.floors q.0 _ me.0 (λ e. other (sym e)) ∙ k.own_floor;
+      holders = k.holders;
+      own = k.own;
+      received = k.received;
+      recovery = tt;
+    }
+    number_floors q number other false = record { process = k.process; floors = k.floors; own_floor = k.own_floor; holders = k.holders; own = k.own; received = k.received; recovery = tt }
+
+    pub number_taken : (q : Pid) (number : ℕ) → set.contains r.awaited q.0 ≡ true → IsNodeState (after_number s q number)
+    number_taken q number awaited = number_floors q number (apart q awaited) (nat_lt q.0 (length s.floors))
+
+    pub not_up_taken : (q : Pid) (number : ℕ) → set.contains r.awaited q.0 ≡ true → IsNodeState (after_not_up s q number)
+    not_up_taken q number awaited = by (floor_of s.floors q == number)
+      where
+        by : (b : Bool) → IsNodeState (if b then with_recovery s (map_round (λ r. without_awaited r q.0) s.recovery) else after_number s q number)
+        by true = changed (λ r. without_awaited r q.0) (kept.0, not_mine q.0)
+        by false = number_taken q number awaited
+
+    pub stored_taken : (det : Det) → IsNodeState (after_stored s det s.recovery)
+    stored_taken det = subst (λ (o : Recovery). IsNodeState (after_stored s det o)) (sym gathers) (with_other (Some (Some (record r { log = after_learn r.log det (stable_and_held_by me) }))) (holds, kept.1))
+      where
+        holds : HasHoldersBelow n (after_learn r.log det (stable_and_held_by me))
+        holds d q h = elim (or_cases _ _ (sym (one_holder r.log det (stable_and_held_by me) d q) ∙ h)) [
+          | inl old ↦ kept.0 d q old
+          | inr new ↦ elim (or_cases _ _ new) [
+            | inl here ↦ subst (λ p. p < n) (sym (eqb-true q me.0 (sym (one_holds me.0 q) ∙ (and_parts _ _ here).1))) k.process
+            | inr none ↦ absurd (false≢true none)
+          ]
+        ]
+
+    pub read_finished : IsNodeState (with_recovery s (map_round after_read s.recovery))
+    read_finished = changed after_read kept
+
+    pub restarted : (reserved : List MsgName) → IsNodeState (after_restart_at s s.recovery reserved)
+    restarted reserved = subst (λ (o : Recovery). IsNodeState (after_restart_at s o reserved)) (sym gathers) (record {
+      process = k.process;
+      floors = k.floors;
+      own_floor = k.own_floor;
+      holders = λ d q h. elim (or_cases _ _ (sym (held_holder me d q (fin.keys r.log) r.log) ∙ h)) [
+        | inl old ↦ kept.0 d q old
+        | inr mine ↦ subst (λ p. p < n) (sym (eqb-true q me.0 (and_parts _ _ mine).1)) k.process
+      ];
+      own = λ d h. held_holder me d me.0 (fin.keys r.log) r.log ∙ or_right _ _ (and_from _ _ (logged d h) (eq-eqb me.0 me.0 refl));
+      received = λ m. refl;
+      recovery = tt;
+    })
+      where
+        logged : (d : Det) → has_entry d (restart_log_of me r.log) ≡ true → list_has (fin.keys r.log) d ≡ true
+        logged d h = elim (or_cases _ _ (sym (held_has me d (fin.keys r.log) r.log) ∙ h)) [ inl old ↦ keys_logged r.log d ∙ old | inr new ↦ new ]

@@ -1,0 +1,7 @@
+mod LogViews
+mod Names
+mod Keeps
+mod UpCalls
+mod DownCalls
+mod Steps
+mod Networks

@@ -1,0 +1,165 @@
+-- The logs of the theory that the logs of nodes represent, after each change.
+use Rattle.std.proofs.Common.{ℕ, ◌≡◌, ◌∙◌, ◌==◌, Bool, true, false, cond, ◌&&◌, ◌||◌, List, [], ◌∷◌, map, Option, Some, None, is_some, unwrap_or, refl, sym, ap, arith}
+use Rattle.std.specs.List.{list_any}
+use Rattle.std.specs.Cmp.{nat_cmp_total}
+use Rattle.std.specs.Ordering.{nat_cmp}
+use Rattle.std.specs.declared.cmp.Ordering.{Ordering}
+use Rattle.std.specs.declared.cmp.Ordering.TheVariants.{Less, Equal, Greater}
+use Rattle.std.specs.FinMap as fin
+use Rattle.std.specs.FinSet as set
+use Rattle.std.proofs.lemmas.Bool.{false≢true, both_ways, or_cases, and_parts}
+use Rattle.causal_name.specs.declared.Pid.{Pid}
+use Rattle.causal_name.specs.declared.Det.{Det}
+use Rattle.causal_name.specs.Names.{det_cmp, same_det}
+use Rattle.causal_name.proofs.Lemmas.DetOrder.{exact_dets, same_is, nat_ties}
+use Rattle.causal_trace.specs.Past.{list_has}
+use Rattle.causal_log.specs.declared.known.Known.{Known}
+use Rattle.causal_log.specs.declared.batch.Item.{Item}
+use Rattle.causal_log.specs.Knowledge.{unknown, held_by, stable_and_held_by}
+use Rattle.causal_log.specs.Logs.{LogMap, known_of, dets_of, after_learn, after_learn_all, after_absorb, after_mark}
+use Rattle.causal_log.proofs.Lemmas.KnowledgeGrows.{logged_all, known_all, holds_either, stable_either, absorbed_logged, absorbed_holders, absorbed_stable}
+use Rattle.causal_log.proofs.Lemmas.LogLists.{get_marked}
+use Rattle.causal_log.proofs.Lemmas.Searches.{any_map}
+use Rattle.causal_protocol.specs.Memory.{log_after_delivery}
+use Rattle.causal_protocol.specs.Gathering.{with_held}
+use Rattle.causal_protocol.specs.Naming.{with_own, match_ordering}
+use Rattle.causal_protocol.specs.MemoryQueries.{has_entry, log_knows_holder, log_knows_stable, has_item, item_holder, parcel_of}
+use Rattle.causal_nodes.specs.Node.{NodeLog}
+use Rattle.causal_nodes.specs.NodeSteps.{log_after_mark}
+use Rattle.causal_nodes.specs.NodeSteps as theory
+use Rattle.causal_calls.specs.Views.{log_view}
+
+-- logs that know the same are equal
+pub same_log : (a b : NodeLog) → ((d : Det) → a.has d ≡ b.has d) → ((d : Det) (q : ℕ) → a.holder d q ≡ b.holder d q) → ((d : Det) → a.stable d ≡ b.stable d) → a ≡ b
+same_log a b has holder stable = λ i. record { has = λ d. has d i; holder = λ d q. holder d q i; stable = λ d. stable d i }
+
+-- a determinant with a known holder is logged
+pub entry_of_holder : (log : LogMap) (d : Det) (q : ℕ) → log_knows_holder d q log ≡ true → has_entry d log ≡ true
+entry_of_holder log d q h = grind (arith, both_ways, set.contains-empty)
+
+-- an empty log knows nothing
+pub nothing_logged : (d : Det) → has_entry d fin.empty ≡ false
+nothing_logged d = ap is_some (fin.get-empty det_cmp d)
+
+pub nothing_held : (d : Det) (q : ℕ) → log_knows_holder d q fin.empty ≡ false
+nothing_held d q = ap (λ o. set.contains (unwrap_or o unknown).holders q) (fin.get-empty det_cmp d) ∙ set.contains-empty nat_cmp q
+
+pub nothing_stable : (d : Det) → log_knows_stable d fin.empty ≡ false
+nothing_stable d = ap (λ o. (unwrap_or o unknown).stable) (fin.get-empty det_cmp d)
+
+-- membership after one more determinant is inserted
+pub own_have : (own : Det) (ds : List Det) (d : Det) → list_has (with_own own ds) d ≡ (same_det d own || list_has ds d)
+unfolding with_own
+own_have own [] d = refl
+own_have own (x ∷ ds) d = by (det_cmp own x) refl (own_have own ds d)
+  where
+    by : (o : Ordering) → det_cmp own x ≡ o → list_has (with_own own ds) d ≡ (same_det d own || list_has ds d) → list_has (match_ordering o (own ∷ x ∷ ds) (x ∷ ds) (x ∷ with_own own ds)) d ≡ (same_det d own || (same_det d x || list_has ds d))
+    by Less is rest = refl
+    by Equal is rest = grind (arith, exact_dets own x is)
+    by Greater is rest = grind arith
+
+pub items_have : (items : List Item) (d : Det) → list_has (dets_of items) d ≡ has_item d items
+items_have items d = any_map (λ item. item.det) (same_det d) (λ item. same_det d item.det) (λ x. refl) items
+
+-- after one determinant is learned
+module _ (log : LogMap) (own : Det) (k : Known) (d : Det) where
+  pub one_entry : has_entry d (after_learn log own k) ≡ (has_entry d log || (same_det d own || false))
+  one_entry = logged_all ((own, k) ∷ []) log d
+
+  pub one_holder : (q : ℕ) → log_knows_holder d q (after_learn log own k) ≡ (log_knows_holder d q log || ((same_det d own && set.contains k.holders q) || false))
+  one_holder q = known_all (λ k. set.contains k.holders q) (holds_either q) ((own, k) ∷ []) log d
+
+  pub one_stable : log_knows_stable d (after_learn log own k) ≡ (log_knows_stable d log || ((same_det d own && k.stable) || false))
+  one_stable = known_all (λ k. k.stable) stable_either ((own, k) ∷ []) log d
+
+-- the set of one process
+pub one_holds : (p q : ℕ) → set.contains (set.insert (set.empty {R = nat_cmp}) p) q ≡ (q == p)
+one_holds p q = grind (arith, set.contains-insert nat_cmp_total set.empty p q, nat_ties q p, set.contains-empty nat_cmp q)
+
+-- a delivery
+module _ (items : List Item) (own : Det) (log : LogMap) where
+  abbrev absorbed : LogMap
+  absorbed = after_absorb items own.source own.dest log
+
+  abbrev listed : List Det
+  listed = with_own own (dets_of items)
+
+  turned : (e h s : Bool) → ((e || h) || (s || false)) ≡ ((s || h) || e)
+  turned e h s = grind arith
+
+  pub delivered_has : (d : Det) → has_entry d (log_after_delivery items own log) ≡ (list_has listed d || has_entry d log)
+  delivered_has d =
+      one_entry absorbed own (held_by own.dest) d
+      ∙ ap (λ b. b || (same_det d own || false)) (absorbed_logged items own.source own.dest log d)
+      ∙ turned (has_entry d log) (has_item d items) (same_det d own)
+      ∙ ap (λ b. b || has_entry d log) (sym (own_have own (dets_of items) d ∙ ap (λ b. same_det d own || b) (items_have items d)))
+
+  abbrev tells : Det → ℕ → Item → Bool
+  tells d q item = same_det d item.det && (set.contains item.holders q || (q == own.source.0 || q == own.dest.0))
+
+  tells_split : (d : Det) (q : ℕ) (xs : List Item) → list_any (tells d q) xs ≡ (item_holder d q xs || (has_item d xs && (q == own.source.0 || q == own.dest.0)))
+  tells_split d q [] = refl
+  tells_split d q (x ∷ xs) = grind (arith, tells_split d q xs)
+
+  holder_has : (d : Det) (q : ℕ) (xs : List Item) → item_holder d q xs ≡ (has_item d xs && item_holder d q xs)
+  holder_has d q [] = refl
+  holder_has d q (x ∷ xs) = grind (arith, holder_has d q xs)
+
+  shape : (k ih hi s from me : Bool) → ih ≡ (hi && ih) → ((k || (ih || (hi && (from || me)))) || ((s && me) || false)) ≡ (((s || hi) && ((ih || (hi && from)) || me)) || k)
+  shape k ih true s from me h = grind arith
+  shape k ih false s from me h = grind (arith, h)
+
+  pub delivered_holder : (d : Det) (q : ℕ) →
+      log_knows_holder d q (log_after_delivery items own log)
+      ≡ ((list_has listed d && ((item_holder d q items || (has_item d items && q == own.source.0)) || q == own.dest.0)) || log_knows_holder d q log)
+  delivered_holder d q =
+      one_holder absorbed own (held_by own.dest) d q
+      ∙ ap (λ b. log_knows_holder d q absorbed || ((same_det d own && b) || false)) (one_holds own.dest.0 q)
+      ∙ ap (λ b. b || ((same_det d own && q == own.dest.0) || false)) (absorbed_holders items own.source own.dest log d q ∙ ap (λ b. log_knows_holder d q log || b) (tells_split d q items))
+      ∙ shape (log_knows_holder d q log) (item_holder d q items) (has_item d items) (same_det d own) (q == own.source.0) (q == own.dest.0) (holder_has d q items)
+      ∙ ap (λ b. (b && ((item_holder d q items || (has_item d items && q == own.source.0)) || q == own.dest.0)) || log_knows_holder d q log) (sym (own_have own (dets_of items) d ∙ ap (λ b. same_det d own || b) (items_have items d)))
+
+  no_mark : (a s : Bool) → (a || ((s && false) || false)) ≡ a
+  no_mark a s = grind arith
+
+  delivered_stable : (d : Det) → log_knows_stable d (log_after_delivery items own log) ≡ log_knows_stable d log
+  delivered_stable d =
+      one_stable absorbed own (held_by own.dest) d ∙ no_mark (log_knows_stable d absorbed) (same_det d own) ∙ absorbed_stable items own.source own.dest log d
+
+  -- the log after a delivery is the theory's
+  pub delivered : (at : ℕ) → log_view (log_after_delivery items own log) ≡ theory.log_after_delivery own.dest.0 listed (parcel_of own.source.0 (record { to = own.dest; send = at; batch = items })) (log_view log)
+  delivered at = same_log _ _ delivered_has delivered_holder delivered_stable
+
+-- a mark
+module _ (log : LogMap) (det : Det) where
+  pub marked : log_view (after_mark log det) ≡ log_after_mark det (log_view log)
+  marked = same_log _ _ (λ d. grind (arith, get_marked log det d)) (λ d q. grind (arith, get_marked log det d)) (λ d. grind (arith, get_marked log det d))
+
+-- after a process is learned as a holder of these
+module _ (p : Pid) (d : Det) where
+  merged : (a s r : Bool) → ((a || (s || false)) || r) ≡ (a || (s || r))
+  merged a s r = grind arith
+
+  shared : (a s b r : Bool) → ((a || ((s && b) || false)) || (r && b)) ≡ (a || ((s || r) && b))
+  shared a s b r = grind arith
+
+  pub held_has : (ds : List Det) (log : LogMap) → has_entry d (with_held ds p log) ≡ (has_entry d log || list_has ds d)
+  unfolding with_held
+  held_has [] log = grind arith
+  held_has (x ∷ ds) log = held_has ds (after_learn log x (held_by p)) ∙ ap (λ b. b || list_has ds d) (one_entry log x (held_by p) d) ∙ merged (has_entry d log) (same_det d x) (list_has ds d)
+
+  pub held_holder : (q : ℕ) (ds : List Det) (log : LogMap) → log_knows_holder d q (with_held ds p log) ≡ (log_knows_holder d q log || (list_has ds d && q == p.0))
+  unfolding with_held
+  held_holder q [] log = grind arith
+  held_holder q (x ∷ ds) log =
+      held_holder q ds (after_learn log x (held_by p))
+      ∙ ap (λ b. b || (list_has ds d && q == p.0)) (one_holder log x (held_by p) d q ∙ ap (λ b. log_knows_holder d q log || ((same_det d x && b) || false)) (one_holds p.0 q))
+      ∙ shared (log_knows_holder d q log) (same_det d x) (q == p.0) (list_has ds d)
+
+  unmarked : (a s : Bool) → (a || ((s && false) || false)) ≡ a
+  unmarked a s = grind arith
+
+  pub held_stable : (ds : List Det) (log : LogMap) → log_knows_stable d (with_held ds p log) ≡ log_knows_stable d log
+  unfolding with_held
+  held_stable [] log = refl
+  held_stable (x ∷ ds) log = held_stable ds (after_learn log x (held_by p)) ∙ one_stable log x (held_by p) d ∙ unmarked (log_knows_stable d log) (same_det d x)

@@ -1,0 +1,200 @@
+-- The calls of a node that is up are steps of a process that is up.
+use Rattle.std.proofs.Common.{ℕ, ◌≡◌, ◌∙◌, ◌==◌, ◌<◌, ◌≤◌, ◌+◌, Bool, true, false, not, ◌&&◌, ◌||◌, List, [], ◌∷◌, ◌++◌, length, max, Option, Some, None, is_some, unwrap_or, inl, inr, length-append, refl, sym, ap, subst, arith}
+use Rattle.std.specs.Prelude.{◌⊎◌, nat_lt, nat_le, if◌then◌else◌}
+use Rattle.std.specs.List.{list_any}
+use Rattle.std.specs.FinMap as fin
+use Rattle.std.specs.FinSet as set
+use Rattle.std.proofs.lemmas.Bool.{false≢true, or_cases, or_left, or_right, and_parts, and_from, eqb-true, eq-eqb}
+use Rattle.causal_name.specs.declared.Pid.{Pid}
+use Rattle.causal_name.specs.declared.MsgName.{MsgName}
+use Rattle.causal_name.specs.declared.Det.{Det}
+use Rattle.causal_name.specs.Names.{is_ascending, message_of, same_det, same_message}
+use Rattle.causal_name.specs.Sets.{count_below}
+use Rattle.causal_holders.proofs.Lemmas.MemberCounts.{len_counted}
+use Rattle.causal_trace.specs.declared.entry.Entry.{Entry}
+use Rattle.causal_trace.specs.declared.entry.Entry.TheVariants.{Send, Deliver, Stable}
+use Rattle.causal_trace.specs.Past.{list_has, det_from}
+use Rattle.causal_log.specs.declared.known.Known.{Known}
+use Rattle.causal_log.specs.declared.batch.Item.{Item}
+use Rattle.causal_log.specs.Knowledge.{unknown}
+use Rattle.causal_log.specs.Logs.{LogMap, known_of, dets_of, batch_items, is_in_batch}
+use Rattle.causal_log.proofs.Lemmas.MessageItems.{carried_dets, carried_holders, left_out}
+use Rattle.causal_memory.proofs.Lemmas.ListInsert.{with_ascending}
+use Rattle.causal_protocol.specs.Naming.{message_name, with_own}
+use Rattle.causal_protocol.specs.MemoryQueries.{has_entry, log_knows_holder, log_knows_stable, has_item, item_holder, parcel_of}
+use Rattle.causal_world.specs.World.{Packet}
+use Rattle.causal_node.specs.declared.node_answer.Reply.{Reply}
+use Rattle.causal_node.specs.declared.node_answer.Reply.TheVariants as Replies
+use Rattle.causal_node.specs.NodeStates.{NodeState, Recovery, RoundState, floor_of}
+use Rattle.causal_node.specs.NodeRefusals.{send_fault, deliver_fault}
+use Rattle.causal_node.specs.NodeSteps.{after_send, after_delivery}
+use Rattle.causal_node.specs.NodeRecovery.{after_stored}
+use Rattle.causal_node.specs.NodeAnswers.{answer_fault, after_answer, after_answer_at, knows_number, raised, with_floors, reply_of, reply_at}
+use Rattle.causal_nodes.specs.Node.{Node, up_node}
+use Rattle.causal_nodes.specs.Packets.{Sent, message_packet, write_packet, written_packet, question_packet, answer_packet}
+use Rattle.causal_nodes.specs.NodeSteps.{NodeStep, send_row, deliver_row, write_row, mark_row, answer_row, IsOfNodeLog, with_one_sent, with_log, log_after_mark}
+use Rattle.causal_nodes.specs.NodeSteps as theory
+use Rattle.causal_calls.specs.Views.{numbers, up_view, RepresentsAt, Represents, IsNodeState, log_view}
+use Rattle.causal_calls.specs.Parcels.{message_with, next_message, log_packet, write_of}
+use Rattle.causal_calls.specs.StepLaws.{HasSingleSlots, IsStepOf}
+use Rattle.causal_calls.proofs.LogViews.{entry_of_holder, own_have, items_have, delivered, marked}
+use Rattle.causal_calls.proofs.Names.{from_not, or_else_none, unless_up_none, named_only, has_names, raised_numbers}
+
+pub below_from : (a b : ℕ) → not (nat_lt a b) ≡ false → a < b
+below_from a b h = grind (arith, h)
+
+pub not_below : (a b : ℕ) → nat_lt a b ≡ false → b ≤ a
+not_below a b h = grind (arith, h)
+
+-- which reply is given
+abbrev is_log : Reply → Bool
+is_log Replies.Log = true
+is_log Replies.OwnNumber = false
+is_log Replies.NotUp = false
+
+abbrev is_not_up : Reply → Bool
+is_not_up Replies.Log = false
+is_not_up Replies.OwnNumber = false
+is_not_up Replies.NotUp = true
+
+pub replies_log : (b : Bool) (o : Recovery) → (if b then reply_at o else Replies.OwnNumber) ≡ Replies.Log → (b ≡ true) × (o ≡ None)
+replies_log true None h = (refl, refl)
+replies_log true (Some r) h = absurd (false≢true (ap is_log h))
+replies_log false o h = absurd (false≢true (ap is_log h))
+
+pub replies_not_up : (b : Bool) (o : Recovery) → (if b then reply_at o else Replies.OwnNumber) ≡ Replies.NotUp → (b ≡ true) × ((r : Option RoundState) × (o ≡ Some r))
+replies_not_up true None h = absurd (false≢true (ap is_not_up h))
+replies_not_up true (Some r) h = (refl, (r, refl))
+replies_not_up false o h = absurd (false≢true (ap is_not_up h))
+
+abbrev is_number : Reply → Bool
+is_number Replies.Log = false
+is_number Replies.OwnNumber = true
+is_number Replies.NotUp = false
+
+pub replies_number : (b : Bool) (o : Recovery) → (if b then reply_at o else Replies.OwnNumber) ≡ Replies.OwnNumber → b ≡ false
+replies_number true None h = absurd (false≢true (ap is_number h))
+replies_number true (Some r) h = absurd (false≢true (ap is_number h))
+replies_number false o h = refl
+
+in_batch_logged : (f : ℕ) (o : Option Known) → is_in_batch f o ≡ true → is_some o ≡ true
+in_batch_logged f None h = absurd (false≢true h)
+in_batch_logged f (Some known) h = refl
+
+known_there : (o : Option Known) → is_some o ≡ true → (k : Known) × (o ≡ Some k)
+known_there None h = absurd (false≢true h)
+known_there (Some k) h = (k, refl)
+
+module _ (position : ℕ) (s : NodeState) (k : IsNodeState s) (up : s.recovery ≡ None) where
+  abbrev here : Node
+  here = up_node (up_view s)
+
+  abbrev me : Pid
+  me = s.identity.me
+
+  abbrev log : LogMap
+  log = s.memory.log
+
+  -- a state that is up represents its view
+  as_up : (new : NodeState) (next : Node) → new.recovery ≡ s.recovery → next ≡ up_node (up_view new) → Represents new next
+  as_up new next same is = subst (λ (o : Recovery). RepresentsAt new o next) (sym (same ∙ up)) is
+
+  -- of the log
+  module _ (to : Pid) where
+    abbrev items : List Item
+    items = batch_items s.identity.faults log
+
+    pub message_of_log : IsOfNodeLog me.0 (up_view s) (next_message position s to)
+    message_of_log = record {
+      from = refl;
+      lane = refl;
+      logged = λ d h. in_batch_logged s.identity.faults (fin.get log d) (sym (carried_dets s.identity.faults log d) ∙ h);
+      known_holders = λ d q h. elim (or_cases _ _ h) [
+        | inl named ↦
+            let both = and_parts _ _ (sym (carried_holders s.identity.faults log d q) ∙ named) in
+            (both.1, carried_dets s.identity.faults log d ∙ both.0)
+        | inr own ↦
+            let both = and_parts _ _ own in
+            (subst (λ p. log_knows_holder d p log ≡ true) (sym (eqb-true q me.0 both.1)) (k.own d (in_batch_logged s.identity.faults (fin.get log d) (sym (carried_dets s.identity.faults log d) ∙ both.0))), both.0)
+      ];
+      known_stable = λ d h. absurd (false≢true h);
+      names_sender = λ d h. or_right _ _ (and_from _ _ h (eq-eqb me.0 me.0 refl));
+    }
+
+    left : (d : Det) → has_entry d log ≡ true → (b : Bool) → list_any (λ item. same_det d item.det) (batch_items s.identity.faults log) ≡ b
+        → (b ≡ true) ⊎ ((log_knows_stable d log ≡ true) ⊎ (s.identity.faults < count_below s.identity.processes (λ q. log_knows_holder d q log)))
+    left d has true is = inl refl
+    left d has false is =
+        let there = known_there (fin.get log d) has in
+        let known_is : known_of log d ≡ there.0 = ap (λ o. unwrap_or o unknown) there.1 in
+        inr (elim (left_out s.identity.faults log d there.0 there.1 is) [
+          | inl stable ↦ inl (ap (λ (x : Known). x.stable) known_is ∙ stable)
+          | inr many ↦ inr (subst (λ m. s.identity.faults < m) (ap (λ (x : Known). set.len x.holders) (sym known_is) ∙ len_counted s.identity.processes (known_of log d).holders (λ q h. k.holders d q h)) many)
+        ])
+
+    pub sends : (body : List ℕ) → send_fault s to ≡ None
+        → IsStepOf position s here None (after_send s to body) (message_packet (message_name me (length s.memory.sent)) (next_message position s to) ∷ []) (Send me to (length s.memory.sent) ∷ [])
+    sends body legal =
+        let low = below_from to.0 s.identity.processes (or_else_none _ _ _ (unless_up_none _ _ legal).1).0 in
+        record {
+          next = up_node (with_one_sent (up_view s));
+          step = send_row (up_view s) to (next_message position s to) low message_of_log refl refl (λ d has. left d has _ refl);
+          represents = as_up (after_send s to body) _ refl (λ i. up_node (record { lane = s.lane; log = log_view log; floors = numbers s.floors; sent = sym (length-append s.memory.sent (record { to = to; send = length s.memory.sent; batch = items } ∷ [])) i; received = s.memory.received }));
+        }
+
+  pub delivers : (lane : ℕ) (name : MsgName) (at : ℕ) (items : List Item) → is_ascending (dets_of items) ≡ true → deliver_fault s lane name items ≡ None → HasSingleSlots log
+      → IsStepOf position s here (Some (message_packet name (message_with lane me at name items))) (after_delivery s name items) [] (Deliver me at (length s.memory.received) (with_own (det_from me (length s.memory.received) name) (dets_of items)) ∷ [])
+  delivers lane name at items ascending legal single =
+      let own = det_from me (length s.memory.received) name in
+      let process = or_else_none _ _ _ (unless_up_none _ _ legal).1 in
+      let floor = or_else_none _ _ _ process.1 in
+      let once = or_else_none _ _ _ floor.1 in
+      record {
+        next = up_node (theory.after_delivery me.0 name (with_own own (dets_of items)) (message_with lane me at name items).parcel (up_view s));
+        step = deliver_row (up_view s) name (message_with lane me at name items) at (with_own own (dets_of items)) (with_ascending own (dets_of items) ascending) refl
+            (not_below lane (floor_of s.floors name.source) floor.0) refl (sym (k.received name) ∙ once.0)
+            (λ d has mine slot. named_only me s.memory name single d has mine slot _ _ once.1)
+            (λ d. own_have own (dets_of items) d ∙ ap (λ b. same_det d own || b) (items_have items d));
+        represents = as_up (after_delivery s name items) _ refl (λ i. up_node (record { lane = s.lane; log = sym (delivered items own log at) i; floors = numbers s.floors; sent = length s.memory.sent; received = s.memory.received ++ name ∷ [] }));
+      }
+
+  pub writes : (dets : List Det) → ((d : Det) → list_has dets d ≡ true → has_entry d log ≡ true)
+      → IsStepOf position s here None s (write_packet (write_of s dets) ∷ []) []
+  writes dets logged = record {
+    next = here;
+    step = write_row (up_view s) (write_of s dets) (record {
+      from = refl;
+      lane = refl;
+      logged = logged;
+      known_holders = λ d q h. let both = and_parts _ _ h in (both.1, both.0);
+      known_stable = λ d h. absurd (false≢true h);
+      names_sender = λ d h. and_from _ _ h (k.own d (logged d h));
+    }) refl refl;
+    represents = as_up s _ refl refl;
+  }
+
+  pub marks : (dets : Det → Bool) (det : Det) → dets det ≡ true
+      → IsStepOf position s here (Some (written_packet dets)) (after_stored s det s.recovery) [] (Stable det ∷ [])
+  marks dets det has = subst (λ (o : Recovery). IsStepOf position s here (Some (written_packet dets)) (after_stored s det o) [] (Stable det ∷ [])) (sym up) (record {
+    next = up_node (with_log (up_view s) (log_after_mark det (log_view log)));
+    step = mark_row (up_view s) dets det has;
+    represents = as_up (after_stored s det None) _ refl (λ i. up_node (record { lane = s.lane; log = sym (marked log det) i; floors = numbers s.floors; sent = length s.memory.sent; received = s.memory.received }));
+  })
+
+  -- the whole log
+  log_of_node : (to : ℕ) → IsOfNodeLog me.0 (up_view s) (log_packet me.0 s.lane to log)
+  log_of_node to = record { from = refl; lane = refl; logged = λ d h. h; known_holders = λ d q h. (h, entry_of_holder log d q h); known_stable = λ d h. h; names_sender = k.own }
+
+  answered : (view : List ℕ) → knows_number s view ≡ true → after_answer s view ≡ with_floors s (raised s.floors view)
+  answered view knows = λ i. if knows i then after_answer_at s view (up i) else s
+
+  pub answers : (asker : Pid) (name : ℕ) (view : List ℕ) → answer_fault s asker view ≡ None → reply_of s view ≡ Replies.Log
+      → IsStepOf position s here (Some (question_packet asker.0 name (numbers view))) (after_answer s view) (answer_packet name (log_packet me.0 s.lane asker.0 log) ∷ []) []
+  answers asker name view legal reply =
+      let knows = (replies_log (knows_number s view) s.recovery reply).0 in
+      let size : length view ≡ s.identity.processes = eqb-true _ _ (from_not _ (or_else_none _ _ _ (or_else_none _ _ _ legal).1).0) in
+      subst (λ (t : NodeState). IsStepOf position s here (Some (question_packet asker.0 name (numbers view))) t (answer_packet name (log_packet me.0 s.lane asker.0 log) ∷ []) []) (sym (answered view knows)) (record {
+        next = up_node (theory.with_floors (up_view s) (theory.raised (numbers s.floors) (numbers view)));
+        step = answer_row (up_view s) asker.0 name (numbers view) (log_packet me.0 s.lane asker.0 log) (eqb-true _ _ knows) (log_of_node asker.0) refl refl (λ d. refl);
+        represents = as_up (with_floors s (raised s.floors view)) _ refl (λ i. up_node (record { lane = s.lane; log = log_view log; floors = λ q. sym (raised_numbers s.floors view (k.floors ∙ sym size) q) i; sent = length s.memory.sent; received = s.memory.received }));
+      })
