@@ -1,6 +1,7 @@
 pub mod Cursors
 pub mod Filings
 mod MentionedDeliveries
+mod Capacities
 mod Numbered
 mod PackedSpans
 pub mod Reachable

@@ -1,5 +1,5 @@
 //! A recorded run prepared for its audit, and parts of its deliveries.
-ghost use Rattle.std.specs.Prelude.{◌≡◌, ◌≤◌, IfOk, length};
+ghost use Rattle.std.specs.Prelude.{◌≡◌, ◌<◌, ◌≤◌, IfOk, length};
 ghost use Rattle.causal_trace.specs.Past.{instant};
 ghost use Rattle.causal_audit.specs.Parts.{AreSufficient, EarliestOf, part_of};
 ghost use Rattle.causal_audit.specs.Inside.Index.RunIndexes.{IsMentionIndex};
@@ -84,6 +84,7 @@ impl PreparedRun {
     pub fn share_end(&self, from: usize, workers: u32) -> usize
         requires { (from ≤ length self.now.positions) × (1 ≤ workers) }
         ensures within { (from ≤ result) × (result ≤ length self.now.positions) }
+        ensures progress { from < length self.now.positions → from < result }
         ensures last { workers ≡ 1 → result ≡ length self.now.positions }
     {
         if workers == 1 {
@@ -175,13 +176,15 @@ fn total_walk_length(candidates: &[OpenDelivery]) -> u64 {
     walked
 }
 
-/// Returns the number of deliveries in the first groups whose walks cover about `share` entries.
+/// Returns the number of deliveries in the first groups whose walks cover about `share` entries; at least one group, if
+/// there is one.
 fn deliveries_for_share(candidates: &[OpenDelivery], share: u64) -> usize
-    ensures { result ≤ length candidates.now }
+    ensures within { result ≤ length candidates.now }
+    ensures progress { 0 < length candidates.now → 0 < result }
 {
     let mut walked: u64 = 0;
     for (number, group) in candidates.chunks(GROUP).enumerate() {
-        if walked >= share {
+        if number > 0 && walked >= share {
             return candidates.len().min(number.saturating_mul(GROUP));
         }
         walked = walked.saturating_add(walk_length(group));

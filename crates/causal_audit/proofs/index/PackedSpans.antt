@@ -1,13 +1,65 @@
 -- One more position in one of several lists that follow one another in one vector.
 use Rattle.std.proofs.lemmas.Grind.{common_steps}
-use Rattle.causal_audit.proofs.Common.{ℕ, ◌≡◌, ◌≢◌, ◌+◌, ◌-◌, ◌<◌, ◌≤◌, inl, inr, List, [], ◌∷◌, ◌++◌, length, take, drop, map, get_or, get_or-append_seam, get_or_default, set, refl, sym, ap, subst, ◌∙◌, arith, All, All-map, All-push, All-set, All-weaker, length-append, length-map, length-set, get_or-map, get_or-set_same, get_or-set_other, map-set}
-use Rattle.std.proofs.lemmas.List.{drop-set-add, drop-set-lt, ext_get_or, length-drop, take-set-le}
+use Rattle.causal_audit.proofs.Common.{cases_lt, get_or_past, ℕ, ◌≡◌, ◌≢◌, ◌+◌, ◌-◌, ◌<◌, ◌≤◌, inl, inr, List, [], ◌∷◌, ◌++◌, length, take, drop, map, get_or, zero, suc, get_or-append_seam, get_or_default, set, refl, sym, ap, subst, ◌∙◌, arith, All, All-map, All-push, All-set, All-weaker, All-get_or, length-append, length-map, length-set, get_or-map, get_or-set_same, get_or-set_other, map-set}
+use Rattle.std.proofs.lemmas.List.{drop-set-add, drop-set-lt, ext_get_or, length-drop, length-take-le, take-set-le}
 use Rattle.std.proofs.lemmas.Bool.Decides.{eqb_tells}
 use Rattle.std.proofs.Math.Seq.{take-suc-set}
 use Rattle.std.specs.List.{slice_range}
 use Rattle.causal_audit.specs.declared.index.packed_lists.Span.{Span}
 use Rattle.causal_audit.specs.Inside.Index.Lists.{list_at, with_added}
-use Rattle.causal_audit.specs.Inside.Index.Packed.{ArePacked, limit_in, list_in}
+use Rattle.causal_audit.specs.Inside.Index.Packed.{ArePacked, HasSpareCapacity, IsSpan, capacities_in, limit_before, list_in}
+
+-- where the next list begins; for the last list the number of positions
+abbrev limit_in : List Span → ℕ → ℕ → ℕ
+limit_in spans number size = (get_or spans (number + 1) (record { begin = size; end = size })).begin
+
+limit_first : (size : ℕ) (s : Span) (rest : List Span) → limit_before size rest ≡ limit_in (s ∷ rest) 0 size
+limit_first size s [] = refl
+limit_first size s (next ∷ rest) = refl
+
+-- a list's capacity is from its start to that of the next list
+pub capacity_at : (size : ℕ) (spans : List Span) (m : ℕ) (d : Span) → m < length spans → get_or (capacities_in size spans) m 0 ≡ limit_in spans m size - (get_or spans m d).begin
+capacity_at size [] m d there = absurd (omega (arith, there))
+capacity_at size (s ∷ rest) zero d there = ap (λ n. n - s.begin) (limit_first size s rest)
+capacity_at size (s ∷ rest) (suc m) d there = grind (arith, capacity_at size rest m d (omega (arith, there)))
+
+-- one more list with the last capacity
+pub capacities_push : (b limit : ℕ) (spans : List Span) → capacities_in limit (spans ++ record { begin = b; end = b } ∷ []) ≡ capacities_in b spans ++ (limit - b) ∷ []
+capacities_push b limit [] = refl
+capacities_push b limit (s ∷ []) = refl
+capacities_push b limit (s ∷ next ∷ rest) = ap (λ xs. (next.begin - s.begin) ∷ xs) (capacities_push b limit (next ∷ rest))
+
+-- a span with the same start leaves the capacities unchanged
+pub capacities_still : (size : ℕ) (spans : List Span) (m : ℕ) (new d : Span) → m < length spans → new.begin ≡ (get_or spans m d).begin → capacities_in size (set spans m new) ≡ capacities_in size spans
+capacities_still size [] m new d there same = refl
+capacities_still size (s ∷ rest) zero new d there same = ap (λ b. (limit_before size rest - b) ∷ capacities_in size rest) same
+capacities_still size (s ∷ []) (suc m) new d there same = absurd (omega (arith, there))
+capacities_still size (s ∷ next ∷ rest) (suc zero) new d there same =
+    let later = capacities_still size (next ∷ rest) zero new d (omega (arith, there)) same in
+    ap (λ b. (b - s.begin) ∷ capacities_in size (new ∷ rest)) same ∙ ap (λ xs. (next.begin - s.begin) ∷ xs) later
+capacities_still size (s ∷ next ∷ rest) (suc (suc m)) new d there same =
+    ap (λ xs. (next.begin - s.begin) ∷ xs) (capacities_still size (next ∷ rest) (suc m) new d (omega (arith, there)) same)
+
+limit_inside : (size : ℕ) (spans : List Span) (m : ℕ) (s : Span) → ArePacked size spans → limit_in spans m size ≤ size
+limit_inside size spans m s packed =
+    let nothing : Span = record { begin = size; end = size } in
+    elim (cases_lt (m + 1) (length spans)) [
+      | inl below ↦
+          let inside : IsSpan size (get_or spans (m + 1) s) = All-get_or (IsSpan size) spans (m + 1) s below packed.each in
+          let next : limit_in spans m size ≡ (get_or spans (m + 1) s).begin = ap (λ (x : Span). x.begin) (get_or_default spans (m + 1) nothing s below) in
+          omega (arith, next, inside.order, inside.within)
+      | inr beyond ↦ omega (arith, ap (λ (x : Span). x.begin) (get_or_past spans (m + 1) nothing beyond))
+    ]
+
+-- a list with spare capacity ends before its limit and within the positions
+pub spare_in : (ps : List ℕ) (spans : List Span) (m : ℕ) (s : Span) → ArePacked (length ps) spans → HasSpareCapacity (record { lists = map (list_in ps) spans; capacities = capacities_in (length ps) spans }) m → s ≡ get_or spans m s → (m < length spans) × (s.end + 1 ≤ limit_in spans m (length ps)) × (s.end < length ps)
+spare_in ps spans m s packed has is =
+    let there : m < length spans = omega (arith, has.there, length-map spans (list_in ps)) in
+    let inside : IsSpan (length ps) s = subst (IsSpan (length ps)) (sym is) (All-get_or (IsSpan (length ps)) spans m s there packed.each) in
+    let list : list_at (map (list_in ps) spans) m ≡ list_in ps s = get_or-map (list_in ps) spans m s [] there ∙ ap (list_in ps) (sym is) in
+    let long : length (list_in ps s) ≡ s.end - s.begin = grind (arith, common_steps, length-drop s.begin ps, length-take-le, inside.order, inside.within) in
+    let room : s.end + 1 ≤ limit_in spans m (length ps) = omega (arith, has.spare, ap length list, long, capacity_at (length ps) spans m s there, ap (λ (x : Span). x.begin) is, inside.order) in
+    (there, room, omega (arith, room, limit_inside (length ps) spans m s packed))
 
 -- lists that end where they begin are empty
 pub none_in : (ps : List ℕ) (spans : List Span) → All (λ (s : Span). s.begin ≡ s.end) spans → All (λ list. list ≡ []) (map (list_in ps) spans)

@@ -57,13 +57,17 @@ pub fn clocks_of(alloc: Global, trace: &Trace) -> Result<Clocks, NoMemory>
     ensures { IfOk result (λ clocks. IsClockOf trace.now.recording.past clocks.events) }
 {
     let n = trace.processes();
-    let Ok(mut clocks) = Clocks::new(alloc, n) else {
-        return Err(NoMemory);
+    let mut clocks = match Clocks::new(alloc, n) {
+        Ok(clocks) => clocks,
+        Err(ClockFault::NoMemory) => return Err(NoMemory),
+        Err(ClockFault::Lanes) => unreachable!(),
     };
     let mut present = first_lanes(alloc, n)?;
     for entry in trace.entries() {
-        if add_event(entry, &mut clocks, present.as_mut_slice()).is_err() {
-            return Err(NoMemory);
+        match add_event(entry, &mut clocks, present.as_mut_slice()) {
+            Ok(_) => {}
+            Err(ClockFault::NoMemory) => return Err(NoMemory),
+            Err(ClockFault::Lanes) => unreachable!(),
         }
     }
     Ok(clocks)

@@ -1,5 +1,5 @@
 //! The positions of the entries that mention each determinant.
-ghost use Rattle.std.specs.Prelude.{◌≡◌, ◌<◌, ◌≤◌, ◌+◌, ◌∷◌, ◌++◌, [], List, Some, IfOk, OnOk, length};
+ghost use Rattle.std.specs.Prelude.{◌≡◌, ◌<◌, ◌≤◌, ◌+◌, ◌^◌, ◌∷◌, ◌++◌, [], ℕ, List, Some, IfOk, OnOk, length, sum};
 ghost use Rattle.std.specs.List.{All, flat_map};
 ghost use Rattle.causal_name.specs.declared.Det.{Det};
 ghost use Rattle.causal_trace.specs.declared.entry.Entry.{Entry};
@@ -8,9 +8,10 @@ ghost use Rattle.causal_trace.specs.Numbers.{delivered_dets, number_of};
 ghost use Rattle.causal_trace.specs.Past.{deliveries_in, instant};
 ghost use Rattle.causal_audit.specs.Quiet.{mentioned_dets};
 ghost use Rattle.causal_audit.specs.Inside.Index.Lists.{AreMentions, AreNumbersOf, HaveNumbers, mentions_of, past_of};
+ghost use Rattle.causal_audit.specs.Inside.Index.Packed.{AreOccurrences, HaveCapacityFor};
 ghost use Rattle.causal_audit.specs.Inside.Index.RunIndexes.{IsMentionIndex};
 
-use crate::index::packed_lists::PackedLists;
+use crate::index::packed_lists::{PackedLists, PackedListsBuilder};
 use causal_name::{Det, NoMemory};
 use causal_trace::entry::Entry;
 use causal_trace::trace::Trace;
@@ -124,24 +125,59 @@ fn numbers_of(
     Ok(numbers)
 }
 
-/// Returns `count` empty lists, each with capacity for as many positions as its number occurs.
-fn allocate_lists(alloc: Global, numbers: &[u32], count: usize) -> Result<PackedLists, NoMemory>
-    ensures count { IfOk result (λ lists. length lists ≡ count) }
-    ensures empty { IfOk result (λ lists. All (λ list. list ≡ []) lists) }
+/// Returns how often each number below `count` occurs.
+///
+/// # Errors
+/// `NoMemory` if allocation fails.
+fn occurrences(alloc: Global, numbers: &[u32], count: usize) -> Result<Vec<u32>, NoMemory>
+    requires low { All (λ number. number < count) numbers.now }
+    requires few { length numbers.now < 2 ^ 32 }
+    ensures count { IfOk result (λ counts. length counts.items ≡ count) }
+    ensures each { IfOk result (λ counts. AreOccurrences counts.items numbers.now) }
+    ensures sum { IfOk result (λ counts. sum counts.items ≡ length numbers.now) }
 {
-    let mut rooms: Vec<u32> = vec![in alloc; 0; count]?;
+    let mut counts: Vec<u32> = vec![in alloc; 0; count]?;
     for number in numbers {
-        let number = *number as usize;
-        if number < rooms.len() {
-            rooms[number] = rooms[number].saturating_add(1);
-        }
+        counts[*number as usize] += 1;
     }
-    PackedLists::with_capacities(alloc, &rooms)
+    Ok(counts)
+}
+
+/// Returns `count` empty lists, each with capacity for as many positions as its number occurs.
+fn allocate_lists(
+    alloc: Global,
+    numbers: &[u32],
+    count: usize,
+) -> Result<PackedListsBuilder, NoMemory>
+    requires low { All (λ number. number < count) numbers.now }
+    requires few { length numbers.now < 2 ^ 32 }
+    ensures count { IfOk result (λ builder. length builder.lists ≡ count) }
+    ensures empty { IfOk result (λ builder. All (λ list. list ≡ []) builder.lists) }
+    ensures capacity { IfOk result (λ builder. HaveCapacityFor builder numbers.now) }
+{
+    let counts = occurrences(alloc, numbers, count)?;
+    PackedListsBuilder::with_capacities(alloc, &counts)
+}
+
+/// Appends the position i of one more entry, which mentions the determinants of these numbers. The lists have spare
+/// capacity for them.
+fn note(builder: &mut PackedListsBuilder, numbers: &[u32], i: u32)
+    requires low { All (λ number. number < length builder.old.lists) numbers.now }
+    requires capacity { HaveCapacityFor builder.old numbers.now }
+    ensures noted { (past : List Entry) (delivered : List Det) (entry : Entry) → length past ≡ i →
+        AreNumbersOf (length builder.old.lists) delivered (mentioned_dets entry) numbers.now →
+        AreMentions past delivered builder.old.lists →
+        AreMentions (entry ∷ past) delivered builder.new.lists }
+    ensures count { length builder.new.lists ≡ length builder.old.lists }
+    ensures spare { (rest : List ℕ) → HaveCapacityFor builder.old (numbers.now ++ rest) →
+        HaveCapacityFor builder.new rest }
+{
+    for number in numbers {
+        builder.add(*number as usize, i);
+    }
 }
 
 impl Mentions {
-    ghost use Rattle.causal_audit.specs.Inside.Index.Lists.{AreMentionsWith};
-
     /// Returns the list of a determinant of this trace.
     pub fn list(&self, trace: &Trace, det: Det) -> &[u32]
         ensures { result.now ≡
@@ -167,34 +203,6 @@ impl Mentions {
             return self.list(trace, det);
         }
         own
-    }
-
-    /// Appends the position of an entry to the list of a number. The capacity was counted.
-    fn add(&mut self, number: u32, i: u32) -> Result<(), NoMemory>
-        requires { number < length self.old.lists }
-        ensures added { OnOk result ((past : List Entry) (dets delivered : List Det) (det : Det) →
-            length past ≡ i → number_of (length self.old.lists) delivered det ≡ Some number →
-            AreMentionsWith past dets delivered self.old.lists →
-            AreMentionsWith past (dets ++ det ∷ []) delivered self.new.lists) }
-        ensures count { length self.new.lists ≡ length self.old.lists }
-    {
-        self.lists.add(number as usize, i)
-    }
-
-    /// Appends the position i of one more entry, which mentions the determinants of these numbers.
-    fn note(&mut self, numbers: &[u32], i: u32) -> Result<(), NoMemory>
-        requires { All (λ number. number < length self.old.lists) numbers.now }
-        ensures noted { OnOk result ((past : List Entry) (delivered : List Det) (entry : Entry) →
-            length past ≡ i →
-            AreNumbersOf (length self.old.lists) delivered (mentioned_dets entry) numbers.now →
-            AreMentions past delivered self.old.lists →
-            AreMentions (entry ∷ past) delivered self.new.lists) }
-        ensures count { length self.new.lists ≡ length self.old.lists }
-    {
-        for number in numbers {
-            self.add(*number, i)?;
-        }
-        Ok(())
     }
 }
 
@@ -224,21 +232,22 @@ fn build_mentions(
     among: usize,
 ) -> Result<Mentions, NoMemory>
     requires few { length entries.now ≤ max_entries }
+    requires countable { length numbers.now < 2 ^ 32 }
     requires numbered { (delivered : List Det) ×
         AreNumbersOf among delivered (flat_map mentioned_dets entries.now) numbers.now }
     ensures { IfOk result (λ mentions. (delivered : List Det) →
         AreNumbersOf among delivered (flat_map mentioned_dets entries.now) numbers.now →
         AreMentions (past_of entries.now) delivered mentions.lists) }
 {
-    let lists = allocate_lists(alloc, numbers, among)?;
-    let mut mentions = Mentions { lists };
+    let mut builder = allocate_lists(alloc, numbers, among)?;
     let mut rest = numbers;
     for (i, entry) in entries.iter().enumerate() {
         let (own, later) = rest.split_at(mentioned_dets(entry).len());
-        mentions.note(own, i as u32)?;
+        note(&mut builder, own, i as u32);
         rest = later;
     }
-    Ok(mentions)
+    let lists = builder.finish();
+    Ok(Mentions { lists })
 }
 
 /// Returns the ascending positions of the entries before the instant `end` that mention each determinant. Each mention

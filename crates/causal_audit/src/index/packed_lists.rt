@@ -1,8 +1,8 @@
 //! Numbered lists of positions, one after the other in one vector.
-ghost use Rattle.std.specs.Prelude.{◌≡◌, ◌<◌, [], IfOk, OnOk, length};
+ghost use Rattle.std.specs.Prelude.{◌≡◌, ◌<◌, ◌^◌, [], IfOk, length, sum};
 ghost use Rattle.std.specs.List.{All};
 ghost use Rattle.causal_audit.specs.Inside.Index.Lists.{list_at, with_added};
-ghost use Rattle.causal_audit.specs.Inside.Index.Packed.{limit_in};
+ghost use Rattle.causal_audit.specs.Inside.Index.Packed.{HasSpareCapacity};
 
 use causal_name::NoMemory;
 use std::alloc::Global;
@@ -34,39 +34,7 @@ impl Model for PackedLists {
     ghost invariant = { λ a. ArePacked (length a.positions.items) a.spans.items };
 }
 
-/// Returns where the capacity of a list ends: at the start of the next list, or at `size` for the last.
-fn capacity_end(spans: &[Span], number: usize, size: usize) -> usize
-    requires { number < length spans.now }
-    ensures { result ≡ limit_in spans.now number size }
-{
-    match spans.get(number + 1) {
-        Some(next) => next.begin as usize,
-        None => size,
-    }
-}
-
 impl PackedLists {
-    /// Returns empty lists with these capacities.
-    ///
-    /// # Errors
-    /// `NoMemory` if allocation fails.
-    pub fn with_capacities(alloc: Global, rooms: &[u32]) -> Result<PackedLists, NoMemory>
-        ensures count { IfOk result (λ lists. length lists ≡ length rooms.now) }
-        ensures empty { IfOk result (λ lists. All (λ list. list ≡ []) lists) }
-    {
-        let mut spans = Vec::with_capacity(alloc, rooms.len())?;
-        let mut begin: u32 = 0;
-        for room in rooms {
-            let Some(limit) = begin.checked_add(*room) else {
-                return Err(NoMemory);
-            };
-            spans.push(Span { begin, end: begin })?;
-            begin = limit;
-        }
-        let positions = vec![in alloc; 0; begin as usize]?;
-        Ok(PackedLists { positions, spans })
-    }
-
     /// Returns the number of lists.
     pub fn len(&self) -> usize
         ensures { result ≡ length self.now }
@@ -83,26 +51,71 @@ impl PackedLists {
             None => &[],
         }
     }
+}
 
-    /// Appends a position to one of the lists.
+/// Numbered lists under construction, each with a fixed capacity. The model is these lists and their capacities.
+#[derive(Drop)]
+pub struct PackedListsBuilder {
+    positions: Vec<u32>,
+    spans: Vec<Span>,
+}
+
+impl Model for PackedListsBuilder {
+    ghost use Rattle.std.specs.Prelude.{◌<◌, ◌^◌, length, map};
+    ghost use Rattle.causal_audit.specs.Inside.Index.Packed.{ListsWithCapacities, ArePacked, capacities_in, list_in};
+
+    ghost Value = { ListsWithCapacities };
+
+    ghost view = { λ a. record { lists = map (list_in a.positions.items) a.spans.items; capacities = capacities_in (length a.positions.items) a.spans.items } };
+
+    ghost invariant = { λ a. ArePacked (length a.positions.items) a.spans.items × (length a.positions.items < 2 ^ 32) };
+}
+
+impl PackedListsBuilder {
+    /// Returns empty lists with these capacities.
     ///
     /// # Errors
-    /// `NoMemory` if the list is full.
-    pub fn add(&mut self, number: usize, position: u32) -> Result<(), NoMemory>
-        requires { number < length self.old }
-        ensures added { OnOk result (self.new ≡ with_added self.old number position) }
-        ensures count { length self.new ≡ length self.old }
+    /// `NoMemory` if allocation fails.
+    pub fn with_capacities(
+        alloc: Global,
+        capacities: &[u32],
+    ) -> Result<PackedListsBuilder, NoMemory>
+        requires { sum capacities.now < 2 ^ 32 }
+        ensures empty { IfOk result (λ builder. All (λ list. list ≡ []) builder.lists) }
+        ensures capacities { IfOk result (λ builder. builder.capacities ≡ capacities.now) }
+        ensures count { IfOk result (λ builder. length builder.lists ≡ length capacities.now) }
+    {
+        let mut spans = Vec::with_capacity(alloc, capacities.len())?;
+        let mut begin: u32 = 0;
+        for capacity in capacities {
+            spans.push(Span { begin, end: begin })?;
+            begin += *capacity;
+        }
+        let positions = vec![in alloc; 0; begin as usize]?;
+        Ok(PackedListsBuilder { positions, spans })
+    }
+
+    /// Appends a position to one of the lists, which has spare capacity.
+    pub fn add(&mut self, number: usize, position: u32)
+        requires { HasSpareCapacity self.old number }
+        ensures added { self.new.lists ≡ with_added self.old.lists number position }
+        ensures capacities { self.new.capacities ≡ self.old.capacities }
     {
         let Span { begin, end } = self.spans[number];
-        let Some(after) = end.checked_add(1) else {
-            return Err(NoMemory);
-        };
-        let limit = capacity_end(self.spans.as_slice(), number, self.positions.len());
-        if limit < after as usize {
-            return Err(NoMemory);
-        }
         self.positions[end as usize] = position;
-        self.spans[number] = Span { begin, end: after };
-        Ok(())
+        self.spans[number] = Span {
+            begin,
+            end: end + 1,
+        };
+    }
+
+    /// Returns the lists.
+    pub fn finish(self) -> PackedLists
+        ensures { result ≡ self.lists }
+    {
+        PackedLists {
+            positions: self.positions,
+            spans: self.spans,
+        }
     }
 }

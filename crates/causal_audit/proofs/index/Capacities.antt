@@ -1,0 +1,63 @@
+-- Lists with capacities, and the numbers of the positions that are still to be added to them.
+use Rattle.std.proofs.lemmas.Grind.{common_steps}
+use Rattle.std.proofs.lemmas.List.Sums.{count_by-le-length, count_by_more_no, count_by_more_yes, sum_by-append, sum_by-cons}
+use Rattle.std.specs.Prelude.{count_by}
+use Rattle.causal_audit.proofs.Common.{ℕ, ◌≡◌, ◌+◌, ◌<◌, ◌≤◌, ◌==◌, cond, cond-true, cond-false, inl, inr, List, [], ◌∷◌, ◌++◌, length, get_or, set, take, replicate, refl, sym, ap, subst, ◌∙◌, arith, eq-eqb, ne_eqb, eqb_tells, length-append, length-set, get_or-set_same, get_or-set_other, length-replicate}
+use Rattle.causal_audit.specs.Inside.Index.Lists.{list_at, with_added}
+use Rattle.causal_audit.specs.Inside.Index.Packed.{AreOccurrences, HasSpareCapacity, HaveCapacityFor, ListsWithCapacities}
+
+-- how often a number occurs among some, of which one is given
+counted_next : (v m : ℕ) (rest : List ℕ) → count_by (λ n. n == m) (v ∷ rest) ≡ cond (v == m) 1 0 + count_by (λ n. n == m) rest
+counted_next v m rest = sum_by-cons (λ n. cond (n == m) 1 0) v rest
+
+-- there is spare capacity for the first of the numbers
+pub spare_next : (s : ListsWithCapacities) (v : ℕ) (rest : List ℕ) → HaveCapacityFor s (v ∷ rest) → v < length s.lists → HasSpareCapacity s v
+spare_next s v rest fits there = record {
+  there = there;
+  spare = omega (arith, fits v there, counted_next v v rest, cond-true {A = ℕ} (v == v) 1 0 (eq-eqb v v refl));
+}
+
+-- and for the others once its position is added
+pub spare_added : (s new : ListsWithCapacities) (v x : ℕ) (rest : List ℕ) → HaveCapacityFor s (v ∷ rest) → v < length s.lists → new.lists ≡ with_added s.lists v x → new.capacities ≡ s.capacities → HaveCapacityFor new rest
+spare_added s new v x rest fits there added same m low =
+    let inside : m < length s.lists = omega (arith, low, ap length added, length-set s.lists v (list_at s.lists v ++ x ∷ [])) in
+    elim (eqb_tells v m) [
+      | inl here ↦
+          let list : list_at new.lists m ≡ list_at s.lists m ++ x ∷ [] = grind (arith, here.0, here.1, get_or-set_same s.lists v (list_at s.lists v ++ x ∷ []) [] there) in
+          omega (arith, fits m inside, counted_next v m rest, cond-true {A = ℕ} (v == m) 1 0 here.0, ap length list, length-append (list_at s.lists m) (x ∷ []), ap (λ xs. get_or xs m 0) same)
+      | inr apart ↦
+          let list : list_at new.lists m ≡ list_at s.lists m = ap (λ ls. list_at ls m) added ∙ get_or-set_other s.lists v m (list_at s.lists v ++ x ∷ []) [] (λ is. apart.1 (sym is)) in
+          omega (arith, fits m inside, counted_next v m rest, cond-false {A = ℕ} (v == m) 1 0 apart.0, ap length list, ap (λ xs. get_or xs m 0) same)
+    ]
+
+-- there is spare capacity for the first numbers
+pub spare_front : (s : ListsWithCapacities) (front back : List ℕ) → HaveCapacityFor s (front ++ back) → HaveCapacityFor s front
+spare_front s front back fits m low = omega (arith, fits m low, sum_by-append (λ v. cond (v == m) 1 0) front back)
+
+-- empty lists with the capacities that numbers need
+pub spare_all : (s : ListsWithCapacities) (counts numbers : List ℕ) → ((m : ℕ) → list_at s.lists m ≡ []) → s.capacities ≡ counts → length s.lists ≡ length counts → AreOccurrences counts numbers → HaveCapacityFor s numbers
+spare_all s counts numbers empty same many each m low =
+    omega (arith, ap length (empty m), ap (λ xs. get_or xs m 0) same, each m (omega (arith, low, many)))
+
+-- no number occurs in no numbers
+pub none_counted : (count : ℕ) → AreOccurrences (replicate count 0) []
+none_counted count m low = grind (arith, common_steps)
+
+module _ (counts numbers : List ℕ) (i : ℕ) (inside : i < length numbers) (each : AreOccurrences counts (take i numbers)) where
+  abbrev v : ℕ
+  v = get_or numbers i 0
+
+  -- a count is at most the number of numbers so far
+  pub counted_few : v < length counts → get_or counts v 0 ≤ i
+  counted_few there = grind (arith, common_steps, each v there, count_by-le-length (λ n. n == v) (take i numbers))
+
+  -- one more number
+  pub one_more_counted : v < length counts → AreOccurrences (set counts v (get_or counts v 0 + 1)) (take (i + 1) numbers)
+  one_more_counted there m low =
+      let below : m < length counts = omega (arith, low, length-set counts v (get_or counts v 0 + 1)) in
+      elim (eqb_tells v m) [
+        | inl here ↦
+            grind (arith, here.0, here.1, each m below, get_or-set_same counts v (get_or counts v 0 + 1) 0 there, count_by_more_yes (λ n. n == m) numbers i 0 inside)
+        | inr apart ↦
+            get_or-set_other counts v m (get_or counts v 0 + 1) 0 (λ is. apart.1 (sym is)) ∙ each m below ∙ sym (count_by_more_no (λ n. n == m) numbers i 0 inside apart.0)
+      ]

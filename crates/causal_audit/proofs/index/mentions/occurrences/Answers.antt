@@ -1,0 +1,33 @@
+use Rattle.std.proofs.lemmas.Grind.{common_steps}
+use Rattle.std.proofs.lemmas.List.Sums.{sum_by-set}
+use Rattle.causal_audit.proofs.Common.{◌≡◌, ◌+◌, ◌<◌, ◌∙◌, length, get_or, set, take, subst, sym, arith, length-set, get_or_default}
+use Rattle.causal_audit.specs.Inside.Index.Packed.{AreOccurrences}
+use Rattle.causal_audit.proofs.index.Capacities.{counted_few, none_counted, one_more_counted}
+use Rattle.causal_audit.proofs.index.mentions.occurrences.Goals as goal
+
+pub loop-number-init : goal.loop-number-init
+loop-number-init c = grind (arith, common_steps, none_counted)
+
+pub overflow_add-index_mut : goal.overflow_add-index_mut
+overflow_add-index_mut c =
+    let counts = c.loop-number.counts.items in
+    let numbers = c.args.numbers.now in
+    let i = c.loop-number.number-index in
+    let there : get_or numbers i 0 < length counts = omega (arith, c.requires.low i 0 c.loop-number-test.true, c.loop-number.invariant.many) in
+    let is = c.index_mut.ensures.value ∙ get_or_default counts (get_or numbers i 0) c.index_mut.result.now 0 there in
+    omega (arith, is, counted_few counts numbers i c.loop-number-test.true c.loop-number.invariant.each there, c.loop-number-test.true, c.requires.few)
+
+pub loop-number-preserved : goal.loop-number-preserved
+loop-number-preserved c =
+    let counts = c.loop-number.counts.items in
+    let numbers = c.args.numbers.now in
+    let i = c.loop-number.number-index in
+    let v = get_or numbers i 0 in
+    let x = c.index_mut.result.now in
+    let there : v < length counts = omega (arith, c.requires.low i 0 c.loop-number-test.true, c.loop-number.invariant.many) in
+    let is : x ≡ get_or counts v 0 = c.index_mut.ensures.value ∙ get_or_default counts v x 0 there in
+    record {
+      many = length-set counts v (x + 1) ∙ c.loop-number.invariant.many;
+      each = subst (λ n. AreOccurrences (set counts v (n + 1)) (take (i + 1) numbers)) (sym is) (one_more_counted counts numbers i c.loop-number-test.true c.loop-number.invariant.each there);
+      total = omega (arith, sum_by-set (λ n. n) counts v (x + 1) 0 there, is, c.loop-number.invariant.total);
+    }

@@ -1,0 +1,30 @@
+use Rattle.std.proofs.lemmas.Grind.{common_steps}
+use Rattle.std.proofs.lemmas.List.Sums.{sum_by_more}
+use Rattle.causal_audit.proofs.Common.{◌≡◌, ◌+◌, ◌-◌, [], ◌∷◌, ◌++◌, get_or, sym, ap, ◌∙◌, arith, length, take, length-append, take_more, All-nil}
+use Rattle.causal_audit.specs.Inside.Index.Packed.{capacities_in}
+use Rattle.causal_audit.proofs.index.PackedSpans.{none_in, none_push, packed_push, capacities_push}
+use Rattle.causal_audit.proofs.index.packed_lists.PackedListsBuilder.with_capacities.Goals as goal
+
+pub loop-capacity-init : goal.loop-capacity-init
+loop-capacity-init c = grind (arith, All-nil)
+
+pub loop-capacity-preserved : goal.loop-capacity-preserved
+loop-capacity-preserved c =
+    let so_far = c.loop-capacity.invariant in
+    let b = c.loop-capacity.begin in
+    let i = c.loop-capacity.capacity-index in
+    let all = c.args.capacities.now in
+    let x = get_or all i 0 in
+    let spans = c.loop-capacity.spans.items in
+    let is : c.push.new.self.items ≡ spans ++ record { begin = b; end = b } ∷ [] = grind (arith, common_steps) in
+    let less : (b + x) - b ≡ x = omega arith in
+    record {
+      count = omega (arith, so_far.count, ap length is, length-append spans (record { begin = b; end = b } ∷ []));
+      begin = omega (arith, so_far.begin, sum_by_more (λ n. n) all i 0 c.loop-capacity-test.true);
+      empty = none_push b spans c.push.new.self.items is so_far.empty;
+      packed = packed_push b (b + x) spans c.push.new.self.items is (omega arith) so_far.packed;
+      capacities = ap (capacities_in (b + x)) is ∙ capacities_push b (b + x) spans ∙ ap (λ xs. xs ++ ((b + x) - b) ∷ []) so_far.capacities ∙ ap (λ n. take i all ++ n ∷ []) less ∙ sym (take_more all i 0 c.loop-capacity-test.true);
+    }
+
+pub returns-clause-empty : goal.returns-clause-empty
+returns-clause-empty c = grind (arith, none_in)
