@@ -32,11 +32,17 @@ SHAPES = {
     "reaching": "64 processes with 192 crashes and restarts, and one message on its way: each delivery soon reaches all processes, and two "
     "hold its determinant",
 }
-LINES = {
+ONE_LINE = {
     "objects": "one line of objects with an empty name",
     "nested arrays": "one line of arrays in arrays, 126 deep",
     "nested objects": "one line of objects in objects, 126 deep",
 }
+LINES = {
+    **ONE_LINE,
+    "short lines": "lines of 16,384 bytes, of objects with an empty name, behind 8,192 entries: each worker builds the tree of one",
+}
+SHORT = 16_384  # bytes of a line that is not scanned before its tree is built
+BEFORE = 8_192  # entries before the short lines
 MULTIPLIER = 0x9E37_79B9_7F4A_7C15
 INITIAL = 0x243F_6A88_85A3_08D3
 WORD = (1 << 64) - 1
@@ -289,6 +295,20 @@ def repeated(piece, size):
     return "[" + ",".join([piece] * ((size - 2) // (len(piece) + 1))) + "]"
 
 
+def short_lines(size):
+    """Sends that no process delivers, and then the lines."""
+    sends = "".join(f'["send",0,1,{number}]\n' for number in range(BEFORE))
+    line = repeated('{"":0}', SHORT) + "\n"
+    return '["trace",1,2]\n' + sends + line * ((size - len(sends)) // len(line) - 1)
+
+
+def hostile_lines(shape, size):
+    """The text of lines, and the number of the first that is wrong."""
+    if shape == "short lines":
+        return short_lines(size), BEFORE + 2
+    return one_line(shape, size), 1
+
+
 def one_line(shape, size):
     piece = {
         "objects": '{"":0}',
@@ -309,8 +329,8 @@ def make(shape, f_word, part=1, seed=1):
     """The text and what is known of it."""
     if shape in LINES:
         f = int(f_word)
-        text = one_line(shape, MAX_BYTES // part)
-        about = {"processes": 0, "entries": 0, "deliveries": 0, "listed": 0, "answer": "fault line=1 Form", "status": 2}
+        text, line = hostile_lines(shape, MAX_BYTES // part)
+        about = {"processes": 0, "entries": 0, "deliveries": 0, "listed": 0, "answer": f"fault line={line} Form", "status": 2}
     else:
         text, n, entries = made(shape, part, seed)
         f = generate.f_of(f_word, n)

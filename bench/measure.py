@@ -17,6 +17,7 @@ import hostile
 import runtime_log
 from texts import make_inputs, path_of
 from measure_runtime import measure_runtime
+from measure_reading import measure_reading
 from measure_shown import measure_shown
 from timed import HERE, INPUTS, LIMIT, SLOW, TURNS, measure, measure_in_turn, ratio, ratio_in_turn, target_line
 
@@ -112,7 +113,7 @@ def plan():
     shapes = [shape for shape in generate.SHAPES if shape != "line"]
     rows = [("lists", "safe", "1", 1), ("line", "safe", "1", 1)]
     rows += [(shape, "hostile", f, 1) for shape in hostile.SHAPES for f in ("1", "0")]
-    rows += [(shape, "hostile", "1", 1) for shape in hostile.LINES]
+    rows += [(shape, "hostile", "1", workers) for shape in hostile.LINES for workers in (1, 4)]
     rows += [(shape, "safe", "1", 1) for shape in shapes if shape != "lists"]
     rows += [(shape, "safe", "1", workers) for shape in shapes for workers in (2, 4)]
     return rows + [(shape, "breach", f, 1) for f in FAULTS for shape in shapes]
@@ -413,7 +414,7 @@ def facts_of(part, given, load, start):
     }
     if part not in AUDITS:
         del facts["Yardsticks"]
-    if part not in (*AUDITS, "shown"):
+    if part not in (*AUDITS, "shown", "reading"):
         del facts["Seed"]
     return "\n".join(f"- {name}: {value}" for name, value in facts.items())
 
@@ -443,12 +444,14 @@ SECTIONS = {
     "stable": "Audit where each determinant is stable at once",
     "hostile": "Audit of hostile traces for other numbers of faults",
     "shown": "Why a verdict is so",
+    "reading": "Reading by several workers",
 }
 MEASURES = {
     "runtime": lambda given, start: measure_runtime(given, earlier("Runtime")),
     "log": lambda given, start: runtime_log.section(),
     **{part: lambda given, start, part=part: measure_audit(given, start, part) for part in AUDITS},
     "shown": lambda given, start: measure_shown(given, earlier("Why a verdict is so")),
+    "reading": lambda given, start: measure_reading(given),
 }
 
 
@@ -461,6 +464,7 @@ def words():
                        help="no row of a section of the audit is begun after so many seconds of it (1000)")
     words.add_argument("--core-seconds", type=int, default=2, help="how long a core delivers at most (2)")
     words.add_argument("--part", type=int, default=1, help="scripts and calls of the runtime are divided by this (1)")
+    words.add_argument("--long", action="store_true", help="for `reading`: runs of four million entries too")
     words.add_argument("--commit", help="the commit of the program, if it is not the one that is checked out")
     words.add_argument("--out", default=RESULTS, help="the file to write, if it is not RESULTS.md")
     return words.parse_args()

@@ -47,11 +47,20 @@ class Generated(unittest.TestCase):
                     self.assertEqual(len(reader.entries), about["entries"])
 
     def test_hostile_lines(self):
-        for shape in hostile.LINES:
+        for shape in hostile.ONE_LINE:
             text, about = hostile.make(shape, "1", PART)
             self.assertLessEqual(len(text), generate.MAX_BYTES // PART)
             self.assertGreater(len(text), generate.MAX_BYTES // PART - 600)
             self.assertIsInstance(json.loads(text), list)
+
+    def test_short_lines(self):
+        text, about = hostile.make("short lines", "1", PART)
+        self.assertLessEqual(len(text), generate.MAX_BYTES // PART)
+        lines = text.splitlines()
+        entries = [tuple(json.loads(line)) for line in lines[1:] if line.startswith('["send"')]
+        self.assertEqual(entries, [("send", 0, 1, number) for number in range(hostile.BEFORE)])
+        self.assertEqual(about["answer"], f"fault line={len(entries) + 2} Form")
+        self.assertTrue(all(hostile.SHORT - 16 < len(line) <= hostile.SHORT for line in lines[len(entries) + 1 :]))
 
     def test_one_line(self):
         text, about = generate.make("line", "safe", "1", PART)

@@ -23,6 +23,7 @@ HERE = os.path.dirname(os.path.abspath(__file__))
 PROGRAM = os.path.join(os.path.dirname(HERE), "crates", "causal_tool", "out", "causal_tool")
 CHUNK = 250  # cases that one worker makes from one seed
 KINDS = ("ring", "echo", "tally")
+PADDED = 1 / 40  # of the texts of `audit` so many are so long that all workers read them
 LONG = 1 / 800  # of the traces so many have more deliveries that stay open than one worker follows at once
 
 
@@ -175,7 +176,7 @@ def long_run(rng):
 def long_case(rng):
     n, lines = long_run(rng)
     f = rng.choice((n, n, 65535, n - 1))
-    workers = rng.choice((2, 3, 5, 16, 64))
+    workers = rng.choice((2, 3, 16, 64))
     text = ("\n".join(lines) + "\n").encode()
     return ["audit", "--faults", str(f), "--workers", str(workers)], text, lambda _: traces.audited(text, f)
 
@@ -223,6 +224,13 @@ def damaged(rng, lines):
     return text
 
 
+def padded(rng, text):
+    """The text with blanks before each line, some 150,000 in all, so that it is read in chunks."""
+    lines = text.split(b"\n")
+    most = 300_000 // len(lines)
+    return b"\n".join(b" " * rng.randrange(most) + line for line in lines)
+
+
 def number_places(line):
     start = None
     for i, letter in enumerate(line + " "):
@@ -238,8 +246,10 @@ def audit_case(rng):
         return long_case(rng)
     lines = recorded_run(rng) if rng.random() < 0.3 else random_trace(rng)
     f = rng.choice((0, 1, 1, 1, 2, 2, 3, 5, 65535))
-    words = ["audit", "--faults", str(f), "--workers", str(rng.choice((1, 1, 2, 3, 5)))]
+    words = ["audit", "--faults", str(f), "--workers", str(rng.choice((1, 2, 3, 16)))]
     text = damaged(rng, lines)
+    if rng.random() < PADDED:
+        text = padded(rng, text)
     if rng.random() < 0.2:
         return [*words, "--until-breach"], text, lambda _: traces.audited_until_breach(text, f)
     return words, text, lambda _: traces.audited(text, f)

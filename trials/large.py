@@ -13,7 +13,7 @@ import fuzz
 import scripts
 import traces
 
-WORKERS = (1, 2, 3, 5, 64)
+WORKERS = (1, 2, 3, 16, 64)
 
 
 def text_of(n, entries):

@@ -1,6 +1,6 @@
 #!/usr/bin/env python3
-"""Pipes runs that never end into the built program. Each breaks at a known instant, and the program has to end by itself with that
-verdict, without reading far beyond the look that finds it.
+"""Pipes runs into the built program, and never ends the pipe. Each breaks at a known instant, and the program has to end by itself with that
+verdict, without reading far beyond the look that finds it; or it has a fault, which must be told by any number of workers though the pipe is open.
 
     trials/live.py [--program PATH]
 """
@@ -48,20 +48,22 @@ def look_at(instant):
     return 1 << (instant - 1).bit_length()
 
 
-def pieces(lines, size):
-    """The bytes of the lines in pieces of this size."""
+def pieces(lines, size, whole=False):
+    """The bytes of the lines in pieces of this size; if they are wanted whole, what is left after the last in a shorter one."""
     held = b""
     for line in lines:
         held += line.encode()
         while len(held) >= size:
             yield held[:size]
             held = held[size:]
+    if whole:
+        yield held
 
 
 def answered(program, words, parts, most):
-    """The answer and the status of the program, into which these parts are piped until nobody reads them; the pipe stays open. It may
+    """The answer and the status of `audit`, into which these parts are piped until nobody reads them; the pipe stays open. It may
     take so many bytes."""
-    running = subprocess.Popen([program, "audit", "--until-breach", *words], stdin=subprocess.PIPE, stdout=subprocess.PIPE, stderr=subprocess.DEVNULL)
+    running = subprocess.Popen([program, "audit", *words], stdin=subprocess.PIPE, stdout=subprocess.PIPE, stderr=subprocess.DEVNULL)
     written = 0
     try:
         while written <= most and (part := next(parts, None)):
@@ -77,19 +79,27 @@ def answered(program, words, parts, most):
 
 def trials():
     """Names, words, what is piped in, the answer, and how many bytes have to be read for it."""
-    long = ("--faults", "1", "--entries", "16777216")
+    read = ("--faults", "1", "--entries", "16777216")
+    for workers in (1, 2, 3, 16):
+        for fault in (20, 2_500, 20_000):
+            lines = [*itertools.islice(ring(None), fault - 1), "[]\n"]
+            said = f"fault line={fault} Form\n", 2
+            for size in (4_096, 65_536):
+                yield f"fault at line {fault}, {workers} workers, pieces of {size}", (*read, "--workers", str(workers)), pieces(lines, size, True), said, sum(map(len, lines))
+    long = ("--until-breach", *read)
     for broken in (1, 2_047, 2_048, 50_000):
         look = look_at(2 * broken + 2)
         needed = sum(map(len, itertools.islice(ring(broken), look + 1)))
         said = f"{verdict(broken)} read={look}\n", 1
         for size in (4_096, 1_000, 65_536):
             yield f"broken at {broken}, pieces of {size}", long, pieces(ring(broken), size), said, needed
-        yield f"broken at {broken}, four workers", (*long, "--workers", "4"), pieces(ring(broken), 4_096), said, needed
+        for workers in ("2", "3", "16"):
+            yield f"broken at {broken}, {workers} workers", (*long, "--workers", workers), pieces(ring(broken), 4_096), said, needed
         yield f"broken at {broken}, and no more", long, map(str.encode, itertools.islice(ring(broken), look + 1)), said, needed
     bound = 5_000
     needed = sum(map(len, itertools.islice(ring(None), bound + 2)))
     safe = pieces(ring(None), 4_096)
-    yield "never broken", ("--faults", "1", "--entries", str(bound)), safe, (f"fault line={bound + 2} TooLong\n", 2), needed
+    yield "never broken", ("--until-breach", "--faults", "1", "--entries", str(bound)), safe, (f"fault line={bound + 2} TooLong\n", 2), needed
 
 
 def main():
