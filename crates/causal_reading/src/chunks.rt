@@ -55,7 +55,7 @@ fn feed_chunks<R: Threads>(
     if chunks < 2 {
         return feed_here(reader, bytes);
     }
-    let (front, last) = split_lines(bytes, bytes.len() - bytes.len() / chunks);
+    let (front, last) = split_lines(bytes, front_len(bytes.len(), chunks));
     if last.is_empty() {
         return feed_chunks(rt, alloc, reader, bytes, chunks - 1);
     }
@@ -68,6 +68,17 @@ fn feed_chunks<R: Threads>(
     { feed_chunks(rt, alloc, reader, front, chunks - 1) };
     let (parsed, fed) = join(rt, parse, feed);
     feed_after(fed, parsed)
+}
+
+/// Returns about how many of `len` bytes lie before the last chunk. The lengths of the chunks are as 3 to 4 to 5 and so
+/// on, since the calling thread has to check the lines of one before it needs the next.
+fn front_len(len: usize, chunks: usize) -> usize
+    requires { 2 ≤ chunks }
+    ensures { result ≤ len }
+{
+    let mean = len / chunks;
+    let more = (mean / chunks.saturating_add(5)).saturating_mul(chunks - 1);
+    (len - mean).saturating_sub(more)
 }
 
 /// Reads a parsed chunk after the bytes before it.
