@@ -8,6 +8,7 @@ pub mod BreachOfVerdict
 pub mod Numbers
 pub mod Parts
 pub mod Quiet
+pub mod Searches
 pub mod Covered
 pub mod NewOrphans
 pub mod Verdicts

@@ -17,6 +17,8 @@ pub mod breach;
 pub mod excess;
 /// The verdict by vector clocks.
 pub mod clock_audit;
+/// A run indexed for its audit, and the search for the deliveries that must be followed.
+pub mod indexed_run;
 /// The laws behind the audit.
 pub mod laws;
 /// A run prepared for its audit, and parts of its deliveries.
@@ -45,6 +47,7 @@ pub use audit::{earliest_breach, horizon_of, verdict_of};
 pub use breach::{Breach, Excess, earlier_breach};
 pub use clock_audit::{decide_verdict, first_breach, first_excess, judge};
 pub use excess::{first_excess_in, last_deciding_instant};
+pub use indexed_run::{IndexedRun, OpenDeliveries};
 pub use prepared_run::{Part, PreparedRun};
 pub use tables::Tables;
 pub use verdict::Verdict;

@@ -1,18 +1,15 @@
 //! A recorded run prepared for its audit, and parts of its deliveries.
 ghost use Rattle.std.specs.Prelude.{◌≡◌, ◌<◌, ◌≤◌, IfOk, length};
-ghost use Rattle.causal_trace.specs.Past.{instant};
 ghost use Rattle.causal_audit.specs.Parts.{AreSufficient, EarliestOf, part_of};
-ghost use Rattle.causal_audit.specs.Inside.Index.RunIndexes.{IsMentionIndex};
-ghost use Rattle.causal_audit.specs.Inside.Group.OpenDeliveries.{AreAllOpen, search_scope};
+ghost use Rattle.causal_audit.specs.Searches.{IsSearched, delivery_count};
 
 use crate::breach::Breach;
 use crate::group::walk::GROUP;
 use crate::group::walk_input::{OpenDelivery, WalkInput};
 use crate::group::walk_order::sort_for_groups;
 use crate::index::indexed_trace::IndexedTrace;
-use crate::index::mentions::Mentions;
 use crate::index::run_index::RunIndex;
-use crate::safety_scan::open_delivery_search::open_deliveries_of;
+use crate::indexed_run::{IndexedRun, OpenDeliveries};
 use causal_name::NoMemory;
 use causal_trace::trace::Trace;
 use std::alloc::Global;
@@ -45,9 +42,7 @@ impl PreparedRun {
     /// Prepares a trace for f up to the instant `end`, which is at most its length. It scans each determinant once to
     /// find the deliveries that need not be followed. The earliest breach of the others is that of the run.
     ///
-    /// Takes O(entries + determinants listed before the end) time and memory, and O(log intervals) time for each
-    /// delivery, for the intervals that its scan found. A scan passes the mentions of its determinant, and the restarts
-    /// of processes that were down or held it.
+    /// Takes what [`IndexedRun::of`] and [`IndexedRun::open_deliveries`] take.
     ///
     /// # Errors
     /// `NoMemory` if allocation fails.
@@ -56,18 +51,28 @@ impl PreparedRun {
         ensures run { IfOk result (λ prepared. prepared.run ≡ trace.now.recording) }
         ensures sufficient { IfOk result (AreSufficient trace.now.recording f end) }
     {
-        let index = RunIndex::of(alloc, trace, end)?;
-        let indexed_trace = IndexedTrace {
-            trace,
-            transitions: &index.transitions,
-        };
-        let candidates = deliveries_to_follow(alloc, indexed_trace, &index.mentions, f, end)?;
+        let indexed = IndexedRun::of(alloc, trace, f, end)?;
+        let found = indexed.open_deliveries(alloc, trace, 0, indexed.deliveries())?;
+        PreparedRun::from_search(indexed, found)
+    }
+
+    /// Prepares an indexed run, given the result of the whole search for the deliveries that must be followed.
+    ///
+    /// # Errors
+    /// `NoMemory` if allocation fails.
+    pub fn from_search(indexed: IndexedRun, found: OpenDeliveries) -> Result<PreparedRun, NoMemory>
+        requires { IsSearched indexed 0 (delivery_count indexed) found }
+        ensures run { IfOk result (λ prepared. prepared.run ≡ indexed.run) }
+        ensures sufficient { IfOk result (AreSufficient indexed.run indexed.f indexed.end) }
+    {
+        let mut candidates = found.candidates;
+        sort_for_groups(&mut candidates)?;
         Ok(PreparedRun {
-            run: Snapshot::of(trace),
-            index,
-            f,
-            end,
-            candidates: candidates,
+            run: indexed.run,
+            index: indexed.index,
+            f: indexed.f,
+            end: indexed.end,
+            candidates,
         })
     }
 
@@ -135,28 +140,6 @@ impl PreparedRun {
         let whole = self.part(trace, 0, self.followed_count());
         whole.earliest_breach(alloc)
     }
-}
-
-/// Returns the deliveries of a run before the instant `end` that must be followed, in walk order.
-///
-/// # Errors
-/// `NoMemory` if allocation fails.
-fn deliveries_to_follow(
-    alloc: Global,
-    indexed_trace: IndexedTrace<'_>,
-    mentions: &Mentions,
-    f: u16,
-    end: u32,
-) -> Result<Vec<OpenDelivery>, NoMemory>
-    requires within { end ≤ length indexed_trace.trace.now.recording.past }
-    requires mentioned { IsMentionIndex indexed_trace.trace.now.recording.past
-        (instant indexed_trace.trace.now.recording.past end) mentions.now }
-    ensures { IfOk result
-        (λ candidates. AreAllOpen (search_scope indexed_trace.entry.trace.now.recording f end) candidates.items) }
-{
-    let mut candidates = open_deliveries_of(alloc, indexed_trace, mentions, f, end)?;
-    sort_for_groups(&mut candidates)?;
-    Ok(candidates)
 }
 
 /// Estimates the number of entries of one walk, by the first delivery of its group.

@@ -1,15 +1,19 @@
 -- The search for open deliveries, determinant by determinant.
-use Rattle.causal_audit.proofs.Common.{ℕ, ◌≡◌, ◌+◌, ◌<◌, ◌≤◌, inl, inr, Bool, true, false, List, [], ◌∷◌, ◌++◌, length, Some, refl, sym, ap, subst, ◌∙◌, arith, ◌==◌, set, slice_index, Contains, map-append, All-push, Contains-append_left, cases_lt, cond-true, cond-false, eq-eqb, eqb_tells, get_or-set_other, Det, same_det, Entry, Send, Deliver, Stable, Crash, Restart, Forget, deliveries_in, det_at, det_of, det_then, instant, instant_length, AreLegalEntries}
+use Rattle.causal_audit.proofs.Common.{ℕ, ◌≡◌, ◌+◌, ◌<◌, ◌≤◌, inl, inr, true, List, [], ◌∷◌, ◌++◌, length, Option, None, Some, refl, sym, ap, subst, ◌∙◌, arith, ◌==◌, slice_index, Contains, map-append, All-push, All-nil, Contains-append_left, Contains-append_right, Contains-permutation, IsPermutation, IsPermutation-map, All-permutation, cases_lt, cond-true, cond-false, eq-eqb, ltb-true, ltb-false, Det, same_det, Entry, Send, Deliver, Stable, Crash, Restart, Forget, deliveries_in, det_at, det_of, det_then, instant, instant_length, AreLegalEntries}
 use Rattle.std.proofs.lemmas.Bool.{lt-ltb}
+use Rattle.std.proofs.lemmas.List.Elements.{All-append}
 use Rattle.causal_trace.specs.Numbers.{delivered_dets, number_of}
+use Rattle.causal_trace.proofs.Lemmas.DeliveryNumbers.{number_among, number_below}
 use Rattle.causal_audit.specs.Numbers.{ArePositions, is_delivery, IsNumbered}
 use Rattle.causal_audit.specs.declared.group.walk_input.OpenDelivery.{OpenDelivery}
-use Rattle.causal_audit.specs.Inside.Group.OpenDeliveries.{AreCheckedSoFar, AreFollowed, AreAllOpen, SearchScope, IsDeliveryAt, IsOpenDelivery, IsListedOrSafe, delivery_count, is_marked, positions_of}
-use Rattle.causal_audit.proofs.DeliveryNumbers.{numbered_below, numbered_later, numbered_one, numbered_some}
+use Rattle.causal_audit.specs.Searches.{SearchScope, IncludeUnsafe, IsNewest, delivery_count}
+use Rattle.causal_audit.specs.Inside.Index.Lists.{AreOwned, list_at}
+use Rattle.causal_audit.specs.Inside.Group.OpenDeliveries.{AreFollowed, AreAllOpen, AreListedOrSafe, AreOpenBetween, HasMore, IsDeliveryAt, IsOpenDelivery, IsListedOrSafe, positions_of}
+use Rattle.causal_audit.proofs.DeliveryNumbers.{numbered_below, numbered_later, numbered_some}
 use Rattle.causal_audit.proofs.Lemmas.NumberLemmas.{has_number}
 use Rattle.causal_audit.proofs.NoOrphanSoFar.{not_yet}
 use Rattle.causal_audit.proofs.group.OpenPositions.{position}
-use Rattle.causal_audit.proofs.index.Filings.{numbers_apart, same_is}
+use Rattle.causal_audit.proofs.index.Filings.{found_below, number_of_found, numbers_apart, same_is}
 
 -- ==== deliveries by their numbers and by their determinants
 
@@ -56,43 +60,136 @@ det_of_number n past formed j k d is numbered =
     let same : some.0 ≡ d = same_is some.0 d (numbers_apart (j + 1) (delivered_dets past) some.0 d j (number_of_own n past formed j k some.0 numbered some.1) is) in
     some.1 ∙ ap (λ x. Some x) same
 
+-- ==== the newest delivery with a determinant
+
+-- among more deliveries the newest is no older
+pub newest_later : (m n : ℕ) (dets : List Det) (d : Det) (i j : ℕ) → m ≤ n → number_of m dets d ≡ Some i → number_of n dets d ≡ Some j → i ≤ j
+newest_later m n [] d i j wider at to = absurd (let x : None ≡ Some i = at in cc)
+newest_later m n (x ∷ older) d i j wider at to =
+    grind (arith, cond-true, cond-false, lt-ltb, ltb-true, ltb-false, found_below, number_below m older d, newest_later m n older d i j wider)
+
+-- among more deliveries there is one too
+pub newest_there : (m n : ℕ) (dets : List Det) (d : Det) (i : ℕ) → m ≤ n → number_of m dets d ≡ Some i → number_of n dets d ≡ None → ⊥
+newest_there m n [] d i wider at to = let x : None ≡ Some i = at in cc
+newest_there m n (x ∷ older) d i wider at to = grind (arith, cond-true, cond-false, lt-ltb, ltb-true, ltb-false, newest_there m n older d i wider)
+
+-- the newest among more deliveries is the newest among fewer, if it is one of them
+pub newest_among_fewer : (m n : ℕ) (dets : List Det) (d : Det) (i : ℕ) → i < m → m ≤ n → number_of n dets d ≡ Some i → number_of m dets d ≡ Some i
+newest_among_fewer m n [] d i low wider at = absurd (let x : None ≡ Some i = at in cc)
+newest_among_fewer m n (x ∷ older) d i low wider at =
+    grind (arith, cond-true, cond-false, lt-ltb, ltb-true, ltb-false, found_below, number_below n older d, newest_among_fewer m n older d i low wider)
+
+some_number : (o : Option ℕ) → (o ≡ None → ⊥) → (i : ℕ) × (o ≡ Some i)
+some_number None there = absurd (there refl)
+some_number (Some i) there = (i, refl)
+
+-- a delivery before the end has a newest one with its determinant, at its own number or later
+pub has_newest : (scope : SearchScope) → AreLegalEntries scope.run.processes scope.run.past → scope.end ≤ length scope.run.past → (k : ℕ) (d : Det) → k < scope.end → det_at scope.run.past k ≡ Some d → (i : ℕ) × IsNewest scope d i × (i < delivery_count scope)
+has_newest scope formed within k d early at =
+    let past = scope.run.past in
+    let dets = delivered_dets past in
+    let count = delivery_count scope in
+    let number = has_number (instant past scope.end) k d (det_then past scope.end k early within ∙ at) in
+    let own = number_of_own scope.run.processes past formed number.0 k d (numbered_later past scope.end number.0 k within number.2) at in
+    let newest = some_number (number_of count dets d) (λ none. newest_there (number.0 + 1) count dets d number.0 (omega (arith, number.1)) own none) in
+    (newest.0, newest.1, found_below (number_of count dets d) count newest.0 (number_among count dets d) newest.1)
+
+-- the deliveries with a determinant, by their numbers
+module _ (scope : SearchScope) (formed : AreLegalEntries scope.run.processes scope.run.past) (i k : ℕ) (d : Det) (numbered : IsNumbered scope.run.past i k) (at : det_at scope.run.past k ≡ Some d) where
+  own : number_of (i + 1) (delivered_dets scope.run.past) d ≡ Some i
+  own = number_of_own scope.run.processes scope.run.past formed i k d numbered at
+
+  -- none is newer than the newest
+  pub no_newer : (newest : ℕ) → i < delivery_count scope → IsNewest scope d newest → i ≤ newest
+  no_newer newest low is = newest_later (i + 1) (delivery_count scope) (delivered_dets scope.run.past) d i newest (omega (arith, low)) own is
+
+  -- none lies between one and the next older
+  pub none_between : (number older : ℕ) → i < number → number_of number (delivered_dets scope.run.past) d ≡ Some older → i ≤ older
+  none_between number older low is = newest_later (i + 1) number (delivered_dets scope.run.past) d i older (omega (arith, low)) own is
+
+  -- none is older than the oldest
+  pub none_older : (number : ℕ) → number_of number (delivered_dets scope.run.past) d ≡ None → number ≤ i
+  none_older number is =
+      elim (cases_lt i number) [
+        | inl low ↦ absurd (newest_there (i + 1) number (delivered_dets scope.run.past) d i (omega (arith, low)) own is)
+        | inr high ↦ high
+      ]
+
+-- one number is that of one determinant
+pub one_determinant : (scope : SearchScope) (d e : Det) (i : ℕ) → IsNewest scope d i → number_of (i + 1) (delivered_dets scope.run.past) e ≡ Some i → d ≡ e
+one_determinant scope d e i newest own = same_is d e (numbers_apart (i + 1) (delivered_dets scope.run.past) d e i (number_of_found (delivery_count scope) (delivered_dets scope.run.past) d i newest) own)
+
+-- a delivery whose list has elements is the newest
+pub listed_newest : (scope : SearchScope) (lists : List (List ℕ)) (i v : ℕ) (d : Det) → AreOwned (delivered_dets scope.run.past) lists → Contains (list_at lists i) v → number_of (i + 1) (delivered_dets scope.run.past) d ≡ Some i → i < delivery_count scope → delivery_count scope ≤ length lists
+    → IsNewest scope d i
+listed_newest scope lists i v d owned has own low wide = newest_among_fewer (delivery_count scope) (length lists) (delivered_dets scope.run.past) d i low wide (owned i v d has own)
+
 -- ==== deliveries that are listed or have no orphan
 
--- with one more delivery listed, the earlier ones remain listed, and it is listed
+-- nothing more is listed
+pub no_more : (scope : SearchScope) (listed : List OpenDelivery) → HasMore scope listed listed
+no_more scope listed = record { followed = λ so_far. so_far; listed = λ k told. told }
+
+-- more is listed in two steps
+pub more_twice : (scope : SearchScope) (a b c : List OpenDelivery) → HasMore scope a b → HasMore scope b c → HasMore scope a c
+more_twice scope a b c first second = record { followed = λ so_far. second.followed (first.followed so_far); listed = λ k told. second.listed k (first.listed k told) }
+
+-- with one more delivery listed, the earlier ones remain listed
 module _ (scope : SearchScope) (before : List OpenDelivery) (delivery : OpenDelivery) where
-  pub still_told : (k : ℕ) → IsListedOrSafe scope before k → IsListedOrSafe scope (before ++ delivery ∷ []) k
+  still_told : (k : ℕ) → IsListedOrSafe scope before k → IsListedOrSafe scope (before ++ delivery ∷ []) k
   still_told k (inl among) = inl (subst (λ list. Contains list k) (sym (map-append position before (delivery ∷ []))) (Contains-append_left (positions_of before) (delivery.position ∷ []) k among))
   still_told k (inr none) = inr none
 
-  pub more_followed : IsDeliveryAt scope.run.past delivery.position → IsOpenDelivery scope.run scope.f scope.end delivery → AreFollowed scope before → AreFollowed scope (before ++ delivery ∷ [])
+  more_followed : IsDeliveryAt scope.run.past delivery.position → IsOpenDelivery scope.run scope.f scope.end delivery → AreFollowed scope before → AreFollowed scope (before ++ delivery ∷ [])
   more_followed made later so_far = record {
     within = so_far.within;
     deliveries = All-push (λ (x : OpenDelivery). IsDeliveryAt scope.run.past x.position) before delivery so_far.deliveries made;
     none_later = All-push (IsOpenDelivery scope.run scope.f scope.end) before delivery so_far.none_later later;
   }
 
--- ---- marks
+  pub one_more_listed : IsDeliveryAt scope.run.past delivery.position → IsOpenDelivery scope.run scope.f scope.end delivery → HasMore scope before (before ++ delivery ∷ [])
+  one_more_listed made later = record { followed = more_followed made later; listed = still_told }
 
--- one more delivery is marked, and listed or without orphan
-pub one_asked : (scope : SearchScope) (marks : List Bool) (before after : List OpenDelivery) (i k : ℕ) → IsNumbered scope.run.past i k → (AreFollowed scope before → AreFollowed scope after) → ((j : ℕ) → IsListedOrSafe scope before j → IsListedOrSafe scope after j)
-    → IsListedOrSafe scope after k → AreCheckedSoFar scope marks before → AreCheckedSoFar scope (set marks i true) after
-one_asked scope marks before after i k numbered followed more told so_far = record {
-  followed = followed so_far.followed;
-  told = λ j m at marked. elim (eqb_tells j i) [
-    | inl same ↦ subst (IsListedOrSafe scope after) (numbered_one scope.run.past i k m numbered (subst (λ x. IsNumbered scope.run.past x m) same.1 at)) told
-    | inr other ↦ more m (so_far.told j m at (sym (get_or-set_other marks i j true false other.1) ∙ marked))
+-- no delivery
+pub nothing_listed : (scope : SearchScope) → scope.end ≤ length scope.run.past → (to : ℕ) → AreOpenBetween scope to to []
+nothing_listed scope within to = record {
+  followed = record { within = within; deliveries = All-nil (λ (x : OpenDelivery). IsDeliveryAt scope.run.past x.position); none_later = All-nil (IsOpenDelivery scope.run scope.f scope.end) };
+  all = λ k i d early at newest low high. absurd (omega (arith, low, high));
+}
+
+-- the part of one more number
+pub one_more_number : (scope : SearchScope) (number to : ℕ) (before after : List OpenDelivery) → HasMore scope before after → ((d : Det) → IsNewest scope d number → AreListedOrSafe scope after d) → AreOpenBetween scope (number + 1) to before → AreOpenBetween scope number to after
+one_more_number scope number to before after more told was = record {
+  followed = more.followed was.followed;
+  all = λ k i d early at newest low high. elim (cases_lt number i) [
+    | inl above ↦ more.listed k (was.all k i d early at newest (omega (arith, above)) high)
+    | inr there ↦ let same : i ≡ number = omega (arith, low, there) in told d (subst (IsNewest scope d) same newest) k early at
   ];
 }
 
--- if all deliveries are marked, all are listed or without orphan
-pub all_told : (scope : SearchScope) (marks : List Bool) (candidates : List OpenDelivery) → scope.end ≤ length scope.run.past → ((i : ℕ) → i < delivery_count scope → is_marked marks i ≡ true) → AreCheckedSoFar scope marks candidates → AreAllOpen scope candidates
-all_told scope marks candidates within marked so_far = record {
-  followed = so_far.followed;
+-- the deliveries of both
+pub both_followed : (scope : SearchScope) (a b : List OpenDelivery) → AreFollowed scope a → AreFollowed scope b → AreFollowed scope (a ++ b)
+both_followed scope a b first second = record {
+  within = first.within;
+  deliveries = All-append (λ (x : OpenDelivery). IsDeliveryAt scope.run.past x.position) a b first.deliveries second.deliveries;
+  none_later = All-append (IsOpenDelivery scope.run scope.f scope.end) a b first.none_later second.none_later;
+}
+
+-- two parts of a search
+pub parts_joined : (scope : SearchScope) (from mid to : ℕ) (later earlier : List ℕ) → IncludeUnsafe scope mid to later → IncludeUnsafe scope from mid earlier → IncludeUnsafe scope from to (later ++ earlier)
+parts_joined scope from mid to later earlier second first k i d early at newest low high =
+    elim (cases_lt i mid) [
+      | inl below ↦ elim (first k i d early at newest low below) [ inl among ↦ inl (Contains-append_right later earlier k among) | inr none ↦ inr none ]
+      | inr above ↦ elim (second k i d early at newest above high) [ inl among ↦ inl (Contains-append_left later earlier k among) | inr none ↦ inr none ]
+    ]
+
+-- the whole search
+pub all_told : (scope : SearchScope) (candidates : List OpenDelivery) → AreLegalEntries scope.run.processes scope.run.past → AreFollowed scope candidates → IncludeUnsafe scope 0 (delivery_count scope) (positions_of candidates) → AreAllOpen scope candidates
+all_told scope candidates formed followed told = record {
+  followed = followed;
   all = λ k early made.
-      let past = scope.run.past in
-      let at : det_at (instant past scope.end) k ≡ Some made.0 = det_then past scope.end k early within ∙ made.1 in
-      let number = has_number (instant past scope.end) k made.0 at in
-      so_far.told number.0 k (numbered_later past scope.end number.0 k within number.2) (marked number.0 number.1);
+      let newest = has_newest scope formed followed.within k made.0 early made.1 in
+      told k newest.0 made.0 early made.1 newest.1 (omega arith) newest.2;
 }
 
 -- deliveries after the end have no orphan by the end
@@ -104,3 +201,19 @@ any_other scope candidates gathered k d at =
           let size = instant_length scope.run.past t (omega (arith, in_time, gathered.followed.within)) in
           not_yet scope.run.processes scope.f (instant scope.run.past t) k (omega (arith, h, in_time, size)) has)
     ]
+
+-- the order of the listed deliveries does not matter
+pub in_any_order : (scope : SearchScope) (candidates sorted : List OpenDelivery) → IsPermutation candidates sorted → AreAllOpen scope candidates → AreAllOpen scope sorted
+in_any_order scope candidates sorted moved all =
+    let places : IsPermutation (positions_of candidates) (positions_of sorted) = IsPermutation-map position candidates sorted moved in
+    record {
+      followed = record {
+        within = all.followed.within;
+        deliveries = All-permutation (λ (x : OpenDelivery). IsDeliveryAt scope.run.past x.position) candidates sorted moved all.followed.deliveries;
+        none_later = All-permutation (IsOpenDelivery scope.run scope.f scope.end) candidates sorted moved all.followed.none_later;
+      };
+      all = λ k early made. elim (all.all k early made) [
+        | inl among ↦ inl (Contains-permutation (positions_of candidates) (positions_of sorted) k places among)
+        | inr none ↦ inr none
+      ];
+    }

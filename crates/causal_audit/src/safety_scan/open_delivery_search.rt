@@ -1,18 +1,18 @@
 //! The search for open deliveries: those that may be uncovered at some instant, and until when. It uses no clock.
-ghost use Rattle.std.specs.Prelude.{◌≡◌, ◌+◌, ◌≤◌, ◌<◌, [], ℕ, true, IfOk, OnOk, Some, length, slice_index_or};
+ghost use Rattle.std.specs.Prelude.{◌≡◌, ◌↔◌, ◌+◌, ◌≤◌, ◌<◌, ℕ, IfOk, IsTrue, OnOk, Some, length};
+ghost use Rattle.causal_name.specs.declared.Det.{Det};
 ghost use Rattle.causal_trace.specs.Numbers.{delivered_dets, number_of};
-ghost use Rattle.causal_trace.specs.Past.{det_at, instant};
+ghost use Rattle.causal_trace.specs.Past.{det_at};
+ghost use Rattle.causal_audit.specs.Numbers.{IsNumbered};
 ghost use Rattle.causal_audit.specs.Inside.Among.{HasNoOrphanFrom};
 ghost use Rattle.causal_audit.specs.Inside.SafetyScan.Scans.{AreAtRiskIntervals};
-ghost use Rattle.causal_audit.specs.Inside.Index.RunIndexes.{IsMentionIndex};
-ghost use Rattle.causal_audit.specs.Inside.Group.OpenDeliveries.{AreCheckedSoFar, AreFollowed, AreAllOpen, HasChecked, IsListedOrSafe, search_scope, delivery_count};
+ghost use Rattle.causal_audit.specs.Searches.{IsNewest, delivery_count};
+ghost use Rattle.causal_audit.specs.Inside.Group.OpenDeliveries.{AreListedOrSafe, AreOpenBetween, HasMore, IsListedOrSafe};
 
 use crate::group::walk_input::OpenDelivery;
-use crate::index::departures::departures_of;
 use crate::index::indexed_trace::IndexedTrace;
 use crate::index::mentions::Mentions;
-use crate::index::positions::positions_of;
-use crate::index::reachability::{reachable_from, reachable_sets};
+use crate::index::reachability::reachable_from;
 use crate::safety_scan::SafetyScan;
 use crate::safety_scan::at_risk_intervals::AtRiskIntervals;
 use causal_holders::Holders;
@@ -26,17 +26,18 @@ use std::marker::Model;
 /// and `end`.
 #[derive(Drop)]
 pub struct OpenDeliverySearch<'a, 'r> {
-    indexed_trace: IndexedTrace<'r>,
-    mentions: &'a Mentions,
-    departures: &'a [u32],
-    reached: &'a [Holders],
-    positions: &'a [u32],
-    f: u16,
-    end: u32,
+    pub indexed_trace: IndexedTrace<'r>,
+    pub mentions: &'a Mentions,
+    pub departures: &'a [u32],
+    pub reached: &'a [Holders],
+    pub positions: &'a [u32],
+    pub f: u16,
+    pub end: u32,
 }
 
 impl<'a, 'r> Model for OpenDeliverySearch<'a, 'r> {
-    ghost use Rattle.causal_audit.specs.Inside.Group.OpenDeliveries.{SearchScope, IsOpenDeliverySearch};
+    ghost use Rattle.causal_audit.specs.Searches.{SearchScope};
+    ghost use Rattle.causal_audit.specs.Inside.Group.OpenDeliveries.{IsOpenDeliverySearch};
 
     ghost Value = { SearchScope };
 
@@ -98,11 +99,8 @@ impl OpenDeliverySearch<'_, '_> {
         requires early { k < self.now.end }
         requires at_risk { AreAtRiskIntervals self.now.run.processes self.now.f
             self.now.run.past det (self.now.end + 1) at_risk.now }
-        ensures followed { OnOk result (AreFollowed self.now found.old.items →
-            AreFollowed self.now found.new.items) }
+        ensures more { OnOk result (HasMore self.now found.old.items found.new.items) }
         ensures listed { OnOk result (IsListedOrSafe self.now found.new.items k) }
-        ensures more { OnOk result ((j : ℕ) → IsListedOrSafe self.now found.old.items j →
-            IsListedOrSafe self.now found.new.items j) }
     {
         let until = self.open_until(at_risk, k, det);
         if until == 0 {
@@ -112,145 +110,113 @@ impl OpenDeliverySearch<'_, '_> {
         Ok(())
     }
 
-    /// Checks delivery number `number`, given the scan of its determinant: appends it to the open deliveries if it may
-    /// be uncovered, and marks it as checked.
+    /// Appends delivery number `number` to the open deliveries, if it may be uncovered, given the scan of its
+    /// determinant.
     fn check_delivery(
         &self,
         at_risk: &AtRiskIntervals,
         det: Det,
         number: u32,
-        checked: &mut Vec<bool>,
         found: &mut Vec<OpenDelivery>,
     ) -> Result<(), NoMemory>
         requires few { number < delivery_count self.now }
-        requires count { length checked.old.items ≡ delivery_count self.now }
         requires own { number_of (number + 1) (delivered_dets self.now.run.past) det ≡ Some number }
         requires at_risk { AreAtRiskIntervals self.now.run.processes self.now.f
             self.now.run.past det (self.now.end + 1) at_risk.now }
-        ensures { OnOk result (HasChecked self.now number checked.old.items checked.new.items
-            found.old.items found.new.items) }
+        ensures more { OnOk result (HasMore self.now found.old.items found.new.items) }
+        ensures listed { OnOk result ((k : ℕ) → IsNumbered self.now.run.past number k →
+            IsListedOrSafe self.now found.new.items k) }
     {
         self.collect_if_open(at_risk, self.positions[number as usize], det, found)?;
-        checked[number as usize] = true;
         Ok(())
     }
 
-    /// Checks delivery number `newest` and each older one with the same determinant, given its scan.
+    /// Checks the newest delivery with a determinant, which is number `newest`, and each older one, given the scan.
     fn check_sharers(
         &self,
         at_risk: &AtRiskIntervals,
         det: Det,
         newest: u32,
-        checked: &mut Vec<bool>,
         found: &mut Vec<OpenDelivery>,
     ) -> Result<(), NoMemory>
-        requires few { newest < delivery_count self.now }
-        requires count { length checked.old.items ≡ delivery_count self.now }
-        requires own { number_of (newest + 1) (delivered_dets self.now.run.past) det ≡ Some newest }
+        requires newest { IsNewest self.now det newest }
         requires at_risk { AreAtRiskIntervals self.now.run.processes self.now.f
             self.now.run.past det (self.now.end + 1) at_risk.now }
-        ensures { OnOk result (HasChecked self.now newest checked.old.items checked.new.items
-            found.old.items found.new.items) }
+        ensures more { OnOk result (HasMore self.now found.old.items found.new.items) }
+        ensures listed { OnOk result (AreListedOrSafe self.now found.new.items det) }
     {
-        self.check_delivery(at_risk, det, newest, checked, found)?;
+        self.check_delivery(at_risk, det, newest, found)?;
         let mut number = newest;
         while let Some(older) = self.indexed_trace.trace.older_delivery(det, number) {
-            self.check_delivery(at_risk, det, older, checked, found)?;
+            self.check_delivery(at_risk, det, older, found)?;
             number = older;
         }
         Ok(())
     }
 
-    /// Scans the determinant of delivery number `newest`, and checks this delivery and each older one with the same
-    /// determinant.
+    /// Returns whether delivery number `number`, which has this determinant, is the newest with it before the end. A
+    /// determinant that is mentioned has its list at its newest delivery, so mostly nothing is searched.
+    fn is_newest(&self, det: Det, number: u32) -> bool
+        requires few { number < delivery_count self.now }
+        requires own { number_of (number + 1) (delivered_dets self.now.run.past) det ≡ Some number }
+        ensures { IsTrue result ↔ IsNewest self.now det number }
+    {
+        let before_end = self.positions.len();
+        let own = self.mentions.lists.get(number as usize);
+        if !own.is_empty() && before_end <= self.mentions.lists.len() {
+            return true;
+        }
+        self.indexed_trace.trace.delivery_of(det, before_end) == Some(number)
+    }
+
+    /// Scans the determinant of delivery number `number`, if no newer delivery has it, and checks each delivery with it.
     fn check_determinant(
         &self,
         alloc: Global,
-        newest: u32,
-        checked: &mut Vec<bool>,
+        number: u32,
         found: &mut Vec<OpenDelivery>,
     ) -> Result<(), NoMemory>
-        requires few { newest < delivery_count self.now }
-        requires count { length checked.old.items ≡ delivery_count self.now }
-        ensures { OnOk result (HasChecked self.now newest checked.old.items checked.new.items
-            found.old.items found.new.items) }
+        requires few { number < delivery_count self.now }
+        ensures more { OnOk result (HasMore self.now found.old.items found.new.items) }
+        ensures listed { OnOk result ((det : Det) → IsNewest self.now det number →
+            AreListedOrSafe self.now found.new.items det) }
     {
         let Some(det) = self
             .indexed_trace
             .trace
-            .det_at(self.positions[newest as usize])
+            .det_at(self.positions[number as usize])
         else {
             unreachable!()
         };
-        let at_risk = self.scan_determinant(alloc, det, newest)?;
-        self.check_sharers(&at_risk, det, newest, checked, found)
+        if !self.is_newest(det, number) {
+            return Ok(());
+        }
+        let at_risk = self.scan_determinant(alloc, det, number)?;
+        self.check_sharers(&at_risk, det, number, found)?;
+        Ok(())
     }
 
-    /// Returns the deliveries before the end that may be uncovered. Each, from the newest on, is checked with all older
-    /// ones that share its determinant, and skipped if it was checked already. So each determinant is scanned once, and
-    /// one scan is in memory at a time.
+    /// Returns the deliveries before the end that may be uncovered, of those whose determinant is last delivered by a
+    /// delivery numbered `from` to below `to`. Each determinant is scanned once, and one scan is in memory at a time.
     ///
     /// # Errors
     /// `NoMemory` if allocation fails.
-    fn open_deliveries(&self, alloc: Global) -> Result<Vec<OpenDelivery>, NoMemory>
-        ensures { IfOk result (λ candidates. AreAllOpen self.now candidates.items) }
-    {
-        let mut checked = vec![in alloc; false; self.positions.len()]?;
-        self.collect_open(alloc, &mut checked)
-    }
-
-    /// Returns the deliveries before the end that may be uncovered. No delivery may be marked as checked at the call.
-    fn collect_open(
+    pub fn open_deliveries(
         &self,
         alloc: Global,
-        checked: &mut Vec<bool>,
+        from: u32,
+        to: u32,
     ) -> Result<Vec<OpenDelivery>, NoMemory>
-        requires none { AreCheckedSoFar self.now checked.old.items [] }
-        requires count { length checked.old.items ≡ delivery_count self.now }
-        ensures { IfOk result (λ candidates. AreAllOpen self.now candidates.items) }
+        requires within { self.now.end ≤ length self.now.run.past }
+        requires numbers { to ≤ delivery_count self.now }
+        ensures { IfOk result (λ candidates. AreOpenBetween self.now from to candidates.items) }
     {
         let mut found = Vec::new(alloc);
-        let mut number = self.positions.len() as u32;
-        while number > 0 {
+        let mut number = to;
+        while number > from {
             number -= 1;
-            if checked[number as usize] {
-                continue;
-            }
-            self.check_determinant(alloc, number, checked, &mut found)?;
+            self.check_determinant(alloc, number, &mut found)?;
         }
         Ok(found)
     }
-}
-
-/// Returns the deliveries of a run before the instant `end` that may have an orphan for f by then.
-///
-/// # Errors
-/// `NoMemory` if allocation fails.
-pub fn open_deliveries_of(
-    alloc: Global,
-    indexed_trace: IndexedTrace<'_>,
-    mentions: &Mentions,
-    f: u16,
-    end: u32,
-) -> Result<Vec<OpenDelivery>, NoMemory>
-    requires within { end ≤ length indexed_trace.trace.now.recording.past }
-    requires mentioned { IsMentionIndex indexed_trace.trace.now.recording.past
-        (instant indexed_trace.trace.now.recording.past end) mentions.now }
-    ensures { IfOk result
-        (λ candidates. AreAllOpen (search_scope indexed_trace.entry.trace.now.recording f end) candidates.items) }
-{
-    let entries = indexed_trace.trace.entries();
-    let departures = departures_of(alloc, entries)?;
-    let reached = reachable_sets(alloc, indexed_trace.trace)?;
-    let positions = positions_of(alloc, &entries[..end as usize])?;
-    let survey = OpenDeliverySearch {
-        indexed_trace: indexed_trace,
-        mentions,
-        departures: departures.as_slice(),
-        reached: reached.as_slice(),
-        positions: positions.as_slice(),
-        f,
-        end,
-    };
-    survey.open_deliveries(alloc)
 }

@@ -1,10 +1,10 @@
--- The open deliveries of a run, the scope of their search, and its progress.
-use Rattle.std.specs.Prelude.{◌≡◌, ℕ, ◌≤◌, Bool, true, List, length, map, Some, ◌<◌, ◌⊎◌, false, Contains, slice_index_or}
+-- The open deliveries of a run, and the progress of their search.
+use Rattle.std.specs.Prelude.{◌≡◌, ℕ, ◌≤◌, List, length, map, Some, ◌<◌}
 use Rattle.causal_audit.specs.Inside.Common.{All, Det, Entry, det_at, instant, Recording, IsWellFormed, IsNonDecreasingBy, FinSet, max_entries, nat_cmp}
-use Rattle.causal_trace.specs.Past.{deliveries_in}
-use Rattle.causal_audit.specs.Numbers.{ArePositions, IsNumbered}
+use Rattle.causal_audit.specs.Numbers.{ArePositions}
+pub use Rattle.causal_audit.specs.Searches.{SearchScope, IncludeUnsafe, IsAmongOrSafe, delivery_count, search_scope}
 use Rattle.causal_audit.specs.Inside.Index.Reachability.{AreReached}
-use Rattle.causal_audit.specs.Inside.Among.{HasNoOrphanFrom, HasNoOrphanBy}
+use Rattle.causal_audit.specs.Inside.Among.{HasNoOrphanFrom}
 use Rattle.causal_audit.specs.declared.index.mentions.Mentions.{Mentions}
 use Rattle.causal_audit.specs.declared.group.walk_input.OpenDelivery.{OpenDelivery}
 use Rattle.causal_audit.specs.declared.index.run_index.RunIndex.{RunIndex}
@@ -49,20 +49,6 @@ pub record IsPrepared (r : Recording) (f end : ℕ) (index : RunIndex) (candidat
   pub indexed : IsIndexOf r.past end index
   pub followed : AreOpenDeliveries r f end candidates
 
--- the scope of a search: the run, f, and the instant up to which it searches
-pub record SearchScope : Type 0 where
-  pub run : Recording
-  pub f : ℕ
-  pub end : ℕ
-
--- the scope of a search, from its parts
-abbrev pub search_scope : Recording → ℕ → ℕ → SearchScope
-search_scope r f end = record { run = r; f = f; end = end }
-
--- the number of deliveries that the search checks
-abbrev pub delivery_count : SearchScope → ℕ
-delivery_count scope = deliveries_in (instant scope.run.past scope.end)
-
 -- the run is well-formed, and these are its mentions, departures, reachable sets and delivery positions
 pub record IsOpenDeliverySearch (r : Recording) (end : ℕ) (mentions : Mentions) (departures : List ℕ) (reached : List (FinSet nat_cmp)) (positions : List ℕ) : Type 0 where
   pub formed : IsWellFormed r
@@ -79,29 +65,28 @@ AreFollowed scope candidates = AreOpenDeliveries scope.run scope.f scope.end can
 
 -- the delivery at position k is listed, or it has no orphan by the instant `end`
 abbrev pub IsListedOrSafe : SearchScope → List OpenDelivery → ℕ → Type 0
-IsListedOrSafe scope candidates k = Contains (positions_of candidates) k ⊎ HasNoOrphanBy scope.run scope.f k scope.end
+IsListedOrSafe scope candidates k = IsAmongOrSafe scope (positions_of candidates) k
 
--- whether the delivery of a number is marked as checked
-abbrev pub is_marked : List Bool → ℕ → Bool
-is_marked marks i = slice_index_or marks i false
+-- each delivery with this determinant before the end is listed, or has no orphan
+abbrev pub AreListedOrSafe : SearchScope → List OpenDelivery → Det → Type 0
+AreListedOrSafe scope candidates d = (k : ℕ) → k < scope.end → det_at scope.run.past k ≡ Some d → IsListedOrSafe scope candidates k
 
--- the marked deliveries remain marked
-abbrev pub StayMarked : List Bool → List Bool → Type 0
-StayMarked before after = (i : ℕ) → is_marked before i ≡ true → is_marked after i ≡ true
+-- more open deliveries are listed
+pub record HasMore (scope : SearchScope) (before after : List OpenDelivery) : Type 0 where
+  pub followed : AreFollowed scope before → AreFollowed scope after
+  pub listed : (k : ℕ) → IsListedOrSafe scope before k → IsListedOrSafe scope after k
 
--- the listed deliveries are open, and each marked delivery is listed or has no orphan
-pub record AreCheckedSoFar (scope : SearchScope) (marks : List Bool) (candidates : List OpenDelivery) : Type 0 where
+-- the listed deliveries are open, and include those that a search from number `from` to below `to` must find
+pub record AreOpenBetween (scope : SearchScope) (from to : ℕ) (candidates : List OpenDelivery) : Type 0 where
   pub followed : AreFollowed scope candidates
-  pub told : (i k : ℕ) → IsNumbered scope.run.past i k → is_marked marks i ≡ true → IsListedOrSafe scope candidates k
-
--- the effect of checking delivery number `number`: it is marked, and the invariant of the search is preserved
-pub record HasChecked (scope : SearchScope) (number : ℕ) (before after : List Bool) (candidates more : List OpenDelivery) : Type 0 where
-  pub kept : AreCheckedSoFar scope before candidates → AreCheckedSoFar scope after more
-  pub marked : is_marked after number ≡ true
-  pub stay : StayMarked before after
-  pub count : length after ≡ length before
+  pub all : IncludeUnsafe scope from to (positions_of candidates)
 
 -- the listed deliveries are open, and each delivery before the end is listed or has no orphan
 pub record AreAllOpen (scope : SearchScope) (candidates : List OpenDelivery) : Type 0 where
   pub followed : AreFollowed scope candidates
   pub all : (k : ℕ) → k < scope.end → IsDeliveryAt scope.run.past k → IsListedOrSafe scope candidates k
+
+-- the index is that of the run, and these are its departures, reachable sets and delivery positions
+pub record IsIndexedRun (r : Recording) (end : ℕ) (index : RunIndex) (departures : List ℕ) (reached : List (FinSet nat_cmp)) (positions : List ℕ) : Type 0 where
+  pub indexed : IsIndexOf r.past end index
+  pub searched : IsOpenDeliverySearch r end index.mentions departures reached positions

@@ -1,9 +1,9 @@
 use Rattle.causal_audit.proofs.Common.{rules, ◌≡◌, ◌+◌, ◌<◌, Some, slice_index, length, ap, subst, arith, accepted_then, det_at, det_within, instant, instant_length}
 use Rattle.causal_trace.specs.Numbers.{delivered_dets, number_of}
 use Rattle.causal_audit.specs.Numbers.{IsNumbered}
-use Rattle.causal_audit.specs.Inside.Group.OpenDeliveries.{SearchScope, delivery_count}
-use Rattle.causal_audit.proofs.DeliveryNumbers.{numbered_later, numbered_some}
-use Rattle.causal_audit.proofs.safety_scan.SurveyAsks.{det_of_number, one_asked}
+use Rattle.causal_audit.specs.Inside.Group.OpenDeliveries.{SearchScope, IsListedOrSafe, delivery_count}
+use Rattle.causal_audit.proofs.DeliveryNumbers.{numbered_later, numbered_one, numbered_some}
+use Rattle.causal_audit.proofs.safety_scan.SurveyAsks.{det_of_number}
 use Rattle.causal_audit.proofs.safety_scan.open_delivery_search.OpenDeliverySearch.check_delivery.Goals as goal
 
 pub collect_if_open-requires : goal.collect_if_open-requires
@@ -24,19 +24,14 @@ collect_if_open-requires c =
       at_risk = c.requires.at_risk;
     }
 
-pub returns : goal.returns
-returns c =
+pub returns-clause-listed : goal.returns-clause-listed
+returns-clause-listed c k numbered =
     let s = c.self.inside in
     let r = s.indexed_trace.trace.now.recording in
     let kept = c.self.invariant in
     let number = c.args.number in
-    let k = slice_index s.positions.now number in
+    let own = slice_index s.positions.now number in
     let low : number < length s.positions.now = omega (arith, c.requires.few, ap delivery_count c.self.view_is, kept.numbered.count) in
-    let numbered : IsNumbered c.args.self.now.run.past number k =
-    subst (λ (a : SearchScope). IsNumbered a.run.past number k) c.self.view_is (numbered_later r.past s.end number k kept.within (kept.numbered.each number low)) in
-    record {
-      kept = one_asked c.args.self.now c.args.checked.now.items c.args.found.now.items c.collect_if_open.new.found.items number k numbered c.in_ok-collect_if_open.ensures.followed c.in_ok-collect_if_open.ensures.more c.in_ok-collect_if_open.ensures.listed;
-      marked = search rules;
-      stay = search rules;
-      count = search rules;
-    }
+    let here : IsNumbered c.args.self.now.run.past number own =
+    subst (λ (a : SearchScope). IsNumbered a.run.past number own) c.self.view_is (numbered_later r.past s.end number own kept.within (kept.numbered.each number low)) in
+    subst (IsListedOrSafe c.args.self.now c.collect_if_open.new.found.items) (numbered_one c.args.self.now.run.past number own k here numbered) c.in_ok-collect_if_open.ensures.listed

@@ -1,12 +1,72 @@
-use Rattle.causal_audit.proofs.Common.{arith}
+use Rattle.causal_audit.proofs.Common.{◌≡◌, ◌+◌, ◌<◌, ◌≤◌, inl, inr, cases_lt, None, Some, length, instant, det_then, sym, subst, ◌∙◌, arith, AreLegalEntries}
+use Rattle.causal_trace.specs.Numbers.{delivered_dets, number_of}
+use Rattle.causal_trace.proofs.Lemmas.DeliveryNumbers.{number_among}
+use Rattle.causal_audit.specs.Numbers.{IsNumbered}
+use Rattle.causal_audit.specs.Searches.{SearchScope, delivery_count}
 use Rattle.causal_audit.proofs.index.Filings.{found_below, number_of_found}
+use Rattle.causal_audit.proofs.DeliveryNumbers.{numbered_later}
+use Rattle.causal_audit.proofs.Lemmas.NumberLemmas.{has_number}
+use Rattle.causal_audit.proofs.safety_scan.SurveyAsks.{more_twice, no_newer, none_between, none_older}
 use Rattle.causal_audit.proofs.safety_scan.open_delivery_search.OpenDeliverySearch.check_sharers.Goals as goal
 
-pub loop-older-init : goal.loop-older-init
-loop-older-init c = grind arith
+pub check_delivery-requires-clause-few : goal.check_delivery-requires-clause-few
+check_delivery-requires-clause-few c =
+    let count = delivery_count c.args.self.now in
+    let dets = delivered_dets c.args.self.now.run.past in
+    found_below (number_of count dets c.args.det) count c.args.newest (number_among count dets c.args.det) c.requires.newest
+
+pub check_delivery-requires-clause-own : goal.check_delivery-requires-clause-own
+check_delivery-requires-clause-own c = number_of_found (delivery_count c.args.self.now) (delivered_dets c.args.self.now.run.past) c.args.det c.args.newest c.requires.newest
 
 pub check_delivery-requires-in-Some : goal.check_delivery-requires-in-Some
 check_delivery-requires-in-Some c = grind (arith, found_below, number_of_found)
 
+pub loop-older-init : goal.loop-older-init
+loop-older-init c =
+    let scope = c.args.self.now in
+    let count = delivery_count scope in
+    let dets = delivered_dets scope.run.past in
+    let newest = c.args.newest in
+    let formed : AreLegalEntries scope.run.processes scope.run.past = subst (λ (a : SearchScope). AreLegalEntries a.run.processes a.run.past) c.self.view_is c.self.invariant.formed.accepted in
+    record {
+      few = found_below (number_of count dets c.args.det) count newest (number_among count dets c.args.det) c.requires.newest;
+      own = number_of_found count dets c.args.det newest c.requires.newest;
+      more = c.in_ok-check_delivery.ensures.more;
+      told = λ i k from below numbered at.
+          let same : i ≡ newest = omega (arith, from, no_newer scope formed i k c.args.det numbered at newest below c.requires.newest) in
+          c.in_ok-check_delivery.ensures.listed k (subst (λ n. IsNumbered scope.run.past n k) same numbered);
+    }
+
 pub loop-older-preserved : goal.loop-older-preserved
-loop-older-preserved c = grind (arith, found_below, number_of_found)
+loop-older-preserved c =
+    let scope = c.args.self.now in
+    let dets = delivered_dets scope.run.past in
+    let was = c.loop-older.invariant in
+    let number = c.loop-older.number in
+    let older = c.in-Some.older in
+    let is : number_of number dets c.args.det ≡ Some older = subst (λ (a : SearchScope). number_of number (delivered_dets a.run.past) c.args.det ≡ Some older) c.self.view_is (sym c.older_delivery.ensures.value ∙ c.in-Some.is) in
+    let low : older < number = found_below (number_of number dets c.args.det) number older (number_among number dets c.args.det) is in
+    let formed : AreLegalEntries scope.run.processes scope.run.past = subst (λ (a : SearchScope). AreLegalEntries a.run.processes a.run.past) c.self.view_is c.self.invariant.formed.accepted in
+    record {
+      few = omega (arith, low, was.few);
+      own = number_of_found number dets c.args.det older is;
+      more = more_twice scope c.args.found.now.items c.loop-older.found.items c.check_delivery-in-Some.new.found.items was.more c.in_ok-check_delivery-2.ensures.more;
+      told = λ i k from below numbered at. elim (cases_lt i number) [
+        | inl under ↦
+            let same : i ≡ older = omega (arith, from, none_between scope formed i k c.args.det numbered at number older under is) in
+            c.in_ok-check_delivery-2.ensures.listed k (subst (λ n. IsNumbered scope.run.past n k) same numbered)
+        | inr over ↦ c.in_ok-check_delivery-2.ensures.more.listed k (was.told i k over below numbered at)
+      ];
+    }
+
+pub returns-clause-listed : goal.returns-clause-listed
+returns-clause-listed c k early at =
+    let scope = c.args.self.now in
+    let number = c.loop-older.number in
+    let formed : AreLegalEntries scope.run.processes scope.run.past = subst (λ (a : SearchScope). AreLegalEntries a.run.processes a.run.past) c.self.view_is c.self.invariant.formed.accepted in
+    let within : scope.end ≤ length scope.run.past = subst (λ (a : SearchScope). a.end ≤ length a.run.past) c.self.view_is c.self.invariant.within in
+    let own = has_number (instant scope.run.past scope.end) k c.args.det (det_then scope.run.past scope.end k early within ∙ at) in
+    let numbered = numbered_later scope.run.past scope.end own.0 k within own.2 in
+    let none : number_of number (delivered_dets scope.run.past) c.args.det ≡ None =
+    subst (λ (a : SearchScope). number_of number (delivered_dets a.run.past) c.args.det ≡ None) c.self.view_is (sym c.older_delivery.ensures.value ∙ c.in_default.is) in
+    c.loop-older.invariant.told own.0 k (none_older scope formed own.0 k c.args.det numbered at number none) own.1 numbered at

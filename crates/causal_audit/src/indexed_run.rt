@@ -1,0 +1,158 @@
+//! A recorded run indexed for its audit, and the search for the deliveries that must be followed.
+ghost use Rattle.std.specs.Prelude.{◌≡◌, ◌≤◌, ℕ, IfOk, length};
+ghost use Rattle.causal_audit.specs.Searches.{SearchScope, IsSearched, delivery_count, scope_of, search_scope};
+
+use crate::group::walk_input::OpenDelivery;
+use crate::index::departures::departures_of;
+use crate::index::indexed_trace::IndexedTrace;
+use crate::index::positions::positions_of;
+use crate::index::reachability::reachable_sets;
+use crate::index::run_index::RunIndex;
+use crate::safety_scan::open_delivery_search::OpenDeliverySearch;
+use causal_holders::Holders;
+use causal_name::NoMemory;
+use causal_trace::trace::Trace;
+use std::alloc::Global;
+use std::marker::Model;
+use std::snapshot::Snapshot;
+
+/// A recorded run indexed for its audit for f up to the instant `end`. It contains no copy of the trace. The model is
+/// the scope of the search for the deliveries that must be followed: the run, f and `end`.
+#[derive(Drop)]
+pub struct IndexedRun {
+    pub(crate) run: Snapshot<Trace>,
+    pub(crate) index: RunIndex,
+    departures: Vec<u32>,
+    reached: Vec<Holders>,
+    positions: Vec<u32>,
+    pub(crate) f: u16,
+    pub(crate) end: u32,
+}
+
+impl Model for IndexedRun {
+    ghost use Rattle.causal_audit.specs.Searches.{SearchScope};
+    ghost use Rattle.causal_audit.specs.Inside.Group.OpenDeliveries.{IsIndexedRun};
+
+    ghost Value = { SearchScope };
+
+    ghost view = { λ a. record { run = a.run.value.recording; f = a.f; end = a.end } };
+
+    ghost invariant = { λ a. IsIndexedRun a.run.value.recording a.end a.index a.departures.items a.reached.items a.positions.items };
+}
+
+impl IndexedRun {
+    /// Indexes a trace for f up to the instant `end`, which is at most its length. Takes O(entries + determinants listed
+    /// before the end) time and memory.
+    ///
+    /// # Errors
+    /// `NoMemory` if allocation fails.
+    pub fn of(alloc: Global, trace: &Trace, f: u16, end: u32) -> Result<IndexedRun, NoMemory>
+        requires { end ≤ length trace.now.recording.past }
+        ensures { IfOk result (λ indexed. indexed ≡ search_scope trace.now.recording f end) }
+    {
+        let index = RunIndex::of(alloc, trace, end)?;
+        let entries = trace.entries();
+        let departures = departures_of(alloc, entries)?;
+        let reached = reachable_sets(alloc, trace)?;
+        let positions = positions_of(alloc, &entries[..end as usize])?;
+        Ok(IndexedRun {
+            run: Snapshot::of(trace),
+            index,
+            departures,
+            reached,
+            positions,
+            f,
+            end,
+        })
+    }
+
+    /// Returns the number of deliveries before the end.
+    pub fn deliveries(&self) -> u32
+        ensures { result ≡ delivery_count self.now }
+    {
+        self.positions.len() as u32
+    }
+
+    /// Returns the deliveries before the end that must be followed, of those whose determinant is last delivered by a
+    /// delivery numbered `from` to below `to`. The trace must be the one that was indexed. So the parts of a search are
+    /// disjoint, and several threads can take one each.
+    ///
+    /// Each determinant is scanned once. A scan passes the mentions of its determinant, and the restarts of processes
+    /// that were down or held it; each delivery takes O(log intervals) time, for the intervals that the scan found.
+    ///
+    /// # Errors
+    /// `NoMemory` if allocation fails.
+    pub fn open_deliveries(
+        &self,
+        alloc: Global,
+        trace: &Trace,
+        from: u32,
+        to: u32,
+    ) -> Result<OpenDeliveries, NoMemory>
+        requires same { trace.now.recording ≡ self.now.run }
+        requires within { to ≤ delivery_count self.now }
+        ensures { IfOk result (IsSearched self.now from to) }
+    {
+        let search = OpenDeliverySearch {
+            indexed_trace: IndexedTrace {
+                trace,
+                transitions: &self.index.transitions,
+            },
+            mentions: &self.index.mentions,
+            departures: self.departures.as_slice(),
+            reached: self.reached.as_slice(),
+            positions: self.positions.as_slice(),
+            f: self.f,
+            end: self.end,
+        };
+        let candidates = search.open_deliveries(alloc, from, to)?;
+        Ok(OpenDeliveries {
+            run: Snapshot::of(trace),
+            f: self.f,
+            end: self.end,
+            candidates,
+        })
+    }
+}
+
+/// Deliveries of a run that must be followed for f up to an instant. The model is these deliveries.
+#[derive(Drop)]
+pub struct OpenDeliveries {
+    run: Snapshot<Trace>,
+    f: u16,
+    end: u32,
+    pub(crate) candidates: Vec<OpenDelivery>,
+}
+
+impl Model for OpenDeliveries {
+    ghost use Rattle.causal_audit.specs.Parts.{FollowedDeliveries};
+    ghost use Rattle.causal_audit.specs.Inside.Group.OpenDeliveries.{AreOpenDeliveries, positions_of};
+
+    ghost Value = { FollowedDeliveries };
+
+    ghost view = { λ a. record { run = a.run.value.recording; f = a.f; end = a.end; positions = positions_of a.candidates.items } };
+
+    ghost invariant = { λ a. AreOpenDeliveries a.run.value.recording a.f a.end a.candidates.items };
+}
+
+impl OpenDeliveries {
+    /// Appends the result of the part of the search before this one.
+    ///
+    /// # Errors
+    /// `NoMemory` if allocation fails.
+    pub fn append(self, earlier: OpenDeliveries) -> Result<OpenDeliveries, NoMemory>
+        requires { scope_of self ≡ scope_of earlier }
+        ensures { IfOk result (λ all. (scope : SearchScope) (from mid to : ℕ) →
+            IsSearched scope mid to self → IsSearched scope from mid earlier →
+            IsSearched scope from to all) }
+    {
+        let mut candidates = self.candidates;
+        candidates.extend_from_slice(earlier.candidates.as_slice())?;
+        Ok(OpenDeliveries {
+            run: self.run,
+            f: self.f,
+            end: self.end,
+            candidates,
+        })
+    }
+}
