@@ -2,7 +2,7 @@
 ghost use Rattle.std.specs.Prelude.{⊤, ℕ};
 
 /// A gate that each worker passes once, before the first delivery of its share: it calls `enter` with its number. The
-/// calling thread's work before the workers start passes no gate.
+/// preparation, which comes before that, passes no gate.
 ///
 /// `passed` is a fact that the gate guarantees of each worker that passed; it may be trivial. It holds of each worker
 /// that has audited its share: so no worker has done so without passing the gate by its own number.

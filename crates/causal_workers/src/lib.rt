@@ -1,7 +1,7 @@
 //! The audit of a recorded run, divided among workers.
 //!
-//! The calling thread prepares the run. The groups of deliveries that must be followed are divided into consecutive
-//! shares, one for each worker. The earliest breach of all shares decides, so the verdict is the same for every number
+//! The workers prepare the run. The groups of deliveries that must be followed are divided into consecutive shares, one
+//! for each worker. The earliest breach of all shares decides, so the verdict is the same for every number
 //! of workers.
 //!
 //! Begin at [`audit`] for a trace, or [`audit_text`] for its text; [`judge_stream`] returns as soon as an audit
@@ -19,6 +19,8 @@ pub mod gate;
 pub mod judgement;
 /// The printed line of a verdict.
 pub mod line;
+/// A trace prepared by several workers.
+mod preparation;
 /// The work of one worker.
 mod share;
 

@@ -7,6 +7,7 @@ ghost use Rattle.causal_workers.specs.Judgements.{IsOnlyVerdict};
 ghost use Rattle.causal_workers.specs.Inside.Shares.{Covers, FollowsAfter, IsEarlierOf, IsFirstShare, IsResultOf};
 
 use crate::gate::Gate;
+use crate::preparation::prepare_by;
 use crate::share::{RunningShare, Share, ShareResult};
 use causal_audit::{
     Breach, PreparedRun, Verdict, decide_verdict, earlier_breach, first_excess_in, horizon_of,
@@ -42,10 +43,10 @@ impl From<NoMemory> for AuditFault {
 
 /// Returns the verdict on a trace for f, by 1 to 64 workers. It is the same for every number of workers.
 ///
-/// The calling thread first prepares the run, up to an instant beyond which nothing decides. The deliveries that must
-/// be followed are divided among the workers, in groups that one walk over the entries follows. Worker 0 is the calling
-/// thread, and begins after all others were started. Each worker calls the gate's `enter` once with its number, even if
-/// no delivery is left for it.
+/// The run is prepared up to an instant beyond which nothing decides: the calling thread indexes it, and all workers
+/// search for the deliveries that must be followed. These are divided among the workers, in groups that one walk over
+/// the entries follows. Worker 0 is the calling thread, and begins after all others were started. Each worker calls the
+/// gate's `enter` once with its number, even if no delivery is left for it.
 ///
 /// # Errors
 /// `NoMemory` if allocation fails; if it fails in a worker, all workers end first. `NoWorker` if a worker could not be
@@ -65,7 +66,7 @@ pub fn audit<G: Gate + Sync, R: Threads + Wait>(
 {
     let excess = first_excess_in(trace, f);
     let end = horizon_of(alloc, trace, f, &excess)?;
-    let prepared = PreparedRun::of(alloc, trace, f, end)?;
+    let prepared = prepare_by(rt, alloc, trace, f, end, workers)?;
     let least = earliest_breach(rt, alloc, trace, &prepared, workers, gate)?;
     Ok(decide_verdict(excess, least))
 }
