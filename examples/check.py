@@ -309,9 +309,9 @@ def wrong_progress(program):
 # Each has orphan.jsonl as its standard input. `clap` says what is wrong; an answer is the row of examples/README.md.
 USAGE = "error: "
 SAFE = b"accept f=0 entries=4 deliveries=2\n"
-UNKNOWN_WORKERS = """unexpected argument '--workers' found
+UNKNOWN_SIZE = """unexpected argument '--size' found
 
-  tip: to pass '--workers' as a value, use '-- --workers'
+  tip: to pass '--size' as a value, use '-- --size'
 
 Usage: causal_tool explain [OPTIONS] [FILE]
 """
@@ -353,7 +353,10 @@ WORDS = [
     (["audit", "--faults", "0", "-"], SAFE, "", 0),
     (["audit", "--faults", "0", "--", "-"], SAFE, "", 0),
     (["audit", "--faults", "0", "-", "trace.jsonl"], b"", USAGE + "unexpected argument 'trace.jsonl' found\n", 3),
-    (["explain", "--faults", "1", "--workers", "2"], b"", USAGE + UNKNOWN_WORKERS, 3),
+    (["explain", "--faults", "1", "--size", "2"], b"", USAGE + UNKNOWN_SIZE, 3),
+    (["explain", "--workers", "65"], b"", USAGE + "invalid value '65' for '--workers <W>': 65 is not in 1..=64\n", 3),
+    (["draw", "--faults", "0", "--workers", "0"], b"", USAGE + "invalid value '0' for '--workers <W>': 0 is not in 1..=64\n", 3),
+    (["merge", "--workers", "2"], b"", USAGE + "unexpected argument '--workers' found\n", 3),
     (["draw", "--faults", "1", "--json"], b"", USAGE + "unexpected argument '--json' found\n", 3),
     (["merge", "--json"], b"", USAGE + "unexpected argument '--json' found\n", 3),
     (["merge", "run.log"], b"", "read fault\ncausal_tool merge: run.log: No such file or directory (os error 2)\n", 4),

@@ -9,8 +9,8 @@ _causal_tool() {
     else
         case ${COMP_WORDS[1]} in
         audit) offered="--faults --workers --entries --until-breach --json --help" ;;
-        explain) offered="--faults --entries --json --help" ;;
-        draw) offered="--faults --entries --help" ;;
+        explain) offered="--faults --workers --entries --json --help" ;;
+        draw) offered="--faults --workers --entries --help" ;;
         merge) offered="--entries --help" ;;
         run) offered="--help" ;;
         help) ((COMP_CWORD == 2)) && offered="audit explain draw merge run help" ;;

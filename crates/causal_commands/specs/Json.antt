@@ -1,7 +1,7 @@
 -- What `audit` and `explain` write as JSON.
 -- `most` is the maximum number of entries of a trace.
 use Rattle.std.specs.Prelude.{◌≡◌, ℕ, ◌≤◌, List, Option, IfSome}
-use Rattle.causal_text.specs.Streams.{StopsOnceDecided, StopsWithin}
+use Rattle.causal_text.specs.Streams.{StopsWithin}
 use Rattle.causal_reading.specs.Reads.{max_read}
 use Rattle.causal_workers.specs.Streaming.{StopsOnceJudged}
 use Rattle.causal_report.specs.Objects.{verdict_object, ranges_object}
@@ -20,31 +20,31 @@ use Rattle.causal_commands.specs.AnswerWrites.{WritesAnswer}
 abbrev pub faults_of : Question → ℕ
 faults_of (Verdict faults workers) = faults
 faults_of (Breach faults workers) = faults
-faults_of (Reason faults) = faults
-faults_of Range = 0
+faults_of (Reason faults workers) = faults
+faults_of (Range workers) = 0
 
--- the number of workers that audit
+-- the number of workers that read and audit
 abbrev pub workers_of : Question → ℕ
 workers_of (Verdict faults workers) = workers
 workers_of (Breach faults workers) = workers
-workers_of _ = 1
+workers_of (Reason faults workers) = workers
+workers_of (Range workers) = workers
 
--- 1 to 64 workers audit
+-- there are 1 to 64 workers
 abbrev pub HasFewWorkers : Question → Type 0
 HasFewWorkers question = (1 ≤ workers_of question) × (workers_of question ≤ 64)
 
 -- the bytes consumed of a source decide nothing of the question on its text, but for one last piece at most
 abbrev pub StopsFor : ℕ → Question → Option (List ℕ) → Option (List ℕ) → Type 0
-StopsFor most (Verdict faults workers) old new = StopsWithin most (max_read workers) old new
 StopsFor most (Breach faults workers) old new = StopsOnceJudged most faults old new
-StopsFor most _ old new = StopsOnceDecided most old new
+StopsFor most question old new = StopsWithin most (max_read (workers_of question)) old new
 
 -- the lines that answer the question on a text, for this ending
 abbrev pub AreLines : ℕ → Question → List ℕ → Ended → List ℕ → Type 0
 AreLines most (Verdict faults workers) text ended lines = IsAnswer most text faults ended lines
 AreLines most (Breach faults workers) text ended lines = IsEarlyAnswer most text faults ended lines
-AreLines most (Reason faults) text ended lines = IsViewAnswer most view.Reason text faults ended lines
-AreLines most Range text ended lines = IsRangeAnswer most text ended lines
+AreLines most (Reason faults workers) text ended lines = IsViewAnswer most view.Reason text faults ended lines
+AreLines most (Range workers) text ended lines = IsRangeAnswer most text ended lines
 
 -- the JSON object that has the content of the lines
 abbrev pub object_of : Ended → List ℕ → List ℕ

@@ -2,13 +2,13 @@
 ghost use Rattle.std.specs.Prelude.{◌≡◌, ◌≢◌, ◌≤◌, ℕ, List, IfOk, IfErr, IfSome, Err};
 ghost use Rattle.causal_text.specs.FaultContexts.{IsTrueRefusalWithin, ExplainsReadErrorWithin};
 ghost use Rattle.causal_text.specs.Spelling.{SpellsWithin};
-ghost use Rattle.causal_text.specs.Streams.{StopsOnceDecided, StopsWithin};
+ghost use Rattle.causal_text.specs.Streams.{StopsWithin};
 ghost use Rattle.causal_reading.specs.Reads.{max_read};
 ghost use Rattle.causal_workers.specs.Judgements.{IsJudgementWithin};
 ghost use Rattle.causal_commands.specs.Inside.Refusals.{ExplainsStreamRefusal};
 
 use causal_reading::read_by;
-use causal_text::{ReadError, TextKind, TextRefusal, read_within};
+use causal_text::{ReadError, TextKind, TextRefusal};
 use causal_trace::limits::Limits;
 use causal_trace::trace::Trace;
 use causal_workers::{AuditFault, Gate, Judged, judge_trace};
@@ -28,28 +28,8 @@ pub(crate) enum StreamRefusal {
     NoWorker,
 }
 
-/// Reads the trace that the bytes of a reader spell, within the limits.
-pub(crate) fn read_input<I: Read>(
-    alloc: Global,
-    input: &mut I,
-    limits: Limits,
-) -> Result<Trace, StreamRefusal>
-    ensures ok { IfOk result (λ trace. IfSome (I.remaining input.old)
-        (λ text. SpellsWithin limits.entries text trace.recording)) }
-    ensures err { IfErr result (λ stopped. IfSome (I.remaining input.old)
-        (λ text. ExplainsStreamRefusal limits.entries text stopped)) }
-    ensures stops { StopsOnceDecided limits.entries
-        (I.remaining input.old) (I.remaining input.new) }
-    ensures never_no_worker { result ≢ Err StreamRefusal.NoWorker }
-{
-    match read_within(alloc, input, limits) {
-        Ok(trace) => Ok(trace),
-        Err(unread) => Err(from_read_error(unread)),
-    }
-}
-
 /// Reads the trace that the bytes of a reader spell, within the limits, by 1 to 64 workers, who parse its lines.
-fn read_input_by<I: Read, R: Threads>(
+pub(crate) fn read_input_by<I: Read, R: Threads>(
     rt: &R,
     alloc: Global,
     input: &mut I,

@@ -28,10 +28,10 @@ pub enum Question {
     /// The verdict at the first checkpoint that finds a breach, without reading on; if none does, the verdict on the
     /// whole text.
     Breach { faults: u16, workers: u32 },
-    /// The verdict on the whole text, by one worker, and the reason for it.
-    Reason { faults: u16 },
-    /// The bounds f for which the trace is safe.
-    Range,
+    /// The verdict on the whole text, by one worker, and the reason for it. `workers` threads read.
+    Reason { faults: u16, workers: u32 },
+    /// The bounds f for which the trace is safe. `workers` threads read.
+    Range { workers: u32 },
 }
 
 impl Question {
@@ -42,8 +42,8 @@ impl Question {
         match self {
             Question::Verdict { faults, .. }
             | Question::Breach { faults, .. }
-            | Question::Reason { faults } => faults,
-            Question::Range => 0,
+            | Question::Reason { faults, .. } => faults,
+            Question::Range { .. } => 0,
         }
     }
 }
@@ -52,8 +52,9 @@ impl Question {
 /// the text is invalid, the object is that of its first error. The outcome reports a failure of the reader, the writer,
 /// an allocation or a thread start. With one worker it is never `NoWorker`.
 ///
-/// The text is read in pieces of 4,096 bytes, to its end or to the piece with its first error. `Breach` also stops at
-/// the first checkpoint that finds a breach.
+/// The text is read in pieces of 4,096 bytes, to its end or to the piece with its first error; by several workers, but
+/// for `Breach`, in pieces of at most 65,536 bytes for each. `Breach` also stops at the first checkpoint that finds a
+/// breach.
 pub fn answer_as_json<R: Threads + Wait, I: Read, O: Write>(
     rt: &R,
     alloc: Global,
@@ -125,10 +126,10 @@ fn answer_lines<I: Read, R: Threads + Wait>(
             let known = judge_stream(rt, alloc, input, limits, faults, workers, &OpenGate);
             early_answer(alloc, faults, known)
         }
-        Question::Reason { faults } => {
-            view::view_answer(rt, alloc, input, limits, faults, View::Reason)
+        Question::Reason { faults, workers } => {
+            view::view_answer(rt, alloc, input, limits, faults, workers, View::Reason)
         }
-        Question::Range => range::range_answer(alloc, input, limits),
+        Question::Range { workers } => range::range_answer(rt, alloc, input, limits, workers),
     }
 }
 

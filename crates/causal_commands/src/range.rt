@@ -1,6 +1,7 @@
 //! The bounds f for which a run is safe, over any reader and writer.
-ghost use Rattle.std.specs.Prelude.{◌≡◌, ◌≢◌, Some, IfOk, IfErr, Err};
-ghost use Rattle.causal_text.specs.Streams.{StopsOnceDecided};
+ghost use Rattle.std.specs.Prelude.{◌≡◌, ◌≢◌, ◌≤◌, Some, IfOk, IfErr, Err};
+ghost use Rattle.causal_text.specs.Streams.{StopsWithin};
+ghost use Rattle.causal_reading.specs.Reads.{max_read};
 ghost use Rattle.causal_commands.specs.Ranges as ranges;
 ghost use Rattle.causal_commands.specs.Diagnostics.{IsDiagnosisFor};
 ghost use Rattle.causal_commands.specs.Inside.Answers.{IsRangeAnswerFor, WritesNothing, WritesWholeAnswer, RefusalIsTrue};
@@ -8,52 +9,60 @@ ghost use Rattle.causal_commands.specs.Inside.Answers.{IsRangeAnswerFor, WritesN
 use crate::answer::{Answer, fault_answer, write_answer};
 use crate::diagnostic::DiagnosedFault;
 use crate::ended::Ended;
-use crate::input_audit::read_input;
+use crate::input_audit::read_input_by;
 use crate::stream::Outcome;
 use causal_explain::{SafeRange, safe_range};
 use causal_name::NoMemory;
 use causal_trace::limits::Limits;
 use std::alloc::Global;
 use std::io::{Read, Write};
+use std::thread::Threads;
 
-/// Reads the text of a trace within the limits, and writes the bounds f for which it is safe; or the line of the text's
-/// first error. The outcome reports a failure of the reader, the writer or an allocation.
+/// Reads the text of a trace within the limits by 1 to 64 workers, and writes the bounds f for which it is safe; or the
+/// line of the text's first error. The outcome reports a failure of the reader, the writer or an allocation.
 ///
-/// The text is read in pieces of 4,096 bytes, to its end or to the piece with its first error.
-pub fn answer_range<I: Read, O: Write>(
+/// The text is read in pieces, of 4,096 bytes with one worker and otherwise of at most 65,536 for each, to its end or to
+/// the piece with its first error.
+pub fn answer_range<R: Threads, I: Read, O: Write>(
+    rt: &R,
     alloc: Global,
     input: &mut I,
     output: &mut O,
     limits: Limits,
+    workers: u32,
 ) -> Outcome<DiagnosedFault>
+    requires { (1 ≤ workers) × (workers ≤ 64) }
     ensures writes { ranges.WritesRangeFor limits.entries (I.remaining input.old) result.ended
         (O.contents output.old) (O.contents output.new) }
     ensures fault { IsDiagnosisFor limits.entries (I.remaining input.old) 0 result.fault }
-    ensures stops { StopsOnceDecided limits.entries
+    ensures stops { StopsWithin limits.entries (max_read workers)
         (I.remaining input.old) (I.remaining input.new) }
     ensures never_no_worker { result.ended ≢ Ended.NoWorker }
 {
-    match range_answer(alloc, input, limits) {
+    match range_answer(rt, alloc, input, limits, workers) {
         Ok(answer) => write_answer(alloc, output, 0, answer),
         Err(ended) => Outcome { ended, fault: None },
     }
 }
 
-pub(crate) fn range_answer<I: Read>(
+pub(crate) fn range_answer<I: Read, R: Threads>(
+    rt: &R,
     alloc: Global,
     input: &mut I,
     limits: Limits,
+    workers: u32,
 ) -> Result<Answer, Ended>
+    requires { (1 ≤ workers) × (workers ≤ 64) }
     ensures ok { IfOk result (λ answer. IsRangeAnswerFor limits.entries (I.remaining input.old)
         answer.ended answer.line.items) }
     ensures rejected { RefusalIsTrue limits.entries (I.remaining input.old) result }
     ensures whole_answer { IfOk result (λ answer. WritesWholeAnswer answer.ended) }
     ensures err { IfErr result WritesNothing }
-    ensures stops { StopsOnceDecided limits.entries
+    ensures stops { StopsWithin limits.entries (max_read workers)
         (I.remaining input.old) (I.remaining input.new) }
     ensures never_no_worker { result ≢ Err Ended.NoWorker }
 {
-    let trace = match read_input(alloc, input, limits) {
+    let trace = match read_input_by(rt, alloc, input, limits, workers) {
         Ok(trace) => trace,
         Err(stopped) => return fault_answer(alloc, stopped),
     };

@@ -1,7 +1,8 @@
 //! The commands `explain` and `draw`, over any reader and writer: a verdict with its reason as text, or a picture.
-ghost use Rattle.std.specs.Prelude.{◌≡◌, ◌≢◌, ℕ, List, IfOk, IfErr, IfSome, Err};
+ghost use Rattle.std.specs.Prelude.{◌≡◌, ◌≢◌, ◌≤◌, ℕ, List, IfOk, IfErr, IfSome, Err};
 ghost use Rattle.causal_audit.specs.Verdicts.{IsVerdict};
-ghost use Rattle.causal_text.specs.Streams.{StopsOnceDecided};
+ghost use Rattle.causal_text.specs.Streams.{StopsWithin};
+ghost use Rattle.causal_reading.specs.Reads.{max_read};
 ghost use Rattle.causal_commands.specs.Views.{WritesViewFor, IsViewOfFault, IsViewOf, IsViewText};
 ghost use Rattle.causal_commands.specs.Judgements.{IsJudgedOf};
 ghost use Rattle.causal_commands.specs.Diagnostics.{IsDiagnosisFor};
@@ -11,7 +12,7 @@ ghost use Rattle.causal_commands.specs.Inside.Refusals.{IsTrueRefusal, ExplainsS
 use crate::answer::{Answer, ended_of, fault_answer, write_answer};
 use crate::diagnostic::DiagnosedFault;
 use crate::ended::Ended;
-use crate::input_audit::{StreamRefusal, read_input};
+use crate::input_audit::{StreamRefusal, read_input_by};
 use crate::stream::Outcome;
 use causal_name::NoMemory;
 use causal_report::{drawing_of, line_with_reason};
@@ -32,11 +33,12 @@ pub enum View {
     Picture,
 }
 
-/// Reads the text of a trace within the limits, audits it for f by one worker, and writes the view. If the text is
-/// invalid, it writes the line of the first error; for a picture, nothing. The outcome reports a failure of the reader,
-/// the writer or an allocation, and is never `NoWorker`.
+/// Reads the text of a trace within the limits by 1 to 64 workers, audits it for f by one, and writes the view. If the
+/// text is invalid, it writes the line of the first error; for a picture, nothing. The outcome reports a failure of the
+/// reader, the writer or an allocation, and is never `NoWorker`.
 ///
-/// The text is read in pieces of 4,096 bytes, to its end or to the piece with its first error.
+/// The text is read in pieces, of 4,096 bytes with one worker and otherwise of at most 65,536 for each, to its end or to
+/// the piece with its first error.
 pub fn answer_view<R: Threads + Wait, I: Read, O: Write>(
     rt: &R,
     alloc: Global,
@@ -44,16 +46,18 @@ pub fn answer_view<R: Threads + Wait, I: Read, O: Write>(
     output: &mut O,
     limits: Limits,
     f: u16,
+    workers: u32,
     view: View,
 ) -> Outcome<DiagnosedFault>
+    requires { (1 ≤ workers) × (workers ≤ 64) }
     ensures writes { WritesViewFor limits.entries view (I.remaining input.old) f result.ended
         (O.contents output.old) (O.contents output.new) }
     ensures fault { IsDiagnosisFor limits.entries (I.remaining input.old) f result.fault }
-    ensures stops { StopsOnceDecided limits.entries
+    ensures stops { StopsWithin limits.entries (max_read workers)
         (I.remaining input.old) (I.remaining input.new) }
     ensures never_no_worker { result.ended ≢ Ended.NoWorker }
 {
-    match view_answer(rt, alloc, input, limits, f, view) {
+    match view_answer(rt, alloc, input, limits, f, workers, view) {
         Ok(answer) => write_answer(alloc, output, f, answer),
         Err(ended) => Outcome { ended, fault: None },
     }
@@ -65,19 +69,21 @@ pub(crate) fn view_answer<I: Read, R: Threads + Wait>(
     input: &mut I,
     limits: Limits,
     f: u16,
+    workers: u32,
     view: View,
 ) -> Result<Answer, Ended>
+    requires { (1 ≤ workers) × (workers ≤ 64) }
     ensures ok { IfOk result (λ answer. IsViewAnswerFor limits.entries view
         (I.remaining input.old) f
         answer.ended answer.line.items) }
     ensures rejected { RefusalIsTrue limits.entries (I.remaining input.old) result }
     ensures whole_answer { IfOk result (λ answer. WritesWholeAnswer answer.ended) }
     ensures err { IfErr result WritesNothing }
-    ensures stops { StopsOnceDecided limits.entries
+    ensures stops { StopsWithin limits.entries (max_read workers)
         (I.remaining input.old) (I.remaining input.new) }
     ensures never_no_worker { result ≢ Err Ended.NoWorker }
 {
-    match read_view(rt, alloc, input, limits, f, view) {
+    match read_view(rt, alloc, input, limits, f, workers, view) {
         Ok(ViewText { judged, text }) => Ok(Answer {
             ended: ended_of(judged.verdict),
             line: text,
@@ -127,17 +133,19 @@ fn read_view<I: Read, R: Threads + Wait>(
     input: &mut I,
     limits: Limits,
     f: u16,
+    workers: u32,
     view: View,
 ) -> Result<ViewText, StreamRefusal>
+    requires { (1 ≤ workers) × (workers ≤ 64) }
     ensures ok { IfOk result (λ shown. IfSome (I.remaining input.old)
         (λ text. IsViewOf limits.entries view text f shown.judged shown.text.items)) }
     ensures err { IfErr result (λ stopped. IfSome (I.remaining input.old)
         (λ text. ExplainsStreamRefusal limits.entries text stopped)) }
-    ensures stops { StopsOnceDecided limits.entries
+    ensures stops { StopsWithin limits.entries (max_read workers)
         (I.remaining input.old) (I.remaining input.new) }
     ensures never_no_worker { result ≢ Err StreamRefusal.NoWorker }
 {
-    let trace = match read_input(alloc, input, limits) {
+    let trace = match read_input_by(rt, alloc, input, limits, workers) {
         Ok(trace) => trace,
         Err(stopped) => return Err(stopped),
     };

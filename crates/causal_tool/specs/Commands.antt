@@ -1,6 +1,5 @@
 -- What each command writes and returns.
 use Rattle.std.specs.Prelude.{◌≡◌, ℕ, List, Option}
-use Rattle.causal_text.specs.Streams.{StopsOnceDecided}
 use Rattle.causal_commands.specs.declared.ended.Ended.{Ended}
 use Rattle.causal_commands.specs.declared.json.Question.{Question}
 use Rattle.causal_commands.specs.declared.json.Question.TheVariants.{Verdict, Breach, Reason, Range}
@@ -27,15 +26,15 @@ abbrev pub WritesAnswerIn : Form → ℕ → Question → Option (List ℕ) → 
 WritesAnswerIn Json most question given ended old new = WritesObjectFor most question given ended old new
 WritesAnswerIn Lines most (Verdict faults workers) given ended old new = WritesWithin most given faults ended old new
 WritesAnswerIn Lines most (Breach faults workers) given ended old new = WritesEarlyFor most given faults ended old new
-WritesAnswerIn Lines most (Reason faults) given ended old new = WritesViewFor most view.Reason given faults ended old new
-WritesAnswerIn Lines most Range given ended old new = WritesRangeFor most given ended old new
+WritesAnswerIn Lines most (Reason faults workers) given ended old new = WritesViewFor most view.Reason given faults ended old new
+WritesAnswerIn Lines most (Range workers) given ended old new = WritesRangeFor most given ended old new
 
 -- What a command writes for the bytes of a reader, and that the error that it returns is true: each command of the
 -- command line is answered by its own call.
 abbrev pub Answers : Invocation → CommandOutcome → Option (List ℕ) → Option (List ℕ) → Option (List ℕ) → Type 0
 Answers (Trace question form limits) (outcome_of.Trace f outcome) given old new =
     WritesAnswerIn form limits.entries question given outcome.ended old new × IsDiagnosisFor limits.entries given f outcome.fault × (f ≡ faults_of question)
-Answers (Draw faults limits) (outcome_of.Trace f outcome) given old new =
+Answers (Draw faults workers limits) (outcome_of.Trace f outcome) given old new =
     WritesViewFor limits.entries Picture given faults outcome.ended old new × IsDiagnosisFor limits.entries given f outcome.fault × (f ≡ faults)
 Answers (Merge limits) (outcome_of.Merge outcome) given old new = WritesMergeFor limits.entries given outcome old new
 Answers Run (outcome_of.Script outcome) given old new = WritesScriptFor given outcome.ended old new × IsReasonFor given outcome.fault
@@ -45,7 +44,7 @@ Answers _ _ given old new = ⊥
 -- recordings or a script may have
 abbrev pub ReadsFor : Invocation → Option (List ℕ) → Option (List ℕ) → Type 0
 ReadsFor (Trace question form limits) old new = StopsFor limits.entries question old new
-ReadsFor (Draw faults limits) old new = StopsOnceDecided limits.entries old new
+ReadsFor (Draw faults workers limits) old new = StopsFor limits.entries (Reason faults workers) old new
 ReadsFor (Merge limits) old new = ReadsAtMostRecordings limits.entries old new
 ReadsFor Run old new = ReadsAtMostScript old new
 

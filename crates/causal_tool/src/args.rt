@@ -1,5 +1,5 @@
 //! The command line.
-ghost use Rattle.std.specs.Prelude.{◌≡◌, Bool, IfOk, IfSome};
+ghost use Rattle.std.specs.Prelude.{◌≡◌, ◌≤◌, Bool, IfOk, IfSome};
 ghost use Rattle.clap.specs.Values.{kind_of};
 ghost use Rattle.causal_tool.specs.Inside.Refusals.{exit_for_clap_error};
 ghost use Rattle.causal_tool.specs.Args.{HasWorkerCountInRange, AsksWithinRange};
@@ -44,6 +44,7 @@ pub(crate) enum Invocation {
     /// A picture of a trace within limits, with its verdict for at most `faults` processes down at once.
     Draw {
         faults: u16,
+        workers: u32,
         limits: Limits,
     },
     /// The trace merged from recorder files, within limits.
@@ -170,7 +171,7 @@ fn parse_command(name: &str, given: &ArgMatches) -> Option<Invocation>
 {
     match name {
         "audit" => parse_audit(given),
-        "explain" => Some(parse_explain(given)),
+        "explain" => parse_explain(given),
         "draw" => parse_draw(given),
         "merge" => Some(Invocation::Merge {
             limits: parse_limits(given),
@@ -193,34 +194,43 @@ fn parse_audit(given: &ArgMatches) -> Option<Invocation>
     ensures { IfSome result HasWorkerCountInRange }
 {
     let faults = given.get_one::<u16>("faults")?;
+    let workers = parse_workers(given)?;
+    Some(Invocation::Trace {
+        question: if given.get_flag("until-breach") {
+            Question::Breach { faults, workers }
+        } else {
+            Question::Verdict { faults, workers }
+        },
+        form: parse_form(given),
+        limits: parse_limits(given),
+    })
+}
+
+/// Returns the number of workers.
+fn parse_workers(given: &ArgMatches) -> Option<u32>
+    ensures { IfSome result (λ workers. (1 ≤ workers) × (workers ≤ 64)) }
+{
     match given.get_one::<u32>("workers") {
-        Some(workers @ 1..=64) => Some(Invocation::Trace {
-            question: if given.get_flag("until-breach") {
-                Question::Breach { faults, workers }
-            } else {
-                Question::Verdict { faults, workers }
-            },
-            form: parse_form(given),
-            limits: parse_limits(given),
-        }),
+        Some(workers @ 1..=64) => Some(workers),
         _ => None,
     }
 }
 
 /// Returns what `explain` requests: the reason for a verdict; without `--faults`, the bounds f for which the trace is
 /// safe.
-fn parse_explain(given: &ArgMatches) -> Invocation
-    ensures { HasWorkerCountInRange result }
+fn parse_explain(given: &ArgMatches) -> Option<Invocation>
+    ensures { IfSome result HasWorkerCountInRange }
 {
+    let workers = parse_workers(given)?;
     let question = match given.get_one::<u16>("faults") {
-        Some(faults) => Question::Reason { faults },
-        None => Question::Range,
+        Some(faults) => Question::Reason { faults, workers },
+        None => Question::Range { workers },
     };
-    Invocation::Trace {
+    Some(Invocation::Trace {
         question,
         form: parse_form(given),
         limits: parse_limits(given),
-    }
+    })
 }
 
 fn parse_form(given: &ArgMatches) -> Form {
@@ -235,8 +245,10 @@ fn parse_draw(given: &ArgMatches) -> Option<Invocation>
     ensures { IfSome result HasWorkerCountInRange }
 {
     let faults = given.get_one::<u16>("faults")?;
+    let workers = parse_workers(given)?;
     Some(Invocation::Draw {
         faults,
+        workers,
         limits: parse_limits(given),
     })
 }
@@ -253,7 +265,7 @@ fn parse_limits(given: &ArgMatches) -> Limits {
 enum OptionKind {
     /// The bound f: the number of processes that may be down at once.
     Faults { is_required: bool },
-    /// The number of threads that audit.
+    /// The number of threads that read, and that audit.
     Workers,
     /// The maximum number of entries of the trace.
     Entries,
@@ -297,6 +309,7 @@ const COMMANDS: [CommandSpec; 5] = [
         given: &[
             OptionKind::File,
             OptionKind::Faults { is_required: false },
+            OptionKind::Workers,
             OptionKind::Entries,
             OptionKind::Json,
         ],
@@ -308,6 +321,7 @@ const COMMANDS: [CommandSpec; 5] = [
         given: &[
             OptionKind::File,
             OptionKind::Faults { is_required: true },
+            OptionKind::Workers,
             OptionKind::Entries,
         ],
     },
@@ -337,7 +351,7 @@ fn faults<'a>(alloc: Global, is_required: bool) -> Arg<'a> {
 
 fn workers_option<'a>(alloc: Global) -> Arg<'a> {
     number_option(alloc, "workers", "W", 64)
-        .help("How many threads judge [1 to 64]")
+        .help("How many threads work [1 to 64]")
         .default_value("1")
 }
 

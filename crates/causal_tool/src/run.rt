@@ -62,10 +62,10 @@ fn answer_question<R: Threads + Wait + AllocGlobal, I: Read, O: Write>(
             Question::Breach { faults, workers } => {
                 answer_until_breach(rt, alloc, input, output, limits, faults, workers, &OpenGate)
             }
-            Question::Reason { faults } => {
-                answer_view(rt, alloc, input, output, limits, faults, View::Reason)
+            Question::Reason { faults, workers } => {
+                answer_view(rt, alloc, input, output, limits, faults, workers, View::Reason)
             }
-            Question::Range => answer_range(alloc, input, output, limits),
+            Question::Range { workers } => answer_range(rt, alloc, input, output, limits, workers),
         },
     }
 }
@@ -101,9 +101,13 @@ pub(crate) fn run_command<R: Threads + Wait + AllocGlobal + RandomSource, I: Rea
             f: question.faults(),
             outcome: answer_question(rt, input, output, limits, question, form),
         },
-        Invocation::Draw { faults, limits } => CommandOutcome::Trace {
+        Invocation::Draw {
+            faults,
+            workers,
+            limits,
+        } => CommandOutcome::Trace {
             f: faults,
-            outcome: answer_view(rt, alloc, input, output, limits, faults, View::Picture),
+            outcome: answer_view(rt, alloc, input, output, limits, faults, workers, View::Picture),
         },
         Invocation::Merge { limits } => CommandOutcome::Merge {
             outcome: answer_merge(alloc, input, output, limits),
