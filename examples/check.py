@@ -373,6 +373,7 @@ HELP = {
     ("help",): "Audits recorded runs of processes that log their messages causally, and records such runs\n",
     ("audit", "--help"): "Audits a trace\n",
     ("explain", "--help"): "Audits a trace, and tells why the verdict is so; or for which F it is safe\n",
+    ("replays", "--help"): "Tells whether recoveries follow the determinants that survive\n",
     ("draw", "--help"): "Audits a trace, and draws it with the verdict\n",
     ("merge", "--help"): "Merges recordings into one trace\n",
     ("run", "--help"): "Runs a script and prints its trace\n",

@@ -1,6 +1,20 @@
 #!/usr/bin/env python3
 """A plain model of `replays`, from the definition alone: at each instant it collects all determinants that survive, and looks for two of
-one slot. It shares no code with the product, and is for small traces."""
+one slot. It shares no code with the product, and is for small traces. It has to answer hand-computed runs, and follow recorded ones. With
+--program the built program is compared with it, on random traces of which many stray, and on damaged ones, also as JSON, which says who
+has which determinant. Everything is decided by the seed.
+
+    trials/replays.py [--program PATH] [--cases 3000] [--seed 1] [--jobs N]
+"""
+import argparse
+import collections
+import concurrent.futures
+import json
+import os
+import random
+import subprocess
+import sys
+
 import scripts
 import traces
 
@@ -35,6 +49,32 @@ def first_stray(trace):
         if found:
             return (len(again.entries), *found)
     return None
+
+
+def copies(trace, instant, k):
+    """Who has the determinant of the delivery at position k at an instant: each process with it in its log, with the line of the entry
+    since which it is there, and stable storage."""
+    again, det, since = traces.Trace(trace.n), trace.dets[k], {}
+    for line, entry in enumerate(trace.entries[:instant], 2):
+        again.push(*entry)
+        for p, process in enumerate(again.processes):
+            if process.up and det in process.log:
+                since.setdefault(p, line)
+            else:
+                since.pop(p, None)
+    logged = [{"fact": "logged", "delivery": k, "process": p, "line": line} for p, line in sorted(since.items())]
+    return logged + ([{"fact": "stable", "delivery": k}] if det in again.stable else [])
+
+
+def object_of(text):
+    """What `replays --json` says of a text."""
+    word, *fields = followed(text)[0].split()
+    said = {"verdict": word} | dict(field.split("=") if "=" in field else ("kind", field) for field in fields)
+    said = {key: int(value) if value.isdigit() else value for key, value in said.items()}
+    if word == "strayed":
+        trace = traces.read(text)
+        said["reason"] = [fact for k in (said["first"], said["second"]) for fact in copies(trace, said["instant"], k)]
+    return said
 
 
 def followed(text):
@@ -123,8 +163,9 @@ ROWS = [
 ]
 
 
-def main():
-    wrong = [(entries, line) for entries, line in ROWS if followed(text_of(entries).encode())[0] != line]
+def wrong_models():
+    """How many of the rows, and of runs that the model of the runtime recorded, the model answers otherwise."""
+    wrong = [(text_of(entries), line) for entries, line in ROWS if followed(text_of(entries).encode())[0] != line]
     for seed in range(2_000):
         run = "\n".join(fuzz.recorded_run(random.Random(seed))) + "\n"
         if followed(run.encode())[1] != 0:
@@ -132,13 +173,69 @@ def main():
     for text, line in wrong:
         print(f"DIFFERENT\n  input {text!r}\n  wanted {line!r}\n  got    {followed(text.encode())[0]!r}")
     print(f"{len(ROWS)} rows and 2000 runs, {len(wrong)} different")
+    return len(wrong)
+
+
+def case(rng):
+    """The text of a random run, in a third of the cases damaged."""
+    lines = random_run(rng)
+    return fuzz.damaged(rng, lines) if rng.random() < 0.33 else ("\n".join(lines) + "\n").encode()
+
+
+def answered(program, text, *words):
+    ended = subprocess.run([program, "replays", *words], input=text, capture_output=True, timeout=60)
+    return ended.stdout.decode(), ended.returncode
+
+
+def differences(program, text, workers):
+    """What the program answers otherwise than the model, and the first word of the answer."""
+    line, status = followed(text)
+    said, ended = answered(program, text, "--json", "--workers", str(workers))
+    tries = [((line + "\n", status), answered(program, text, "--workers", str(workers))), ((object_of(text), status), (json.loads(said), ended))]
+    return [(text, wanted, got) for wanted, got in tries if wanted != got], line.split()[0]
+
+
+def chunk(program, seed, count):
+    """The differences of some cases, and how often each answer was met."""
+    rng, wrong, met = random.Random(seed), [], collections.Counter()
+    for _ in range(count):
+        differs, word = differences(program, case(rng), rng.choice((1, 1, 2, 3, 16)))
+        wrong += differs
+        met[word] += 1
+    return wrong, met
+
+
+def wrong_answers(given):
+    """How many answers of the program differ from those of the model; each answer has to be met."""
+    wrong, met = 0, collections.Counter()
+    with concurrent.futures.ProcessPoolExecutor(given.jobs) as pool:
+        starts = range(0, given.cases, fuzz.CHUNK)
+        jobs = [pool.submit(chunk, given.program, f"replays {given.seed} {start}", min(fuzz.CHUNK, given.cases - start)) for start in starts]
+        for job in concurrent.futures.as_completed(jobs):
+            found, counted = job.result()
+            met.update(counted)
+            for text, wanted, got in found:
+                wrong += 1
+                print(f"DIFFERENT\n  input {text!r}\n  wanted {wanted!r}\n  got    {got!r}")
+    for word in ("followed", "strayed", "fault"):
+        print(f"{met[word]:7} {word}")
+        wrong += not met[word]
+    print(f"{sum(met.values())} cases, {wrong} different")
+    return wrong
+
+
+def main():
+    given = argparse.ArgumentParser(description=__doc__.split("\n\n")[0])
+    given.add_argument("--program")
+    given.add_argument("--cases", type=int, default=3_000)
+    given.add_argument("--seed", type=int, default=1)
+    given.add_argument("--jobs", type=int, default=os.cpu_count())
+    given = given.parse_args()
+    wrong = wrong_answers(given) if given.program else wrong_models()
     sys.exit(1 if wrong else 0)
 
 
 if __name__ == "__main__":
-    import random
-    import sys
-
     import fuzz
 
     main()

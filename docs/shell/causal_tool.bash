@@ -5,15 +5,16 @@ _causal_tool() {
     --faults | --workers | --entries) return ;;
     esac
     if ((COMP_CWORD == 1)); then
-        offered="audit explain draw merge run help --help --version"
+        offered="audit explain replays draw merge run help --help --version"
     else
         case ${COMP_WORDS[1]} in
         audit) offered="--faults --workers --entries --until-breach --json --help" ;;
         explain) offered="--faults --workers --entries --json --help" ;;
+        replays) offered="--workers --entries --json --help" ;;
         draw) offered="--faults --workers --entries --help" ;;
         merge) offered="--entries --help" ;;
         run) offered="--help" ;;
-        help) ((COMP_CWORD == 2)) && offered="audit explain draw merge run help" ;;
+        help) ((COMP_CWORD == 2)) && offered="audit explain replays draw merge run help" ;;
         esac
     fi
     mapfile -t COMPREPLY < <(compgen -W "$offered" -- "$word")

@@ -3,13 +3,14 @@ import concurrent.futures
 import os
 
 import merge_model
+import replays as follower
 import scripts as runtime
 import traces as auditor
 
-from . import breaches, faults, files, helps, merges, pictures, reasons, scripts, verdicts
+from . import breaches, faults, files, helps, merges, pictures, reasons, replays, scripts, verdicts
 from .row import difference
 
-MODULES = (verdicts, breaches, faults, reasons, pictures, scripts, merges, files, helps)
+MODULES = (verdicts, breaches, faults, reasons, pictures, replays, scripts, merges, files, helps)
 SHORT = 300_000  # bytes of a text that a plain model reads in no time
 
 
@@ -49,6 +50,9 @@ def modelled(row):
     if row.words[0] == "audit":
         answered = auditor.audited_until_breach if "--until-breach" in row.words else auditor.audited
         line, status = answered(row.text, int(row.words[2]))
+        return status, line + "\n"
+    if row.words == ("replays",):
+        line, status = follower.followed(row.text)
         return status, line + "\n"
     if row.words[0] == "run":
         return runtime.ran(row.text)[::-1]

@@ -5,4 +5,6 @@ mod MergeLemmas
 mod PrintLemmas
 mod ReadLemmas
 mod Refusals
+mod ReplayLemmas
+mod StoredLemmas
 mod Writing

@@ -3,7 +3,7 @@ use Rattle.std.proofs.Common.{◌≡◌, ◌<◌, List, ℕ, Option, length, tak
 use Rattle.std.specs.Io.KnownBytes.{Appends}
 use Rattle.causal_merge.specs.declared.fault.MergeFault.{MergeFault}
 use Rattle.causal_commands.specs.declared.ended.Ended.{Ended}
-use Rattle.causal_commands.specs.declared.ended.Ended.TheVariants.{Accepted, Breached, Ranged, Merged, Faulted, Ran, Refused, ReadFault, WriteFault, NoMemory, NoWorker, FinishFault}
+use Rattle.causal_commands.specs.declared.ended.Ended.TheVariants.{Accepted, Breached, Ranged, Followed, Strayed, Merged, Faulted, Ran, Refused, ReadFault, WriteFault, NoMemory, NoWorker, FinishFault}
 use Rattle.causal_commands.specs.declared.merge_command.MergeOutcome.{MergeOutcome}
 use Rattle.causal_commands.specs.Merges.{IsMergeAnswer, WritesMerge, WritesMergeFor, bytes_read}
 use Rattle.causal_commands.specs.Inside.MergeOutcomes.{IsMergeFor}
@@ -13,6 +13,8 @@ answered : (most : ℕ) (text torn : List ℕ) (told : Option MergeFault) (old n
 answered most text torn told old new Accepted out p a = absurd p
 answered most text torn told old new Breached out p a = absurd p
 answered most text torn told old new Ranged out p a = absurd p
+answered most text torn told old new Followed out p a = absurd p
+answered most text torn told old new Strayed out p a = absurd p
 answered most text torn told old new Merged out p a = (out, p, a)
 answered most text torn told old new Faulted out p a = (out, p, a)
 answered most text torn told old new Ran out p a = absurd p

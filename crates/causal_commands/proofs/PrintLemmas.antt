@@ -3,7 +3,7 @@ use Rattle.std.proofs.Common.{◌≡◌, ◌<◌, List, ℕ, Option, length, tak
 use Rattle.std.specs.Prelude.{IfSome}
 use Rattle.std.specs.Io.KnownBytes.{Appends}
 use Rattle.causal_commands.specs.declared.ended.Ended.{Ended}
-use Rattle.causal_commands.specs.declared.ended.Ended.TheVariants.{Accepted, Breached, Ranged, Merged, Faulted, Ran, Refused, ReadFault, WriteFault, NoMemory, NoWorker, FinishFault}
+use Rattle.causal_commands.specs.declared.ended.Ended.TheVariants.{Accepted, Breached, Ranged, Followed, Strayed, Merged, Faulted, Ran, Refused, ReadFault, WriteFault, NoMemory, NoWorker, FinishFault}
 use Rattle.causal_commands.specs.Runs.{IsScriptAnswer, WritesScript, script_bytes_read}
 use Rattle.causal_commands.proofs.Known.{IfSome-weaker}
 
@@ -11,6 +11,8 @@ answered : (text : List ℕ) (old new : Option (List ℕ)) (e : Ended) (out : Li
 answered text old new Accepted out p a = absurd p
 answered text old new Breached out p a = absurd p
 answered text old new Ranged out p a = absurd p
+answered text old new Followed out p a = absurd p
+answered text old new Strayed out p a = absurd p
 answered text old new Merged out p a = absurd p
 answered text old new Faulted out p a = (out, p, a)
 answered text old new Ran out p a = (out, p, a)

@@ -5,7 +5,7 @@ use Rattle.std.specs.Io.KnownBytes.{Appends}
 use Rattle.std.proofs.KnownBytes.{Keeps-refl}
 use Rattle.causal_commands.specs.declared.answer.Answer.{Answer}
 use Rattle.causal_commands.specs.declared.ended.Ended.{Ended}
-use Rattle.causal_commands.specs.declared.ended.Ended.TheVariants.{Accepted, Breached, Ranged, Merged, Faulted, Ran, Refused, ReadFault, WriteFault, NoMemory, NoWorker, FinishFault}
+use Rattle.causal_commands.specs.declared.ended.Ended.TheVariants.{Accepted, Breached, Ranged, Followed, Strayed, Merged, Faulted, Ran, Refused, ReadFault, WriteFault, NoMemory, NoWorker, FinishFault}
 use Rattle.causal_commands.specs.declared.json.Question.{Question}
 use Rattle.causal_commands.specs.Json.{IsObject, object_of}
 use Rattle.causal_commands.specs.AnswerWrites.{WritesAnswer}
@@ -17,6 +17,8 @@ whole : (Answers : Ended → List ℕ → Type 0) (old new : Option (List ℕ)) 
 whole Answers old new Accepted line told is all = (line, is, all)
 whole Answers old new Breached line told is all = (line, is, all)
 whole Answers old new Ranged line told is all = (line, is, all)
+whole Answers old new Followed line told is all = (line, is, all)
+whole Answers old new Strayed line told is all = (line, is, all)
 whole Answers old new Merged line told is all = (line, is, all)
 whole Answers old new Faulted line told is all = (line, is, all)
 whole Answers old new Ran line told is all = (line, is, all)
@@ -57,6 +59,8 @@ nothing_so Answers old WriteFault silent = absurd silent
 nothing_so Answers old Accepted silent = absurd silent
 nothing_so Answers old Breached silent = absurd silent
 nothing_so Answers old Ranged silent = absurd silent
+nothing_so Answers old Followed silent = absurd silent
+nothing_so Answers old Strayed silent = absurd silent
 nothing_so Answers old Merged silent = absurd silent
 nothing_so Answers old Faulted silent = absurd silent
 nothing_so Answers old Ran silent = absurd silent

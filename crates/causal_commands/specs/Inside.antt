@@ -3,4 +3,5 @@ pub mod Answers
 pub mod ScriptAnswers
 pub mod MergeOutcomes
 pub mod Refusals
+pub mod ReplayAnswers
 pub mod ReasonsForScripts

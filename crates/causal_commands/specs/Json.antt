@@ -8,20 +8,23 @@ use Rattle.causal_report.specs.Objects.{verdict_object, ranges_object}
 use Rattle.causal_commands.specs.declared.ended.Ended.{Ended}
 use Rattle.causal_commands.specs.declared.ended.Ended.TheVariants.{Ranged}
 use Rattle.causal_commands.specs.declared.json.Question.{Question}
-use Rattle.causal_commands.specs.declared.json.Question.TheVariants.{Verdict, Breach, Reason, Range}
+use Rattle.causal_commands.specs.declared.json.Question.TheVariants.{Verdict, Breach, Reason, Range, Replays}
 use Rattle.causal_commands.specs.declared.view.View.TheVariants as view
+use Rattle.causal_commands.specs.declared.survivors.StrayDetail.TheVariants.{WithSurvivors}
 use Rattle.causal_commands.specs.Ranges.{IsRangeAnswer}
+use Rattle.causal_commands.specs.Replays.{IsReplaysAnswer}
 use Rattle.causal_commands.specs.Views.{IsViewAnswer}
 use Rattle.causal_commands.specs.Streams.{IsAnswer}
 use Rattle.causal_commands.specs.EarlyAnswers.{IsEarlyAnswer}
 use Rattle.causal_commands.specs.AnswerWrites.{WritesAnswer}
 
--- the bound f of the question; `Range` has none, and the entries before an error are audited for 0
+-- the bound f of the question; `Range` and `Replays` have none, and the entries before an error are audited for 0
 abbrev pub faults_of : Question → ℕ
 faults_of (Verdict faults workers) = faults
 faults_of (Breach faults workers) = faults
 faults_of (Reason faults workers) = faults
 faults_of (Range workers) = 0
+faults_of (Replays workers) = 0
 
 -- the number of workers that read and audit
 abbrev pub workers_of : Question → ℕ
@@ -29,6 +32,7 @@ workers_of (Verdict faults workers) = workers
 workers_of (Breach faults workers) = workers
 workers_of (Reason faults workers) = workers
 workers_of (Range workers) = workers
+workers_of (Replays workers) = workers
 
 -- there are 1 to 64 workers
 abbrev pub HasFewWorkers : Question → Type 0
@@ -45,6 +49,7 @@ AreLines most (Verdict faults workers) text ended lines = IsAnswer most text fau
 AreLines most (Breach faults workers) text ended lines = IsEarlyAnswer most text faults ended lines
 AreLines most (Reason faults workers) text ended lines = IsViewAnswer most view.Reason text faults ended lines
 AreLines most (Range workers) text ended lines = IsRangeAnswer most text ended lines
+AreLines most (Replays workers) text ended lines = IsReplaysAnswer most WithSurvivors text ended lines
 
 -- the JSON object that has the content of the lines
 abbrev pub object_of : Ended → List ℕ → List ℕ

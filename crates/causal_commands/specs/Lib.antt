@@ -8,6 +8,7 @@ pub mod Judgements
 pub mod Merges
 pub mod Reading
 pub mod Ranges
+pub mod Replays
 pub mod Reasons
 pub mod Diagnostics
 pub mod DiagnosticText

@@ -10,6 +10,10 @@ pub enum Ended {
     Breached,
     /// The bounds f for which a trace is safe were written.
     Ranged,
+    /// The line of a trace whose recoveries follow what survives was written.
+    Followed,
+    /// The first instant at which a trace strays from what survives was written.
+    Strayed,
     /// The trace merged from recorder files was written.
     Merged,
     /// The line of the first error of a trace, a script or recorder files was written; as a picture, nothing.
@@ -39,8 +43,8 @@ impl Ended {
         ensures { result ≡ status_of self }
     {
         match self {
-            Ended::Accepted | Ended::Ranged | Ended::Merged | Ended::Ran => 0,
-            Ended::Breached => 1,
+            Ended::Accepted | Ended::Ranged | Ended::Followed | Ended::Merged | Ended::Ran => 0,
+            Ended::Breached | Ended::Strayed => 1,
             Ended::Faulted | Ended::Refused => 2,
             Ended::ReadFault | Ended::WriteFault => 4,
             Ended::NoMemory | Ended::NoWorker | Ended::FinishFault => 5,
@@ -55,6 +59,8 @@ impl Ended {
             Ended::Accepted
             | Ended::Breached
             | Ended::Ranged
+            | Ended::Followed
+            | Ended::Strayed
             | Ended::Merged
             | Ended::Faulted
             | Ended::Ran

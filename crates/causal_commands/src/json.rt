@@ -1,4 +1,4 @@
-//! The answers of `audit` and `explain` as one JSON object, over any reader and writer.
+//! The answers of `audit`, `explain` and `replays` as one JSON object, over any reader and writer.
 ghost use Rattle.std.specs.Prelude.{◌≡◌, ◌≤◌, IfOk, IfErr, Err};
 ghost use Rattle.causal_commands.specs.Json as json;
 ghost use Rattle.causal_commands.specs.Diagnostics.{IsDiagnosisFor};
@@ -9,7 +9,9 @@ use crate::diagnostic::DiagnosedFault;
 use crate::early_audit::early_answer;
 use crate::ended::Ended;
 use crate::input_audit::judge_input;
+use crate::replays_command::replays_answer;
 use crate::stream::Outcome;
+use crate::survivors::StrayDetail;
 use crate::view::View;
 use crate::{range, view};
 use causal_report::{ranges_object, verdict_object};
@@ -32,10 +34,13 @@ pub enum Question {
     Reason { faults: u16, workers: u32 },
     /// The bounds f for which the trace is safe. `workers` threads read.
     Range { workers: u32 },
+    /// Whether recoveries follow what survives, and if not, who has which of the two determinants. `workers` threads
+    /// read.
+    Replays { workers: u32 },
 }
 
 impl Question {
-    /// Returns the bound f of the question; 0 for `Range`, which has none.
+    /// Returns the bound f of the question; 0 for `Range` and `Replays`, which have none.
     pub fn faults(self) -> u16
         ensures { result ≡ json.faults_of self }
     {
@@ -43,7 +48,7 @@ impl Question {
             Question::Verdict { faults, .. }
             | Question::Breach { faults, .. }
             | Question::Reason { faults, .. } => faults,
-            Question::Range { .. } => 0,
+            Question::Range { .. } | Question::Replays { .. } => 0,
         }
     }
 }
@@ -130,6 +135,16 @@ fn answer_lines<I: Read, R: Threads + Wait>(
             view::view_answer(rt, alloc, input, limits, faults, workers, View::Reason)
         }
         Question::Range { workers } => range::range_answer(rt, alloc, input, limits, workers),
+        Question::Replays { workers } => {
+            replays_answer(
+                rt,
+                alloc,
+                input,
+                limits,
+                workers,
+                StrayDetail::WithSurvivors,
+            )
+        }
     }
 }
 

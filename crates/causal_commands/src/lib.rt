@@ -6,7 +6,8 @@
 //!
 //! - [`answer_until_breach`] is `audit` that stops at a breach.
 //! - [`answer_view`] is `explain` and `draw`; [`answer_range`] is `explain` for all bounds f.
-//! - [`answer_as_json`] writes an answer of `audit` or `explain` as one JSON object.
+//! - [`answer_replays`] is `replays`.
+//! - [`answer_as_json`] writes an answer of `audit`, `explain` or `replays` as one JSON object.
 //! - [`answer_merge`] is `merge`, and [`answer_script`] is `run`.
 //! - [`audit_stream`] is `audit` within the default limits, and returns the ending alone.
 //! - [`read_script`] reads a script's text; [`LastErrorStream`] keeps the error of a failed stream; a [`ChainedStream`] reads
@@ -40,6 +41,8 @@ pub mod last_error_stream;
 pub mod range;
 /// Bounded reads: the text of a script, or recorder files.
 pub mod bounded_read;
+/// The command `replays`.
+pub mod replays_command;
 /// The diagnosis of an invalid trace.
 pub mod diagnostic;
 /// The command `run`.
@@ -48,6 +51,8 @@ pub mod script;
 pub mod view;
 /// The command `audit`.
 pub mod stream;
+/// The text of a stray, and of who has which of its two determinants.
+pub mod survivors;
 /// The command `audit --until-breach`, which stops at the first breach that it finds.
 pub mod early_audit;
 
@@ -62,6 +67,7 @@ pub use json::{Question, answer_as_json};
 pub use last_error_stream::LastErrorStream;
 pub use merge_command::{MergeOutcome, answer_merge};
 pub use range::{answer_range, range_text};
+pub use replays_command::answer_replays;
 pub use runtime_audit::audit_core;
 pub use script::{Reason, answer_script};
 pub use stream::{Outcome, answer_audit, audit_stream};

@@ -15,7 +15,7 @@ pub mod breach_explanation;
 /// The value that explains how a delivery comes to have an orphan.
 pub mod explanation;
 /// Which volatile logs contain a determinant at an instant and since when, and which lost it.
-mod holdings;
+pub mod holdings;
 /// The deliveries after which the receiver's log lacks a determinant.
 mod missing_det;
 /// The bounds f for which a run is safe.
@@ -33,4 +33,5 @@ pub use chain::shortest_chain;
 pub use closest::{Closest, closest_failure};
 pub use down_processes::down_since;
 pub use explanation::{DownProcess, Explanation, Holding, Loss, LostBy};
+pub use holdings::{HolderHistory, holder_history};
 pub use range::{SafeRange, safe_range};

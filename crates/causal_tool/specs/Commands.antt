@@ -2,7 +2,7 @@
 use Rattle.std.specs.Prelude.{◌≡◌, ℕ, List, Option}
 use Rattle.causal_commands.specs.declared.ended.Ended.{Ended}
 use Rattle.causal_commands.specs.declared.json.Question.{Question}
-use Rattle.causal_commands.specs.declared.json.Question.TheVariants.{Verdict, Breach, Reason, Range}
+use Rattle.causal_commands.specs.declared.json.Question.TheVariants.{Verdict, Breach, Reason, Range, Replays}
 use Rattle.causal_commands.specs.declared.view.View.TheVariants.{Picture}
 use Rattle.causal_commands.specs.declared.view.View.TheVariants as view
 use Rattle.causal_commands.specs.Json.{WritesObjectFor, StopsFor, faults_of}
@@ -12,6 +12,7 @@ use Rattle.causal_commands.specs.Reasons.{IsReasonFor}
 use Rattle.causal_commands.specs.Runs.{WritesScriptFor, ReadsAtMostScript}
 use Rattle.causal_commands.specs.EarlyAnswers.{WritesEarlyFor}
 use Rattle.causal_commands.specs.Ranges.{WritesRangeFor}
+use Rattle.causal_commands.specs.Replays.{WritesReplaysFor}
 use Rattle.causal_commands.specs.Streams.{WritesWithin}
 use Rattle.causal_commands.specs.Views.{WritesViewFor}
 use Rattle.causal_tool.specs.declared.args.Form.{Form}
@@ -28,6 +29,7 @@ WritesAnswerIn Lines most (Verdict faults workers) given ended old new = WritesW
 WritesAnswerIn Lines most (Breach faults workers) given ended old new = WritesEarlyFor most given faults ended old new
 WritesAnswerIn Lines most (Reason faults workers) given ended old new = WritesViewFor most view.Reason given faults ended old new
 WritesAnswerIn Lines most (Range workers) given ended old new = WritesRangeFor most given ended old new
+WritesAnswerIn Lines most (Replays workers) given ended old new = WritesReplaysFor most given ended old new
 
 -- What a command writes for the bytes of a reader, and that the error that it returns is true: each command of the
 -- command line is answered by its own call.

@@ -4,7 +4,7 @@ ghost use Rattle.clap.specs.Values.{kind_of};
 ghost use Rattle.causal_tool.specs.Inside.Refusals.{exit_for_clap_error};
 ghost use Rattle.causal_tool.specs.Args.{HasWorkerCountInRange, AsksWithinRange};
 
-use crate::help_text::{ANSWERS, PICTURES, REASONS, RECORDINGS, SCRIPTS};
+use crate::help_text::{ANSWERS, PICTURES, REASONS, RECORDINGS, REPLAYS, SCRIPTS};
 use causal_commands::{Ended, Question};
 use causal_trace::limits::{DEFAULT_ENTRIES, Limits};
 use clap::error::ErrorKind;
@@ -172,6 +172,7 @@ fn parse_command(name: &str, given: &ArgMatches) -> Option<Invocation>
     match name {
         "audit" => parse_audit(given),
         "explain" => parse_explain(given),
+        "replays" => parse_replays(given),
         "draw" => parse_draw(given),
         "merge" => Some(Invocation::Merge {
             limits: parse_limits(given),
@@ -233,6 +234,19 @@ fn parse_explain(given: &ArgMatches) -> Option<Invocation>
     })
 }
 
+fn parse_replays(given: &ArgMatches) -> Option<Invocation>
+    ensures { IfSome result HasWorkerCountInRange }
+{
+    match given.get_one::<u32>("workers") {
+        Some(workers @ 1..=64) => Some(Invocation::Trace {
+            question: Question::Replays { workers },
+            form: parse_form(given),
+            limits: parse_limits(given),
+        }),
+        _ => None,
+    }
+}
+
 fn parse_form(given: &ArgMatches) -> Form {
     if given.get_flag("json") {
         Form::Json
@@ -288,7 +302,7 @@ struct CommandSpec {
     given: &'static [OptionKind],
 }
 
-const COMMANDS: [CommandSpec; 5] = [
+const COMMANDS: [CommandSpec; 6] = [
     CommandSpec {
         name: "audit",
         about: "Audits a trace",
@@ -309,6 +323,17 @@ const COMMANDS: [CommandSpec; 5] = [
         given: &[
             OptionKind::File,
             OptionKind::Faults { is_required: false },
+            OptionKind::Workers,
+            OptionKind::Entries,
+            OptionKind::Json,
+        ],
+    },
+    CommandSpec {
+        name: "replays",
+        about: "Tells whether recoveries follow the determinants that survive",
+        help: REPLAYS,
+        given: &[
+            OptionKind::File,
             OptionKind::Workers,
             OptionKind::Entries,
             OptionKind::Json,

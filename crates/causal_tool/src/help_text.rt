@@ -54,6 +54,36 @@ Exit status: as that of `audit`; without --faults 0 for each trace
 Example:
   causal_tool explain --faults 1 trace.jsonl";
 
+/// The help of `replays`.
+pub(crate) const REPLAYS: &str = "\
+A determinant survives while it is stable or in the log of a process. A process that recovers has
+to deliver, as its delivery R, the message that a survivor names.
+
+Answers, as one line on standard output:
+  followed entries=N deliveries=D
+      at no instant two different survivors name delivery R of one process
+  strayed instant=T process=P rsn=R first=K second=L
+      after T entries, the first such instant, two different survivors name delivery R of P,
+      the least such: K and L are the first deliveries with two such determinants; entries
+      count from 0
+  fault line=L KIND
+      the text is no trace: its first fault is at line L
+With --json the same as one JSON object, and who has which of the two determinants:
+  {\"verdict\":\"strayed\",\"instant\":T,..,\"reason\":[
+   {\"fact\":\"logged\",\"delivery\":K,\"process\":P,\"line\":L},{\"fact\":\"stable\",\"delivery\":K},..]}
+  P has the determinant of the delivery K in its log since line L; it is in stable storage
+
+Exit status:
+  0  recoveries follow what survives
+  1  they stray
+  2  the text is no trace
+  3  the words ask for nothing that the program does
+  4  reading or writing failed
+  5  memory was refused
+
+Example:
+  causal_tool replays trace.jsonl";
+
 /// The help of `draw`.
 pub(crate) const PICTURES: &str = "\
 Answers on standard output:

@@ -5,7 +5,8 @@
 //!
 //! - [`answer_audit`] is `audit`, and [`answer_until_breach`] is `audit --until-breach`.
 //! - [`answer_view`] is `explain` and `draw`; [`answer_range`] is `explain` without a bound f.
-//! - [`answer_as_json`] is `audit` and `explain` with `--json`.
+//! - [`answer_replays`] is `replays`.
+//! - [`answer_as_json`] is `audit`, `explain` and `replays` with `--json`.
 //! - [`answer_merge`] is `merge`, and [`answer_script`] is `run`.
 //!
 //! [`parse_command_line`] parses the command line, [`open_sources`] opens what it names, and [`run_command`] runs the command.
@@ -58,6 +59,10 @@ fn name_of(asked: Invocation) -> &'static str {
             question: Question::Verdict { .. } | Question::Breach { .. },
             ..
         } => "causal_tool audit",
+        Invocation::Trace {
+            question: Question::Replays { .. },
+            ..
+        } => "causal_tool replays",
         Invocation::Trace { .. } => "causal_tool explain",
         Invocation::Draw { .. } => "causal_tool draw",
         Invocation::Merge { .. } => "causal_tool merge",

@@ -8,7 +8,7 @@ ghost use Rattle.causal_tool.specs.Commands.{WritesAnswerIn, Answers, ReadsFor};
 use crate::args::{Form, Invocation};
 use causal_commands::{
     DiagnosedFault, MergeOutcome, Outcome, Question, Reason, View, answer_as_json, answer_audit,
-    answer_merge, answer_range, answer_script, answer_until_breach, answer_view,
+    answer_merge, answer_range, answer_replays, answer_script, answer_until_breach, answer_view,
 };
 use causal_trace::limits::Limits;
 use causal_workers::OpenGate;
@@ -66,6 +66,9 @@ fn answer_question<R: Threads + Wait + AllocGlobal, I: Read, O: Write>(
                 answer_view(rt, alloc, input, output, limits, faults, workers, View::Reason)
             }
             Question::Range { workers } => answer_range(rt, alloc, input, output, limits, workers),
+            Question::Replays { workers } => {
+                answer_replays(rt, alloc, input, output, limits, workers)
+            }
         },
     }
 }

@@ -8,7 +8,7 @@ use Rattle.causal_workers.specs.declared.judgement.Judged.{Judged}
 use Rattle.causal_workers.specs.Judgements.{IsJudgementWithin}
 use Rattle.causal_commands.specs.declared.answer.Answer.{Answer}
 use Rattle.causal_commands.specs.declared.ended.Ended.{Ended}
-use Rattle.causal_commands.specs.declared.ended.Ended.TheVariants.{Accepted, Breached, Ranged, Merged, Faulted, Ran, Refused, ReadFault, WriteFault, NoMemory, NoWorker}
+use Rattle.causal_commands.specs.declared.ended.Ended.TheVariants.{Accepted, Breached, Ranged, Followed, Strayed, Merged, Faulted, Ran, Refused, ReadFault, WriteFault, NoMemory, NoWorker}
 use Rattle.causal_commands.specs.declared.input_audit.StreamRefusal.{StreamRefusal}
 use Rattle.causal_commands.specs.declared.json.Question.{Question}
 use Rattle.causal_commands.specs.declared.view.View.{View}
@@ -50,6 +50,8 @@ abbrev pub WritesWholeAnswer : Ended → Type 0
 WritesWholeAnswer Accepted = ⊤
 WritesWholeAnswer Breached = ⊤
 WritesWholeAnswer Ranged = ⊤
+WritesWholeAnswer Followed = ⊤
+WritesWholeAnswer Strayed = ⊤
 WritesWholeAnswer Merged = ⊤
 WritesWholeAnswer Faulted = ⊤
 WritesWholeAnswer Ran = ⊤

@@ -50,3 +50,6 @@ returns-in-Reason-clause-stops g c = rw c.in-Reason.is c.view_answer.ensures.sto
 
 pub returns-in-Range-clause-stops : goal.returns-in-Range-clause-stops
 returns-in-Range-clause-stops g c = rw c.in-Range.is c.range_answer.ensures.stops
+
+pub returns-in-Replays-clause-stops : goal.returns-in-Replays-clause-stops
+returns-in-Replays-clause-stops g c = rw c.in-Replays.is c.replays_answer.ensures.stops
