@@ -63,7 +63,16 @@ fn answer_question<R: Threads + Wait + AllocGlobal, I: Read, O: Write>(
                 answer_until_breach(rt, alloc, input, output, limits, faults, workers, &OpenGate)
             }
             Question::Reason { faults, workers } => {
-                answer_view(rt, alloc, input, output, limits, faults, workers, View::Reason)
+                answer_view(
+                    rt,
+                    alloc,
+                    input,
+                    output,
+                    limits,
+                    faults,
+                    workers,
+                    View::Reason,
+                )
             }
             Question::Range { workers } => answer_range(rt, alloc, input, output, limits, workers),
             Question::Replays { workers } => {
@@ -110,7 +119,16 @@ pub(crate) fn run_command<R: Threads + Wait + AllocGlobal + RandomSource, I: Rea
             limits,
         } => CommandOutcome::Trace {
             f: faults,
-            outcome: answer_view(rt, alloc, input, output, limits, faults, workers, View::Picture),
+            outcome: answer_view(
+                rt,
+                alloc,
+                input,
+                output,
+                limits,
+                faults,
+                workers,
+                View::Picture,
+            ),
         },
         Invocation::Merge { limits } => CommandOutcome::Merge {
             outcome: answer_merge(alloc, input, output, limits),
