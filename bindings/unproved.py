@@ -9,6 +9,7 @@ import time
 
 CALLS = """
 use crate::c_entry::CEntry;
+use crate::c_stray::CStray;
 use crate::c_verdict::CVerdict;
 use crate::handle::Handle;
 use std::rt::HostRuntime;
@@ -18,6 +19,7 @@ fn main(rt: HostRuntime) {
     let mut verdict = CVerdict {
         kind: 0, entries: 0, deliveries: 0, instant: 0, delivery: 0, orphan: 0, line: 0, fault: 0, processes: [0u8; 256],
     };
+    let mut stray = CStray { kind: 0, instant: 0, rsn: 0, first: 0, second: 0, line: 0, fault: 0, process: 0 };
     let entry = CEntry { kind: 3, ssn: 0, rsn: 0, send: 0, source: 0, dest: 0, who: 0 };
     let mut handle = Handle::new_closed(alloc);
     let mut out = [0u8; 1];
@@ -26,6 +28,8 @@ fn main(rt: HostRuntime) {
     audit::nixu_version();
     audit::nixu_audit(alloc, b"", 0, &mut verdict);
     audit::nixu_audit_each(alloc, b"", &[], &mut []);
+    replays::nixu_replays(alloc, b"", &mut stray);
+    replays::nixu_trace_replays(alloc, &mut handle, &mut stray);
     views::nixu_line(alloc, b"", 0, &mut out, &mut needed);
     views::nixu_explain(alloc, b"", 0, &mut out, &mut needed);
     views::nixu_draw(alloc, b"", 0, &mut out, &mut needed);

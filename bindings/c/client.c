@@ -93,6 +93,21 @@ static uint32_t fed(answer *to, bytes text, uint16_t faults) {
   return status;
 }
 
+static void say_stray(answer *to, const nixu_stray *stray) {
+  if (stray->kind == NIXU_FOLLOWED) say(to, "followed\n");
+  else if (stray->kind == NIXU_FAULTY) say(to, "fault line=%u %s\n", (unsigned)stray->line, fault_name(stray->fault));
+  else
+    say(to, "strayed instant=%u process=%u rsn=%u first=%u second=%u\n", (unsigned)stray->instant, (unsigned)stray->process,
+        (unsigned)stray->rsn, (unsigned)stray->first, (unsigned)stray->second);
+}
+
+static uint32_t replays(answer *to, bytes text) {
+  nixu_stray stray;
+  uint32_t status = nixu_replays(text.at, text.length, &stray);
+  if (status <= NIXU_FAULT) say_stray(to, &stray);
+  return status;
+}
+
 static uint32_t sentence(answer *to, bytes text, uint16_t faults) {
   nixu_verdict told;
   uint32_t status = nixu_audit(text.at, text.length, faults, &told);
@@ -127,6 +142,7 @@ static uint32_t print_trace(nixu_trace *trace, const answer *said) {
 static uint32_t print_recording(nixu_trace *trace, const recording *all, uint16_t faults) {
   answer told = {"", 0};
   nixu_verdict verdict;
+  nixu_stray stray;
   size_t at;
   uint32_t fault, status = push_all(trace, all, &at, &fault, NULL);
   if (status == NIXU_FAULT) {
@@ -134,8 +150,10 @@ static uint32_t print_recording(nixu_trace *trace, const recording *all, uint16_
     print(told.at, told.length);
   }
   if (status == NIXU_OK) status = nixu_trace_audit(trace, faults, &verdict);
+  if (status == NIXU_OK) status = nixu_trace_replays(trace, &stray);
   if (status != NIXU_OK) return status;
   say_verdict(&told, &verdict, faults);
+  say_stray(&told, &stray);
   return print_trace(trace, &told);
 }
 
@@ -164,6 +182,7 @@ static uint32_t print_task(const char *word, bytes text, uint16_t faults) {
   if (!strcmp(word, "audit")) status = audit(&told, text, faults);
   else if (!strcmp(word, "each")) status = audit_each(&told, text);
   else if (!strcmp(word, "fed")) status = fed(&told, text, faults);
+  else if (!strcmp(word, "replays")) status = replays(&told, text);
   else status = sentence(&told, text, faults);
   print(told.at, told.length);
   return status;

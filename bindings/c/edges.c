@@ -173,6 +173,16 @@ static void try_trace(void) {
   try_no_trace(&trace);
 }
 
+static void try_no_stray(void) {
+  nixu_trace trace = {0};
+  nixu_stray stray;
+  memset(&stray, 0xa5, sizeof stray);
+  expect(nixu_trace_replays(&trace, &stray) == NIXU_CLOSED, "no trace is checked");
+  expect(is_filled(&stray, sizeof stray), "nothing was written then");
+  expect(nixu_replays(NULL, 0, &stray) == NIXU_FAULT, "a text may be empty");
+  expect(stray.kind == NIXU_FAULTY && stray.line == 1 && stray.fault == NIXU_CUT && !stray.instant, "it is cut then");
+}
+
 static void try_long_text(void) {
   nixu_verdict told;
   uint8_t *blank = malloc(LONGEST + 1);
@@ -196,6 +206,7 @@ int main(int argc, char **argv) {
   try_trace();
   try_limits_of_a_reader();
   try_limits_of_a_trace();
+  try_no_stray();
   if (argc > 2) try_long_text();
   free(text.at);
   printf("%d edges are wrong\n", wrong);

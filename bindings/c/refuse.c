@@ -15,6 +15,7 @@ enum { ROOM = 1 << 18, FAULTS = 3 };
 /* What a call may write. */
 typedef struct written {
   nixu_verdict told[FAULTS];
+  nixu_stray stray;
   size_t needed;
   uint8_t out[ROOM];
 } written;
@@ -73,6 +74,10 @@ static uint32_t draw(bytes text, written *to) {
   return nixu_draw(text.at, text.length, 1, to->out, ROOM, &to->needed);
 }
 
+static uint32_t replays(bytes text, written *to) {
+  return nixu_replays(text.at, text.length, &to->stray);
+}
+
 /* A text in two pieces. After an error nothing is left open. */
 static uint32_t fed(bytes text, written *to) {
   static const uint16_t faults[FAULTS] = {0, 2, 1};
@@ -112,6 +117,14 @@ static uint32_t entries_text(bytes text, written *to) {
   nixu_trace trace = {0};
   uint32_t status = recorded_by(&trace);
   if (status == NIXU_OK) status = nixu_trace_text(&trace, to->out, ROOM, &to->needed);
+  nixu_trace_close(&trace);
+  return trace.held || trace.full || text.at ? NIXU_CLOSED : status;
+}
+
+static uint32_t entries_replays(bytes text, written *to) {
+  nixu_trace trace = {0};
+  uint32_t status = recorded_by(&trace);
+  if (status == NIXU_OK) status = nixu_trace_replays(&trace, &to->stray);
   nixu_trace_close(&trace);
   return trace.held || trace.full || text.at ? NIXU_CLOSED : status;
 }
@@ -167,6 +180,7 @@ static long try_text(const char *path) {
   growths += try_call(line, "nixu_line", path, text);
   growths += try_call(explain, "nixu_explain", path, text);
   growths += try_call(draw, "nixu_draw", path, text);
+  growths += try_call(replays, "nixu_replays", path, text);
   growths += try_call(fed, "a fed reader", path, text);
   free(text.at);
   return growths;
@@ -178,6 +192,7 @@ static long try_entries(const char *path) {
   if (read_recording(path, &all)) {
     growths += try_call(entries_audit, "nixu_trace_audit", path, none);
     growths += try_call(entries_text, "nixu_trace_text", path, none);
+    growths += try_call(entries_replays, "nixu_trace_replays", path, none);
   }
   free_recording(&all);
   return growths;

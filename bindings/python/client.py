@@ -26,6 +26,12 @@ def said(told: nixu.Verdict, f: int) -> str:
     return f"orphan f={f} instant={told.instant} delivery={told.delivery} crash={listed(told.crash)} orphan={told.orphan}\n"
 
 
+def strayed(told: nixu.Stray | None) -> str:
+    if told is None:
+        return "followed\n"
+    return f"strayed instant={told.instant} process={told.process} rsn={told.rsn} first={told.first} second={told.second}\n"
+
+
 def verdict(word: str, text: bytes, f: int) -> str:
     if word in SHOWS:
         return SHOWS[word](text, f)
@@ -33,6 +39,8 @@ def verdict(word: str, text: bytes, f: int) -> str:
         return said(nixu.audit(text, f), f)
     if word == "each":
         return "".join(map(said, nixu.audit_each(text, FAULTS), FAULTS))
+    if word == "replays":
+        return strayed(nixu.replays(text))
     if word == "fed":
         return said(fed(text, f), f)
     if word == "entries":
@@ -75,7 +83,7 @@ def recorded(file: str, f: int) -> str:
                 trace.push(entry(line))
             except nixu.Refused as refused:
                 return f"fault line={i + 2} {refused.kind.name}\n"
-        return said(trace.audit(f), f) + trace.text()
+        return said(trace.audit(f), f) + strayed(trace.replays()) + trace.text()
 
 
 def answer(word: str, text: bytes, f: int) -> str:

@@ -185,6 +185,21 @@ class Calls(unittest.TestCase):
             self.assertRaises(ValueError, nixu.Reader, entries)
             self.assertRaises(ValueError, nixu.Trace, 2, entries)
 
+    def test_a_stray_is_told(self):
+        text = (
+            b'["trace",2,3]\n["send",0,1,0]\n["send",2,1,0]\n["deliver",1,0,0,[[0,0,1,0]]]\n["send",1,2,0]\n'
+            b'["deliver",2,3,0,[[0,0,1,0],[1,0,2,0]]]\n["crash",1]\n["restart",1,[]]\n'
+            b'["deliver",1,1,0,[[2,0,1,0]]]\n["end",8]\n'
+        )
+        self.assertEqual(nixu.replays(text), nixu.Stray(instant=8, process=1, rsn=0, first=2, second=7))
+        self.assertIsNone(nixu.replays(example("ring.jsonl")))
+        self.assertIsNone(self.orphaned().replays())
+        self.is_told(lambda text, _: nixu.replays(text), example("skipped.jsonl"), 0)
+        self.raises(TypeError, "text must be bytes, not str", nixu.replays, "hello")
+        trace = nixu.Trace(3)
+        trace.close()
+        self.raises(RuntimeError, "the Trace is closed", trace.replays)
+
     def test_threads_may_call_side_by_side(self):
         text, wrong = example("ring.jsonl"), []
         wanted = nixu.explain(text, 2)

@@ -22,7 +22,7 @@ from . import _library as c
 from ._library import MOST_ENTRIES, VERSION
 
 __all__ = ["Accepted", "Exceeded", "Orphan", "Verdict", "Fault", "FaultKind", "audit", "audit_each", "line", "explain", "draw", "VERSION"]
-__all__ += ["USUAL_ENTRIES", "MOST_ENTRIES"]
+__all__ += ["USUAL_ENTRIES", "MOST_ENTRIES", "Stray", "replays"]
 __all__ += ["Reader", "Trace", "Refused", "Entry", "Send", "Deliver", "Stable", "Crash", "Restart", "Forget", "Determinant"]
 
 USUAL_ENTRIES = 65_536
@@ -63,6 +63,22 @@ class Orphan:
 
 
 Verdict = Union[Accepted, Exceeded, Orphan]
+
+
+@dataclass(frozen=True)
+class Stray:
+    """Two different determinants survive in one slot: the process delivered another message than a survivor names."""
+
+    instant: int
+    """The first instant with such a slot, as a number of entries."""
+    process: int
+    """The receiver of the least such slot."""
+    rsn: int
+    """The receive sequence number of the slot."""
+    first: int
+    """The position of the first delivery with a survivor of the slot, from 0."""
+    second: int
+    """The position of the first delivery with another survivor of the slot."""
 
 
 class FaultKind(enum.IntEnum):
@@ -191,6 +207,13 @@ def audit_each(text: bytes, faults: Sequence[int]) -> list[Verdict]:
     return [_verdict(status, one) for one in told]
 
 
+def replays(text: bytes) -> Union[Stray, None]:
+    """The first stray of the trace that a text spells; None if its recoveries follow what survives. Raises as audit does."""
+    told = c.CStray()
+    status = c.library.nixu_replays(c.text_of("text", text), len(text), told)
+    return _stray(status, told)
+
+
 def line(text: bytes, faults: int) -> str:
     """The line of the verdict, as `causal_tool audit` prints it, with its line feed. Raises as audit does."""
     return _shown(c.library.nixu_line, 2_048, text, faults)
@@ -313,6 +336,14 @@ class Trace(_Open):
         _check(status, "Trace")
         return _verdict(status, told)
 
+    def replays(self) -> Union[Stray, None]:
+        """The first stray of the entries so far; None if the recoveries follow what survives. Raises MemoryError."""
+        told = c.CStray()
+        with self._alone() as handle:
+            status = c.library.nixu_trace_replays(handle, told)
+        _check(status, "Trace")
+        return _stray(status, told)
+
     def text(self) -> str:
         """The text of the trace so far, which `audit` reads. Raises MemoryError."""
         needed = ctypes.c_size_t()
@@ -381,6 +412,13 @@ def _verdict(status: int, told: c.Summary) -> Verdict:
     if told.kind == 1:
         return Exceeded(told.entries, told.deliveries, told.instant, processes)
     return Orphan(told.entries, told.deliveries, told.instant, told.delivery, processes, told.orphan)
+
+
+def _stray(status: int, told: c.CStray) -> Union[Stray, None]:
+    if status == c.FAULT:
+        raise Fault(told.line, FaultKind(told.fault))
+    _check(status)
+    return Stray(told.instant, told.process, told.rsn, told.first, told.second) if told.kind else None
 
 
 def _bound(faults: int) -> int:

@@ -32,6 +32,13 @@ class Summary(ctypes.Structure):
     ]
 
 
+class CStray(ctypes.Structure):
+    """`nixu_stray`."""
+
+    _fields_ = [(name, ctypes.c_uint32) for name in ("kind", "instant", "rsn", "first", "second", "line", "fault")]
+    _fields_ += [("process", ctypes.c_uint8)]
+
+
 class Handle(ctypes.Structure):
     """`nixu_reader` and `nixu_trace`."""
 
@@ -89,6 +96,7 @@ def _declare(library: ctypes.CDLL) -> None:
         "audit": [*text, ctypes.c_uint16, told],
         "audit_each": [*text, faults, size, told, size],
         **{view: [*text, ctypes.c_uint16, *out] for view in ("line", "explain", "draw")},
+        "replays": [*text, ctypes.POINTER(CStray)],
         "fault_text": [number, *out],
         "reader_open_within": [handle, number],
         "reader_feed": [handle, *text, told],
@@ -97,6 +105,7 @@ def _declare(library: ctypes.CDLL) -> None:
         "trace_open_within": [handle, ctypes.c_uint16, number],
         "trace_push": [handle, ctypes.POINTER(CEntry), ctypes.POINTER(CDeterminant), size, ctypes.POINTER(number)],
         "trace_audit": [handle, ctypes.c_uint16, told],
+        "trace_replays": [handle, ctypes.POINTER(CStray)],
         "trace_text": [handle, *out],
         "trace_close": [handle],
     }

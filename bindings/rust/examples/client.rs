@@ -1,6 +1,6 @@
 //! Does what a file of tasks asks for, and answers in the form that bindings/test compares with the program's answers: the form and the
 //! words are those of ../c/client.c.
-use nixu::{Audit, Determinant, Entry, Error, Reader, Trace, Verdict};
+use nixu::{Audit, Determinant, Entry, Error, Reader, Stray, Trace, Verdict};
 use std::io::{self, Write};
 
 fn set(processes: &[u8]) -> String {
@@ -25,6 +25,15 @@ fn or_fault(told: Result<String, Error>) -> Result<String, Error> {
     match told {
         Err(Error::Fault(fault)) => Ok(format!("fault line={} {:?}\n", fault.line, fault.kind)),
         _ => told,
+    }
+}
+
+fn strayed(found: Option<Stray>) -> String {
+    match found {
+        None => "followed\n".into(),
+        Some(Stray { instant, process, rsn, first, second }) => {
+            format!("strayed instant={instant} process={process} rsn={rsn} first={first} second={second}\n")
+        }
     }
 }
 
@@ -92,7 +101,7 @@ fn recorded(file: &str, faults: u16) -> Result<String, Error> {
             told => told?,
         }
     }
-    Ok(said(&trace.audit(faults)?, faults) + &trace.text()?)
+    Ok(said(&trace.audit(faults)?, faults) + &strayed(trace.replays()?) + &trace.text()?)
 }
 
 fn answer(word: &str, text: &[u8], faults: u16) -> Result<String, Error> {
@@ -102,6 +111,7 @@ fn answer(word: &str, text: &[u8], faults: u16) -> Result<String, Error> {
         "draw" => drawn(text, faults),
         "audit" => or_fault(nixu::audit(text, faults).map(|told| said(&told, faults))),
         "each" => each(text),
+        "replays" => or_fault(nixu::replays(text).map(strayed)),
         "fed" => or_fault(fed(text, faults).map(|told| said(&told, faults))),
         "entries" => recorded(&String::from_utf8_lossy(text), faults),
         _ => sentence(text, faults),

@@ -42,6 +42,22 @@ impl Default for Summary {
     }
 }
 
+/// `nixu_stray`.
+#[repr(C)]
+#[derive(Clone, Copy, Default)]
+pub struct CStray {
+    pub kind: u32,
+    pub instant: u32,
+    pub rsn: u32,
+    pub first: u32,
+    pub second: u32,
+    pub line: u32,
+    pub fault: u32,
+    pub process: u8,
+}
+
+const _: () = assert!(std::mem::size_of::<CStray>() == 32);
+
 /// `nixu_reader` and `nixu_trace`. It is freed by nobody: whoever has one closes it.
 #[repr(C)]
 #[derive(Debug)]
@@ -99,6 +115,7 @@ extern "C" {
         told: *mut Summary,
         room: usize,
     ) -> u32;
+    fn nixu_replays(text: *const u8, length: usize, stray: *mut CStray) -> u32;
     fn nixu_line(text: *const u8, length: usize, faults: u16, out: *mut u8, room: usize, needed: *mut usize) -> u32;
     fn nixu_explain(text: *const u8, length: usize, faults: u16, out: *mut u8, room: usize, needed: *mut usize) -> u32;
     fn nixu_draw(text: *const u8, length: usize, faults: u16, out: *mut u8, room: usize, needed: *mut usize) -> u32;
@@ -122,6 +139,7 @@ extern "C" {
         fault: *mut u32,
     ) -> u32;
     fn nixu_trace_audit(trace: *mut Handle, faults: u16, told: *mut Summary) -> u32;
+    fn nixu_trace_replays(trace: *mut Handle, stray: *mut CStray) -> u32;
     fn nixu_trace_text(trace: *mut Handle, out: *mut u8, room: usize, needed: *mut usize) -> u32;
     fn nixu_trace_close(trace: *mut Handle);
 }
@@ -155,6 +173,11 @@ pub fn audit_each(text: &[u8], faults: &[u16], told: &mut [Summary]) -> u32 {
     unsafe {
         nixu_audit_each(text.as_ptr(), text.len(), faults.as_ptr(), faults.len(), told.as_mut_ptr(), told.len())
     }
+}
+
+pub fn replays(text: &[u8], stray: &mut CStray) -> u32 {
+    // SAFETY: a slice is as long as it says, and the struct is lent to this call alone.
+    unsafe { nixu_replays(text.as_ptr(), text.len(), stray) }
 }
 
 pub fn show(Shows(call): Shows, text: &[u8], faults: u16, out: &mut [u8]) -> Shown {
@@ -204,6 +227,11 @@ pub fn trace_push(trace: &mut Handle, entry: &Entry, listed: &[Determinant], fau
 pub fn trace_audit(trace: &mut Handle, faults: u16, told: &mut Summary) -> u32 {
     // SAFETY: the handle is one of a trace; it and the struct are lent to this call alone.
     unsafe { nixu_trace_audit(trace, faults, told) }
+}
+
+pub fn trace_replays(trace: &mut Handle, stray: &mut CStray) -> u32 {
+    // SAFETY: the handle is one of a trace; it and the struct are lent to this call alone.
+    unsafe { nixu_trace_replays(trace, stray) }
 }
 
 pub fn trace_text(trace: &mut Handle, out: &mut [u8]) -> Shown {

@@ -33,11 +33,13 @@
 mod fault;
 mod foreign;
 mod reader;
+mod stray;
 mod trace;
 mod verdict;
 
 pub use fault::{Error, Fault, FaultKind};
 pub use reader::Reader;
+pub use stray::Stray;
 pub use trace::{Determinant, Entry, Trace};
 pub use verdict::{Audit, Verdict};
 
@@ -65,6 +67,16 @@ pub fn audit(text: &[u8], faults: u16) -> Result<Audit, Error> {
     let mut told = Summary::default();
     let status = foreign::audit(text, faults, &mut told);
     verdict::told(status, &told)
+}
+
+/// The first stray of the trace that a text spells; `None` if its recoveries follow what survives.
+///
+/// # Errors
+/// As for [`audit`].
+pub fn replays(text: &[u8]) -> Result<Option<Stray>, Error> {
+    let mut told = foreign::CStray::default();
+    let status = foreign::replays(text, &mut told);
+    stray::told(status, &told)
 }
 
 /// The verdicts for several numbers of faults, in their order, of a text that is read once.

@@ -1,6 +1,7 @@
 //! Traces that are made of entries.
 use crate::fault::{Error, FaultKind};
 use crate::foreign::{self, Handle, Summary};
+use crate::stray::{self, Stray};
 use crate::verdict::{self, Audit};
 use crate::{MOST_ENTRIES, USUAL_ENTRIES};
 
@@ -126,6 +127,16 @@ impl Trace {
         let mut told = Summary::default();
         let status = foreign::trace_audit(&mut self.0, faults, &mut told);
         verdict::told(status, &told)
+    }
+
+    /// The first stray of the entries so far; `None` if the recoveries follow what survives.
+    ///
+    /// # Errors
+    /// [`Error::NoMemory`].
+    pub fn replays(&mut self) -> Result<Option<Stray>, Error> {
+        let mut told = foreign::CStray::default();
+        let status = foreign::trace_replays(&mut self.0, &mut told);
+        stray::told(status, &told)
     }
 
     /// The text of the trace so far, which [`crate::audit`] reads.

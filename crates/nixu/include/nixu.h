@@ -7,7 +7,7 @@
      the call writes overlaps none of its other arguments. If the length is 0, the pointer may be null; an empty text is
      invalid, and an empty buffer receives no bytes. No other pointer may be null.
    - Each pointer is aligned for its type, as C aligns it: to 8 bytes for nixu_reader, nixu_trace and size_t, to 4 for
-     nixu_verdict, nixu_entry, nixu_determinant and uint32_t, to 2 for uint16_t.
+     nixu_verdict, nixu_stray, nixu_entry, nixu_determinant and uint32_t, to 2 for uint16_t.
    - The library keeps no pointer and has no static state. It does not print, raise signals, start threads or wait.
      Calls may run in several threads at once, but only one at a time may use a reader or a trace; threads that use one
      in turn synchronize, as for any memory.
@@ -190,6 +190,35 @@ uint32_t nixu_trace_text(nixu_trace *trace, uint8_t *out, size_t room, size_t *n
 /* Closes a trace and frees its memory. Does nothing if it is zeroed or closed. */
 void nixu_trace_close(nixu_trace *trace);
 
+/* ---- whether recoveries follow what survives ---- */
+
+#define NIXU_FOLLOWED 0 /* at each instant, each slot has at most one survivor */
+#define NIXU_STRAYED  1 /* two different survivors fill one slot; NIXU_FAULTY: the text is invalid */
+
+/* A determinant survives at an instant if it is stable or in the log of a process. A process that recovers has to
+   deliver, in each slot (its next receive sequence number), the message that a survivor names. If two different
+   survivors fill one slot, it has delivered another one. A field that its kind does not use is 0. */
+typedef struct nixu_stray {
+  uint32_t kind;    /* one of the two above, or NIXU_FAULTY */
+  uint32_t instant; /* strayed: the first instant with such a slot, as a number of entries */
+  uint32_t rsn;     /* strayed: the receive sequence number of the least such slot */
+  uint32_t first;   /* strayed: the position of the first delivery with a survivor of the slot, from 0 */
+  uint32_t second;  /* strayed: the position of the first delivery with another survivor of the slot */
+  uint32_t line;    /* faulty: the line of the first error, from 1 */
+  uint32_t fault;   /* faulty: the number of the error, one of those below */
+  uint8_t process;  /* strayed: the receiver of the slot */
+} nixu_stray;
+
+/* Writes the first stray of the trace that a text spells, or that there is none; or the text's first error.
+
+   NIXU_OK, NIXU_FAULT: `stray` is written. NIXU_NO_MEMORY. */
+uint32_t nixu_replays(const uint8_t *text, size_t length, nixu_stray *stray);
+
+/* Writes the first stray of the entries so far, or that there is none. The trace stays open.
+
+   NIXU_OK: `stray` is written. NIXU_NO_MEMORY. NIXU_CLOSED. */
+uint32_t nixu_trace_replays(nixu_trace *trace, nixu_stray *stray);
+
 /* ---- the bytes that the program prints ---- */
 
 /* Writes the line of the verdict, as `causal_tool audit` prints it, with its line feed; or the line of the text's first
@@ -264,6 +293,15 @@ NIXU_CHECKED(entry_send, offsetof(nixu_entry, send) == 12);
 NIXU_CHECKED(entry_source, offsetof(nixu_entry, source) == 16);
 NIXU_CHECKED(entry_dest, offsetof(nixu_entry, dest) == 17);
 NIXU_CHECKED(entry_who, offsetof(nixu_entry, who) == 18);
+
+NIXU_CHECKED(stray, sizeof(nixu_stray) == 32 && offsetof(nixu_stray, kind) == 0);
+NIXU_CHECKED(stray_instant, offsetof(nixu_stray, instant) == 4);
+NIXU_CHECKED(stray_rsn, offsetof(nixu_stray, rsn) == 8);
+NIXU_CHECKED(stray_first, offsetof(nixu_stray, first) == 12);
+NIXU_CHECKED(stray_second, offsetof(nixu_stray, second) == 16);
+NIXU_CHECKED(stray_line, offsetof(nixu_stray, line) == 20);
+NIXU_CHECKED(stray_fault, offsetof(nixu_stray, fault) == 24);
+NIXU_CHECKED(stray_process, offsetof(nixu_stray, process) == 28);
 
 #ifdef __cplusplus
 }

@@ -7,4 +7,5 @@ pub mod Limits
 pub mod Numbers
 pub mod Buffers
 pub mod CVerdicts
+pub mod CStrays
 pub mod Views

@@ -37,5 +37,9 @@ pub mod status;
 pub mod c_entry;
 /// Verdicts in C's layout.
 pub mod c_verdict;
+/// The first stray of a run, in C's layout.
+pub mod c_stray;
+/// Whether the recoveries of a run follow what survives.
+pub mod replays;
 /// The bytes that the program prints.
 pub mod views;
