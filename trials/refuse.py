@@ -115,14 +115,23 @@ class Tries:
         self.program, self.preloaded, self.folder = program, preloaded, folder
         self.end = time.monotonic() + seconds
         self.tried, self.survived, self.left, self.wrong = 0, 0, 0, []
+        self.texts, self.lock = {}, threading.Lock()
+
+    def text_file(self, text):
+        """A file with this text. Of a pipe several workers read as much as has been written, so runs differ in their calls."""
+        with self.lock:
+            if text not in self.texts:
+                self.texts[text] = os.path.join(self.folder, f"text{len(self.texts)}")
+                with open(self.texts[text], "wb") as file:
+                    file.write(text.encode())
+            return self.texts[text]
 
     def once(self, words, text, **refuse):
         count = os.path.join(self.folder, f"count{threading.get_ident()}")
         settings = {f"REFUSE_{name.upper()}": str(value) for name, value in refuse.items()}
         environment = {**os.environ, "LD_PRELOAD": self.preloaded, "REFUSE_COUNT": count, "SEED_BYTES": str(SEED), **settings}
-        ended = subprocess.run(
-            [self.program, *words], input=text.encode(), capture_output=True, env=environment, timeout=60
-        )
+        with open(self.text_file(text), "rb") as given:
+            ended = subprocess.run([self.program, *words], stdin=given, capture_output=True, env=environment, timeout=60)
         return ended.returncode, ended.stdout.decode(), ended.stderr.decode()
 
     def calls(self, words, text, kind, step=0, plain=None):
