@@ -1,12 +1,13 @@
 #!/usr/bin/env python3
 """Writes docs/DEFINITIONS.md: for each crate of crates.txt, in that order, each file of definitions that a public contract cites, with
-the comment line at its head.
+the comment line at its head, up to a colon or semicolon if five words are before it.
 
     docs/definitions.py             writes the page
     docs/definitions.py --check     exits with 1 if the page differs, and changes nothing
 
 A file below crates/X/specs is cited if a definition of it is named by a clause of a function that is `pub`, or of a public trait's, or by a
-ghost item of a trait or an implementation. Files below specs/Inside, which no clause of a public call may cite, are left out.
+ghost item of a trait or an implementation. Files below specs/Inside, which no clause of a public call may cite, are left out, and so are
+those of causal_picture: they are the parts of one text.
 """
 import argparse
 import glob
@@ -17,17 +18,18 @@ import sys
 HERE = os.path.dirname(os.path.abspath(__file__))
 TOP = os.path.dirname(HERE)
 PAGE = os.path.join(HERE, "DEFINITIONS.md")
+LEFT_OUT = ("causal_picture",)
 HEAD = """\
 # Definitions
 
-The files of definitions that public contracts cite, crate by crate from the base up. `docs/definitions.py` makes this page from the
-first line of each file.
+The files of definitions that public contracts cite, from the base up. `docs/definitions.py` makes this page from their first lines;
+`causal_picture` has the parts of its one text in `specs/`.
 
-A state of a run is its **past**: the list of the entries so far, newest first. Positions count from the oldest entry, so the newest entry of
-`e ∷ past` has the position `length past`.
+A state of a run is its **past**: the entries so far, newest first. Positions count from the oldest: the newest entry of `e ∷ past` has the
+position `length past`.
 
-Sources: Lamport 1978 (CACM 21(7)) for happened-before; Alvisi and Marzullo 1998 (IEEE TSE 24(2)) for determinants and causal logging; Elnozahy, Alvisi,
-Wang and Johnson 2002 (ACM Computing Surveys 34(3)) for `Depend`, `Log`, `Stable` and orphans. Other notions are this project's own.
+Sources: Lamport 1978 (CACM 21(7)) for happened-before; Alvisi and Marzullo 1998 (IEEE TSE 24(2)) for determinants and causal logging;
+Elnozahy, Alvisi, Wang and Johnson 2002 (ACM Computing Surveys 34(3)) for `Depend`, `Log`, `Stable` and orphans. The rest is this project's.
 """
 IMPORT = re.compile(r"\buse Rattle\.(\w+)\.specs\.([\w.]+?)(?:\.\{([^}]*)\}| as (\w+))", re.S)
 PUBLIC = re.compile(r"\s*pub (?:const |unsafe )*(?:extern \"C\" )?fn \w")
@@ -91,12 +93,14 @@ def row(path):
     if not first.startswith("-- "):
         raise SystemExit(f"{path}: the first line is not a comment")
     name = os.path.splitext(os.path.basename(path))[0]
-    return f"- [{name}](../{path}): {first[3:].strip()}"
+    sentence = first[3:].strip()
+    short = re.split("[:;] ", sentence)[0].rstrip(".")
+    return f"- [{name}](../{path}): {short if len(short.split()) > 4 else sentence.rstrip('.')}"
 
 
 def page():
     files, parts = cited(), [HEAD]
-    for crate in crates():
+    for crate in (it for it in crates() if it not in LEFT_OUT):
         paths = sorted(os.path.relpath(path, TOP) for path in glob.glob(os.path.join(TOP, "crates", crate, "specs", "*.antt")))
         rows = [row(path) for path in paths if path in files]
         if rows:
