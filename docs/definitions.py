@@ -7,7 +7,7 @@ the comment line at its head, up to a colon or semicolon if five words are befor
 
 A file below crates/X/specs is cited if a definition of it is named by a clause of a function that is `pub`, or of a public trait's, or by a
 ghost item of a trait or an implementation. Files below specs/Inside, which no clause of a public call may cite, are left out, and so are
-those of causal_picture: they are the parts of one text.
+those of causal_picture and causal_report: they are the parts of texts.
 """
 import argparse
 import glob
@@ -18,12 +18,12 @@ import sys
 HERE = os.path.dirname(os.path.abspath(__file__))
 TOP = os.path.dirname(HERE)
 PAGE = os.path.join(HERE, "DEFINITIONS.md")
-LEFT_OUT = ("causal_picture",)
+LEFT_OUT = ("causal_picture", "causal_report")
 HEAD = """\
 # Definitions
 
 The files of definitions that public contracts cite, from the base up. `docs/definitions.py` makes this page from their first lines;
-`causal_picture` has the parts of its one text in `specs/`.
+the READMEs of `causal_picture` and `causal_report` name theirs.
 
 A state of a run is its **past**: the entries so far, newest first. Positions count from the oldest: the newest entry of `e ∷ past` has the
 position `length past`.
