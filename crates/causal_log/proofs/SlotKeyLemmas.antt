@@ -1,10 +1,13 @@
 -- Entries keyed by slot and number: look-ups find each determinant, and all determinants of a slot.
 use Rattle.std.proofs.Common.{ℕ, zero, suc, ◌≡◌, ◌∙◌, ◌⊎◌, inl, inr, ◌<◌, ◌≤◌, ◌+◌, ◌||◌, ◌==◌, Bool, true, false, cond, All, Contains, Option, Some, None, IfSome, is_some, unwrap_or, List, filter, [], ◌∷◌, ◌++◌, length, set, slice_get, get_or, true≢false, refl, sym, ap, subst, arith}
-use Rattle.std.proofs.lemmas.Bool.{cases_eq, false_from_ne_true}
-use Rattle.std.proofs.lemmas.List.{map-append, get_or-map, length-map}
+use Rattle.std.proofs.lemmas.Bool.{cases_eq, false_from_ne_true, or_cases}
+use Rattle.std.proofs.lemmas.List.{map-append, get_or-map, length-map, length_push}
+use Rattle.std.proofs.lemmas.List.Folds.{list_any-append}
+use Rattle.std.proofs.lemmas.Map.Keys.{IsDistinct-push}
+use Rattle.std.proofs.lemmas.Map.Steps.{length-le_from_keys}
 use Rattle.std.specs.List.Sorted.{IsSortedByKey}
 use Rattle.std.specs.Ordering.{is_lt}
-use Rattle.std.specs.Option.{option_map}
+use Rattle.std.specs.Option.{option_map, IsSome}
 use Rattle.indexmap.specs.IndexMap.{set_value_at}
 use Rattle.std.proofs.lemmas.Bool.Decides.{nat_tests}
 use Rattle.std.proofs.lemmas.List.Elements.{All-contains, All-cons, All-head, All-tail}
@@ -230,3 +233,33 @@ module _ (es : Entries) (numbers : ℕ) (keyed : All (HasSlotKey numbers) es) wh
         by : (least : Option Det) → IsLeastBelow es slot numbers least → IsLeastOfSlot slot.dest slot.rsn (keys_of (values_of es)) least
         by None has = λ q there. false_from_ne_true (is_of_slot slot.dest slot.rsn q) (beaten None has q there)
         by (Some d) has = (has.fills_slot.0, has.fills_slot.1, beaten (Some d) has)
+
+-- the keys of a slot with numbers below n
+abbrev keys_below : Slot → ℕ → List SlotKey
+keys_below slot zero = []
+keys_below slot (suc n) = keys_below slot n ++ slot_key slot n ∷ []
+
+key_below : (slot : Slot) (n : ℕ) (q : SlotKey) → list_any (same_slot_key q) (keys_below slot n) ≡ true → (j : ℕ) × (j < n) × (q ≡ slot_key slot j)
+key_below slot zero q h = absurd (true≢false (sym h))
+key_below slot (suc n) q h =
+    elim (or_cases (list_any (same_slot_key q) (keys_below slot n)) (list_any (same_slot_key q) (slot_key slot n ∷ [])) (sym (list_any-append (same_slot_key q) (keys_below slot n) (slot_key slot n ∷ [])) ∙ h)) [
+      | inl old ↦ let was = key_below slot n q old in (was.0, omega (arith, was.1), was.2)
+      | inr new ↦ (n, omega arith, same_slot_key_is q (slot_key slot n) (elim (or_cases (same_slot_key q (slot_key slot n)) false new) [ inl is ↦ is | inr none ↦ absurd (true≢false (sym none)) ]))
+    ]
+
+keys_below_distinct : (slot : Slot) (n : ℕ) → IsDistinct same_slot_key (keys_below slot n)
+unfolding IsDistinct
+keys_below_distinct slot zero = tt
+keys_below_distinct slot (suc n) =
+    IsDistinct-push slot_key_equiv (keys_below slot n) (slot_key slot n) (keys_below_distinct slot n)
+    (false_from_ne_true (list_any (same_slot_key (slot_key slot n)) (keys_below slot n)) (λ h. let found = key_below slot n (slot_key slot n) h in let is : n ≡ found.0 = ap (λ k. k.number) found.2 in omega (arith, is, found.1)))
+
+keys_below_length : (slot : Slot) (n : ℕ) → length (keys_below slot n) ≡ n
+keys_below_length slot zero = refl
+keys_below_length slot (suc n) = omega (arith, length_push (keys_below slot n) (slot_key slot n), keys_below_length slot n)
+
+-- if entries have all numbers below n of a slot, there are at least n
+pub used_numbers_few : (es : Entries) (slot : Slot) (n : ℕ) → ((j : ℕ) → j < n → IsSome (entry_of_key es slot j)) → n ≤ length es
+used_numbers_few es slot n used =
+    let few = length-le_from_keys slot_key_equiv (keys_below slot n) es (keys_below_distinct slot n) (λ q h. let found = key_below slot n q h in subst (λ k. IsSome (lookup (same_slot_key k) es)) (sym found.2) (used found.0 found.1)) in
+    omega (arith, few, keys_below_length slot n)

@@ -26,6 +26,8 @@ mod hashing;
 mod known;
 /// Laws of logs, piggybacks and stable storage.
 pub mod laws;
+/// The limit of a log.
+mod limits;
 /// The volatile log of a process.
 mod log;
 /// Stable storage in memory, for programs that need no device.
@@ -39,6 +41,7 @@ mod table;
 
 pub use batch::{Batch, Item};
 pub use known::Known;
+pub use limits::MAX_LOGGED;
 pub use log::Log;
 pub use memory::MemStable;
 pub use stable::{PutFault, Stable};

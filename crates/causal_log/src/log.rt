@@ -12,6 +12,7 @@ ghost use Rattle.causal_log.specs.Inside.BatchCache.{open_items_of, open_cached_
 
 use crate::batch::{Batch, Item};
 use crate::known::Known;
+use crate::limits::MAX_LOGGED;
 use crate::next_batch_merge::{Delivery, next_batch};
 use crate::table::{
     Table, chosen_items, det_at_rank, dets, in_order, is_forgotten, learn, learn_entries,
@@ -26,7 +27,7 @@ use std::sync::Arc;
 /// and Johnson 2002, from one process's side).
 ///
 /// Contracts see a finite map, and the number of insertions that cannot fail to allocate, which equality ignores. A
-/// log has at most 2,415,919,104 entries; `NoMemory` refuses further ones.
+/// log has at most [`MAX_LOGGED`] entries; `NoMemory` refuses further ones.
 #[derive(Drop)]
 pub struct Log {
     /// In insertion order, or sorted.
@@ -81,7 +82,8 @@ impl Log {
 
     /// Returns the number of determinants. Takes O(1) time.
     pub fn len(&self) -> u32
-        ensures { result ≡ fin.len self.now.map }
+        ensures value { result ≡ fin.len self.now.map }
+        ensures limit { result + self.now.spare ≤ MAX_LOGGED }
     {
         self.entries.entries().len() as u32
     }
@@ -114,7 +116,7 @@ impl Log {
     pub fn entries_unordered(&self) -> &[(Det, Known)]
         ensures entries { log_of result.now ≡ self.now.map }
         ensures counted { SameMultiset (keys_of result.now) (fin.keys self.now.map) }
-        ensures few { length result.now < 2 ^ 32 }
+        ensures few { length result.now ≤ MAX_LOGGED }
     {
         self.entries.entries()
     }
@@ -237,8 +239,8 @@ impl Log {
         least.map(|det| det.message())
     }
 
-    /// Reserves capacity for `more` insertions, which then cannot fail to allocate. Fails only if out of memory, and
-    /// then changes nothing.
+    /// Reserves capacity for `more` insertions, which then cannot fail to allocate. Fails only if out of memory, or if
+    /// the log would then exceed [`MAX_LOGGED`]; it then changes nothing.
     pub fn reserve(&mut self, more: u32) -> Result<(), NoMemory>
         ensures map { self.new.map ≡ self.old.map }
         ensures ok { OnOk result (more ≤ self.new.spare) }

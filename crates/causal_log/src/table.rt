@@ -19,6 +19,7 @@ ghost use Rattle.causal_log.specs.Inside.Tables.{HasSlotKey, slot_key, same_slot
 use crate::batch::Item;
 use crate::hashing::SeededState;
 use crate::known::Known;
+use crate::limits::MAX_LOGGED;
 use causal_name::{Det, NoMemory, Pid, Slot};
 use indexmap::IndexMap;
 use indexmap::map::Entry;
@@ -78,7 +79,7 @@ impl Table {
     pub(crate) fn entries(&self) -> &[(Det, Known)]
         ensures entries { result.now ≡ self.now.entries }
         ensures distinct { IsDistinct same_det (keys_of self.now.entries) }
-        ensures few { length self.now.entries + self.now.spare < 2 ^ 32 }
+        ensures few { length self.now.entries + self.now.spare ≤ MAX_LOGGED }
     {
         self.entries.values().as_slice()
     }
@@ -174,6 +175,14 @@ impl Table {
         Ok(place)
     }
 
+    /// Returns how many more entries the limit allows.
+    fn most_more(&self) -> usize
+        ensures { length self.now.entries + result ≡ MAX_LOGGED }
+    {
+        MAX_LOGGED as usize - self.entries.len()
+    }
+
+    /// Reserves capacity for `more` further entries. Fails only if an allocation fails, or the limit would be exceeded.
     pub(crate) fn reserve(&mut self, more: usize) -> Result<(), NoMemory>
         ensures entries { self.new.entries ≡ self.old.entries }
         ensures ok { OnOk result (more ≤ self.new.spare) }
@@ -183,14 +192,13 @@ impl Table {
         if more <= self.room {
             return Ok(());
         }
-        // entries are counted in 32 bits, and so are numbers
-        let count = self.entries.len().max(self.numbers as usize);
-        if more > u32::MAX as usize - count {
+        let most = self.most_more();
+        if more > most {
             return Err(NoMemory);
         }
         grow(&mut self.entries, self.unused, more)?;
         let room = usable_spare(&self.entries, self.unused).max(more);
-        self.room = room.min(u32::MAX as usize - count);
+        self.room = room.min(most);
         Ok(())
     }
 
@@ -398,6 +406,7 @@ fn insert_unless_used(
 fn unused_number(entries: &Entries, numbers: u32, slot: Slot) -> u32
     requires { All (HasSlotKey numbers) entries.now.entries }
     ensures within { result ≤ numbers }
+    ensures few { result ≤ length entries.now.entries }
     ensures unused { get same_slot_key entries.now (slot_key slot result) ≡ None }
 {
     for number in 0..numbers {

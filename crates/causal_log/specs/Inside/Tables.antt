@@ -1,5 +1,5 @@
 -- A table of log entries in insertion order, keyed by slot and number, with reserved capacity.
-use Rattle.std.specs.Prelude.{◌≡◌, ◌==◌, ◌&&◌, ℕ, Bool, ◌+◌, ◌<◌, ◌≤◌, ◌^◌, All, List, length, refl}
+use Rattle.std.specs.Prelude.{◌≡◌, ◌==◌, ◌&&◌, ℕ, Bool, ◌+◌, ◌<◌, ◌≤◌, All, List, length, refl}
 use Rattle.std.specs.Coded.{Coded, code_by, coded×, coded_list, coded_ℕ}
 use Rattle.std.specs.List.{IsDistinct}
 use Rattle.std.specs.Map.{keys_of, values_of}
@@ -8,6 +8,7 @@ use Rattle.causal_name.specs.declared.Slot.{Slot}
 use Rattle.causal_name.specs.Names.{same_det, same_slot, slot_of}
 use Rattle.causal_log.specs.Knowledge.{coded_det, coded_known}
 use Rattle.causal_log.specs.declared.known.Known.{Known}
+use Rattle.causal_log.specs.declared.limits.TheConstants.{MAX_LOGGED}
 use Rattle.causal_log.specs.declared.table.SlotKey.{SlotKey}
 
 -- what contracts see of a table: its entries, and how many more it can take without allocation
@@ -37,6 +38,6 @@ pub record HasSlotKey (numbers : ℕ) (e : SlotKey × (Det × Known)) : Type 0 w
 pub record IsTable (entries : List (SlotKey × (Det × Known))) (numbers room spare : ℕ) : Type 0 where
   pub distinct : IsDistinct same_det (keys_of (values_of entries))
   pub keyed : All (HasSlotKey numbers) entries
-  pub few : length entries + room < 2 ^ 32
-  pub numbers_fit : numbers + room < 2 ^ 32
+  pub few : length entries + room ≤ MAX_LOGGED
+  pub numbers_fit : numbers ≤ MAX_LOGGED
   pub entries_fit : room ≤ spare

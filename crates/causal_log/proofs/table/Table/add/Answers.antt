@@ -36,7 +36,7 @@ invariant_of-self c =
           (All-weaker (HasSlotKey c.self.inside.numbers) (HasSlotKey most) (λ x so. record { slot = so.slot; number = omega (arith, so.number, c.max-self-inside.ensures) }) es c.self.invariant.keyed)
           (record { slot = c.slot-slot.ensures; number = omega (arith, c.max-self-inside.ensures) }));
       few = omega (arith, ap length added, length_push es (key, e), room, c.requires.room, c.self.invariant.few);
-      numbers_fit = omega (arith, c.max-self-inside.ensures, c.unused_number-number.ensures.within, room, c.requires.room, c.self.invariant.numbers_fit);
+      numbers_fit = omega (arith, c.max-self-inside.ensures, c.unused_number-number.ensures.few, room, c.requires.room, c.self.invariant.few, c.self.invariant.numbers_fit);
       entries_fit = omega (arith, room, c.requires.room, c.self.invariant.entries_fit, c.insert_new.ensures.room);
     }
 
