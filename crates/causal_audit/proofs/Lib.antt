@@ -9,6 +9,7 @@ mod Swept
 mod Legal
 mod DeliveryNumbers
 mod NoOrphanSoFar
+mod ShareLemmas
 mod Shown
 mod Steps
 mod VerdictLemmas

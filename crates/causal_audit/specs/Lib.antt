@@ -9,6 +9,7 @@ pub mod Numbers
 pub mod Parts
 pub mod Quiet
 pub mod Searches
+pub mod Shares
 pub mod Covered
 pub mod NewOrphans
 pub mod Verdicts

@@ -20,12 +20,14 @@ EarliestAmongBy r f end positions found = MatchOption found
     ((k t : ℕ) → Contains positions k → t ≤ end → HasOrphan r.processes f (instant r.past t) k → ⊥)
     (λ b. (b.instant ≤ end) × IsEarliestAmong r f positions b)
 
--- the positions of the deliveries that are followed, with the run, f, and the instant up to which they are followed
+-- the deliveries that are followed: their positions, and for how many entries each may be open; with the run, f, and the
+-- instant up to which they are followed
 pub record FollowedDeliveries : Type 0 where
   pub run : Recording
   pub f : ℕ
   pub end : ℕ
   pub positions : List ℕ
+  pub open_lengths : List ℕ
 
 -- the earliest breach of the followed deliveries, if it comes by their last instant; None if none has an orphan by then
 abbrev pub EarliestOf : FollowedDeliveries → Option Breach → Type 0
@@ -38,6 +40,7 @@ part_of followed from to = record {
   f = followed.f;
   end = followed.end;
   positions = take (to - from) (drop from followed.positions);
+  open_lengths = take (to - from) (drop from followed.open_lengths);
 }
 
 -- the followed deliveries suffice: their earliest breach is that of all deliveries of the run for f up to the instant

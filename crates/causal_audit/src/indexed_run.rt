@@ -126,11 +126,11 @@ pub struct OpenDeliveries {
 
 impl Model for OpenDeliveries {
     ghost use Rattle.causal_audit.specs.Parts.{FollowedDeliveries};
-    ghost use Rattle.causal_audit.specs.Inside.Group.OpenDeliveries.{AreOpenDeliveries, positions_of};
+    ghost use Rattle.causal_audit.specs.Inside.Group.OpenDeliveries.{AreOpenDeliveries, open_lengths_of, positions_of};
 
     ghost Value = { FollowedDeliveries };
 
-    ghost view = { λ a. record { run = a.run.value.recording; f = a.f; end = a.end; positions = positions_of a.candidates.items } };
+    ghost view = { λ a. record { run = a.run.value.recording; f = a.f; end = a.end; positions = positions_of a.candidates.items; open_lengths = open_lengths_of a.candidates.items } };
 
     ghost invariant = { λ a. AreOpenDeliveries a.run.value.recording a.f a.end a.candidates.items };
 }

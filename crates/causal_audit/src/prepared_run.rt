@@ -1,7 +1,9 @@
 //! A recorded run prepared for its audit, and parts of its deliveries.
-ghost use Rattle.std.specs.Prelude.{◌≡◌, ◌<◌, ◌≤◌, IfOk, length};
+ghost use Rattle.std.specs.Prelude.{◌≡◌, ◌-◌, ◌<◌, ◌≤◌, IfOk, drop, length};
 ghost use Rattle.causal_audit.specs.Parts.{AreSufficient, EarliestOf, part_of};
 ghost use Rattle.causal_audit.specs.Searches.{IsSearched, delivery_count};
+ghost use Rattle.causal_audit.specs.Shares.{IsFairShare, IsShareOf, walk_count, walk_length, walked};
+ghost use Rattle.causal_audit.specs.Inside.Group.OpenDeliveries.{open_lengths_of};
 
 use crate::breach::Breach;
 use crate::group::walk::GROUP;
@@ -29,11 +31,11 @@ pub struct PreparedRun {
 
 impl Model for PreparedRun {
     ghost use Rattle.causal_audit.specs.Parts.{FollowedDeliveries};
-    ghost use Rattle.causal_audit.specs.Inside.Group.OpenDeliveries.{IsPrepared, positions_of};
+    ghost use Rattle.causal_audit.specs.Inside.Group.OpenDeliveries.{IsPrepared, open_lengths_of, positions_of};
 
     ghost Value = { FollowedDeliveries };
 
-    ghost view = { λ a. record { run = a.run.value.recording; f = a.f; end = a.end; positions = positions_of a.candidates.items } };
+    ghost view = { λ a. record { run = a.run.value.recording; f = a.f; end = a.end; positions = positions_of a.candidates.items; open_lengths = open_lengths_of a.candidates.items } };
 
     ghost invariant = { λ a. IsPrepared a.run.value.recording a.f a.end a.index a.candidates.items };
 }
@@ -78,26 +80,30 @@ impl PreparedRun {
 
     /// Returns how many deliveries are followed.
     pub fn followed_count(&self) -> usize
-        ensures { result ≡ length self.now.positions }
+        ensures count { result ≡ length self.now.positions }
+        ensures lengths { length self.now.open_lengths ≡ length self.now.positions }
     {
         self.candidates.len()
     }
 
     /// Returns where a share that begins at index `from` ends: at the end of a group, such that the remaining walks are
     /// divided about evenly among `workers` workers. A walk covers about as many entries as its first delivery is open
-    /// for.
+    /// for. O(deliveries / 256) time.
     pub fn share_end(&self, from: usize, workers: u32) -> usize
         requires { (from ≤ length self.now.positions) × (1 ≤ workers) }
         ensures within { (from ≤ result) × (result ≤ length self.now.positions) }
         ensures progress { from < length self.now.positions → from < result }
         ensures last { workers ≡ 1 → result ≡ length self.now.positions }
+        ensures fair { 2 ≤ workers →
+            IsFairShare workers (drop from self.now.open_lengths) (result - from) }
+        ensures lengths { length self.now.open_lengths ≡ length self.now.positions }
     {
         if workers == 1 {
             return self.candidates.len();
         }
         let rest = &self.candidates[from..];
-        let share = total_walk_length(rest) / u64::from(workers);
-        from + deliveries_for_share(rest, share)
+        let fair = total_walk_length(rest) / u128::from(workers);
+        from + deliveries_of_share(rest, fair)
     }
 
     /// Returns the part of the followed deliveries from index `from` to below index `to`. The trace must be the one
@@ -142,35 +148,47 @@ impl PreparedRun {
     }
 }
 
-/// Estimates the number of entries of one walk, by the first delivery of its group.
-fn walk_length(group: &[OpenDelivery]) -> u64 {
-    match group.first() {
-        Some(delivery) => u64::from(delivery.until.saturating_sub(delivery.position)),
-        None => 0,
-    }
+/// Returns how many walks follow this many deliveries.
+fn walk_count(deliveries: usize) -> usize
+    ensures { result ≡ walk_count deliveries }
+{
+    deliveries / GROUP + usize::from(deliveries % GROUP > 0)
+}
+
+/// Estimates the number of entries of a walk, by the first delivery of its group.
+fn walk_length(candidates: &[OpenDelivery], walk: usize) -> u32
+    requires { walk < walk_count (length candidates.now) }
+    ensures { result ≡ walk_length (open_lengths_of candidates.now) walk }
+{
+    let first = candidates[walk * GROUP];
+    first.until.saturating_sub(first.position)
 }
 
 /// Estimates the number of entries of all walks that follow these deliveries.
-fn total_walk_length(candidates: &[OpenDelivery]) -> u64 {
-    let mut walked: u64 = 0;
-    for group in candidates.chunks(GROUP) {
-        walked = walked.saturating_add(walk_length(group));
+fn total_walk_length(candidates: &[OpenDelivery]) -> u128
+    ensures { result ≡ walked (open_lengths_of candidates.now) (walk_count (length candidates.now)) }
+{
+    let mut walked: u128 = 0;
+    for walk in 0..walk_count(candidates.len()) {
+        walked += u128::from(walk_length(candidates, walk));
     }
     walked
 }
 
-/// Returns the number of deliveries in the first groups whose walks cover about `share` entries; at least one group, if
-/// there is one.
-fn deliveries_for_share(candidates: &[OpenDelivery], share: u64) -> usize
+/// Returns the number of deliveries in the first groups whose walks cover at least `fair` entries; at least one group,
+/// if there is one.
+fn deliveries_of_share(candidates: &[OpenDelivery], fair: u128) -> usize
+    requires { fair ≤ walked (open_lengths_of candidates.now) (walk_count (length candidates.now)) }
     ensures within { result ≤ length candidates.now }
     ensures progress { 0 < length candidates.now → 0 < result }
+    ensures share { IsShareOf (open_lengths_of candidates.now) fair result }
 {
-    let mut walked: u64 = 0;
-    for (number, group) in candidates.chunks(GROUP).enumerate() {
-        if number > 0 && walked >= share {
-            return candidates.len().min(number.saturating_mul(GROUP));
+    let mut walked: u128 = 0;
+    for walk in 0..walk_count(candidates.len()) {
+        if walk > 0 && walked >= fair {
+            return walk * GROUP;
         }
-        walked = walked.saturating_add(walk_length(group));
+        walked += u128::from(walk_length(candidates, walk));
     }
     candidates.len()
 }
@@ -187,11 +205,11 @@ pub struct Part<'a> {
 impl<'a> Model for Part<'a> {
     ghost use Rattle.causal_audit.specs.Parts.{FollowedDeliveries};
     ghost use Rattle.std.specs.Prelude.{◌≤◌};
-    ghost use Rattle.causal_audit.specs.Inside.Group.OpenDeliveries.{AreOpenDeliveries, positions_of};
+    ghost use Rattle.causal_audit.specs.Inside.Group.OpenDeliveries.{AreOpenDeliveries, open_lengths_of, positions_of};
 
     ghost Value = { FollowedDeliveries };
 
-    ghost view = { λ a. record { run = a.walk_input.run; f = a.f; end = a.end; positions = positions_of a.candidates.now } };
+    ghost view = { λ a. record { run = a.walk_input.run; f = a.f; end = a.end; positions = positions_of a.candidates.now; open_lengths = open_lengths_of a.candidates.now } };
 
     ghost invariant = { λ a. AreOpenDeliveries a.walk_input.run a.f a.end a.candidates.now × (a.end ≤ a.walk_input.end) };
 }

@@ -7,8 +7,8 @@ use Rattle.causal_audit.specs.Parts.{FollowedDeliveries, EarliestAmongBy, Earlie
 use Rattle.causal_audit.proofs.AmongLemmas.{among_both}
 
 -- all followed deliveries are a part
-pub whole : (followed : FollowedDeliveries) → part_of followed 0 (length followed.positions) ≡ followed
-whole followed = grind (arith, common_steps)
+pub whole : (followed : FollowedDeliveries) → length followed.open_lengths ≡ length followed.positions → part_of followed 0 (length followed.positions) ≡ followed
+whole followed same = grind (arith, common_steps, ap (λ n. take n followed.open_lengths) same)
 
 -- the earliest breach of two adjacent parts is the earlier of their earliest breaches
 pub least_of_both : (followed : FollowedDeliveries) (from mid to : ℕ) (one other : Option Breach) → from ≤ mid → mid ≤ to

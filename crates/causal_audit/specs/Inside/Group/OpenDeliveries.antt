@@ -1,5 +1,5 @@
 -- The open deliveries of a run, and the progress of their search.
-use Rattle.std.specs.Prelude.{◌≡◌, ℕ, ◌≤◌, List, length, map, Some, ◌<◌}
+use Rattle.std.specs.Prelude.{◌≡◌, ℕ, ◌-◌, ◌≤◌, List, length, map, Some, ◌<◌}
 use Rattle.causal_audit.specs.Inside.Common.{All, Det, Entry, det_at, instant, Recording, IsWellFormed, IsNonDecreasingBy, FinSet, max_entries, nat_cmp}
 use Rattle.causal_audit.specs.Numbers.{ArePositions}
 pub use Rattle.causal_audit.specs.Searches.{SearchScope, IncludeUnsafe, IsAmongOrSafe, delivery_count, search_scope}
@@ -14,6 +14,10 @@ use Rattle.causal_audit.specs.Inside.Index.Departures.{AreDepartures, process_at
 -- the positions of the deliveries
 abbrev pub positions_of : List OpenDelivery → List ℕ
 positions_of candidates = map (λ delivery. delivery.position) candidates
+
+-- for how many entries each delivery may be open
+abbrev pub open_lengths_of : List OpenDelivery → List ℕ
+open_lengths_of candidates = map (λ delivery. delivery.until - delivery.position) candidates
 
 -- the deliveries are in the order of their positions
 abbrev pub AreInOrder : List OpenDelivery → Type 0

@@ -1,7 +1,7 @@
 use Rattle.causal_audit.proofs.Common.{◌≡◌, sym, ap, subst, ◌∙◌}
 use Rattle.causal_audit.specs.Parts.{FollowedDeliveries, AreSufficient}
 use Rattle.causal_audit.specs.Searches.{SearchScope, IncludeUnsafe, IsSearched, delivery_count, scope_of, search_scope}
-use Rattle.causal_audit.specs.Inside.Group.OpenDeliveries.{AreAllOpen, AreFollowed, positions_of}
+use Rattle.causal_audit.specs.Inside.Group.OpenDeliveries.{AreAllOpen, AreFollowed, open_lengths_of, positions_of}
 use Rattle.causal_audit.proofs.AmongLemmas.{among_all}
 use Rattle.causal_audit.proofs.safety_scan.SurveyAsks.{all_told, any_other, in_any_order}
 use Rattle.causal_audit.proofs.prepared_run.PreparedRun.from_search.Goals as goal
@@ -32,6 +32,6 @@ returns-clause-sufficient c =
     let sorted = c.sort_for_groups.new.candidates.items in
     let all : AreAllOpen scope sorted = in_any_order scope found.candidates.items sorted c.sort_for_groups.ensures (all_told scope found.candidates.items formed followed told) in
     let positions = positions_of sorted in
-    let enough : AreSufficient r s.f s.end (record { run = r; f = s.f; end = s.end; positions = positions }) =
+    let enough : AreSufficient r s.f s.end (record { run = r; f = s.f; end = s.end; positions = positions; open_lengths = open_lengths_of sorted }) =
     λ least is. among_all r s.f s.end positions least formed c.indexed.invariant.searched.within (any_other scope sorted all) is in
-    subst (λ (a : SearchScope). AreSufficient a.run a.f a.end (record { run = r; f = s.f; end = s.end; positions = positions })) c.indexed.view_is enough
+    subst (λ (a : SearchScope). AreSufficient a.run a.f a.end (record { run = r; f = s.f; end = s.end; positions = positions; open_lengths = open_lengths_of sorted })) c.indexed.view_is enough
