@@ -1,6 +1,7 @@
 -- What the copies and the slots say of a run.
 use Rattle.std.proofs.Common.{ℕ, ◌≡◌, ◌+◌, ◌<◌, ◌≤◌, inl, inr, Bool, true, false, List, [], ◌∷◌, length, get_or, Option, Some, None, refl, sym, ap, subst, ◌∙◌, arith}
-use Rattle.std.specs.Prelude.{◌==◌, ◌||◌, ◌⊎◌}
+use Rattle.std.specs.Prelude.{◌==◌, ◌||◌, ◌⊎◌, All}
+use Rattle.std.proofs.lemmas.List.Elements.{All-weaker}
 use Rattle.std.specs.Global.{Vec}
 use Rattle.std.specs.Option.{is_some}
 use Rattle.std.proofs.lemmas.Bool.{cases_lt, false≢true, or_cases, ne_eqb, eq-eqb, cond-true}
@@ -20,12 +21,12 @@ use Rattle.causal_trace.proofs.Lemmas.Instants.{past_more}
 use Rattle.causal_trace.proofs.Lemmas.DeliveryNumbers.{delivered_numbered, listed_once}
 use Rattle.causal_replays.specs.Strays.{IsLower, FillsSlot, FirstTwo, LowerAreSingle}
 use Rattle.causal_replays.specs.declared.copies.Copies.{Copies}
-use Rattle.causal_replays.specs.Inside.Copies.{number_in, is_stored, AreCopies, copied_by}
+use Rattle.causal_replays.specs.Inside.Copies.{number_in, is_stored, AreCopies, HasNumber, copied_by, named_by}
 use Rattle.causal_replays.specs.Inside.Holdings.{holds}
 use Rattle.causal_replays.specs.Inside.Rivals.{IsCopied, IsInSlot, HasRivals, AreNoted, IsCopiedAt, AreFirstTwo, HaveTwo}
 use Rattle.causal_replays.specs.Inside.Slots.{number_at}
 use Rattle.causal_replays.proofs.NumberLemmas.{one_det, is_same, same_is}
-use Rattle.causal_replays.proofs.SurvivorLemmas.{logs_inside, survivor_delivered, logged_survives, stable_survives, survives_step, copied_survives_entry, none_survive}
+use Rattle.causal_replays.proofs.SurvivorLemmas.{logs_inside, named_delivered, survivor_delivered, logged_survives, stable_survives, survives_step, copied_survives_entry, none_survive}
 
 -- ---- instants
 
@@ -78,7 +79,7 @@ some_value None h = absurd (false≢true h)
 some_value (Some i) h = (i, refl)
 
 -- each delivered determinant has a number
-delivered_number : (whole : List Entry) (d : Det) (k : ℕ) → det_at whole k ≡ Some d → (i : ℕ) × (number_in whole d ≡ Some i)
+pub delivered_number : (whole : List Entry) (d : Det) (k : ℕ) → det_at whole k ≡ Some d → (i : ℕ) × (number_in whole d ≡ Some i)
 delivered_number whole d k at = some_value (number_in whole d) (sym (delivered_numbered (deliveries_in whole) whole d (listed_once whole)) ∙ told_det whole d k at)
 
 module _ (r : Recording) (formed : IsWellFormed r) (t : ℕ) (within : t ≤ length r.past) (c : Copies) (are : AreCopies r.past (instant r.past t) c) where
@@ -214,6 +215,16 @@ module _ (r : Recording) (formed : IsWellFormed r) (t : ℕ) (e : Entry) (inside
   tested dets are d h =
       subst (λ x. (survives r.processes (instant r.past t) d || list_has x d) ≡ true) (sym are)
       (survives_step r.processes (instant r.past t) d e (subst (λ p. survives r.processes p d ≡ true) next h))
+
+  -- what the entry names has a number
+  pub named_numbered : All (HasNumber r.past) (named_by e)
+  named_numbered = All-weaker (λ d. is_delivered (e ∷ instant r.past t) d ≡ true) (HasNumber r.past) numbered (named_by e) (named_delivered r.processes (instant r.past t) e legal_entry)
+    where
+      numbered : (d : Det) → is_delivered (e ∷ instant r.past t) d ≡ true → HasNumber r.past d
+      numbered d h =
+          let at = found_det (instant r.past (t + 1)) d (subst (λ p. is_delivered p d ≡ true) (sym next) h) in
+          let low : at.0 < t + 1 = omega (arith, det_within (instant r.past (t + 1)) at.0 d at.1, instant_length r.past (t + 1) inside) in
+          ap is_some (delivered_number r.past d at.0 (sym (det_then r.past (t + 1) at.0 low inside) ∙ at.1)).1
 
   module _ (c now : Copies) (copied : AreCopies r.past (instant r.past t) c) (copied_now : AreCopies r.past (instant r.past (t + 1)) now) where
     -- what the entry makes a copy of has one

@@ -1,6 +1,7 @@
 -- Which determinants survive, one more entry, and that each is that of a delivery.
 use Rattle.std.proofs.Common.{ℕ, ◌≡◌, ◌<◌, inl, inr, Bool, true, false, List, [], ◌∷◌, None, refl, sym, ap, subst, ◌∙◌, arith}
-use Rattle.std.specs.Prelude.{◌==◌, ◌&&◌, ◌||◌, not, nat_lt}
+use Rattle.std.specs.Prelude.{◌==◌, ◌&&◌, ◌||◌, not, nat_lt, All}
+use Rattle.std.proofs.lemmas.List.Elements.{All-nil, All-cons, All-weaker}
 use Rattle.std.specs.List.{list_all}
 use Rattle.std.proofs.lemmas.Bool.{cases_lt, false≢true, le-ltb, or_cases, and_parts, and_from, or_left, or_right, eqb-true, eq-eqb}
 use Rattle.causal_name.specs.declared.Pid.{Pid}
@@ -15,7 +16,7 @@ use Rattle.causal_trace.specs.Past.{logs, is_stable, is_delivered, is_det, det_o
 use Rattle.causal_trace.specs.Rows.{AreLegalEntries, first_fault, refusal_rows, are_delivered, are_delivered_with}
 use Rattle.causal_trace.specs.Survivors.{survives}
 use Rattle.causal_trace.proofs.Lemmas.EntryFacts.{row_fails, not_false}
-use Rattle.causal_replays.specs.Inside.Copies.{copied_by}
+use Rattle.causal_replays.specs.Inside.Copies.{copied_by, named_by}
 use Rattle.causal_replays.proofs.NumberLemmas.{same_is}
 
 -- ---- only processes of the run log
@@ -64,6 +65,32 @@ restart_lists n past who listed d legal h = each_listed (is_delivered past) list
 stable_writes : (n : ℕ) (past : List Entry) (det : Det) → first_fault n past (Stable det) ≡ None → is_delivered past det ≡ true
 unfolding refusal_rows
 stable_writes n past det legal = not_false (is_delivered past det) (row_fails (refusal_rows n past (Stable det)) legal 1 (not (is_delivered past det), NoDelivery) refl)
+
+forget_lists : (n : ℕ) (past : List Entry) (who : Pid) (listed : List Det) → first_fault n past (Forget who listed) ≡ None → are_delivered past listed ≡ true
+unfolding refusal_rows
+forget_lists n past who listed legal = not_false (are_delivered past listed) (row_fails (refusal_rows n past (Forget who listed)) legal 4 (not (are_delivered past listed), NoDelivery) refl)
+
+all_true : (test : Det → Bool) (dets : List Det) → list_all test dets ≡ true → All (λ d. test d ≡ true) dets
+all_true test [] h = All-nil (λ d. test d ≡ true)
+all_true test (x ∷ dets) h = let each = and_parts (test x) (list_all test dets) h in All-cons (λ d. test d ≡ true) x dets each.0 (all_true test dets each.1)
+
+-- what a legal entry names is that of a delivery
+pub named_delivered : (n : ℕ) (past : List Entry) (e : Entry) → first_fault n past e ≡ None → All (λ d. is_delivered (e ∷ past) d ≡ true) (named_by e)
+unfolding refusal_rows
+named_delivered n past e legal = named e legal
+  where
+    still : (e : Entry) (dets : List Det) → list_all (is_delivered past) dets ≡ true → All (λ d. is_delivered (e ∷ past) d ≡ true) dets
+    still e dets all = All-weaker (λ d. is_delivered past d ≡ true) (λ d. is_delivered (e ∷ past) d ≡ true) (λ d h. or_right (is_det (det_of past e) d) (is_delivered past d) h) dets (all_true (is_delivered past) dets all)
+
+    named : (e : Entry) → first_fault n past e ≡ None → All (λ d. is_delivered (e ∷ past) d ≡ true) (named_by e)
+    named (Send from to ssn) legal = All-nil (λ d. is_delivered (Send from to ssn ∷ past) d ≡ true)
+    named (Deliver to send rsn listed) legal =
+        let e : Entry = Deliver to send rsn listed in
+        all_true (λ d. is_det (det_of past e) d || is_delivered past d) listed (not_false (are_delivered_with past (det_of past e) listed) (row_fails (refusal_rows n past e) legal 7 (not (are_delivered_with past (det_of past e) listed), NoDelivery) refl))
+    named (Stable det) legal = still (Stable det) (det ∷ []) (and_from (is_delivered past det) true (stable_writes n past det legal) refl)
+    named (Crash who) legal = All-nil (λ d. is_delivered (Crash who ∷ past) d ≡ true)
+    named (Restart who listed) legal = still (Restart who listed) listed (not_false (are_delivered past listed) (row_fails (refusal_rows n past (Restart who listed)) legal 5 (not (are_delivered past listed), NoDelivery) refl))
+    named (Forget who listed) legal = still (Forget who listed) listed (forget_lists n past who listed legal)
 
 logged_delivered : (n : ℕ) (past : List Entry) (p : ℕ) (d : Det) → AreLegalEntries n past → logs past p d ≡ true → is_delivered past d ≡ true
 logged_delivered n [] p d a h = absurd (false≢true h)

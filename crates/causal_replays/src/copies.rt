@@ -1,11 +1,11 @@
 //! The copies of all determinants, entry by entry.
-ghost use Rattle.std.specs.Prelude.{◌≡◌, ◌<◌, ◌∷◌, ◌||◌, ◌&&◌, ◌==◌, ◌↔◌, ℕ, List, not, true, false, Some, IfSome, IfOk, OnOk};
+ghost use Rattle.std.specs.Prelude.{◌≡◌, ◌<◌, ◌∷◌, ◌||◌, ◌&&◌, ◌==◌, ◌↔◌, ℕ, List, All, not, true, false, Some, IfOk, OnOk};
 ghost use Rattle.causal_name.specs.declared.Det.{Det};
 ghost use Rattle.causal_name.specs.Names.{same_det};
 ghost use Rattle.causal_trace.specs.declared.entry.Entry.{Entry};
 ghost use Rattle.causal_trace.specs.Past.{deliveries_in, list_has};
 ghost use Rattle.causal_replays.specs.Inside.Holdings.{holds};
-ghost use Rattle.causal_replays.specs.Inside.Copies.{copied_by, is_stored, number_in, AreCopies, AreSized, HasCopy};
+ghost use Rattle.causal_replays.specs.Inside.Copies.{copied_by, named_by, is_stored, number_in, AreCopies, AreSized, HasCopy, HasNumber};
 
 use crate::holdings::{add_holder, empty_log, has_holder, remove_holder};
 use crate::slots::empty_lists;
@@ -25,12 +25,16 @@ pub struct Copies {
     pub logs: Vec<Vec<u32>>,
 }
 
-/// Returns the number of a determinant of this trace; None if no delivery has it.
-pub fn number_of(trace: &Trace, det: Det) -> Option<u32>
-    ensures value { result ≡ number_in trace.now.recording.past det }
-    ensures below { IfSome result (λ i. i < deliveries_in trace.now.recording.past) }
+/// Returns the number of a determinant of this trace.
+pub fn number_of(trace: &Trace, det: Det) -> u32
+    requires { HasNumber trace.now.recording.past det }
+    ensures value { number_in trace.now.recording.past det ≡ Some result }
+    ensures below { result < deliveries_in trace.now.recording.past }
 {
-    trace.delivery_of(det, trace.deliveries() as usize)
+    let Some(number) = trace.delivery_of(det, trace.deliveries() as usize) else {
+        unreachable!();
+    };
+    number
 }
 
 /// Returns the value for `count` determinants without copies.
@@ -56,7 +60,8 @@ pub fn has_copy(copies: &Copies, number: u32) -> bool
 
 /// Adds the determinant to the log of a process.
 fn log_det(copies: &mut Copies, trace: &Trace, who: u8, det: Det) -> Result<(), NoMemory>
-    requires { AreSized (deliveries_in trace.now.recording.past) copies.old }
+    requires sized { AreSized (deliveries_in trace.now.recording.past) copies.old }
+    requires number { HasNumber trace.now.recording.past det }
     ensures held { OnOk result ((d : Det) (i p : ℕ) →
         number_in trace.now.recording.past d ≡ Some i → holds copies.new.holders.items i p ≡
         ((who == p && same_det d det) || holds copies.old.holders.items i p)) }
@@ -64,15 +69,14 @@ fn log_det(copies: &mut Copies, trace: &Trace, who: u8, det: Det) -> Result<(), 
     ensures sized { OnOk result
         (AreSized (deliveries_in trace.now.recording.past) copies.new) }
 {
-    match number_of(trace, det) {
-        Some(number) => add_holder(&mut copies.holders, &mut copies.logs, number, who),
-        None => Ok(()),
-    }
+    let number = number_of(trace, det);
+    add_holder(&mut copies.holders, &mut copies.logs, number, who)
 }
 
 /// Adds the determinants to the log of a process.
 fn log_dets(copies: &mut Copies, trace: &Trace, who: u8, listed: &[Det]) -> Result<(), NoMemory>
-    requires { AreSized (deliveries_in trace.now.recording.past) copies.old }
+    requires sized { AreSized (deliveries_in trace.now.recording.past) copies.old }
+    requires numbers { All (HasNumber trace.now.recording.past) listed.now }
     ensures held { OnOk result ((d : Det) (i p : ℕ) →
         number_in trace.now.recording.past d ≡ Some i → holds copies.new.holders.items i p ≡
         ((who == p && list_has listed.now d) || holds copies.old.holders.items i p)) }
@@ -88,21 +92,22 @@ fn log_dets(copies: &mut Copies, trace: &Trace, who: u8, listed: &[Det]) -> Resu
 
 /// Removes the determinant from the log of a process.
 fn forget_det(copies: &mut Copies, trace: &Trace, who: u8, det: Det)
-    requires { AreSized (deliveries_in trace.now.recording.past) copies.old }
+    requires sized { AreSized (deliveries_in trace.now.recording.past) copies.old }
+    requires number { HasNumber trace.now.recording.past det }
     ensures held { (d : Det) (i p : ℕ) →
         number_in trace.now.recording.past d ≡ Some i → holds copies.new.holders.items i p ≡
         (not (who == p && same_det d det) && holds copies.old.holders.items i p) }
     ensures stored { copies.new.stable.items ≡ copies.old.stable.items }
     ensures sized { AreSized (deliveries_in trace.now.recording.past) copies.new }
 {
-    if let Some(number) = number_of(trace, det) {
-        remove_holder(&mut copies.holders, number, who);
-    }
+    let number = number_of(trace, det);
+    remove_holder(&mut copies.holders, number, who);
 }
 
 /// Removes the determinants from the log of a process.
 fn forget_dets(copies: &mut Copies, trace: &Trace, who: u8, listed: &[Det])
-    requires { AreSized (deliveries_in trace.now.recording.past) copies.old }
+    requires sized { AreSized (deliveries_in trace.now.recording.past) copies.old }
+    requires numbers { All (HasNumber trace.now.recording.past) listed.now }
     ensures held { (d : Det) (i p : ℕ) →
         number_in trace.now.recording.past d ≡ Some i → holds copies.new.holders.items i p ≡
         (not (who == p && list_has listed.now d) && holds copies.old.holders.items i p) }
@@ -116,21 +121,22 @@ fn forget_dets(copies: &mut Copies, trace: &Trace, who: u8, listed: &[Det])
 
 /// Writes the determinant to stable storage.
 fn store_det(copies: &mut Copies, trace: &Trace, det: Det)
-    requires { AreSized (deliveries_in trace.now.recording.past) copies.old }
+    requires sized { AreSized (deliveries_in trace.now.recording.past) copies.old }
+    requires number { HasNumber trace.now.recording.past det }
     ensures stored { (d : Det) (i : ℕ) →
         number_in trace.now.recording.past d ≡ Some i → is_stored copies.new.stable.items i ≡
         (same_det d det || is_stored copies.old.stable.items i) }
     ensures held { copies.new.holders.items ≡ copies.old.holders.items }
     ensures sized { AreSized (deliveries_in trace.now.recording.past) copies.new }
 {
-    if let Some(number) = number_of(trace, det) {
-        copies.stable[number as usize] = true;
-    }
+    let number = number_of(trace, det);
+    copies.stable[number as usize] = true;
 }
 
 /// Updates the copies by one more entry of the trace.
 pub fn apply_entry(copies: &mut Copies, trace: &Trace, entry: &Entry) -> Result<(), NoMemory>
-    requires { AreSized (deliveries_in trace.now.recording.past) copies.old }
+    requires sized { AreSized (deliveries_in trace.now.recording.past) copies.old }
+    requires numbers { All (HasNumber trace.now.recording.past) (named_by entry.now) }
     ensures copies { OnOk result ((past : List Entry) →
         AreCopies trace.now.recording.past past copies.old →
         AreCopies trace.now.recording.past (entry.now ∷ past) copies.new) }

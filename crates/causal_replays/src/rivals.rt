@@ -66,9 +66,7 @@ fn note_det(
     ensures of_slots { IfOk result (λ now.
         AreOfSlots trace.now.recording.past slots.new.items) }
 {
-    let Some(number) = number_of(trace, det) else {
-        unreachable!();
-    };
+    let number = number_of(trace, det);
     if has_rival(slots, copies, trace, det.slot(), number) {
         return Ok(Some(lower_slot(least, det.slot())));
     }

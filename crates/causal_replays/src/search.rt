@@ -20,7 +20,7 @@ fn copied_at(trace: &Trace, copies: &Copies, slot: Slot, k: u32) -> Option<Det>
     if det.slot() != slot {
         return None;
     }
-    let number = number_of(trace, det)?;
+    let number = number_of(trace, det);
     if has_copy(copies, number) {
         Some(det)
     } else {

@@ -3,7 +3,8 @@ use Rattle.std.specs.Prelude.{◌≡◌, ℕ, Bool, true, false, List, [], ◌�
 use Rattle.causal_name.specs.declared.Det.{Det}
 use Rattle.causal_trace.specs.declared.entry.Entry.{Entry}
 use Rattle.causal_trace.specs.declared.entry.Entry.TheVariants.{Deliver, Stable, Restart}
-use Rattle.causal_trace.specs.Past.{logs, is_stable, deliveries_in}
+use Rattle.std.specs.Option.{IsSome}
+use Rattle.causal_trace.specs.Past.{logs, is_stable, deliveries_in, listed_by}
 use Rattle.causal_trace.specs.Numbers.{delivered_dets, number_of}
 use Rattle.causal_replays.specs.declared.copies.Copies.{Copies}
 use Rattle.causal_replays.specs.Inside.Holdings.{holds, AreLogged}
@@ -11,6 +12,10 @@ use Rattle.causal_replays.specs.Inside.Holdings.{holds, AreLogged}
 -- the number of a determinant: that of the newest delivery with it in the whole run
 abbrev pub number_in : List Entry → Det → Option ℕ
 number_in whole d = number_of (deliveries_in whole) (delivered_dets whole) d
+
+-- a determinant has a number: some delivery has it
+abbrev pub HasNumber : List Entry → Det → Type 0
+HasNumber whole d = IsSome (number_in whole d)
 
 -- whether the determinant with number i is stable
 abbrev pub is_stored : List Bool → ℕ → Bool
@@ -31,6 +36,11 @@ pub record AreCopies (whole past : List Entry) (c : Copies) : Type 0 where
 -- the determinant with number i is stable, or some process holds it
 abbrev pub HasCopy : Copies → ℕ → Type 0
 HasCopy c i = (is_stored c.stable.items i ≡ true) ⊎ ((p : ℕ) × (holds c.holders.items i p ≡ true))
+
+-- the determinants that an entry lists or writes to stable storage
+abbrev pub named_by : Entry → List Det
+named_by (Stable det) = det ∷ []
+named_by e = listed_by e
 
 -- the determinants of which an entry makes copies
 abbrev pub copied_by : Entry → List Det

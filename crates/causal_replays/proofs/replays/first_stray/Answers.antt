@@ -7,7 +7,7 @@ use Rattle.causal_replays.specs.Inside.Copies.{AreSized, AreCopies}
 use Rattle.causal_replays.specs.Inside.Rivals.{HasRivals, AreNoted}
 use Rattle.causal_replays.proofs.SlotLemmas.{no_number}
 use Rattle.causal_replays.proofs.RivalLemmas.{noted_fewer}
-use Rattle.causal_replays.proofs.RunLemmas.{how_many, next_state, tested, listed_copied, noted_kept, two_now, lower_now, pair_now, single_now, up_to_next, copied_first, noted_first, single_first}
+use Rattle.causal_replays.proofs.RunLemmas.{how_many, named_numbered, next_state, tested, listed_copied, noted_kept, two_now, lower_now, pair_now, single_now, up_to_next, copied_first, noted_first, single_first}
 use Rattle.causal_replays.proofs.replays.first_stray.Goals as goal
 
 pub loop-t-init : goal.loop-t-init
@@ -20,6 +20,17 @@ loop-t-init c =
       noted = noted_first r c.in_ok-copies.copies c.in_ok-slots.slots.items (λ p s. no_number c.in_ok-slots.slots.items 256 p s c.in_ok-slots.ensures.empty);
       earlier = single_first r;
     }
+
+pub apply_entry-requires-clause-numbers : goal.apply_entry-requires-clause-numbers
+apply_entry-requires-clause-numbers c =
+    let r = c.args.trace.now.recording in
+    let es = c.entries-recorded.result.now in
+    let read = c.entries-recorded.ensures.value in
+    let t = c.loop-t.t in
+    let e = c.index-recorded-t.result in
+    let next = next_state r es read t e c.loop-t-test.true c.index-recorded-t.is in
+    let inside : t + 1 ≤ length r.past = omega (arith, c.loop-t-test.true, how_many r es read) in
+    named_numbered r c.entries-recorded.ensures.formed t e inside next
 
 pub note_dets-requires-clause-copied : goal.note_dets-requires-clause-copied
 note_dets-requires-clause-copied c =
