@@ -26,6 +26,7 @@ use Rattle.causal_protocol.specs.Memory.{Memory, Memories, present_at, update_at
 use Rattle.causal_protocol.specs.Run.{Run, memories, memories_of}
 use Rattle.causal_protocol.specs.Refusals.{refusal_rows, first_fault_in, fault_if, first_fault, exceeds_entries, dets_to_flush}
 use Rattle.causal_protocol.specs.Steps.{LegalStep, Steps, extend_run, reason_of, flush_reason_of, reply_of_flush}
+use Rattle.causal_core.specs.Flushes.{HasUnflushed}
 use Rattle.causal_core.specs.Inside.Memories.{memory_at, log_at}
 use Rattle.causal_core.specs.Inside.Stables.{written_count}
 use Rattle.causal_core.proofs.MemoriesFit.{all_more}
@@ -152,3 +153,8 @@ refusal_stores r p fault h is = no_store r p (h ∙ ap reason_of is)
 pub flush_refused : (r next : Run) (p : Pid) (fault : CoreFault) → next ≡ r → first_fault r (Requests.Flush p) ≡ reason_of fault → Steps r (Requests.Flush p) (Replies.FlushRefused (record { fault = fault; done = 0 })) next
 unfolding LegalStep
 flush_refused r next p fault same reason = grind (arith, refusal_stores)
+
+-- a fault of the store before anything is written is a legal step too
+pub store_fault_first : (r : Run) (p : Pid) → HasUnflushed r p → Steps r (Requests.Flush p) (Replies.FlushRefused (record { fault = Faults.StoreFault; done = 0 })) r
+unfolding LegalStep
+store_fault_first r p due = record { appended = []; grown = refl; legal = (due.legal, due.some, refl) }

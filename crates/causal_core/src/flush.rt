@@ -8,7 +8,7 @@ ghost use Rattle.causal_protocol.specs.Run.{memories_of};
 ghost use Rattle.causal_protocol.specs.Steps.{flush_reason_of, Steps, reply_of_flush};
 ghost use Rattle.causal_core.specs.Boxes.{SameAnswers};
 ghost use Rattle.causal_core.specs.Inside.Memories.{log_at};
-ghost use Rattle.causal_core.specs.Flushes.{HasFailed, FaultMeansFailure};
+ghost use Rattle.causal_core.specs.Flushes.{HasFailed, FaultMeansFailure, StoreFaultIsFirst};
 ghost use Rattle.causal_core.specs.Inside.Stables.{written_count, IsStored};
 ghost use Rattle.causal_core.specs.Inside.Stables.{run_after_flush};
 ghost use Rattle.causal_core.specs.CoreView.{core_run, core_state, core_store};
@@ -104,17 +104,26 @@ impl<S: Stable> Core<S> {
     /// # Errors
     /// The first of `NoProcess`, `Down`, and `Full` if an entry for each determinant would exceed the limit; these
     /// change nothing. If none applies: `StoreFault` if a put failed or the store's count of faults is at its maximum,
-    /// and `NoMemory` if allocation failed. `done` is the number of determinants stored and recorded before.
+    /// which is checked first, and `NoMemory` if allocation failed. `done` is the number of determinants stored and
+    /// recorded before.
     pub fn flush(&mut self, p: Pid) -> Result<u32, FlushFault>
         requires { p.0 < 256 }
         ensures step { Steps (core_run self.old) (Requests.Flush p) (reply_of_flush result)
             (core_run self.new) }
         ensures fault { IfErr result
             (FaultMeansFailure (S.faults (core_store self.old)) (S.faults (core_store self.new))) }
+        ensures order { StoreFaultIsFirst (S.faults (core_store self.old)) (core_run self.old) p
+            result }
         ensures bodies { (core_state self.new).bodies ≡ (core_state self.old).bodies }
         ensures boxes { SameAnswers answers (core_state self.old).slots
             (core_state self.new).slots }
     {
+        if self.store.failures() == u64::MAX && self.run_data.has_unflushed(p) {
+            return Err(FlushFault {
+                fault: CoreFault::StoreFault,
+                done: 0,
+            });
+        }
         let dets = match self.run_data.prepare_flush(self.alloc, p) {
             Ok(dets) => dets,
             Err(fault) => return Err(FlushFault { fault, done: 0 }),

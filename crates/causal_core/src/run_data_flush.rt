@@ -1,11 +1,12 @@
 //! Flush and forget, on the run data.
-ghost use Rattle.std.specs.Prelude.{◌≡◌, ◌≤◌, ◌∷◌, [], length, OnOk, IfOk, IfErr, None, true, is_some};
+ghost use Rattle.std.specs.Prelude.{◌≡◌, ◌≤◌, ◌∷◌, [], length, OnOk, IfOk, IfErr, None, true, false, is_some};
 ghost use Rattle.causal_log.specs.Logs.{after_drop_stable};
 ghost use Rattle.causal_trace.specs.declared.entry.Entry.TheVariants as Entries;
 ghost use Rattle.causal_protocol.specs.declared.request.Request.TheVariants as Requests;
 ghost use Rattle.causal_protocol.specs.Memory.{present_at, update_at, with_log};
 ghost use Rattle.causal_protocol.specs.Refusals.{first_fault, dets_to_flush, dets_to_forget};
 ghost use Rattle.causal_protocol.specs.Steps.{extend_run, Steps, reply_of_forget};
+ghost use Rattle.causal_core.specs.Flushes.{HasUnflushed};
 ghost use Rattle.causal_core.specs.View.{IsReason};
 ghost use Rattle.causal_core.specs.Inside.Memories.{memories_in, bodies_in};
 ghost use Rattle.causal_trace.specs.Limits.{max_entries};
@@ -47,6 +48,17 @@ impl RunData {
             return Some(CoreFault::Full);
         }
         None
+    }
+
+    /// Returns whether a flush of p writes a determinant: no refusal applies, and one is to be written. Allocates nothing.
+    pub(crate) fn has_unflushed(&self, p: Pid) -> bool
+        ensures some { result ≡ true → HasUnflushed self.now.run p }
+        ensures none { result ≡ false → HasUnflushed self.now.run p → ⊥ }
+    {
+        let Some(process_memory) = process_memory_at(self.process_memories.as_slice(), p) else {
+            return false;
+        };
+        process_memory.log.unstable_len() > 0 && self.flush_fault(p).is_none()
     }
 
     /// Returns the determinants that p logs and does not know to be stable; none if p is down.

@@ -18,6 +18,7 @@ use causal_memory::restart_plan::RestartPlan;
 use causal_memory::restart_planning::restart_plan_with;
 use causal_name::{NoMemory, Pid};
 use causal_process::Outgoing;
+use causal_trace::fault::TraceFault;
 use causal_trace::trace::Trace;
 use std::alloc::Global;
 
@@ -47,6 +48,18 @@ fn new_process_memories(
     Ok(process_memories)
 }
 
+/// Returns a trace of n processes with no entries.
+fn new_trace(alloc: Global, n: u16) -> Result<Trace, NoMemory>
+    requires { (1 ≤ n) × (n ≤ max_processes) }
+    ensures { IfOk result (λ trace. trace.recording ≡ record { processes = n; past = [] }) }
+{
+    match Trace::new(alloc, n) {
+        Ok(trace) => Ok(trace),
+        Err(TraceFault::NoMemory) => Err(NoMemory),
+        Err(_) => unreachable!(),
+    }
+}
+
 impl RunData {
     /// Returns the data of a run of n processes with the bound f, in which nothing has happened. Logs hash with the seed.
     pub(crate) fn open(alloc: Global, n: u16, f: u16, seed: u64) -> Result<RunData, NoMemory>
@@ -56,11 +69,8 @@ impl RunData {
         ensures bodies { IfOk result (λ run_data. run_data.bodies ≡ replicate n []) }
     {
         let process_memories = new_process_memories(alloc, n, seed)?;
-        let Ok(trace) = Trace::new(alloc, n) else {
-            return Err(NoMemory);
-        };
         Ok(RunData {
-            trace,
+            trace: new_trace(alloc, n)?,
             faults: f,
             writers: Vec::new(alloc),
             process_memories: process_memories,

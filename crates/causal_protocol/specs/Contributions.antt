@@ -30,6 +30,14 @@ run_before k r = record {
   writers = writers_before k r.recording.past r.writers;
 }
 
+-- the run before the entry that `since` newer ones follow
+abbrev pub before : ℕ → Run → Run
+before since r = run_before (suc since) r
+
+-- who wrote the newest stable entry up to that entry
+abbrev pub writer_at : ℕ → Run → Option Pid
+writer_at since r = slice_get (writers_before since r.recording.past r.writers) 0
+
 -- some up process knows that q holds d; some up process knows that d is stable
 abbrev pub IsKnownHolder : Run → Det → ℕ → Type 0
 IsKnownHolder r d q = (s : ℕ) × (knows_holder (memories_of r) s d q ≡ true)
@@ -73,7 +81,7 @@ pub record IsContributed (Gives : Run → Option Pid → Entry → Type 0) (p : 
   pub since : ℕ
   pub entry : Entry
   pub at_since : slice_get r.recording.past since ≡ Some entry
-  pub gives : Gives (run_before (suc since) r) (slice_get (writers_before since r.recording.past r.writers) 0) entry
+  pub gives : Gives (before since r) (writer_at since r) entry
   pub lasts : list_any (erases_knowledge p d) (take since r.recording.past) ≡ false
 
 -- an up process knows exactly the holders that its lane contributed

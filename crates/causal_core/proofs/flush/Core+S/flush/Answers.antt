@@ -2,8 +2,11 @@ use Rattle.std.proofs.Common.{◌∙◌, arith}
 use Rattle.causal_protocol.specs.declared.request.Request.TheVariants as Requests
 use Rattle.causal_protocol.specs.Steps.{reply_of_flush}
 use Rattle.causal_protocol.proofs.Lemmas.KeptByType.{step_preserves}
-use Rattle.causal_core.proofs.FlushSteps.{flush_up, flush_below, flush_short, flush_steps, flush_refused, refusal_stores, unwritten_logged}
+use Rattle.causal_core.proofs.FlushSteps.{flush_up, flush_below, flush_short, flush_steps, flush_refused, refusal_stores, store_fault_first, unwritten_logged}
 use Rattle.causal_core.proofs.flush.Core+S.flush.Goals as goal
+
+pub returns-then-has_unflushed-clause-step : goal.returns-then-has_unflushed-clause-step
+returns-then-has_unflushed-clause-step g c = store_fault_first c.args.self.now.run_data.run c.args.p (c.has_unflushed.ensures.some c.if-has_unflushed.true)
 
 pub returns-in-Err-clause-step : goal.returns-in-Err-clause-step
 returns-in-Err-clause-step g c = grind (arith, flush_refused)
