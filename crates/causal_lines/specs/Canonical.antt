@@ -1,7 +1,7 @@
 -- The canonical text of a recording: tokens without spaces, a line feed after each line.
 use Rattle.std.specs.Prelude.{ℕ, ◌&&◌, nat_le, if◌then◌else◌, List, [], ◌∷◌, ◌++◌, codes, decimal, flat_map}
 use Rattle.std.specs.List.{list_all}
-use Rattle.causal_name.specs.declared.Det.{Det}
+use Rattle.causal_spelling.specs.Spelling.{det_text, dets_text}
 use Rattle.causal_trace.specs.declared.entry.Entry.{Entry}
 use Rattle.causal_trace.specs.declared.entry.Entry.TheVariants.{Send, Deliver, Stable, Crash, Restart, Forget}
 use Rattle.causal_trace.specs.Rows.{Recording}
@@ -17,19 +17,6 @@ use Rattle.causal_line.specs.Versions.{max_processes_in, allows}
 -- the first version that can express the recording
 abbrev pub canonical_version : Recording → Version
 canonical_version r = if nat_le r.processes (max_processes_in One) && list_all (allows One) (entries_of r) then One else Two
-
--- the text of a determinant, `[source,ssn,dest,rsn]`
-abbrev pub det_text : Det → List ℕ
-det_text d = codes "[" ++ (decimal d.source.0 ++ (codes "," ++ (decimal d.ssn ++ (codes "," ++ (decimal d.dest.0 ++ (codes "," ++ (decimal d.rsn ++ codes "]")))))))
-
--- the text of determinants, each after a comma
-abbrev pub more_dets_text : List Det → List ℕ
-more_dets_text ds = flat_map (λ d. codes "," ++ det_text d) ds
-
--- the text of a list of determinants
-abbrev pub dets_text : List Det → List ℕ
-dets_text [] = codes "[]"
-dets_text (d ∷ ds) = codes "[" ++ (det_text d ++ (more_dets_text ds ++ codes "]"))
 
 -- the text of an entry
 abbrev pub entry_text : Entry → List ℕ

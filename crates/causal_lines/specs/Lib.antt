@@ -1,4 +1,3 @@
-pub mod Inside
 pub mod ReadPositions
 pub mod Canonical
 pub mod PartialWrites

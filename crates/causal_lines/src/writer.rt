@@ -1,13 +1,14 @@
 //! The writer of the canonical text: the tokens of each line without spaces, and a line feed after each line.
 ghost use Rattle.std.specs.Prelude.{◌≡◌, ◌++◌, OnOk, IfOk, IfErr, string_bytes};
 ghost use Rattle.std.specs.Io.KnownBytes.{Appends};
-ghost use Rattle.causal_lines.specs.Canonical.{det_text, more_dets_text, dets_text, entry_text, entries_text, canonical_text, canonical_version};
+ghost use Rattle.causal_lines.specs.Canonical.{entry_text, entries_text, line_text, canonical_text, canonical_version};
+ghost use Rattle.causal_line.specs.declared.parsed_line.ParsedLine.TheVariants as parsed;
 ghost use Rattle.causal_lines.specs.PartialWrites.{IsPartialTraceWrite};
-ghost use Rattle.causal_lines.specs.Inside.Texts.{numbers_text, named_text, listed_text};
 
 use crate::writing::{WriteCause, WriteFault, write_whole};
 use causal_line::version::Version;
-use causal_name::{Det, NoMemory, Pid};
+use causal_name::{Det, NoMemory};
+use causal_spelling::{push_det, push_listed, push_named};
 use causal_trace::entry::Entry;
 use causal_trace::trace::Trace;
 use std::alloc::{AllocError, Global};
@@ -25,77 +26,6 @@ fn canonical_version(trace: &Trace) -> Version
     }
 }
 
-// appends the numbers, each after a comma, and then `end`
-fn push_numbers(out: &mut String, numbers: &[u32], end: &str) -> Result<(), AllocError>
-    ensures { OnOk result
-        (string_bytes out.new ≡ string_bytes out.old ++ numbers_text numbers.now end.now) }
-{
-    for number in numbers {
-        out.push_str(",")?;
-        write!(out, "{number}")?;
-    }
-    out.push_str(end)
-}
-
-// appends an array that begins with a name
-fn push_named(out: &mut String, name: &str, numbers: &[u32], end: &str) -> Result<(), AllocError>
-    ensures { OnOk result
-        (string_bytes out.new ≡ string_bytes out.old ++ named_text name.now numbers.now end.now) }
-{
-    out.push_str("[\"")?;
-    out.push_str(name)?;
-    out.push_str("\"")?;
-    push_numbers(out, numbers, end)
-}
-
-fn push_det(out: &mut String, det: &Det) -> Result<(), AllocError>
-    ensures { OnOk result (string_bytes out.new ≡ string_bytes out.old ++ det_text det.now) }
-{
-    let Pid(source) = det.source;
-    out.push_str("[")?;
-    write!(out, "{source}")?;
-    push_numbers(out, &[det.ssn, u32::from(det.dest.0), det.rsn], "]")
-}
-
-fn push_more_dets(out: &mut String, dets: &[Det]) -> Result<(), AllocError>
-    ensures { OnOk result (string_bytes out.new ≡ string_bytes out.old ++ more_dets_text dets.now) }
-{
-    for det in dets {
-        out.push_str(",")?;
-        push_det(out, det)?;
-    }
-    Ok(())
-}
-
-fn push_dets(out: &mut String, dets: &[Det]) -> Result<(), AllocError>
-    ensures { OnOk result (string_bytes out.new ≡ string_bytes out.old ++ dets_text dets.now) }
-{
-    match dets.split_first() {
-        None => out.push_str("[]"),
-        Some((first, more)) => {
-            out.push_str("[")?;
-            push_det(out, first)?;
-            push_more_dets(out, more)?;
-            out.push_str("]")
-        }
-    }
-}
-
-// appends an entry whose last item is a list
-fn push_listed(
-    out: &mut String,
-    name: &str,
-    numbers: &[u32],
-    dets: &[Det],
-) -> Result<(), AllocError>
-    ensures { OnOk result
-        (string_bytes out.new ≡ string_bytes out.old ++ listed_text name.now numbers.now dets.now) }
-{
-    push_named(out, name, numbers, ",")?;
-    push_dets(out, dets)?;
-    out.push_str("]")
-}
-
 // appends an entry of one determinant
 fn push_stable(out: &mut String, det: &Det) -> Result<(), AllocError>
     ensures { OnOk result
@@ -111,7 +41,7 @@ fn push_entry(out: &mut String, entry: &Entry) -> Result<(), AllocError>
 {
     match entry {
         Entry::Send { from, to, ssn } => {
-            let numbers = [u32::from(from.0), u32::from(to.0), *ssn];
+            let numbers = [u64::from(from.0), u64::from(to.0), u64::from(*ssn)];
             push_named(out, "send", &numbers, "]")
         }
         Entry::Deliver {
@@ -120,16 +50,16 @@ fn push_entry(out: &mut String, entry: &Entry) -> Result<(), AllocError>
             rsn,
             listed,
         } => {
-            let numbers = [u32::from(to.0), *send, *rsn];
-            push_listed(out, "deliver", &numbers, listed.as_slice())
+            let numbers = [u64::from(to.0), u64::from(*send), u64::from(*rsn)];
+            push_listed(out, "deliver", &numbers, listed.as_slice(), "]")
         }
         Entry::Stable { det } => push_stable(out, det),
-        Entry::Crash { who } => push_named(out, "crash", &[u32::from(who.0)], "]"),
+        Entry::Crash { who } => push_named(out, "crash", &[u64::from(who.0)], "]"),
         Entry::Restart { who, listed } => {
-            push_listed(out, "restart", &[u32::from(who.0)], listed.as_slice())
+            push_listed(out, "restart", &[u64::from(who.0)], listed.as_slice(), "]")
         }
         Entry::Forget { who, listed } => {
-            push_listed(out, "forget", &[u32::from(who.0)], listed.as_slice())
+            push_listed(out, "forget", &[u64::from(who.0)], listed.as_slice(), "]")
         }
     }
 }
@@ -145,19 +75,29 @@ fn push_entries(out: &mut String, entries: &[Entry]) -> Result<(), AllocError>
     Ok(())
 }
 
+fn push_header(out: &mut String, version: u32, processes: u16) -> Result<(), AllocError>
+    ensures { OnOk result (string_bytes out.new
+        ≡ string_bytes out.old ++ line_text (parsed.Header version processes)) }
+{
+    let numbers = [u64::from(version), u64::from(processes)];
+    push_named(out, "trace", &numbers, "]\n")
+}
+
+fn push_end(out: &mut String, entries: u32) -> Result<(), AllocError>
+    ensures { OnOk result (string_bytes out.new
+        ≡ string_bytes out.old ++ line_text (parsed.End entries)) }
+{
+    push_named(out, "end", &[u64::from(entries)], "]\n")
+}
+
 fn push_trace(out: &mut String, trace: &Trace) -> Result<(), AllocError>
     ensures { OnOk result
         (string_bytes out.new ≡ string_bytes out.old ++ canonical_text trace.now.recording) }
 {
     let version = canonical_version(trace).number();
-    push_named(
-        out,
-        "trace",
-        &[version, u32::from(trace.processes())],
-        "]\n",
-    )?;
+    push_header(out, version, trace.processes())?;
     push_entries(out, trace.entries())?;
-    push_named(out, "end", &[trace.len()], "]\n")?;
+    push_end(out, trace.len())?;
     Ok(())
 }
 

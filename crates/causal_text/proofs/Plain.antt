@@ -11,7 +11,8 @@ use Rattle.causal_trace.specs.declared.entry.Entry.{Entry}
 use Rattle.causal_trace.specs.declared.entry.Entry.TheVariants.{Send, Deliver, Stable, Crash, Restart, Forget}
 use Rattle.causal_line.specs.declared.parsed_line.ParsedLine.{ParsedLine}
 use Rattle.causal_line.specs.declared.parsed_line.ParsedLine.TheVariants as parsed
-use Rattle.causal_lines.specs.Canonical.{det_text, more_dets_text, dets_text, entry_text, parsed_line_text}
+use Rattle.causal_spelling.specs.Spelling.{det_text, more_dets_text, dets_text}
+use Rattle.causal_lines.specs.Canonical.{entry_text, parsed_line_text}
 use Rattle.causal_trace.specs.Sizes.{DetIsBounded, DetsAreBounded, EntryIsBounded}
 use Rattle.causal_text.proofs.ShapeData.{ShapeFits}
 

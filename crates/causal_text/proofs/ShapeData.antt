@@ -10,7 +10,8 @@ use Rattle.causal_trace.specs.declared.entry.Entry.TheVariants.{Send, Deliver, S
 use Rattle.causal_line.specs.declared.parsed_line.ParsedLine.{ParsedLine}
 use Rattle.causal_line.specs.declared.parsed_line.ParsedLine.TheVariants as parsed
 use Rattle.causal_line.specs.ParsedLines.{pid_at, det_of, dets_of, dets_at, header_of, send_of, deliver_of, stable_of, crash_of, restart_of, forget_of, end_of, parse_value}
-use Rattle.causal_lines.specs.Canonical.{det_text, more_dets_text, dets_text, entry_text, parsed_line_text}
+use Rattle.causal_spelling.specs.Spelling.{det_text, more_dets_text, dets_text}
+use Rattle.causal_lines.specs.Canonical.{entry_text, parsed_line_text}
 use Rattle.causal_trace.specs.Sizes.{DetIsBounded, DetsAreBounded, EntryIsBounded}
 use Rattle.causal_text.proofs.ReadsBack.{IsSimple, AreSimple}
 

@@ -16,7 +16,8 @@ use Rattle.causal_trace.specs.Sizes.{DetIsBounded, DetsAreBounded, EntryIsBounde
 use Rattle.causal_line.specs.declared.parsed_line.ParsedLine.TheVariants as parsed
 use Rattle.causal_line.specs.declared.version.Version.{Version}
 use Rattle.causal_line.specs.declared.version.Version.TheVariants.{One, Two}
-use Rattle.causal_lines.specs.Canonical.{det_text, more_dets_text, dets_text, entry_text, entries_text, line_text, canonical_text}
+use Rattle.causal_spelling.specs.Spelling.{det_text, more_dets_text, dets_text}
+use Rattle.causal_lines.specs.Canonical.{entry_text, entries_text, line_text, canonical_text}
 use Rattle.causal_line.specs.Stages.{max_text_len}
 use Rattle.causal_line.specs.Versions.{number_of}
 use Rattle.causal_lines.proofs.Lemmas.CanonicalParts.{canonical_parts}

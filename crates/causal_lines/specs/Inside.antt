@@ -1,2 +1,0 @@
--- Definitions of private functions; no public contract uses them.
-pub mod Texts
