@@ -8,3 +8,4 @@ pub mod Resending
 pub mod Receiving
 pub mod Recovering
 pub mod Forgetting
+pub mod Lines

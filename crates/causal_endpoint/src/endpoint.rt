@@ -1,7 +1,7 @@
 //! A process of a run, over the bytes of parcels.
-ghost use Rattle.std.specs.Prelude.{◌≡◌, IfOk, IfErr, OnOk, None};
+ghost use Rattle.std.specs.Prelude.{◌≡◌, IfOk, IfErr, OnOk, OnErr, None, max};
 ghost use Rattle.causal_node.specs.NodeRecovery.{opened};
-ghost use Rattle.causal_endpoint.specs.Endpoints.{run_of, head_to, next_clock};
+ghost use Rattle.causal_endpoint.specs.Endpoints.{run_of, head_to, next_clock, with_node};
 ghost use Rattle.causal_endpoint.specs.Refusals.{clock_fault, reason_of};
 ghost use Rattle.causal_endpoint.specs.Opening.{open_fault};
 
@@ -81,11 +81,37 @@ impl Endpoint {
         &self.node
     }
 
-    /// Returns the clock of the last event.
+    /// Returns the number of the run.
+    pub fn run_number(&self) -> u64
+        ensures { result ≡ self.now.run }
+    {
+        self.run
+    }
+
+    /// Returns the clock of the last event, which goes with all that leaves the process by another way than a parcel.
     pub fn clock(&self) -> u64
         ensures { result ≡ self.now.clock }
     {
         self.clock
+    }
+
+    /// Takes a clock into account that comes by another way than a parcel: with what stable storage has, or with the
+    /// report that a process has ended. Otherwise the recording may have an effect before its cause.
+    ///
+    /// # Errors
+    /// `Clock`. A refusal changes nothing.
+    pub fn take_in(&mut self, clock: u64) -> Result<(), EndpointFault>
+        ensures ok { OnOk result
+            (self.new ≡ with_node self.old self.old.node (max self.old.clock clock)) }
+        ensures legal { OnOk result (clock_fault clock ≡ None) }
+        ensures refused { IfErr result (λ fault. clock_fault clock ≡ reason_of fault) }
+        ensures unchanged { OnErr result (self.new ≡ self.old) }
+    {
+        if let Some(fault) = clock_fault(clock) {
+            return Err(fault);
+        }
+        self.clock = self.clock.max(clock);
+        Ok(())
     }
 
     /// Returns the run, as parcels name it.

@@ -12,6 +12,8 @@ pub mod fault;
 pub mod forgetting;
 /// Items and log entries, in a log and in a parcel.
 mod items;
+/// The lines of a recording.
+pub mod lines;
 /// Receiving of parcels.
 pub mod receiving;
 /// Recovery: rounds, what storage has, and the restart.

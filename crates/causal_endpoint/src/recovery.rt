@@ -40,7 +40,7 @@ impl Endpoint {
 
     /// Takes from the embedder, who knows that q has ended and how often it has restarted, that q is not up and that
     /// `number` is its next lane: in the place of q's reply to the round of this name. If the view has another number
-    /// for q, the round is given up.
+    /// for q, the round is given up. The clock of q's end comes first, by `take_in`.
     ///
     /// # Errors
     /// The first of `Up` and `Unasked`. A refusal changes nothing.
@@ -101,7 +101,7 @@ impl Endpoint {
     }
 
     /// Stable storage has this determinant: it has confirmed a write of the process, or the process has read it after
-    /// the last reply to its round. Returns the clock of the recording's line.
+    /// the last reply to its round: then `take_in` comes first. Returns the clock of the recording's line.
     ///
     /// # Errors
     /// The first of `NoRound`, `Waiting` and `Clock`; if none applies, `NoMemory` if allocation failed. A refusal
