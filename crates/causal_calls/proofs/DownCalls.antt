@@ -1,22 +1,21 @@
 -- The calls of a node that recovers are steps of a process that is down, or give up a round.
-use Rattle.std.proofs.Common.{ℕ, zero, suc, ◌≡◌, ◌∙◌, ◌==◌, ◌<◌, ◌≤◌, ◌+◌, Bool, true, false, not, cond, ◌&&◌, ◌||◌, List, [], ◌∷◌, length, max, Option, Some, None, inl, inr, replicate, refl, sym, ap, subst, arith}
-use Rattle.std.specs.Prelude.{◌⊎◌, nat_lt, nat_le, if◌then◌else◌, slice_set}
+use Rattle.std.proofs.Common.{ℕ, zero, suc, ◌≡◌, ◌∙◌, ◌==◌, ◌<◌, ◌≤◌, ◌+◌, Bool, true, false, not, ◌&&◌, ◌||◌, List, [], ◌∷◌, length, max, Option, Some, None, inl, inr, replicate, refl, sym, ap, subst, arith}
+use Rattle.std.specs.Prelude.{◌⊎◌, nat_lt, if◌then◌else◌, slice_set}
 use Rattle.std.specs.Cmp.{nat_cmp_total}
 use Rattle.std.specs.Ordering.{nat_cmp, is_eq}
 use Rattle.std.specs.FinMap as fin
 use Rattle.std.specs.FinSet as set
-use Rattle.std.proofs.lemmas.Bool.{false≢true, true≢false, or_cases, or_left, or_right, and_parts, and_from, eqb-true, eq-eqb, both_ways}
+use Rattle.std.proofs.lemmas.Bool.{false≢true, or_cases, or_left, or_right, and_from, eqb-true, eq-eqb, both_ways}
 use Rattle.std.proofs.lemmas.Bool.Decides.{eqb_tells}
 use Rattle.causal_name.specs.declared.Pid.{Pid}
 use Rattle.causal_name.specs.declared.MsgName.{MsgName}
 use Rattle.causal_name.specs.declared.Det.{Det}
 use Rattle.causal_name.specs.Names.{same_det}
 use Rattle.causal_name.proofs.Lemmas.DetOrder.{nat_ties}
-use Rattle.causal_trace.specs.declared.entry.Entry.{Entry}
 use Rattle.causal_trace.specs.declared.entry.Entry.TheVariants.{Stable, Restart}
 use Rattle.causal_trace.specs.Past.{list_has}
 use Rattle.causal_log.specs.Knowledge.{stable_and_held_by}
-use Rattle.causal_log.specs.Logs.{LogMap, after_union}
+use Rattle.causal_log.specs.Logs.{LogMap}
 use Rattle.causal_log.proofs.Lemmas.KnowledgeGrows.{united_logged, united_holders, united_stable}
 use Rattle.causal_log.proofs.Lemmas.LogLists.{keys_logged}
 use Rattle.causal_log.proofs.Lemmas.Ascents.{map_ascends}
@@ -24,18 +23,20 @@ use Rattle.causal_protocol.specs.MemoryQueries.{has_entry, log_knows_holder, log
 use Rattle.causal_rounds.specs.Rounds.{set_at}
 use Rattle.causal_node.specs.declared.node_answer.Reply.TheVariants as Replies
 use Rattle.causal_node.specs.NodeStates.{NodeState, Recovery, RoundState, floor_of}
-use Rattle.causal_node.specs.NodeRecovery.{reply_fault, ask_fault, restart_fault, new_round, with_recovery, map_round, with_log_of, without_awaited, after_not_up, after_number, raised_at, after_stored, after_read, after_restart_at, restart_log_of, opened, processes_below}
+use Rattle.causal_node.specs.NodeRecovery.{ask_fault, restart_fault, new_round, with_recovery, map_round, with_log_of, without_awaited, after_not_up, after_number, raised_at, after_stored, after_read, after_restart_at, restart_log_of, opened, processes_below}
 use Rattle.causal_node.specs.NodeAnswers.{answer_fault, after_answer, after_answer_at, knows_number, reply_of}
 use Rattle.causal_nodes.specs.Node.{NodeRound, DownNode, Node, up_node, down_node}
 use Rattle.causal_nodes.specs.Packets.{Sent, question_packet, answer_packet, not_up_packet, read_packet, stored_packet, number_packet}
 use Rattle.causal_nodes.specs.NodeSteps.{NodeStep, hear_number_row, begin_row, not_up_row, give_up_row, hear_answer_row, hear_not_up_row, read_row, take_stored_row, hear_stored_row, restart_row, with_round, fallen_node, new_node_round, with_heard, with_stored}
 use Rattle.causal_nodes.specs.NodeSteps as theory
-use Rattle.causal_calls.specs.Views.{numbers, up_view, log_view, RepresentsAt, Represents, IsRoundOf, HasRoundOf, IsDownView, IsNodeState, IsRecoveryState}
+use Rattle.causal_calls.specs.Views.{numbers, log_view, RepresentsAt, Represents, IsRoundOf, IsDownView, IsNodeState, IsRecoveryState}
 use Rattle.causal_calls.specs.Parcels.{log_packet}
 use Rattle.causal_calls.specs.StepLaws.{IsStepOf, IsNoStep}
-use Rattle.causal_calls.proofs.LogViews.{same_log, nothing_logged, nothing_held, nothing_stable, one_entry, one_holder, one_stable, one_holds, held_has, held_holder, held_stable, entry_of_holder}
-use Rattle.causal_calls.proofs.Names.{from_not, or_else_none, of_round, set_other, set_here, zeros}
-use Rattle.causal_calls.proofs.UpCalls.{replies_not_up, not_below}
+use Rattle.causal_calls.proofs.Lemmas.LogViews.{same_log, nothing_logged, nothing_held, nothing_stable, one_entry, one_holder, one_stable, one_holds, held_has, held_holder, held_stable, entry_of_holder}
+use Rattle.causal_calls.proofs.Lemmas.Refusals.{from_not, or_else_none}
+use Rattle.causal_calls.proofs.Lemmas.Numbers.{set_other, set_here, zeros}
+use Rattle.causal_calls.proofs.Lemmas.Refusals.{not_below}
+use Rattle.causal_calls.proofs.UpCalls.{replies_not_up}
 
 -- the processes below n are those
 pub is_below : (n q : ℕ) → q < n → set.contains (processes_below n) q ≡ true

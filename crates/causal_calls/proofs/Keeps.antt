@@ -1,57 +1,41 @@
 -- Each call of a node keeps what is true of its states, and what it sends names only processes.
-use Rattle.std.proofs.Common.{ℕ, zero, suc, ◌≡◌, ◌∙◌, ◌==◌, ◌<◌, ◌≤◌, ◌+◌, Bool, true, false, not, cond, ◌&&◌, ◌||◌, List, [], ◌∷◌, ◌++◌, length, max, Option, Some, None, inl, inr, replicate, refl, sym, ap, subst, arith}
-use Rattle.std.specs.Prelude.{◌⊎◌, nat_lt, nat_le, if◌then◌else◌, slice_set}
+use Rattle.std.proofs.Common.{ℕ, ◌≡◌, ◌∙◌, ◌==◌, ◌<◌, Bool, true, false, not, ◌&&◌, ◌||◌, List, [], ◌∷◌, length, max, Some, None, inl, inr, replicate, refl, sym, ap, subst, arith}
+use Rattle.std.specs.Prelude.{nat_lt, if◌then◌else◌, slice_set}
 use Rattle.std.specs.List.{list_any}
 use Rattle.std.specs.FinMap as fin
 use Rattle.std.specs.FinSet as set
 use Rattle.std.proofs.lemmas.Bool.{false≢true, or_cases, or_left, or_right, and_parts, and_from, eqb-true, eq-eqb, both_ways}
-use Rattle.std.proofs.lemmas.Bool.Decides.{eqb_tells}
 use Rattle.std.proofs.lemmas.List.Folds.{list_any-append}
 use Rattle.causal_name.specs.declared.Pid.{Pid}
 use Rattle.causal_name.specs.declared.MsgName.{MsgName}
 use Rattle.causal_name.specs.declared.Det.{Det}
-use Rattle.causal_name.specs.Names.{same_message, message_cmp}
-use Rattle.causal_trace.specs.declared.entry.Entry.{Entry}
+use Rattle.causal_name.specs.Names.{same_message}
 use Rattle.causal_trace.specs.Past.{list_has, det_from}
 use Rattle.causal_log.specs.declared.batch.Item.{Item}
 use Rattle.causal_log.specs.Knowledge.{stable_and_held_by}
-use Rattle.causal_log.specs.Logs.{LogMap, after_union, after_mark, after_learn, dets_of, batch_items, is_in_batch}
+use Rattle.causal_log.specs.Logs.{LogMap, after_mark, after_learn, after_forget as log_after_forget}
 use Rattle.causal_log.proofs.Lemmas.KnowledgeGrows.{united_holders}
 use Rattle.causal_log.proofs.Lemmas.LogLists.{keys_logged}
-use Rattle.causal_protocol.specs.MemoryQueries.{has_entry, log_knows_holder, has_item, item_holder}
-use Rattle.causal_protocol.specs.Naming.{with_own}
-use Rattle.causal_world.specs.World.{Packet}
+use Rattle.causal_protocol.specs.MemoryQueries.{has_entry, log_knows_holder}
+use Rattle.causal_protocol.specs.Memory.{with_log}
 use Rattle.causal_node.specs.declared.node.Identity.{Identity}
-use Rattle.causal_node.specs.NodeStates.{NodeState, Recovery, RoundState, floor_of}
-use Rattle.causal_node.specs.NodeRefusals.{deliver_fault}
+use Rattle.causal_node.specs.NodeStates.{NodeState, Recovery, RoundState, floor_of, with_memory}
 use Rattle.causal_node.specs.NodeSteps.{after_delivery}
-use Rattle.causal_node.specs.NodeRecovery.{reply_fault, new_round, with_recovery, map_round, with_log_of, without_awaited, after_not_up, after_number, raised_at, after_stored, after_read, after_restart_at, restart_log_of, opened, processes_below}
-use Rattle.causal_node.specs.NodeAnswers.{answer_fault, after_answer, after_answer_at, knows_number, raised}
+use Rattle.causal_node.specs.NodeRecovery.{new_round, with_recovery, map_round, with_log_of, without_awaited, after_not_up, after_number, after_stored, after_read, after_restart_at, restart_log_of, opened, processes_below}
+use Rattle.causal_node.specs.NodeAcknowledgements.{log_with_holders, after_acknowledgement}
+use Rattle.causal_node.specs.NodeForgetting.{next_slot, after_forget}
+use Rattle.causal_node.specs.NodeAnswers.{answer_fault, after_answer, after_answer_at, knows_number}
 use Rattle.causal_nodes.specs.Node.{NodeLog}
-use Rattle.causal_nodes.specs.Packets.{Sent, WasSent, message_packet}
-use Rattle.causal_calls.specs.Views.{numbers, HasHoldersBelow, IsNodeState, IsRecoveryState, log_view}
-use Rattle.causal_calls.specs.Parcels.{message_with}
+use Rattle.causal_nodes.specs.Packets.{message_packet, acknowledgement_packet}
+use Rattle.causal_calls.specs.Views.{HasHoldersBelow, IsNodeState, IsRecoveryState}
+use Rattle.causal_calls.specs.Parcels.{message_with, acknowledgement_with}
 use Rattle.causal_calls.specs.StepLaws.{NamesProcesses}
-use Rattle.causal_calls.proofs.LogViews.{delivered_has, delivered_holder, marked, one_holder, one_holds, held_has, held_holder, entry_of_holder, nothing_held, nothing_logged}
-use Rattle.causal_calls.proofs.Names.{from_not, or_else_none, unless_up_none, of_round, has_names, inserted_name, set_other, set_here, set_length, zeros, zeros_length, raised_numbers, raised_length}
+use Rattle.causal_calls.proofs.Lemmas.LogViews.{delivered_has, delivered_holder, marked, one_holder, one_holds, held_has, held_holder, nothing_held, nothing_logged}
+use Rattle.causal_calls.proofs.Lemmas.LogChanges.{learned, forgotten}
+use Rattle.causal_calls.proofs.Lemmas.Refusals.{from_not, or_else_none}
+use Rattle.causal_calls.proofs.Lemmas.Numbers.{set_other, set_here, set_length, zeros_length, raised_numbers, raised_length}
+use Rattle.causal_calls.proofs.Names.{has_names, inserted_name}
 use Rattle.causal_calls.proofs.DownCalls.{removed}
-use Rattle.causal_calls.proofs.UpCalls.{below_from}
-
--- a node that is opened
-pub opening : (who : Identity) (lane : ℕ) → who.me.0 < who.processes → IsNodeState (opened who lane)
-opening who lane low = record {
-  process = low;
-  floors = set_length (replicate who.processes 0) who.me.0 lane ∙ zeros_length who.processes;
-  own_floor = set_here (replicate who.processes 0) who.me.0 lane (subst (λ m. who.me.0 < m) (sym (zeros_length who.processes)) low);
-  holders = λ d q h. absurd (both_ways _ (nothing_held d q) h);
-  own = λ d h. absurd (both_ways _ (nothing_logged d) h);
-  received = λ m. refl;
-  recovery = by (lane == 0);
-}
-  where
-    by : (b : Bool) → IsRecoveryState who (if b then None else Some None)
-    by true = tt
-    by false = tt
 
 -- a view that is answered has a number for each process
 sized : (s : NodeState) (asker : Pid) (view : List ℕ) → answer_fault s asker view ≡ None → s.identity.processes ≡ length view
@@ -110,6 +94,33 @@ module _ (s : NodeState) (k : IsNodeState s) where
     received = k.received;
     recovery = k.recovery;
   })
+
+  -- a state with another log, in which the process is a holder of what it logs
+  with_other_log : (change : LogMap → LogMap) → HasHoldersBelow n (change s.memory.log)
+      → ((d : Det) → has_entry d (change s.memory.log) ≡ true → log_knows_holder d me.0 (change s.memory.log) ≡ true) → IsNodeState (with_memory s (with_log change s.memory) s.bodies)
+  with_other_log change holders own = record { process = k.process; floors = k.floors; own_floor = k.own_floor; holders = holders; own = own; received = k.received; recovery = k.recovery }
+
+  pub acknowledged : (lane : ℕ) (from : Pid) (items : List Item) → NamesProcesses n (acknowledgement_packet (acknowledgement_with from lane me items)) → IsNodeState (after_acknowledgement s items)
+  acknowledged lane from items names =
+      let log = s.memory.log in
+      let is = learned log items (acknowledgement_with from lane me items).parcel (λ d q. refl) in
+      with_other_log (log_with_holders items)
+      (λ d q h. elim (or_cases _ _ (sym (ap (λ (x : NodeLog). x.holder d q) is) ∙ h)) [
+        | inl new ↦ names (acknowledgement_with from lane me items) refl d q (and_parts _ _ new).1
+        | inr old ↦ k.holders d q old
+      ])
+      (λ d h. ap (λ (x : NodeLog). x.holder d me.0) is ∙ or_right _ _ (k.own d (sym (ap (λ (x : NodeLog). x.has d) is) ∙ h)))
+
+  pub forgot : IsNodeState (after_forget s)
+  forgot =
+      let log = s.memory.log in
+      let next = next_slot s in
+      let is = forgotten next log in
+      with_other_log (log_after_forget next)
+      (λ d q h. k.holders d q (and_parts _ _ (sym (ap (λ (x : NodeLog). x.holder d q) is) ∙ h)).1)
+      (λ d h.
+      let parts = and_parts _ _ (sym (ap (λ (x : NodeLog). x.has d) is) ∙ h) in
+      ap (λ (x : NodeLog). x.holder d me.0) is ∙ and_from _ _ parts.0 (k.own d parts.1))
 
   pub answered : (asker : Pid) (view : List ℕ) → answer_fault s asker view ≡ None → IsNodeState (after_answer s view)
   answered asker view legal = by (knows_number s view) refl

@@ -1,4 +1,4 @@
-mod LogViews
+pub mod Lemmas
 mod Names
 mod Keeps
 mod UpCalls

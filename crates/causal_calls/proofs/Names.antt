@@ -1,7 +1,7 @@
--- What follows if a node does not refuse a call, and what the lists of a node have.
-use Rattle.std.proofs.Common.{ℕ, zero, suc, ◌≡◌, ◌∙◌, ◌==◌, ◌<◌, ◌+◌, Bool, true, false, not, cond, ◌&&◌, ◌||◌, List, [], ◌∷◌, ◌++◌, map, length, max, find, replicate, Option, Some, None, is_some, unwrap_or, refl, sym, ap, arith, true≢false}
-use Rattle.std.specs.Prelude.{slice_get, slice_set, nat_lt}
-use Rattle.std.specs.List.{list_any, zip}
+-- The names that a node has received, and the message that its log names for the next delivery.
+use Rattle.std.proofs.Common.{ℕ, zero, suc, ◌≡◌, ◌∙◌, ◌==◌, ◌<◌, Bool, true, false, not, ◌&&◌, ◌||◌, List, [], ◌∷◌, length, max, replicate, Option, Some, None, is_some, refl, sym, ap, arith, true≢false}
+use Rattle.std.specs.Prelude.{slice_set}
+use Rattle.std.specs.List.{list_any}
 use Rattle.std.specs.Option.{option_map}
 use Rattle.std.specs.BTreeMap.{is_at}
 use Rattle.std.specs.BTreeSet.{insert_key}
@@ -14,10 +14,9 @@ use Rattle.std.proofs.lemmas.Bool.{and_parts, eqb-true, eq-eqb, both_ways}
 use Rattle.causal_name.specs.declared.Pid.{Pid}
 use Rattle.causal_name.specs.declared.MsgName.{MsgName}
 use Rattle.causal_name.specs.declared.Det.{Det}
-use Rattle.causal_name.specs.Names.{same_message, message_cmp, pid_cmp, message_of, same_det}
+use Rattle.causal_name.specs.Names.{same_message, message_cmp, pid_cmp, message_of}
 use Rattle.causal_name.proofs.Lemmas.DetOrder.{nat_ties}
 use Rattle.causal_log.specs.Slots.{first_of_slot, is_of_slot}
-use Rattle.causal_log.specs.Logs.{LogMap}
 use Rattle.causal_log.proofs.Lemmas.LogLists.{keys_logged}
 use Rattle.causal_log.proofs.Lemmas.Slots.{first_fits, none_fits}
 use Rattle.causal_protocol.specs.Naming.{min_det}
@@ -27,34 +26,11 @@ use Rattle.causal_memory.specs.Namings.{named_message_by}
 use Rattle.causal_node.specs.declared.node_fault.NodeFault.{NodeFault}
 use Rattle.causal_node.specs.NodeStates.{Recovery, RoundState, has_name}
 use Rattle.causal_node.specs.NodeRefusals.{unless_up, or_else, naming_fault}
-use Rattle.causal_node.specs.NodeRecovery.{reply_fault, stored_fault, restart_fault}
+use Rattle.causal_node.specs.NodeRecovery.{reply_fault}
 use Rattle.causal_node.specs.NodeAnswers.{raised}
 use Rattle.causal_calls.specs.Views.{numbers}
 use Rattle.causal_calls.specs.StepLaws.{HasSingleSlots}
-
-pub from_not : (b : Bool) → not b ≡ false → b ≡ true
-from_not true h = refl
-from_not false h = absurd (true≢false h)
-
-pub some_none : {X : Type 0} (x : X) → Some x ≡ None → ⊥
-some_none x h = true≢false (ap is_some h)
-
--- none of the faults applies
-pub or_else_none : (test : Bool) (fault : NodeFault) (rest : Option NodeFault) → or_else test fault rest ≡ None → (test ≡ false) × (rest ≡ None)
-or_else_none true fault rest h = absurd (some_none fault h)
-or_else_none false fault rest h = (refl, h)
-
-pub unless_up_none : (o : Recovery) (rest : Option NodeFault) → unless_up o rest ≡ None → (o ≡ None) × (rest ≡ None)
-unless_up_none None rest h = (refl, h)
-unless_up_none (Some r) rest h = absurd (some_none _ h)
-
--- a reply that is taken is one to the present round
-pub of_round : (o : Recovery) (name : ℕ) (q : Pid) → reply_fault o name q ≡ None → (r : RoundState) × (o ≡ Some (Some r)) × (r.name ≡ name) × (set.contains r.awaited q.0 ≡ true)
-of_round None name q h = absurd (some_none _ h)
-of_round (Some None) name q h = absurd (some_none _ h)
-of_round (Some (Some r)) name q h =
-    let both = and_parts (r.name == name) (set.contains r.awaited q.0) (from_not _ (or_else_none _ _ None h).0) in
-    (r, refl, eqb-true r.name name both.0, both.1)
+use Rattle.causal_calls.proofs.Lemmas.Refusals.{from_not, some_none, or_else_none}
 
 -- names
 pub message_is : (a b : MsgName) → same_message a b ≡ true → a ≡ b
@@ -95,46 +71,6 @@ inserted_name (x ∷ xs) name m = by (message_cmp name x) refl (inserted_name xs
         let same = message_is name x (sym (message_ties name x) ∙ ap is_eq is) in
         twice (same_message m x) (list_any (same_message m) xs) ∙ ap (λ k. (same_message m x || list_any (same_message m) xs) || same_message m k) (sym same)
     by Greater is rest = ap (λ b. same_message m x || b) rest ∙ later (same_message m x) (list_any (same_message m) xs) (same_message m name)
-
--- numbers of lists
-pub set_other : (xs : List ℕ) (i v q : ℕ) → (q ≡ i → ⊥) → numbers (slice_set xs i v) q ≡ numbers xs q
-set_other [] i v q apart = refl
-set_other (x ∷ xs) zero v zero apart = absurd (apart refl)
-set_other (x ∷ xs) zero v (suc q) apart = refl
-set_other (x ∷ xs) (suc i) v zero apart = refl
-set_other (x ∷ xs) (suc i) v (suc q) apart = set_other xs i v q (λ e. apart (omega (arith, e)))
-
-pub set_here : (xs : List ℕ) (i v : ℕ) → i < length xs → numbers (slice_set xs i v) i ≡ v
-set_here [] i v low = absurd (omega (arith, low))
-set_here (x ∷ xs) zero v low = refl
-set_here (x ∷ xs) (suc i) v low = set_here xs i v (omega (arith, low))
-
-pub set_length : (xs : List ℕ) (i v : ℕ) → length (slice_set xs i v) ≡ length xs
-set_length [] i v = refl
-set_length (x ∷ xs) zero v = refl
-set_length (x ∷ xs) (suc i) v = omega (arith, set_length xs i v)
-
-pub zeros : (n q : ℕ) → numbers (replicate n 0) q ≡ 0
-zeros zero q = refl
-zeros (suc n) zero = refl
-zeros (suc n) (suc q) = zeros n q
-
-pub zeros_length : (n : ℕ) → length {A = ℕ} (replicate n 0) ≡ n
-zeros_length zero = refl
-zeros_length (suc n) = omega (arith, zeros_length n)
-
--- floors raised to a view of the same length
-pub raised_numbers : (floors view : List ℕ) → length floors ≡ length view → (q : ℕ) → numbers (raised floors view) q ≡ max (numbers floors q) (numbers view q)
-raised_numbers [] [] h q = refl
-raised_numbers [] (v ∷ vs) h q = absurd (omega (arith, h))
-raised_numbers (x ∷ xs) [] h q = absurd (omega (arith, h))
-raised_numbers (x ∷ xs) (v ∷ vs) h zero = refl
-raised_numbers (x ∷ xs) (v ∷ vs) h (suc q) = raised_numbers xs vs (omega (arith, h)) q
-
-pub raised_length : (floors view : List ℕ) → length floors ≡ length view → length (raised floors view) ≡ length floors
-raised_length [] view h = refl
-raised_length (x ∷ xs) [] h = absurd (omega (arith, h))
-raised_length (x ∷ xs) (v ∷ vs) h = omega (arith, raised_length xs vs (omega (arith, h)))
 
 -- the message that is named for the next delivery is the one that is delivered
 module _ (me : Pid) (m : Memory) (name : MsgName) (single : HasSingleSlots m.log) (d : Det) (has : has_entry d m.log ≡ true) (mine : d.dest ≡ me) (next : d.rsn ≡ length m.received) where

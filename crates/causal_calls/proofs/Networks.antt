@@ -2,7 +2,6 @@
 use Rattle.std.proofs.Common.{ℕ, zero, suc, ◌≡◌, ◌∙◌, ◌==◌, ◌<◌, ◌≤◌, ◌+◌, Bool, true, false, ◌||◌, List, [], ◌∷◌, ◌++◌, length, Option, Some, None, is_some, inl, inr, replicate, refl, sym, ap, subst, arith}
 use Rattle.std.specs.Prelude.{◌⊎◌, if◌then◌else◌, slice_set}
 use Rattle.std.proofs.lemmas.Bool.Decides.{eqb_tells}
-use Rattle.std.proofs.lemmas.Bool.{eqb-true}
 use Rattle.causal_name.specs.declared.Pid.{Pid}
 use Rattle.causal_name.specs.declared.Det.{Det}
 use Rattle.causal_name.specs.Sets.{count_below}
@@ -15,19 +14,19 @@ use Rattle.causal_world.specs.World.{Packet}
 use Rattle.causal_node.specs.declared.node.Identity.{Identity}
 use Rattle.causal_node.specs.NodeStates.{NodeState, Recovery}
 use Rattle.causal_node.specs.NodeRecovery.{opened}
-use Rattle.causal_nodes.specs.Node.{Node, UpNode, up_node, down_node, is_node_down}
+use Rattle.causal_nodes.specs.Node.{Node, up_node, down_node, is_node_down}
 use Rattle.causal_nodes.specs.Packets.{Sent, write_packet, written_packet, read_packet, stored_packet, WasSent, WasTaken}
 use Rattle.causal_nodes.specs.NodeSteps.{NodeStep, fallen_node}
 use Rattle.causal_nodes.specs.NodeSteps as theory
 use Rattle.causal_nodes.specs.Network.{Network, HasFreshName, step_event, crash_event, store_event, read_event, IsNewNode, IsReachableNetwork, new_network, next_network, in_log, NodesAreSafe, NodesShareNoSlot}
-use Rattle.causal_calls.specs.Views.{up_view, numbers, RepresentsAt, Represents, IsDownView, IsNodeState}
+use Rattle.causal_calls.specs.Views.{up_view, numbers, RepresentsAt, Represents, IsNodeState}
 use Rattle.causal_calls.specs.Calls.{NodeCall}
-use Rattle.causal_calls.specs.StepLaws.{HasSingleSlots, NamesProcesses, TakesOfProcesses, IsStepOf, IsNoStep}
+use Rattle.causal_calls.specs.StepLaws.{NamesProcesses, TakesOfProcesses, IsStepOf, IsNoStep}
 use Rattle.causal_calls.specs.Systems.{System, identity_of, is_recovering, SystemEvent, IsNewSystem, IsReachableSystem, new_system, next_system, SystemsAreSafe, SystemsShareNoSlot}
 use Rattle.causal_calls.specs.Systems as system
-use Rattle.causal_calls.proofs.LogViews.{nothing_logged, nothing_held, nothing_stable}
-use Rattle.causal_calls.proofs.Names.{set_other, zeros}
-use Rattle.causal_calls.proofs.Keeps.{opening}
+use Rattle.causal_calls.proofs.Lemmas.LogViews.{nothing_logged, nothing_held, nothing_stable}
+use Rattle.causal_calls.proofs.Lemmas.Numbers.{set_other, zeros}
+use Rattle.causal_calls.proofs.Lemmas.Openings.{opening}
 use Rattle.causal_calls.proofs.Steps.{calls_are_steps, calls_keep}
 
 abbrev network_of : System → (ℕ → Node) → Network

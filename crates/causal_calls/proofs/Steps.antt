@@ -1,31 +1,28 @@
 -- Each call of a node is a step of the theory, keeps its state's facts, and sends what names only processes.
-use Rattle.std.proofs.Common.{ℕ, ◌≡◌, ◌∙◌, ◌==◌, ◌<◌, ◌+◌, Bool, true, false, ◌&&◌, ◌||◌, List, [], ◌∷◌, length, Option, Some, None, inl, inr, refl, sym, ap, subst}
+use Rattle.std.proofs.Common.{ℕ, ◌≡◌, ◌∙◌, ◌==◌, ◌<◌, Bool, true, false, List, [], ◌∷◌, length, Option, Some, None, inl, inr, refl, sym, ap, subst}
 use Rattle.std.specs.Prelude.{◌⊎◌, if◌then◌else◌}
-use Rattle.std.specs.FinSet as set
-use Rattle.std.proofs.lemmas.Bool.{or_cases, and_parts, eqb-true, false≢true}
+use Rattle.std.proofs.lemmas.Bool.{and_parts}
 use Rattle.causal_name.specs.declared.Pid.{Pid}
 use Rattle.causal_name.specs.declared.Det.{Det}
 use Rattle.causal_trace.specs.declared.entry.Entry.{Entry}
-use Rattle.causal_log.specs.Logs.{LogMap}
 use Rattle.causal_protocol.specs.Naming.{message_name}
-use Rattle.causal_protocol.specs.MemoryQueries.{has_entry, log_knows_holder}
 use Rattle.causal_world.specs.World.{Packet}
 use Rattle.causal_node.specs.NodeStates.{NodeState, Recovery, RoundState, floor_of}
 use Rattle.causal_node.specs.NodeRecovery.{restart_fault, begin_fault, after_stored, after_restart_at, with_recovery, map_round, without_awaited, after_number, after_not_up}
 use Rattle.causal_node.specs.NodeAnswers.{after_answer, after_answer_at, knows_number}
 use Rattle.causal_nodes.specs.Node.{Node, DownNode, up_node, down_node, number_of}
-use Rattle.causal_nodes.specs.Packets.{Sent, WasSent, message_packet, write_packet, question_packet, answer_packet, not_up_packet, read_packet, number_packet}
-use Rattle.causal_nodes.specs.NodeSteps.{NodeStep, tell_row}
-use Rattle.causal_nodes.specs.Network.{IsCarrying}
-use Rattle.causal_calls.specs.Views.{numbers, up_view, RepresentsAt, Represents, IsDownView, IsNodeState, HasHoldersBelow}
-use Rattle.causal_calls.specs.Parcels.{next_message, log_packet, write_of}
-use Rattle.causal_calls.specs.Calls.{NodeCall, send, deliver, write, stored, answer_log, answer_not_up, answer_number, begin_round, take_log, take_not_up, take_other_number, take_number, ask_storage, take_stored, finish_read, restart, open_again}
-use Rattle.causal_calls.specs.StepLaws.{HasSingleSlots, NamesProcesses, TakesOfProcesses, IsStepOf, IsNoStep, CallsAreSteps, CallsKeepNodeStates}
-use Rattle.causal_calls.proofs.Names.{some_none, unless_up_none, of_round}
-use Rattle.causal_calls.proofs.UpCalls.{sends, delivers, writes, marks, answers, replies_log, replies_not_up, replies_number, message_of_log}
+use Rattle.causal_nodes.specs.Packets.{Sent, WasSent, message_packet, acknowledgement_packet, write_packet, question_packet, answer_packet, not_up_packet, read_packet, number_packet}
+use Rattle.causal_nodes.specs.NodeSteps.{tell_row}
+use Rattle.causal_calls.specs.Views.{numbers, up_view, RepresentsAt, Represents, IsDownView, IsNodeState}
+use Rattle.causal_calls.specs.Parcels.{next_message, acknowledgement_of, log_packet, write_of}
+use Rattle.causal_calls.specs.Calls.{send, deliver, acknowledge, learn, forget, write, stored, answer_log, answer_not_up, answer_number, begin_round, take_log, take_not_up, take_other_number, take_number, ask_storage, take_stored, finish_read, restart, open_again}
+use Rattle.causal_calls.specs.StepLaws.{NamesProcesses, IsStepOf, IsNoStep, CallsAreSteps, CallsKeepNodeStates}
+use Rattle.causal_calls.proofs.Lemmas.LogChanges.{acknowledged_holders}
+use Rattle.causal_calls.proofs.Lemmas.Refusals.{some_none, unless_up_none, of_round}
+use Rattle.causal_calls.proofs.UpCalls.{sends, delivers, acknowledges, learns, forgets, writes, marks, answers, replies_log, replies_not_up, replies_number, message_of_log}
 use Rattle.causal_calls.proofs.DownCalls.{begins, says_not_up, hears_number, opens_again, takes_log, takes_not_up, asks_storage, takes_stored, finishes, restarts}
 use Rattle.causal_calls.proofs.Keeps
-use Rattle.causal_calls.proofs.Keeps.{opening}
+use Rattle.causal_calls.proofs.Lemmas.Openings.{opening}
 
 -- a round in which a call applies
 begun_or_not : (o : Recovery) → begin_fault o ≡ None → (round : Option RoundState) × (o ≡ Some round)
@@ -42,8 +39,8 @@ module _ (position : ℕ) (s : NodeState) (k : IsNodeState s) (node : Node) (rep
   Goal y = IsStepOf position s y taken new emitted entries ⊎ IsNoStep y new emitted entries
 
   -- a process that is up, or down
-  if_up : s.recovery ≡ None → IsStepOf position s (up_node (up_view s)) taken new emitted entries → Goal node
-  if_up up step = subst (λ y. Goal y) (sym (subst (λ (o : Recovery). RepresentsAt s o node) up rep)) (inl step)
+  if_up : s.recovery ≡ None → Goal (up_node (up_view s)) → Goal node
+  if_up up step = subst (λ y. Goal y) (sym (subst (λ (o : Recovery). RepresentsAt s o node) up rep)) step
 
   if_down : (round : Option RoundState) → s.recovery ≡ Some round → ((x : DownNode) → IsDownView s round x → Goal (down_node x)) → Goal node
   if_down round down each =
@@ -58,15 +55,24 @@ number_is s node (Some round) rep = ap number_of rep.1 ∙ sym rep.2.lane
 pub calls_are_steps : CallsAreSteps
 calls_are_steps position old new taken emitted entries node (send to body legal) k single rep =
     let up = (unless_up_none _ _ legal).0 in
-    if_up position old k node rep taken new emitted entries up (sends position old k up to body legal)
+    if_up position old k node rep taken new emitted entries up (inl (sends position old k up to body legal))
 calls_are_steps position old new taken emitted entries node (deliver lane name at items ascending legal) k single rep =
     let up = (unless_up_none _ _ legal).0 in
-    if_up position old k node rep taken new emitted entries up (delivers position old k up lane name at items ascending legal (single up))
-calls_are_steps position old new taken emitted entries node (write dets up logged) k single rep = if_up position old k node rep taken new emitted entries up (writes position old k up dets logged)
-calls_are_steps position old new taken emitted entries node (stored dets det up has) k single rep = if_up position old k node rep taken new emitted entries up (marks position old k up dets det has)
+    if_up position old k node rep taken new emitted entries up (inl (delivers position old k up lane name at items ascending legal (single up)))
+calls_are_steps position old new taken emitted entries node (acknowledge to dets legal) k single rep =
+    let up = (unless_up_none _ _ legal).0 in
+    if_up position old k node rep taken new emitted entries up (inl (acknowledges position old k up to dets))
+calls_are_steps position old new taken emitted entries node (learn lane from items legal) k single rep =
+    let up = (unless_up_none _ _ legal).0 in
+    if_up position old k node rep taken new emitted entries up (inl (learns position old k up lane from items legal))
+calls_are_steps position old new taken emitted entries node (forget legal) k single rep =
+    let up = (unless_up_none _ _ legal).0 in
+    if_up position old k node rep taken new emitted entries up (forgets position old k up)
+calls_are_steps position old new taken emitted entries node (write dets up logged) k single rep = if_up position old k node rep taken new emitted entries up (inl (writes position old k up dets logged))
+calls_are_steps position old new taken emitted entries node (stored dets det up has) k single rep = if_up position old k node rep taken new emitted entries up (inl (marks position old k up dets det has))
 calls_are_steps position old new taken emitted entries node (answer_log asker name view legal reply) k single rep =
     let up = (replies_log (knows_number old view) old.recovery reply).1 in
-    if_up position old k node rep taken new emitted entries up (answers position old k up asker name view legal reply)
+    if_up position old k node rep taken new emitted entries up (inl (answers position old k up asker name view legal reply))
 calls_are_steps position old new taken emitted entries node (answer_not_up asker name view legal reply) k single rep =
     let down = (replies_not_up (knows_number old view) old.recovery reply).1 in
     if_down position old k node rep taken new emitted entries down.0 down.1 (λ x is. inl (says_not_up position old k down.0 down.1 x is asker name view legal reply))
@@ -133,6 +139,10 @@ calls_keep position old new taken emitted entries (send to body legal) k names =
       names_one old.identity.processes (message_packet (message_name old.identity.me (length old.memory.sent)) (next_message position old to)) (λ p is. names_packet old k (next_message position old to) p is (λ d q h. k.holders d q (of_log.known_holders d q h).0)),
     )
 calls_keep position old new taken emitted entries (deliver lane name at items ascending legal) k names = (Keeps.delivered old k lane name at items names, refl, names_nothing old.identity.processes)
+calls_keep position old new taken emitted entries (acknowledge to dets legal) k names =
+    (k, refl, names_one old.identity.processes (acknowledgement_packet (acknowledgement_of old to dets)) (λ p is. names_packet old k (acknowledgement_of old to dets) p is (λ d q h. k.holders d q (and_parts _ _ (and_parts _ _ (sym (acknowledged_holders old.memory.log dets d q) ∙ h)).1).1)))
+calls_keep position old new taken emitted entries (learn lane from items legal) k names = (Keeps.acknowledged old k lane from items names, refl, names_nothing old.identity.processes)
+calls_keep position old new taken emitted entries (forget legal) k names = (Keeps.forgot old k, refl, names_nothing old.identity.processes)
 calls_keep position old new taken emitted entries (write dets up logged) k names =
     (k, refl, names_one old.identity.processes (write_packet (write_of old dets)) (λ p is. names_packet old k (write_of old dets) p is (λ d q h. k.holders d q (and_parts _ _ h).1)))
 calls_keep position old new taken emitted entries (stored dets det up has) k names = (Keeps.marked_stable old k det up, subst (λ (o : Recovery). (after_stored old det o).identity ≡ old.identity) (sym up) refl, names_nothing old.identity.processes)

@@ -1,50 +1,48 @@
 -- The calls of a node that is up are steps of a process that is up.
-use Rattle.std.proofs.Common.{ℕ, ◌≡◌, ◌∙◌, ◌==◌, ◌<◌, ◌≤◌, ◌+◌, Bool, true, false, not, ◌&&◌, ◌||◌, List, [], ◌∷◌, ◌++◌, length, max, Option, Some, None, is_some, unwrap_or, inl, inr, length-append, refl, sym, ap, subst, arith}
-use Rattle.std.specs.Prelude.{◌⊎◌, nat_lt, nat_le, if◌then◌else◌}
+use Rattle.std.proofs.Common.{ℕ, ◌≡◌, ◌∙◌, ◌<◌, ◌≤◌, Bool, true, false, not, ◌||◌, List, [], ◌∷◌, ◌++◌, length, Option, Some, None, is_some, unwrap_or, inl, inr, length-append, refl, sym, ap, subst, arith}
+use Rattle.std.specs.Prelude.{◌⊎◌, nat_lt, if◌then◌else◌}
 use Rattle.std.specs.List.{list_any}
 use Rattle.std.specs.FinMap as fin
 use Rattle.std.specs.FinSet as set
-use Rattle.std.proofs.lemmas.Bool.{false≢true, or_cases, or_left, or_right, and_parts, and_from, eqb-true, eq-eqb}
+use Rattle.std.proofs.lemmas.Bool.{false≢true, or_cases, or_right, and_parts, and_from, eqb-true, eq-eqb}
 use Rattle.causal_name.specs.declared.Pid.{Pid}
 use Rattle.causal_name.specs.declared.MsgName.{MsgName}
 use Rattle.causal_name.specs.declared.Det.{Det}
-use Rattle.causal_name.specs.Names.{is_ascending, message_of, same_det, same_message}
+use Rattle.causal_name.specs.Names.{is_ascending, same_det}
 use Rattle.causal_name.specs.Sets.{count_below}
 use Rattle.causal_holders.proofs.Lemmas.MemberCounts.{len_counted}
-use Rattle.causal_trace.specs.declared.entry.Entry.{Entry}
 use Rattle.causal_trace.specs.declared.entry.Entry.TheVariants.{Send, Deliver, Stable}
 use Rattle.causal_trace.specs.Past.{list_has, det_from}
 use Rattle.causal_log.specs.declared.known.Known.{Known}
 use Rattle.causal_log.specs.declared.batch.Item.{Item}
 use Rattle.causal_log.specs.Knowledge.{unknown}
-use Rattle.causal_log.specs.Logs.{LogMap, known_of, dets_of, batch_items, is_in_batch}
+use Rattle.causal_log.specs.Logs.{LogMap, known_of, dets_of, forgotten_in, batch_items, is_in_batch}
 use Rattle.causal_log.proofs.Lemmas.MessageItems.{carried_dets, carried_holders, left_out}
 use Rattle.causal_memory.proofs.Lemmas.ListInsert.{with_ascending}
 use Rattle.causal_protocol.specs.Naming.{message_name, with_own}
-use Rattle.causal_protocol.specs.MemoryQueries.{has_entry, log_knows_holder, log_knows_stable, has_item, item_holder, parcel_of}
-use Rattle.causal_world.specs.World.{Packet}
+use Rattle.causal_protocol.specs.Steps.{forget_entries}
+use Rattle.causal_protocol.specs.MemoryQueries.{has_entry, log_knows_holder, log_knows_stable, has_item}
 use Rattle.causal_node.specs.declared.node_answer.Reply.{Reply}
 use Rattle.causal_node.specs.declared.node_answer.Reply.TheVariants as Replies
 use Rattle.causal_node.specs.NodeStates.{NodeState, Recovery, RoundState, floor_of}
 use Rattle.causal_node.specs.NodeRefusals.{send_fault, deliver_fault}
 use Rattle.causal_node.specs.NodeSteps.{after_send, after_delivery}
 use Rattle.causal_node.specs.NodeRecovery.{after_stored}
+use Rattle.causal_node.specs.NodeAcknowledgements.{learn_fault, after_acknowledgement}
+use Rattle.causal_node.specs.NodeForgetting.{next_slot, after_forget}
 use Rattle.causal_node.specs.NodeAnswers.{answer_fault, after_answer, after_answer_at, knows_number, raised, with_floors, reply_of, reply_at}
 use Rattle.causal_nodes.specs.Node.{Node, up_node}
-use Rattle.causal_nodes.specs.Packets.{Sent, message_packet, write_packet, written_packet, question_packet, answer_packet}
-use Rattle.causal_nodes.specs.NodeSteps.{NodeStep, send_row, deliver_row, write_row, mark_row, answer_row, IsOfNodeLog, with_one_sent, with_log, log_after_mark}
+use Rattle.causal_nodes.specs.Packets.{message_packet, acknowledgement_packet, write_packet, written_packet, question_packet, answer_packet}
+use Rattle.causal_nodes.specs.NodeSteps.{NodeStep, send_row, deliver_row, acknowledge_row, learn_row, write_row, mark_row, forget_row, answer_row, IsOfNodeLog, with_one_sent, with_log, log_after_acknowledgement, log_after_mark, log_without}
 use Rattle.causal_nodes.specs.NodeSteps as theory
 use Rattle.causal_calls.specs.Views.{numbers, up_view, RepresentsAt, Represents, IsNodeState, log_view}
-use Rattle.causal_calls.specs.Parcels.{message_with, next_message, log_packet, write_of}
-use Rattle.causal_calls.specs.StepLaws.{HasSingleSlots, IsStepOf}
-use Rattle.causal_calls.proofs.LogViews.{entry_of_holder, own_have, items_have, delivered, marked}
-use Rattle.causal_calls.proofs.Names.{from_not, or_else_none, unless_up_none, named_only, has_names, raised_numbers}
-
-pub below_from : (a b : ℕ) → not (nat_lt a b) ≡ false → a < b
-below_from a b h = grind (arith, h)
-
-pub not_below : (a b : ℕ) → nat_lt a b ≡ false → b ≤ a
-not_below a b h = grind (arith, h)
+use Rattle.causal_calls.specs.Parcels.{message_with, next_message, acknowledgement_with, acknowledged_items, acknowledgement_of, log_packet, write_of}
+use Rattle.causal_calls.specs.StepLaws.{HasSingleSlots, IsStepOf, IsNoStep}
+use Rattle.causal_calls.proofs.Lemmas.LogViews.{entry_of_holder, own_have, items_have, delivered, marked}
+use Rattle.causal_calls.proofs.Lemmas.LogChanges.{learned, acknowledged_dets, acknowledged_holders, forgotten, forgotten_ascends, forgotten_stable, forgotten_made}
+use Rattle.causal_calls.proofs.Lemmas.Refusals.{below_from, not_below, from_not, or_else_none, unless_up_none}
+use Rattle.causal_calls.proofs.Lemmas.Numbers.{raised_numbers}
+use Rattle.causal_calls.proofs.Names.{named_only}
 
 -- which reply is given
 abbrev is_log : Reply → Bool
@@ -197,4 +195,55 @@ module _ (position : ℕ) (s : NodeState) (k : IsNodeState s) (up : s.recovery �
         next = up_node (theory.with_floors (up_view s) (theory.raised (numbers s.floors) (numbers view)));
         step = answer_row (up_view s) asker.0 name (numbers view) (log_packet me.0 s.lane asker.0 log) (eqb-true _ _ knows) (log_of_node asker.0) refl refl (λ d. refl);
         represents = as_up (with_floors s (raised s.floors view)) _ refl (λ i. up_node (record { lane = s.lane; log = log_view log; floors = λ q. sym (raised_numbers s.floors view (k.floors ∙ sym size) q) i; sent = length s.memory.sent; received = s.memory.received }));
+      })
+
+  pub acknowledges : (to : Pid) (dets : List Det) → IsStepOf position s here None s (acknowledgement_packet (acknowledgement_of s to dets) ∷ []) []
+  acknowledges to dets = record {
+    next = here;
+    step = acknowledge_row (up_view s) (acknowledgement_of s to dets) (record {
+      from = refl;
+      lane = refl;
+      logged = λ d h. has d h;
+      known_holders = λ d q h.
+          let parts = and_parts _ _ (sym (acknowledged_holders log dets d q) ∙ h) in
+          let known = and_parts _ _ parts.1 in
+          (known.1, acknowledged_dets log dets d ∙ and_from _ _ parts.0 known.0);
+      known_stable = λ d h. absurd (false≢true h);
+      names_sender = λ d h.
+          let parts = and_parts _ _ (sym (acknowledged_dets log dets d) ∙ h) in
+          acknowledged_holders log dets d me.0 ∙ and_from _ _ parts.0 (and_from _ _ parts.1 (k.own d parts.1));
+    }) refl;
+    represents = as_up s _ refl refl;
+  }
+    where
+      has : (d : Det) → has_item d (acknowledged_items log dets) ≡ true → has_entry d log ≡ true
+      has d h = (and_parts (list_has dets d) (has_entry d log) (sym (acknowledged_dets log dets d) ∙ h)).1
+
+  pub learns : (lane : ℕ) (from : Pid) (items : List Item) → learn_fault s lane from ≡ None
+      → IsStepOf position s here (Some (acknowledgement_packet (acknowledgement_with from lane me items))) (after_acknowledgement s items) [] []
+  learns lane from items legal =
+      let floor = or_else_none _ _ _ (or_else_none _ _ _ (unless_up_none _ _ legal).1).1 in
+      let t = acknowledgement_with from lane me items in
+      record {
+        next = up_node (with_log (up_view s) (log_after_acknowledgement t.parcel (log_view log)));
+        step = learn_row (up_view s) t refl (not_below lane (floor_of s.floors from) floor.0);
+        represents = as_up (after_acknowledgement s items) _ refl (λ i. up_node (record { lane = s.lane; log = sym (learned log items t.parcel (λ d q. refl)) i; floors = numbers s.floors; sent = length s.memory.sent; received = s.memory.received }));
+      }
+
+  -- a forgetting of nothing is no step
+  pub forgets : IsStepOf position s here None (after_forget s) [] (forget_entries me (forgotten_in (next_slot s) log)) ⊎ IsNoStep here (after_forget s) [] (forget_entries me (forgotten_in (next_slot s) log))
+  forgets = by (forgotten_in (next_slot s) log) refl
+    where
+      represented : (listed : List Det) → forgotten_in (next_slot s) log ≡ listed → Represents (after_forget s) (up_node (with_log (up_view s) (log_without listed (log_view log))))
+      represented listed is = as_up (after_forget s) _ refl (λ i. up_node (record { lane = s.lane; log = (ap (λ ds. log_without ds (log_view log)) (sym is) ∙ sym (forgotten (next_slot s) log)) i; floors = numbers s.floors; sent = length s.memory.sent; received = s.memory.received }))
+
+      by : (listed : List Det) → forgotten_in (next_slot s) log ≡ listed
+          → IsStepOf position s here None (after_forget s) [] (forget_entries me listed) ⊎ IsNoStep here (after_forget s) [] (forget_entries me listed)
+      by [] is = inr (record { silent = refl; unrecorded = refl; represents = represented [] is })
+      by (d ∷ ds) is = inl (record {
+        next = up_node (with_log (up_view s) (log_without (d ∷ ds) (log_view log)));
+        step = forget_row (up_view s) (d ∷ ds) (sym (ap is_ascending is) ∙ forgotten_ascends (next_slot s) log)
+            (λ x h. forgotten_stable (next_slot s) log x (ap (λ ys. list_has ys x) is ∙ h))
+            (λ x h mine. forgotten_made (next_slot s) log x (ap (λ ys. list_has ys x) is ∙ h) mine);
+        represents = represented (d ∷ ds) is;
       })

@@ -1,7 +1,6 @@
 -- What a process does that makes only the calls of a node: what each takes, changes, sends and records.
 use Rattle.std.specs.Prelude.{◌≡◌, ℕ, ◌==◌, Bool, true, false, List, [], ◌∷◌, length, Option, Some, None}
 use Rattle.std.specs.FinMap as fin
-use Rattle.std.specs.FinSet as set
 use Rattle.causal_name.specs.declared.Pid.{Pid}
 use Rattle.causal_name.specs.declared.MsgName.{MsgName}
 use Rattle.causal_name.specs.declared.Det.{Det}
@@ -10,18 +9,21 @@ use Rattle.causal_trace.specs.declared.entry.Entry.{Entry}
 use Rattle.causal_trace.specs.declared.entry.Entry.TheVariants.{Send, Deliver, Stable, Restart}
 use Rattle.causal_trace.specs.Past.{list_has, det_from}
 use Rattle.causal_log.specs.declared.batch.Item.{Item}
-use Rattle.causal_log.specs.Logs.{LogMap, dets_of}
+use Rattle.causal_log.specs.Logs.{LogMap, dets_of, forgotten_in}
 use Rattle.causal_protocol.specs.Naming.{message_name, with_own}
 use Rattle.causal_protocol.specs.MemoryQueries.{has_entry}
+use Rattle.causal_protocol.specs.Steps.{forget_entries}
 use Rattle.causal_node.specs.declared.node_answer.Reply.TheVariants as Replies
 use Rattle.causal_node.specs.NodeStates.{NodeState, RoundState, floor_of}
 use Rattle.causal_node.specs.NodeRefusals.{send_fault, deliver_fault}
 use Rattle.causal_node.specs.NodeSteps.{after_send, after_delivery}
 use Rattle.causal_node.specs.NodeRecovery.{begin_fault, reply_fault, stored_fault, ask_fault, read_fault, restart_fault, new_round, with_recovery, map_round, with_log_of, after_not_up, after_number, after_stored, after_read, after_restart_at, opened}
 use Rattle.causal_node.specs.NodeAnswers.{answer_fault, reply_of, after_answer}
-use Rattle.causal_nodes.specs.Packets.{Sent, message_packet, write_packet, written_packet, question_packet, answer_packet, not_up_packet, read_packet, stored_packet, number_packet}
+use Rattle.causal_node.specs.NodeAcknowledgements.{acknowledge_fault, learn_fault, after_acknowledgement}
+use Rattle.causal_node.specs.NodeForgetting.{next_slot, forget_fault, after_forget}
+use Rattle.causal_nodes.specs.Packets.{Sent, message_packet, acknowledgement_packet, write_packet, written_packet, question_packet, answer_packet, not_up_packet, read_packet, stored_packet, number_packet}
 use Rattle.causal_calls.specs.Views.{numbers}
-use Rattle.causal_calls.specs.Parcels.{message_with, next_message, log_packet, write_of}
+use Rattle.causal_calls.specs.Parcels.{message_with, next_message, acknowledgement_with, acknowledgement_of, log_packet, write_of}
 
 -- One call that a node does not refuse, with what its embedder does with it: what was taken from the network, the
 -- node's next state, what is sent, and what is recorded. The state after each is that of the call's contract.
@@ -33,6 +35,15 @@ pub data NodeCall (position : ℕ) (old : NodeState) : Option Sent → NodeState
   deliver : (lane : ℕ) (name : MsgName) (at : ℕ) (items : List Item) → is_ascending (dets_of items) ≡ true
       → deliver_fault old lane name items ≡ None
       → NodeCall position old (Some (message_packet name (message_with lane old.identity.me at name items))) (after_delivery old name items) [] (Deliver old.identity.me at (length old.memory.received) (with_own (det_from old.identity.me (length old.memory.received) name) (dets_of items)) ∷ [])
+  -- an acknowledgement is sent, and one is taken
+  acknowledge : (to : Pid) (dets : List Det) → acknowledge_fault old to ≡ None
+      → NodeCall position old None old (acknowledgement_packet (acknowledgement_of old to dets) ∷ []) []
+  learn : (lane : ℕ) (from : Pid) (items : List Item) → learn_fault old lane from ≡ None
+      → NodeCall position old (Some (acknowledgement_packet (acknowledgement_with from lane old.identity.me items))) (after_acknowledgement old items) [] []
+  -- what is known to be stable is forgotten, but nothing of deliveries still to be made; if that is nothing, nothing is
+  -- recorded
+  forget : forget_fault old ≡ None
+      → NodeCall position old None (after_forget old) [] (forget_entries old.identity.me (forgotten_in (next_slot old) old.memory.log))
   -- determinants that the log has are written to stable storage
   write : (dets : List Det) → old.recovery ≡ None → ((d : Det) → list_has dets d ≡ true → has_entry d old.memory.log ≡ true)
       → NodeCall position old None old (write_packet (write_of old dets) ∷ []) []

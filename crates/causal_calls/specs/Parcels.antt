@@ -1,16 +1,15 @@
 -- What a node's embedder sends of the node's log.
-use Rattle.std.specs.Prelude.{ℕ, false, ◌&&◌, List, length, None, Some}
+use Rattle.std.specs.Prelude.{ℕ, false, ◌&&◌, List, length, map, filter, None}
 use Rattle.causal_name.specs.declared.Pid.{Pid}
 use Rattle.causal_name.specs.declared.MsgName.{MsgName}
 use Rattle.causal_name.specs.declared.Det.{Det}
 use Rattle.causal_trace.specs.Past.{list_has}
 use Rattle.causal_log.specs.declared.batch.Item.{Item}
-use Rattle.causal_log.specs.Logs.{LogMap, batch_items}
+use Rattle.causal_log.specs.Logs.{LogMap, known_of, item_of, batch_items}
 use Rattle.causal_protocol.specs.Naming.{message_name}
-use Rattle.causal_protocol.specs.MemoryQueries.{has_entry, log_knows_holder, log_knows_stable, parcel_of}
+use Rattle.causal_protocol.specs.MemoryQueries.{has_entry, log_knows_holder, log_knows_stable, has_item, item_holder, parcel_of}
 use Rattle.causal_world.specs.World.{Packet}
 use Rattle.causal_node.specs.NodeStates.{NodeState}
-use Rattle.causal_nodes.specs.Packets.{Sent, message_packet}
 
 -- a message of this name from this lane, with this piggyback; `send` is the position of its send entry
 abbrev pub message_with : ℕ → Pid → ℕ → MsgName → List Item → Packet
@@ -23,6 +22,22 @@ log_packet from lane to log = record {
   lane = lane;
   to = to;
 }
+
+-- an acknowledgement with these items, from this process in this lane
+abbrev pub acknowledgement_with : Pid → ℕ → Pid → List Item → Packet
+acknowledgement_with from lane to items = record {
+  parcel = record { from = from.0; send = None; carries = λ d. has_item d items; names_holder = λ d q. item_holder d q items; names_stable = λ d. false };
+  lane = lane;
+  to = to.0;
+}
+
+-- what a log says of those of these determinants that it has
+abbrev pub acknowledged_items : LogMap → List Det → List Item
+acknowledged_items log dets = map (λ det. item_of (det, known_of log det)) (filter (λ det. has_entry det log) dets)
+
+-- a node's acknowledgement of these determinants to a process
+abbrev pub acknowledgement_of : NodeState → Pid → List Det → Packet
+acknowledgement_of s to dets = acknowledgement_with s.identity.me s.lane to (acknowledged_items s.memory.log dets)
 
 -- a write of these determinants to stable storage
 abbrev pub write_of : NodeState → List Det → Packet

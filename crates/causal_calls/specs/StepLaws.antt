@@ -1,4 +1,4 @@
--- That each call of a node is a step of the theory of nodes, or gives up a round and is none.
+-- That each call of a node is a step of the theory of nodes, or changes nothing that the theory sees.
 use Rattle.std.specs.Prelude.{◌≡◌, ℕ, ◌<◌, true, List, [], Option, None, Some, ◌⊎◌}
 use Rattle.causal_name.specs.declared.Det.{Det}
 use Rattle.causal_trace.specs.declared.entry.Entry.{Entry}

@@ -4,7 +4,6 @@ use Rattle.std.specs.List.{list_any}
 use Rattle.std.specs.FinSet as set
 use Rattle.causal_name.specs.declared.Det.{Det}
 use Rattle.causal_name.specs.declared.MsgName.{MsgName}
-use Rattle.causal_name.specs.declared.Pid.{Pid}
 use Rattle.causal_name.specs.Names.{same_message}
 use Rattle.causal_log.specs.Logs.{LogMap}
 use Rattle.causal_protocol.specs.MemoryQueries.{has_entry, log_knows_holder, log_knows_stable}

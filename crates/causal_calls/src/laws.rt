@@ -4,8 +4,8 @@ ghost use Rattle.causal_calls.specs.Systems.{SystemsAreSafe, SystemsShareNoSlot}
 
 use causal_nodes::laws::nodes_are_safe;
 
-/// Each call that a node does not refuse is one step of the process that its state represents, or gives up a round,
-/// which is none. It keeps what is true of the state of a node.
+/// Each call that a node does not refuse is one step of the process that its state represents, or gives up a round or
+/// forgets nothing, which are none. It keeps what is true of the state of a node.
 pub fn calls_are_steps()
     ensures steps { CallsAreSteps }
     ensures kept { CallsKeepNodeStates }

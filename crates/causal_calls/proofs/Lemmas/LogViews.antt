@@ -1,5 +1,5 @@
 -- The logs of the theory that the logs of nodes represent, after each change.
-use Rattle.std.proofs.Common.{ℕ, ◌≡◌, ◌∙◌, ◌==◌, Bool, true, false, cond, ◌&&◌, ◌||◌, List, [], ◌∷◌, map, Option, Some, None, is_some, unwrap_or, refl, sym, ap, arith}
+use Rattle.std.proofs.Common.{ℕ, ◌≡◌, ◌∙◌, ◌==◌, Bool, true, false, ◌&&◌, ◌||◌, List, [], ◌∷◌, is_some, unwrap_or, refl, sym, ap, arith}
 use Rattle.std.specs.List.{list_any}
 use Rattle.std.specs.Cmp.{nat_cmp_total}
 use Rattle.std.specs.Ordering.{nat_cmp}
@@ -7,16 +7,16 @@ use Rattle.std.specs.declared.cmp.Ordering.{Ordering}
 use Rattle.std.specs.declared.cmp.Ordering.TheVariants.{Less, Equal, Greater}
 use Rattle.std.specs.FinMap as fin
 use Rattle.std.specs.FinSet as set
-use Rattle.std.proofs.lemmas.Bool.{false≢true, both_ways, or_cases, and_parts}
+use Rattle.std.proofs.lemmas.Bool.{both_ways}
 use Rattle.causal_name.specs.declared.Pid.{Pid}
 use Rattle.causal_name.specs.declared.Det.{Det}
 use Rattle.causal_name.specs.Names.{det_cmp, same_det}
-use Rattle.causal_name.proofs.Lemmas.DetOrder.{exact_dets, same_is, nat_ties}
+use Rattle.causal_name.proofs.Lemmas.DetOrder.{exact_dets, nat_ties}
 use Rattle.causal_trace.specs.Past.{list_has}
 use Rattle.causal_log.specs.declared.known.Known.{Known}
 use Rattle.causal_log.specs.declared.batch.Item.{Item}
-use Rattle.causal_log.specs.Knowledge.{unknown, held_by, stable_and_held_by}
-use Rattle.causal_log.specs.Logs.{LogMap, known_of, dets_of, after_learn, after_learn_all, after_absorb, after_mark}
+use Rattle.causal_log.specs.Knowledge.{unknown, held_by}
+use Rattle.causal_log.specs.Logs.{LogMap, dets_of, after_learn, after_absorb, after_mark}
 use Rattle.causal_log.proofs.Lemmas.KnowledgeGrows.{logged_all, known_all, holds_either, stable_either, absorbed_logged, absorbed_holders, absorbed_stable}
 use Rattle.causal_log.proofs.Lemmas.LogLists.{get_marked}
 use Rattle.causal_log.proofs.Lemmas.Searches.{any_map}

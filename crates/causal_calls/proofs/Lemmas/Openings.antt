@@ -1,0 +1,25 @@
+-- A node that is opened is in a state that calls reach.
+use Rattle.std.proofs.Common.{ℕ, ◌≡◌, ◌∙◌, ◌==◌, ◌<◌, Bool, true, false, Some, None, replicate, refl, sym, subst}
+use Rattle.std.specs.Prelude.{if◌then◌else◌}
+use Rattle.std.proofs.lemmas.Bool.{both_ways}
+use Rattle.causal_node.specs.declared.node.Identity.{Identity}
+use Rattle.causal_node.specs.NodeRecovery.{opened}
+use Rattle.causal_calls.specs.Views.{IsNodeState, IsRecoveryState}
+use Rattle.causal_calls.proofs.Lemmas.LogViews.{nothing_held, nothing_logged}
+use Rattle.causal_calls.proofs.Lemmas.Numbers.{set_here, set_length, zeros_length}
+
+-- a node that is opened
+pub opening : (who : Identity) (lane : ℕ) → who.me.0 < who.processes → IsNodeState (opened who lane)
+opening who lane low = record {
+  process = low;
+  floors = set_length (replicate who.processes 0) who.me.0 lane ∙ zeros_length who.processes;
+  own_floor = set_here (replicate who.processes 0) who.me.0 lane (subst (λ m. who.me.0 < m) (sym (zeros_length who.processes)) low);
+  holders = λ d q h. absurd (both_ways _ (nothing_held d q) h);
+  own = λ d h. absurd (both_ways _ (nothing_logged d) h);
+  received = λ m. refl;
+  recovery = by (lane == 0);
+}
+  where
+    by : (b : Bool) → IsRecoveryState who (if b then None else Some None)
+    by true = tt
+    by false = tt

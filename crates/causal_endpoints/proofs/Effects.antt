@@ -1,0 +1,272 @@
+-- What each call of a node does to its lane, to what it has sent, and to its round.
+use Rattle.std.proofs.Common.{ℕ, ◌≡◌, ◌∙◌, ◌==◌, Bool, true, false, ◌&&◌, List, [], ◌∷◌, ◌++◌, length, Option, Some, None, is_some, unwrap_or, inl, inr, refl, sym, ap, subst}
+use Rattle.std.specs.Prelude.{◌⊎◌, if◌then◌else◌}
+use Rattle.std.specs.FinMap as fin
+use Rattle.std.proofs.lemmas.Bool.{false≢true, and_parts, eqb-true}
+use Rattle.std.proofs.lemmas.Bool.Decides.{eqb_tells}
+use Rattle.causal_name.specs.declared.Pid.{Pid}
+use Rattle.causal_name.specs.declared.MsgName.{MsgName}
+use Rattle.causal_name.specs.declared.Det.{Det}
+use Rattle.causal_trace.specs.declared.entry.Entry.{Entry}
+use Rattle.causal_trace.specs.declared.entry.Entry.TheVariants.{Send, Stable, Restart, Forget}
+use Rattle.causal_log.specs.Logs.{batch_items, forgotten_in}
+use Rattle.causal_protocol.specs.Naming.{message_name}
+use Rattle.causal_protocol.specs.Steps.{forget_entries}
+use Rattle.causal_world.specs.World.{Packet}
+use Rattle.causal_node.specs.NodeStates.{NodeState, Recovery, RoundState, floor_of}
+use Rattle.causal_node.specs.NodeForgetting.{next_slot}
+use Rattle.causal_node.specs.NodeRecovery.{begin_fault, reply_fault, restart_fault, with_recovery, map_round, with_log_of, without_awaited, after_not_up, after_number, after_stored, after_read, after_restart_at, opened}
+use Rattle.causal_node.specs.NodeAnswers.{after_answer, after_answer_at, knows_number}
+use Rattle.causal_nodes.specs.Packets.{Sent, WasSent, message_packet, question_packet, read_packet, is_of_round}
+use Rattle.causal_calls.specs.Views.{numbers}
+use Rattle.causal_calls.specs.Parcels.{next_message}
+use Rattle.causal_calls.specs.Calls.{NodeCall, send, deliver, acknowledge, learn, forget, write, stored, answer_log, answer_not_up, answer_number, begin_round, take_log, take_not_up, take_other_number, take_number, ask_storage, take_stored, finish_read, restart, open_again}
+use Rattle.causal_calls.proofs.Lemmas.Refusals.{some_none, unless_up_none, of_round}
+use Rattle.causal_endpoints.proofs.Counts.{is_uncounted}
+
+-- nothing is recorded, or one entry that counts no send and begins no lane
+abbrev pub AreUncounted : List Entry → Type 0
+AreUncounted entries = (entries ≡ []) ⊎ ((e : Entry) × (entries ≡ e ∷ []) × (is_uncounted e ≡ true))
+
+abbrev pub HasNoMessage : List Sent → Type 0
+HasNoMessage sent = (name : MsgName) (t : Packet) → WasSent sent (message_packet name t) → ⊥
+
+-- what was sent stays, or is lost by a process that recovers
+abbrev pub KeepsOrLoses : NodeState → NodeState → Type 0
+KeepsOrLoses old new = (new.memory.sent ≡ old.memory.sent) ⊎ (new.memory.sent ≡ [])
+
+pub data Effect (position : ℕ) (old new : NodeState) (sent : List Sent) (entries : List Entry) : Type 0 where
+  stays : new.lane ≡ old.lane → KeepsOrLoses old new → is_some new.recovery ≡ is_some old.recovery → (old.recovery ≡ None → new.memory.sent ≡ old.memory.sent) → AreUncounted entries → HasNoMessage sent
+      → Effect position old new sent entries
+  sends : (to : Pid) → old.recovery ≡ None → new.recovery ≡ None → new.lane ≡ old.lane
+      → new.memory.sent ≡ old.memory.sent ++ record { to = to; send = length old.memory.sent; batch = batch_items old.identity.faults old.memory.log } ∷ []
+      → sent ≡ message_packet (message_name old.identity.me (length old.memory.sent)) (next_message position old to) ∷ []
+      → entries ≡ Send old.identity.me to (length old.memory.sent) ∷ []
+      → Effect position old new sent entries
+  restarts : (listed : List Det) (round : Option RoundState) → old.recovery ≡ Some round → new.recovery ≡ None → new.lane ≡ old.lane → new.memory.sent ≡ [] → sent ≡ [] → entries ≡ Restart old.identity.me listed ∷ []
+      → Effect position old new sent entries
+
+-- whether a packet is a message
+abbrev is_message : Sent → Bool
+is_message (message_packet name p) = true
+is_message _ = false
+
+one_other : (k : Sent) → is_message k ≡ false → HasNoMessage (k ∷ [])
+one_other k other name t (inl is) = false≢true (sym other ∙ ap is_message is)
+one_other k other name t (inr none) = none
+
+no_message : HasNoMessage []
+no_message name t none = none
+
+module _ (position : ℕ) (old new : NodeState) (sent : List Sent) (entries : List Entry) where
+  still : new.lane ≡ old.lane → new.memory.sent ≡ old.memory.sent → is_some new.recovery ≡ is_some old.recovery → AreUncounted entries → HasNoMessage sent → Effect position old new sent entries
+  still lane kept up uncounted other = stays lane (inl kept) up (λ is. kept) uncounted other
+
+nothing_recorded : AreUncounted []
+nothing_recorded = inl refl
+
+one_recorded : (e : Entry) → is_uncounted e ≡ true → AreUncounted (e ∷ [])
+one_recorded e is = inr (e, refl, is)
+
+forgets : (p : Pid) (listed : List Det) → AreUncounted (forget_entries p listed)
+forgets p [] = inl refl
+forgets p (d ∷ ds) = inr (Forget p (d ∷ ds), refl, refl)
+
+-- after a reply
+record SameCounts (old new : NodeState) : Type 0 where
+  lane : new.lane ≡ old.lane
+  kept : new.memory.sent ≡ old.memory.sent
+  up : is_some new.recovery ≡ is_some old.recovery
+
+reply_counts : (s : NodeState) (view : List ℕ) → SameCounts s (after_answer s view)
+reply_counts s view = by (knows_number s view) s.recovery refl
+  where
+    by : (b : Bool) (o : Recovery) → s.recovery ≡ o → SameCounts s (if b then after_answer_at s view o else s)
+    by true None is = record { lane = refl; kept = refl; up = refl }
+    by true (Some r) is = record { lane = refl; kept = refl; up = ap is_some (sym is) }
+    by false o is = record { lane = refl; kept = refl; up = refl }
+
+round_counts : (s : NodeState) (change : RoundState → RoundState) → SameCounts s (with_recovery s (map_round change s.recovery))
+round_counts s change = by s.recovery refl
+  where
+    by : (o : Recovery) → s.recovery ≡ o → SameCounts s (with_recovery s (map_round change o))
+    by None is = record { lane = refl; kept = refl; up = ap is_some (sym is) }
+    by (Some None) is = record { lane = refl; kept = refl; up = ap is_some (sym is) }
+    by (Some (Some r)) is = record { lane = refl; kept = refl; up = ap is_some (sym is) }
+
+number_counts : (s : NodeState) (q : Pid) (number name : ℕ) → reply_fault s.recovery name q ≡ None → SameCounts s (after_number s q number)
+number_counts s q number name legal = record { lane = refl; kept = refl; up = ap is_some (sym (of_round s.recovery name q legal).1) }
+
+not_up_counts : (s : NodeState) (q : Pid) (number name : ℕ) → reply_fault s.recovery name q ≡ None → SameCounts s (after_not_up s q number)
+not_up_counts s q number name legal = by (floor_of s.floors q == number)
+  where
+    by : (b : Bool) → SameCounts s (if b then with_recovery s (map_round (λ r. without_awaited r q.0) s.recovery) else after_number s q number)
+    by true = round_counts s (λ r. without_awaited r q.0)
+    by false = number_counts s q number name legal
+
+begun : (o : Recovery) → begin_fault o ≡ None → is_some o ≡ true
+begun None h = absurd (some_none _ h)
+begun (Some r) h = refl
+
+-- the stage of a node that is opened
+abbrev recovery_at : Bool → Recovery
+recovery_at b = if b then None else Some None
+
+pub call_effect : (position : ℕ) (old new : NodeState) (taken : Option Sent) (sent : List Sent) (entries : List Entry) → NodeCall position old taken new sent entries → ((round : Option RoundState) → old.recovery ≡ Some round → old.lane ≡ 0 → ⊥)
+    → Effect position old new sent entries
+call_effect position old new taken sent entries (send to body legal) later = let up = (unless_up_none _ _ legal).0 in sends to up up refl refl refl refl
+call_effect position old new taken sent entries (deliver lane name at items ascending legal) later = still position old new sent entries refl refl refl (one_recorded _ refl) no_message
+call_effect position old new taken sent entries (acknowledge to dets legal) later = still position old new sent entries refl refl refl nothing_recorded (one_other _ refl)
+call_effect position old new taken sent entries (learn lane from items legal) later = still position old new sent entries refl refl refl nothing_recorded no_message
+call_effect position old new taken sent entries (forget legal) later = still position old new sent entries refl refl refl (forgets old.identity.me (forgotten_in (next_slot old) old.memory.log)) no_message
+call_effect position old new taken sent entries (write dets up logged) later = still position old new sent entries refl refl refl nothing_recorded (one_other _ refl)
+call_effect position old new taken sent entries (stored dets det up has) later =
+    subst (λ (o : Recovery). Effect position old (after_stored old det o) [] (Stable det ∷ [])) (sym up) (still position old (after_stored old det None) [] (Stable det ∷ []) refl refl refl (one_recorded _ refl) no_message)
+call_effect position old new taken sent entries (answer_log asker name view legal reply) later = let is = reply_counts old view in still position old new sent entries is.lane is.kept is.up nothing_recorded (one_other _ refl)
+call_effect position old new taken sent entries (answer_not_up asker name view legal reply) later = let is = reply_counts old view in still position old new sent entries is.lane is.kept is.up nothing_recorded (one_other _ refl)
+call_effect position old new taken sent entries (answer_number asker view legal reply) later = let is = reply_counts old view in still position old new sent entries is.lane is.kept is.up nothing_recorded (one_other _ refl)
+call_effect position old new taken sent entries (begin_round name legal) later = still position old new sent entries refl refl (sym (begun old.recovery legal)) nothing_recorded (one_other _ refl)
+call_effect position old new taken sent entries (take_log name lane q log legal) later = let is = round_counts old (λ r. with_log_of r q.0 log) in still position old new sent entries is.lane is.kept is.up nothing_recorded no_message
+call_effect position old new taken sent entries (take_not_up name q legal) later = let is = not_up_counts old q (floor_of old.floors q) name legal in still position old new sent entries is.lane is.kept is.up nothing_recorded no_message
+call_effect position old new taken sent entries (take_other_number name q number legal other) later = let is = not_up_counts old q number name legal in still position old new sent entries is.lane is.kept is.up nothing_recorded no_message
+call_effect position old new taken sent entries (take_number name q number legal) later = let is = number_counts old q number name legal in still position old new sent entries is.lane is.kept is.up nothing_recorded no_message
+call_effect position old new taken sent entries (ask_storage r gathers legal) later = still position old new sent entries refl refl refl nothing_recorded (one_other _ refl)
+call_effect position old new taken sent entries (take_stored r dets det gathers legal has) later =
+    subst (λ (o : Recovery). Effect position old (after_stored old det o) [] (Stable det ∷ [])) (sym gathers) (still position old (after_stored old det (Some (Some r))) [] (Stable det ∷ []) refl refl (ap is_some (sym gathers)) (one_recorded _ refl) no_message)
+call_effect position old new taken sent entries (finish_read r dets gathers legal all) later = let is = round_counts old after_read in still position old new sent entries is.lane is.kept is.up nothing_recorded no_message
+call_effect position old new taken sent entries (restart reserved legal) later = by old.recovery refl legal
+  where
+    by : (o : Recovery) → old.recovery ≡ o → restart_fault o ≡ None → Effect position old (after_restart_at old o reserved) [] (Restart old.identity.me (fin.keys (after_restart_at old o reserved).memory.log) ∷ [])
+    by None is legal = absurd (some_none _ legal)
+    by (Some None) is legal = absurd (some_none _ legal)
+    by (Some (Some r)) is legal = restarts _ (Some r) is refl refl refl refl refl
+call_effect position old new taken sent entries (open_again round down) later = stays refl (inr refl) (recovers ∙ ap is_some (sym down)) (λ up. absurd (false≢true (ap is_some (sym up ∙ down)))) nothing_recorded no_message
+  where
+    recovers : is_some (opened old.identity old.lane).recovery ≡ true
+    recovers = elim (eqb_tells old.lane 0) [ inl is ↦ absurd (later round down is.1) | inr other ↦ ap {B = Bool} (λ (b : Bool). is_some (recovery_at b)) other.0 ]
+
+-- a round is the one before, or its question was sent
+abbrev pub RoundEffect : NodeState → NodeState → List Sent → Type 0
+RoundEffect old new sent = (q : RoundState) → new.recovery ≡ Some (Some q)
+    → ((r : RoundState) × (old.recovery ≡ Some (Some r)) × (r.name ≡ q.name) × (new.floors ≡ old.floors)) ⊎ WasSent sent (question_packet old.identity.me.0 q.name (numbers new.floors))
+
+-- the name of the round, or this one
+abbrev name_in : ℕ → Recovery → ℕ
+name_in name (Some (Some q)) = q.name
+name_in name _ = name
+
+inner : (o : Recovery) (q : RoundState) → o ≡ Some (Some q) → (o ≡ Some None) → ⊥
+inner o q is other = some_none q (ap (λ o. unwrap_or o None) (sym is ∙ other))
+
+no_round : {A : Type 0} (q : RoundState) → None ≡ Some (Some q) → A
+no_round q is = absurd (some_none _ (sym is))
+
+same_round : (old : NodeState) (sent : List Sent) → RoundEffect old old sent
+same_round old sent q is = inl (q, is, refl, refl)
+
+reply_rounds : (s : NodeState) (view : List ℕ) (sent : List Sent) → RoundEffect s (after_answer s view) sent
+reply_rounds s view sent = by (knows_number s view) s.recovery refl
+  where
+    by : (b : Bool) (o : Recovery) → s.recovery ≡ o → RoundEffect s (if b then after_answer_at s view o else s) sent
+    by true None up q is = no_round q (sym up ∙ is)
+    by true (Some r) down q is = absurd (inner (Some None) q is refl)
+    by false o down q is = inl (q, is, refl, refl)
+
+changed_round : (s : NodeState) (change : RoundState → RoundState) → ((r : RoundState) → (change r).name ≡ r.name) → (sent : List Sent) → RoundEffect s (with_recovery s (map_round change s.recovery)) sent
+changed_round s change named sent = by s.recovery refl
+  where
+    by : (o : Recovery) → s.recovery ≡ o → RoundEffect s (with_recovery s (map_round change o)) sent
+    by None up q is = no_round q is
+    by (Some None) down q is = absurd (inner (Some None) q is refl)
+    by (Some (Some r)) down q is = inl (r, down, sym (named r) ∙ ap (λ (o : Recovery). name_in r.name o) is, refl)
+
+not_up_rounds : (s : NodeState) (q : Pid) (number : ℕ) (sent : List Sent) → RoundEffect s (after_not_up s q number) sent
+not_up_rounds s p number sent = by (floor_of s.floors p == number)
+  where
+    by : (b : Bool) → RoundEffect s (if b then with_recovery s (map_round (λ r. without_awaited r p.0) s.recovery) else after_number s p number) sent
+    by true = changed_round s (λ r. without_awaited r p.0) (λ r. refl) sent
+    by false = λ q is. absurd (inner (Some None) q is refl)
+
+pub call_rounds : (position : ℕ) (old new : NodeState) (taken : Option Sent) (sent : List Sent) (entries : List Entry) → NodeCall position old taken new sent entries → RoundEffect old new sent
+call_rounds position old new taken sent entries (send to body legal) = λ q is. inl (q, is, refl, refl)
+call_rounds position old new taken sent entries (deliver lane name at items ascending legal) = λ q is. inl (q, is, refl, refl)
+call_rounds position old new taken sent entries (acknowledge to dets legal) = λ q is. inl (q, is, refl, refl)
+call_rounds position old new taken sent entries (learn lane from items legal) = λ q is. inl (q, is, refl, refl)
+call_rounds position old new taken sent entries (forget legal) = λ q is. inl (q, is, refl, refl)
+call_rounds position old new taken sent entries (write dets up logged) = λ q is. inl (q, is, refl, refl)
+call_rounds position old new taken sent entries (stored dets det up has) = subst (λ (o : Recovery). RoundEffect old (after_stored old det o) []) (sym up) (λ q is. inl (q, is, refl, refl))
+call_rounds position old new taken sent entries (answer_log asker name view legal reply) = reply_rounds old view sent
+call_rounds position old new taken sent entries (answer_not_up asker name view legal reply) = reply_rounds old view sent
+call_rounds position old new taken sent entries (answer_number asker view legal reply) = reply_rounds old view sent
+call_rounds position old new taken sent entries (begin_round name legal) = λ q is. inr (inl (ap (λ (o : Recovery). question_packet old.identity.me.0 (name_in name o) (numbers old.floors)) is))
+call_rounds position old new taken sent entries (take_log name lane p log legal) = changed_round old (λ r. with_log_of r p.0 log) (λ r. refl) sent
+call_rounds position old new taken sent entries (take_not_up name p legal) = not_up_rounds old p (floor_of old.floors p) sent
+call_rounds position old new taken sent entries (take_other_number name p number legal other) = not_up_rounds old p number sent
+call_rounds position old new taken sent entries (take_number name p number legal) = λ q is. absurd (inner (Some None) q is refl)
+call_rounds position old new taken sent entries (ask_storage r gathers legal) = λ q is. inl (q, is, refl, refl)
+call_rounds position old new taken sent entries (take_stored r dets det gathers legal has) = subst (λ (o : Recovery). RoundEffect old (after_stored old det o) []) (sym gathers) (λ q is. inl (r, gathers, ap (λ (o : Recovery). name_in r.name o) is, refl))
+call_rounds position old new taken sent entries (finish_read r dets gathers legal all) = changed_round old after_read (λ r. refl) sent
+call_rounds position old new taken sent entries (restart reserved legal) = by old.recovery refl legal
+  where
+    by : (o : Recovery) → old.recovery ≡ o → restart_fault o ≡ None → RoundEffect old (after_restart_at old o reserved) []
+    by None is legal = absurd (some_none _ legal)
+    by (Some None) is legal = absurd (some_none _ legal)
+    by (Some (Some r)) is legal = λ q none. no_round q none
+call_rounds position old new taken sent entries (open_again round down) = by (old.lane == 0)
+  where
+    by : (b : Bool) → RoundEffect old (with_recovery (opened old.identity old.lane) (if b then None else Some None)) []
+    by true = λ q is. no_round q is
+    by false = λ q is. absurd (inner (Some None) q is refl)
+
+-- a packet of a round is sent after its question: one that is taken or sent now, or that of the present round
+abbrev pub AskEffect : NodeState → Option Sent → List Sent → Type 0
+AskEffect old taken sent = (k : Sent) (s name : ℕ) → WasSent sent k → is_of_round k s name ≡ true
+    → ((view : ℕ → ℕ) × (taken ≡ Some (question_packet s name view))) ⊎ (((view : ℕ → ℕ) × WasSent sent (question_packet s name view)) ⊎ ((r : RoundState) × (old.recovery ≡ Some (Some r)) × (r.name ≡ name) × (old.identity.me.0 ≡ s)))
+
+of_none : (old : NodeState) (taken : Option Sent) (j : Sent) → ((s name : ℕ) → is_of_round j s name ≡ false) → AskEffect old taken (j ∷ [])
+of_none old taken j other k s name (inl is) of = absurd (false≢true (sym (other s name) ∙ ap (λ x. is_of_round x s name) is ∙ of))
+of_none old taken j other k s name (inr none) of = absurd none
+
+of_nothing : (old : NodeState) (taken : Option Sent) → AskEffect old taken []
+of_nothing old taken k s name none of = absurd none
+
+-- a reply to a question
+of_question : (old : NodeState) (j : Sent) (asker round : ℕ) (view : ℕ → ℕ) → ((s name : ℕ) → is_of_round j s name ≡ (asker == s && round == name)) → AskEffect old (Some (question_packet asker round view)) (j ∷ [])
+of_question old j asker round view to k s name (inl is) of =
+    let same = and_parts (asker == s) (round == name) (sym (to s name) ∙ ap (λ x. is_of_round x s name) is ∙ of) in
+    inl (view, λ i. Some (question_packet (eqb-true asker s same.0 i) (eqb-true round name same.1 i) view))
+of_question old j asker round view to k s name (inr none) of = absurd none
+
+of_begun : (old : NodeState) (round : ℕ) → AskEffect old None (question_packet old.identity.me.0 round (numbers old.floors) ∷ [])
+of_begun old round k s name (inl is) of =
+    let same = and_parts (old.identity.me.0 == s) (round == name) (ap (λ j. is_of_round j s name) is ∙ of) in
+    inr (inl (numbers old.floors, inl (λ i. question_packet (eqb-true old.identity.me.0 s same.0 i) (eqb-true round name same.1 i) (numbers old.floors))))
+of_begun old round k s name (inr none) of = absurd none
+
+of_present : (old : NodeState) (r : RoundState) → old.recovery ≡ Some (Some r) → AskEffect old None (read_packet old.identity.me.0 r.name (numbers old.floors) ∷ [])
+of_present old r gathers k s name (inl is) of =
+    let same = and_parts (old.identity.me.0 == s) (r.name == name) (ap (λ j. is_of_round j s name) is ∙ of) in
+    inr (inr (r, gathers, eqb-true r.name name same.1, eqb-true old.identity.me.0 s same.0))
+of_present old r gathers k s name (inr none) of = absurd none
+
+pub call_asks : (position : ℕ) (old new : NodeState) (taken : Option Sent) (sent : List Sent) (entries : List Entry) → NodeCall position old taken new sent entries → AskEffect old taken sent
+call_asks position old new taken sent entries (send to body legal) = of_none old _ _ (λ s name. refl)
+call_asks position old new taken sent entries (deliver lane name at items ascending legal) = of_nothing old _
+call_asks position old new taken sent entries (acknowledge to dets legal) = of_none old _ _ (λ s name. refl)
+call_asks position old new taken sent entries (learn lane from items legal) = of_nothing old _
+call_asks position old new taken sent entries (forget legal) = of_nothing old _
+call_asks position old new taken sent entries (write dets up logged) = of_none old _ _ (λ s name. refl)
+call_asks position old new taken sent entries (stored dets det up has) = of_nothing old _
+call_asks position old new taken sent entries (answer_log asker name view legal reply) = of_question old _ asker.0 name (numbers view) (λ s x. refl)
+call_asks position old new taken sent entries (answer_not_up asker name view legal reply) = of_question old _ asker.0 name (numbers view) (λ s x. refl)
+call_asks position old new taken sent entries (answer_number asker view legal reply) = of_none old _ _ (λ s name. refl)
+call_asks position old new taken sent entries (begin_round name legal) = of_begun old name
+call_asks position old new taken sent entries (take_log name lane q log legal) = of_nothing old _
+call_asks position old new taken sent entries (take_not_up name q legal) = of_nothing old _
+call_asks position old new taken sent entries (take_other_number name q number legal other) = of_nothing old _
+call_asks position old new taken sent entries (take_number name q number legal) = of_nothing old _
+call_asks position old new taken sent entries (ask_storage r gathers legal) = of_present old r gathers
+call_asks position old new taken sent entries (take_stored r dets det gathers legal has) = of_nothing old _
+call_asks position old new taken sent entries (finish_read r dets gathers legal all) = of_nothing old _
+call_asks position old new taken sent entries (restart reserved legal) = of_nothing old _
+call_asks position old new taken sent entries (open_again round down) = of_nothing old _

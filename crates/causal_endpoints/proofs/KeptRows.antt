@@ -1,0 +1,273 @@
+-- Each call of an endpoint keeps what is true of its states, and sends to stable storage determinants of processes.
+use Rattle.std.proofs.Common.{ℕ, ◌≡◌, ◌∙◌, ◌==◌, ◌<◌, ◌^◌, Bool, true, false, not, ◌&&◌, ◌||◌, List, [], ◌∷◌, map, length, Option, None, inl, inr, refl, sym, ap, subst, arith}
+use Rattle.std.specs.Prelude.{◌⊎◌, if◌then◌else◌}
+use Rattle.std.specs.List.{list_any, AllByRecursion}
+use Rattle.std.specs.Cmp.{nat_cmp_total}
+use Rattle.std.specs.Ordering.{nat_cmp}
+use Rattle.std.specs.FinMap as fin
+use Rattle.std.specs.FinSet as set
+use Rattle.std.proofs.lemmas.Bool.{false≢true, both_ways, or_cases, and_parts, eqb-true}
+use Rattle.causal_name.specs.declared.Pid.{Pid}
+use Rattle.causal_name.specs.declared.Det.{Det}
+use Rattle.causal_name.specs.Names.{same_det, same_pid}
+use Rattle.causal_name.proofs.Lemmas.DetOrder.{nat_ties, same_is}
+use Rattle.causal_trace.specs.declared.entry.Entry.{Entry}
+use Rattle.causal_log.specs.declared.known.Known.{Known}
+use Rattle.causal_log.proofs.Lemmas.KnowledgeGrows.{logged_all, known_all, holds_either}
+use Rattle.causal_protocol.specs.MemoryQueries.{has_entry, log_knows_holder, has_item, item_holder}
+use Rattle.causal_wire.specs.declared.parcel.Head.{Head}
+use Rattle.causal_wire.specs.declared.parcel.Item.{Item as WireItem}
+use Rattle.causal_wire.specs.declared.parcel.LogEntry.{LogEntry}
+use Rattle.causal_wire.specs.Parcels.{Contents, message, acknowledgement, question, answer, own_number, not_up, IsDet, IsItem, IsRun, IsParcel}
+use Rattle.causal_wire.specs.Reading.{parcel_at}
+use Rattle.causal_world.specs.World.{Packet}
+use Rattle.causal_node.specs.declared.node.Identity.{Identity}
+use Rattle.causal_node.specs.NodeStates.{NodeState, floor_of}
+use Rattle.causal_nodes.specs.Packets.{Sent, write_packet, read_packet, not_up_packet, number_packet}
+use Rattle.causal_calls.specs.Views.{numbers, IsNodeState}
+use Rattle.causal_calls.specs.Parcels.{write_of}
+use Rattle.causal_calls.specs.StepLaws.{NamesProcesses, TakesOfProcesses, CallsKeepNodeStates}
+use Rattle.causal_calls.proofs.Lemmas.LogViews.{nothing_logged, nothing_held}
+use Rattle.causal_endpoint.specs.declared.fault.EndpointFault.TheVariants as Faults
+use Rattle.causal_endpoint.specs.Endpoints.{EndpointState, run_of}
+use Rattle.causal_endpoint.specs.Receiving.{contents_fault, clock_with}
+use Rattle.causal_endpoint.specs.Items.{log_item, log_entry, log_from}
+use Rattle.causal_endpoints.specs.Packets.{taken_with, not_up_for}
+use Rattle.causal_endpoints.specs.Calls.{Input, nothing, bytes, from_storage, ended, Output, output_at, EndpointCall, send, resend, acknowledge, forget, receive, write, stored, begin_round, ask, take_ended, ask_storage, take_stored, finish_read, restart, open_again}
+use Rattle.causal_endpoints.specs.States.{IsEndpointState, IsOfDets, IsOfRun}
+use Rattle.causal_endpoints.specs.CallLaws.{IsAmong, TakesPacket, IsNodeCall, IsNoCall, EndpointCallsKeepStates}
+use Rattle.causal_endpoints.proofs.Legal.{or_else_none, node_or_none, clock_below}
+use Rattle.causal_endpoints.proofs.CallRows.{ReadsBack, read_is, one_among, calls_are_node_calls}
+use Rattle.causal_endpoints.proofs.Within.{IsWithin, IsTakenWithin, IsWithinIfTaken, each_number, calls_within}
+
+-- what a parcel of n processes brings
+module _ (n : ℕ) (source : Pid) (low : source.0 < n) where
+  member : (s : set.FinSet nat_cmp) (q : ℕ) → ((p : ℕ) → set.contains s p ≡ true → p < n) → set.contains (set.insert s source.0) q ≡ true → q < n
+  member s q others h = elim (or_cases (q == source.0) (set.contains s q) ((λ i. nat_ties q source.0 i || set.contains s q) ∙ sym (set.contains-insert nat_cmp_total s source.0 q) ∙ h)) [
+    | inl is ↦ subst (λ p. p < n) (sym (eqb-true q source.0 is)) low
+    | inr other ↦ others q other
+  ]
+
+  items_dets : (d : Det) (items : List WireItem) → AllByRecursion (IsItem n source.0) items → has_item d (map (log_item source) items) ≡ true → IsDet n d
+  items_dets d [] each h = absurd (false≢true h)
+  items_dets d (x ∷ xs) each h = elim (or_cases (same_det d x.det) _ h) [ inl here ↦ subst (λ e. IsDet n e) (sym (same_is d x.det here)) each.0.det | inr later ↦ items_dets d xs each.1 later ]
+
+  items_holders : (d : Det) (q : ℕ) (items : List WireItem) → AllByRecursion (IsItem n source.0) items → item_holder d q (map (log_item source) items) ≡ true → q < n
+  items_holders d q [] each h = absurd (false≢true h)
+  items_holders d q (x ∷ xs) each h = elim (or_cases (same_det d x.det && set.contains (set.insert x.others source.0) q) _ h) [
+    | inl here ↦ member x.others q each.0.others.processes (and_parts _ _ here).1
+    | inr later ↦ items_holders d q xs each.1 later
+  ]
+
+  entry_dets : (d : Det) (entries : List LogEntry) → AllByRecursion (λ (entry : LogEntry). IsItem n source.0 entry.item) entries → list_any (λ (e : Det × Known). same_det d e.0) (map (log_entry source) entries) ≡ true → IsDet n d
+  entry_dets d [] each h = absurd (false≢true h)
+  entry_dets d (x ∷ xs) each h = elim (or_cases (same_det d x.item.det) _ h) [ inl here ↦ subst (λ e. IsDet n e) (sym (same_is d x.item.det here)) each.0.det | inr later ↦ entry_dets d xs each.1 later ]
+
+  entry_holders : (d : Det) (q : ℕ) (entries : List LogEntry) → AllByRecursion (λ (entry : LogEntry). IsItem n source.0 entry.item) entries
+      → list_any (λ (e : Det × Known). same_det d e.0 && set.contains e.1.holders q) (map (log_entry source) entries) ≡ true → q < n
+  entry_holders d q [] each h = absurd (false≢true h)
+  entry_holders d q (x ∷ xs) each h = elim (or_cases (same_det d x.item.det && set.contains (set.insert x.item.others source.0) q) _ h) [
+    | inl here ↦ member x.item.others q each.0.others.processes (and_parts _ _ here).1
+    | inr later ↦ entry_holders d q xs each.1 later
+  ]
+
+  log_dets : (d : Det) (entries : List LogEntry) → AllByRecursion (λ (entry : LogEntry). IsItem n source.0 entry.item) entries → has_entry d (log_from source entries) ≡ true → IsDet n d
+  log_dets d entries each h = elim (or_cases _ _ (sym (logged_all (map (log_entry source) entries) fin.empty d) ∙ h)) [
+    | inl none ↦ absurd (both_ways _ (nothing_logged d) none)
+    | inr there ↦ entry_dets d entries each there
+  ]
+
+  log_holders : (d : Det) (q : ℕ) (entries : List LogEntry) → AllByRecursion (λ (entry : LogEntry). IsItem n source.0 entry.item) entries → log_knows_holder d q (log_from source entries) ≡ true → q < n
+  log_holders d q entries each h = elim (or_cases _ _ (sym (known_all (λ (k : Known). set.contains k.holders q) (holds_either q) (map (log_entry source) entries) fin.empty d) ∙ h)) [
+    | inl none ↦ absurd (both_ways _ (nothing_held d q) none)
+    | inr there ↦ entry_holders d q entries each there
+  ]
+
+module _ (e : EndpointState) where
+  abbrev n : ℕ
+  n = e.node.identity.processes
+
+  said_within : (q : Pid) (number name : ℕ) → number < 2 ^ 32 → IsTakenWithin n (not_up_for e.node q number name)
+  said_within q number name low = by (floor_of e.node.floors q == number)
+    where
+      by : (b : Bool) → IsTakenWithin n (if b then not_up_packet q.0 e.node.identity.me.0 name else number_packet q.0 number)
+      by true = tt
+      by false = low
+
+  said_names : (q : Pid) (number name : ℕ) → NamesProcesses n (not_up_for e.node q number name)
+  said_names q number name = by (floor_of e.node.floors q == number)
+    where
+      by : (b : Bool) → NamesProcesses n (if b then not_up_packet q.0 e.node.identity.me.0 name else number_packet q.0 number)
+      by true = λ p is. absurd is
+      by false = λ p is. absurd is
+
+  parcel_within : (at : ℕ) (head : Head) (contents : Contents) → IsParcel (run_of e) (head, contents) → IsTakenWithin n (taken_with e.node at head contents)
+  parcel_within at head (message ssn items body) fits = (fits.head.source, fits.contents.0, λ d h. items_dets n head.source fits.head.source d items fits.contents.1.each h)
+  parcel_within at head (acknowledgement items) fits = tt
+  parcel_within at head (question round view) fits = each_number view fits.contents.1.each
+  parcel_within at head (answer round entries) fits = λ d h. log_dets n head.source fits.head.source d entries fits.contents.1.each h
+  parcel_within at head (own_number round) fits = fits.head.lane
+  parcel_within at head (not_up round) fits = said_within head.source head.lane round fits.head.lane
+
+  -- a packet, and the one that is equal to it
+  as_packet : (p t : Packet) → p ≡ t → ((d : Det) (q : ℕ) → p.parcel.names_holder d q ≡ true → q < n) → (d : Det) (q : ℕ) → t.parcel.names_holder d q ≡ true → q < n
+  as_packet p t is names = subst (λ (x : Packet). (d : Det) (q : ℕ) → x.parcel.names_holder d q ≡ true → q < n) is names
+
+  parcel_names : (at : ℕ) (head : Head) (contents : Contents) → IsParcel (run_of e) (head, contents) → NamesProcesses n (taken_with e.node at head contents)
+  parcel_names at head (message ssn items body) fits = λ p is. as_packet _ p is (λ d q h. elim (or_cases _ _ h) [
+    | inl named ↦ items_holders n head.source fits.head.source d q items fits.contents.1.each named
+    | inr source ↦ subst (λ m. m < n) (sym (eqb-true q head.source.0 (and_parts _ _ source).1)) fits.head.source
+  ])
+  parcel_names at head (acknowledgement items) fits = λ p is. as_packet _ p is (λ d q h. items_holders n head.source fits.head.source d q items fits.contents.each h)
+  parcel_names at head (question round view) fits = λ p is. absurd is
+  parcel_names at head (answer round entries) fits = λ p is. as_packet _ p is (λ d q h. log_holders n head.source fits.head.source d q entries fits.contents.1.each h)
+  parcel_names at head (own_number round) fits = λ p is. absurd is
+  parcel_names at head (not_up round) fits = said_names head.source head.lane round
+
+  within_of : IsEndpointState e → IsWithin n e.node.identity.me.0 e.node
+  within_of k = record { lane = k.lane; floors = k.floors; logged = k.logged; round = k.round; kept = k.kept; sent = k.sent; received = k.received }
+
+  -- what comes from storage
+  abbrev IsReply : Input → Type 0
+  IsReply (from_storage k) = IsTakenWithin n k × NamesProcesses n k
+  IsReply _ = Unit {0}
+
+  takes_within : ReadsBack → IsEndpointState e → (past : List Entry) (input : Input) (taken : Option Sent) → IsOfRun e input → IsReply input → TakesPacket past e input taken → IsWithinIfTaken n taken × TakesOfProcesses n taken
+  takes_within back k past nothing taken fits reply takes = (subst (λ o. IsWithinIfTaken n o) (sym takes) tt, subst (λ o. TakesOfProcesses n o) (sym takes) tt)
+  takes_within back k past (bytes b) taken fits reply (p, read, mine, other, inl none) = (subst (λ o. IsWithinIfTaken n o) (sym none) tt, subst (λ o. TakesOfProcesses n o) (sym none) tt)
+  takes_within back k past (bytes b) taken fits reply (p, read, mine, other, inr is) =
+      let same : p ≡ fits.0 = read_is (parcel_at (run_of e) b) p fits.0 read (ap (parcel_at (run_of e)) fits.2 ∙ back (run_of e) fits.0 k.run fits.1) in
+      let of_run = subst (λ q. IsParcel (run_of e) q) (sym same) fits.1 in
+      (subst (λ o. IsWithinIfTaken n o) (sym is.2) (parcel_within is.0 p.0 p.1 of_run), subst (λ o. TakesOfProcesses n o) (sym is.2) (parcel_names is.0 p.0 p.1 of_run))
+  takes_within back k past (from_storage j) taken fits reply takes = (subst (λ o. IsWithinIfTaken n o) (sym takes) reply.0, subst (λ o. TakesOfProcesses n o) (sym takes) reply.1)
+  takes_within back k past (ended q number) taken fits reply (r, gathers, is, apart) = (subst (λ o. IsWithinIfTaken n o) (sym is) (said_within q number r.name fits), subst (λ o. TakesOfProcesses n o) (sym is) (said_names q number r.name))
+
+  -- the clock after a parcel was taken
+  clock_kept : (now : ℕ) (head : Head) (contents : Contents) → e.clock < 2 ^ 62 → head.clock < 2 ^ 62 → contents_fault e now head contents ≡ None → clock_with e now head contents < 2 ^ 62
+  clock_kept now head (message ssn items body) low head_low legal = clock_below _ (node_or_none _ _ legal).1
+  clock_kept now head (acknowledgement items) low head_low legal = omega (arith, low, head_low)
+  clock_kept now head (question round view) low head_low legal = clock_below _ (node_or_none _ _ legal).1
+  clock_kept now head (answer round entries) low head_low legal = omega (arith, low, head_low)
+  clock_kept now head (own_number round) low head_low legal = omega (arith, low, head_low)
+  clock_kept now head (not_up round) low head_low legal = omega (arith, low, head_low)
+
+  no_names_at : (now : ℕ) (head : Head) (contents : Contents) (name : ℕ) → IsAmong (output_at e now head contents).names name → ⊥
+  no_names_at now head (message ssn items body) name h = h
+  no_names_at now head (acknowledgement items) name h = h
+  no_names_at now head (question round view) name h = h
+  no_names_at now head (answer round entries) name h = h
+  no_names_at now head (own_number round) name h = h
+  no_names_at now head (not_up round) name h = h
+
+  no_requests_at : (now : ℕ) (head : Head) (contents : Contents) (k : Sent) → IsAmong (output_at e now head contents).to_storage k → ⊥
+  no_requests_at now head (message ssn items body) k h = h
+  no_requests_at now head (acknowledgement items) k h = h
+  no_requests_at now head (question round view) k h = h
+  no_requests_at now head (answer round entries) k h = h
+  no_requests_at now head (own_number round) k h = h
+  no_requests_at now head (not_up round) k h = h
+
+-- what is plain of each call
+record IsPlain (old : EndpointState) (input : Input) (new : EndpointState) (output : Output) : Type 0 where
+  run : new.run ≡ old.run
+  clock : new.clock < 2 ^ 62
+  names : (name : ℕ) → IsAmong output.names name → name < 2 ^ 64
+  reply : IsReply old input
+  requests : (k : Sent) → IsAmong output.to_storage k → IsOfDets old.node.identity.processes k
+
+plainly : (old new : EndpointState) (output : Output) → new.run ≡ old.run → new.clock < 2 ^ 62 → ((name : ℕ) → IsAmong output.names name → ⊥) → ((k : Sent) → IsAmong output.to_storage k → ⊥) → IsPlain old nothing new output
+plainly old new output run clock unnamed unasked = record { run = run; clock = clock; names = λ name h. absurd (unnamed name h); reply = tt; requests = λ k h. absurd (unasked k h) }
+
+none_of : {X : Type 0} (x : X) → IsAmong [] x → ⊥
+none_of x h = h
+
+plain : ReadsBack → (past : List Entry) (old new : EndpointState) (input : Input) (output : Output) (entries : List Entry) → EndpointCall past old input new output entries → IsEndpointState old → IsOfRun old input → IsPlain old input new output
+plain back past old new input output entries (send now to body legal) k fits = plainly old new output refl (clock_below _ (or_else_none _ _ _ (node_or_none _ _ legal).1).1) none_of none_of
+plain back past old new input output entries (resend ssn again legal is) k fits = plainly old new output refl k.clock none_of none_of
+plain back past old new input output entries (acknowledge now to dets ascends legal) k fits = plainly old new output refl (clock_below _ (or_else_none _ _ _ (node_or_none _ _ legal).1).1) none_of none_of
+plain back past old new input output entries (forget now legal) k fits = plainly old new output refl (clock_below _ (node_or_none _ _ legal).1) none_of none_of
+plain back past old new input output entries (receive now b p recorded read legal records) k fits =
+    let same : p ≡ fits.0 = read_is (parcel_at (run_of old) b) p fits.0 read (ap (parcel_at (run_of old)) fits.2 ∙ back (run_of old) fits.0 k.run fits.1) in
+    let of_run = subst (λ q. IsParcel (run_of old) q) (sym same) fits.1 in
+    let dest = or_else_none (not (same_pid p.0.dest old.node.identity.me)) Faults.NotMine _ legal in
+    let source = or_else_none (same_pid p.0.source old.node.identity.me) Faults.OwnParcel _ dest.1 in
+    record {
+      run = refl;
+      clock = clock_kept old now p.0 p.1 k.clock of_run.head.clock source.1;
+      names = λ name h. absurd (no_names_at old now p.0 p.1 name h);
+      reply = tt;
+      requests = λ j h. absurd (no_requests_at old now p.0 p.1 j h);
+    }
+plain back past old new input output entries (write dets up logged) k fits = record {
+  run = refl;
+  clock = k.clock;
+  names = λ name h. absurd h;
+  reply = tt;
+  requests = one_among (λ j. IsOfDets old.node.identity.processes j) (write_packet (write_of old.node dets)) (λ d h. k.logged d (logged d h));
+}
+plain back past old new input output entries (stored now dets det up legal has) k fits = record {
+  run = refl;
+  clock = clock_below _ (node_or_none _ _ legal).1;
+  names = λ name h. absurd h;
+  reply = (fits, λ p is. absurd is);
+  requests = λ j h. absurd h;
+}
+plain back past old new input output entries (begin_round name low legal) k fits = record { run = refl; clock = k.clock; names = one_among (λ m. m < 2 ^ 64) name low; reply = tt; requests = λ j h. absurd h }
+plain back past old new input output entries (ask now to legal) k fits = plainly old new output refl (clock_below _ (node_or_none _ _ legal).1) none_of none_of
+plain back past old new input output entries (take_ended name q number legal) k fits = record { run = refl; clock = k.clock; names = λ name h. absurd h; reply = tt; requests = λ j h. absurd h }
+plain back past old new input output entries (ask_storage r gathers legal) k fits = record {
+  run = refl;
+  clock = k.clock;
+  names = λ name h. absurd h;
+  reply = tt;
+  requests = one_among (λ j. IsOfDets old.node.identity.processes j) (read_packet old.node.identity.me.0 r.name (numbers old.node.floors)) tt;
+}
+plain back past old new input output entries (take_stored now r dets det gathers legal has) k fits = record {
+  run = refl;
+  clock = clock_below _ (node_or_none _ _ legal).1;
+  names = λ name h. absurd h;
+  reply = (fits, λ p is. absurd is);
+  requests = λ j h. absurd h;
+}
+plain back past old new input output entries (finish_read r dets gathers legal all) k fits = record { run = refl; clock = k.clock; names = λ name h. absurd h; reply = (fits, λ p is. absurd is); requests = λ j h. absurd h }
+plain back past old new input output entries (restart now reserved legal) k fits = plainly old new output refl (clock_below _ (node_or_none _ _ legal).1) none_of none_of
+plain back past old new input output entries (open_again round clock down low) k fits = plainly old new output refl low none_of none_of
+
+-- the state after a call, by its node
+state_from : (old new : EndpointState) → IsEndpointState old → new.node.identity ≡ old.node.identity → new.run ≡ old.run → new.clock < 2 ^ 62 → IsNodeState new.node
+    → IsWithin old.node.identity.processes old.node.identity.me.0 new.node → IsEndpointState new
+state_from old new k identity run clock node within =
+    let here = subst (λ (i : Identity). IsWithin i.processes i.me.0 new.node) (sym identity) within in
+    record {
+      node = node;
+      run = subst (λ (i : Identity). IsRun (record { id = new.run; processes = i.processes; f = i.faults })) (sym identity) (subst (λ r. IsRun (record { id = r; processes = old.node.identity.processes; f = old.node.identity.faults })) (sym run) k.run);
+      lane = here.lane;
+      clock = clock;
+      floors = here.floors;
+      logged = here.logged;
+      round = here.round;
+      kept = here.kept;
+      sent = here.sent;
+      received = here.received;
+    }
+
+pub calls_keep_states : ReadsBack → CallsKeepNodeStates → EndpointCallsKeepStates
+calls_keep_states back keep past old new input output entries call k few fits = by (calls_are_node_calls back past old new input output entries call k few fits)
+  where
+    facts : IsPlain old input new output
+    facts = plain back past old new input output entries call k fits
+
+    by : IsNodeCall past old input new output entries ⊎ IsNoCall old input new output entries
+        → IsEndpointState new × (new.node.identity ≡ old.node.identity) × (new.run ≡ old.run) × ((k : Sent) → IsAmong output.to_storage k → IsOfDets old.node.identity.processes k)
+    by (inl c) =
+        let takes = takes_within old back k past input c.taken fits facts.reply c.takes in
+        let kept = keep (length past) old.node new.node c.taken c.sent entries c.call k.node takes.1 in
+        let within = calls_within (length past) old.node new.node c.taken c.sent entries c.call k.node few (within_of old k) takes.0 (λ from name view was. facts.names name (c.questions from name view was).1) in
+        (state_from old new k kept.1 facts.run facts.clock kept.0 within, kept.1, facts.run, facts.requests)
+    by (inr none) =
+        let identity = ap (λ (s : NodeState). s.identity) none.same in (
+          state_from old new k identity facts.run facts.clock (subst (λ s. IsNodeState s) (sym none.same) k.node) (subst (λ s. IsWithin old.node.identity.processes old.node.identity.me.0 s) (sym none.same) (within_of old k)),
+          identity,
+          facts.run,
+          facts.requests,
+        )

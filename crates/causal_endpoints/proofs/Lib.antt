@@ -1,0 +1,11 @@
+mod Items
+mod Written
+mod Legal
+mod CallRows
+mod Within
+mod KeptRows
+mod Counts
+mod Effects
+mod SystemFacts
+mod Ghosts
+mod EndpointNetworks

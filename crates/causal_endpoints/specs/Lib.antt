@@ -1,0 +1,5 @@
+pub mod Packets
+pub mod Calls
+pub mod States
+pub mod CallLaws
+pub mod Systems
