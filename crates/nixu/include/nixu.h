@@ -1,4 +1,4 @@
-/* nixu 1: the audit of recorded runs, inside a program.
+/* nixu 1: the audit of recorded runs, and a process of a run, inside a program.
 
    Link libnixu.a, which needs a C library alone (docs/LIBRARY.md).
 
@@ -6,11 +6,11 @@
    - A pointer points to `length`, `count` or `room` elements; no other thread may change them meanwhile. Memory that
      the call writes overlaps none of its other arguments. If the length is 0, the pointer may be null; an empty text is
      invalid, and an empty buffer receives no bytes. No other pointer may be null.
-   - Each pointer is aligned for its type, as C aligns it: to 8 bytes for nixu_reader, nixu_trace and size_t, to 4 for
-     nixu_verdict, nixu_stray, nixu_entry, nixu_determinant and uint32_t, to 2 for uint16_t.
+   - Each pointer is aligned for its type, as C aligns it: to 8 bytes for size_t and each struct that has a pointer, a
+     size_t or a uint64_t, to 4 for the other structs and uint32_t, to 2 for uint16_t.
    - The library keeps no pointer and has no static state. It does not print, raise signals, start threads or wait.
-     Calls may run in several threads at once, but only one at a time may use a reader or a trace; threads that use one
-     in turn synchronize, as for any memory.
+     Calls may run in several threads at once, but only one at a time may use a reader, a trace or a node; threads that
+     use one in turn synchronize, as for any memory.
    - A call needs at most NIXU_STACK bytes of stack, most of them for JSON values within JSON values. This is measured,
      not proved.
    - Memory comes from malloc and realloc. Each call frees it before it returns, except what an open handle owns.
@@ -40,10 +40,10 @@ uint32_t nixu_version(void);
 /* ---- statuses ---- */
 
 #define NIXU_OK        0 /* success */
-#define NIXU_FAULT     1 /* the text or the entry is invalid; its first error is written */
+#define NIXU_FAULT     1 /* the text or the entry is invalid, or a node refuses; the first error is written */
 #define NIXU_NO_MEMORY 2 /* allocation failed */
 #define NIXU_MISUSED   3 /* the arguments are invalid; each call lists the cases */
-#define NIXU_CLOSED    4 /* no reader, or no trace, is open; nothing was done */
+#define NIXU_CLOSED    4 /* no reader, no trace, or no node is open; nothing was done */
 
 /* ---- the maximum number of entries of a trace ---- */
 
@@ -265,6 +265,283 @@ uint32_t nixu_draw(const uint8_t *text, size_t length, uint16_t faults, uint8_t 
    NIXU_OK: the bytes are written. NIXU_MISUSED: no error has the number. */
 uint32_t nixu_fault_text(uint32_t fault, uint8_t *out, size_t room, size_t *needed);
 
+/* ---- a node: one process of a run that logs messages causally ---- */
+
+/* The caller moves bytes between processes, passes the time, keeps the recording and stable storage (docs/NODE.md). The
+   library does no input or output, and reads no clock.
+
+   A call that changes a node keeps in it what it returns, until the next such call succeeds: a line of the recording, a
+   parcel for another process, the body of a message, the determinants that are listed. nixu_node_line, _parcel, _body
+   and _listed write them, as often as is needed. Write the line to the recording before the parcel leaves, and before
+   the process acts on the body.
+
+   `now` is the time in microseconds. Parcels carry clocks, so a node is never behind what it has received.
+
+   NIXU_FAULT: `fault` is the number of the refusal, one of those below: the first of a call's list that applies. After
+   NIXU_FAULT, NIXU_NO_MEMORY, NIXU_MISUSED and NIXU_CLOSED the node is unchanged, and the call can be made again. */
+
+/* Zero it before its first use, as a reader; it may be moved but not copied. An open node owns memory until it is
+   closed. */
+typedef struct nixu_node {
+  void *held;
+  uint32_t full;
+} nixu_node;
+
+typedef struct nixu_node_identity {
+  uint64_t run;       /* a number that no other run has */
+  uint64_t clock;     /* the greatest clock of the process's recording; 0 if it is new */
+  uint64_t seed;      /* a number that strangers do not know, for hash tables; only costs depend on it */
+  uint32_t lane;      /* 0 if the recording is new; else one more than the number of its restarts */
+  uint16_t processes; /* the number of processes, at most 256 */
+  uint16_t faults;    /* the number of processes that may be down at once */
+  uint8_t process;    /* this process, from 0 */
+} nixu_node_identity;
+
+/* Opens the node of a process. In lane 0 it is up. In a later lane it has to recover first: nixu_node_begin_round.
+
+   NIXU_OK. NIXU_FAULT: NIXU_NODE_CLOCK, NIXU_NODE_NO_PROCESS (too many processes, or `process` is none of them).
+   NIXU_MISUSED: it is already open. NIXU_NO_MEMORY. */
+uint32_t nixu_node_open(nixu_node *node, const nixu_node_identity *identity, uint32_t *fault);
+
+/* Closes a node and frees its memory. Does nothing if it is zeroed or closed. */
+void nixu_node_close(nixu_node *node);
+
+/* ---- messages ---- */
+
+typedef struct nixu_node_sent {
+  uint64_t clock; /* the clock of the send */
+  size_t parcel;  /* the length of the parcel */
+  uint32_t ssn;   /* the message's send sequence number */
+} nixu_node_sent;
+
+/* Sends a message to process `to`. Keeps it, its line and its parcel.
+
+   NIXU_OK: `sent` is written. NIXU_FAULT: NIXU_NODE_NOT_UP, NIXU_NODE_NO_PROCESS, NIXU_NODE_FULL, NIXU_NODE_LONG,
+   NIXU_NODE_CLOCK. NIXU_NO_MEMORY. NIXU_CLOSED. */
+uint32_t nixu_node_send(nixu_node *node, uint64_t now, uint8_t to, const uint8_t *body, size_t length,
+                        nixu_node_sent *sent, uint32_t *fault);
+
+#define NIXU_RECEIVED_MESSAGE         0 /* a message was delivered: its line and its body are kept */
+#define NIXU_RECEIVED_ACKNOWLEDGEMENT 1 /* `source` holds determinants */
+#define NIXU_RECEIVED_QUESTION        2 /* `source` recovers: the parcel that replies to it is kept */
+#define NIXU_RECEIVED_LOG             3 /* `source` has replied with its log */
+#define NIXU_RECEIVED_NUMBER          4 /* `source` has replied with its lane: the round is given up; begin another */
+#define NIXU_RECEIVED_NOT_UP          5 /* `source` has replied that it is not up; the round may be given up */
+
+/* What was received. A field that its kind does not use is 0. */
+typedef struct nixu_node_received {
+  uint64_t clock;  /* message: the clock of the delivery */
+  size_t body;     /* message: the length of its body */
+  size_t parcel;   /* question: the length of the reply */
+  size_t listed;   /* message: the number of determinants that the delivery lists */
+  uint32_t kind;   /* one of the six above */
+  uint32_t ssn;    /* message: its send sequence number */
+  uint32_t rsn;    /* message: its receive sequence number */
+  uint32_t lane;   /* message: the lane (incarnation) of its sender */
+  uint8_t source;  /* the process that has sent the parcel */
+} nixu_node_received;
+
+/* Receives a parcel. After NIXU_NODE_NOT_UP, NIXU_NODE_MUST_REPLAY, NIXU_NODE_RESERVED and NIXU_NODE_NOT_YET it can be
+   received later; after another refusal never, so drop it.
+
+   NIXU_OK: `received` is written. NIXU_FAULT: NIXU_WIRE_SHORT to NIXU_WIRE_TRAILING (the first error of the bytes),
+   NIXU_NODE_NOT_MINE, NIXU_NODE_OWN_PARCEL; and
+   - of a message NIXU_NODE_NOT_UP, NIXU_NODE_NO_PROCESS, NIXU_NODE_OLD_LANE, NIXU_NODE_DUPLICATE,
+     NIXU_NODE_MUST_REPLAY, NIXU_NODE_RESERVED, NIXU_NODE_FULL, NIXU_NODE_CLOCK;
+   - of an acknowledgement NIXU_NODE_NOT_UP, NIXU_NODE_NO_PROCESS, NIXU_NODE_OLD_LANE;
+   - of a question NIXU_NODE_NO_PROCESS, NIXU_NODE_VIEW, NIXU_NODE_OLD_LANE, NIXU_NODE_NOT_YET, NIXU_NODE_CLOCK;
+   - of a reply NIXU_NODE_UP, NIXU_NODE_UNASKED.
+   NIXU_NO_MEMORY. NIXU_CLOSED. */
+uint32_t nixu_node_receive(nixu_node *node, uint64_t now, const uint8_t *bytes, size_t length,
+                           nixu_node_received *received, uint32_t *fault);
+
+typedef struct nixu_node_message {
+  uint32_t ssn;   /* its send sequence number */
+  uint8_t exists; /* 1; or 0 if there is no such message, and the other fields are 0 */
+  uint8_t source; /* its sender */
+} nixu_node_message;
+
+/* Writes which message has to be delivered next, if the log names one: all others are NIXU_NODE_MUST_REPLAY.
+
+   NIXU_OK: `due` is written. NIXU_CLOSED. */
+uint32_t nixu_node_due(nixu_node *node, nixu_node_message *due);
+
+/* Writes to which process the message number `ssn` was sent: the messages of the present lane are kept.
+
+   NIXU_OK: `to` is written. NIXU_MISUSED: there is no such message. NIXU_CLOSED. */
+uint32_t nixu_node_receiver(nixu_node *node, uint32_t ssn, uint8_t *to);
+
+/* Keeps the parcel of the message number `ssn` again, for a receiver that may have lost it: the receiver drops what it
+   has delivered. It has no line.
+
+   NIXU_OK. NIXU_FAULT: NIXU_NODE_LONG. NIXU_MISUSED: there is no such message. NIXU_NO_MEMORY. NIXU_CLOSED. */
+uint32_t nixu_node_resend(nixu_node *node, uint32_t ssn, uint32_t *fault);
+
+/* Keeps the parcel of an acknowledgement to process `to`: of the `count` determinants, in ascending order, those that
+   are logged, with their known holders. Usually to a message's sender, of what the delivery lists.
+
+   NIXU_OK. NIXU_FAULT: NIXU_NODE_NOT_UP, NIXU_NODE_NO_PROCESS, NIXU_NODE_LONG, NIXU_NODE_CLOCK. NIXU_MISUSED: the
+   determinants do not ascend. NIXU_NO_MEMORY. NIXU_CLOSED. */
+uint32_t nixu_node_acknowledge(nixu_node *node, uint64_t now, uint8_t to, const nixu_determinant *listed, size_t count,
+                               uint32_t *fault);
+
+/* ---- what the last call has kept; a kind of which it has kept nothing has 0 elements ---- */
+
+/* Writes the line of the recording, with its line feed: of a send, a delivery, nixu_node_stored, a restart, and a
+   forgetting that lists a determinant.
+
+   NIXU_OK: the bytes are written. NIXU_NO_MEMORY. NIXU_CLOSED. */
+uint32_t nixu_node_line(nixu_node *node, uint8_t *out, size_t room, size_t *needed);
+
+/* Writes the parcel for another process: of a send, a question, the reply to one, an acknowledgement, a resend.
+
+   NIXU_OK: the bytes are written. NIXU_CLOSED. */
+uint32_t nixu_node_parcel(nixu_node *node, uint8_t *out, size_t room, size_t *needed);
+
+/* Writes the body of the message that was delivered.
+
+   NIXU_OK: the bytes are written. NIXU_CLOSED. */
+uint32_t nixu_node_body(nixu_node *node, uint8_t *out, size_t room, size_t *needed);
+
+/* Writes the determinants that a delivery, a restart or a forgetting lists, ascending: as many as fit to `out`, and
+   their total number to `needed`.
+
+   NIXU_OK: they are written. NIXU_CLOSED. */
+uint32_t nixu_node_listed(nixu_node *node, nixu_determinant *out, size_t room, size_t *needed);
+
+/* ---- stable storage ---- */
+
+/* Writes the determinants that the node logs and does not know to be stable, as nixu_node_listed does.
+
+   NIXU_OK: they are written. NIXU_NO_MEMORY. NIXU_CLOSED. */
+uint32_t nixu_node_unstored(nixu_node *node, nixu_determinant *out, size_t room, size_t *needed);
+
+/* Stable storage has this determinant: it has confirmed a write, or it was read for a recovery once all processes had
+   replied. Keeps the line.
+
+   NIXU_OK. NIXU_FAULT: NIXU_NODE_NO_ROUND, NIXU_NODE_WAITING, NIXU_NODE_CLOCK. NIXU_NO_MEMORY. NIXU_CLOSED. */
+uint32_t nixu_node_stored(nixu_node *node, uint64_t now, const nixu_determinant *determinant, uint32_t *fault);
+
+/* Removes from the log what is known to be stable, except of deliveries that have still to be made. Keeps the line,
+   unless nothing is listed, and the list.
+
+   NIXU_OK. NIXU_FAULT: NIXU_NODE_NOT_UP, NIXU_NODE_CLOCK. NIXU_NO_MEMORY. NIXU_CLOSED. */
+uint32_t nixu_node_forget(nixu_node *node, uint64_t now, uint32_t *fault);
+
+/* ---- recovery ---- */
+
+/* Begins a round with a name that no other round of the process has had, also in earlier lanes. An earlier round is
+   given up. Each other process has to be asked.
+
+   NIXU_OK. NIXU_FAULT: NIXU_NODE_UP. NIXU_NO_MEMORY. NIXU_CLOSED. */
+uint32_t nixu_node_begin_round(nixu_node *node, uint64_t round, uint32_t *fault);
+
+/* Keeps the parcel of the round's question to process `to`, which may be asked again.
+
+   NIXU_OK. NIXU_FAULT: NIXU_NODE_UP, NIXU_NODE_NO_ROUND, NIXU_NODE_NO_PROCESS, NIXU_NODE_CLOCK. NIXU_NO_MEMORY.
+   NIXU_CLOSED. */
+uint32_t nixu_node_question(nixu_node *node, uint64_t now, uint8_t to, uint32_t *fault);
+
+/* Writes 1 for each process that has still to reply to the round, 0 for the others.
+
+   NIXU_OK: `processes` is written. NIXU_CLOSED. */
+uint32_t nixu_node_awaited(nixu_node *node, uint8_t processes[256]);
+
+/* Writes the least lane of each process that is accepted, as many as fit to `out`, and their number to `needed`. While
+   the node is not up, they are the view of its round: once stable storage is read for it, it refuses writes of lesser
+   lanes.
+
+   NIXU_OK: they are written. NIXU_CLOSED. */
+uint32_t nixu_node_view(nixu_node *node, uint32_t *out, size_t room, size_t *needed);
+
+/* Takes from the caller, who knows that process `who` has ended and how often it has restarted, that it is not up and
+   that `lane` is its next lane: in the place of its reply to the round. The round may be given up, since its questions
+   had another lane; begin another.
+
+   NIXU_OK. NIXU_FAULT: NIXU_NODE_UP, NIXU_NODE_UNASKED. NIXU_NO_MEMORY. NIXU_CLOSED. */
+uint32_t nixu_node_take_ended(nixu_node *node, uint64_t round, uint8_t who, uint32_t lane, uint32_t *fault);
+
+/* Ends the reading of stable storage for the round, after nixu_node_stored for each determinant that it has.
+
+   NIXU_OK. NIXU_FAULT: NIXU_NODE_UP, NIXU_NODE_UNASKED, NIXU_NODE_WAITING. NIXU_CLOSED. */
+uint32_t nixu_node_finish_read(nixu_node *node, uint64_t round, uint32_t *fault);
+
+/* Restarts: the process is up, with what its round has gathered. Keeps the line and the list.
+
+   NIXU_OK. NIXU_FAULT: NIXU_NODE_UP, NIXU_NODE_NO_ROUND, NIXU_NODE_WAITING, NIXU_NODE_CLOCK. NIXU_NO_MEMORY.
+   NIXU_CLOSED. */
+uint32_t nixu_node_restart(nixu_node *node, uint64_t now, uint32_t *fault);
+
+/* ---- other lines of the recording, and the state ---- */
+
+/* Writes the header line of the process's recording, with its line feed. An opening of the recording begins with a line
+   feed and this line.
+
+   NIXU_OK: the bytes are written. NIXU_NO_MEMORY. NIXU_CLOSED. */
+uint32_t nixu_node_header(nixu_node *node, uint8_t *out, size_t room, size_t *needed);
+
+/* Writes the line of a crash of `process`, with its line feed, for whoever has seen the process end. `clock` is above
+   each of its recording.
+
+   NIXU_OK: the bytes are written. NIXU_NO_MEMORY. */
+uint32_t nixu_crash_line(uint8_t process, uint64_t clock, uint8_t *out, size_t room, size_t *needed);
+
+#define NIXU_STAGE_UP        0 /* it sends and receives messages */
+#define NIXU_STAGE_DOWN      1 /* a round has to begin */
+#define NIXU_STAGE_GATHERING 2 /* processes have still to reply to the round */
+#define NIXU_STAGE_READING   3 /* all have replied; stable storage has to be read */
+#define NIXU_STAGE_READY     4 /* it can restart */
+
+typedef struct nixu_node_state {
+  uint64_t clock;    /* the greatest clock so far */
+  uint64_t round;    /* the name of the round; 0 if there is none */
+  uint32_t stage;    /* one of the five above */
+  uint32_t lane;     /* the lane (incarnation); the next one if it is not up */
+  uint32_t logged;   /* the number of determinants in the log */
+  uint32_t sent;     /* the number of messages of the lane that were sent, and are kept */
+  uint32_t received; /* the number of messages that were delivered in the lane, whose names are kept */
+} nixu_node_state;
+
+/* Writes the state of a node, and how much it holds.
+
+   NIXU_OK: `state` is written. NIXU_CLOSED. */
+uint32_t nixu_node_inspect(nixu_node *node, nixu_node_state *state);
+
+/* ---- refusals of a node ---- */
+
+#define NIXU_WIRE_SHORT        32 /* the bytes end too early */
+#define NIXU_WIRE_VERSION      33 /* another version of the format */
+#define NIXU_WIRE_KIND         34 /* no such kind of parcel */
+#define NIXU_WIRE_RUN          35 /* a parcel of another run, or its number of processes or of faults differs */
+#define NIXU_WIRE_PROCESS      36 /* there is no such process */
+#define NIXU_WIRE_CLOCK        37 /* the clock is 2^62 or greater */
+#define NIXU_WIRE_UNSORTED     38 /* the determinants do not ascend */
+#define NIXU_WIRE_HOLDER       39 /* the holders do not ascend, or the source is among them */
+#define NIXU_WIRE_FLAG         40 /* a flag is neither 0 nor 1 */
+#define NIXU_WIRE_TRAILING     41 /* bytes follow the end */
+#define NIXU_NODE_NOT_MINE     64 /* the parcel is for another process */
+#define NIXU_NODE_OWN_PARCEL   65 /* the parcel is from this process itself */
+#define NIXU_NODE_LONG         66 /* the body has 2^32 bytes or more, or there are as many determinants */
+#define NIXU_NODE_CLOCK        67 /* the clock would be 2^62 or greater */
+#define NIXU_NODE_NO_PROCESS   68 /* there is no such process */
+#define NIXU_NODE_NOT_UP       69 /* the process is not up */
+#define NIXU_NODE_UP           70 /* the process is up */
+#define NIXU_NODE_NO_ROUND     71 /* no round has begun */
+#define NIXU_NODE_UNASKED      72 /* the reply is to another round, or the process has replied */
+#define NIXU_NODE_OLD_LANE     73 /* the lane is not accepted any more */
+#define NIXU_NODE_DUPLICATE    74 /* the message has been delivered */
+#define NIXU_NODE_MUST_REPLAY  75 /* another message has to be delivered first: nixu_node_due */
+#define NIXU_NODE_RESERVED     76 /* the message has to be delivered later */
+#define NIXU_NODE_VIEW         77 /* the question has another number of processes */
+#define NIXU_NODE_NOT_YET      78 /* this process recovers too, and goes before the one that asks */
+#define NIXU_NODE_WAITING      79 /* a process or stable storage has still to reply */
+#define NIXU_NODE_FULL         80 /* a limit would be exceeded */
+
+/* Writes the sentence for the number of a refusal, as nixu_fault_text does.
+
+   NIXU_OK: the bytes are written. NIXU_MISUSED: no refusal has the number. */
+uint32_t nixu_node_fault_text(uint32_t fault, uint8_t *out, size_t room, size_t *needed);
+
 /* ---- the layout, checked by each compiler that reads this ---- */
 
 #define NIXU_CHECKED(name, test) typedef char nixu_checked_##name[(test) ? 1 : -1]
@@ -302,6 +579,37 @@ NIXU_CHECKED(stray_second, offsetof(nixu_stray, second) == 16);
 NIXU_CHECKED(stray_line, offsetof(nixu_stray, line) == 20);
 NIXU_CHECKED(stray_fault, offsetof(nixu_stray, fault) == 24);
 NIXU_CHECKED(stray_process, offsetof(nixu_stray, process) == 28);
+
+NIXU_CHECKED(node, sizeof(nixu_node) == 16 && offsetof(nixu_node, held) == 0 && offsetof(nixu_node, full) == 8);
+NIXU_CHECKED(identity, sizeof(nixu_node_identity) == 40 && offsetof(nixu_node_identity, run) == 0);
+NIXU_CHECKED(identity_clock, offsetof(nixu_node_identity, clock) == 8);
+NIXU_CHECKED(identity_seed, offsetof(nixu_node_identity, seed) == 16);
+NIXU_CHECKED(identity_lane, offsetof(nixu_node_identity, lane) == 24);
+NIXU_CHECKED(identity_processes, offsetof(nixu_node_identity, processes) == 28);
+NIXU_CHECKED(identity_faults, offsetof(nixu_node_identity, faults) == 30);
+NIXU_CHECKED(identity_process, offsetof(nixu_node_identity, process) == 32);
+NIXU_CHECKED(sent, sizeof(nixu_node_sent) == 24 && offsetof(nixu_node_sent, clock) == 0);
+NIXU_CHECKED(sent_parcel, offsetof(nixu_node_sent, parcel) == 8);
+NIXU_CHECKED(sent_ssn, offsetof(nixu_node_sent, ssn) == 16);
+NIXU_CHECKED(received, sizeof(nixu_node_received) == 56 && offsetof(nixu_node_received, clock) == 0);
+NIXU_CHECKED(received_body, offsetof(nixu_node_received, body) == 8);
+NIXU_CHECKED(received_parcel, offsetof(nixu_node_received, parcel) == 16);
+NIXU_CHECKED(received_listed, offsetof(nixu_node_received, listed) == 24);
+NIXU_CHECKED(received_kind, offsetof(nixu_node_received, kind) == 32);
+NIXU_CHECKED(received_ssn, offsetof(nixu_node_received, ssn) == 36);
+NIXU_CHECKED(received_rsn, offsetof(nixu_node_received, rsn) == 40);
+NIXU_CHECKED(received_lane, offsetof(nixu_node_received, lane) == 44);
+NIXU_CHECKED(received_source, offsetof(nixu_node_received, source) == 48);
+NIXU_CHECKED(message, sizeof(nixu_node_message) == 8 && offsetof(nixu_node_message, ssn) == 0);
+NIXU_CHECKED(message_exists, offsetof(nixu_node_message, exists) == 4);
+NIXU_CHECKED(message_source, offsetof(nixu_node_message, source) == 5);
+NIXU_CHECKED(state, sizeof(nixu_node_state) == 40 && offsetof(nixu_node_state, clock) == 0);
+NIXU_CHECKED(state_round, offsetof(nixu_node_state, round) == 8);
+NIXU_CHECKED(state_stage, offsetof(nixu_node_state, stage) == 16);
+NIXU_CHECKED(state_lane, offsetof(nixu_node_state, lane) == 20);
+NIXU_CHECKED(state_logged, offsetof(nixu_node_state, logged) == 24);
+NIXU_CHECKED(state_sent, offsetof(nixu_node_state, sent) == 28);
+NIXU_CHECKED(state_received, offsetof(nixu_node_state, received) == 32);
 
 #ifdef __cplusplus
 }

@@ -8,7 +8,7 @@ use Rattle.std_heap.specs.contracts.GlobalAllocator.TheImpl.{ghosts, dict}
 use Rattle.std_heap.proofs.Global.TheLaws as heap
 use Rattle.nixu.specs.contracts.handle_content.HandleContent as Content
 use Rattle.nixu.proofs.handle_content.HandleContent.TheLaws as content
-use Rattle.nixu.specs.contracts.parts.Parts as Parts
+use Rattle.nixu_boundary.specs.contracts.parts.Parts as Parts
 use Rattle.nixu.specs.contracts.handle.OwnedBox as Held
 
 abbrev pub E : Bx

@@ -1,4 +1,2 @@
 mod AsBox
 mod Each
-mod Moves
-mod PartsValues

@@ -1,8 +1,6 @@
 -- The C struct of a verdict, or of the first error of a text.
-use Rattle.std.specs.Prelude.{◌≡◌, ℕ, List, map, if◌then◌else◌}
-use Rattle.std.specs.List.{range_with_len}
-use Rattle.std.specs.Ordering.{nat_cmp}
-use Rattle.std.specs.FinSet.{FinSet, contains, empty}
+use Rattle.std.specs.Prelude.{◌≡◌, ℕ, List}
+use Rattle.std.specs.FinSet.{empty}
 use Rattle.causal_trace.specs.Limits.{default_entries}
 use Rattle.causal_line.specs.declared.kind.TextFault.{TextFault}
 use Rattle.causal_text.specs.Spelling.{IsFirstFaultWithin}
@@ -10,12 +8,9 @@ use Rattle.causal_audit.specs.declared.verdict.Verdict.{Verdict}
 use Rattle.causal_audit.specs.declared.verdict.Verdict.TheVariants.{Accept, Exceeded, Orphan}
 use Rattle.causal_workers.specs.declared.judgement.Judged.{Judged}
 use Rattle.causal_workers.specs.Judgements.{IsJudgement}
+use Rattle.nixu_boundary.specs.Flags.{flags}
 use Rattle.nixu.specs.declared.c_verdict.CVerdict.{CVerdict}
 use Rattle.nixu.specs.Numbers.{kind_number}
-
--- one byte for each process: 1 for members of the set, 0 for others
-unfoldable pub flags : FinSet nat_cmp → List ℕ
-flags set = map (λ p. if contains set p then 1 else 0) (range_with_len 0 256)
 
 -- the struct of a verdict on a trace with these numbers of entries and deliveries
 abbrev pub c_verdict_with_counts : ℕ → ℕ → Verdict → CVerdict

@@ -1,6 +1,5 @@
 -- Entries in C's layout, and the traces to which they are pushed.
 use Rattle.std.specs.Prelude.{◌≡◌, ◌==◌, ℕ, List, [], ◌∷◌, map, if◌then◌else◌, Option, Some, None}
-use Rattle.causal_name.specs.declared.Det.{Det}
 use Rattle.causal_trace.specs.declared.entry.Entry.{Entry}
 use Rattle.causal_trace.specs.declared.entry.Entry.TheVariants.{Send, Deliver, Stable, Crash, Restart, Forget}
 use Rattle.causal_trace.specs.declared.fault.TraceFault.{TraceFault}
@@ -9,13 +8,10 @@ use Rattle.causal_trace.specs.State.{with_entry}
 use Rattle.causal_line.specs.Kinds.{text_kind_of}
 use Rattle.nixu.specs.declared.handle_content.HandleContent.{HandleContent}
 use Rattle.nixu.specs.declared.handle_content.HandleContent.TheVariants.{Reader, Trace}
-use Rattle.nixu.specs.declared.c_entry.CDeterminant.{CDeterminant}
+use Rattle.nixu_boundary.specs.declared.c_determinant.CDeterminant.{CDeterminant}
+use Rattle.nixu_boundary.specs.Determinants.{det_of}
 use Rattle.nixu.specs.declared.c_entry.CEntry.{CEntry}
 use Rattle.nixu.specs.Numbers.{kind_number}
-
--- the determinant in a C struct
-abbrev pub det_of : CDeterminant → Det
-det_of d = record { source = record { 0 = d.source }; ssn = d.ssn; dest = record { 0 = d.dest }; rsn = d.rsn }
 
 -- the entry, if its kind lists no determinants
 abbrev pub plain_entry : CEntry → Option Entry

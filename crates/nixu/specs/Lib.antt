@@ -5,7 +5,6 @@ pub mod OpenReaders
 pub mod Handles
 pub mod Limits
 pub mod Numbers
-pub mod Buffers
 pub mod CVerdicts
 pub mod CStrays
 pub mod Views

@@ -3,7 +3,7 @@ use Rattle.std.specs.Prelude.{◌≡◌, ◌<◌, ◌⊎◌, ℕ, List}
 use Rattle.causal_line.specs.declared.kind.TextKind.{TextKind}
 use Rattle.causal_line.specs.declared.kind.TextKind.TheVariants as kind
 use Rattle.causal_line.specs.Sentences.{kind_sentence}
-use Rattle.nixu.specs.Buffers.{IsCopiedOut}
+use Rattle.nixu_boundary.specs.Buffers.{IsCopiedOut}
 
 -- from 1 in the order in which errors are checked; 0 for `NoMemory`, which is not an error of a text
 abbrev pub kind_number : TextKind → ℕ

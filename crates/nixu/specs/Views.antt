@@ -8,11 +8,11 @@ use Rattle.causal_report.specs.Drawings.{IsDrawing}
 use Rattle.causal_report.specs.Reasons.{IsReason}
 use Rattle.causal_workers.specs.declared.judgement.Judged.{Judged}
 use Rattle.causal_workers.specs.Lines.{verdict_line}
-use Rattle.nixu.specs.declared.status.TheConstants.{OK, FAULT, NO_MEMORY}
+use Rattle.nixu_boundary.specs.declared.status.TheConstants.{OK, FAULT, NO_MEMORY}
 use Rattle.nixu.specs.declared.views.View.{View}
 use Rattle.nixu.specs.declared.views.View.TheVariants.{Line, Reason, Picture}
 use Rattle.nixu.specs.VerdictArrays.{IsJudged}
-use Rattle.nixu.specs.Buffers.{CopiesOut, IsUntouched}
+use Rattle.nixu_boundary.specs.Buffers.{CopiesOut, IsUntouched}
 
 -- the bytes of a view, for a verdict with counts: the verdict's line, that line and its explanation, or a picture
 abbrev pub IsViewText : View → Recording → ℕ → Judged → List ℕ → Type 0

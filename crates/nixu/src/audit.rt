@@ -5,9 +5,9 @@ ghost use Rattle.nixu.specs.CVerdicts.{IsVerdictOfText, IsFaultOfText};
 
 use crate::c_verdict::{CVerdict, c_fault_verdict, c_verdict_of};
 use crate::judgement::{TextError, judge_text, judge_trace, parse_trace};
-use crate::status::{FAULT, MISUSED, NO_MEMORY, OK};
 use causal_name::NoMemory;
 use causal_trace::Trace;
+use nixu_boundary::status::{FAULT, MISUSED, NO_MEMORY, OK};
 use std::alloc::Global;
 
 /// Returns the version of this interface. It fixes the layouts and numbers of nixu.h.

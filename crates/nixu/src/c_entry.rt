@@ -1,24 +1,11 @@
-//! Entries of a trace, in the layout of `nixu_entry` and `nixu_determinant` in nixu.h.
-ghost use Rattle.std.specs.Prelude.{◌≡◌, IfOk, map};
-ghost use Rattle.nixu.specs.Entries.{det_of, plain_entry, listing_entry, entry_of};
+//! Entries of a trace, in the layout of `nixu_entry` in nixu.h.
+ghost use Rattle.std.specs.Prelude.{◌≡◌, IfOk};
+ghost use Rattle.nixu.specs.Entries.{plain_entry, listing_entry, entry_of};
 
 use causal_name::{Det, NoMemory, Pid};
 use causal_trace::{Dets, Entry};
+use nixu_boundary::c_determinant::{CDeterminant, dets_of};
 use std::alloc::Global;
-
-/// A determinant.
-#[repr(C)]
-#[derive(Clone, Copy)]
-pub struct CDeterminant {
-    /// The send sequence number.
-    pub ssn: u32,
-    /// The receive sequence number.
-    pub rsn: u32,
-    /// The message's sender.
-    pub source: u8,
-    /// The receiver.
-    pub dest: u8,
-}
 
 /// An entry without the determinants that it lists. A field that the kind does not use is not read.
 #[repr(C)]
@@ -108,17 +95,4 @@ fn listing_entry(
         }),
         _ => None,
     })
-}
-
-/// Converts the listed determinants.
-fn dets_of(alloc: Global, listed: &[CDeterminant]) -> Result<Vec<Det>, NoMemory>
-    ensures { IfOk result (λ dets. dets.items ≡ map det_of listed.now) }
-{
-    let dets = listed.iter().map(|determinant| Det {
-        source: Pid(determinant.source),
-        ssn: determinant.ssn,
-        dest: Pid(determinant.dest),
-        rsn: determinant.rsn,
-    });
-    Ok(dets.collect(alloc)?)
 }

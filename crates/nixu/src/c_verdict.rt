@@ -1,12 +1,13 @@
 //! Verdicts, in the layout of `nixu_verdict` in nixu.h.
 ghost use Rattle.std.specs.Prelude.{◌≡◌};
-ghost use Rattle.nixu.specs.CVerdicts.{flags, c_verdict_of, c_fault_verdict};
+ghost use Rattle.nixu.specs.CVerdicts.{c_verdict_of, c_fault_verdict};
 
 use crate::numbers::number_of;
 use causal_audit::Verdict;
 use causal_holders::Holders;
 use causal_text::TextFault;
 use causal_workers::Judged;
+use nixu_boundary::flags::flags_of;
 
 /// The verdict on a trace, or the first error of a text that does not spell one.
 ///
@@ -33,17 +34,6 @@ pub struct CVerdict {
     pub fault: u32,
     /// 1 for each process that is down, or in the crash set; 0 for the others.
     pub processes: [u8; 256],
-}
-
-/// One byte for each process: 1 if it is in the set.
-fn flags_of(set: Holders) -> [u8; 256]
-    ensures { result ≡ flags set }
-{
-    let mut flags = [0u8; 256];
-    for process in 0..256usize {
-        flags[process] = u8::from(set.contains(process as u8));
-    }
-    flags
 }
 
 /// The struct of a verdict with the counts of its trace.

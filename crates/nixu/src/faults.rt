@@ -1,11 +1,11 @@
 //! The sentences for the numbers of errors.
 ghost use Rattle.std.specs.Prelude.{◌≡◌, ◌<◌, ◌⊎◌, IfSome};
 ghost use Rattle.nixu.specs.Numbers.{kind_number, IsNoFault, CopiesOutSentence};
-ghost use Rattle.nixu.specs.Buffers.{IsUntouched};
+ghost use Rattle.nixu_boundary.specs.Buffers.{IsUntouched};
 
-use crate::buffer::copy_out;
-use crate::status::{MISUSED, OK};
 use causal_text::TextKind;
+use nixu_boundary::buffer::copy_out;
+use nixu_boundary::status::{MISUSED, OK};
 
 /// Writes the sentence for an error's number to `out`, without a line feed, as much of it as fits, and its whole length
 /// to `needed`.

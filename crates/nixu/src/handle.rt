@@ -4,8 +4,8 @@ ghost use Rattle.nixu.specs.declared.handle_content.HandleContent.{HandleContent
 ghost use Rattle.nixu.specs.Handles.{held_owns, held_coded, count_of};
 
 use crate::handle_content::HandleContent;
-use crate::parts::Parts;
-use crate::status::{NO_MEMORY, OK};
+use nixu_boundary::parts::Parts;
+use nixu_boundary::status::{NO_MEMORY, OK};
 use std::alloc::Global;
 use std::marker::Model;
 use std::mem;

@@ -23,16 +23,10 @@ pub mod handle_content;
 mod limits;
 /// The numbers of errors.
 mod numbers;
-/// A box as its pointer.
-mod parts;
 /// Readers of texts that arrive in pieces.
 pub mod reader;
 /// Traces that are built entry by entry.
 pub mod recorder;
-/// Writing into a caller's buffer.
-mod buffer;
-/// The statuses that calls return.
-pub mod status;
 /// Entries in C's layout.
 pub mod c_entry;
 /// Verdicts in C's layout.

@@ -12,10 +12,10 @@ use crate::c_verdict::{CVerdict, c_fault_verdict};
 use crate::handle::Handle;
 use crate::handle_content::HandleContent;
 use crate::limits::limits_of;
-use crate::status::{CLOSED, FAULT, MISUSED, NO_MEMORY, OK};
 use causal_text::{PushReader, TextFault, TextKind};
 use causal_trace::limits::{DEFAULT_LIMITS, Limits};
 use causal_trace::trace::Trace;
+use nixu_boundary::status::{CLOSED, FAULT, MISUSED, NO_MEMORY, OK};
 use std::alloc::Global;
 use std::mem;
 

@@ -5,21 +5,22 @@ ghost use Rattle.causal_trace.specs.Limits.{IsProcessCount, default_entries};
 ghost use Rattle.nixu.specs.VerdictArrays.{IsVerdictStruct};
 ghost use Rattle.nixu.specs.Entries.{entry_of, entry_limit_in, recording_in, OfTrace, CanPush, CanPushIn, IsFaultNumberOf, IsFaultNumberIn};
 ghost use Rattle.nixu.specs.Limits.{IsEntryCount};
-ghost use Rattle.nixu.specs.Buffers.{IsCopiedOut, IsUntouched};
+ghost use Rattle.nixu_boundary.specs.Buffers.{IsCopiedOut, IsUntouched};
 
 use crate::audit::verdict_for;
-use crate::buffer::copy_out;
-use crate::c_entry::{CDeterminant, CEntry, entry_of};
+use crate::c_entry::{CEntry, entry_of};
 use crate::c_verdict::CVerdict;
 use crate::handle::Handle;
 use crate::handle_content::HandleContent;
 use crate::limits::limits_of;
 use crate::numbers::number_of;
-use crate::status::{CLOSED, FAULT, MISUSED, NO_MEMORY, OK};
 use causal_name::NoMemory;
 use causal_text::{TextKind, text_of};
 use causal_trace::limits::{DEFAULT_LIMITS, Limits};
 use causal_trace::{Entry, Trace, TraceFault};
+use nixu_boundary::buffer::copy_out;
+use nixu_boundary::c_determinant::CDeterminant;
+use nixu_boundary::status::{CLOSED, FAULT, MISUSED, NO_MEMORY, OK};
 use std::alloc::Global;
 
 /// Opens an empty trace of `processes` processes, 1 to 256, under the default limits.

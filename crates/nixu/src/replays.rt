@@ -7,10 +7,10 @@ use crate::c_stray::{CStray, c_fault_stray, c_stray_of};
 use crate::handle::Handle;
 use crate::handle_content::HandleContent;
 use crate::judgement::{TextError, parse_trace};
-use crate::status::{CLOSED, FAULT, NO_MEMORY, OK};
 use causal_name::NoMemory;
 use causal_replays::first_stray;
 use causal_trace::Trace;
+use nixu_boundary::status::{CLOSED, FAULT, NO_MEMORY, OK};
 use std::alloc::Global;
 
 /// Writes whether the recoveries of the run that a text spells follow what survives, with the first stray if they do not;

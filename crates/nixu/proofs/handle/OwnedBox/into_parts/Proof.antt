@@ -20,7 +20,7 @@ use denote.Triple.Walked.{says, Stays, stay_dropped, walk_of, ends_at, Goes-drop
 use Rattle.std.proofs.raw_atomic.Walks.{proved_at}
 use Rattle.std_alloc.proofs.BoxSteps.Form.{D, B, word, box_typed}
 use Rattle.nixu.proofs.AsBox.{E, FromHeld as From}
-use Rattle.nixu.proofs.Moves.{moved}
+use Rattle.nixu_boundary.proofs.Lemmas.Moves.{moved}
 use Rattle.nixu.specs.contracts.handle_content.HandleContent as Content
 use Rattle.nixu.specs.contracts.handle.OwnedBox as Held
 use Rattle.nixu.specs.contracts.handle.OwnedBox.into_parts as F
@@ -42,7 +42,7 @@ into_parts_spec 𝓤 𝓛 𝓜 𝓡 wired =
     let made : To.Denot = record { at = v.ptr; alloc = v.alloc; value = v.value } in
     let Post = (walk_of 𝓛 F.ended hs c).post z in
     rewrite ! 0 (λ (o : Option Content.the_row.Denot). ‵ (Held.the_row.own_val (record z.0.3.0 { value = o }) z.0.4.0)) is refl $ use1 𝓛 (‵ ((B E).own_val v z.0.4.0)) (id⊢ 𝓤 _) $ keep ! (0 ∷ []) $
-    by ! (moved 𝓛 v z.0.4.0 To made (λ (us : List Val). WpFn 𝓤 𝓛.H 𝓣.C 𝓣.Λ code.function (us ++ []) Post) (λ w. id⊢ 𝓤 _) (λ b o hv fa. let w = word E hv b o in
+    by ! (moved E 𝓛 v z.0.4.0 To made (λ (us : List Val). WpFn 𝓤 𝓛.H 𝓣.C 𝓣.Λ code.function (us ++ []) Post) (λ w. id⊢ 𝓤 _) (λ b o hv fa. let w = word E hv b o in
     qed 𝓛 (‵ (To.own_val made (w ∷ [])) ∷ []) ∵ enter ! 𝓣.C 𝓣.Λ code.function (w ∷ []) _ $ alloc_all ! (λ ls. pass_all ! refl (box_typed E hv b o fa, tt) $
     sets ! (of_opd ! (get_in ! (fld ! refl (stop !)) (sub ! 0 refl (whole !)))) refl (tt, tt) $ sets ! (of_opd ! (get_in ! (fld ! refl (stop !)) (sub ! 1 refl (whole !)))) refl fa $
     sets ! (of_opd ! (get ! refl)) refl (tt, tt) $ sets ! (agg ! (and_then ! (get ! refl) (and_then ! (get ! refl) (no_more !)))) refl (box_typed E hv b o fa) $ returns ! (look_at ! 0 refl) $ free_all ! refl $

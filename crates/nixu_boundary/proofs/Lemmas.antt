@@ -1,0 +1,2 @@
+-- Lemmas that the crates above may cite.
+pub mod Moves

@@ -1,0 +1,3 @@
+pub mod Lemmas
+mod Copies
+mod PartsValues

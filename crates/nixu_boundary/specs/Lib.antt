@@ -1,0 +1,3 @@
+pub mod Buffers
+pub mod Determinants
+pub mod Flags

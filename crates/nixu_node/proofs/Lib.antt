@@ -1,0 +1,3 @@
+mod AsBox
+mod Named
+mod Steps
