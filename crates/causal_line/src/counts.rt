@@ -12,14 +12,14 @@ use causal_trace::entry::Entry;
 use causal_trace::trace::Trace;
 
 /// Returns how many messages the process's present lane has sent. O(entries) time.
-pub(crate) fn sends(trace: &Trace, p: Pid) -> u32
+pub fn sends(trace: &Trace, p: Pid) -> u32
     ensures { result ≡ past.sends trace.now.recording.past p.0 }
 {
     counts_in(trace.entries(), p).sends
 }
 
 /// Returns how many messages the process's present lane has delivered. O(entries) time.
-pub(crate) fn deliveries(trace: &Trace, p: Pid) -> u32
+pub fn deliveries(trace: &Trace, p: Pid) -> u32
     ensures { result ≡ past.deliveries trace.now.recording.past p.0 }
 {
     counts_in(trace.entries(), p).deliveries

@@ -53,7 +53,7 @@ fn delivered_dets(alloc: Global, trace: &Trace) -> Result<BTreeSet<Det, Global>,
 }
 
 /// Checks whether an optional determinant is `det`.
-fn is_det(own: Option<Det>, det: Det) -> bool
+pub fn is_det(own: Option<Det>, det: Det) -> bool
     ensures { result ≡ is_det own det }
 {
     match own {
@@ -63,7 +63,7 @@ fn is_det(own: Option<Det>, det: Det) -> bool
 }
 
 /// Returns the determinants that an entry mentions.
-fn mentioned_dets(entry: &Entry) -> &[Det]
+pub fn mentioned_dets(entry: &Entry) -> &[Det]
     ensures { result.now ≡ mentioned_dets entry.now }
 {
     match entry {
@@ -77,7 +77,7 @@ fn mentioned_dets(entry: &Entry) -> &[Det]
 }
 
 /// Returns the entry's own determinant if it is a delivery of a recorded send.
-fn own_det(trace: &Trace, entry: &Entry) -> Option<Det>
+pub fn own_det(trace: &Trace, entry: &Entry) -> Option<Det>
     ensures { result ≡ det_of trace.now.recording.past entry.now }
 {
     let Entry::Deliver { to, send, rsn, .. } = entry else {

@@ -10,9 +10,9 @@
 /// The first error of a text, with its context.
 pub mod text_refusal;
 /// Counts of a process's present lane.
-mod counts;
+pub mod counts;
 /// Determinants that no delivery has.
-mod deliveries;
+pub mod deliveries;
 /// The fields of a line.
 pub mod fields;
 /// Error kinds.

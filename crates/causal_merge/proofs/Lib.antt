@@ -2,6 +2,7 @@ mod Looks
 pub mod MissingHeaders
 mod Outlines
 mod Prefixes
+mod RefusedEntries
 mod SendLemmas
 pub mod TornLemmas
 mod Wholes

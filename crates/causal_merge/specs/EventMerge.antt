@@ -17,7 +17,9 @@ use Rattle.causal_merge.specs.declared.event.EventAtLine.{EventAtLine}
 use Rattle.causal_merge.specs.declared.fault.MergeKind.{MergeKind}
 use Rattle.causal_merge.specs.declared.fault.MergeKind.TheVariants as kind
 use Rattle.causal_merge.specs.declared.fault.MergeFault.{MergeFault}
+use Rattle.causal_merge.specs.declared.fault_details.MergeDetail.{MergeDetail}
 use Rattle.causal_merge.specs.declared.sends.SendName.{SendName}
+use Rattle.causal_merge.specs.FaultDetails.{name_of, detail_of}
 
 -- whether two names are those of one send
 abbrev pub same_send : SendName → SendName → Bool
@@ -81,10 +83,14 @@ abbrev pub event_fault : ℕ → ℕ → List EventAtLine → List Entry → Rec
 event_fault most n before past e =
     first_fault_of (event_fault_before_push most n before past e) (option_map (λ f. kind.Line (text_kind_of f)) (fault_within most (record { processes = n; past = past }) (entry_of past e.process e.act)))
 
+-- the values that explain an error of this kind in an event
+abbrev pub event_detail : MergeKind → List Entry → RecordedEvent → Option MergeDetail
+event_detail k past e = detail_of k past (entry_of past e.process e.act) (name_of e.act)
+
 -- the entries with that of one more event, or the event's error
 abbrev pub with_event : List Entry → EventAtLine → Option MergeKind → Result (List Entry) MergeFault
 with_event past e None = Ok (entry_of past e.event.process e.event.act ∷ past)
-with_event past e (Some k) = Err (record { line = e.line; kind = k })
+with_event past e (Some k) = Err (record { line = e.line; kind = k; detail = event_detail k past e.event })
 
 -- the entries of these events in a run of n processes; else the error of the oldest event that has one
 abbrev pub merge_events_of : ℕ → ℕ → List EventAtLine → Result (List Entry) MergeFault

@@ -3,3 +3,4 @@ pub mod ParsedFiles
 pub mod Sends
 pub mod Values
 pub mod Merger
+pub mod OrderedRuns

@@ -3,10 +3,14 @@ pub mod TornLines
 pub mod ReadLines
 pub mod Reading
 pub mod Order
+pub mod FaultDetails
 pub mod EventMerge
+pub mod Origins
 pub mod Merges
+pub mod Maps
 pub mod FaultLine
 pub mod Hints
 pub mod Sentences
+pub mod DetailTexts
 pub mod Laws
 pub mod Inside

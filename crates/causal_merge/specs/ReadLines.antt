@@ -5,6 +5,8 @@ use Rattle.std.specs.Ordering.{nat_cmp}
 use Rattle.std.specs.FinSet.{FinSet, empty}
 use Rattle.causal_holders.specs.Members.{HasMembers}
 use Rattle.causal_merge.specs.declared.event.RunHeader.{RunHeader}
+use Rattle.causal_merge.specs.declared.fault.MergeKind.TheVariants.{NoHeader}
+use Rattle.causal_merge.specs.declared.fault.MergeFault.{MergeFault}
 use Rattle.causal_merge.specs.declared.event.EventAtLine.{EventAtLine}
 use Rattle.causal_merge.specs.declared.event.RecorderLine.{RecorderLine}
 use Rattle.causal_merge.specs.declared.event.RecorderLine.TheVariants as says
@@ -60,3 +62,7 @@ pub record LacksRun (said : List RecorderLine) (missing : FinSet nat_cmp) : Type
 -- a header is missing: there is none, or a process of the run has none
 abbrev pub LacksHeader : List RecorderLine → FinSet nat_cmp → Type 0
 LacksHeader said missing = LacksRun said missing ⊎ LacksHeaderOf said missing
+
+-- the error that these processes have no header
+abbrev pub header_fault : ℕ → FinSet nat_cmp → MergeFault
+header_fault line missing = record { line = line; kind = NoHeader missing; detail = None }

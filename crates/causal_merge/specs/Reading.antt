@@ -1,6 +1,6 @@
 -- The content of the lines of a text, or the first error of a line.
 -- `most` is the maximum number of entries of the trace.
-use Rattle.std.specs.Prelude.{ℕ, ◌+◌, ◌*◌, ◌==◌, ◌&&◌, nat_lt, min, if◌then◌else◌, List, [], ◌∷◌, length, sum_by, Option, unwrap_or, Result, Ok, Err, Bool}
+use Rattle.std.specs.Prelude.{ℕ, ◌+◌, ◌*◌, ◌==◌, ◌&&◌, nat_lt, min, if◌then◌else◌, List, [], ◌∷◌, length, sum_by, Option, None, unwrap_or, Result, Ok, Err, Bool}
 use Rattle.serde_json.specs.Data.{Data}
 use Rattle.causal_line.specs.declared.kind.TextKind.{TextKind}
 use Rattle.causal_line.specs.declared.kind.TextKind.TheVariants.{Big, Header, NoProcess}
@@ -49,7 +49,7 @@ next_line most first end line = if nat_lt (max_input_len most) end then Err Big 
 -- the content with one more line, or the error of that line
 abbrev pub with_line : List RecorderLine → Result RecorderLine TextKind → Result (List RecorderLine) MergeFault
 with_line said (Ok said_next) = Ok (said_next ∷ said)
-with_line said (Err k) = Err (record { line = length said + 1; kind = kind.Line k })
+with_line said (Err k) = Err (record { line = length said + 1; kind = kind.Line k; detail = None })
 
 -- the content of these lines, the newest first in both lists; else the error of the oldest line that has one
 abbrev pub read_all_lines : ℕ → List (List ℕ) → Result (List RecorderLine) MergeFault

@@ -1,4 +1,5 @@
 //! Why recorder files cannot be merged.
+use crate::fault_details::MergeDetail;
 use causal_holders::ByteSet;
 use causal_line::kind::TextKind;
 use std::fmt;
@@ -24,10 +25,13 @@ impl fmt::Display for MergeKind {
     }
 }
 
-/// Why recorder files cannot be merged: a line of the input, counted from 1, and what is wrong with it.
+/// Why recorder files cannot be merged: a line of the input, counted from 1, what is wrong with it, and the values that
+/// explain that.
 #[derive(Clone, Copy, Debug, PartialEq, Eq, Error)]
 #[error("line {line}: {kind}")]
 pub struct MergeFault {
     pub line: u32,
     pub kind: MergeKind,
+    /// None if the kind is enough.
+    pub detail: Option<MergeDetail>,
 }

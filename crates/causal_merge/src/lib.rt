@@ -9,6 +9,8 @@
 mod event;
 /// The errors of recorder files.
 pub mod fault;
+/// The values that explain an error.
+pub mod fault_details;
 /// The content of the lines read so far.
 mod parsed_files;
 /// Error messages, and possible causes.
@@ -19,24 +21,35 @@ pub mod limits;
 pub mod laws;
 /// Parses the bytes of a line.
 mod line_parser;
+/// The lines of a map.
+pub mod map;
 /// Merges recorder files into a trace.
 pub mod merge;
 /// Converts events in the merge order to entries.
 mod merger;
 /// The merge order of events.
 mod order;
+/// Where the entries of a merged trace come from.
+pub mod origins;
 /// Reads the lines of a text.
 mod input_reader;
 /// The printed line of an error.
 pub mod report;
+/// The error message with values.
+pub mod sentences;
 /// The position of each send.
-mod sends;
+pub mod sends;
 /// Blank and torn lines.
 mod torn_lines;
 /// The JSON value of a line.
 mod value;
 
 pub use fault::{MergeFault, MergeKind};
+pub use fault_details::MergeDetail;
 pub use limits::max_input_len;
-pub use merge::{MergedTrace, merge_text, merge_within};
+pub use map::{map_line, quoted_name, read_place};
+pub use merge::{MappedTrace, MergedTrace, merge_mapped, merge_text, merge_within};
+pub use origins::Origin;
 pub use report::fault_line;
+pub use sends::SendName;
+pub use sentences::sentence;

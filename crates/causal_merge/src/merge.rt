@@ -1,11 +1,16 @@
 //! Merges the recorder files of a run.
-ghost use Rattle.std.specs.Prelude.{◌≢◌, IfOk, IfErr};
-ghost use Rattle.causal_merge.specs.Merges.{Merges, MergesWithin, IsFirstFault, IsFirstFaultWithin};
+ghost use Rattle.std.specs.Prelude.{◌≡◌, ◌≢◌, ℕ, List, map, IfOk, IfErr};
+ghost use Rattle.causal_trace.specs.Limits.{IsProcessCount};
+ghost use Rattle.causal_merge.specs.Merges.{Merges, MergesFrom, MergesWithin, IsFirstFault, IsFirstFaultWithin};
+ghost use Rattle.causal_merge.specs.Origins.{origin_of};
+ghost use Rattle.causal_merge.specs.Inside.OrderedRuns.{IsOrderedRun};
 
+use crate::event::{EventAtLine, RunHeader};
 use crate::fault::{MergeFault, MergeKind};
 use crate::input_reader::read_lines;
 use crate::merger::merge_events;
 use crate::order::sort_events;
+use crate::origins::{Origin, origins_of};
 use crate::parsed_files::ParsedFiles;
 use causal_line::kind::TextKind;
 use causal_trace::limits::{DEFAULT_LIMITS, Limits};
@@ -44,6 +49,57 @@ pub fn merge_within(alloc: Global, text: &[u8], limits: Limits) -> Result<Merged
     ensures err { IfErr result (λ fault. fault.kind ≢ MergeKind.Line TextKind.NoMemory
         → IsFirstFaultWithin limits.entries text.now fault) }
 {
+    let ordered = order_run(alloc, text, limits)?;
+    merge_run(alloc, limits, ordered)
+}
+
+/// A merged trace, and where its entries come from.
+#[derive(Drop)]
+pub struct MappedTrace {
+    pub merged: MergedTrace,
+    /// The origins of the entries, in their order.
+    pub origins: Vec<Origin>,
+}
+
+/// Merges as `merge_within` does, and returns where each entry comes from, in 16 more bytes for each.
+pub fn merge_mapped(alloc: Global, text: &[u8], limits: Limits) -> Result<MappedTrace, MergeFault>
+    ensures ok { IfOk result (λ mapped. MergesFrom limits.entries text.now
+        mapped.merged.trace.recording mapped.merged.torn.items mapped.origins.items) }
+    ensures err { IfErr result (λ fault. fault.kind ≢ MergeKind.Line TextKind.NoMemory
+        → IsFirstFaultWithin limits.entries text.now fault) }
+{
+    let ordered = order_run(alloc, text, limits)?;
+    let Ok(origins) = origins_of(alloc, ordered.events.as_slice()) else {
+        return Err(no_memory());
+    };
+    let merged = merge_run(alloc, limits, ordered)?;
+    Ok(MappedTrace { merged, origins })
+}
+
+fn no_memory() -> MergeFault
+    ensures { result.kind ≡ MergeKind.Line TextKind.NoMemory }
+{
+    MergeFault {
+        line: 1,
+        kind: MergeKind::Line(TextKind::NoMemory),
+        detail: None,
+    }
+}
+
+/// The events of a run in the merge order, and the torn lines.
+#[derive(Drop)]
+struct OrderedRun {
+    run: RunHeader,
+    events: Vec<EventAtLine>,
+    torn: Vec<u32>,
+}
+
+/// Reads the lines of recorder files, and sorts their events.
+fn order_run(alloc: Global, text: &[u8], limits: Limits) -> Result<OrderedRun, MergeFault>
+    ensures ok { IfOk result (IsOrderedRun limits.entries text.now) }
+    ensures err { IfErr result (λ fault. fault.kind ≢ MergeKind.Line TextKind.NoMemory
+        → IsFirstFaultWithin limits.entries text.now fault) }
+{
     let gathered = read_lines(alloc, limits, text)?;
     let run = gathered.whole_run()?;
     let ParsedFiles {
@@ -52,6 +108,20 @@ pub fn merge_within(alloc: Global, text: &[u8], limits: Limits) -> Result<Merged
         ..
     } = gathered;
     sort_events(&mut events);
+    Ok(OrderedRun { run, events, torn })
+}
+
+/// Merges the events of a run, which are in the merge order.
+fn merge_run(alloc: Global, limits: Limits, ordered: OrderedRun) -> Result<MergedTrace, MergeFault>
+    requires { IsProcessCount ordered.run.processes }
+    ensures ok { IfOk result (λ merged. (text : List ℕ) → IsOrderedRun limits.entries text ordered
+        → MergesFrom limits.entries text merged.trace.recording merged.torn.items
+        (map origin_of ordered.events.items)) }
+    ensures err { IfErr result (λ fault. (text : List ℕ) → IsOrderedRun limits.entries text ordered
+        → fault.kind ≢ MergeKind.Line TextKind.NoMemory
+        → IsFirstFaultWithin limits.entries text fault) }
+{
+    let OrderedRun { run, events, torn } = ordered;
     let trace = merge_events(alloc, limits, run.processes, events)?;
     Ok(MergedTrace { trace, torn })
 }

@@ -1,24 +1,72 @@
 //! Converts events in the merge order to the entries of a trace.
-ghost use Rattle.std.specs.Prelude.{◌≡◌, ◌≢◌, ◌∷◌, [], ℕ, List, length, Some, None, Ok, IfOk, OnOk, IfErr, reverse, option_map, unwrap_or};
+ghost use Rattle.std.specs.Prelude.{◌≡◌, ◌≢◌, ◌∷◌, [], ℕ, List, length, Some, None, Ok, IfOk, OnOk, IfSome, IfErr, reverse, option_map, unwrap_or};
+ghost use Rattle.causal_trace.specs.declared.entry.Entry.{Entry};
 ghost use Rattle.causal_trace.specs.declared.fault.TraceFault.{TraceFault};
 ghost use Rattle.causal_trace.specs.Limits.{IsProcessCount};
 ghost use Rattle.causal_trace.specs.Rows.{fault_within};
 ghost use Rattle.causal_trace.specs.State.{with_entry};
 ghost use Rattle.causal_line.specs.Kinds.{text_kind_of};
 ghost use Rattle.causal_merge.specs.declared.event.EventAtLine.{EventAtLine};
-ghost use Rattle.causal_merge.specs.EventMerge.{has_processes, send_position, entry_of, event_fault_before_push, event_fault, merge_events_of};
+ghost use Rattle.causal_merge.specs.EventMerge.{has_processes, send_position, entry_of, event_fault_before_push, event_fault, event_detail, merge_events_of};
+ghost use Rattle.causal_merge.specs.FaultDetails.{name_of, detail_of};
 ghost use Rattle.causal_merge.specs.Inside.Sends.{IsSendsOf};
 ghost use Rattle.causal_merge.specs.Inside.Merger.{HasMerged, IsFaultOf, newest, is_newest};
 
 use crate::event::{Action, EventAtLine, RecordedEvent};
 use crate::fault::{MergeFault, MergeKind};
+use crate::fault_details::{MergeDetail, line_detail};
 use crate::sends::{SendName, Sends};
 use causal_line::kind::TextKind;
 use causal_name::Pid;
 use causal_trace::entry::Entry;
+use causal_trace::fault::RefusedEntry;
 use causal_trace::limits::Limits;
 use causal_trace::trace::Trace;
 use std::alloc::Global;
+
+/// Why an event is refused, and the values that explain that.
+#[derive(Clone, Copy)]
+pub(crate) struct EventFault {
+    kind: MergeKind,
+    detail: Option<MergeDetail>,
+}
+
+/// Returns the error of a refused entry, where `trace` has the entries before, and `name` is the send that a delivery
+/// names.
+fn entry_fault(trace: &Trace, refused: RefusedEntry, name: Option<SendName>) -> EventFault
+    ensures kind { result.kind ≡ MergeKind.Line (text_kind_of refused.fault) }
+    ensures detail { (e : Entry) → refused.entry ≡ Some e → result.detail
+        ≡ detail_of result.kind trace.now.recording.past e name }
+{
+    let kind = TextKind::from(refused.fault);
+    let detail = match &refused.entry {
+        Some(entry) => line_detail(kind, trace, entry, name),
+        None => None,
+    };
+    EventFault {
+        kind: MergeKind::Line(kind),
+        detail,
+    }
+}
+
+/// Returns the send that a delivery names; None for another event.
+fn name_of(act: &Action) -> Option<SendName>
+    ensures { result ≡ name_of act.now }
+{
+    match act {
+        Action::Deliver {
+            source,
+            lane,
+            ssn,
+            ..
+        } => Some(SendName {
+            source: *source,
+            lane: *lane,
+            ssn: *ssn,
+        }),
+        _ => None,
+    }
+}
 
 /// The trace of the events so far, the position of each send, and the clock and process of the newest event.
 #[derive(Drop)]
@@ -68,7 +116,9 @@ impl Merger {
 
     // the first error of the next event that does not depend on its entry
     fn event_fault_before_push(&self, limits: Limits, event: &RecordedEvent) -> Option<MergeKind>
-        ensures { (before : List EventAtLine) → self.now.last ≡ newest before
+        ensures plain { IfSome result (λ kind. event_detail kind self.now.trace.recording.past event.now
+            ≡ None) }
+        ensures value { (before : List EventAtLine) → self.now.last ≡ newest before
             → result ≡ event_fault_before_push limits.entries self.now.trace.recording.processes before
             self.now.trace.recording.past event.now }
     {
@@ -129,46 +179,63 @@ impl Merger {
         }
     }
 
-    // appends an entry, unless the trace refuses it
-    fn push(&mut self, limits: Limits, entry: Entry) -> Result<(), TextKind>
+    // appends an entry, unless the trace refuses it; `name` is the send that a delivery names
+    fn push(
+        &mut self,
+        limits: Limits,
+        entry: Entry,
+        name: Option<SendName>,
+    ) -> Result<(), EventFault>
         ensures legal { OnOk result
             (fault_within limits.entries self.old.trace.recording entry ≡ None) }
         ensures ok { OnOk result
             (self.new.trace.recording ≡ with_entry self.old.trace.recording entry) }
         ensures sends { OnOk result (IsSendsOf self.old.sends self.old.trace.recording.past
             → IsSendsOf self.new.sends self.new.trace.recording.past) }
-        ensures err { IfErr result (λ kind. kind ≢ TextKind.NoMemory → option_map text_kind_of
-            (fault_within limits.entries self.old.trace.recording entry) ≡ Some kind) }
+        ensures err { IfErr result (λ refused. refused.kind ≢ MergeKind.Line TextKind.NoMemory
+            → option_map (λ f. MergeKind.Line (text_kind_of f))
+            (fault_within limits.entries self.old.trace.recording entry) ≡ Some refused.kind) }
+        ensures detail { IfErr result (λ refused. refused.kind ≢ MergeKind.Line TextKind.NoMemory
+            → refused.detail ≡ detail_of refused.kind self.old.trace.recording.past entry name) }
     {
-        self.sends.note(&entry, self.trace.len())?;
-        self.trace.push_within(limits, entry)?;
-        Ok(())
+        if let Err(kind) = self.sends.note(&entry, self.trace.len()) {
+            return Err(EventFault {
+                kind: MergeKind::Line(kind),
+                detail: None,
+            });
+        }
+        match self.trace.try_push(limits, entry) {
+            Ok(()) => Ok(()),
+            Err(refused) => Err(entry_fault(&self.trace, refused, name)),
+        }
     }
 
     // merges the next event, unless it has an error
-    fn push_event(&mut self, limits: Limits, event: RecordedEvent) -> Result<(), MergeKind>
+    fn push_event(&mut self, limits: Limits, event: RecordedEvent) -> Result<(), EventFault>
         ensures ok { OnOk result ((before : List EventAtLine) (line : ℕ)
             → HasMerged limits.entries self.old before
             → HasMerged limits.entries self.new (record { line = line; event = event } ∷ before)) }
-        ensures err { IfErr result (λ kind. kind ≢ MergeKind.Line TextKind.NoMemory
+        ensures err { IfErr result (λ refused. refused.kind ≢ MergeKind.Line TextKind.NoMemory
             → (before : List EventAtLine) → HasMerged limits.entries self.old before
             → event_fault limits.entries self.old.trace.recording.processes before
-            self.old.trace.recording.past event ≡ Some kind) }
+            self.old.trace.recording.past event ≡ Some refused.kind) }
+        ensures detail { IfErr result (λ refused. refused.kind ≢ MergeKind.Line TextKind.NoMemory
+            → IsSendsOf self.old.sends self.old.trace.recording.past
+            → refused.detail ≡ event_detail refused.kind self.old.trace.recording.past event) }
         ensures processes { OnOk result
             (self.new.trace.recording.processes ≡ self.old.trace.recording.processes) }
     {
         if let Some(kind) = self.event_fault_before_push(limits, &event) {
-            return Err(kind);
+            return Err(EventFault { kind, detail: None });
         }
         let RecordedEvent {
             process,
             clock,
             act,
         } = event;
+        let name = name_of(&act);
         let entry = self.entry_of(process, act);
-        if let Err(kind) = self.push(limits, entry) {
-            return Err(MergeKind::Line(kind));
-        }
+        self.push(limits, entry, name)?;
         self.last = Some((clock, process));
         Ok(())
     }
@@ -191,7 +258,7 @@ impl Merger {
         let EventAtLine { line, event } = placed;
         match self.push_event(limits, event) {
             Ok(()) => Ok(()),
-            Err(kind) => Err(MergeFault { line, kind }),
+            Err(EventFault { kind, detail }) => Err(MergeFault { line, kind, detail }),
         }
     }
 
@@ -224,6 +291,7 @@ pub(crate) fn merge_events(
             return Err(MergeFault {
                 line: 1,
                 kind: MergeKind::Line(kind),
+                detail: None,
             });
         }
     };

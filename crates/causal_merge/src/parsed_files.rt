@@ -6,7 +6,7 @@ ghost use Rattle.causal_holders.specs.Members.{HasMembers};
 ghost use Rattle.causal_trace.specs.Limits.{IsProcessCount};
 ghost use Rattle.causal_line.specs.Returns.{IsFaultOrNoMemory};
 ghost use Rattle.causal_merge.specs.declared.event.RecorderLine.{RecorderLine};
-ghost use Rattle.causal_merge.specs.ReadLines.{HasAllHeaders, LacksHeader};
+ghost use Rattle.causal_merge.specs.ReadLines.{HasAllHeaders, LacksHeader, header_fault};
 ghost use Rattle.causal_merge.specs.Reading.{max_bytes, next_line};
 ghost use Rattle.causal_merge.specs.Inside.ParsedFiles.{IsParsed, HasRead, IsFaultOf, IsSound};
 
@@ -31,6 +31,17 @@ fn unset_among(headers_seen: &[bool; 256], n: u16) -> ByteSet
         }
     }
     missing
+}
+
+/// Returns the error that these processes have no header.
+fn header_fault(line: u32, missing: ByteSet) -> MergeFault
+    ensures { result ≡ header_fault line missing }
+{
+    MergeFault {
+        line,
+        kind: MergeKind::NoHeader { missing },
+        detail: None,
+    }
 }
 
 /// The run of the first header, which processes have headers, the events in the order of the input, the numbers of the
@@ -134,6 +145,7 @@ impl ParsedFiles {
             Err(kind) => Err(MergeFault {
                 line: number,
                 kind: MergeKind::Line(kind),
+                detail: None,
             }),
         }
     }
@@ -149,20 +161,16 @@ impl ParsedFiles {
             IsProcessCount run.processes) }
         ensures err { IfErr result (λ fault. (said : List RecorderLine) → IsParsed self.now said
             → (missing : FinSet nat_cmp) × LacksHeader said missing
-            × (fault ≡ record { line = length said + 1; kind = MergeKind.NoHeader missing })) }
+            × (fault ≡ header_fault (length said + 1) missing)) }
     {
         let line = self.count + 1;
         let Some(run) = self.run else {
-            let kind = MergeKind::NoHeader {
-                missing: ByteSet::none(),
-            };
-            return Err(MergeFault { line, kind });
+            return Err(header_fault(line, ByteSet::none()));
         };
         let missing = unset_among(&self.headers_seen, run.processes);
-        let kind = MergeKind::NoHeader { missing };
         match missing.least() {
             None => Ok(run),
-            Some(_process) => Err(MergeFault { line, kind }),
+            Some(_process) => Err(header_fault(line, missing)),
         }
     }
 }

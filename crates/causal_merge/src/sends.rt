@@ -13,7 +13,7 @@ use std::collections::BTreeMap;
 
 /// A send: its process, the lane (incarnation) of that process, and its number there.
 #[derive(Clone, Copy, Debug, PartialEq, Eq, PartialOrd, Ord)]
-pub(crate) struct SendName {
+pub struct SendName {
     pub source: Pid,
     pub lane: u32,
     pub ssn: u32,
