@@ -59,8 +59,8 @@ not_true true h = sym h
 not_true false h = refl
 
 -- a loss with the kind of its entry is true
-pub is_loss : (past : List Entry) (d : Det) (x : Loss) → HoldsSince past (λ state. not (logs state x.process d)) x.lost → x.by ≡ lost_by (entry_at past x.lost) → IsLoss past d x
-is_loss past d x since by =
+pub is_loss : (past : List Entry) (d : Det) (x : Loss) → HoldsSince (instant past x.lost) (λ state. logs state x.process d) x.since → HoldsSince past (λ state. not (logs state x.process d)) x.lost → x.by ≡ lost_by (entry_at past x.lost) → IsLoss past d x
+is_loss past d x held since by =
     grind (
       arith,
       next_instant past x.lost since.within,

@@ -45,8 +45,10 @@ Loses (entry.Crash who) p d by = (by ≡ Crash) × (p ≡ who.0)
 Loses (entry.Forget who listed) p d by = (by ≡ Forgetting) × (p ≡ who.0) × (list_has listed d ≡ true)
 Loses _ p d by = ⊥
 
--- a process's volatile log lacks d since the entry at a position, by which it lost it
+-- a process's volatile log lacks d since the entry at a position, by which it lost it, and contained d until then since
+-- another
 pub record IsLoss (past : List Entry) (d : Det) (x : Loss) : Type 0 where
+  pub held : HoldsSince (instant past x.lost) (λ state. logs state x.process d) x.since
   pub since : HoldsSince past (λ state. not (logs state x.process d)) x.lost
   pub entry : Entry
   pub there : entry_at past x.lost ≡ Some entry

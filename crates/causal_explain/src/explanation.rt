@@ -22,6 +22,8 @@ pub enum LostBy {
 #[derive(Clone, Copy)]
 pub struct Loss {
     pub process: u8,
+    /// The position of the delivery or restart by which the log last came to contain it.
+    pub since: u32,
     /// The position of the entry by which the log last lost it.
     pub lost: u32,
     /// The kind of that entry.

@@ -123,11 +123,12 @@ fn losses_in(
 {
     let mut losses = Vec::with_capacity(alloc, standings.len())?;
     for (p, standing) in standings.iter().enumerate() {
-        if let Some(lost) = standing.ended_since() {
+        if let Some(span) = standing.last_span() {
             losses.push_reserved(Loss {
                 process: p as u8,
-                lost,
-                by: lost_by(entries, lost),
+                since: span.from,
+                lost: span.to,
+                by: lost_by(entries, span.to),
             });
         }
     }

@@ -1,8 +1,15 @@
 //! Whether a fact holds of each process and since when, updated entry by entry.
 ghost use Rattle.std.specs.Prelude.{◌≡◌, ◌∷◌, ◌&&◌, ℕ, Bool, true, false, not, List, MatchOption, length};
 ghost use Rattle.causal_trace.specs.declared.entry.Entry.{Entry};
-ghost use Rattle.causal_explain.specs.Inside.Validities.{AreValidities, IsOverSince, IsValidity, IsChangeOf};
+ghost use Rattle.causal_explain.specs.Inside.Validities.{AreValidities, IsLastSpan, IsValidity, IsChangeOf};
 ghost use Rattle.causal_explain.specs.ProcessFacts.{HoldsSince, ever_holds};
+
+/// The time that a fact held: the position of the entry by which it began, and of the one by which it ended.
+#[derive(Clone, Copy)]
+pub struct Span {
+    pub from: u32,
+    pub to: u32,
+}
 
 /// Whether a fact holds of a process, and since the entry at which position.
 #[derive(Clone, Copy)]
@@ -11,8 +18,8 @@ pub enum Validity {
     Never,
     /// It holds.
     Holds { since: u32 },
-    /// It held before, and does not hold.
-    Ended { since: u32 },
+    /// It held before, last in this span, and does not hold.
+    Ended { span: Span },
 }
 
 /// How an entry changes a fact: not at all, or it begins or ends for a process.
@@ -44,8 +51,10 @@ impl Validity {
     {
         match self {
             Validity::Never => Validity::Never,
-            Validity::Holds { .. } => Validity::Ended { since: i },
-            Validity::Ended { since } => Validity::Ended { since },
+            Validity::Holds { since } => Validity::Ended {
+                span: Span { from: since, to: i },
+            },
+            Validity::Ended { span } => Validity::Ended { span },
         }
     }
 
@@ -61,16 +70,16 @@ impl Validity {
         }
     }
 
-    /// Returns since when the fact does not hold any more; None if it holds or never held.
-    pub fn ended_since(self) -> Option<u32>
+    /// Returns when the fact last held, if it does not hold any more; None if it holds or never held.
+    pub fn last_span(self) -> Option<Span>
         ensures { (past : List Entry) (test : List Entry → Bool) → IsValidity past test self →
             MatchOption result ((ever_holds test past && not (test past))
-            ≡ false) (IsOverSince past test) }
+            ≡ false) (IsLastSpan past test) }
     {
         match self {
             Validity::Never => None,
             Validity::Holds { .. } => None,
-            Validity::Ended { since } => Some(since),
+            Validity::Ended { span } => Some(span),
         }
     }
 }

@@ -2,6 +2,7 @@
 use Rattle.std.specs.Prelude.{ℕ, ◌+◌, ◌-◌, Bool, if◌then◌else◌, ◌==◌, nat_lt, List, [], ◌++◌, codes, decimal}
 use Rattle.causal_picture.specs.declared.entry_range.Grid.{Grid}
 use Rattle.causal_picture.specs.Layout.{width_of, height_of, columns_of, right_of, row_of, bottom_of, x_of_instant, y_of}
+use Rattle.causal_picture.specs.Rows.{rows_of, hidden_of}
 use Rattle.causal_picture.specs.Titles.{line_of}
 use Rattle.causal_picture.specs.Glyphs.{level_text, upright_text}
 use Rattle.causal_picture.specs.declared.glyphs.Label.TheVariants.{Name, NameAgain}
@@ -13,25 +14,32 @@ root_text width height =
     codes "<svg xmlns='http://www.w3.org/2000/svg' version='1.1' role='img' width='" ++ (decimal width ++ (codes "' height='" ++ (decimal height
     ++ (codes "' viewBox='0 0 " ++ (decimal width ++ (codes " " ++ (decimal height ++ codes "' font-family='sans-serif' font-size='12'>\n<title>Space-time diagram of a recorded run</title>\n")))))))
 
--- the picture's description
-unfoldable pub description_text : ℕ → ℕ → ℕ → ℕ → List ℕ
-description_text processes count entries line =
-    codes "<desc>All " ++ (decimal processes ++ (codes " processes; " ++ (decimal count ++ (codes " of " ++ (decimal entries ++ (codes " entries, from line "
-    ++ (decimal line ++ codes " of the trace's text on.</desc>\n")))))))
+-- the picture's description begins with the number of shown processes
+unfoldable pub count_text : Grid → List ℕ
+count_text g =
+    if hidden_of g == 0
+    then codes "<desc>All " ++ decimal g.processes
+    else codes "<desc>" ++ (decimal (rows_of g) ++ (codes " of " ++ decimal g.processes))
+
+-- the numbers of shown entries and of all
+unfoldable pub description_text : ℕ → ℕ → ℕ → List ℕ
+description_text count entries line =
+    codes " processes; " ++ (decimal count ++ (codes " of " ++ (decimal entries ++ (codes " entries, from line "
+    ++ (decimal line ++ codes " of the trace's text on.</desc>\n")))))
 
 -- the head of the picture: its title, its description, a white background, and the arrow head
 unfoldable pub head_text : Grid → ℕ → List ℕ
 head_text g entries =
-    root_text (width_of g) (height_of g.processes)
-    ++ (description_text g.processes (columns_of g) entries (line_of g.early.first)
-    ++ codes "<defs><marker id='arrowhead' viewBox='0 0 10 10' refX='16' refY='5' markerWidth='8' markerHeight='8' markerUnits='userSpaceOnUse' orient='auto'><path d='M0 0L10 5L0 10z' fill='#555'/></marker></defs>\n<rect width='100%' height='100%' fill='white'/>\n")
+    root_text (width_of g) (height_of (rows_of g))
+    ++ (count_text g ++ (description_text (columns_of g) entries (line_of g.early.first)
+    ++ codes "<defs><marker id='arrowhead' viewBox='0 0 10 10' refX='16' refY='5' markerWidth='8' markerHeight='8' markerUnits='userSpaceOnUse' orient='auto'><path d='M0 0L10 5L0 10z' fill='#555'/></marker></defs>\n<rect width='100%' height='100%' fill='white'/>\n"))
 
 -- the shade behind the line of a process in the crash set
 abbrev pub shade_text : Grid → ℕ → Bool → List ℕ
 shade_text g p is_shaded =
     if is_shaded
     then codes "<path d='M0 " ++ (decimal (y_of g p) ++ (codes "H" ++ (decimal (width_of g) ++ (codes "' fill='none' stroke='#ffe3b3' stroke-width='"
-    ++ (decimal (row_of g.processes - 6) ++ codes "'/>\n")))))
+    ++ (decimal (row_of (rows_of g) - 6) ++ codes "'/>\n")))))
     else []
 
 -- the start of a process's group, with its title
@@ -73,6 +81,16 @@ cut_text hidden side x anchor bottom = if hidden == 0 then [] else cut_mark hidd
 -- the marks for hidden entries: before the shown entries, between the ranges and after them
 unfoldable pub cuts_text : Grid → ℕ → List ℕ
 cuts_text g entries =
-    cut_text g.early.first (codes "before") (x_of_instant g g.early.first) (codes "start") (bottom_of g.processes)
-    ++ (cut_text (g.late.first - (g.early.first + g.early.count)) (codes "between") (x_of_instant g g.late.first) (codes "middle") (bottom_of g.processes)
-    ++ cut_text (entries - (g.late.first + g.late.count)) (codes "after") (x_of_instant g (g.late.first + g.late.count)) (codes "end") (bottom_of g.processes))
+    cut_text g.early.first (codes "before") (x_of_instant g g.early.first) (codes "start") (bottom_of (rows_of g))
+    ++ (cut_text (g.late.first - (g.early.first + g.early.count)) (codes "between") (x_of_instant g g.late.first) (codes "middle") (bottom_of (rows_of g))
+    ++ cut_text (entries - (g.late.first + g.late.count)) (codes "after") (x_of_instant g (g.late.first + g.late.count)) (codes "end") (bottom_of (rows_of g)))
+
+-- a number of hidden processes
+unfoldable pub hidden_text : ℕ → ℕ → List ℕ
+hidden_text hidden y =
+    codes "<g><title>" ++ (decimal hidden ++ (codes " processes are not shown</title>\n<text x='72' y='" ++ (decimal y
+    ++ (codes "' text-anchor='end' fill='#555'>" ++ (decimal hidden ++ codes " hidden</text>\n</g>\n")))))
+
+-- the number of hidden processes below the names, if there are any
+unfoldable pub others_text : Grid → List ℕ
+others_text g = if hidden_of g == 0 then [] else hidden_text (hidden_of g) (bottom_of (rows_of g) + 27)

@@ -1,1 +1,2 @@
 pub mod Downs
+pub mod Members

@@ -4,6 +4,7 @@ use Rattle.causal_picture.specs.declared.layout.Panel.{Panel}
 use Rattle.causal_picture.specs.declared.entry_range.Grid.{Grid}
 use Rattle.causal_picture.specs.declared.entry_range.EntryRange.{EntryRange}
 use Rattle.causal_picture.specs.EntryRanges.{is_shown}
+use Rattle.causal_picture.specs.Rows.{rank_of, rows_of}
 
 -- the number of entries of a range before a position
 abbrev pub count_before : EntryRange → ℕ → ℕ
@@ -51,16 +52,16 @@ late_panel g = record { range = g.late; left = x_of_instant g g.late.first; righ
 
 -- the distance between processes' lines: 40, or less if all rows would be higher than 560, but at least 16
 abbrev pub row_of : ℕ → ℕ
-row_of processes = max 16 (min 40 (560 / (processes + 1)))
+row_of rows = max 16 (min 40 (560 / (rows + 1)))
 
--- the y of a process's row
+-- the y of a process's row; of a hidden process, that of the next shown one
 abbrev pub y_of : Grid → ℕ → ℕ
-y_of g process = 92 + row_of g.processes * process
+y_of g process = 92 + row_of (rows_of g) * rank_of g.shown process
 
 -- the y at which the legend begins
 abbrev pub bottom_of : ℕ → ℕ
-bottom_of processes = 92 + row_of processes * processes
+bottom_of rows = 92 + row_of rows * rows
 
 -- the height of a picture, with the legend below the rows
 abbrev pub height_of : ℕ → ℕ
-height_of processes = bottom_of processes + 80
+height_of rows = bottom_of rows + 80

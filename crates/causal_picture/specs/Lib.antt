@@ -12,6 +12,8 @@ pub mod Panels
 pub mod Pictures
 pub mod Resent
 pub mod Roles
+pub mod Rows
+pub mod Selections
 pub mod Glyphs
 pub mod EntryRanges
 pub mod Titles

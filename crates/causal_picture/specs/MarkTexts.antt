@@ -1,5 +1,6 @@
 -- The SVG text of each event of a panel.
 use Rattle.std.specs.Prelude.{ℕ, Bool, false, ◌==◌, ◌&&◌, nat_le, nat_lt, if◌then◌else◌, List, [], ◌++◌, codes, decimal, flat_map, find}
+use Rattle.std.specs.FinSet.{contains}
 use Rattle.std.specs.Option.{option_map_or}
 use Rattle.causal_name.specs.declared.Pid.{Pid}
 use Rattle.causal_name.specs.declared.Det.{Det}
@@ -35,12 +36,16 @@ line_end_x g panel marks p from = option_map_or (λ m. x_of g m.position) (find 
 abbrev pub up_text : ℕ → ℕ → ℕ → List ℕ
 up_text from to y = level_text from to y (codes "stroke='#222' stroke-width='1.5'")
 
--- The arrow of a delivery, from the send entry. The arrow of a message from a process to itself bends above its line.
-abbrev pub arrow_text : Grid → ℕ → Det → ℕ → List ℕ
-arrow_text g position d send =
+-- an arrow from the send entry; that of a message from a process to itself bends above its line
+abbrev pub whole_arrow : Grid → ℕ → Det → ℕ → List ℕ
+whole_arrow g position d send =
     if d.source.0 == d.dest.0
     then bent_text (x_of g send) (x_of g position) (y_of g d.dest.0)
     else straight_text (x_of g send) (y_of g d.source.0) (x_of g position) (y_of g d.dest.0)
+
+-- the arrow of a delivery, if the sender is shown
+abbrev pub arrow_text : Grid → ℕ → Det → ℕ → List ℕ
+arrow_text g position d send = if contains g.shown d.source.0 then whole_arrow g position d send else []
 
 -- the line of a process from its restart on
 abbrev pub return_text : Grid → Panel → List Mark → ℕ → Pid → List ℕ
@@ -82,6 +87,10 @@ mark_text r g panel marks m =
     group_text (is_resent (entries_of r) m) ++ (title_text r.past m ++ (number_text g m.position ++ (link_text g panel marks m
     ++ (sign_text g m ++ codes "</g>\n"))))
 
--- the events of a panel, in order
+-- an event, if its process is shown
+abbrev pub shown_mark_text : Recording → Grid → Panel → List Mark → Mark → List ℕ
+shown_mark_text r g panel marks m = if contains g.shown (process_of m.event).0 then mark_text r g panel marks m else []
+
+-- the events of a panel on the lines of shown processes, in order
 abbrev pub marks_text : Recording → Grid → Panel → List Mark → List ℕ
-marks_text r g panel marks = flat_map (mark_text r g panel marks) marks
+marks_text r g panel marks = flat_map (shown_mark_text r g panel marks) marks

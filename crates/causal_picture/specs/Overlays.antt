@@ -1,7 +1,8 @@
 -- The SVG text over the events: the bands, the chain and the instant.
 use Rattle.std.specs.Prelude.{ℕ, if◌then◌else◌, List, [], ◌∷◌, ◌++◌, codes, decimal, flat_map, Option, Some, None}
 use Rattle.std.specs.List.{filter_map}
-use Rattle.std.specs.Option.{option_map}
+use Rattle.std.specs.FinSet.{contains}
+use Rattle.std.specs.Option.{option_and_then}
 use Rattle.causal_trace.specs.declared.entry.Entry.{Entry}
 use Rattle.causal_picture.specs.declared.overlay.Point.{Point}
 use Rattle.causal_picture.specs.declared.marks.Mark.{Mark}
@@ -12,6 +13,7 @@ use Rattle.causal_picture.specs.declared.glyphs.Label.TheVariants.{Instant}
 use Rattle.causal_picture.specs.Labels.{label_text}
 use Rattle.causal_picture.specs.Layout.{x_of, x_of_instant, y_of, bottom_of}
 use Rattle.causal_picture.specs.Roles.{processes_text}
+use Rattle.causal_picture.specs.Rows.{rows_of}
 use Rattle.causal_picture.specs.EntryRanges.{is_shown}
 use Rattle.causal_picture.specs.Marks.{mark_at, process_of}
 use Rattle.causal_picture.specs.declared.glyphs.Glyph.TheVariants.{Halo}
@@ -21,9 +23,13 @@ use Rattle.causal_picture.specs.Glyphs.{glyph_text, level_text, upright_text}
 unfoldable pub point_of : Grid → Mark → Point
 point_of g m = record { x = x_of g m.position; y = y_of g (process_of m.event).0 }
 
--- the point of the entry at a position, if it is shown
+-- the point of an event, if its process is shown
+abbrev pub shown_point : Grid → Mark → Option Point
+shown_point g m = if contains g.shown (process_of m.event).0 then Some (point_of g m) else None
+
+-- the point of the entry at a position, if it is shown, and its process
 unfoldable pub point_at : List Entry → Grid → ℕ → Option Point
-point_at past g position = if is_shown g position then option_map (point_of g) (mark_at past position) else None
+point_at past g position = if is_shown g position then option_and_then (shown_point g) (mark_at past position) else None
 
 -- the points of a chain's shown entries
 abbrev pub points_of : List Entry → Grid → List ℕ → List Point
@@ -70,13 +76,17 @@ unfoldable pub band_text : Grid → ℕ → Band → List ℕ
 band_text g t b =
     level_text (x_of g b.from) (band_end g t b.to) (y_of g b.process) (codes "stroke='#0072b2' stroke-width='10' stroke-opacity='0.25' pointer-events='none'")
 
--- all bands
+-- a band, if its process is shown
+abbrev pub shown_band : Grid → ℕ → Band → List ℕ
+shown_band g t b = if contains g.shown b.process then band_text g t b else []
+
+-- the bands of shown processes
 abbrev pub bands_text : Grid → ℕ → List Band → List ℕ
-bands_text g t bands = flat_map (band_text g t) bands
+bands_text g t bands = flat_map (shown_band g t) bands
 
 -- the instant: a vertical line between the entries before and after it, and the processes' names next to it
 unfoldable pub instant_text : Grid → ℕ → Option Orphan → List ℕ
 instant_text g t orphan =
     instant_title t
-    ++ (upright_text (x_of_instant g t) (bottom_of g.processes) (codes "stroke='#0072b2' stroke-width='2' stroke-dasharray='7 4'")
-    ++ (label_text (x_of_instant g t) (bottom_of g.processes) Instant t ++ (processes_text g (x_of_instant g t) orphan ++ codes "</g>\n")))
+    ++ (upright_text (x_of_instant g t) (bottom_of (rows_of g)) (codes "stroke='#0072b2' stroke-width='2' stroke-dasharray='7 4'")
+    ++ (label_text (x_of_instant g t) (bottom_of (rows_of g)) Instant t ++ (processes_text g (x_of_instant g t) orphan ++ codes "</g>\n")))

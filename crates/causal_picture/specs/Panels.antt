@@ -1,6 +1,6 @@
 -- Panels: parts of the picture whose entries are consecutive.
 use Rattle.std.specs.Prelude.{ℕ, ◌==◌, Bool, not, if◌then◌else◌, List, [], ◌++◌, codes, flat_map}
-use Rattle.std.specs.List.{range_with_len}
+use Rattle.causal_holders.specs.Members.{ascending}
 use Rattle.causal_trace.specs.Past.{is_down}
 use Rattle.causal_trace.specs.Rows.{Recording}
 use Rattle.causal_trace.specs.State.{entries_of, past_at}
@@ -24,10 +24,10 @@ first_up_text g panel marks p is_up = if is_up then line_text p panel.left (line
 abbrev pub line_unless_down : Grid → Panel → List Mark → (ℕ → Bool) → ℕ → List ℕ
 line_unless_down g panel marks down p = first_up_text g panel marks p (not (down p))
 
--- the lines of the processes that are up at the panel's left end
+-- the lines of the shown processes that are up at the panel's left end
 unfoldable pub ups_text : Recording → Grid → Panel → List Mark → List ℕ
 ups_text r g panel marks =
-    flat_map (line_unless_down g panel marks (is_down (past_at (entries_of r) panel.range.first))) (range_with_len 0 r.processes)
+    flat_map (line_unless_down g panel marks (is_down (past_at (entries_of r) panel.range.first))) (ascending g.shown)
 
 -- the lines of the processes that are up, and the events over them
 unfoldable pub panel_text : Recording → Grid → Panel → List ℕ

@@ -1,7 +1,7 @@
 -- The processes and their roles at the instant.
 use Rattle.std.specs.Prelude.{ℕ, ◌==◌, if◌then◌else◌, List, [], ◌++◌, codes, decimal, flat_map, Option, Some, None}
-use Rattle.std.specs.List.{range_with_len}
 use Rattle.std.specs.FinSet.{contains}
+use Rattle.causal_holders.specs.Members.{ascending}
 use Rattle.causal_picture.specs.declared.focus.Orphan.{Orphan}
 use Rattle.causal_picture.specs.declared.roles.Role.{Role}
 use Rattle.causal_picture.specs.declared.roles.Role.TheVariants as role
@@ -37,6 +37,6 @@ process_text g x o p =
     sign_text x (y_of g p) (role_of o p) ++ (codes "<text x='" ++ (decimal (right_of g) ++ (codes "' y='" ++ (decimal (y_of g p)
     ++ (codes "' dx='9' dy='4' font-size='10' fill='#0072b2'>process " ++ (decimal p ++ (words_of (role_of o p) ++ codes "</text>\n")))))))
 
--- all processes at the instant
+-- the shown processes at the instant
 unfoldable pub processes_text : Grid → ℕ → Option Orphan → List ℕ
-processes_text g x o = flat_map (process_text g x o) (range_with_len 0 g.processes)
+processes_text g x o = flat_map (process_text g x o) (ascending g.shown)

@@ -24,8 +24,8 @@ pub struct Band {
 /// What a picture shows besides the run: the instant, as a vertical line; a crash set, with shaded lines; a chain of
 /// entries, by their positions, as a thick line, possibly empty; an orphan and the holders, as glyphs at the instant;
 /// and bands along the lines of processes. An instant after the last means the last. Processes of the sets that are not
-/// in the run, and entries of the chain that the picture hides, are not shown. A band begins or ends at the cut if its
-/// entry is hidden.
+/// in the run, and entries of the chain that the picture hides, are not shown. A band, or the instant, is at the cut if
+/// its entry is hidden.
 #[derive(Clone, Copy)]
 pub struct Focus<'a> {
     pub instant: u32,

@@ -4,35 +4,61 @@ ghost use Rattle.std.specs.FinSet.{contains};
 ghost use Rattle.causal_picture.specs.Appends.{Appends};
 ghost use Rattle.causal_picture.specs.Frames as frames;
 ghost use Rattle.causal_picture.specs.EntryRanges as stretches;
+ghost use Rattle.causal_picture.specs.Layout.{columns_of};
+ghost use Rattle.causal_picture.specs.Titles.{line_of};
 
 use crate::entry_range::Grid;
 use crate::glyphs::{Label, push_label, push_level, push_upright};
 use crate::layout::{
     bottom_of, columns_of, height_of, right_of, row_of, width_of, x_of_instant, y_of,
 };
+use crate::rows::{hidden_of, rows_of};
 use crate::titles::line_of;
 use crate::words::push_words;
 use causal_holders::Holders;
 use std::alloc::AllocError;
 
+/// Appends the number of shown processes: `All 3`, `2 of 3`.
+#[tactic(auto, unfolding(crate::specs::Frames::count_text))]
+fn push_count(out: &mut String, grid: &Grid) -> Result<(), AllocError>
+    ensures { Appends result out.old out.new (frames.count_text grid.now) }
+{
+    let (rows, processes) = (rows_of(grid), grid.processes);
+    if hidden_of(grid) == 0 {
+        write!(out, "<desc>All {processes}")
+    } else {
+        write!(out, "<desc>{rows} of {processes}")
+    }
+}
+
+/// Appends the numbers of shown entries and of all.
+#[tactic(auto, unfolding(crate::specs::Frames::description_text))]
+fn push_description(out: &mut String, grid: &Grid, entries: u32) -> Result<(), AllocError>
+    ensures { Appends result out.old out.new (frames.description_text (columns_of grid.now) entries
+        (line_of grid.now.early.first)) }
+{
+    let (count, line) = (columns_of(grid), line_of(grid.early.first));
+    write!(
+        out,
+        " processes; {count} of {entries} entries, from line {line} of the trace's text on.</desc>\n"
+    )
+}
+
 /// Appends the head of the picture: its title and description; a white background; and the arrow head, whose tip is
 /// before the end of the arrow's line, outside the delivery's dot. The only variable parts in this file are numbers, so
 /// nothing needs escaping.
 #[tactic(auto, unfolding(crate::specs::Frames::head_text))]
-pub fn push_head(out: &mut String, grid: Grid, entries: u32) -> Result<(), AllocError>
-    ensures { Appends result out.old out.new (frames.head_text grid entries) }
+pub fn push_head(out: &mut String, grid: &Grid, entries: u32) -> Result<(), AllocError>
+    ensures { Appends result out.old out.new (frames.head_text grid.now entries) }
 {
-    let (width, height) = (width_of(grid), height_of(grid.processes));
-    let (processes, count, line) = (grid.processes, columns_of(grid), line_of(grid.early.first));
+    let (width, height) = (width_of(grid), height_of(rows_of(grid)));
     write!(
         out,
         "<svg xmlns='http://www.w3.org/2000/svg' version='1.1' role='img' width='{width}' height='{height}' viewBox='0 0 {width} {height}' font-family='sans-serif' font-size='12'>\n\
          <title>Space-time diagram of a recorded run</title>\n"
     )?;
-    write!(
-        out,
-        "<desc>All {processes} processes; {count} of {entries} entries, from line {line} of the trace's text on.</desc>\n"
-    )?;
+    push_count(out, grid)?;
+    push_description(out, grid, entries)?;
     push_words(
         out,
         "<defs><marker id='arrowhead' viewBox='0 0 10 10' refX='16' refY='5' markerWidth='8' markerHeight='8' markerUnits='userSpaceOnUse' orient='auto'><path d='M0 0L10 5L0 10z' fill='#555'/></marker></defs>\n<rect width='100%' height='100%' fill='white'/>\n",
@@ -40,8 +66,8 @@ pub fn push_head(out: &mut String, grid: Grid, entries: u32) -> Result<(), Alloc
 }
 
 /// Appends the shade behind the line of a process in the crash set.
-fn push_shade(out: &mut String, grid: Grid, process: u16, is_shaded: bool) -> Result<(), AllocError>
-    ensures { Appends result out.old out.new (frames.shade_text grid process is_shaded) }
+fn push_shade(out: &mut String, grid: &Grid, process: u8, is_shaded: bool) -> Result<(), AllocError>
+    ensures { Appends result out.old out.new (frames.shade_text grid.now process is_shaded) }
 {
     if !is_shaded {
         return Ok(());
@@ -49,7 +75,7 @@ fn push_shade(out: &mut String, grid: Grid, process: u16, is_shaded: bool) -> Re
     let (width, y, height) = (
         width_of(grid),
         y_of(grid, process),
-        row_of(grid.processes) - 6,
+        row_of(rows_of(grid)) - 6,
     );
     write!(
         out,
@@ -59,16 +85,16 @@ fn push_shade(out: &mut String, grid: Grid, process: u16, is_shaded: bool) -> Re
 
 /// Appends the start of a process's group.
 #[tactic(auto, unfolding(crate::specs::Frames::process_title))]
-pub fn push_process_title(out: &mut String, process: u16) -> Result<(), AllocError>
+pub fn push_process_title(out: &mut String, process: u8) -> Result<(), AllocError>
     ensures { Appends result out.old out.new (frames.process_title process) }
 {
     write!(out, "<g><title>process {process}</title>\n")
 }
 
 /// Appends the name of a process above its line, unless the line ends near it or before it.
-fn push_repeated_name(out: &mut String, grid: Grid, process: u16, x: u64) -> Result<(), AllocError>
+fn push_repeated_name(out: &mut String, grid: &Grid, process: u8, x: u64) -> Result<(), AllocError>
     requires { x < 2000 }
-    ensures { Appends result out.old out.new (frames.repeated_name grid process x) }
+    ensures { Appends result out.old out.new (frames.repeated_name grid.now process x) }
 {
     if x + 30 >= right_of(grid) {
         return Ok(());
@@ -79,8 +105,8 @@ fn push_repeated_name(out: &mut String, grid: Grid, process: u16, x: u64) -> Res
 
 /// Appends the name of a process at the left end of its line, and repeats it at intervals.
 #[tactic(auto, unfolding(crate::specs::Frames::names_text))]
-fn push_names(out: &mut String, grid: Grid, process: u16) -> Result<(), AllocError>
-    ensures { Appends result out.old out.new (frames.names_text grid process) }
+fn push_names(out: &mut String, grid: &Grid, process: u8) -> Result<(), AllocError>
+    ensures { Appends result out.old out.new (frames.names_text grid.now process) }
 {
     let y = y_of(grid, process);
     push_label(out, 72, y, Label::Name, u64::from(process))?;
@@ -94,16 +120,15 @@ fn push_names(out: &mut String, grid: Grid, process: u16) -> Result<(), AllocErr
 #[tactic(auto, unfolding(crate::specs::Frames::row_text))]
 pub fn push_row(
     out: &mut String,
-    grid: Grid,
+    grid: &Grid,
     crash: Holders,
-    process: u16,
+    process: u8,
 ) -> Result<(), AllocError>
-    requires { process < 256 }
     ensures { Appends result out.old out.new
-        (frames.row_text grid process (contains crash process)) }
+        (frames.row_text grid.now process (contains crash process)) }
 {
     push_process_title(out, process)?;
-    push_shade(out, grid, process, crash.contains(process as u8))?;
+    push_shade(out, grid, process, crash.contains(process))?;
     push_level(
         out,
         80,
@@ -153,18 +178,14 @@ fn push_cut(
 
 /// Appends the marks for hidden entries: before the shown entries, between the ranges and after them.
 #[tactic(auto, unfolding(crate::specs::Frames::cuts_text))]
-pub fn push_cuts(out: &mut String, grid: Grid, entries: u32) -> Result<(), AllocError>
-    requires { stretches.GridFits entries grid }
-    ensures { Appends result out.old out.new (frames.cuts_text grid entries) }
+pub fn push_cuts(out: &mut String, grid: &Grid, entries: u32) -> Result<(), AllocError>
+    requires { stretches.GridFits entries grid.now }
+    ensures { Appends result out.old out.new (frames.cuts_text grid.now entries) }
 {
-    let Grid {
-        early,
-        late,
-        processes,
-    } = grid;
+    let (early, late) = (grid.early, grid.late);
     let between = late.first - (early.first + early.count);
     let after = entries - (late.first + late.count);
-    let bottom = bottom_of(processes);
+    let bottom = bottom_of(rows_of(grid));
     push_cut(
         out,
         early.first,
@@ -188,5 +209,28 @@ pub fn push_cuts(out: &mut String, grid: Grid, entries: u32) -> Result<(), Alloc
         x_of_instant(grid, late.first + late.count),
         "end",
         bottom,
+    )
+}
+
+/// Appends the number of hidden processes below the names, if there are any.
+#[tactic(auto, unfolding(crate::specs::Frames::others_text))]
+pub fn push_others(out: &mut String, grid: &Grid) -> Result<(), AllocError>
+    ensures { Appends result out.old out.new (frames.others_text grid.now) }
+{
+    let hidden = hidden_of(grid);
+    if hidden == 0 {
+        return Ok(());
+    }
+    push_hidden(out, hidden, bottom_of(rows_of(grid)) + 27)
+}
+
+/// Appends a number of hidden processes.
+#[tactic(auto, unfolding(crate::specs::Frames::hidden_text))]
+fn push_hidden(out: &mut String, hidden: u16, y: u32) -> Result<(), AllocError>
+    ensures { Appends result out.old out.new (frames.hidden_text hidden y) }
+{
+    write!(
+        out,
+        "<g><title>{hidden} processes are not shown</title>\n<text x='72' y='{y}' text-anchor='end' fill='#555'>{hidden} hidden</text>\n</g>\n"
     )
 }

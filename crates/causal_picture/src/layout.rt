@@ -4,6 +4,7 @@ ghost use Rattle.causal_picture.specs.Layout as layout;
 ghost use Rattle.causal_picture.specs.EntryRanges as stretches;
 
 use crate::entry_range::{EntryRange, Grid};
+use crate::rows::{rank_of, rows_of};
 
 /// The left end of the processes' lines.
 const LEFT: u64 = 80;
@@ -41,8 +42,8 @@ fn is_within(range: EntryRange, position: u32) -> bool
 }
 
 /// Returns whether the entry at a position is shown.
-pub fn is_shown(grid: Grid, position: u32) -> bool
-    ensures { result ≡ stretches.is_shown grid position }
+pub fn is_shown(grid: &Grid, position: u32) -> bool
+    ensures { result ≡ stretches.is_shown grid.now position }
 {
     is_within(grid.early, position) || is_within(grid.late, position)
 }
@@ -56,24 +57,24 @@ fn count_before(range: EntryRange, position: u32) -> u64
 }
 
 /// The number of shown entries before a position.
-fn columns_before(grid: Grid, position: u32) -> u64
-    ensures value { result ≡ layout.columns_before grid position }
+fn columns_before(grid: &Grid, position: u32) -> u64
+    ensures value { result ≡ layout.columns_before grid.now position }
     ensures small { result < 2 ^ 33 }
 {
     count_before(grid.early, position) + count_before(grid.late, position)
 }
 
 /// The number of shown entries.
-pub fn columns_of(grid: Grid) -> u64
-    ensures value { result ≡ layout.columns_of grid }
+pub fn columns_of(grid: &Grid) -> u64
+    ensures value { result ≡ layout.columns_of grid.now }
     ensures small { result < 2 ^ 33 }
 {
     u64::from(grid.early.count) + u64::from(grid.late.count)
 }
 
 /// The distance between entries: 30, or less if all columns would be wider than 2,200.
-pub fn column_of(grid: Grid) -> u64
-    ensures value { result ≡ layout.column_of grid }
+pub fn column_of(grid: &Grid) -> u64
+    ensures value { result ≡ layout.column_of grid.now }
     ensures narrow { result ≤ 30 }
 {
     WIDEST_COLUMN.min(ALL_COLUMNS / (columns_of(grid) + 1))
@@ -81,8 +82,8 @@ pub fn column_of(grid: Grid) -> u64
 
 /// The x of an instant: halfway between the entries before and after it.
 #[tactic(auto, using(crate::proofs::Sizes::columns_small))]
-pub fn x_of_instant(grid: Grid, instant: u32) -> u64
-    ensures value { result ≡ layout.x_of_instant grid instant }
+pub fn x_of_instant(grid: &Grid, instant: u32) -> u64
+    ensures value { result ≡ layout.x_of_instant grid.now instant }
     ensures small { result < 2 ^ 39 }
 {
     let column = column_of(grid);
@@ -91,8 +92,8 @@ pub fn x_of_instant(grid: Grid, instant: u32) -> u64
 
 /// The x of the entry at a position; for a hidden entry, the x of the cut.
 #[tactic(auto, using(crate::proofs::Sizes::columns_small))]
-pub fn x_of(grid: Grid, position: u32) -> u64
-    ensures value { result ≡ layout.x_of grid position }
+pub fn x_of(grid: &Grid, position: u32) -> u64
+    ensures value { result ≡ layout.x_of grid.now position }
     ensures small { result < 2 ^ 39 }
 {
     if is_shown(grid, position) {
@@ -104,24 +105,24 @@ pub fn x_of(grid: Grid, position: u32) -> u64
 
 /// The right end of the processes' lines.
 #[tactic(auto, using(crate::proofs::Sizes::columns_fit))]
-pub fn right_of(grid: Grid) -> u64
-    ensures value { result ≡ layout.right_of grid }
+pub fn right_of(grid: &Grid) -> u64
+    ensures value { result ≡ layout.right_of grid.now }
     ensures narrow { result ≤ 2280 }
 {
     LEFT + column_of(grid) * (columns_of(grid) + 1)
 }
 
 /// The width of the picture: as its lines or its words require.
-pub fn width_of(grid: Grid) -> u64
-    ensures value { result ≡ layout.width_of grid }
+pub fn width_of(grid: &Grid) -> u64
+    ensures value { result ≡ layout.width_of grid.now }
     ensures narrow { result ≤ 2400 }
 {
     (right_of(grid) + 120).max(600)
 }
 
 /// The entries up to the cut, or all if there is none.
-pub fn early_panel(grid: Grid) -> Panel
-    ensures { result ≡ layout.early_panel grid }
+pub fn early_panel(grid: &Grid) -> Panel
+    ensures { result ≡ layout.early_panel grid.now }
 {
     let right = if grid.late.count == 0 {
         right_of(grid)
@@ -136,8 +137,8 @@ pub fn early_panel(grid: Grid) -> Panel
 }
 
 /// The entries from the cut on.
-pub fn late_panel(grid: Grid) -> Panel
-    ensures { result ≡ layout.late_panel grid }
+pub fn late_panel(grid: &Grid) -> Panel
+    ensures { result ≡ layout.late_panel grid.now }
 {
     Panel {
         range: grid.late,
@@ -147,37 +148,37 @@ pub fn late_panel(grid: Grid) -> Panel
 }
 
 /// The distance between processes' lines: 40, or less if all rows would be higher than 560, but at least 16.
-pub fn row_of(processes: u16) -> u32
-    ensures value { result ≡ layout.row_of processes }
+pub fn row_of(rows: u16) -> u32
+    ensures value { result ≡ layout.row_of rows }
     ensures low { result ≤ 40 }
     ensures high { 16 ≤ result }
 {
-    LOWEST_ROW.max(HIGHEST_ROW.min(ALL_ROWS / (u32::from(processes) + 1)))
+    LOWEST_ROW.max(HIGHEST_ROW.min(ALL_ROWS / (u32::from(rows) + 1)))
 }
 
-/// The y of a process's line.
+/// The y of a process's line; of a hidden process, that of the next shown one.
 #[tactic(auto, using(crate::proofs::Sizes::rows_small))]
-pub fn y_of(grid: Grid, process: u16) -> u32
-    ensures value { result ≡ layout.y_of grid process }
+pub fn y_of(grid: &Grid, process: u8) -> u32
+    ensures value { result ≡ layout.y_of grid.now process }
     ensures below { 92 ≤ result }
 {
-    TOP + row_of(grid.processes) * u32::from(process)
+    TOP + row_of(rows_of(grid)) * u32::from(rank_of(grid.shown, process))
 }
 
 /// The y at which the legend begins.
 #[tactic(auto, using(crate::proofs::Sizes::rows_small))]
-pub fn bottom_of(processes: u16) -> u32
-    ensures value { result ≡ layout.bottom_of processes }
+pub fn bottom_of(rows: u16) -> u32
+    ensures value { result ≡ layout.bottom_of rows }
     ensures low { result < 2 ^ 22 }
 {
-    TOP + row_of(processes) * u32::from(processes)
+    TOP + row_of(rows) * u32::from(rows)
 }
 
-/// The height of the picture; at most 740 for up to 20 processes.
+/// The height of the picture; at most 740 for up to 20 rows.
 #[tactic(auto, using(crate::proofs::Sizes::rows_fit))]
-pub fn height_of(processes: u16) -> u32
-    ensures value { result ≡ layout.height_of processes }
-    ensures low { processes ≤ 20 → result ≤ 740 }
+pub fn height_of(rows: u16) -> u32
+    ensures value { result ≡ layout.height_of rows }
+    ensures low { rows ≤ 20 → result ≤ 740 }
 {
-    bottom_of(processes) + 80
+    bottom_of(rows) + 80
 }

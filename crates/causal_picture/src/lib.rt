@@ -1,7 +1,7 @@
 //! The space-time diagram of a recorded run in SVG 1.1: a line for each process from left to right, marks for its
 //! events, and arrows for messages (Lamport 1978).
 //!
-//! Begin at [`picture_of`]; a [`Focus`] selects what is shown besides the run.
+//! Begin at [`picture_of`]; a [`Focus`] is what is shown besides the run, a [`Selection`] which part of it.
 #![tactic(auto)]
 
 /// The caption: the verdict and the bound f.
@@ -30,6 +30,10 @@ pub mod picture;
 mod resent;
 /// The processes at the instant.
 mod roles;
+/// The processes that a picture shows.
+pub mod rows;
+/// Which part of a run a picture shows.
+pub mod selection;
 /// Glyphs, lines and labels.
 mod glyphs;
 /// The entries that a picture shows.
@@ -41,3 +45,4 @@ mod words;
 
 pub use focus::{Band, Focus, Orphan};
 pub use picture::picture_of;
+pub use selection::Selection;

@@ -19,25 +19,25 @@ use causal_trace::Trace;
 use std::alloc::AllocError;
 
 /// Returns whether the event ends the line of a process that is up at position `from`: it is the process's crash.
-fn ends_line(process: u16, from: u32, mark: &Mark) -> bool
+fn ends_line(process: u8, from: u32, mark: &Mark) -> bool
     ensures { result ≡ drawn.ends_line process from mark.now }
 {
     match mark.event {
-        MarkEvent::Crash { who } => from <= mark.position && u16::from(who.0) == process,
+        MarkEvent::Crash { who } => from <= mark.position && who.0 == process,
         _ => false,
     }
 }
 
 /// The event that ends the line of a process that is up at position `from`.
-fn line_end(marks: &[Mark], process: u16, from: u32) -> Option<&Mark>
+fn line_end(marks: &[Mark], process: u8, from: u32) -> Option<&Mark>
     ensures { option_copied result ≡ find (drawn.ends_line process from) marks.now }
 {
     marks.iter().find(|mark| ends_line(process, from, mark))
 }
 
 /// The x at which a process's solid line from a position ends: that of its next crash, or the panel's right end.
-pub fn line_end_x(grid: Grid, panel: Panel, marks: &[Mark], process: u16, from: u32) -> u64
-    ensures { result ≡ drawn.line_end_x grid panel marks.now process from }
+pub fn line_end_x(grid: &Grid, panel: Panel, marks: &[Mark], process: u8, from: u32) -> u64
+    ensures { result ≡ drawn.line_end_x grid.now panel marks.now process from }
 {
     match line_end(marks, process, from) {
         Some(mark) => x_of(grid, mark.position),
@@ -52,52 +52,54 @@ pub fn push_up(out: &mut String, from: u64, to: u64, y: u32) -> Result<(), Alloc
     push_level(out, from, to, y, "stroke='#222' stroke-width='1.5'")
 }
 
-/// Appends the arrow of a delivery, from the send entry; if that is hidden, from the cut.
+/// Appends the arrow of a delivery, from the send entry; if that is hidden, from the cut; if the sender is hidden, none.
 fn push_arrow(
     out: &mut String,
-    grid: Grid,
+    grid: &Grid,
     position: u32,
     det: Det,
     send: u32,
 ) -> Result<(), AllocError>
-    ensures { Appends result out.old out.new (drawn.arrow_text grid position det send) }
+    ensures { Appends result out.old out.new (drawn.arrow_text grid.now position det send) }
 {
+    if !grid.shown.contains(det.source.0) {
+        return Ok(());
+    }
     let from = x_of(grid, send);
     let to = x_of(grid, position);
-    let y = y_of(grid, u16::from(det.dest.0));
+    let y = y_of(grid, det.dest.0);
     if det.source.0 == det.dest.0 {
         push_bent(out, from, to, y)
     } else {
-        push_straight(out, from, y_of(grid, u16::from(det.source.0)), to, y)
+        push_straight(out, from, y_of(grid, det.source.0), to, y)
     }
 }
 
 /// Appends the line of a process from its restart on.
 fn push_return(
     out: &mut String,
-    grid: Grid,
+    grid: &Grid,
     panel: Panel,
     marks: &[Mark],
     position: u32,
     who: Pid,
 ) -> Result<(), AllocError>
-    ensures { Appends result out.old out.new (drawn.return_text grid panel marks.now position who) }
+    ensures { Appends result out.old out.new (drawn.return_text grid.now panel marks.now position who) }
 {
-    let process = u16::from(who.0);
-    let to = line_end_x(grid, panel, marks, process, position);
-    push_up(out, x_of(grid, position), to, y_of(grid, process))
+    let to = line_end_x(grid, panel, marks, who.0, position);
+    push_up(out, x_of(grid, position), to, y_of(grid, who.0))
 }
 
 /// Appends the arrow of a delivery, or the line of a process that restarts.
 #[tactic(auto, unfolding(crate::specs::MarkTexts::link_text))]
 fn push_link(
     out: &mut String,
-    grid: Grid,
+    grid: &Grid,
     panel: Panel,
     marks: &[Mark],
     mark: &Mark,
 ) -> Result<(), AllocError>
-    ensures { Appends result out.old out.new (drawn.link_text grid panel marks.now mark.now) }
+    ensures { Appends result out.old out.new (drawn.link_text grid.now panel marks.now mark.now) }
 {
     match mark.event {
         MarkEvent::Delivery { det, send } => push_arrow(out, grid, mark.position, det, send),
@@ -117,8 +119,8 @@ fn push_upright_number(out: &mut String, x: u64, line: u64) -> Result<(), AllocE
 }
 
 /// Appends the line number of an entry above its column: horizontal if the columns are wide, otherwise vertical.
-fn push_number(out: &mut String, grid: Grid, position: u32) -> Result<(), AllocError>
-    ensures { Appends result out.old out.new (drawn.number_text grid position) }
+fn push_number(out: &mut String, grid: &Grid, position: u32) -> Result<(), AllocError>
+    ensures { Appends result out.old out.new (drawn.number_text grid.now position) }
 {
     let x = x_of(grid, position);
     if column_of(grid) < 28 {
@@ -141,11 +143,11 @@ fn push_group(out: &mut String, is_faint: bool) -> Result<(), AllocError>
 
 /// Appends the glyph of an event, on the line of its process.
 #[tactic(auto, unfolding(crate::specs::MarkTexts::sign_text))]
-fn push_sign(out: &mut String, grid: Grid, mark: &Mark) -> Result<(), AllocError>
-    ensures { Appends result out.old out.new (drawn.sign_text grid mark.now) }
+fn push_sign(out: &mut String, grid: &Grid, mark: &Mark) -> Result<(), AllocError>
+    ensures { Appends result out.old out.new (drawn.sign_text grid.now mark.now) }
 {
     let x = x_of(grid, mark.position);
-    let y = y_of(grid, u16::from(mark.event.process().0));
+    let y = y_of(grid, mark.event.process().0);
     push_glyph(out, x, y, glyph_of(&mark.event))
 }
 
@@ -155,13 +157,13 @@ fn push_sign(out: &mut String, grid: Grid, mark: &Mark) -> Result<(), AllocError
 fn push_mark(
     out: &mut String,
     trace: &Trace,
-    grid: Grid,
+    grid: &Grid,
     panel: Panel,
     marks: &[Mark],
     mark: &Mark,
 ) -> Result<(), AllocError>
     ensures { Appends result out.old out.new
-        (drawn.mark_text trace.now.recording grid panel marks.now mark.now) }
+        (drawn.mark_text trace.now.recording grid.now panel marks.now mark.now) }
 {
     push_group(out, is_resent(trace, mark))?;
     push_title(out, trace, mark)?;
@@ -171,19 +173,38 @@ fn push_mark(
     push_words(out, "</g>\n")
 }
 
-/// Appends the events of a panel, in order.
+/// Appends an event if its process is shown.
+fn push_shown_mark(
+    out: &mut String,
+    trace: &Trace,
+    grid: &Grid,
+    panel: Panel,
+    marks: &[Mark],
+    mark: &Mark,
+) -> Result<(), AllocError>
+    ensures { Appends result out.old out.new
+        (drawn.shown_mark_text trace.now.recording grid.now panel marks.now mark.now) }
+{
+    if grid.shown.contains(mark.event.process().0) {
+        push_mark(out, trace, grid, panel, marks, mark)
+    } else {
+        Ok(())
+    }
+}
+
+/// Appends the events of a panel on the lines of shown processes, in order.
 pub fn push_marks(
     out: &mut String,
     trace: &Trace,
-    grid: Grid,
+    grid: &Grid,
     panel: Panel,
     marks: &[Mark],
 ) -> Result<(), AllocError>
     ensures { Appends result out.old out.new
-        (drawn.marks_text trace.now.recording grid panel marks.now) }
+        (drawn.marks_text trace.now.recording grid.now panel marks.now) }
 {
     for mark in marks {
-        push_mark(out, trace, grid, panel, marks, mark)?;
+        push_shown_mark(out, trace, grid, panel, marks, mark)?;
     }
     Ok(())
 }

@@ -9,6 +9,7 @@ use crate::glyphs::{Glyph, Label, push_glyph, push_label, push_level, push_uprig
 use crate::layout::{bottom_of, is_shown, x_of, x_of_instant, y_of};
 use crate::marks::{Mark, mark_at};
 use crate::roles::push_processes;
+use crate::rows::rows_of;
 use crate::words::push_words;
 use causal_name::NoMemory;
 use causal_trace::Trace;
@@ -23,36 +24,47 @@ pub struct Point {
 
 /// The point of an event.
 #[tactic(auto, unfolding(crate::specs::Overlays::point_of))]
-fn point_of(grid: Grid, mark: &Mark) -> Point
-    ensures { result ≡ overlays.point_of grid mark.now }
+fn point_of(grid: &Grid, mark: &Mark) -> Point
+    ensures { result ≡ overlays.point_of grid.now mark.now }
 {
     Point {
         x: x_of(grid, mark.position),
-        y: y_of(grid, u16::from(mark.event.process().0)),
+        y: y_of(grid, mark.event.process().0),
     }
 }
 
-/// The point of the entry at a position, if it is shown.
+/// The point of an event, if its process is shown.
+fn shown_point(grid: &Grid, mark: &Mark) -> Option<Point>
+    ensures { result ≡ overlays.shown_point grid.now mark.now }
+{
+    if grid.shown.contains(mark.event.process().0) {
+        Some(point_of(grid, mark))
+    } else {
+        None
+    }
+}
+
+/// The point of the entry at a position, if it is shown, and its process.
 #[tactic(auto, unfolding(crate::specs::Overlays::point_at))]
-fn point_at(trace: &Trace, grid: Grid, position: u32) -> Option<Point>
-    ensures { result ≡ overlays.point_at trace.now.recording.past grid position }
+fn point_at(trace: &Trace, grid: &Grid, position: u32) -> Option<Point>
+    ensures { result ≡ overlays.point_at trace.now.recording.past grid.now position }
 {
     if !is_shown(grid, position) {
         return None;
     }
     let mark = mark_at(trace, position)?;
-    Some(point_of(grid, &mark))
+    shown_point(grid, &mark)
 }
 
 /// The points of a chain's shown entries.
 pub fn points_of(
     alloc: Global,
     trace: &Trace,
-    grid: Grid,
+    grid: &Grid,
     chain: &[u32],
 ) -> Result<Vec<Point>, NoMemory>
     ensures { IfOk result
-        (λ found. found.items ≡ overlays.points_of trace.now.recording.past grid chain.now) }
+        (λ found. found.items ≡ overlays.points_of trace.now.recording.past grid.now chain.now) }
 {
     let mut points = Vec::new(alloc);
     for position in chain {
@@ -109,8 +121,8 @@ fn push_chain(out: &mut String, points: &[Point]) -> Result<(), AllocError>
 }
 
 /// The right end of a band: at the entry that ends it, or at the instant.
-fn band_end(grid: Grid, instant: u32, to: Option<u32>) -> u64
-    ensures { result ≡ overlays.band_end grid instant to }
+fn band_end(grid: &Grid, instant: u32, to: Option<u32>) -> u64
+    ensures { result ≡ overlays.band_end grid.now instant to }
 {
     match to {
         Some(position) => x_of(grid, position),
@@ -120,29 +132,45 @@ fn band_end(grid: Grid, instant: u32, to: Option<u32>) -> u64
 
 /// Appends a band along the line of its process. Like the chain it receives no pointer events.
 #[tactic(auto, unfolding(crate::specs::Overlays::band_text))]
-fn push_band(out: &mut String, grid: Grid, instant: u32, band: Band) -> Result<(), AllocError>
-    ensures { Appends result out.old out.new (overlays.band_text grid instant band) }
+fn push_band(out: &mut String, grid: &Grid, instant: u32, band: Band) -> Result<(), AllocError>
+    ensures { Appends result out.old out.new (overlays.band_text grid.now instant band) }
 {
     push_level(
         out,
         x_of(grid, band.from),
         band_end(grid, instant, band.to),
-        y_of(grid, u16::from(band.process)),
+        y_of(grid, band.process),
         "stroke='#0072b2' stroke-width='10' stroke-opacity='0.25' pointer-events='none'",
     )
 }
 
-/// Appends the bands.
+/// Appends a band if its process is shown.
+fn push_shown_band(
+    out: &mut String,
+    grid: &Grid,
+    instant: u32,
+    band: Band,
+) -> Result<(), AllocError>
+    ensures { Appends result out.old out.new (overlays.shown_band grid.now instant band) }
+{
+    if grid.shown.contains(band.process) {
+        push_band(out, grid, instant, band)
+    } else {
+        Ok(())
+    }
+}
+
+/// Appends the bands of shown processes.
 pub fn push_bands(
     out: &mut String,
-    grid: Grid,
+    grid: &Grid,
     instant: u32,
     bands: &[Band],
 ) -> Result<(), AllocError>
-    ensures { Appends result out.old out.new (overlays.bands_text grid instant bands.now) }
+    ensures { Appends result out.old out.new (overlays.bands_text grid.now instant bands.now) }
 {
     for band in bands {
-        push_band(out, grid, instant, *band)?;
+        push_shown_band(out, grid, instant, *band)?;
     }
     Ok(())
 }
@@ -151,15 +179,14 @@ pub fn push_bands(
 #[tactic(auto, unfolding(crate::specs::Overlays::instant_text))]
 pub fn push_instant(
     out: &mut String,
-    grid: Grid,
+    grid: &Grid,
     instant: u32,
     focus: &Focus<'_>,
 ) -> Result<(), AllocError>
-    requires { grid.processes < 257 }
-    ensures { Appends result out.old out.new (overlays.instant_text grid instant focus.now.orphan) }
+    ensures { Appends result out.old out.new (overlays.instant_text grid.now instant focus.now.orphan) }
 {
     let x = x_of_instant(grid, instant);
-    let bottom = bottom_of(grid.processes);
+    let bottom = bottom_of(rows_of(grid));
     write!(out, "<g><title>instant {instant}</title>\n")?;
     push_upright(
         out,

@@ -21,7 +21,7 @@ use std::alloc::{AllocError, Global};
 
 /// Appends the line of a process that is up, with its title.
 #[tactic(auto, unfolding(crate::specs::Panels::line_text))]
-fn push_line(out: &mut String, process: u16, from: u64, to: u64, y: u32) -> Result<(), AllocError>
+fn push_line(out: &mut String, process: u8, from: u64, to: u64, y: u32) -> Result<(), AllocError>
     ensures { Appends result out.old out.new (panels.line_text process from to y) }
 {
     push_process_title(out, process)?;
@@ -32,17 +32,16 @@ fn push_line(out: &mut String, process: u16, from: u64, to: u64, y: u32) -> Resu
 /// Appends the line of a process that is up at the panel's left end, to its crash or the right end.
 fn push_unless_down(
     out: &mut String,
-    grid: Grid,
+    grid: &Grid,
     panel: Panel,
     marks: &[Mark],
     down: Holders,
-    process: u16,
+    process: u8,
 ) -> Result<(), AllocError>
-    requires { process < 256 }
     ensures { Appends result out.old out.new
-        (panels.line_unless_down grid panel marks.now (contains down) process) }
+        (panels.line_unless_down grid.now panel marks.now (contains down) process) }
 {
-    if down.contains(process as u8) {
+    if down.contains(process) {
         return Ok(());
     }
     let to = line_end_x(grid, panel, marks, process, 0);
@@ -57,21 +56,21 @@ fn down_before(trace: &Trace, range: EntryRange) -> Holders
     down_after(&trace.entries()[..range.first as usize])
 }
 
-/// Appends the lines of the processes that are up at the panel's left end.
+/// Appends the lines of the shown processes that are up at the panel's left end.
 #[tactic(auto, unfolding(crate::specs::Panels::ups_text))]
 fn push_ups(
     out: &mut String,
     trace: &Trace,
-    grid: Grid,
+    grid: &Grid,
     panel: Panel,
     marks: &[Mark],
 ) -> Result<(), AllocError>
     requires { panel.range.first + panel.range.count ≤ length trace.now.recording.past }
     ensures { Appends result out.old out.new
-        (panels.ups_text trace.now.recording grid panel marks.now) }
+        (panels.ups_text trace.now.recording grid.now panel marks.now) }
 {
     let down = down_before(trace, panel.range);
-    for process in 0..trace.processes() {
+    for process in grid.shown.iter() {
         push_unless_down(out, grid, panel, marks, down, process)?;
     }
     Ok(())
@@ -83,11 +82,11 @@ pub fn push_panel(
     alloc: Global,
     out: &mut String,
     trace: &Trace,
-    grid: Grid,
+    grid: &Grid,
     panel: Panel,
 ) -> Result<(), NoMemory>
     requires { panel.range.first + panel.range.count ≤ length trace.now.recording.past }
-    ensures { Appends result out.old out.new (panels.panel_text trace.now.recording grid panel) }
+    ensures { Appends result out.old out.new (panels.panel_text trace.now.recording grid.now panel) }
 {
     let marks = marks_of(alloc, trace, panel.range)?;
     push_ups(out, trace, grid, panel, &marks)?;
@@ -96,9 +95,14 @@ pub fn push_panel(
 }
 
 /// Appends the part from the cut on, if there is a cut.
-pub fn push_late(alloc: Global, out: &mut String, trace: &Trace, grid: Grid) -> Result<(), NoMemory>
-    requires { stretches.GridFits (length trace.now.recording.past) grid }
-    ensures { Appends result out.old out.new (panels.late_text trace.now.recording grid) }
+pub fn push_late(
+    alloc: Global,
+    out: &mut String,
+    trace: &Trace,
+    grid: &Grid,
+) -> Result<(), NoMemory>
+    requires { stretches.GridFits (length trace.now.recording.past) grid.now }
+    ensures { Appends result out.old out.new (panels.late_text trace.now.recording grid.now) }
 {
     if grid.late.count == 0 {
         Ok(())

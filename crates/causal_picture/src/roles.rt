@@ -31,13 +31,12 @@ fn words_of(role: Role) -> &'static str
 }
 
 /// The role of a process.
-fn role_of(focus: &Focus<'_>, process: u16) -> Role
-    requires { process < 256 }
+fn role_of(focus: &Focus<'_>, process: u8) -> Role
     ensures { result ≡ roles.role_of focus.now.orphan process }
 {
     match &focus.orphan {
-        Some(orphan) if u16::from(orphan.process) == process => Role::Orphan,
-        Some(orphan) if orphan.holders.contains(process as u8) => Role::Holder,
+        Some(orphan) if orphan.process == process => Role::Orphan,
+        Some(orphan) if orphan.holders.contains(process) => Role::Holder,
         _ => Role::Other,
     }
 }
@@ -58,13 +57,12 @@ fn push_sign(out: &mut String, x: u64, y: u32, role: Role) -> Result<(), AllocEr
 #[tactic(auto, unfolding(crate::specs::Roles::process_text))]
 fn push_process(
     out: &mut String,
-    grid: Grid,
+    grid: &Grid,
     x: u64,
     focus: &Focus<'_>,
-    process: u16,
+    process: u8,
 ) -> Result<(), AllocError>
-    requires { process < 256 }
-    ensures { Appends result out.old out.new (roles.process_text grid x focus.now.orphan process) }
+    ensures { Appends result out.old out.new (roles.process_text grid.now x focus.now.orphan process) }
 {
     let (right, y) = (right_of(grid), y_of(grid, process));
     let role = role_of(focus, process);
@@ -76,18 +74,17 @@ fn push_process(
     )
 }
 
-/// Appends all processes at the instant.
+/// Appends the shown processes at the instant.
 #[tactic(auto, unfolding(crate::specs::Roles::processes_text))]
 pub fn push_processes(
     out: &mut String,
-    grid: Grid,
+    grid: &Grid,
     x: u64,
     focus: &Focus<'_>,
 ) -> Result<(), AllocError>
-    requires { grid.processes < 257 }
-    ensures { Appends result out.old out.new (roles.processes_text grid x focus.now.orphan) }
+    ensures { Appends result out.old out.new (roles.processes_text grid.now x focus.now.orphan) }
 {
-    for process in 0..grid.processes {
+    for process in grid.shown.iter() {
         push_process(out, grid, x, focus, process)?;
     }
     Ok(())

@@ -1,1 +1,2 @@
 mod ListTexts
+mod StoredLemmas

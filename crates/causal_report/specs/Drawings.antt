@@ -1,5 +1,5 @@
 -- The picture of a recording with its verdict.
-use Rattle.std.specs.Prelude.{◌≡◌, ℕ, List, [], fold, map, Option, Some, None}
+use Rattle.std.specs.Prelude.{◌≡◌, ◌++◌, ℕ, List, [], fold, map, Option, Some, None}
 use Rattle.std.specs.Ordering.{nat_cmp}
 use Rattle.std.specs.FinSet.{FinSet, empty, insert}
 use Rattle.causal_name.specs.declared.Det.{Det}
@@ -9,12 +9,15 @@ use Rattle.causal_trace.specs.Rows.{Recording}
 use Rattle.causal_audit.specs.declared.verdict.Verdict.{Verdict}
 use Rattle.causal_audit.specs.declared.verdict.Verdict.TheVariants.{Accept, Exceeded, Orphan}
 use Rattle.causal_explain.specs.declared.explanation.Holding.{Holding}
+use Rattle.causal_explain.specs.declared.explanation.Loss.{Loss}
 use Rattle.causal_explain.specs.Chains.{IsShortestChain}
-use Rattle.causal_explain.specs.ProcessFacts.{AreHoldings}
+use Rattle.causal_explain.specs.ProcessFacts.{AreHoldings, AreLosses}
 use Rattle.causal_picture.specs.declared.focus.Band.{Band}
 use Rattle.causal_picture.specs.declared.focus.Focus.{Focus}
 use Rattle.causal_picture.specs.declared.focus.Orphan as focus_words
+use Rattle.causal_picture.specs.declared.selection.Selection.{Selection}
 use Rattle.causal_picture.specs.Pictures.{picture}
+use Rattle.causal_picture.specs.Selections.{whole}
 
 -- the set of the processes in a list of holdings
 abbrev pub holders_of : List Holding → FinSet nat_cmp
@@ -24,20 +27,24 @@ holders_of holdings = fold (λ members (x : Holding). insert members x.process) 
 abbrev pub band_of : Holding → Band
 band_of h = record { process = h.process; from = h.since; to = None }
 
--- the bands of a list of holdings
-abbrev pub bands_of : List Holding → List Band
-bands_of holdings = map band_of holdings
+-- the band of a process that lost the determinant: from the entry since which it last held it, to the loss
+abbrev pub lost_band : Loss → Band
+lost_band l = record { process = l.process; from = l.since; to = Some l.lost }
 
--- the picture of the recording for f with this instant and crash set, and a chain, an orphan and bands that satisfy the
--- predicates
-pub record IsPictureOf (r : Recording) (f t : ℕ) (crash : FinSet nat_cmp) (IsChain : List ℕ → Type 0) (IsOrphan : Option focus_words.Orphan → Type 0) (AreBands : List Band → Type 0) (text : List ℕ) : Type 0 where
+-- the bands of lists of holdings and losses
+abbrev pub bands_of : List Holding → List Loss → List Band
+bands_of holdings losses = map band_of holdings ++ map lost_band losses
+
+-- the selected part of the picture of the recording for f with this instant and crash set, and a chain, an orphan and bands
+-- that satisfy the predicates
+pub record IsPictureOf (r : Recording) (f : ℕ) (s : Selection) (t : ℕ) (crash : FinSet nat_cmp) (IsChain : List ℕ → Type 0) (IsOrphan : Option focus_words.Orphan → Type 0) (AreBands : List Band → Type 0) (text : List ℕ) : Type 0 where
   pub focus : Focus
   pub at_instant : focus.instant ≡ t
   pub crashed : focus.crash ≡ crash
   pub linked : IsChain focus.chain.now
   pub orphaned : IsOrphan focus.orphan
   pub banded : AreBands focus.bands.now
-  pub pictured : text ≡ picture r f (Some focus)
+  pub pictured : text ≡ picture r f (Some focus) s
 
 -- the picture's orphan of the delivery at position k, with the processes whose log contains the determinant at an
 -- instant
@@ -50,15 +57,22 @@ abbrev pub IsShownOrphan : Recording → ℕ → ℕ → ℕ → Option focus_wo
 IsShownOrphan r t k orphan shown =
     (d : Det) × (det_at r.past k ≡ Some d) × (holdings : List Holding) × ShowsOrphan r.processes (instant r.past t) k orphan d holdings shown
 
--- the bands of the processes that hold the determinant of delivery k at instant t
-abbrev pub AreShownBands : Recording → ℕ → ℕ → List Band → Type 0
-AreShownBands r t k bands =
-    (d : Det) × (det_at r.past k ≡ Some d) × (holdings : List Holding) × AreHoldings r.processes (instant r.past t) d holdings × (bands ≡ bands_of holdings)
+-- the bands are those of the processes that hold determinant d at a state, and of those that lost it
+abbrev pub AreBandsOf : ℕ → List Entry → Det → List Band → Type 0
+AreBandsOf n past d bands = (holdings : List Holding) × (losses : List Loss) × AreHoldings n past d holdings × AreLosses n past d losses × (bands ≡ bands_of holdings losses)
 
--- accept: the run alone. Exceeded: the down processes. Orphan: the crash set, a shortest chain to the orphan, the
--- orphan, and the processes that hold the determinant, with how long they do.
+-- the bands of the processes that hold or lost the determinant of delivery k at instant t
+abbrev pub AreShownBands : Recording → ℕ → ℕ → List Band → Type 0
+AreShownBands r t k bands = (d : Det) × (det_at r.past k ≡ Some d) × AreBandsOf r.processes (instant r.past t) d bands
+
+-- the selected part of the drawing. Accept: the run alone. Exceeded: the down processes. Orphan: the crash set, a shortest
+-- chain to the orphan, the orphan, and the processes that hold or lost the determinant, with how long they held it.
+abbrev pub IsSelectedDrawing : Recording → ℕ → Selection → Verdict → List ℕ → Type 0
+IsSelectedDrawing r f s Accept text = text ≡ picture r f None s
+IsSelectedDrawing r f s (Exceeded t down) text = IsPictureOf r f s t down (λ chain. chain ≡ []) (λ orphan. orphan ≡ None) (λ bands. bands ≡ []) text
+IsSelectedDrawing r f s (Orphan t k crash orphan) text =
+    IsPictureOf r f s t crash (IsShortestChain (instant r.past t) k orphan) (IsShownOrphan r t k orphan) (AreShownBands r t k) text
+
+-- the whole drawing
 abbrev pub IsDrawing : Recording → ℕ → Verdict → List ℕ → Type 0
-IsDrawing r f Accept text = text ≡ picture r f None
-IsDrawing r f (Exceeded t down) text = IsPictureOf r f t down (λ chain. chain ≡ []) (λ orphan. orphan ≡ None) (λ bands. bands ≡ []) text
-IsDrawing r f (Orphan t k crash orphan) text =
-    IsPictureOf r f t crash (IsShortestChain (instant r.past t) k orphan) (IsShownOrphan r t k orphan) (AreShownBands r t k) text
+IsDrawing r f verdict text = IsSelectedDrawing r f whole verdict text

@@ -1,2 +1,3 @@
 -- Contracts of private functions; no public clause cites them.
 pub mod Appends
+pub mod Storing

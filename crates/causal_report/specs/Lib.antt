@@ -7,6 +7,8 @@ pub mod Chains
 pub mod Underway
 pub mod Closest
 pub mod Explanations
+pub mod Survivors
+pub mod Strays
 pub mod Reasons
 pub mod Drawings
 pub mod Objects

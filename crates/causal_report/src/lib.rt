@@ -26,12 +26,18 @@ mod json;
 mod place;
 /// The text that explains a verdict on a trace.
 pub mod reason;
+/// The text of the first stray of a run.
+pub mod stray;
+/// The lines of who has which of the two determinants of a stray.
+pub mod survivors;
 /// The text of the first delivery that brings a determinant which was in transit.
 mod underway;
 
 pub use closest::closest_text;
-pub use drawing::drawing_of;
+pub use drawing::{drawing_of, selected_drawing_of};
 pub use excess::excess_text;
 pub use explanation::explanation_text;
 pub use json::{ranges_object, verdict_object};
 pub use reason::{line_with_reason, reason_text};
+pub use stray::stray_fields;
+pub use survivors::survivor_lines;

@@ -1,11 +1,12 @@
 //! The text that explains a verdict on a trace.
 ghost use Rattle.std.specs.Prelude.{◌≡◌, ◌++◌, ℕ, List, IfOk};
 ghost use Rattle.causal_audit.specs.Verdicts.{IsVerdict};
-ghost use Rattle.causal_report.specs.Reasons.{IsReason};
+ghost use Rattle.causal_report.specs.Reasons.{IsReason, IsVerdictReason};
 
 use crate::closest::closest_text;
 use crate::excess::excess_text;
 use crate::explanation::explanation_text;
+use crate::stray::stray_text;
 use causal_audit::Verdict;
 use causal_explain::{cause_of, closest_failure, down_since, explain};
 use causal_name::NoMemory;
@@ -33,10 +34,8 @@ pub fn line_with_reason(
     Ok(text)
 }
 
-/// Formats the explanation of the verdict on a trace for f. For an excess: the crash that exceeded f, and each down
-/// process with the line of its crash. For an orphan: the entry that caused it, and its explanation. For an accepted
-/// trace: the delivery that comes closest to having an orphan, and so the greater bounds f for which the trace is
-/// accepted.
+/// Formats the explanation of the verdict on a trace for f, and then, if a recovery strayed, the first stray and who has
+/// which of its two determinants.
 ///
 /// # Errors
 /// `NoMemory` if allocation failed.
@@ -48,6 +47,25 @@ pub fn reason_text(
 ) -> Result<Vec<u8>, NoMemory>
     requires { IsVerdict trace.now.recording f verdict }
     ensures { IfOk result (λ text. IsReason trace.now.recording f verdict text.items) }
+{
+    let stray = stray_text(alloc, trace)?;
+    let mut text = verdict_reason(alloc, trace, f, verdict)?;
+    text.extend_from_slice(stray.as_slice())?;
+    Ok(text)
+}
+
+/// Formats the explanation of the verdict on a trace for f. For an excess: the crash that exceeded f, and each down
+/// process with the line of its crash. For an orphan: the entry that caused it, and its explanation. For an accepted
+/// trace: the delivery that comes closest to having an orphan, and so the greater bounds f for which the trace is
+/// accepted.
+fn verdict_reason(
+    alloc: Global,
+    trace: &Trace,
+    f: u16,
+    verdict: Verdict,
+) -> Result<Vec<u8>, NoMemory>
+    requires { IsVerdict trace.now.recording f verdict }
+    ensures { IfOk result (λ text. IsVerdictReason trace.now.recording f verdict text.items) }
 {
     let cause = cause_of(trace, &verdict);
     match verdict {

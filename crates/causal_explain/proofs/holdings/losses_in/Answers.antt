@@ -16,14 +16,14 @@ loop-p-preserved c =
     let past = reverse c.args.entries.now in
     let p = c.loop-p.p in
     let was = c.loop-p.invariant in
-    elim c.match-ended_since.branch [
+    elim c.match-last_span.branch [
       | in-Some w ↦ rw w.losses-is (record {
         told = λ d stand.
             let standing = stand p c.loop-p-test.true in
             let so_far = was.told d stand in
             let right = w.in-Some.ensures past (λ state. logs state p d) standing in
             rw w.push_reserved.ensures.items
-            (tells_one p (λ q. ever_holds (λ state. logs state q d) past && not (logs past q d)) (λ (x : Loss). x.process) (IsLoss past d) c.loop-p.losses.items _ so_far refl (lost_now past (λ state. logs state p d) w.in-Some.lost right) (is_loss past d _ right.0 (w.lost_by.ensures ∙ ap lost_by (sym (entry_of c.args.entries.now w.in-Some.lost)))));
+            (tells_one p (λ q. ever_holds (λ state. logs state q d) past && not (logs past q d)) (λ (x : Loss). x.process) (IsLoss past d) c.loop-p.losses.items _ so_far refl (lost_now past (λ state. logs state p d) w.in-Some.span.to right.0) (is_loss past d _ right.1 right.0.0 (w.lost_by.ensures ∙ ap lost_by (sym (entry_of c.args.entries.now w.in-Some.span.to)))));
         len = omega (arith, w.push_reserved.ensures.len, was.len);
         room = omega (arith, w.push_reserved.ensures.capacity, was.room);
       })

@@ -12,15 +12,25 @@ returns c =
     let past = c.args.trace.now.recording.past in
     let x = c.in_ok-explanation.explanation in
     let told = c.in_ok-explanation.ensures in
-    let held = c.holders_of.ensures ∙ ap holders_of c.as_slice-3.ensures.value in
+    let held = c.holders_of.ensures ∙ ap holders_of c.as_slice-4.ensures.value in
     IfOk-weaker c.picture_of.result _ _
     (λ text same. record {
       focus = _;
       at_instant = refl;
       crashed = refl;
-      linked = subst (IsShortestChain (instant past b.instant) b.delivery b.orphan) (sym c.as_slice-2.ensures.value) told.chain;
+      linked = subst (IsShortestChain (instant past b.instant) b.delivery b.orphan) (sym c.as_slice-3.ensures.value) told.chain;
       orphaned = (x.det, told.det, x.holders.items, record { held = told.holders; shows = ap (λ h. Some (record { process = b.orphan; delivery = b.delivery; holders = h })) held });
-      banded = (x.det, told.det, x.holders.items, told.holders, c.as_slice-4.ensures.value ∙ c.in_ok-bands.ensures ∙ ap bands_of c.as_slice.ensures.value);
+      banded = (
+        x.det,
+        told.det,
+        (
+          x.holders.items,
+          x.losses.items,
+          told.holders,
+          told.losses,
+          c.as_slice-5.ensures.value ∙ c.in_ok-bands.ensures ∙ ap (λ hs. bands_of hs c.as_slice-2.result.now) c.as_slice.ensures.value ∙ ap (bands_of x.holders.items) c.as_slice-2.ensures.value,
+        ),
+      );
       pictured = same;
     })
     c.picture_of.ensures

@@ -1,6 +1,6 @@
 use Rattle.std.proofs.Common.{refl}
 use Rattle.std.proofs.lemmas.Result.{IfOk-weaker}
-use Rattle.causal_report.proofs.drawing.drawing_of.Goals as goal
+use Rattle.causal_report.proofs.drawing.selected_drawing_of.Goals as goal
 
 pub returns-in-Exceeded : goal.returns-in-Exceeded
 returns-in-Exceeded c =

@@ -2,7 +2,7 @@ use Rattle.std.proofs.Common.{Some, subst}
 use Rattle.std.proofs.lemmas.Result.{IfOk-weaker}
 use Rattle.causal_audit.specs.declared.verdict.Verdict.TheVariants.{Orphan}
 use Rattle.causal_explain.specs.Causes.{IsCauseOf}
-use Rattle.causal_report.proofs.reason.reason_text.Goals as goal
+use Rattle.causal_report.proofs.reason.verdict_reason.Goals as goal
 
 pub unreachable-requires : goal.unreachable-requires
 unreachable-requires c = rw (c.in-Exceeded.is, c.in_default-cause.is) at (c.cause_of-cause.ensures c.args.f c.requires)
