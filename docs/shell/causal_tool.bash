@@ -2,16 +2,19 @@
 _causal_tool() {
     local word=${COMP_WORDS[COMP_CWORD]} before=${COMP_WORDS[COMP_CWORD - 1]} offered=
     case $before in
-    --faults | --workers | --entries) return ;;
+    --faults | --workers | --entries | --around) return ;;
+    --only) offered=breach ;;
     esac
-    if ((COMP_CWORD == 1)); then
+    if [[ $offered ]]; then
+        :
+    elif ((COMP_CWORD == 1)); then
         offered="audit explain replays draw merge run help --help --version"
     else
         case ${COMP_WORDS[1]} in
         audit) offered="--faults --workers --entries --until-breach --json --help" ;;
         explain) offered="--faults --workers --entries --json --help" ;;
         replays) offered="--workers --entries --json --help" ;;
-        draw) offered="--faults --workers --entries --help" ;;
+        draw) offered="--faults --workers --entries --around --only --help" ;;
         merge) offered="--entries --help" ;;
         run) offered="--help" ;;
         help) ((COMP_CWORD == 2)) && offered="audit explain replays draw merge run help" ;;

@@ -6,5 +6,4 @@ mod PrintLemmas
 mod ReadLemmas
 mod Refusals
 mod ReplayLemmas
-mod StoredLemmas
 mod Writing

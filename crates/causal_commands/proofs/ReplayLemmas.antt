@@ -1,15 +1,11 @@
--- What `replays` answers to a text that is no trace, and whose determinants a stray names.
-use Rattle.std.proofs.Common.{◌≡◌, ◌≤◌, List, ℕ, Option, Result, Ok, Err, Some, IfOk, sym, subst, arith, ◌∙◌, length, ◌<◌}
+-- What `replays` answers to a text that is no trace.
+use Rattle.std.proofs.Common.{◌≡◌, List, ℕ, Option, Result, Ok, Err, IfOk, sym, subst}
 use Rattle.std.specs.Prelude.{IfSome}
-use Rattle.causal_name.specs.declared.Det.{Det}
-use Rattle.causal_trace.specs.declared.entry.Entry.{Entry}
-use Rattle.causal_trace.specs.Past.{instant, det_at}
-use Rattle.causal_trace.proofs.Lemmas.AtInstants.{det_then, det_within, instant_length}
 use Rattle.causal_commands.specs.declared.answer.Answer.{Answer}
 use Rattle.causal_commands.specs.declared.ended.Ended.{Ended}
 use Rattle.causal_commands.specs.declared.ended.Ended.TheVariants.{Accepted, Breached, Ranged, Followed, Strayed, Merged, Faulted, Ran, Refused, ReadFault, WriteFault, NoMemory, NoWorker, FinishFault}
 use Rattle.causal_commands.specs.declared.input_audit.StreamRefusal.{StreamRefusal}
-use Rattle.causal_commands.specs.declared.survivors.StrayDetail.{StrayDetail}
+use Rattle.causal_commands.specs.declared.stray.StrayDetail.{StrayDetail}
 use Rattle.causal_trace.specs.Rows.{Recording}
 use Rattle.causal_text.specs.Spelling.{SpellsWithin}
 use Rattle.causal_commands.specs.Replays.{IsReplaysAnswer, IsReplaysOf}
@@ -41,9 +37,3 @@ answers_text most detail text r WriteFault out spells is = absurd is
 answers_text most detail text r NoMemory out spells is = absurd is
 answers_text most detail text r NoWorker out spells is = absurd is
 answers_text most detail text r FinishFault out spells is = absurd is
-
--- a delivery of an instant is one of the recording
-pub delivered_in : (past : List Entry) (t k : ℕ) (d : Det) → t ≤ length past → det_at (instant past t) k ≡ Some d → det_at past k ≡ Some d
-delivered_in past t k d within at =
-    let early : k < t = omega (arith, det_within (instant past t) k d at, instant_length past t within) in
-    sym (det_then past t k early within) ∙ at

@@ -10,7 +10,7 @@ use Rattle.causal_commands.specs.declared.ended.Ended.TheVariants.{Ranged}
 use Rattle.causal_commands.specs.declared.json.Question.{Question}
 use Rattle.causal_commands.specs.declared.json.Question.TheVariants.{Verdict, Breach, Reason, Range, Replays}
 use Rattle.causal_commands.specs.declared.view.View.TheVariants as view
-use Rattle.causal_commands.specs.declared.survivors.StrayDetail.TheVariants.{WithSurvivors}
+use Rattle.causal_commands.specs.declared.stray.StrayDetail.TheVariants.{WithSurvivors}
 use Rattle.causal_commands.specs.Ranges.{IsRangeAnswer}
 use Rattle.causal_commands.specs.Replays.{IsReplaysAnswer}
 use Rattle.causal_commands.specs.Views.{IsViewAnswer}

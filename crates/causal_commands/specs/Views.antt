@@ -5,7 +5,7 @@ use Rattle.causal_trace.specs.Rows.{Recording}
 use Rattle.causal_line.specs.declared.kind.TextFault.{TextFault}
 use Rattle.causal_text.specs.Spelling.{IsFirstFaultWithin}
 use Rattle.causal_audit.specs.declared.verdict.Verdict.TheVariants.{Accept}
-use Rattle.causal_report.specs.Drawings.{IsDrawing}
+use Rattle.causal_report.specs.Drawings.{IsSelectedDrawing}
 use Rattle.causal_report.specs.Reasons.{IsReason}
 use Rattle.causal_commands.specs.declared.ended.Ended.{Ended}
 use Rattle.causal_commands.specs.declared.ended.Ended.TheVariants.{Accepted, Breached, Faulted}
@@ -17,10 +17,11 @@ use Rattle.causal_workers.specs.declared.judgement.Judged.{Judged}
 use Rattle.causal_workers.specs.Judgements.{IsJudgementWithin}
 use Rattle.causal_workers.specs.Lines.{verdict_line}
 
--- the view of a recording with this verdict for f: the verdict line with the reason below it, or the picture
+-- the view of a recording with this verdict for f: the verdict line with the reason below it, or the selected part of the
+-- picture
 abbrev pub IsViewText : View → Recording → ℕ → Judged → List ℕ → Type 0
 IsViewText Reason r f judged out = (reason : List ℕ) × IsReason r f judged.verdict reason × (out ≡ verdict_line f judged ++ reason)
-IsViewText Picture r f judged out = IsDrawing r f judged.verdict out
+IsViewText (Picture selection) r f judged out = IsSelectedDrawing r f selection judged.verdict out
 
 -- the text spells a trace with this verdict for f, and this is its view
 pub record IsViewOf (most : ℕ) (view : View) (text : List ℕ) (f : ℕ) (judged : Judged) (out : List ℕ) : Type 0 where
@@ -30,7 +31,7 @@ pub record IsViewOf (most : ℕ) (view : View) (text : List ℕ) (f : ℕ) (judg
 -- the view of the text's first error: its line; as a picture, nothing
 abbrev pub IsViewOfFault : ℕ → View → List ℕ → List ℕ → Type 0
 IsViewOfFault most Reason text out = IsFaultLine most text out
-IsViewOfFault most Picture text out = (fault : TextFault) × IsFirstFaultWithin most text fault × (out ≡ [])
+IsViewOfFault most (Picture selection) text out = (fault : TextFault) × IsFirstFaultWithin most text fault × (out ≡ [])
 
 -- the view of a text for f, by the ending: that of its trace, or that of its first error
 abbrev pub IsViewAnswer : ℕ → View → List ℕ → ℕ → Ended → List ℕ → Type 0

@@ -51,8 +51,8 @@ pub mod script;
 pub mod view;
 /// The command `audit`.
 pub mod stream;
-/// The text of a stray, and of who has which of its two determinants.
-pub mod survivors;
+/// The text of a stray, without or with who has which of its two determinants.
+pub mod stray;
 /// The command `audit --until-breach`, which stops at the first breach that it finds.
 pub mod early_audit;
 

@@ -15,10 +15,11 @@ use crate::ended::Ended;
 use crate::input_audit::{StreamRefusal, read_input_by};
 use crate::stream::Outcome;
 use causal_name::NoMemory;
-use causal_report::{drawing_of, line_with_reason};
+use causal_picture::Selection;
+use causal_report::{line_with_reason, selected_drawing_of};
 use causal_trace::limits::Limits;
 use causal_trace::trace::Trace;
-use causal_workers::{Judged, OpenGate, judge_trace, verdict_line};
+use causal_workers::{AuditFault, Judged, OpenGate, judge_trace, verdict_line};
 use std::alloc::Global;
 use std::io::{Read, Write};
 use std::sync::Wait;
@@ -29,8 +30,8 @@ use std::thread::Threads;
 pub enum View {
     /// The verdict line, and below it the reason.
     Reason,
-    /// A space-time diagram, as SVG.
-    Picture,
+    /// The selected part of a space-time diagram, as SVG.
+    Picture { selection: Selection },
 }
 
 /// Reads the text of a trace within the limits by 1 to 64 workers, audits it for f by one, and writes the view. If the
@@ -112,7 +113,7 @@ fn view_fault_answer(alloc: Global, stopped: StreamRefusal, view: View) -> Resul
     };
     match view {
         View::Reason => Ok(answer),
-        View::Picture => Ok(Answer {
+        View::Picture { .. } => Ok(Answer {
             ended: answer.ended,
             line: Vec::new(alloc),
             refusal: answer.refusal,
@@ -167,8 +168,10 @@ fn view_of<R: Threads + Wait>(
     ensures shown { IfOk result
         (λ shown. IsViewText view trace.now.recording f shown.judged shown.text.items) }
 {
-    let Ok(judged) = judge_trace(rt, alloc, trace, f, 1, &OpenGate) else {
-        return Err(NoMemory);
+    let judged = match judge_trace(rt, alloc, trace, f, 1, &OpenGate) {
+        Ok(judged) => judged,
+        Err(AuditFault::NoMemory) => return Err(NoMemory),
+        Err(AuditFault::NoWorker) => unreachable!(),
     };
     let text = view_text(alloc, trace, f, &judged, view)?;
     Ok(ViewText { judged, text })
@@ -190,6 +193,8 @@ fn view_text(
             let line = verdict_line(alloc, f, judged)?;
             line_with_reason(alloc, line, trace, f, judged.verdict)
         }
-        View::Picture => drawing_of(alloc, trace, f, judged.verdict),
+        View::Picture { selection } => {
+            selected_drawing_of(alloc, trace, f, judged.verdict, selection)
+        }
     }
 }

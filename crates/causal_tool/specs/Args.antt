@@ -8,7 +8,7 @@ use Rattle.causal_tool.specs.declared.args.Invocation.TheVariants.{Trace, Draw}
 -- a question on a trace, or a picture of it, is requested with 1 to 64 workers
 abbrev pub HasWorkerCountInRange : Invocation → Type 0
 HasWorkerCountInRange (Trace question form limits) = HasFewWorkers question
-HasWorkerCountInRange (Draw faults workers limits) = (1 ≤ workers) × (workers ≤ 64)
+HasWorkerCountInRange (Draw faults workers limits selection) = (1 ≤ workers) × (workers ≤ 64)
 HasWorkerCountInRange _ = ⊤
 
 -- what a command line requests is within range

@@ -36,8 +36,8 @@ WritesAnswerIn Lines most (Replays workers) given ended old new = WritesReplaysF
 abbrev pub Answers : Invocation → CommandOutcome → Option (List ℕ) → Option (List ℕ) → Option (List ℕ) → Type 0
 Answers (Trace question form limits) (outcome_of.Trace f outcome) given old new =
     WritesAnswerIn form limits.entries question given outcome.ended old new × IsDiagnosisFor limits.entries given f outcome.fault × (f ≡ faults_of question)
-Answers (Draw faults workers limits) (outcome_of.Trace f outcome) given old new =
-    WritesViewFor limits.entries Picture given faults outcome.ended old new × IsDiagnosisFor limits.entries given f outcome.fault × (f ≡ faults)
+Answers (Draw faults workers limits selection) (outcome_of.Trace f outcome) given old new =
+    WritesViewFor limits.entries (Picture selection) given faults outcome.ended old new × IsDiagnosisFor limits.entries given f outcome.fault × (f ≡ faults)
 Answers (Merge limits) (outcome_of.Merge outcome) given old new = WritesMergeFor limits.entries given outcome old new
 Answers Run (outcome_of.Script outcome) given old new = WritesScriptFor given outcome.ended old new × IsReasonFor given outcome.fault
 Answers _ _ given old new = ⊥
@@ -46,7 +46,7 @@ Answers _ _ given old new = ⊥
 -- recordings or a script may have
 abbrev pub ReadsFor : Invocation → Option (List ℕ) → Option (List ℕ) → Type 0
 ReadsFor (Trace question form limits) old new = StopsFor limits.entries question old new
-ReadsFor (Draw faults workers limits) old new = StopsFor limits.entries (Reason faults workers) old new
+ReadsFor (Draw faults workers limits selection) old new = StopsFor limits.entries (Reason faults workers) old new
 ReadsFor (Merge limits) old new = ReadsAtMostRecordings limits.entries old new
 ReadsFor Run old new = ReadsAtMostScript old new
 

@@ -6,7 +6,9 @@ ghost use Rattle.causal_tool.specs.Args.{HasWorkerCountInRange, AsksWithinRange}
 
 use crate::help_text::{ANSWERS, PICTURES, REASONS, RECORDINGS, REPLAYS, SCRIPTS};
 use causal_commands::{Ended, Question};
+use causal_picture::Selection;
 use causal_trace::limits::{DEFAULT_ENTRIES, Limits};
+use clap::builder::ValueParser;
 use clap::error::ErrorKind;
 use clap::{Arg, ArgAction, ArgMatches, Command, Error, value_parser};
 use std::alloc::{AllocError, Global};
@@ -41,11 +43,13 @@ pub(crate) enum Invocation {
         form: Form,
         limits: Limits,
     },
-    /// A picture of a trace within limits, with its verdict for at most `faults` processes down at once.
+    /// A picture of a selected part of a trace within limits, with its verdict for at most `faults` processes down at
+    /// once.
     Draw {
         faults: u16,
         workers: u32,
         limits: Limits,
+        selection: Selection,
     },
     /// The trace merged from recorder files, within limits.
     Merge {
@@ -264,7 +268,18 @@ fn parse_draw(given: &ArgMatches) -> Option<Invocation>
         faults,
         workers,
         limits: parse_limits(given),
+        selection: parse_selection(given),
     })
+}
+
+/// Returns which part of a picture is requested. The entry at position k is on line k + 2.
+fn parse_selection(given: &ArgMatches) -> Selection {
+    Selection {
+        around: given
+            .get_one::<u32>("around")
+            .map(|line| line.saturating_sub(2)),
+        only_focus: given.get_str("only").is_some(),
+    }
 }
 
 /// Returns the maximum length of the trace.
@@ -287,6 +302,10 @@ enum OptionKind {
     UntilBreach,
     /// The answer is JSON.
     Json,
+    /// The line of the entry around which entries are drawn.
+    Around,
+    /// The processes that are drawn.
+    Only,
     /// The file that is read.
     File,
     /// The files that are read, one after the other.
@@ -348,6 +367,8 @@ const COMMANDS: [CommandSpec; 6] = [
             OptionKind::Faults { is_required: true },
             OptionKind::Workers,
             OptionKind::Entries,
+            OptionKind::Around,
+            OptionKind::Only,
         ],
     },
     CommandSpec {
@@ -400,6 +421,23 @@ fn number_option<'a>(
         .value_parser(value_parser!(u32).range(1..=most))
 }
 
+fn around_option<'a>(alloc: Global) -> Arg<'a> {
+    Arg::new(alloc, "around")
+        .long("around")
+        .value_name("LINE")
+        .help("Draws entries around the one of this line of the text [2 to 16777217]")
+        .allow_negative_numbers(true)
+        .value_parser(value_parser!(u32).range(2..=16_777_217))
+}
+
+fn only_option<'a>(alloc: Global) -> Arg<'a> {
+    Arg::new(alloc, "only")
+        .long("only")
+        .value_name("PART")
+        .help("Draws the processes of the breach alone, and counts the others")
+        .value_parser(ValueParser::Names(&["breach"]))
+}
+
 /// Returns an option without a value.
 fn flag<'a>(alloc: Global, name: &'static str, help: &'static str) -> Arg<'a> {
     Arg::new(alloc, name)
@@ -434,6 +472,8 @@ fn option<'a>(alloc: Global, given: OptionKind) -> Arg<'a> {
             "Ends at the first breach found, without reading on",
         ),
         OptionKind::Json => flag(alloc, "json", "Answers with one JSON object"),
+        OptionKind::Around => around_option(alloc),
+        OptionKind::Only => only_option(alloc),
         OptionKind::File => file_argument(alloc),
         OptionKind::Files => files_argument(alloc),
     }

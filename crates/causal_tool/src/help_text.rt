@@ -39,6 +39,8 @@ Answers on standard output: the line that `audit` prints, and below it, one fact
   for `orphan`, the delivery and its determinant, who has that in its log and who lost it, who
       is down, the chain of events by which the orphan comes to depend on the delivery, and
       the delivery on it whose list lacks the determinant first
+  and, if a recovery did not deliver what a surviving determinant names, where, and who has which
+      of the two determinants, as `replays`
 
 Without --faults, for which numbers of faults F the run is safe, a line for each part:
   exceeded to=F       up to F, at some instant more than F processes are down
@@ -90,8 +92,10 @@ Answers on standard output:
   a space-time diagram in SVG: a line for each process, marks for what happens there, and
       arrows for messages; with the verdict's instant, the processes of its crash set or those
       that are down, and the chain of events by which the orphan comes to depend on the
-      delivery; at most 200 entries, those about the instant
+      delivery; at most 200 entries, those about the instant, or about that of --around
   nothing, where the text is no trace; standard error says what is wrong there
+With --only breach only the processes of the chain, those that hold or lost the determinant and
+those of the crash set are drawn; a trace without a breach is drawn as if it were not given.
 
 Exit status: as that of `audit`
 

@@ -5,7 +5,7 @@ use crate::diagnostics::{print_at_line, print_error_line};
 use crate::hints::{Content, print_hints};
 use crate::place::InputNames;
 use causal_commands::{Ended, MergeOutcome};
-use causal_merge::{MergeFault, MergeKind};
+use causal_merge::{MergeFault, MergeKind, sentence};
 
 // maximum number of torn lines that are printed one by one
 const MAX_TORN_PRINTED: usize = 1000;
@@ -68,7 +68,10 @@ fn print_merge_fault<R: Eprint + AllocGlobal, S: Drop>(
     fault: MergeFault,
     start: &[u8],
 ) {
-    print_at_line(rt, command, input, fault.line, &fault);
+    match sentence(rt.alloc(), &fault) {
+        Ok(text) => print_at_line(rt, command, input, fault.line, &text),
+        Err(_) => print_at_line(rt, command, input, fault.line, &fault),
+    }
     print_missing_headers(rt, command, &fault.kind);
     if let MergeKind::Line(kind) = &fault.kind {
         print_hints(rt, command, Content::Recordings, *kind, Some(start));

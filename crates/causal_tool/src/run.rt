@@ -117,6 +117,7 @@ pub(crate) fn run_command<R: Threads + Wait + AllocGlobal + RandomSource, I: Rea
             faults,
             workers,
             limits,
+            selection,
         } => CommandOutcome::Trace {
             f: faults,
             outcome: answer_view(
@@ -127,7 +128,7 @@ pub(crate) fn run_command<R: Threads + Wait + AllocGlobal + RandomSource, I: Rea
                 limits,
                 faults,
                 workers,
-                View::Picture,
+                View::Picture { selection },
             ),
         },
         Invocation::Merge { limits } => CommandOutcome::Merge {

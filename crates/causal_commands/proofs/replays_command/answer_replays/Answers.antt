@@ -1,4 +1,4 @@
-use Rattle.causal_commands.specs.declared.survivors.StrayDetail.TheVariants.{Line}
+use Rattle.causal_commands.specs.declared.stray.StrayDetail.TheVariants.{Line}
 use Rattle.causal_commands.specs.Replays.{IsReplaysAnswer}
 use Rattle.causal_commands.proofs.Writing.{writes, writes_nothing}
 use Rattle.causal_commands.proofs.replays_command.answer_replays.Goals as goal
