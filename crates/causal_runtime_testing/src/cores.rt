@@ -48,6 +48,7 @@ enum Scene {
     FlushMadeAgain,
     FlushOfAWearyStore,
     Flood,
+    LongestBodies,
 }
 
 impl Scene {
@@ -72,6 +73,7 @@ impl Scene {
                 processes(alloc, Kind::Tally, 3)
             }
             Scene::Flood => processes(alloc, Kind::Flood, 1),
+            Scene::LongestBodies => processes(alloc, Kind::Long(1_024), 1),
         }
     }
 
@@ -95,6 +97,7 @@ impl Scene {
             Scene::FlushMadeAgain => faults::flushes_again(alloc, core),
             Scene::FlushOfAWearyStore => faults::is_not_written_to(alloc, core),
             Scene::Flood => fills(core),
+            Scene::LongestBodies => are_delivered(core, 3) && core.trace().len() == 7,
         }
     }
 
@@ -114,7 +117,7 @@ impl Scene {
     }
 }
 
-const SCENES: [Scene; 10] = [
+const SCENES: [Scene; 11] = [
     Scene::ReplayOfFive,
     Scene::ReplayThatStops,
     Scene::ReplayThatWaits,
@@ -125,6 +128,7 @@ const SCENES: [Scene; 10] = [
     Scene::FlushMadeAgain,
     Scene::FlushOfAWearyStore,
     Scene::Flood,
+    Scene::LongestBodies,
 ];
 
 #[test]

@@ -2,7 +2,9 @@
 use crate::runtime::det;
 use causal_endpoint::endpoint::Endpoint;
 use causal_endpoint::fault::EndpointFault;
+use causal_endpoint::lines::{deliver_line, header_line, send_line};
 use causal_endpoint::receiving::Received;
+use causal_endpoint::sending::Sent;
 use causal_name::Pid;
 use causal_node::node::Identity;
 use causal_node::node_fault::NodeFault;
@@ -84,6 +86,13 @@ fn sends(alloc: Global) -> Result<bool, EndpointFault> {
     )
 }
 
+/// A clock that was taken in precedes what is sent then.
+fn takes_clocks_in(alloc: Global) -> Result<bool, EndpointFault> {
+    let mut zero = endpoint(alloc, 0, 0, 0)?;
+    zero.take_in(5000)?;
+    Ok(zero.send(1000, Pid(1), &[])?.clock == 5001)
+}
+
 /// A process restarts with what another one logs.
 fn recovers(alloc: Global) -> Result<bool, EndpointFault> {
     let mut zero = endpoint(alloc, 0, 0, 0)?;
@@ -115,6 +124,63 @@ fn recovers(alloc: Global) -> Result<bool, EndpointFault> {
     Ok(delivered && asked && took && waits && unread && up && repeated)
 }
 
+/// The recordings of a message, which docs/MERGING.md has as its example.
+const HEADERS: [&str; 2] = [
+    "[\"recording\",0,1,2,4711]\n",
+    "[\"recording\",1,1,2,4711]\n",
+];
+
+const EVENTS: [&str; 2] = [
+    "[\"send\",0,1764118000000001,1,0]\n",
+    "[\"deliver\",1,1764118000000002,0,0,0,0,[[0,0,1,0]]]\n",
+];
+
+/// The endpoint of one of the two processes of that run.
+fn recorded(alloc: Global, me: u8) -> Result<Endpoint, EndpointFault> {
+    let identity = Identity {
+        processes: 2,
+        me: Pid(me),
+        faults: 1,
+    };
+    Endpoint::open(alloc, identity, 4711, 0, 0, 0)
+}
+
+/// Whether these are the bytes of a text.
+fn is_text(bytes: &[u8], text: &str) -> bool {
+    bytes == text.as_bytes()
+}
+
+/// The headers of the two recordings.
+fn writes_headers(alloc: Global) -> Result<bool, EndpointFault> {
+    let first = header_line(alloc, Pid(0), 2, 4711)?;
+    let second = header_line(alloc, Pid(1), 2, 4711)?;
+    Ok(is_text(first.as_slice(), HEADERS[0]) && is_text(second.as_slice(), HEADERS[1]))
+}
+
+/// The message.
+fn sent_first(alloc: Global) -> Result<Sent, EndpointFault> {
+    let mut zero = recorded(alloc, 0)?;
+    zero.send(1764118000000001, Pid(1), &[])
+}
+
+/// The line of its send.
+fn writes_send(alloc: Global) -> Result<bool, EndpointFault> {
+    let sent = sent_first(alloc)?;
+    let line = send_line(alloc, Pid(0), Pid(1), &sent)?;
+    Ok(is_text(line.as_slice(), EVENTS[0]))
+}
+
+/// The line of its delivery.
+fn writes_delivery(alloc: Global) -> Result<bool, EndpointFault> {
+    let sent = sent_first(alloc)?;
+    let mut one = recorded(alloc, 1)?;
+    let Received::Message(delivered) = one.receive(1764118000000002, sent.bytes.as_slice())? else {
+        return Ok(false);
+    };
+    let line = deliver_line(alloc, Pid(1), &delivered)?;
+    Ok(is_text(line.as_slice(), EVENTS[1]))
+}
+
 /// A repetition is refused, and bytes that end too early.
 fn refuses_repetitions(alloc: Global) -> Result<bool, EndpointFault> {
     let mut one = endpoint(alloc, 1, 0, 0)?;
@@ -140,7 +206,8 @@ fn refuses_clocks(alloc: Global) -> Result<bool, EndpointFault> {
     own[15] = 0;
     let own = zero.receive(0, &own).err() == Some(EndpointFault::OwnParcel);
     let clock = zero.send(1 << 62, Pid(1), &[]).err() == Some(EndpointFault::Clock);
-    Ok(own && clock)
+    let other = zero.take_in(1 << 62).err() == Some(EndpointFault::Clock);
+    Ok(own && clock && other)
 }
 
 #[test]
@@ -149,8 +216,20 @@ fn an_endpoint_sends(rt: HostRuntime) {
 }
 
 #[test]
+fn an_endpoint_takes_clocks_in(rt: HostRuntime) {
+    assert!(rt; matches!(takes_clocks_in(rt.alloc()), Ok(true)));
+}
+
+#[test]
 fn an_endpoint_recovers(rt: HostRuntime) {
     assert!(rt; matches!(recovers(rt.alloc()), Ok(true)));
+}
+
+#[test]
+fn an_endpoint_writes_lines(rt: HostRuntime) {
+    assert!(rt; matches!(writes_headers(rt.alloc()), Ok(true)));
+    assert!(rt; matches!(writes_send(rt.alloc()), Ok(true)));
+    assert!(rt; matches!(writes_delivery(rt.alloc()), Ok(true)));
 }
 
 #[test]

@@ -127,6 +127,25 @@ fn answers(alloc: Global, (kind, n, me, rows): Case) -> Result<bool, NoMemory> {
     Ok(true)
 }
 
+/// Returns whether a process begins with a message to itself that has this many bytes, all of value 7.
+fn begins_with(alloc: Global, length: usize) -> Result<bool, NoMemory> {
+    let mut process = process(alloc, Kind::Long(length), 1, 0)?;
+    let sends = process.step(alloc, &Input::Begin)?;
+    Ok(match sends.as_slice() {
+        [send] => {
+            let bytes = send.body.as_slice();
+            bytes.len() == length && bytes.iter().all(|byte| *byte == 7)
+        }
+        _ => false,
+    })
+}
+
+// The longest body that a process may send.
+#[test]
+fn a_body_of_1024_bytes(rt: HostRuntime) {
+    assert!(rt; matches!(begins_with(rt.alloc(), 1_024), Ok(true)));
+}
+
 #[test]
 fn kinds_answer(rt: HostRuntime) {
     for case in &CASES {

@@ -20,6 +20,9 @@ mod failing;
 /// The outputs of the process kinds.
 #[cfg(test)]
 mod kinds;
+/// Lines of a recording, worked by hand.
+#[cfg(test)]
+mod lines;
 /// Logs, their batches, and the store in memory: each call once, on hand-computed values.
 #[cfg(test)]
 mod logs;

@@ -1,5 +1,5 @@
 //! The processes that start a core or a shared runtime in tests, and determinants in short form.
-use crate::doubles::{Flood, Refusing};
+use crate::doubles::{Flood, Long, Refusing};
 use crate::example::Numbering;
 use causal_name::{Det, MsgName, NoMemory, Pid};
 use causal_process::{Echo, Process, Ring, Tally};
@@ -11,7 +11,7 @@ pub(crate) type Boxed = Box<dyn Process + Send>;
 pub(crate) type Fields = (u8, u32, u8, u32);
 
 /// The kind of process, with its first count: one of the runtime's kinds, the documented process, or a test double.
-/// `Flood` sends as much as it may. `Refusing` is one of a ring that returns `NoMemory` once, after a number of steps.
+/// `Flood` sends as many messages as it may, `Long` one with this many bytes. `Refusing` is one of a ring that returns `NoMemory` once, after a number of steps.
 #[derive(Clone, Copy)]
 pub(crate) enum Kind {
     Ring(u8),
@@ -19,6 +19,7 @@ pub(crate) enum Kind {
     Tally,
     Numbering(u8),
     Flood,
+    Long(usize),
     Refusing(u8, u64),
 }
 
@@ -48,6 +49,13 @@ pub(crate) fn process(alloc: Global, kind: Kind, n: u16, me: u8) -> Result<Boxed
         Kind::Tally => Box::new(alloc, Tally::new(n, me))?,
         Kind::Numbering(count) => Box::new(alloc, Numbering { count })?,
         Kind::Flood => Box::new(alloc, Flood { me: Pid(me) })?,
+        Kind::Long(length) => Box::new(
+            alloc,
+            Long {
+                me: Pid(me),
+                length,
+            },
+        )?,
         Kind::Refusing(hops, steps) => Box::new(
             alloc,
             Refusing {
