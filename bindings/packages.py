@@ -32,9 +32,9 @@ def refused(words, *told, **given):
         raise Failed(f"{' '.join(words)} ended with status {ended.returncode} and does not tell {lacking}:\n{ended.stderr[-2000:]}")
 
 
-def snippets(language):
-    """The programs in that language of docs/LIBRARY.md."""
-    with open(os.path.join(TOP, "docs", "LIBRARY.md")) as page:
+def snippets(language, name="LIBRARY.md"):
+    """The programs in that language of a page of docs/."""
+    with open(os.path.join(TOP, "docs", name)) as page:
         return re.findall(rf"```{language}\n(.*?)```", page.read(), re.S)
 
 

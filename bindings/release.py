@@ -11,7 +11,7 @@ import tempfile
 
 HERE = os.path.dirname(os.path.abspath(__file__))
 TOP = os.path.dirname(HERE)
-PAGES = ["LIBRARY.md", "FORMAT.md", "RECORDING.md", "MERGING.md", "SCRIPT.md"]
+PAGES = ["LIBRARY.md", "NODE.md", "WIRE.md", "FORMAT.md", "RECORDING.md", "MERGING.md", "SCRIPT.md"]
 OF_RUST = ["Cargo.toml", "Cargo.lock", "build.rs", "src"]
 
 

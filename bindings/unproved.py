@@ -7,7 +7,8 @@ import shutil
 import subprocess
 import time
 
-CALLS = """
+CALLS = {
+    "nixu": """
 use crate::c_entry::CEntry;
 use crate::c_stray::CStray;
 use crate::c_verdict::CVerdict;
@@ -46,14 +47,64 @@ fn main(rt: HostRuntime) {
     recorder::nixu_trace_text(alloc, &mut handle, &mut out, &mut needed);
     recorder::nixu_trace_close(alloc, &mut handle);
 }
-"""
+""",
+    "nixu_node": """
+use crate::c_node::{CIdentity, CMessage, CReceived, CSent};
+use crate::handle::NodeHandle;
+use crate::inspection::CState;
+use nixu_boundary::c_determinant::CDeterminant;
+use std::rt::HostRuntime;
+
+fn main(rt: HostRuntime) {
+    let alloc = rt.alloc();
+    let identity = CIdentity { run: 0, clock: 0, seed: 0, lane: 0, processes: 1, faults: 0, process: 0 };
+    let determinant = CDeterminant { ssn: 0, rsn: 0, source: 0, dest: 0 };
+    let mut sent = CSent { clock: 0, parcel: 0, ssn: 0 };
+    let mut received = CReceived { clock: 0, body: 0, parcel: 0, listed: 0, kind: 0, ssn: 0, rsn: 0, lane: 0, source: 0 };
+    let mut due = CMessage { ssn: 0, exists: 0, source: 0 };
+    let mut state = CState { clock: 0, round: 0, stage: 0, lane: 0, logged: 0, sent: 0, received: 0 };
+    let mut node = NodeHandle::new_closed(alloc);
+    let mut out = [0u8; 1];
+    let mut processes = [0u8; 256];
+    let mut to = 0u8;
+    let mut needed = 0usize;
+    let mut fault = 0u32;
+    opening::nixu_node_open(alloc, &mut node, &identity, &mut fault);
+    opening::nixu_node_close(alloc, &mut node);
+    sending::nixu_node_send(alloc, &mut node, 0, 0, b"", &mut sent, &mut fault);
+    sending::nixu_node_receiver(alloc, &mut node, 0, &mut to);
+    sending::nixu_node_resend(alloc, &mut node, 0, &mut fault);
+    receiving::nixu_node_receive(alloc, &mut node, 0, b"", &mut received, &mut fault);
+    receiving::nixu_node_due(alloc, &mut node, &mut due);
+    acknowledging::nixu_node_acknowledge(alloc, &mut node, 0, 0, &[], &mut fault);
+    lines::nixu_node_line(alloc, &mut node, &mut out, &mut needed);
+    keeping::nixu_node_parcel(alloc, &mut node, &mut out, &mut needed);
+    keeping::nixu_node_body(alloc, &mut node, &mut out, &mut needed);
+    keeping::nixu_node_listed(alloc, &mut node, &mut [], &mut needed);
+    storing::nixu_node_unstored(alloc, &mut node, &mut [], &mut needed);
+    storing::nixu_node_stored(alloc, &mut node, 0, &determinant, &mut fault);
+    storing::nixu_node_forget(alloc, &mut node, 0, &mut fault);
+    recovery::nixu_node_begin_round(alloc, &mut node, 0, &mut fault);
+    recovery::nixu_node_question(alloc, &mut node, 0, 0, &mut fault);
+    recovery::nixu_node_awaited(alloc, &mut node, &mut processes);
+    recovery::nixu_node_view(alloc, &mut node, &mut [], &mut needed);
+    recovery::nixu_node_take_ended(alloc, &mut node, 0, 0, 0, &mut fault);
+    recovery::nixu_node_finish_read(alloc, &mut node, 0, &mut fault);
+    recovery::nixu_node_restart(alloc, &mut node, 0, &mut fault);
+    lines::nixu_node_header(alloc, &mut node, &mut out, &mut needed);
+    lines::nixu_crash_line(alloc, 0, 0, &mut out, &mut needed);
+    inspection::nixu_node_inspect(alloc, &mut node, &mut state);
+    refusals::nixu_node_fault_text(0, &mut out, &mut needed);
+}
+""",
+}
 
 # A linker prints the text of this section as a warning.
 WARNING = """
 module asm ".pushsection .gnu.warning"
 module asm ".ascii \\22this libnixu.a is built without proof\\22"
 module asm ".popsection"
-@nixu_unproved = constant i32 1
+@LIBRARY_unproved = constant i32 1
 """
 
 
@@ -61,7 +112,7 @@ class Failed(Exception):
     pass
 
 
-def lay_out(top, room, crates):
+def lay_out(top, room, crates, library):
     """Writes a repository of these crates, given with their lines of crates.txt, in which the library is the program that calls its own functions."""
     os.makedirs(os.path.join(room, ".git"))
     shutil.copy(os.path.join(top, "HANDLES"), room)
@@ -72,19 +123,19 @@ def lay_out(top, room, crates):
             there = os.path.join(top, "crates", crate, part)
             if os.path.isdir(there):
                 shutil.copytree(there, os.path.join(room, "crates", crate, part))
-    source = os.path.join(room, "crates", "nixu", "src")
+    source = os.path.join(room, "crates", library, "src")
     os.rename(os.path.join(source, "lib.rt"), os.path.join(source, "main.rt"))
     with open(os.path.join(source, "main.rt"), "a") as file:
-        file.write(CALLS)
+        file.write(CALLS[library])
 
 
-def caught_module(room):
+def caught_module(room, library):
     """Runs `rt try`, and keeps the largest module that it hands to its compiler. The kit removes it, so it is linked as long as it is there."""
     modules, temporary = os.path.join(room, "modules"), os.path.join(room, "tmp")
     for folder in (modules, temporary):
         os.mkdir(folder)
     with open(os.path.join(room, "log"), "wb+") as log:
-        given = {"cwd": os.path.join(room, "crates", "nixu"), "env": {**os.environ, "TMPDIR": temporary}}
+        given = {"cwd": os.path.join(room, "crates", library), "env": {**os.environ, "TMPDIR": temporary}}
         running = subprocess.Popen(["rt", "try"], stdin=subprocess.DEVNULL, stdout=log, stderr=log, **given)
         while running.poll() is None:
             keep_modules(temporary, modules)
@@ -109,25 +160,25 @@ def keep_modules(temporary, modules):
                     pass  # it is kept already, or gone
 
 
-def as_library(module, names):
-    """The text of a module in which these functions are public, under their names in C, and no other is."""
+def as_library(module, library):
+    """The text of a module in which the functions for C are public, under their names in C, and no other is; and these names."""
     module = re.sub(r"^define i32 @main\(", 'define internal i32 @"no main"(', module, flags=re.M)
-    module = re.sub(r'@"nixu::\w+::(nixu_\w+)"', r"@\1", module)
+    module = re.sub(r'@"' + library + r'::\w+::(nixu_\w+)"', r"@\1", module)
     module, count = re.subn(r"^define internal (.*@nixu_\w+\()", r"define \1", module, flags=re.M)
     found = set(re.findall(r"^define .*?@(nixu_\w+)\(", module, re.M))
-    if found != set(names) or count != len(names):
-        raise Failed(f"nixu.h and the calls of unproved.py differ in {', '.join(sorted(found ^ set(names)))}")
-    return module + WARNING
+    if count != len(found):
+        raise Failed(f"{library} defines a name twice")
+    return module + WARNING.replace("LIBRARY", library), found
 
 
-def unproved_object(top, kit, room, crates, names):
-    """Compiles the library without proof, and returns the object file."""
-    lay_out(top, room, crates)
-    clang, text, made = os.path.join(kit, "toolchain", "bin", "clang"), os.path.join(room, "nixu.ll"), os.path.join(room, "nixu.o")
-    subprocess.run([clang, "-x", "ir", "-S", "-emit-llvm", caught_module(room), "-o", text], check=True)
+def unproved_object(top, kit, room, crates, library):
+    """Compiles a library without proof, and returns the object file, and the names that it defines."""
+    lay_out(top, room, crates, library)
+    clang, text, made = os.path.join(kit, "toolchain", "bin", "clang"), os.path.join(room, "library.ll"), os.path.join(room, f"{library}.o")
+    subprocess.run([clang, "-x", "ir", "-S", "-emit-llvm", caught_module(room, library), "-o", text], check=True)
     with open(text) as file:
-        module = as_library(file.read(), names)
+        module, names = as_library(file.read(), library)
     with open(text, "w") as file:
         file.write(module)
     subprocess.run([clang, "-O2", "-fPIC", "-x", "ir", "-c", text, "-o", made], check=True)
-    return made
+    return made, names

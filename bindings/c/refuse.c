@@ -2,7 +2,8 @@
    leave no block and nothing changed; made again it has to give what it gives where nothing is refused. A file whose name ends
    with .entries is one of entries (entries.h); the others are texts.
 
-   Link with -Wl,--wrap=malloc,--wrap=realloc,--wrap=free; blocks are counted while a call runs. */
+   Blocks are counted while a call runs. */
+#include "allocations.h"
 #include "entries.h"
 #include "text.h"
 
@@ -21,39 +22,6 @@ typedef struct written {
 } written;
 
 typedef uint32_t tried(bytes text, written *to);
-
-static long asked, first_refused, blocks;
-static int all_from_first, counts;
-
-void *__real_malloc(size_t size);
-void *__real_realloc(void *old, size_t size);
-void __real_free(void *old);
-void *__wrap_malloc(size_t size);
-void *__wrap_realloc(void *old, size_t size);
-void __wrap_free(void *old);
-
-static int is_refused(void) {
-  if (!counts) return 0;
-  asked++;
-  return first_refused && (asked == first_refused || (all_from_first && asked > first_refused));
-}
-
-void *__wrap_malloc(size_t size) {
-  void *made = is_refused() ? NULL : __real_malloc(size);
-  if (counts && made) blocks++;
-  return made;
-}
-
-void *__wrap_realloc(void *old, size_t size) {
-  void *made = is_refused() ? NULL : __real_realloc(old, size);
-  if (counts && made && !old) blocks++;
-  return made;
-}
-
-void __wrap_free(void *old) {
-  if (counts && old) blocks--;
-  __real_free(old);
-}
 
 static uint32_t audit(bytes text, written *to) { return nixu_audit(text.at, text.length, 1, to->told); }
 

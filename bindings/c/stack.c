@@ -45,6 +45,38 @@ static void *call_all(void *given) {
   return NULL;
 }
 
+/* The calls of two nodes, of which one recovers. */
+static void *call_nodes(void *given) {
+  static uint8_t out[ROOM];
+  const nixu_node_identity zero = {1, 0, 2, 0, 2, 1, 0}, one = {1, 9, 2, 1, 2, 1, 1};
+  nixu_determinant dets[4];
+  nixu_node up = {0}, down = {0};
+  nixu_node_sent sent;
+  nixu_node_received received;
+  uint32_t fault;
+  size_t length;
+  int wrong = nixu_node_open(&up, &zero, &fault) != NIXU_OK || nixu_node_open(&down, &one, &fault) != NIXU_OK;
+  wrong |= nixu_node_begin_round(&down, 1, &fault) != NIXU_OK || nixu_node_question(&down, 1, 0, &fault) != NIXU_OK;
+  wrong |= nixu_node_parcel(&down, out, ROOM, &length) != NIXU_OK;
+  wrong |= nixu_node_receive(&up, 1, out, length, &received, &fault) != NIXU_OK;
+  wrong |= nixu_node_parcel(&up, out, ROOM, &length) != NIXU_OK;
+  wrong |= nixu_node_receive(&down, 1, out, length, &received, &fault) != NIXU_OK;
+  wrong |= nixu_node_finish_read(&down, 1, &fault) != NIXU_OK || nixu_node_restart(&down, 1, &fault) != NIXU_OK;
+  wrong |= nixu_node_send(&up, 1, 1, out, 100, &sent, &fault) != NIXU_OK;
+  wrong |= nixu_node_parcel(&up, out, ROOM, &length) != NIXU_OK;
+  wrong |= nixu_node_receive(&down, 1, out, length, &received, &fault) != NIXU_OK;
+  wrong |= nixu_node_line(&down, out, ROOM, &length) != NIXU_OK || nixu_node_listed(&down, dets, 4, &length) != NIXU_OK;
+  wrong |= nixu_node_acknowledge(&down, 1, 0, dets, length, &fault) != NIXU_OK;
+  wrong |= nixu_node_stored(&down, 1, dets, &fault) != NIXU_OK || nixu_node_forget(&down, 1, &fault) != NIXU_OK;
+  nixu_node_close(&up);
+  nixu_node_close(&down);
+  if (wrong || !given) {
+    fprintf(stderr, "a call of a node has another status\n");
+    exit(1);
+  }
+  return NULL;
+}
+
 /* A call that needs nothing: what a thread needs by itself. */
 static void *call_none(void *given) {
   (void)given;
@@ -81,13 +113,16 @@ static bytes nested(void) {
 
 int main(int count, char **words) {
   bytes none = {NULL, 0}, text;
-  size_t idle, of_text, of_nested, most;
+  size_t idle, of_text, of_nested, of_nodes, most;
   if (count != 2 || !(text = read_file(words[1])).at) return 1;
   idle = used_by(call_none, none);
   of_text = used_by(call_all, text) - idle;
   of_nested = used_by(call_all, nested()) - idle;
+  of_nodes = used_by(call_nodes, text) - idle;
   most = of_text > of_nested ? of_text : of_nested;
-  printf("%lu bytes of stack at most, %lu for a plain text\n", (unsigned long)most, (unsigned long)of_text);
+  if (of_nodes > most) most = of_nodes;
+  printf("%lu bytes of stack at most, %lu for a plain text, %lu for nodes\n", (unsigned long)most, (unsigned long)of_text,
+         (unsigned long)of_nodes);
   free(text.at);
   return most > NIXU_STACK;
 }

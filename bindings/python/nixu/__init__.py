@@ -4,26 +4,30 @@
     if isinstance(told, nixu.Orphan):
         print(f"process {told.orphan} is an orphan after {told.instant} entries")
 
-A Reader is fed with the pieces of a text while the run is recorded. A Trace is made of entries, without text.
+A Reader is fed with the pieces of a text while the run is recorded. A Trace is made of entries, without text. A Node is one process of a
+run that logs messages causally: it keeps the books, and who embeds it moves bytes (docs/NODE.md).
 
 An argument of a wrong type raises TypeError, one that is out of range ValueError, and a call on what is closed RuntimeError.
 """
 from __future__ import annotations
 
-import contextlib
 import ctypes
 import enum
-import threading
-from collections.abc import Callable, Iterator, Sequence
+from collections.abc import Callable, Sequence
 from dataclasses import dataclass
 from typing import NamedTuple, Union
 
 from . import _library as c
 from ._library import MOST_ENTRIES, VERSION
+from ._node import Acknowledgement, Log, Message, MessageName, Node, NodeFault, NodeFaultKind, NodeState, NotUp, Number, Question, Received
+from ._node import Resent, Sent, Stage, crash_line
+from ._open import Determinant, Open, check, determinant_of, determinants_of, number_of_32_bits, process_of
 
 __all__ = ["Accepted", "Exceeded", "Orphan", "Verdict", "Fault", "FaultKind", "audit", "audit_each", "line", "explain", "draw", "VERSION"]
 __all__ += ["USUAL_ENTRIES", "MOST_ENTRIES", "Stray", "replays"]
 __all__ += ["Reader", "Trace", "Refused", "Entry", "Send", "Deliver", "Stable", "Crash", "Restart", "Forget", "Determinant"]
+__all__ += ["Node", "NodeFault", "NodeFaultKind", "NodeState", "Stage", "Sent", "Resent", "MessageName", "crash_line"]
+__all__ += ["Received", "Message", "Question", "Acknowledgement", "Log", "Number", "NotUp"]
 
 USUAL_ENTRIES = 65_536
 """How many entries a trace may have where no other number is given."""
@@ -109,7 +113,7 @@ class FaultKind(enum.IntEnum):
     def sentence(self) -> str:
         """The sentence that the program prints."""
         out, needed = ctypes.create_string_buffer(128), ctypes.c_size_t()
-        _check(c.library.nixu_fault_text(self.value, out, len(out), needed))
+        check(c.library.nixu_fault_text(self.value, out, len(out), needed))
         return out.raw[: needed.value].decode()
 
 
@@ -128,15 +132,6 @@ class Refused(ValueError):
     def __init__(self, kind: FaultKind) -> None:
         super().__init__(kind.sentence)
         self.kind = kind
-
-
-class Determinant(NamedTuple):
-    """The determinant of a delivery. Lists of them ascend as tuples do."""
-
-    source: int
-    ssn: int
-    dest: int
-    rsn: int
 
 
 class Send(NamedTuple):
@@ -203,7 +198,7 @@ def audit_each(text: bytes, faults: Sequence[int]) -> list[Verdict]:
     status = c.library.nixu_audit_each(c.text_of("text", text), len(text), bounds, count, told, count)
     if status == c.FAULT:
         audit(text, 0)
-    _check(status)
+    check(status)
     return [_verdict(status, one) for one in told]
 
 
@@ -229,41 +224,7 @@ def draw(text: bytes, faults: int) -> str:
     return _shown(c.library.nixu_draw, 196_608, text, faults)
 
 
-class _Open:
-    """An open handle. One call at a time may use it: a call while another thread is in one raises RuntimeError, and nothing is done.
-
-    It may be made in one thread and used, closed or collected in another.
-    """
-
-    def __init__(self, closing: Callable[[c.Handle], None]) -> None:
-        self._handle = c.Handle()
-        self._closing = closing
-        self._in_use = threading.Lock()
-
-    @contextlib.contextmanager
-    def _alone(self) -> Iterator[c.Handle]:
-        if not self._in_use.acquire(blocking=False):
-            raise RuntimeError(f"another call uses the {type(self).__name__}")
-        try:
-            yield self._handle
-        finally:
-            self._in_use.release()
-
-    def close(self) -> None:
-        """Gives back what it holds. What is closed already stays so."""
-        with self._alone() as handle:
-            self._closing(handle)
-
-    def __exit__(self, *_: object) -> None:
-        self.close()
-
-    def __del__(self) -> None:
-        # Nobody has it any more, so no call uses it. Where its making has failed it may lack its parts.
-        if hasattr(self, "_in_use"):
-            self._closing(self._handle)
-
-
-class Reader(_Open):
+class Reader(Open):
     """Reads a text in pieces, for a run that is judged while it is recorded. One call at a time may use it, of any thread.
 
     The trace may have up to `entries` entries, which list up to 16 determinants for each in all, and the text up to 512 bytes for each.
@@ -271,7 +232,7 @@ class Reader(_Open):
 
     def __init__(self, entries: int = USUAL_ENTRIES) -> None:
         super().__init__(c.library.nixu_reader_close)
-        _check(c.library.nixu_reader_open_within(self._handle, c.number_of("entries", entries, MOST_ENTRIES, 1)))
+        check(c.library.nixu_reader_open_within(self._handle, c.number_of("entries", entries, MOST_ENTRIES, 1)))
 
     def feed(self, piece: bytes) -> None:
         """Reads one more piece, of any length.
@@ -284,7 +245,7 @@ class Reader(_Open):
             status = c.library.nixu_reader_feed(handle, piece, len(piece), told)
         if status == c.FAULT:
             raise Fault(told.line, FaultKind(told.fault))
-        _check(status, "Reader")
+        check(status, "Reader")
 
     def finish(self, faults: int) -> Verdict:
         """Ends the text, and tells the verdict on the trace that the pieces spell. Raises as feed does; the reader is closed."""
@@ -298,14 +259,14 @@ class Reader(_Open):
         with self._alone() as handle:
             status = c.library.nixu_reader_finish(handle, bounds, count, told, count)
         if status != c.FAULT:
-            _check(status, "Reader")
+            check(status, "Reader")
         return [_verdict(status, one) for one in told]
 
     def __enter__(self) -> Reader:
         return self
 
 
-class Trace(_Open):
+class Trace(Open):
     """A trace of 1 to 256 processes that is made entry by entry, without text. One call at a time may use it, of any thread.
 
     It may have up to `entries` entries, which list up to 16 determinants for each in all.
@@ -314,7 +275,7 @@ class Trace(_Open):
     def __init__(self, processes: int, entries: int = USUAL_ENTRIES) -> None:
         super().__init__(c.library.nixu_trace_close)
         processes, entries = c.number_of("processes", processes, 256, 1), c.number_of("entries", entries, MOST_ENTRIES, 1)
-        _check(c.library.nixu_trace_open_within(self._handle, processes, entries))
+        check(c.library.nixu_trace_open_within(self._handle, processes, entries))
 
     def push(self, entry: Entry) -> None:
         """Adds an entry at the end.
@@ -326,14 +287,14 @@ class Trace(_Open):
             status = c.library.nixu_trace_push(handle, given, listed, len(listed), fault)
         if status == c.FAULT:
             raise Refused(FaultKind(fault.value))
-        _check(status, "Trace")
+        check(status, "Trace")
 
     def audit(self, faults: int) -> Verdict:
         """The verdict on the entries so far, with up to `faults` processes down at once. Raises MemoryError."""
         told, bound = c.Summary(), _bound(faults)
         with self._alone() as handle:
             status = c.library.nixu_trace_audit(handle, bound, told)
-        _check(status, "Trace")
+        check(status, "Trace")
         return _verdict(status, told)
 
     def replays(self) -> Union[Stray, None]:
@@ -341,50 +302,39 @@ class Trace(_Open):
         told = c.CStray()
         with self._alone() as handle:
             status = c.library.nixu_trace_replays(handle, told)
-        _check(status, "Trace")
+        check(status, "Trace")
         return _stray(status, told)
 
     def text(self) -> str:
         """The text of the trace so far, which `audit` reads. Raises MemoryError."""
         needed = ctypes.c_size_t()
         with self._alone() as handle:
-            _check(c.library.nixu_trace_text(handle, None, 0, needed), "Trace")
+            check(c.library.nixu_trace_text(handle, None, 0, needed), "Trace")
             out = ctypes.create_string_buffer(needed.value)
-            _check(c.library.nixu_trace_text(handle, out, needed.value, needed))
+            check(c.library.nixu_trace_text(handle, out, needed.value, needed))
         return ctypes.string_at(out, needed.value).decode()
 
     def __enter__(self) -> Trace:
         return self
 
 
-def _determinant(name: str, det: Determinant) -> c.CDeterminant:
-    if not isinstance(det, tuple) or len(det) != 4:
-        c.refuse_type(name, "a Determinant", det)
-    source, ssn, dest, rsn = det
-    numbers = _number(f"{name}.ssn", ssn), _number(f"{name}.rsn", rsn)
-    return c.CDeterminant(*numbers, _process(f"{name}.source", source), _process(f"{name}.dest", dest))
-
-
 def _listed(entry: Entry) -> ctypes.Array[c.CDeterminant]:
-    name, listed = f"{type(entry).__name__}.listed", getattr(entry, "listed", ())
-    if not isinstance(listed, Sequence):
-        c.refuse_type(name, "a sequence of Determinants", listed)
-    return (c.CDeterminant * len(listed))(*(_determinant(f"{name}[{i}]", det) for i, det in enumerate(listed)))
+    return determinants_of(f"{type(entry).__name__}.listed", getattr(entry, "listed", ()))
 
 
 def _entry(entry: Entry) -> c.CEntry:
     if isinstance(entry, Send):
-        source, dest = _process("Send.sender", entry.sender), _process("Send.to", entry.to)
-        return c.CEntry(kind=0, source=source, dest=dest, ssn=_number("Send.ssn", entry.ssn))
+        source, dest = process_of("Send.sender", entry.sender), process_of("Send.to", entry.to)
+        return c.CEntry(kind=0, source=source, dest=dest, ssn=number_of_32_bits("Send.ssn", entry.ssn))
     if isinstance(entry, Deliver):
-        dest, send = _process("Deliver.to", entry.to), _number("Deliver.send", entry.send)
-        return c.CEntry(kind=1, dest=dest, send=send, rsn=_number("Deliver.rsn", entry.rsn))
+        dest, send = process_of("Deliver.to", entry.to), number_of_32_bits("Deliver.send", entry.send)
+        return c.CEntry(kind=1, dest=dest, send=send, rsn=number_of_32_bits("Deliver.rsn", entry.rsn))
     if isinstance(entry, Stable):
-        det = _determinant("Stable.determinant", entry.determinant)
+        det = determinant_of("Stable.determinant", entry.determinant)
         return c.CEntry(kind=2, source=det.source, dest=det.dest, ssn=det.ssn, rsn=det.rsn)
     for kind, words in ((3, Crash), (4, Restart), (5, Forget)):
         if isinstance(entry, words):
-            return c.CEntry(kind=kind, who=_process(f"{words.__name__}.who", entry.who))
+            return c.CEntry(kind=kind, who=process_of(f"{words.__name__}.who", entry.who))
     c.refuse_type("entry", "a Send, Deliver, Stable, Crash, Restart or Forget", entry)
 
 
@@ -398,14 +348,14 @@ def _shown(call: Callable[..., int], room: int, text: bytes, faults: int) -> str
         status = call(text, len(text), faults, out, room, needed)
     if status == c.FAULT:
         audit(text, faults)
-    _check(status)
+    check(status)
     return ctypes.string_at(out, needed.value).decode()
 
 
 def _verdict(status: int, told: c.Summary) -> Verdict:
     if status == c.FAULT:
         raise Fault(told.line, FaultKind(told.fault))
-    _check(status)
+    check(status)
     processes = frozenset(process for process, is_in in enumerate(told.processes) if is_in)
     if told.kind == 0:
         return Accepted(told.entries, told.deliveries)
@@ -417,27 +367,9 @@ def _verdict(status: int, told: c.Summary) -> Verdict:
 def _stray(status: int, told: c.CStray) -> Union[Stray, None]:
     if status == c.FAULT:
         raise Fault(told.line, FaultKind(told.fault))
-    _check(status)
+    check(status)
     return Stray(told.instant, told.process, told.rsn, told.first, told.second) if told.kind else None
 
 
 def _bound(faults: int) -> int:
     return c.number_of("faults", faults, 65_535)
-
-
-def _number(name: str, number: int) -> int:
-    return c.number_of(name, number, 2**32 - 1)
-
-
-def _process(name: str, process: int) -> int:
-    return c.number_of(name, process, 255)
-
-
-def _check(status: int, handle: str = "handle") -> None:
-    """Raises the error of a status; `handle` is what a call on a closed one names."""
-    if status == c.NO_MEMORY:
-        raise MemoryError("an allocation of the library failed")
-    if status == c.CLOSED:
-        raise RuntimeError(f"the {handle} is closed")
-    if status != c.OK:
-        raise RuntimeError(f"the library returned the status {status}, which this call does not have")

@@ -40,7 +40,7 @@ class CStray(ctypes.Structure):
 
 
 class Handle(ctypes.Structure):
-    """`nixu_reader` and `nixu_trace`."""
+    """`nixu_reader`, `nixu_trace` and `nixu_node`."""
 
     _fields_ = [("held", ctypes.c_void_p), ("full", ctypes.c_uint32)]
 
@@ -56,6 +56,39 @@ class CEntry(ctypes.Structure):
 
     _fields_ = [*((name, ctypes.c_uint32) for name in ("kind", "ssn", "rsn", "send"))]
     _fields_ += [(name, ctypes.c_uint8) for name in ("source", "dest", "who")]
+
+
+class CIdentity(ctypes.Structure):
+    """`nixu_node_identity`."""
+
+    _fields_ = [*((name, ctypes.c_uint64) for name in ("run", "clock", "seed")), ("lane", ctypes.c_uint32)]
+    _fields_ += [("processes", ctypes.c_uint16), ("faults", ctypes.c_uint16), ("process", ctypes.c_uint8)]
+
+
+class CSent(ctypes.Structure):
+    """`nixu_node_sent`."""
+
+    _fields_ = [("clock", ctypes.c_uint64), ("parcel", ctypes.c_size_t), ("ssn", ctypes.c_uint32)]
+
+
+class CReceived(ctypes.Structure):
+    """`nixu_node_received`."""
+
+    _fields_ = [("clock", ctypes.c_uint64), *((name, ctypes.c_size_t) for name in ("body", "parcel", "listed"))]
+    _fields_ += [*((name, ctypes.c_uint32) for name in ("kind", "ssn", "rsn", "lane")), ("source", ctypes.c_uint8)]
+
+
+class CMessage(ctypes.Structure):
+    """`nixu_node_message`."""
+
+    _fields_ = [("ssn", ctypes.c_uint32), ("exists", ctypes.c_uint8), ("source", ctypes.c_uint8)]
+
+
+class CState(ctypes.Structure):
+    """`nixu_node_state`."""
+
+    _fields_ = [("clock", ctypes.c_uint64), ("round", ctypes.c_uint64)]
+    _fields_ += [(name, ctypes.c_uint32) for name in ("stage", "lane", "logged", "sent", "received")]
 
 
 # ---- the shared object
@@ -91,6 +124,7 @@ def _declare(library: ctypes.CDLL) -> None:
     text, size = [ctypes.c_char_p, ctypes.c_size_t], ctypes.c_size_t
     number, out = ctypes.c_uint32, [ctypes.c_char_p, ctypes.c_size_t, ctypes.POINTER(ctypes.c_size_t)]
     handle, told, faults = ctypes.POINTER(Handle), ctypes.POINTER(Summary), ctypes.POINTER(ctypes.c_uint16)
+    det, fault, now = ctypes.POINTER(CDeterminant), ctypes.POINTER(number), ctypes.c_uint64
     arguments: dict[str, list[Any]] = {
         "version": [],
         "audit": [*text, ctypes.c_uint16, told],
@@ -103,11 +137,32 @@ def _declare(library: ctypes.CDLL) -> None:
         "reader_finish": [handle, faults, size, told, size],
         "reader_close": [handle],
         "trace_open_within": [handle, ctypes.c_uint16, number],
-        "trace_push": [handle, ctypes.POINTER(CEntry), ctypes.POINTER(CDeterminant), size, ctypes.POINTER(number)],
+        "trace_push": [handle, ctypes.POINTER(CEntry), det, size, fault],
         "trace_audit": [handle, ctypes.c_uint16, told],
         "trace_replays": [handle, ctypes.POINTER(CStray)],
         "trace_text": [handle, *out],
         "trace_close": [handle],
+        "node_open": [handle, ctypes.POINTER(CIdentity), fault],
+        "node_close": [handle],
+        "node_send": [handle, now, ctypes.c_uint8, *text, ctypes.POINTER(CSent), fault],
+        "node_receive": [handle, now, *text, ctypes.POINTER(CReceived), fault],
+        "node_due": [handle, ctypes.POINTER(CMessage)],
+        "node_receiver": [handle, number, ctypes.POINTER(ctypes.c_uint8)],
+        "node_resend": [handle, number, fault],
+        "node_acknowledge": [handle, now, ctypes.c_uint8, det, size, fault],
+        **{f"node_{kept}": [handle, *out] for kept in ("line", "parcel", "body", "header")},
+        **{f"node_{dets}": [handle, det, size, ctypes.POINTER(size)] for dets in ("listed", "unstored")},
+        "node_stored": [handle, now, det, fault],
+        "node_forget": [handle, now, fault],
+        "node_begin_round": [handle, ctypes.c_uint64, fault],
+        "node_question": [handle, now, ctypes.c_uint8, fault],
+        "node_awaited": [handle, ctypes.POINTER(ctypes.c_uint8)],
+        "node_take_ended": [handle, ctypes.c_uint64, ctypes.c_uint8, number, fault],
+        "node_finish_read": [handle, ctypes.c_uint64, fault],
+        "node_restart": [handle, now, fault],
+        "node_inspect": [handle, ctypes.POINTER(CState)],
+        "node_fault_text": [number, *out],
+        "crash_line": [ctypes.c_uint8, ctypes.c_uint64, *out],
     }
     for name, types in arguments.items():
         call = getattr(library, f"nixu_{name}")

@@ -1,5 +1,6 @@
 //! Faults of texts, and the other reasons for which a call gives no verdict.
 use crate::foreign::{self, Summary};
+use crate::node_fault::NodeFault;
 use std::error;
 use std::fmt::{self, Display, Formatter};
 
@@ -11,11 +12,15 @@ pub enum Error {
     Fault(Fault),
     /// Something stands against an entry: this first.
     Refused(FaultKind),
+    /// A node refuses the call, and is as it was.
+    Node(NodeFault),
+    /// The determinants of an acknowledgement don't ascend.
+    Unsorted,
     /// A trace can't have so many processes.
     Processes,
     /// A trace may not have so many entries.
     Entries,
-    /// An earlier call failed, and the reader is closed since.
+    /// An earlier call failed, and the reader or the node is closed since.
     Closed,
     /// Memory was refused.
     NoMemory,
@@ -39,6 +44,8 @@ impl Display for Error {
         match self {
             Error::Fault(fault) => fault.fmt(to),
             Error::Refused(kind) => kind.fmt(to),
+            Error::Node(fault) => fault.fmt(to),
+            Error::Unsorted => to.write_str("the determinants don't ascend"),
             Error::Processes => to.write_str("a trace has 1 to 256 processes"),
             Error::Entries => write!(to, "a trace may have 1 to {} entries", crate::MOST_ENTRIES),
             Error::Closed => to.write_str("an earlier call failed"),

@@ -1,4 +1,4 @@
-//! The calls of nixu.h. This is the only file with code that the compiler doesn't check.
+//! The calls of nixu.h that audit. Together with `foreign_node` the only file with code that the compiler doesn't check.
 
 use std::os::raw::c_void;
 use std::ptr;
@@ -58,7 +58,7 @@ pub struct CStray {
 
 const _: () = assert!(std::mem::size_of::<CStray>() == 32);
 
-/// `nixu_reader` and `nixu_trace`. It is freed by nobody: whoever has one closes it.
+/// `nixu_reader`, `nixu_trace` and `nixu_node`. It is freed by nobody: whoever has one closes it.
 #[repr(C)]
 #[derive(Debug)]
 pub struct Handle {
@@ -77,7 +77,7 @@ impl Handle {
 
 /// `nixu_determinant`.
 #[repr(C)]
-#[derive(Clone, Copy)]
+#[derive(Clone, Copy, Default)]
 pub struct Determinant {
     pub ssn: u32,
     pub rsn: u32,

@@ -24,20 +24,26 @@
 //! # Ok::<(), Error>(())
 //! ```
 //!
-//! A [`Reader`] is fed with the pieces of a text while the run is recorded. A [`Trace`] is made of entries, without text.
+//! A [`Reader`] is fed with the pieces of a text while the run is recorded. A [`Trace`] is made of entries, without text. A [`Node`]
+//! is one process of a run that logs messages causally: it keeps the books, and who embeds it moves bytes (docs/NODE.md).
 //!
-//! Every call may be made from any thread, and keeps nothing of what it was given; a reader or a trace stays on its thread. What the
+//! Every call may be made from any thread, and keeps nothing of what it was given; a reader, a trace or a node stays on its thread. What the
 //! library itself asks of memory may be refused, and is told as [`Error::NoMemory`]; the vectors and strings of this package are as
 //! those of any other.
 
 mod fault;
 mod foreign;
+mod foreign_node;
+mod node;
+mod node_fault;
 mod reader;
 mod stray;
 mod trace;
 mod verdict;
 
 pub use fault::{Error, Fault, FaultKind};
+pub use node::{crash_line, Identity, Message, MessageName, Node, NodeState, Received, Resent, Sent, Stage};
+pub use node_fault::NodeFault;
 pub use reader::Reader;
 pub use stray::Stray;
 pub use trace::{Determinant, Entry, Trace};

@@ -19,9 +19,14 @@ pub struct Determinant {
 }
 
 impl Determinant {
-    fn in_c(self) -> foreign::Determinant {
+    pub(crate) fn in_c(self) -> foreign::Determinant {
         let Determinant { source, ssn, dest, rsn } = self;
         foreign::Determinant { ssn, rsn, source, dest }
+    }
+
+    pub(crate) fn of_c(det: foreign::Determinant) -> Determinant {
+        let foreign::Determinant { ssn, rsn, source, dest } = det;
+        Determinant { source, ssn, dest, rsn }
     }
 }
 
