@@ -15,7 +15,7 @@ SCRIPT = "start ring 3 1 2\ndeliver 1 0 0\n"
 # The recordings of two processes, by file; that of process 1 delivers with the wrong number, in its second line.
 FIRST, SECOND = lines(A, SEND), lines(B, DELIVER)
 WRONG = lines(B, '["deliver",1,2,0,0,0,7,[[0,0,1,0]]]')
-WRONG_SAID = "causal_tool merge: p1.log:2: the receive sequence number is not the next one\n"
+WRONG_SAID = "causal_tool merge: p1.log:2: process 1 delivers with the number 7, and its next is 0\n"
 
 
 def merge_rows():

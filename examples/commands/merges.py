@@ -56,7 +56,8 @@ RUNS_ON = """causal_tool merge: line 7: the line is not a JSON value
 causal_tool merge: a line that a kill has cut may run into the next one
 """
 
-# The lines of recordings and the line of their first fault with its kind; where there are two, the first in the rule's order.
+# The lines of recordings and the line of their first fault with its kind; where there are two, the first in the rule's order. A kind
+# that values explain is followed by the sentence that has them.
 FAULTS = [
     ([], 1, "NoHeader"),
     ([A], 2, "NoHeader"),
@@ -91,18 +92,23 @@ FAULTS = [
     ([A, B, '["crash",0,1]', '["send",0,2,1,9]'], 4, "NotUp"),
     ([A, B, '["restart",0,1,[]]'], 3, "NotDown"),
     ([A, B, '["crash",1,5]', '["restart",0,5,[]]'], 4, "NotDown"),
-    ([A, B, '["send",0,1,1,1]'], 3, "WrongSsn"),
-    ([A, B, '["stable",0,2,[0,0,1,0]]', '["send",0,1,1,1]'], 4, "WrongSsn"),
-    ([A, B, '["send",0,3,1,0]', '["deliver",1,2,0,0,0,0,[]]'], 4, "NoSend"),
-    ([A, B, SEND, '["deliver",1,2,0,1,0,9,[]]'], 4, "NoSend"),
-    ([A, B, SEND, '["deliver",0,2,0,0,0,0,[]]'], 4, "NoSend"),
-    ([A, B, SEND, '["deliver",1,2,0,0,0,1,[]]'], 4, "WrongRsn"),
-    ([A, B, SEND, DELIVER, '["deliver",1,3,0,0,0,0,[]]'], 5, "WrongRsn"),
-    ([A, B, SEND, DELIVER, '["deliver",1,3,0,0,0,1,[[9,9,9,9],[0,0,1,0]]]'], 5, "Doubled"),
+    ([A, B, '["send",0,1,1,1]'], 3, "WrongSsn", "process 0 sends with the number 1, and its next is 0"),
+    ([A, B, '["stable",0,2,[0,0,1,0]]', '["send",0,1,1,1]'], 4, "WrongSsn", "process 0 sends with the number 1, and its next is 0"),
+    ([A, B, SEND, '["send",1,2,0,0]', '["send",0,3,1,2]'], 5, "WrongSsn", "process 0 sends with the number 2, and its next is 1"),
+    ([A, B, SEND, '["crash",0,2]', '["restart",0,3,[]]', '["send",0,4,1,1]'], 6, "WrongSsn", "process 0 sends with the number 1, and its next is 0"),
+    ([A, B, '["send",0,3,1,0]', '["deliver",1,2,0,0,0,0,[]]'], 4, "NoSend", "there is no earlier send to process 1 of message 0 of incarnation 0 of process 0"),
+    ([A, B, SEND, '["deliver",1,2,0,1,0,9,[]]'], 4, "NoSend", "there is no earlier send to process 1 of message 0 of incarnation 1 of process 0"),
+    ([A, B, SEND, '["deliver",0,2,0,0,0,0,[]]'], 4, "NoSend", "there is no earlier send to process 0 of message 0 of incarnation 0 of process 0"),
+    ([A, B, SEND, '["deliver",1,2,0,0,7,0,[]]'], 4, "NoSend", "there is no earlier send to process 1 of message 7 of incarnation 0 of process 0"),
+    ([A, B, SEND, '["deliver",1,2,0,0,0,1,[]]'], 4, "WrongRsn", "process 1 delivers with the number 1, and its next is 0"),
+    ([A, B, SEND, DELIVER, '["deliver",1,3,0,0,0,0,[]]'], 5, "WrongRsn", "process 1 delivers with the number 0, and its next is 1"),
+    ([A, B, SEND, DELIVER, '["crash",1,3]', '["restart",1,4,[]]', '["deliver",1,5,0,0,0,1,[]]'], 7, "WrongRsn", "process 1 delivers with the number 1, and its next is 0"),
+    ([A, B, SEND, DELIVER, '["deliver",1,3,0,0,0,1,[[9,9,9,9],[0,0,1,0]]]'], 5, "Doubled", "process 1 has delivered message 0 of process 0 already"),
     ([A, B, SEND, '["deliver",1,2,0,0,0,0,[[9,9,9,9],[0,0,1,0]]]'], 4, "Unsorted"),
     ([A, B, SEND, '["deliver",1,2,0,0,0,0,[[0,0,1,0],[0,0,1,0]]]'], 4, "Unsorted"),
-    ([A, B, SEND, '["deliver",1,2,0,0,0,0,[[0,0,1,1]]]'], 4, "NoDelivery"),
-    ([A, B, '["stable",0,1,[0,0,1,0]]'], 3, "NoDelivery"),
+    ([A, B, SEND, '["deliver",1,2,0,0,0,0,[[0,0,1,1]]]'], 4, "NoDelivery", "there is no delivery of the determinant [0,0,1,1]"),
+    ([A, B, SEND, '["deliver",1,2,0,0,0,0,[[0,0,1,0],[0,1,1,0],[0,2,1,0]]]'], 4, "NoDelivery", "there is no delivery of the determinant [0,1,1,0]"),
+    ([A, B, '["stable",0,1,[0,0,1,0]]'], 3, "NoDelivery", "there is no delivery of the determinant [0,0,1,0]"),
 ]
 
 # What begins a line, what is repeated in it so often that it is long, what ends it, and the kind of the fault.
@@ -143,8 +149,9 @@ def rows():
     for behind in ("[", '["', REST[0]):
         text = lines(ROUND, FORGETS + behind, REST)
         yield given(f"a line of an event with {behind} behind it", "merge", text, 2, "fault line=7 Syntax\n", said=RUNS_ON)
-    for texts, line, kind in FAULTS:
-        yield given(kind, "merge", lines(texts), 2, f"fault line={line} {kind}\n")
+    for texts, line, kind, *told in FAULTS:
+        said = f"causal_tool merge: line {line}: {told[0]}\n" if told else None
+        yield given(kind, "merge", lines(texts), 2, f"fault line={line} {kind}\n", said=said)
     for begin, unit, end, kind in LONG:
         yield given(f"a long line, {begin}", "merge", long_line(begin, unit, end), 2, f"fault line=3 {kind}\n")
     for begin, unit in TORN:

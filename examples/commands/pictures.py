@@ -1,9 +1,11 @@
 """Traces, and what the pictures that `draw` prints show of them."""
-from pictures import marks
+import re
+
+from pictures import marks, processes
 
 from . import faults, texts, verdicts
 from .row import given, status_of
-from .texts import A, B, FIRST, SENT, crash, deliver, forget, restart, send, trace
+from .texts import A, B, CHAIN, FIRST, SENT, crash, deliver, forget, restart, send, trace
 
 # how the lines of a picture end that show a verdict: the shade behind a process, since when a holder is one, the chain, the instant, and
 # who is what there
@@ -30,8 +32,8 @@ def chain(points):
     return f"<polyline points='{points} ' fill='none' stroke='#d55e00' stroke-width='4' stroke-opacity='0.75'/>\n"
 
 
-def instant(x):
-    return f"<path d='M{x} 70V212' fill='none' stroke='#0072b2' stroke-width='2' stroke-dasharray='7 4'/>\n"
+def instant(x, bottom=212):
+    return f"<path d='M{x} 70V{bottom}' fill='none' stroke='#0072b2' stroke-width='2' stroke-dasharray='7 4'/>\n"
 
 
 def named(x, y, process, what):
@@ -72,10 +74,67 @@ DRAWN = [
 ]
 
 
+# Process 2 gets the determinant of the delivery and loses it by a crash; then 3 gets a message without it. Only 1 has it, so a crash of 1
+# leaves 3 an orphan.
+LOST = trace(
+    1, 4, CHAIN, deliver(2, 2, 0, A, B), crash(2), restart(2), send(1, 3, 1), deliver(3, 6, 0, [1, 1, 3, 0]),
+)
+LOST_DRAWN = (
+    shade(132) + band(140, 335, 132) + band(200, 230, 172) + chain("140,132 290,132 320,212") + instant(335, 252)
+    + named(350, 132, 1, "holder") + named(350, 212, 3, "orphan") + in_words("orphan f=1: process 3 depends on the delivery of line 3")
+)
+
+# With the processes of the breach alone, the first of them has the first line. The hidden ones are counted below.
+ONLY = [
+    (
+        "without 0, which sends",
+        texts.PASSED_ON_BARE,
+        1,
+        [1, 2],
+        [3, 4, 5],
+        shade(92) + band(140, 215, 92) + chain("140,92 170,92 200,132") + instant(215, 172) + named(230, 92, 1, "holder")
+        + named(230, 132, 2, "orphan") + in_words("orphan f=1: process 2 depends on the delivery of line 3"),
+    ),
+    (
+        "with 2, which lost the determinant",
+        LOST,
+        1,
+        [1, 2, 3],
+        list(range(3, 10)),
+        shade(92) + band(140, 335, 92) + band(200, 230, 132) + chain("140,92 290,92 320,172") + instant(335, 212)
+        + named(350, 92, 1, "holder") + named(350, 172, 3, "orphan") + in_words("orphan f=1: process 3 depends on the delivery of line 3"),
+    ),
+    (
+        "those that are down",
+        texts.RING_CRASHED,
+        1,
+        [1, 2],
+        [3, 4, 5, 6, 8, 9],
+        shade(92) + shade(132) + instant(335, 172) + in_words("exceeded f=1: the shaded processes are down"),
+    ),
+    ("no breach", texts.PASSED_ON_BARE, 0, [0, 1, 2], [2, 3, 4, 5], in_words("accept f=0: no delivery has an orphan")),
+]
+
+
 def of_verdict(printed):
     """The lines of a picture that show the verdict."""
     lines = printed.decode().splitlines(keepends=True)
     return "".join(line for line in lines if line.startswith(IN_WORDS) or line.rstrip("\n").endswith(OF_VERDICT))
+
+
+def of_breach(printed):
+    """The shown processes, the number of hidden ones, the shown lines, and what shows the verdict."""
+    hidden = re.findall(r"<title>(\d+) processes are not shown</title>", printed.decode())
+    return processes(printed), [int(count) for count in hidden], shown(printed), of_verdict(printed)
+
+
+def only_rows():
+    for name, text, f, drawn, lines, verdict in ONLY:
+        n = int(text.split("]")[0].split(",")[2])
+        hidden = [n - len(drawn)] if len(drawn) < n else []
+        status = 0 if "accept" in verdict else 1
+        yield given(f"only the breach: {name}", f"draw --faults {f} --only breach", text, status, (drawn, hidden, lines, verdict), seen=of_breach)
+    yield given("a lost determinant, drawn", "draw --faults 1", LOST, 1, LOST_DRAWN, seen=of_verdict)
 
 
 def shown(printed):
@@ -143,6 +202,20 @@ def longer_rows():
         yield given(f"a chain by {places}", "draw --faults 1", orphaned_by(*places), 1, lines_of(parts), seen=shown)
 
 
+# The line around which entries are drawn, and the first of them: 100 before it, if there are as many and 100 from it on.
+AROUND = [(2, 0), (102, 0), (103, 1), (152, 50), (202, 100), (301, 100), (302, 100), (16_777_217, 100)]
+
+
+def around_rows():
+    for line, first in AROUND:
+        words = f"draw --faults 1 --around {line}"
+        yield given(f"around {line}", words, trace(2, 3, idle(LONGER)), 0, lines_of([(first, first + 200)]), seen=shown)
+    yield given("around another than the instant", "draw --faults 1 --around 52", orphaned_by(33, 200), 1, lines_of([(0, 200)]), seen=shown)
+    yield given("around one of few", "draw --faults 1 --around 4", texts.RING_TEXT, 0, list(range(2, 8)), seen=shown)
+    for words in ("--around 1", "--around 0", "--around -2", "--around 16777218", "--around", "--only chain", "--only", "--only breach,chain"):
+        yield given(f"no such picture: {words}", f"draw --faults 1 {words}", texts.RING_TEXT, 3, "")
+
+
 def rows():
     for name, text, f, lines in DRAWN:
         status = 0 if "accept" in lines else 1
@@ -157,3 +230,5 @@ def rows():
     yield given("a message sent again", "draw --faults 1", REPEATED, 1, FAINT, seen=faint)
     yield given("what is logged", "draw --faults 1", texts.RING_TEXT, 0, LOGS, seen=of_lines_3_and_5)
     yield from longer_rows()
+    yield from only_rows()
+    yield from around_rows()

@@ -1,4 +1,5 @@
 """Traces, and what `replays` answers: whether each delivery follows the determinants that survive, or the first that strays."""
+import itertools
 import json
 
 from .row import given
@@ -67,6 +68,17 @@ JUDGED = [
 ]
 
 
+EXPLAINED = (
+    "exceeded f=0 instant=6 down=1\n"
+    "cause line=7 process=1 by=crash: process 1 crashes, and more are down than may be\n"
+    "down process=1 line=7: process 1 is down since its crash at line 7\n"
+    "strayed instant=8 process=1 rsn=0 first=2 second=7: "
+    "after line 9 two determinants of delivery 0 of process 1 survive, those of lines 4 and 9\n"
+    "logged delivery=2 process=2 line=6: process 2 has the determinant of the delivery of line 4 in its log since line 6\n"
+    "logged delivery=7 process=1 line=9: process 1 has the determinant of the delivery of line 9 in its log since line 9\n"
+)
+
+
 def fact_of(word, delivery, *holder):
     """What `--json` tells of a process with a determinant in its log, or of stable storage."""
     return {"fact": word, "delivery": delivery} | dict(zip(("process", "line"), holder))
@@ -87,8 +99,54 @@ def judged_rows():
         yield given(f"{name}, in JSON", "replays --json", text, status, object_of(line, survivors), said="")
 
 
+def sentence_of(line):
+    """What `explain` says of the stray of a line: lines of the text are two more than positions, and the last before instant T is T + 1."""
+    instant, process, rsn, first, second = (int(field.split("=")[1]) for field in line.split()[1:])
+    return (
+        f"after line {instant + 1} two determinants of delivery {rsn} of process {process} survive, "
+        f"those of lines {first + 2} and {second + 2}"
+    )
+
+
+def told_of(word, delivery, *holder):
+    """What `explain` says of a process with a determinant in its log, or of stable storage."""
+    of_line = f"the determinant of the delivery of line {delivery + 2}"
+    if word == "stable":
+        return f"stable delivery={delivery}: {of_line} is in stable storage\n"
+    process, line = holder
+    return f"logged delivery={delivery} process={process} line={line}: process {process} has {of_line} in its log since line {line}\n"
+
+
+def of_stray(printed):
+    """The lines of `explain` from the stray on."""
+    return "".join(itertools.dropwhile(lambda line: not line.startswith("strayed "), printed.decode().splitlines(keepends=True)))
+
+
+def facts_of_stray(printed):
+    """The facts of `explain --json` from the stray on."""
+    return list(itertools.dropwhile(lambda fact: fact["fact"] != "strayed", json.loads(printed)["reason"]))
+
+
+def explained_rows():
+    """Whatever the verdict, `explain` ends with the stray. For F = 0 a crash is one too many."""
+    for name, text, answer, survivors in JUDGED:
+        line, status = answer.strip(), 1 if '"crash"' in text else 0
+        told = "" if survivors is None else f"{line}: {sentence_of(line)}\n" + "".join(told_of(*survivor) for survivor in survivors)
+        yield given(f"{name}, explained", "explain --faults 0", text, status, told, seen=of_stray, said="")
+        facts = [] if survivors is None else [fact_of_line(line), *(fact_of(*survivor) for survivor in survivors)]
+        yield given(f"{name}, explained in JSON", "explain --faults 0 --json", text, status, facts, seen=facts_of_stray, said="")
+    yield given("a stray and an excess", "explain --faults 0 --workers 2", TWO_LOGS, 1, EXPLAINED, said="")
+
+
+def fact_of_line(line):
+    """The line of a stray as a fact."""
+    word, *fields = line.split()
+    return {"fact": word} | {key: int(value) for key, value in (field.split("=") for field in fields)}
+
+
 def rows():
     yield from judged_rows()
+    yield from explained_rows()
     yield given("by four workers", "replays --workers 4", TWO_LOGS, 1, STRAYED, said="")
     yield given("by four workers, in JSON", "replays --json --workers 4", trace(1, 2, LOGGED), 0, '{"verdict":"followed","entries":2,"deliveries":1}\n', said="")
     yield given("of a file", "replays run.jsonl", "", 1, STRAYED, said="", files={"run.jsonl": TWO_LOGS})

@@ -1,7 +1,7 @@
 #!/usr/bin/env python3
 """Tests recorder.py: what it writes and reads back, worked out by hand from docs/RECORDING.md, with a clock of the machine that is set.
 
-    python3 examples/processes/test_recorder.py
+    python3 examples/recorder/test_recorder.py
 """
 import os
 import sys
