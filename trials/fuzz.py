@@ -291,24 +291,45 @@ def explained(text, f, said):
 
 
 def draw_case(rng):
-    """A whole trace: each entry has to have its mark."""
+    """A whole trace: each entry of a shown process has to have its mark."""
     lines = recorded_run(rng) if rng.random() < 0.3 else whole_trace(rng)
     f, text = rng.choice((0, 1, 1, 2, 3)), ("\n".join(lines) + "\n").encode()
-    return ["draw", "--faults", str(f)], text, lambda _: (listing(pictures.told(text)), traces.audited(text, f)[1])
+    is_part = rng.random() < 0.4
+    words = ["draw", "--faults", str(f), *selection(rng, len(lines), is_part)]
+    return words, text, lambda said: (drawing(text, f, is_part, said), traces.audited(text, f)[1])
 
 
-def listing(marks, covered=()):
-    """The marks of a picture as a text, which begins otherwise where there is no whole picture, and what covers what in it."""
-    if marks is None:
-        return "no picture\n"
-    lines = [f"{line} {words}{' (faint)' if faint else ''}\n" for line, words, faint in marks]
+def selection(rng, lines, is_part):
+    """The words that select a part of a picture."""
+    around = ["--around", str(rng.choice((2, rng.randrange(2, lines + 3), 16_777_217)))] if rng.random() < 0.3 else []
+    return [*around, *(["--only", "breach"] if is_part else [])]
+
+
+def drawing(text, f, is_part, said):
+    """What a picture shows by the model. Of several shortest chains it is the one that the program drew."""
+    chain = re.search(r"^chain (.*)$", said, re.MULTILINE)
+    bands, chain = pictures.breach_of(text, f, list(map(int, chain[1].split())) if chain else [])
+    n = traces.read(text).n
+    shown = pictures.processes_of(text, f, bands, chain or []) if is_part else list(range(n))
+    return listing(shown, n - len(shown), bands, chain or [], pictures.told(text, shown))
+
+
+def listing(shown, hidden, bands, chain, marks, covered=()):
+    """What a picture shows as a text, and what covers what in it."""
+    lines = [f"processes {shown} and {hidden} hidden\n", *(f"band of {p} from {begin} to {end}\n" for p, begin, end in bands)]
+    lines += [f"chain {' '.join(map(str, chain))}\n"] * bool(chain)
+    lines += [f"{line} {words}{' (faint)' if faint else ''}\n" for line, words, faint in marks]
     return "".join(["picture\n", *lines, *(f"COVERED {words}\n" for words in covered)])
 
 
 def drawn(printed):
     """What is compared of a picture."""
     marks = pictures.marks(printed)
-    return listing(marks, () if marks is None else pictures.overlaps(printed))
+    if marks is None:
+        return "no picture\n"
+    is_cut = re.search(rb"entries (before|between|after) are not shown", printed)
+    bands, chain = ([], []) if is_cut else pictures.breach(printed)
+    return listing(pictures.processes(printed), pictures.hidden(printed), bands, chain, marks, pictures.overlaps(printed))
 
 
 def window_case(rng):
@@ -326,7 +347,8 @@ def window_case(rng):
     entries[last] = ("deliver", [q, sent, 0, [[p, ssn, q, 0]] if is_logged else []])
     lines = [("trace", 2, n), *[(word, *fields) for word, fields in entries], ("end", length)]
     text = ("\n".join(map(scripts.spelled, lines)) + "\n").encode()
-    return ["draw", "--faults", str(1 if is_logged else rng.choice((0, 1)))], text, uncovered
+    f = 1 if is_logged else rng.choice((0, 1))
+    return ["draw", "--faults", str(f), *selection(rng, len(lines), rng.random() < 0.5)], text, uncovered
 
 
 def uncovered(said):

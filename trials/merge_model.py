@@ -35,10 +35,16 @@ KINDS = {
 }
 
 
+# the kinds that values explain
+EXPLAINED = {"WrongSsn", "NoSend", "WrongRsn", "Doubled", "NoDelivery"}
+
+
 class Fault(Exception):
-    def __init__(self, line, kind, event=None, behind=False):
+    """The first fault, and the sentence that has the values that explain it, if its kind is one of `EXPLAINED`."""
+
+    def __init__(self, line, kind, event=None, behind=False, told=None):
         super().__init__(kind)
-        self.line, self.kind, self.event, self.behind = line, kind, event, behind
+        self.line, self.kind, self.event, self.behind, self.told = line, kind, event, behind, told
 
 
 class Event:
@@ -171,8 +177,8 @@ def trace_of(n, events):
     for e in events:
         p, own = e.process, None
 
-        def bad(kind, behind=False):
-            raise Fault(e.line, kind, e, behind)
+        def bad(kind, told=None, behind=False):
+            raise Fault(e.line, kind, e, behind, told)
 
         if last is not None and last.key() == e.key():
             bad("Twice")
@@ -191,18 +197,19 @@ def trace_of(n, events):
         if e.word == "send":
             q, ssn = e.fields
             if sends[p] != ssn:
-                bad("WrongSsn")
+                bad("WrongSsn", f"process {p} sends with the number {ssn}, and its next is {sends[p]}")
             entry = ["send", p, q, ssn]
         elif e.word == "deliver":
             source, source_lane, ssn, rsn, _ = e.fields
             position, to = sent.get((source, source_lane, ssn), (None, None))
             if to != p:
                 later = later or whole()
-                bad("NoSend", (source, source_lane, ssn, p) in later[0])
+                told = f"there is no earlier send to process {p} of message {ssn} of incarnation {source_lane} of process {source}"
+                bad("NoSend", told, (source, source_lane, ssn, p) in later[0])
             if delivered[p] != rsn:
-                bad("WrongRsn")
+                bad("WrongRsn", f"process {p} delivers with the number {rsn}, and its next is {delivered[p]}")
             if (source, ssn) in names[p]:
-                bad("Doubled")
+                bad("Doubled", f"process {p} has delivered message {ssn} of process {source} already")
             own = (source, ssn, p, rsn)
             entry = ["deliver", p, position, rsn, [list(d) for d in e.dets]]
         elif e.word == "stable":
@@ -216,7 +223,8 @@ def trace_of(n, events):
         missing = [d for d in e.named if d not in dets and d != own]
         if missing:
             later = later or whole()
-            bad("NoDelivery", all(d in later[1] for d in missing))
+            first = ",".join(map(str, missing[0]))
+            bad("NoDelivery", f"there is no delivery of the determinant [{first}]", all(d in later[1] for d in missing))
         # the step
         if e.word == "send":
             sent[(p, lane[p], e.fields[1])] = (place, e.fields[0])
@@ -256,6 +264,8 @@ def main():
     except Fault as fault:
         print(f"fault line={fault.line} {fault.kind}")
         where = f" (process {fault.event.process}, clock {fault.event.clock})" if fault.event else ""
+        if fault.told:
+            print(f"line {fault.line}: {fault.told}", file=sys.stderr)
         print(f"line {fault.line}{where}: {BEHIND if fault.behind else KINDS[fault.kind]}", file=sys.stderr)
         return 2
     for line in torn:

@@ -107,13 +107,16 @@ def modelled(text):
     try:
         n, _, entries, torn = merge_model.merged(text)
     except merge_model.Fault as fault:
-        return f"fault line={fault.line} {fault.kind}\n", 2, []
-    return merge_model.spell(n, entries), 0, torn
+        said = f"causal_tool merge: line {fault.line}: {fault.told}" if fault.told else None
+        return f"fault line={fault.line} {fault.kind}\n", 2, [], said
+    return merge_model.spell(n, entries), 0, torn, None
 
 
 def answered(program, text):
     ended = subprocess.run([program, "merge"], input=text, capture_output=True, timeout=60)
-    return ended.stdout.decode(), ended.returncode, [int(line) for line in TORN.findall(ended.stderr.decode())]
+    out, told = ended.stdout.decode(), ended.stderr.decode()
+    is_explained = ended.returncode == 2 and out.split()[-1] in merge_model.EXPLAINED
+    return out, ended.returncode, [int(line) for line in TORN.findall(told)], told.splitlines()[0] if is_explained else None
 
 
 def chunk(program, seed, count):
@@ -183,7 +186,7 @@ def cuts():
 
 
 def cut_differently(program, text, torn):
-    wanted = ("fault line=3 Syntax\n", 2, []) if torn is None else (merge_model.spell(2, []), 0, list(range(3, 3 + torn)))
+    wanted = ("fault line=3 Syntax\n", 2, [], None) if torn is None else (merge_model.spell(2, []), 0, list(range(3, 3 + torn)), None)
     return [(who, got) for who, got in (("model", modelled(text)), ("program", answered(program, text))) if got != wanted]
 
 

@@ -1,9 +1,11 @@
-"""The plain model of `draw`: which entries a picture shows, and what their marks are called; and a check that no two labels of a picture
-cover each other, nor a mark one of those that say who holds the determinant. Where else things stand it does not say."""
+"""The plain model of `draw`: which entries and processes a picture shows, what the marks are called, which processes are on the chain, and
+from which line to which each process held the determinant; and a check that no two labels of a picture cover each other, nor a mark one
+of those that say who holds the determinant. Where else things stand it does not say."""
 import itertools
 import re
 import xml.etree.ElementTree
 
+import reasons
 import traces
 
 SVG = "{http://www.w3.org/2000/svg}"
@@ -23,6 +25,78 @@ def marks(printed):
             line, words = title.text.removeprefix("line ").split(": ", 1)
             found.append((int(line), words, "opacity" in mark.attrib))
     return found
+
+
+def processes(printed):
+    """The processes that have a row in a picture, ascending."""
+    titles = [title.text for title in xml.etree.ElementTree.fromstring(printed).iter(SVG + "title")]
+    return sorted({int(text.removeprefix("process ")) for text in titles if re.fullmatch(r"process \d+", text)})
+
+
+def hidden(printed):
+    """How many processes a picture says that it hides."""
+    return sum(map(int, re.findall(r"<title>(\d+) processes are not shown</title>", printed.decode())))
+
+
+def lines_of_processes(root):
+    """The process of each line, by the line's height."""
+    for row in root.iter(SVG + "g"):
+        title, path = row.find(SVG + "title"), row.find(SVG + "path[@stroke-dasharray='1 5']")
+        if path is not None:
+            yield int(re.search(r" (\d+)H", path.attrib["d"])[1]), int(title.text.removeprefix("process "))
+
+
+def columns(root):
+    """The line of the text of each place on a line of a process where a mark stands, and the instant's word where it stands."""
+    for mark in root.iter(SVG + "g"):
+        title = mark.find(SVG + "title")
+        if title is not None and title.text.startswith("line "):
+            for path in mark.iter(SVG + "path"):
+                if "transform" in path.attrib:
+                    yield int(re.findall(r"\d+", path.attrib["transform"])[0]), int(re.findall(r"\d+", title.text)[0])
+        elif title is not None and title.text.startswith("instant "):
+            yield int(re.match(r"M(\d+) 70V", mark.find(SVG + "path").attrib["d"])[1]), "instant"
+
+
+def breach(printed):
+    """What a picture without a cut shows of a breach: of each band the process and the lines of the entries where it begins and ends, and
+    the processes of the chain's entries."""
+    root = xml.etree.ElementTree.fromstring(printed)
+    process_at, line_at = dict(lines_of_processes(root)), dict(columns(root))
+    bands = [tuple(map(int, re.findall(r"\d+", path.attrib["d"]))) for path in root.iter(SVG + "path") if path.get("stroke-opacity") == "0.25"]
+    chain = "".join(line.attrib["points"] for line in root.iter(SVG + "polyline"))
+    return (
+        sorted((process_at[y], line_at[begin], line_at[end]) for begin, y, end in bands),
+        [process_at[int(y)] for y in re.findall(r",(\d+)", chain)],
+    )
+
+
+def breach_of(text, f, chain):
+    """The same by the model; the chain's processes are the given ones, if they begin with the delivery's and end with the orphan."""
+    kind, *fields = traces.audited(text, f)[0].split()
+    said = dict(field.split("=") for field in fields)
+    if kind != "orphan":
+        return [], []
+    trace, t, k, orphan = traces.read(text), int(said["instant"]), int(said["delivery"]), int(said["orphan"])
+    over, det = reasons.logs_over(trace.entries[:t], trace.n), trace.dets[k]
+    bands = []
+    for p in range(trace.n):
+        has = [det in logs[p] for logs in over]
+        if any(has):
+            last = max(i for i, held in enumerate(has) if held)
+            first = max([i + 1 for i in range(last) if not has[i]], default=0)
+            bands.append((p, first + 1, "instant" if last == t else last + 2))
+    return bands, chain if chain[:1] == [det[2]] and chain[-1:] == [orphan] else None
+
+
+def processes_of(text, f, bands, chain):
+    """The processes that a picture of the breach alone shows: those of the bands, the chain and the crash set; all, if there is none."""
+    kind, *fields = traces.audited(text, f)[0].split()
+    said = dict(field.split("=") for field in fields)
+    if kind == "accept":
+        return list(range(traces.read(text).n))
+    crash = said["down"] if kind == "exceeded" else said["crash"]
+    return sorted({*(p for p, _, _ in bands), *chain, *(int(p) for p in crash.split(",") if p != "-")})
 
 
 # How wide letters are, in thousandths of the font's size: those of DejaVu Sans, a wide font. A bold letter is a tenth wider.
@@ -106,8 +180,9 @@ def words_of(entries, word, fields):
             return f"process {p} forgets {len(dets)} determinants"
 
 
-def told(text):
-    """The marks of a trace that is no longer than a picture. A message that is sent again is faint, there and where it is delivered."""
+def told(text, shown):
+    """The marks of the shown processes of a trace that is no longer than a picture. A message that is sent again is faint, there and where
+    it is delivered."""
     entries = traces.read(text).entries
     assert len(entries) <= MOST
     sent, again, found = set(), set(), []
@@ -117,5 +192,6 @@ def told(text):
             again |= {k} if name in sent else set()
             sent.add(name)
         faint = k in again or (word == "deliver" and fields[1] in again)
-        found.append((k + 2, words_of(entries, word, fields), faint))
+        if (fields[0][2] if word == "stable" else fields[0]) in shown:
+            found.append((k + 2, words_of(entries, word, fields), faint))
     return found

@@ -1,8 +1,9 @@
-"""A plain model of what `explain` tells of a trace that is refused, from docs/FORMAT.md alone: of each line the words before the
-colon. It judges the trace by the plain model of the auditor (traces.py), reads the entries over for each fact, and shares no code
-with the product. It is for small traces."""
+"""A plain model of what `explain` tells of a trace, from docs/FORMAT.md alone: of each line the words before the colon. It judges the
+trace by the plain model of the auditor (traces.py), reads the entries over for each fact, and shares no code with the product. It is for
+small traces."""
 import re
 
+import replays
 import traces
 
 
@@ -147,6 +148,21 @@ def closest(text, f, n):
 def told(text, f, facts):
     """The verdict's line, and of each line below it the words before the colon. Of several shortest chains it is that of the facts that
     the program told."""
+    return [*reason(text, f, facts), *strayed(traces.read(text))]
+
+
+def strayed(trace):
+    """The first instant that strays, and who has which of the two determinants."""
+    found = replays.first_stray(trace)
+    if found is None:
+        return []
+    held = [fact for k in found[3:] for fact in replays.copies(trace, found[0], k)]
+    told = [" ".join([fact.pop("fact"), *(f"{key}={value}" for key, value in fact.items())]) for fact in held]
+    return ["strayed instant={} process={} rsn={} first={} second={}".format(*found), *told]
+
+
+def reason(text, f, facts):
+    """The verdict's line, and why it is so."""
     line = traces.audited(text, f)[0]
     kind, *words = line.split()
     said = dict(word.split("=") for word in words)

@@ -1,0 +1,92 @@
+#!/usr/bin/env python3
+"""Measures a delivery of a node by the C library (node_calls.c), beside the same in plain Rust (node_plain.rs). It prints a section of
+RESULTS.md, and puts it there if it is told to.
+
+    bench/measure_node.py [--library bindings/out] [--write]
+"""
+import argparse
+import os
+import re
+import subprocess
+import sys
+import tempfile
+
+HERE = os.path.dirname(os.path.abspath(__file__))
+TOP = os.path.dirname(HERE)
+sys.path.insert(0, os.path.join(TOP, "bindings"))
+from release import facts_of  # noqa: E402
+
+RESULTS = os.path.join(HERE, "RESULTS.md")
+NAME = "A node by the library"
+CARRIED = (0, 1, 7, 15)
+RUNS = 5
+BODY = 100
+
+
+def built(library, folder):
+    calls, plain = os.path.join(folder, "node_calls"), os.path.join(folder, "node_plain")
+    archive, include = os.path.join(library, "lib", "libnixu.a"), os.path.join(library, "include")
+    subprocess.run(["cc", "-std=c99", "-O2", "-I", include, os.path.join(HERE, "node_calls.c"), archive, "-o", calls], check=True)
+    subprocess.run(["rustc", "-O", "--edition", "2021", "-o", plain, os.path.join(HERE, "node_plain.rs")], check=True)
+    return calls, plain
+
+
+def numbers(words):
+    return list(map(int, subprocess.run(words, capture_output=True, text=True, check=True).stdout.split()))
+
+
+def row(calls, plain, carried, folder):
+    """The least of some runs, in turn."""
+    path = os.path.join(folder, "parcels")
+    runs = [numbers([calls, str(carried), path]) + numbers([plain, path]) for _ in range(RUNS)]
+    length, copy, delivery, line, send, plainly = map(min, zip(*runs))
+    each = f"{(length - 40 - BODY) / carried:.0f}" if carried else ""
+    return f"| {carried + 1} | {length} | {each} | {copy} | {delivery:,} | {plainly:,} | {delivery / plainly:.2f} | {line:,} | {send:,} |"
+
+
+def section(library):
+    with tempfile.TemporaryDirectory() as folder:
+        calls, plain = built(library, folder)
+        rows = [row(calls, plain, carried, folder) for carried in CARRIED]
+    facts = facts_of(library)
+    return "\n".join([
+        f"## {NAME}",
+        "",
+        f"- Program: commit {facts['commit']}",
+        f"- Load: {os.getloadavg()[0]:.1f} processes",
+        "",
+        "A delivery of a message of 100 bytes by `nixu_node_receive` (`bench/measure_node.py`); what it carries is new. Nanoseconds of processor",
+        f"time, the least of {RUNS} runs. *plain*: the same with maps in plain Rust. *line*: `nixu_node_line`. *send*: `nixu_node_send` and its",
+        "parcel. The target is 3,000 beyond copying, and 24 bytes for each determinant that is carried.",
+        "",
+        "| listed | bytes | for each carried | copying | delivery | plain | delivery / plain | line | send |",
+        "|---|---|---|---|---|---|---|---|---|",
+        *rows,
+        "",
+    ])
+
+
+def put(made):
+    with open(RESULTS) as file:
+        text = file.read()
+    before, _, behind = text.partition(f"## {NAME}\n")
+    after = re.search(r"^## ", behind, re.M)
+    with open(RESULTS, "w") as file:
+        file.write(before.rstrip("\n") + "\n\n" + made + (f"\n{behind[after.start():]}" if after else ""))
+
+
+def main():
+    given = argparse.ArgumentParser(description=__doc__.split("\n\n")[0])
+    given.add_argument("--library", default=os.path.join(TOP, "bindings", "out"), help="the folder that bindings/build wrote")
+    given.add_argument("--write", action="store_true", help="put the section into RESULTS.md")
+    words = given.parse_args()
+    if words.write and facts_of(words.library)["proved"] != "yes":
+        sys.exit(f"bench/measure_node.py: {words.library} is built without proof, and slower; bindings/build proves it")
+    made = section(os.path.abspath(words.library))
+    print(made)
+    if words.write:
+        put(made)
+
+
+if __name__ == "__main__":
+    main()

@@ -1,0 +1,166 @@
+/* Times the calls of a node. Process 2 receives messages of process 0 with a body of 100 bytes, which carry `carried` determinants
+   that are new to it; after each 64 it stores and forgets, which is not timed. Prints nanoseconds of processor time for each: the
+   copying of a parcel, nixu_node_receive, nixu_node_line, and nixu_node_send of a message that carries as many. The parcels go to a
+   file, each after its length, for node_plain.rs.
+
+   node_calls CARRIED FILE */
+#define _POSIX_C_SOURCE 200809L
+#include "nixu.h"
+
+#include <stdio.h>
+#include <stdlib.h>
+#include <string.h>
+#include <time.h>
+
+enum { BODY = 100, ROOM = 4096, MESSAGES = 2048, EACH = 64, RUNS = 20, MOST = 2048 };
+
+typedef struct parcel {
+  uint8_t at[ROOM];
+  size_t length;
+} parcel;
+
+static parcel made[MESSAGES];
+static uint64_t now = 1000;
+static uint32_t fault;
+static const uint8_t body[BODY];
+
+static void must(uint32_t status) {
+  if (status == NIXU_OK) return;
+  fprintf(stderr, "a call has the status %u\n", (unsigned)status);
+  exit(1);
+}
+
+static double nanoseconds(void) {
+  struct timespec at;
+  clock_gettime(CLOCK_THREAD_CPUTIME_ID, &at);
+  return (double)at.tv_sec * 1e9 + (double)at.tv_nsec;
+}
+
+static void open_node(nixu_node *node, uint8_t process) {
+  nixu_node_identity identity = {1, 0, 99, 0, 4, 1, process};
+  must(nixu_node_open(node, &identity, &fault));
+}
+
+static void store_and_forget(nixu_node *node) {
+  static nixu_determinant open[MOST];
+  size_t count;
+  must(nixu_node_unstored(node, open, MOST, &count));
+  for (size_t k = 0; k < count; k++) must(nixu_node_stored(node, now++, &open[k], &fault));
+  must(nixu_node_forget(node, now++, &fault));
+}
+
+static void send(nixu_node *from, uint8_t to, parcel *made_of) {
+  nixu_node_sent sent;
+  must(nixu_node_send(from, now++, to, body, BODY, &sent, &fault));
+  must(nixu_node_parcel(from, made_of->at, ROOM, &made_of->length));
+}
+
+static void receive(nixu_node *to, const parcel *from) {
+  nixu_node_received received;
+  must(nixu_node_receive(to, now++, from->at, from->length, &received, &fault));
+}
+
+/* Process 0 delivers `carried` messages of process 1. */
+static void deliver_some(nixu_node *one, nixu_node *zero, uint32_t carried) {
+  static parcel given;
+  for (uint32_t k = 0; k < carried; k++) {
+    send(one, 0, &given);
+    receive(zero, &given);
+  }
+}
+
+/* It does so before each message to process 2, and then forgets them. */
+static void make_parcels(uint32_t carried) {
+  nixu_node zero = {0}, one = {0};
+  open_node(&zero, 0);
+  open_node(&one, 1);
+  for (int i = 0; i < MESSAGES; i++) {
+    deliver_some(&one, &zero, carried);
+    send(&zero, 2, &made[i]);
+    store_and_forget(&zero);
+  }
+  nixu_node_close(&zero);
+  nixu_node_close(&one);
+}
+
+static double least_of(double least, double began, int count) {
+  double took = (nanoseconds() - began) / count;
+  return took < least ? took : least;
+}
+
+static double copies(void) {
+  static uint8_t copy[ROOM];
+  double least = 1e9;
+  for (int i = 0; i < MESSAGES; i += EACH) {
+    double began = nanoseconds();
+    for (int j = i; j < i + EACH; j++) {
+      memcpy(copy, made[j].at, made[j].length);
+      __asm__ volatile("" ::"r"(copy) : "memory");
+    }
+    least = least_of(least, began, EACH);
+  }
+  return least;
+}
+
+static double lines(nixu_node *node) {
+  static uint8_t line[ROOM];
+  size_t length;
+  double began = nanoseconds();
+  for (int k = 0; k < EACH; k++) must(nixu_node_line(node, line, ROOM, &length));
+  return least_of(1e9, began, EACH);
+}
+
+static double sends(uint32_t carried) {
+  static parcel given;
+  double least = 1e9;
+  nixu_node zero = {0}, one = {0};
+  open_node(&zero, 0);
+  open_node(&one, 1);
+  deliver_some(&one, &zero, carried);
+  for (int i = 0; i < MESSAGES; i += EACH) {
+    double began = nanoseconds();
+    for (int k = 0; k < EACH; k++) send(&zero, 2, &given);
+    least = least_of(least, began, EACH);
+  }
+  nixu_node_close(&zero);
+  nixu_node_close(&one);
+  return least;
+}
+
+/* One run over all parcels. Returns the mean time of a delivery. */
+static double deliveries(double *line) {
+  double all = 0;
+  nixu_node two = {0};
+  open_node(&two, 2);
+  for (int i = 0; i < MESSAGES; i += EACH) {
+    double began = nanoseconds();
+    for (int j = i; j < i + EACH; j++) receive(&two, &made[j]);
+    all += nanoseconds() - began;
+    *line = lines(&two);
+    store_and_forget(&two);
+  }
+  nixu_node_close(&two);
+  return all / MESSAGES;
+}
+
+int main(int count, char **words) {
+  FILE *file;
+  uint32_t carried = count > 1 ? (uint32_t)atoi(words[1]) : 0;
+  double copy = 1e9, delivery = 1e9, line = 1e9;
+  if (count != 3 || !(file = fopen(words[2], "wb"))) return 1;
+  make_parcels(carried);
+  for (int i = 0; i < MESSAGES; i++) {
+    uint32_t length = (uint32_t)made[i].length;
+    fwrite(&length, sizeof length, 1, file);
+    fwrite(made[i].at, 1, made[i].length, file);
+  }
+  if (fclose(file)) return 1;
+  for (int run = 0; run < RUNS; run++) {
+    double of_line, mean = deliveries(&of_line), of_copy = copies();
+    if (mean < delivery) delivery = mean;
+    if (of_line < line) line = of_line;
+    if (of_copy < copy) copy = of_copy;
+  }
+  printf("%lu %.0f %.0f %.0f %.0f\n", (unsigned long)made[0].length, copy, delivery, line, sends(carried));
+  return 0;
+}
