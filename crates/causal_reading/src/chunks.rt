@@ -16,6 +16,9 @@ const UNDIVIDED: usize = 32_768;
 /// The least mean size of the chunks of a piece, in bytes.
 const CHUNK: usize = 8_192;
 
+/// How many bytes at the beginning of a piece show how long its lines are.
+const SAMPLE: usize = 4_096;
+
 /// Reads one more piece. Several workers parse it if it is long.
 pub(crate) fn feed_by<R: Threads>(
     rt: &R,
@@ -30,7 +33,15 @@ pub(crate) fn feed_by<R: Threads>(
         return feed_here(reader, piece);
     }
     let chunks = (piece.len() / CHUNK).min(workers as usize);
-    feed_chunks(rt, alloc, reader, piece, chunks)
+    feed_chunks(rt, alloc, reader, piece, chunks, evenness(piece))
+}
+
+/// Returns twice the length of a piece's first chunk, less 1, in units of which each further chunk has one more. Any line
+/// takes the calling thread about as long, but a worker as long as its bytes: chunks of short lines differ most.
+fn evenness(piece: &[u8]) -> usize {
+    let (sample, _) = piece.split_at(piece.len().min(SAMPLE));
+    let lines = sample.iter().filter(|byte| **byte == b'\n').count();
+    if lines > SAMPLE / 128 { 5 } else { 23 }
 }
 
 /// Reads more bytes in the calling thread.
@@ -49,15 +60,16 @@ fn feed_chunks<R: Threads>(
     reader: PushReader,
     bytes: &[u8],
     chunks: usize,
+    evenness: usize,
 ) -> Result<PushReader, TextRefusal>
     ensures { IsFedBy reader bytes.now result }
 {
     if chunks < 2 {
         return feed_here(reader, bytes);
     }
-    let (front, last) = split_lines(bytes, front_len(bytes.len(), chunks));
+    let (front, last) = split_lines(bytes, front_len(bytes.len(), chunks, evenness));
     if last.is_empty() {
-        return feed_chunks(rt, alloc, reader, bytes, chunks - 1);
+        return feed_chunks(rt, alloc, reader, bytes, chunks - 1, evenness);
     }
     let parse = move || -> Result<ParsedChunk<'_>, NoMemory>
         ensures { IfOk result (λ chunk. chunk ≡ last.entry.now) }
@@ -65,19 +77,20 @@ fn feed_chunks<R: Threads>(
     let feed = move || -> Result<PushReader, TextRefusal>
         requires { 2 ≤ chunks }
         ensures { IsFedBy reader front.entry.now result }
-    { feed_chunks(rt, alloc, reader, front, chunks - 1) };
+    { feed_chunks(rt, alloc, reader, front, chunks - 1, evenness) };
     let (parsed, fed) = join(rt, parse, feed);
     feed_after(fed, parsed)
 }
 
 /// Returns about how many of `len` bytes lie before the last chunk. The lengths of the chunks are as 3 to 4 to 5 and so
-/// on, since the calling thread has to check the lines of one before it needs the next.
-fn front_len(len: usize, chunks: usize) -> usize
+/// on if `evenness` is 5, as 12 to 13 to 14 if it is 23, since the calling thread has to check the lines of one before it
+/// needs the next.
+fn front_len(len: usize, chunks: usize, evenness: usize) -> usize
     requires { 2 ≤ chunks }
     ensures { result ≤ len }
 {
     let mean = len / chunks;
-    let more = (mean / chunks.saturating_add(5)).saturating_mul(chunks - 1);
+    let more = (mean / chunks.saturating_add(evenness)).saturating_mul(chunks - 1);
     (len - mean).saturating_sub(more)
 }
 
