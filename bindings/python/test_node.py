@@ -62,8 +62,10 @@ class Nodes(unittest.TestCase):
         self.assertEqual(again.state, nixu.NodeState(1005, 0, Stage.Down, 1, 0, 0, 0))
         again.begin_round(7)
         self.assertEqual((again.state.round, again.state.stage, again.awaited), (7, Stage.Gathering, {0, 2}))
+        self.assertEqual((again.view, two.view), ((0, 1, 0), (0, 0, 0)))
         self.assertEqual(again.question(2, 2000), QUESTION)
         self.assertEqual(two.receive(QUESTION, 1500), nixu.Question(1, ANSWER))
+        self.assertEqual(two.view, (0, 1, 0))
         self.assertEqual(again.receive(ANSWER, 0), nixu.Log(2))
         self.assertEqual(again.awaited, {0})
         self.refuses("Unasked", again.receive, ANSWER)
@@ -87,7 +89,7 @@ class Nodes(unittest.TestCase):
         again.take_ended(7, 0, 0)
         self.assertEqual(again.awaited, {2})
         again.take_ended(7, 2, 3)  # another number than that of the view: the round is given up
-        self.assertEqual(again.state.stage, Stage.Down)
+        self.assertEqual((again.state.stage, again.view), (Stage.Down, (0, 1, 3)))
         self.refuses("NoRound", again.question, 2)
 
     def test_two_that_recover_reply_in_turn(self):
@@ -197,7 +199,8 @@ class Nodes(unittest.TestCase):
             pass
         closed.close()
         calls = [lambda: closed.send(1, b""), lambda: closed.receive(FIRST), lambda: closed.header, lambda: closed.state]
-        calls += [lambda: closed.due, lambda: closed.resend(0), closed.unstored, closed.forget, lambda: closed.awaited]
+        calls += [lambda: closed.due, lambda: closed.resend(0), closed.unstored, closed.forget]
+        calls += [lambda: closed.awaited, lambda: closed.view]
         for call in calls:
             self.raises(RuntimeError, "the Node is closed", call)
 

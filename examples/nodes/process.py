@@ -104,7 +104,7 @@ class Process:
         if stage == nixu.Stage.Up:
             self.storing.send_request()
         elif stage == nixu.Stage.Reading:
-            self.storing.read(self.round, self.node.question(self.others[0])[36:])  # the round's view (docs/WIRE.md)
+            self.storing.read(self.round, self.node.view)
         for other in self.node.awaited:
             self.links.publish(other, self.node.question(other))
 
@@ -127,9 +127,8 @@ class Process:
 
     def take_ended(self):
         """Broken: who does not reply at once is taken to have ended, as if a lost connection were a crash."""
-        view = self.node.question(self.others[0])[36:]
         for other in self.node.awaited:
-            self.node.take_ended(self.round, other, int.from_bytes(view[4 * other : 4 * other + 4], "big"))
+            self.node.take_ended(self.round, other, self.node.view[other])
 
     # the loop
 

@@ -51,7 +51,8 @@ class Storing:
     def read(self, name, view):
         """Storage refuses from then on what comes from lanes below the view."""
         self.parts = {}
-        self.links.publish("store", f"read {self.number} {name} {view.hex()}".encode())
+        numbers = b"".join(number.to_bytes(4, "big") for number in view)
+        self.links.publish("store", f"read {self.number} {name} {numbers.hex()}".encode())
 
     def take_part(self, name, clock, part, parts, rows, lines):
         """Storage has these: a part of its reply of so many rows. Who reads records that they are stable: who has stored them may have

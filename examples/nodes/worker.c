@@ -280,6 +280,7 @@ static unsigned parts_rows; /* of how many rows that reply is */
 static void send_questions(void) {
   uint8_t awaited[256];
   char text[2200];
+  uint32_t view[256];
   size_t needed, count;
   nixu_node_state it = state();
   if (it.stage == NIXU_STAGE_UP && is_requested) send_store_request();
@@ -289,10 +290,9 @@ static void send_questions(void) {
       if (awaited[p]) must(nixu_node_question(&node, now(), (uint8_t)p, &fault)), publish_parcel(p);
   } else if (it.stage == NIXU_STAGE_READING) {
     parts = 0;
-    must(nixu_node_question(&node, now(), me ? 0 : 1, &fault));
-    must(nixu_node_parcel(&node, out, sizeof out, &needed));
+    must(nixu_node_view(&node, view, 256, &needed));
     count = (size_t)snprintf(text, sizeof text, "read %d %" PRIu64 " ", me, round_name);
-    for (size_t at = 36; at < needed; at++) count += (size_t)snprintf(text + count, 3, "%02x", out[at]); /* the view */
+    for (size_t p = 0; p < needed; p++) count += (size_t)snprintf(text + count, 9, "%08" PRIx32, view[p]);
     publish("store", text, count);
   }
 }

@@ -157,6 +157,7 @@ def _declare(library: ctypes.CDLL) -> None:
         "node_begin_round": [handle, ctypes.c_uint64, fault],
         "node_question": [handle, now, ctypes.c_uint8, fault],
         "node_awaited": [handle, ctypes.POINTER(ctypes.c_uint8)],
+        "node_view": [handle, ctypes.POINTER(number), size, ctypes.POINTER(size)],
         "node_take_ended": [handle, ctypes.c_uint64, ctypes.c_uint8, number, fault],
         "node_finish_read": [handle, ctypes.c_uint64, fault],
         "node_restart": [handle, now, fault],

@@ -308,6 +308,15 @@ class Node(Open):
             check(c.library.nixu_node_awaited(handle, processes), "Node")
         return frozenset(process for process, is_in in enumerate(processes) if is_in)
 
+    @property
+    def view(self) -> tuple[int, ...]:
+        """The least lane of each process that is accepted. Until the restart this is the view of the round: once storage is read for it,
+        storage refuses writes of lesser lanes."""
+        lanes, needed = (ctypes.c_uint32 * 256)(), ctypes.c_size_t()
+        with self._alone() as handle:
+            check(c.library.nixu_node_view(handle, lanes, len(lanes), needed), "Node")
+        return tuple(lanes[: needed.value])
+
     def take_ended(self, name: int, who: int, lane: int) -> None:
         """In the place of its reply to the round of this name: `who` has ended, and `lane` is its next one. Only who starts processes
         knows that. The round may be given up. Raises NodeFault: Up, Unasked."""

@@ -114,6 +114,7 @@ extern "C" {
     fn nixu_node_begin_round(node: *mut Handle, round: u64, fault: *mut u32) -> u32;
     fn nixu_node_question(node: *mut Handle, now: u64, to: u8, fault: *mut u32) -> u32;
     fn nixu_node_awaited(node: *mut Handle, processes: *mut u8) -> u32;
+    fn nixu_node_view(node: *mut Handle, out: *mut u32, room: usize, needed: *mut usize) -> u32;
     fn nixu_node_take_ended(node: *mut Handle, round: u64, who: u8, lane: u32, fault: *mut u32) -> u32;
     fn nixu_node_finish_read(node: *mut Handle, round: u64, fault: *mut u32) -> u32;
     fn nixu_node_restart(node: *mut Handle, now: u64, fault: *mut u32) -> u32;
@@ -215,6 +216,13 @@ pub fn question(node: &mut Handle, now: u64, to: u8, fault: &mut u32) -> u32 {
 pub fn awaited(node: &mut Handle, processes: &mut [u8; 256]) -> u32 {
     // SAFETY: the handle is one of a node; it and the 256 bytes are lent to this call alone.
     unsafe { nixu_node_awaited(node, processes.as_mut_ptr()) }
+}
+
+pub fn view(node: &mut Handle, out: &mut [u32]) -> Shown {
+    let mut needed = 0;
+    // SAFETY: the handle is one of a node; it and the numbers are lent to this call alone.
+    let status = unsafe { nixu_node_view(node, out.as_mut_ptr(), out.len(), &mut needed) };
+    Shown { status, needed }
 }
 
 pub fn take_ended(node: &mut Handle, round: u64, who: u8, lane: u32, fault: &mut u32) -> u32 {

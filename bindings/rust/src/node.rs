@@ -292,6 +292,15 @@ impl Node {
         Ok((0..=u8::MAX).zip(processes).filter(|(_, is_in)| *is_in != 0).map(|(process, _)| process).collect())
     }
 
+    /// The least lane of each process that is accepted. Until the restart this is the view of the round: once stable storage is read for
+    /// it, storage refuses writes of lesser lanes.
+    ///
+    /// # Errors
+    /// [`Error::Closed`].
+    pub fn view(&mut self) -> Result<Vec<u32>, Error> {
+        filled(256, |out: &mut [u32]| c::view(&mut self.0, out))
+    }
+
     /// In the place of its reply to the round of this name: `who` has ended, and `lane` is its next one. Only who starts processes
     /// knows that. The round may be given up.
     ///

@@ -59,8 +59,10 @@ fn a_process_recovers_what_another_one_logs() {
     two.receive(1100, &SECOND).unwrap();
     again.begin_round(7).unwrap();
     assert_eq!(again.awaited(), Ok(vec![0, 2]));
+    assert_eq!((again.view(), two.view()), (Ok(vec![0, 1, 0]), Ok(vec![0, 0, 0])));
     assert_eq!(again.question(2000, 2).unwrap(), QUESTION);
     assert_eq!(two.receive(1500, &QUESTION), Ok(Received::Question(1, ANSWER.to_vec())));
+    assert_eq!(two.view(), Ok(vec![0, 1, 0]));
     assert_eq!(again.receive(0, &ANSWER), Ok(Received::Log(2)));
     assert_eq!(again.restart(2100), refused(NodeFault::Waiting));
     let question = again.question(2000, 0).unwrap();
@@ -86,6 +88,7 @@ fn the_starter_may_reply_for_who_has_ended() {
     assert_eq!(again.awaited(), Ok(vec![2]));
     again.take_ended(7, 2, 3).unwrap(); // another number than that of the view: the round is given up
     assert_eq!(again.state().unwrap().stage, Stage::Down);
+    assert_eq!(again.view(), Ok(vec![0, 1, 3]));
     assert_eq!(again.question(0, 2), refused(NodeFault::NoRound));
 }
 

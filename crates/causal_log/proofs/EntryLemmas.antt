@@ -46,20 +46,21 @@ module _ {X : Type 0} where
 pub below : (x y : Det) → is_lt (det_cmp y x) ≡ false → same_det x y ≡ false → det_cmp x y ≡ Less
 below x y low apart = grind (arith, det_ties x y, dets_total.antisymm y x)
 
+-- strictly sorted determinants ascend
+pub strict_ascends : (ds : List Det) → IsStrictlySortedBy det_cmp ds → is_ascending ds ≡ true
+strict_ascends [] h = refl
+strict_ascends (d ∷ []) h = refl
+strict_ascends (d ∷ e ∷ ds) h = ap (λ r. is_lt r && is_ascending (e ∷ ds)) (sorted_head det_cmp d (e ∷ ds) h).0 ∙ strict_ascends (e ∷ ds) (sorted_tail det_cmp d (e ∷ ds) h)
+
 -- sorted, distinct determinants ascend
 pub sorted_ascend : (ds : List Det) → IsSorted det_cmp ds → IsDistinct same_det ds → is_ascending ds ≡ true
 sorted_ascend ds sorted distinct =
-    by ds
+    strict_ascends ds
     (sorted_from_all_adjacent dets_total ds none (λ k high.
     below (slice_index_or ds k none) (slice_index_or ds (k + 1) none) (sorted k none (omega arith) high) (apart_from_distinct same_det ds k (k + 1) none distinct (omega arith) high)))
   where
     none : Det
     none = record { source = record { 0 = 0 }; ssn = 0; dest = record { 0 = 0 }; rsn = 0 }
-
-    by : (ds : List Det) → IsStrictlySortedBy det_cmp ds → is_ascending ds ≡ true
-    by [] h = refl
-    by (d ∷ []) h = refl
-    by (d ∷ e ∷ ds) h = ap (λ r. is_lt r && is_ascending (e ∷ ds)) (sorted_head det_cmp d (e ∷ ds) h).0 ∙ by (e ∷ ds) (sorted_tail det_cmp d (e ∷ ds) h)
 
 -- no determinant comes before itself
 pub not_itself : (d : Det) → is_before d d ≡ false

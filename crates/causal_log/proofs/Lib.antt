@@ -6,4 +6,5 @@ mod TableLemmas
 mod LeastLemmas
 mod SlotKeyLemmas
 mod MergeLemmas
+mod ChangeLemmas
 mod Rules

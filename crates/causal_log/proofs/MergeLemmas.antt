@@ -1,5 +1,5 @@
 -- Ascending items are recognised as those that messages carry, and stay so as determinants are learned.
-use Rattle.std.proofs.Common.{ℕ, zero, suc, ◌+◌, ◌-◌, ◌<◌, length, take, drop, get_or, slice_get, IfSome, ◌≡◌, ◌∙◌, ◌≤◌, ◌||◌, Bool, true, false, cond, not, nat_cmp, List, [], ◌∷◌, ◌++◌, map, filter, Option, Some, None, is_some, unwrap_or, true≢false, refl, sym, ap, subst, arith, ◌&&◌}
+use Rattle.std.proofs.Common.{ℕ, zero, suc, ◌+◌, ◌-◌, ◌<◌, length, take, drop, get_or, slice_get, IfSome, ◌≡◌, ◌∙◌, ◌≤◌, ◌||◌, Bool, true, false, cond, not, nat_cmp, List, [], ◌∷◌, ◌++◌, map, filter, Option, Some, None, is_some, unwrap_or, true≢false, refl, sym, ap, subst, arith}
 use Rattle.std.proofs.lemmas.Bool.{and_from, or_from, or_right, false_from_ne_true}
 use Rattle.std.proofs.lemmas.Bool.Decides.{nat_tests}
 use Rattle.std.proofs.lemmas.List.{append-nil, append_assoc, drop-drop, drop_more, get_or-drop, length-drop, length-take-le, map-append, take-append-drop, take_all, drop_all}
@@ -7,7 +7,7 @@ use Rattle.std.proofs.lemmas.Option.{slice_get-get_or}
 use Rattle.std.proofs.Math.Seq.{drop-append_seam, take-append_seam, take-suc}
 use Rattle.std.proofs.lemmas.List.Folds.{list_any-append}
 use Rattle.std.specs.List.{list_any, list_all}
-use Rattle.std.specs.Option.{option_or, option_map, option_map_or}
+use Rattle.std.specs.Option.{option_or, option_map_or}
 use Rattle.std.specs.Map.{lookup, keys_of}
 use Rattle.std.specs.Cmp.{nat_cmp_total}
 use Rattle.std.specs.FinMap as fin
@@ -19,20 +19,16 @@ use Rattle.causal_name.proofs.Lemmas.DetOrder.{dets_total, same_is, same_itself,
 use Rattle.causal_holders.proofs.Lemmas.Sets.{len-is_subset}
 use Rattle.causal_log.specs.declared.known.Known.{Known}
 use Rattle.causal_log.specs.declared.batch.Item.{Item}
-use Rattle.causal_log.specs.Knowledge.{unknown, union_with, is_carried, knowledge_from_item, as_stable}
-use Rattle.causal_log.specs.Logs.{LogMap, known_of, after_learn, after_absorb, item_of, batch_items, dets_of, names_det, after_mark}
-use Rattle.causal_log.specs.Inside.BatchCache.{known_of_item, with_carried, LearnsItem, is_open, open_items_of, cache_after_mark, CacheIsRight}
+use Rattle.causal_log.specs.Knowledge.{unknown, union_with, is_carried, knowledge_from_item}
+use Rattle.causal_log.specs.Logs.{LogMap, known_of, after_learn, after_absorb, item_of, batch_items, dets_of, names_det}
+use Rattle.causal_log.specs.Inside.BatchCache.{known_of_item, with_carried, LearnsItem}
 use Rattle.causal_log.specs.Inside.Merges.{AreDisjoint, IsMergeState, are_known_to_hold}
 use Rattle.causal_log.proofs.EntryLemmas.{below, get_log, same_log, own_entries, not_itself}
 use Rattle.causal_log.proofs.TableLemmas.{lookup_missing}
 use Rattle.causal_log.proofs.Lemmas.Ascents.{before_trans, ascending_tail, ascending_skip, first_before, filter_ascends}
-use Rattle.causal_log.proofs.Lemmas.ChosenLemmas.{chosen_ascend, dets_of_items}
+use Rattle.causal_log.proofs.Lemmas.ChosenLemmas.{chosen_ascend}
 use Rattle.causal_log.proofs.Lemmas.KnowledgeGrows.{get_learned}
 use Rattle.causal_log.proofs.Lemmas.Searches.{any_map, before_apart, both, or_nothing, find_kept, kept_if, shown, same_turned}
-use Rattle.std.proofs.lemmas.Map.Entries.{lookup-filter-keys}
-use Rattle.std.specs.Arc.{arc_value}
-use Rattle.causal_log.specs.declared.log.CachedBatch.{CachedBatch}
-use Rattle.causal_log.proofs.Lemmas.LogLists.{get_marked}
 
 more_holders : (one : set.FinSet nat_cmp) (other : set.FinSet nat_cmp) → ((q : ℕ) → set.contains one q ≡ true → set.contains other q ≡ true) → set.len one ≤ set.len other
 more_holders one other h = len-is_subset one other (set.contains-is_subset nat_cmp_total one other h)
@@ -69,7 +65,7 @@ items_back : (items : List Item) → map item_of (entries_of items) ≡ items
 items_back [] = refl
 items_back (i ∷ items) = ap (λ is. i ∷ is) (items_back items)
 
-dets_append : (xs ys : List Item) → dets_of (xs ++ ys) ≡ dets_of xs ++ dets_of ys
+pub dets_append : (xs ys : List Item) → dets_of (xs ++ ys) ≡ dets_of xs ++ dets_of ys
 dets_append xs ys = map-append (λ item. item.det) xs ys
 
 -- a carried determinant has no mark
@@ -130,24 +126,24 @@ last_there : (xs : List Det) (d : Det) → list_any (same_det d) (xs ++ d ∷ []
 last_there xs d = list_any-append (same_det d) xs (d ∷ []) ∙ or_right (list_any (same_det d) xs) (same_det d d || false) (ap (λ b. b || false) (same_itself d))
 
 -- a determinant is in neither a list before it nor a list after it
-none_front : (xs : List Det) (d : Det) → is_ascending (xs ++ d ∷ []) ≡ true → list_any (same_det d) xs ≡ false
+pub none_front : (xs : List Det) (d : Det) → is_ascending (xs ++ d ∷ []) ≡ true → list_any (same_det d) xs ≡ false
 none_front [] d h = refl
 none_front (x ∷ xs) d h = or_from (same_det d x) (list_any (same_det d) xs) (false_from_ne_true (same_det d x) first) (none_front xs d (ascending_tail x (xs ++ d ∷ []) h))
   where
     first : same_det d x ≡ true → ⊥
     first is = true≢false (sym (first_before x (xs ++ d ∷ []) d h (last_there xs d)) ∙ ap (is_before x) (same_is d x is) ∙ not_itself x)
 
-none_back : (d : Det) (ys : List Det) → is_ascending (d ∷ ys) ≡ true → list_any (same_det d) ys ≡ false
+pub none_back : (d : Det) (ys : List Det) → is_ascending (d ∷ ys) ≡ true → list_any (same_det d) ys ≡ false
 none_back d ys h = false_from_ne_true (list_any (same_det d) ys) (λ there. true≢false (sym (first_before d ys d h there) ∙ not_itself d))
 
 lookup_append : {X : Type 0} (q : Det) (es fs : List (Det × X)) → lookup (same_det q) (es ++ fs) ≡ option_or (lookup (same_det q) es) (lookup (same_det q) fs)
 lookup_append q [] fs = refl
 lookup_append q (e ∷ es) fs = grind (arith, lookup_append q es fs)
 
-found_append : (q : Det) (xs ys : List Item) → lookup (same_det q) (entries_of (xs ++ ys)) ≡ option_or (lookup (same_det q) (entries_of xs)) (lookup (same_det q) (entries_of ys))
+pub found_append : (q : Det) (xs ys : List Item) → lookup (same_det q) (entries_of (xs ++ ys)) ≡ option_or (lookup (same_det q) (entries_of xs)) (lookup (same_det q) (entries_of ys))
 found_append q xs ys = ap (lookup (same_det q)) (map-append entry_of xs ys) ∙ lookup_append q (entries_of xs) (entries_of ys)
 
-none_found : (q : Det) (xs : List Item) → list_any (same_det q) (dets_of xs) ≡ false → lookup (same_det q) (entries_of xs) ≡ None
+pub none_found : (q : Det) (xs : List Item) → list_any (same_det q) (dets_of xs) ≡ false → lookup (same_det q) (entries_of xs) ≡ None
 none_found q xs h = lookup_missing (entries_of xs) q (ap (list_any (same_det q)) (keys_entries xs) ∙ h)
 
 -- the items that messages carry of a log are `out` and `rest`, and `out` comes before a determinant: the items after
@@ -429,58 +425,6 @@ module _ (f : ℕ) (log : LogMap) (own : Det) (news : Known) (xs : List Item) (p
   -- otherwise it is added
   pub own_in : IfSome (slice_get xs place) (λ item. same_det item.det own ≡ false) → is_some (fin.get log own) ≡ false → with_carried f own (union_with unknown news) (take place xs) ++ drop place xs ≡ batch_items f (after_learn log own news)
   own_in apart new = comes_in f log own news (take place xs) (drop place xs) split before (after_own apart) new
-
--- a filter by determinants of the items that messages carry leaves ascending items
-kept_items : (p : Det → Bool) (q : Det × Known → Bool) (es : List (Det × Known)) → filter (λ item. p item.det) (map item_of (filter q es)) ≡ map item_of (filter (λ e. q e && p e.0) es)
-kept_items p q [] = refl
-kept_items p q (e ∷ es) = grind (arith, kept_items p q es)
-
-open_ascend : (f : ℕ) (log other : LogMap) → is_ascending (dets_of (open_items_of other (batch_items f log))) ≡ true
-open_ascend f log other = grind (arith, kept_items (is_open other) (λ e. is_carried f e.1) (fin.entries log), dets_of_items, filter_ascends (λ e. is_carried f e.1 && is_open other e.0) log)
-
-open_entries : (p : Det → Bool) (items : List Item) → entries_of (filter (λ item. p item.det) items) ≡ filter (λ e. p e.0) (entries_of items)
-open_entries p [] = refl
-open_entries p (i ∷ items) = grind (arith, open_entries p items)
-
-found_open : (f : ℕ) (log other : LogMap) (q : Det) → lookup (same_det q) (entries_of (open_items_of other (batch_items f log))) ≡ cond (is_open other q) (carried_of f (fin.get log q)) None
-found_open f log other q = grind (arith, open_entries (is_open other) (batch_items f log), lookup-filter-keys, same_is, found_chosen f log q)
-
-abbrev open_of : Option Known → Bool
-open_of o = option_map_or (λ known. not known.stable) o false
-
--- what messages carry is logged and not known to be stable
-carried_open : (f : ℕ) (o : Option Known) → cond (open_of o) (carried_of f o) None ≡ carried_of f o
-carried_open f None = refl
-carried_open f (Some known) = grind arith
-
--- whether a determinant is marked or not, messages then carry what is open of what they carried
-marked_open : (f : ℕ) (b : Bool) (o : Option Known) → cond (open_of (cond b (option_map as_stable o) o)) (carried_of f o) None ≡ carried_of f (cond b (option_map as_stable o) o)
-marked_open f true None = refl
-marked_open f true (Some known) = refl
-marked_open f false o = carried_open f o
-
-pub chosen_marked : (f : ℕ) (log : LogMap) (det : Det) → open_items_of (after_mark log det) (batch_items f log) ≡ batch_items f (after_mark log det)
-chosen_marked f log det = grind (arith, recognized, open_ascend f log (after_mark log det), found_open, get_marked, marked_open)
-
--- items that are open in one log and then in another are open in both
-open_twice : (log other : LogMap) (items : List Item) → ((q : Det) → is_open other q ≡ true → is_open log q ≡ true) → open_items_of other (open_items_of log items) ≡ open_items_of other items
-open_twice log other [] h = refl
-open_twice log other (i ∷ items) h = grind (arith, open_twice log other items h)
-
-marked_was_open : (b : Bool) (o : Option Known) → open_of (cond b (option_map as_stable o) o) ≡ true → open_of o ≡ true
-marked_was_open true None h = h
-marked_was_open true (Some known) h = absurd (true≢false (sym h))
-marked_was_open false o h = h
-
--- after a mark, the cached batch without its marked items is what messages carry
-pub carried_marked : (f : ℕ) (items : List Item) (is_marked : Bool) (log : LogMap) (det : Det) → cond is_marked (open_items_of log items) items ≡ batch_items f log → open_items_of (after_mark log det) items ≡ batch_items f (after_mark log det)
-carried_marked f items true log det is = grind (arith, open_twice, marked_was_open, get_marked, chosen_marked)
-carried_marked f items false log det is = ap (open_items_of (after_mark log det)) is ∙ chosen_marked f log det
-
--- after a mark, the cache is still right
-pub carries_marked : (kept : Option CachedBatch) (log : LogMap) (det : Det) → CacheIsRight kept log → CacheIsRight (option_map cache_after_mark kept) (after_mark log det)
-carries_marked None log det is = is
-carries_marked (Some k) log det is = carried_marked k.f (arc_value k.batch) k.is_marked log det is
 
 -- a union with holders that are known adds nothing
 holders_in : (s t : set.FinSet nat_cmp) → set.is_subset s t ≡ true → set.union t s ≡ t

@@ -25,6 +25,8 @@ pub ruleset of_lists = (keys_logged, stable_ascends, stable_listed, unstable_asc
 
 pub ruleset of_log = (own_entries, chosen_ascend, least_first, map_ascends, same_members, same_counted, same_length, fin.len-entries, same_learned)
 
+pub ruleset of_changes = (append_assoc, drop_more)
+
 pub ruleset of_merging = (chosen_ascend, append_assoc, part_and_rest, part_passed, told_out, ltb-false)
 
 pub ruleset of_store = (sorted_list, count_list, some_of, has_there, with_member, set_push, length-keys_of)

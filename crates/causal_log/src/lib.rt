@@ -12,14 +12,21 @@
 //!
 //! 1. `Log::choose_after_delivery` returns what the messages of the step will carry, and leaves the log unchanged.
 //! 2. `Log::reserve` reserves capacity for the determinants of the message's batch and for the delivery's own.
-//! 3. Once the process has stepped, `Log::grow` adds both in the reserved capacity, and `Log::carry` caches what
-//!    messages then carry.
+//! 3. Once the process has stepped, `Log::apply_delivery` adds both in the reserved capacity, and `Log::cache_batch`
+//!    caches what messages then carry.
+//!
+//! A process whose sends may be refused needs no batch before it sends: `Log::absorb` and `Log::add_own` add a delivery,
+//! and `Log::choose` chooses at the next send, from the cached batch and what has changed since.
 //!
 //! [`Stable`] is what an implementation of a store must guarantee; the README shows how to write one.
 #![tactic(auto)]
 
 /// The piggyback of a message.
 mod batch;
+/// What messages carried when it was last chosen.
+mod cached_batch;
+/// What messages carry after some determinants have changed.
+mod changed_batch;
 /// How the keys of a log's entries are hashed.
 mod hashing;
 /// What a process knows of a determinant.

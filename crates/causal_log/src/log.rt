@@ -8,9 +8,9 @@ ghost use Rattle.std.specs.Arc.{arc_value};
 ghost use Rattle.causal_name.specs.Names.{is_ascending};
 ghost use Rattle.causal_log.specs.Knowledge.{held_by, stable_and_held_by};
 ghost use Rattle.causal_log.specs.Logs.{log_of, after_learn, after_learn_all, dets_of, after_absorb, after_delivery, after_union, after_mark, stable_in, unstable_in, after_drop_stable, forgotten_in, after_forget, batch_items, named_message, SameMultiset};
-ghost use Rattle.causal_log.specs.Inside.BatchCache.{open_items_of, open_cached_items};
 
 use crate::batch::{Batch, Item};
+use crate::cached_batch::{CachedBatch, note_change, note_entries, note_items};
 use crate::known::Known;
 use crate::limits::MAX_LOGGED;
 use crate::next_batch_merge::{Delivery, next_batch};
@@ -30,11 +30,12 @@ use std::sync::Arc;
 /// log has at most [`MAX_LOGGED`] entries; `NoMemory` refuses further ones.
 #[derive(Drop)]
 pub struct Log {
+    alloc: Global,
     /// In insertion order, or sorted.
     entries: Table,
     /// Whether the entries ascend.
     sorted: bool,
-    /// What messages carry, if that is known without reading the entries.
+    /// What messages carry, if that is known without reading all entries.
     cached_batch: Option<CachedBatch>,
 }
 
@@ -67,6 +68,7 @@ impl Log {
         ensures { result.map ≡ fin.empty }
     {
         Log {
+            alloc,
             entries: Table::new(alloc, seed),
             sorted: true,
             cached_batch: None,
@@ -127,6 +129,7 @@ impl Log {
     {
         let entries = self.entries.try_clone()?;
         Ok(Log {
+            alloc: self.alloc,
             entries,
             sorted: self.sorted,
             cached_batch: None,
@@ -147,24 +150,22 @@ impl Log {
         ensures { IfOk result (λ items. items.items ≡ batch_items f self.now.map) }
     {
         match &self.cached_batch {
-            Some(carried) if carried.f == f => carried.open_items(alloc, &self.entries),
+            Some(cached) if cached.f == f => cached.current_items(alloc, &self.entries),
             _ if self.sorted => chosen_items(alloc, self.entries.entries(), f),
             _ => sorted_chosen_items(alloc, self.entries.entries(), f),
         }
     }
 
     /// Caches what messages carry, which is what `choose` returns, so that the next `choose` or `choose_after_delivery` with
-    /// the same `f` need not read the log. A runtime shares the batch between the log and the messages that it sends.
+    /// the same `f` reads only the entries that have changed since. A runtime shares the batch between the log and the
+    /// messages that it sends.
     pub fn cache_batch(&mut self, f: u16, batch: Arc<Batch>)
         requires { arc_value batch ≡ batch_items f self.old.map }
         ensures map { self.new.map ≡ self.old.map }
         ensures spare { self.new.spare ≡ self.old.spare }
     {
-        self.cached_batch = Some(CachedBatch {
-            f,
-            batch,
-            is_marked: false,
-        });
+        let changed = Vec::new(self.alloc);
+        self.cached_batch = Some(CachedBatch { f, batch, changed });
     }
 
     /// Returns what the messages of a step will carry once `apply_delivery` has added a delivery, as a shared batch. It is the
@@ -190,7 +191,11 @@ impl Log {
             f,
         };
         match &self.cached_batch {
-            Some(now) if now.f == f && !now.is_marked => next_batch(alloc, &now.batch, &delivery),
+            Some(now) if now.f == f && now.changed.is_empty() => {
+                // for the proof: the contract of `as_slice` states that the items ascend
+                let _items = now.batch.as_slice();
+                next_batch(alloc, &now.batch, &delivery)
+            }
             _ => {
                 let batch = Arc::new(alloc, self.choose(alloc, f)?)?;
                 next_batch(alloc, &batch, &delivery)
@@ -278,7 +283,8 @@ impl Log {
         }
         learn(&mut self.entries, det, news);
         self.sorted = false;
-        self.cached_batch = None;
+        let most = self.entries.entries().len();
+        note_change(&mut self.cached_batch, det, most);
         Ok(())
     }
 
@@ -320,7 +326,8 @@ impl Log {
         self.entries.reserve(items.len())?;
         learn_items(&mut self.entries, items, from, me);
         self.sorted = false;
-        self.cached_batch = None;
+        let most = self.entries.entries().len();
+        note_items(&mut self.cached_batch, items, most);
         Ok(())
     }
 
@@ -360,12 +367,13 @@ impl Log {
         self.entries.reserve(entries.len())?;
         learn_entries(&mut self.entries, entries);
         self.sorted = false;
-        self.cached_batch = None;
+        let most = self.entries.entries().len();
+        note_entries(&mut self.cached_batch, entries, most);
         Ok(())
     }
 
-    /// Marks a determinant as stable, and returns whether it is logged; if it is not, changes nothing. Allocates
-    /// nothing.
+    /// Marks a determinant as stable, and returns whether it is logged; if it is not, changes nothing. Cannot fail: if
+    /// there is no memory to note the change, the next `choose` reads all entries.
     pub fn mark_stable(&mut self, det: Det) -> bool
         ensures found { IsTrue result ↔ IsSome (fin.get self.old.map det) }
         ensures marked { self.new.map ≡ after_mark self.old.map det }
@@ -375,9 +383,8 @@ impl Log {
             return false;
         };
         self.entries.merge_at(place, Known::unknown().as_stable());
-        if let Some(carried) = &mut self.cached_batch {
-            carried.is_marked = true;
-        }
+        let most = self.entries.entries().len();
+        note_change(&mut self.cached_batch, det, most);
         true
     }
 
@@ -412,36 +419,4 @@ impl Log {
         self.cached_batch = None;
         self.entries.forget(next);
     }
-}
-
-/// The cached batch that messages carry for a bound `f`, shared with the messages of the last step.
-#[derive(Drop)]
-pub(crate) struct CachedBatch {
-    pub f: u16,
-    pub batch: Arc<Batch>,
-    /// Whether a determinant was marked as stable after the batch was cached. Messages do not carry marked
-    /// determinants.
-    pub is_marked: bool,
-}
-
-impl CachedBatch {
-    /// Returns the items of the batch that messages still carry.
-    fn open_items(&self, alloc: Global, entries: &Table) -> Result<Vec<Item>, NoMemory>
-        ensures { IfOk result (λ items. items.items ≡
-            open_cached_items self.now (log_of entries.now.entries)) }
-    {
-        let items = self.batch.as_slice();
-        if !self.is_marked {
-            return Ok(Vec::from_slice(alloc, items)?);
-        }
-        open_items_of(alloc, items, entries)
-    }
-}
-
-fn open_items_of(alloc: Global, items: &[Item], entries: &Table) -> Result<Vec<Item>, NoMemory>
-    ensures { IfOk result (λ kept. kept.items
-        ≡ open_items_of (log_of entries.now.entries) items.now) }
-{
-    let kept = items.iter().filter(|item| entries.is_open(item.det));
-    Ok(kept.copied().collect(alloc)?)
 }

@@ -97,7 +97,12 @@ fn end_before(kept: &[Item], from: usize, det: Det) -> usize
 }
 
 /// Copies the items that come before a determinant, and returns the index of the next one.
-fn copy_before(out: &mut Vec<Item>, kept: &[Item], from: usize, det: Det) -> Result<usize, NoMemory>
+pub(crate) fn copy_before(
+    out: &mut Vec<Item>,
+    kept: &[Item],
+    from: usize,
+    det: Det,
+) -> Result<usize, NoMemory>
     requires within { from ≤ length kept.now }
     requires ascending { is_ascending (dets_of (out.old.items ++ drop from kept.now)) ≡ true }
     requires before { AllBefore out.old.items det }
@@ -116,7 +121,12 @@ fn copy_before(out: &mut Vec<Item>, kept: &[Item], from: usize, det: Det) -> Res
 }
 
 /// Appends a determinant of which this is known, if messages carry it.
-fn push_if_carried(out: &mut Vec<Item>, det: Det, known: Known, f: u16) -> Result<(), NoMemory>
+pub(crate) fn push_if_carried(
+    out: &mut Vec<Item>,
+    det: Det,
+    known: Known,
+    f: u16,
+) -> Result<(), NoMemory>
     ensures { OnOk result (out.new.items ≡ with_carried f det known out.old.items) }
 {
     if known.is_carried(f) {

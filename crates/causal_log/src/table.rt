@@ -12,7 +12,6 @@ ghost use Rattle.causal_name.specs.Names.{same_det, is_ascending, is_before};
 ghost use Rattle.causal_log.specs.declared.known.Known.{Known};
 ghost use Rattle.causal_log.specs.Knowledge.{union_with, is_carried};
 ghost use Rattle.causal_log.specs.Logs.{is_forgotten, log_of, item_of, batch_items, after_learn, IsLogged, after_absorb, after_learn_all};
-ghost use Rattle.causal_log.specs.Inside.BatchCache.{is_open};
 ghost use Rattle.causal_log.specs.Inside.Ranks.{IsLeastOfSlot, has_rank, lesser_det};
 ghost use Rattle.causal_log.specs.Inside.Tables.{HasSlotKey, slot_key, same_slot_key};
 
@@ -107,12 +106,6 @@ impl Table {
         }
         let (other, known) = self.entries[place];
         if other == det { Some(known) } else { None }
-    }
-
-    pub(crate) fn is_open(&self, det: Det) -> bool
-        ensures { result ≡ is_open (log_of self.now.entries) det }
-    {
-        self.find(det).is_some_and(|(_, known)| !known.stable)
     }
 
     #[inline]

@@ -39,6 +39,24 @@ impl ProcessMemory {
         self.received.push_reserved(own.message());
     }
 
+    /// Adds a delivery as `receive` does, and leaves what the next messages carry to be chosen when one is sent. Its cost
+    /// does not depend on how much that is.
+    pub fn learn_delivery(&mut self, own: Det, piggyback: &Batch)
+        requires room { 1 ≤ (capacity_of self.old).received }
+        requires insertions { length piggyback.now + 1 ≤ (capacity_of self.old).log }
+        ensures memory { memory_of self.new ≡ with_received piggyback.now own (memory_of self.old) }
+        ensures bodies { bodies_of self.new ≡ bodies_of self.old }
+        ensures sent { self.new.sent ≡ self.old.sent }
+    {
+        let Ok(()) = self.log.absorb(piggyback, own.source, own.dest) else {
+            unreachable!()
+        };
+        let Ok(()) = self.log.add_own(own, own.dest) else {
+            unreachable!()
+        };
+        self.received.push_reserved(own.message());
+    }
+
     /// Keeps a message of the current step, in reserved capacity.
     pub fn keep_message(&mut self, to: Pid, send: u32, body: Body)
         requires { 1 ≤ self.old.sent.spare }

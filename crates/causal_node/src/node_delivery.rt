@@ -4,17 +4,15 @@
 ghost use Rattle.std.specs.Prelude.{◌≡◌, ◌≤◌, IfOk, IfErr, OnOk, OnErr, None, length};
 ghost use Rattle.std.specs.Arc.{arc_value};
 ghost use Rattle.causal_trace.specs.Past.{det_from};
-ghost use Rattle.causal_memory.specs.DeliveryPlans.{IsPlanFor};
+ghost use Rattle.causal_log.specs.Logs.{dets_of};
+ghost use Rattle.causal_protocol.specs.Naming.{with_own};
 ghost use Rattle.causal_node.specs.NodeRefusals.{deliver_fault, node_reason_of};
 ghost use Rattle.causal_node.specs.NodeSteps.{after_delivery, IsDelivery};
 
 use crate::node::{Node, Stage};
 use crate::node_fault::NodeFault;
 use causal_log::Batch;
-use causal_memory::delivery_list::listed_len;
-use causal_memory::delivery_plan::DeliveryPlan;
-use causal_memory::delivery_planning::plan_delivery;
-use causal_memory::outbox::Envelope;
+use causal_memory::delivery_list::{listed_dets, listed_len};
 use causal_name::{Det, MsgName, NoMemory};
 use causal_protocol::limits::{MAX_ENTRIES, MAX_LISTED};
 use causal_trace::entry::Dets;
@@ -70,22 +68,17 @@ impl Node {
         None
     }
 
-    /// Returns the plan of a delivery as this determinant.
-    fn delivery_plan(&self, det: Det, piggyback: &Arc<Batch>) -> Result<DeliveryPlan, NoMemory>
-        ensures plan { IfOk result (λ g. IsPlanFor self.now.identity.faults det self.now.memory
-            (record { to = self.now.identity.me; send = det.ssn; batch = arc_value piggyback.now }) g) }
-        ensures longer { IfOk result (λ g. length (arc_value piggyback.now) ≤ length g.listed) }
+    /// Returns the determinants that the entry of a delivery as this determinant lists: what the message carries, and the
+    /// delivery's own.
+    fn listed_for(&self, det: Det, piggyback: &Batch) -> Result<Dets, NoMemory>
+        ensures listed { IfOk result (λ listed. listed ≡ with_own det (dets_of piggyback.now)) }
+        ensures longer { IfOk result (λ listed. length piggyback.now ≤ length listed) }
     {
-        let message = Envelope {
-            to: self.identity.me,
-            send: det.ssn,
-            batch: piggyback,
-        };
-        plan_delivery(self.alloc, self.identity.faults, det, &self.memory, message)
+        listed_dets(self.alloc, det, piggyback)
     }
 
     /// Delivers a message with this piggyback, which `name`'s sender sent from `lane`. The process acts on the message
-    /// after the delivery is recorded.
+    /// after the delivery is recorded. Takes O(log messages) time, and O(1) for each determinant that the message carries.
     ///
     /// # Errors
     /// The first of `NotUp`, `NoProcess`, `OldLane`, `Duplicate`, `MustReplay` or `Reserved`, and `Full`; if none
@@ -110,11 +103,10 @@ impl Node {
             return Err(fault);
         }
         let det = self.next_det(name);
-        let Ok(plan) = self.delivery_plan(det, piggyback) else {
+        let Ok(listed) = self.listed_for(det, &**piggyback) else {
             return Err(NodeFault::NoMemory);
         };
-        // The entry lists what the message carries, and the delivery's own determinant.
-        let logged = plan.listed.as_slice().len() as u32 + 1;
+        let logged = listed.as_slice().len() as u32 + 1;
         if self
             .memory
             .reserve_delivery(self.identity.me, logged)
@@ -125,17 +117,8 @@ impl Node {
         let Ok(_) = self.received.insert(name) else {
             return Err(NodeFault::NoMemory);
         };
-        let DeliveryPlan {
-            own: _,
-            send: _,
-            listed,
-            piggyback,
-            next,
-            next_share,
-        } = plan;
-        self.memory
-            .receive(det, &*piggyback, self.identity.faults, next);
-        self.next_batch = Some(next_share);
+        self.memory.learn_delivery(det, &**piggyback);
+        self.next_batch = None;
         Ok(Delivery { det, listed })
     }
 }

@@ -31,7 +31,9 @@ impl Node {
         None
     }
 
-    /// Returns the batch that messages carry now, and caches it. Fails only if out of memory.
+    /// Returns the batch that messages carry now, and caches it. Takes O(items + changes * log changes) time, where
+    /// changes are determinants learned or marked since it was last chosen, or O(n log n) for n logged ones where no batch
+    /// is cached: then as many have changed, or the log was read whole since. Fails only if out of memory.
     pub fn current_batch(&mut self) -> Result<Arc<Batch>, NoMemory>
         ensures state { self.new ≡ self.old }
         ensures batch { IfOk result (λ batch.
