@@ -1,13 +1,16 @@
 #!/usr/bin/env python3
 """Runs the built program's `merge` on random and damaged recordings, and compares what it answers with the plain model
 merge_model.py. Recordings that were not damaged have to make the very trace that was split into them, and so have its verdict.
-Each beginning of a line of each kind has to be torn, and no line that has a whole line in it. Each difference is printed with its input. Then hostile recordings have to cost as their length. Everything is decided by the seed.
+Each beginning of a line of each kind has to be torn, and no line that has a whole line in it. Each difference is printed with its input.
+Recordings cut into files at any byte have to make the same trace, and the map of the plain model; `explain` has to add the places of that map
+to its lines. Then hostile recordings have to cost as their length. Everything is decided by the seed.
 
     trials/merges.py [--program PATH] [--cases 20000] [--seed 1] [--jobs N] [--bytes 16000000]
 """
 import argparse
 import collections
 import concurrent.futures
+import functools
 import json
 import os
 import random
@@ -151,6 +154,89 @@ def compare(given):
     return wrong
 
 
+# ---- maps
+
+NAMES = ("a.log", "b c", 'd"e', "f\\g", "h:1", "\u00e9\u20ac", "i,j]")
+
+
+def split_anywhere(rng, text):
+    """The text in pieces, some of them empty, by their files' names."""
+    ends = sorted(rng.randrange(len(text) + 1) for _ in range(rng.randrange(len(NAMES))))
+    names = rng.sample(NAMES, len(ends) + 1)
+    return {name: text[start:end] for name, start, end in zip(names, [0, *ends], [*ends, len(text)])}
+
+
+def place_of(files, line):
+    """The file in which a line of all files together begins, and its number there."""
+    text = b"".join(files.values())
+    start = sum(len(part) + 1 for part in text.split(b"\n")[: line - 1])
+    for name, part in files.items():
+        if start < len(part):
+            return name, part[:start].count(b"\n") + 1
+        start -= len(part)
+    raise AssertionError("a line without a byte")
+
+
+def map_of(files, events):
+    """The lines of the map, and what they add to a line of an explanation, by the line of the trace."""
+    lines, added = [], {}
+    for position, event in enumerate(events):
+        name, line = place_of(files, event.line)
+        spelled = json.dumps(name, ensure_ascii=False)
+        lines.append(f"[{position},{spelled},{line},{event.clock}]\n")
+        added[position + 2] = f" at={spelled[1:-1]}:{line} clock={event.clock}"
+    return "".join(lines), added
+
+
+def with_places(explained, added):
+    told = []
+    for fact in explained.splitlines():
+        fields, colon, sentence = fact.partition(":")
+        named = re.search(r" line=(\d+)( |$)", fields)
+        told.append(fields + (added.get(int(named[1]), "") if named else "") + colon + sentence + "\n")
+    return "".join(told)
+
+
+def map_differs(program, rng):
+    text, whole = case(rng)
+    if b"\0" in text:
+        return None
+    files, f = split_anywhere(rng, text), rng.randrange(4)
+    try:
+        _, events, _, _ = merge_model.merged(text)
+        wanted, added = map_of(files, events)
+    except merge_model.Fault:
+        wanted, added = None, {}
+    with tempfile.TemporaryDirectory() as folder:
+        for name, part in files.items():
+            with open(os.path.join(folder, name), "wb") as file:
+                file.write(part)
+        run = functools.partial(subprocess.run, capture_output=True, timeout=60, cwd=folder)
+        merged, mapped = run([program, "merge", *files]), run([program, "merge", "--map", "the.map", *files])
+        map_path = os.path.join(folder, "the.map")
+        got = open(map_path, encoding="utf-8").read() if os.path.exists(map_path) else None
+        if (merged.stdout, merged.returncode, merged.stderr) != (mapped.stdout, mapped.returncode, mapped.stderr) or got != wanted:
+            return files, (merged.returncode, wanted), (mapped.returncode, got)
+        if got is None:
+            return None
+        explain = [program, "explain", "--faults", str(f)]
+        plain, placed = run(explain, input=merged.stdout), run([*explain, "--map", "the.map"], input=merged.stdout)
+        wanted = with_places(plain.stdout.decode(), added), plain.returncode
+        return None if (placed.stdout.decode(), placed.returncode) == wanted else (files, wanted, (placed.stdout.decode(), placed.returncode))
+
+
+def compare_maps(given):
+    """How many recordings in files get another map than that of the model, or another explanation by it."""
+    program, wrong = os.path.abspath(given.program), 0
+    with concurrent.futures.ThreadPoolExecutor(given.jobs) as pool:
+        for differs in pool.map(lambda k: map_differs(program, random.Random(f"map {given.seed} {k}")), range(given.maps)):
+            if differs:
+                wrong += 1
+                print("DIFFERENT MAP\n  files {!r}\n  wanted {!r}\n  got    {!r}".format(*differs))
+    print(f"{given.maps} recordings in files with their maps, {wrong} different")
+    return wrong
+
+
 # ---- lines that a kill has cut
 
 HEADERS = b'["recording",0,1,2,7]\n["recording",1,1,2,7]\n'
@@ -268,11 +354,13 @@ def main():
     given = argparse.ArgumentParser(description=__doc__.split("\n\n")[0])
     given.add_argument("--program", default=fuzz.PROGRAM)
     given.add_argument("--cases", type=int, default=20_000)
+    given.add_argument("--maps", type=int, default=2_000)
     given.add_argument("--seed", type=int, default=1)
     given.add_argument("--jobs", type=int, default=os.cpu_count())
     given.add_argument("--bytes", type=int, default=16_000_000, help="of a hostile recording")
     given = given.parse_args()
     wrong = compare(given)
+    wrong += compare_maps(given)
     wrong += compare_cuts(given)
     wrong += compare_costs(given.program, given.bytes)
     sys.exit(1 if wrong else 0)

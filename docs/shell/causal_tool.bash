@@ -2,7 +2,7 @@
 _causal_tool() {
     local word=${COMP_WORDS[COMP_CWORD]} before=${COMP_WORDS[COMP_CWORD - 1]} offered=
     case $before in
-    --faults | --workers | --entries | --around) return ;;
+    --faults | --workers | --entries | --around | --map) return ;;
     --only) offered=breach ;;
     esac
     if [[ $offered ]]; then
@@ -12,10 +12,10 @@ _causal_tool() {
     else
         case ${COMP_WORDS[1]} in
         audit) offered="--faults --workers --entries --until-breach --json --help" ;;
-        explain) offered="--faults --workers --entries --json --help" ;;
+        explain) offered="--faults --workers --entries --json --map --help" ;;
         replays) offered="--workers --entries --json --help" ;;
         draw) offered="--faults --workers --entries --around --only --help" ;;
-        merge) offered="--entries --help" ;;
+        merge) offered="--entries --map --help" ;;
         run) offered="--help" ;;
         help) ((COMP_CWORD == 2)) && offered="audit explain replays draw merge run help" ;;
         esac

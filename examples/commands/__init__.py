@@ -7,10 +7,10 @@ import replays as follower
 import scripts as runtime
 import traces as auditor
 
-from . import breaches, faults, files, helps, merges, pictures, reasons, replays, scripts, verdicts
+from . import breaches, faults, files, helps, maps, merges, pictures, reasons, replays, scripts, verdicts
 from .row import difference
 
-MODULES = (verdicts, breaches, faults, reasons, pictures, replays, scripts, merges, files, helps)
+MODULES = (verdicts, breaches, faults, reasons, pictures, replays, scripts, merges, maps, files, helps)
 SHORT = 300_000  # bytes of a text that a plain model reads in no time
 
 
@@ -45,7 +45,7 @@ def merged(text):
 
 def modelled(row):
     """What a plain model answers to a row, where there is one."""
-    if row.files is not None or len(row.text) > SHORT or row.seen is not bytes.decode or {"--entries", "--json"} & set(row.words):
+    if row.files is not None or row.made is not None or len(row.text) > SHORT or row.seen is not bytes.decode or {"--entries", "--json"} & set(row.words):
         return None
     if row.words[0] == "audit":
         answered = auditor.audited_until_breach if "--until-breach" in row.words else auditor.audited

@@ -2,6 +2,7 @@ mod SafeAccepts
 mod Known
 pub mod Excerpts
 mod MergeLemmas
+mod PlaceLemmas
 mod PrintLemmas
 mod ReadLemmas
 mod Refusals

@@ -67,7 +67,8 @@ nothing_so Answers old Ran silent = absurd silent
 nothing_so Answers old Refused silent = absurd silent
 nothing_so Answers old FinishFault silent = absurd silent
 
-known_all : (known : Option (List ℕ)) (P : List ℕ → Type 0) → ((bytes : List ℕ) → P bytes) → IfSome known P
+-- a fact for all bytes holds for known bytes
+pub known_all : (known : Option (List ℕ)) (P : List ℕ → Type 0) → ((bytes : List ℕ) → P bytes) → IfSome known P
 known_all None P all = tt
 known_all (Some bytes) P all = all bytes
 

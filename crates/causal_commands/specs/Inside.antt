@@ -5,3 +5,5 @@ pub mod MergeOutcomes
 pub mod Refusals
 pub mod ReplayAnswers
 pub mod ReasonsForScripts
+pub mod Placing
+pub mod MappedAnswers

@@ -4,6 +4,8 @@ pub mod Endings
 pub mod Hints
 pub mod Json
 pub mod Views
+pub mod PlacedLines
+pub mod MappedReasons
 pub mod Judgements
 pub mod Merges
 pub mod Reading

@@ -4,12 +4,15 @@ use Rattle.std.specs.Prelude.{◌≡◌, ℕ, ◌+◌, ◌<◌, List, [], length
 use Rattle.std.specs.Io.KnownBytes.{Appends, Keeps}
 use Rattle.causal_trace.specs.Rows.{Recording}
 use Rattle.causal_lines.specs.Canonical.{canonical_text}
-use Rattle.causal_merge.specs.Merges.{MergesWithin, IsFirstFaultWithin}
+use Rattle.causal_merge.specs.Merges.{MergesFrom, IsFirstFaultWithin}
 use Rattle.causal_merge.specs.Reading.{max_input_len}
 use Rattle.causal_merge.specs.FaultLine.{fault_line}
 use Rattle.causal_merge.specs.declared.fault.MergeFault.{MergeFault}
+use Rattle.causal_merge.specs.declared.origins.Origin.{Origin}
 use Rattle.causal_commands.specs.declared.ended.Ended.{Ended}
 use Rattle.causal_commands.specs.declared.ended.Ended.TheVariants.{Merged, Faulted, ReadFault, WriteFault, NoMemory}
+use Rattle.causal_commands.specs.declared.merge_command.Mapping.{Mapping}
+use Rattle.causal_commands.specs.declared.merge_command.Mapping.TheVariants.{Mapped, Unmapped}
 use Rattle.causal_commands.specs.declared.merge_command.MergeOutcome.{MergeOutcome}
 use Rattle.causal_commands.specs.Excerpts.{excerpt}
 use Rattle.causal_commands.specs.Reading.{ReadsAtMost}
@@ -18,39 +21,52 @@ use Rattle.causal_commands.specs.Reading.{ReadsAtMost}
 abbrev pub bytes_read : ℕ → List ℕ → List ℕ
 bytes_read most text = take (max_input_len most + 1) text
 
--- the files merge into a trace: the output is its canonical text, these are the torn lines, and no error is returned
-pub record IsMergedTrace (most : ℕ) (text torn : List ℕ) (told : Option MergeFault) (out : List ℕ) : Type 0 where
-  pub recording : Recording
-  pub merges : MergesWithin most text recording torn
-  pub spelled : out ≡ canonical_text recording
-  pub faultless : told ≡ None
+-- the origins that are returned with a trace: all, if they are wanted
+abbrev pub returned_origins : Mapping → List Origin → List Origin
+returned_origins Mapped origins = origins
+returned_origins Unmapped origins = []
 
--- the files do not merge: the output is the line of their first error, which is returned, and no torn lines are
-pub record IsMergeFaultAnswer (most : ℕ) (text torn : List ℕ) (told : Option MergeFault) (out : List ℕ) : Type 0 where
+-- the files merge into a trace: the output is its canonical text, and the outcome has the torn lines, the origins of the
+-- entries if they are wanted, and no error
+pub record IsMergedTrace (most : ℕ) (mapping : Mapping) (text : List ℕ) (m : MergeOutcome) (out : List ℕ) : Type 0 where
+  pub recording : Recording
+  pub origins : List Origin
+  pub merges : MergesFrom most text recording m.torn.items origins
+  pub spelled : out ≡ canonical_text recording
+  pub returned : m.origins.items ≡ returned_origins mapping origins
+  pub faultless : m.fault ≡ None
+
+-- the files do not merge: the output is the line of their first error, and the outcome has that error alone
+pub record IsMergeFaultAnswer (most : ℕ) (text : List ℕ) (m : MergeOutcome) (out : List ℕ) : Type 0 where
   pub fault : MergeFault
   pub first : IsFirstFaultWithin most text fault
   pub line : out ≡ fault_line fault
-  pub faulty : told ≡ Some fault
-  pub whole : torn ≡ []
+  pub faulty : m.fault ≡ Some fault
+  pub whole : m.torn.items ≡ []
+  pub unmapped : m.origins.items ≡ []
 
--- the answer to recorder files, by the ending, with the torn lines and the error that are returned
-abbrev pub IsMergeAnswer : ℕ → Ended → List ℕ → List ℕ → Option MergeFault → List ℕ → Type 0
-IsMergeAnswer most Merged text torn told out = IsMergedTrace most text torn told out
-IsMergeAnswer most Faulted text torn told out = IsMergeFaultAnswer most text torn told out
-IsMergeAnswer most _ text torn told out = ⊥
+-- the answer to recorder files, by the ending, with what the outcome has besides
+abbrev pub IsMergeAnswer : ℕ → Mapping → Ended → List ℕ → MergeOutcome → List ℕ → Type 0
+IsMergeAnswer most mapping Merged text m out = IsMergedTrace most mapping text m out
+IsMergeAnswer most mapping Faulted text m out = IsMergeFaultAnswer most text m out
+IsMergeAnswer most mapping _ text m out = ⊥
+
+-- the outcome has neither torn lines nor origins nor an error
+abbrev pub ReturnsNothing : MergeOutcome → Type 0
+ReturnsNothing m = (m.torn.items ≡ []) × (m.origins.items ≡ []) × (m.fault ≡ None)
 
 -- the writer's contents before and after, by the ending: the whole answer is appended; after a write fault a proper
--- prefix of it; else nothing is written, and neither torn lines nor an error are returned
-abbrev pub WritesMerge : ℕ → Ended → List ℕ → List ℕ → Option MergeFault → Option (List ℕ) → Option (List ℕ) → Type 0
-WritesMerge most ReadFault text torn told old new = Keeps old new × (torn ≡ []) × (told ≡ None)
-WritesMerge most NoMemory text torn told old new = Keeps old new × (torn ≡ []) × (told ≡ None)
-WritesMerge most WriteFault text torn told old new =
-    (ended : Ended) × (out : List ℕ) × (n : ℕ) × IsMergeAnswer most ended text torn told out × (n < length out) × Appends old new (take n out)
-WritesMerge most ended text torn told old new = (out : List ℕ) × IsMergeAnswer most ended text torn told out × Appends old new out
+-- prefix of it; else nothing is written, and the outcome has nothing else
+abbrev pub WritesMerge : ℕ → Mapping → Ended → List ℕ → MergeOutcome → Option (List ℕ) → Option (List ℕ) → Type 0
+WritesMerge most mapping ReadFault text m old new = Keeps old new × ReturnsNothing m
+WritesMerge most mapping NoMemory text m old new = Keeps old new × ReturnsNothing m
+WritesMerge most mapping WriteFault text m old new =
+    (ended : Ended) × (out : List ℕ) × (n : ℕ) × IsMergeAnswer most mapping ended text m out × (n < length out) × Appends old new (take n out)
+WritesMerge most mapping ended text m old new = (out : List ℕ) × IsMergeAnswer most mapping ended text m out × Appends old new out
 
--- `WritesMerge` for an outcome and the bytes read from a reader, if its bytes are known
-abbrev pub WritesMergeFor : ℕ → Option (List ℕ) → MergeOutcome → Option (List ℕ) → Option (List ℕ) → Type 0
-WritesMergeFor most given m old new = IfSome given (λ text. WritesMerge most m.ended (bytes_read most text) m.torn.items m.fault old new)
+-- `WritesMerge` for the bytes read from a reader, if its bytes are known
+abbrev pub WritesMergeFor : ℕ → Mapping → Option (List ℕ) → MergeOutcome → Option (List ℕ) → Option (List ℕ) → Type 0
+WritesMergeFor most mapping given m old new = IfSome given (λ text. WritesMerge most mapping m.ended (bytes_read most text) m old new)
 
 -- an outcome with an error has the first bytes of the error's line in this text
 abbrev pub HasExcerpt : List ℕ → MergeOutcome → Type 0

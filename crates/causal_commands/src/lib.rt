@@ -5,7 +5,8 @@
 //! [`diagnostic_text`] or [`hint_of`].
 //!
 //! - [`answer_until_breach`] is `audit` that stops at a breach.
-//! - [`answer_view`] is `explain` and `draw`; [`answer_range`] is `explain` for all bounds f.
+//! - [`answer_view`] is `explain` and `draw`; [`answer_range`] is `explain` for all bounds f, and
+//!   [`answer_mapped_reason`] is `explain --map`.
 //! - [`answer_replays`] is `replays`.
 //! - [`answer_as_json`] writes an answer of `audit`, `explain` or `replays` as one JSON object.
 //! - [`answer_merge`] is `merge`, and [`answer_script`] is `run`.
@@ -31,8 +32,16 @@ pub mod hint;
 pub mod json;
 /// Reads the text of a trace and audits it.
 mod input_audit;
+/// The command `explain --map`.
+pub mod mapped_reason;
+/// The errors of a map.
+pub mod map_fault;
 /// The command `merge`.
 pub mod merge_command;
+/// The entry that a line of an explanation names.
+mod named_entry;
+/// The lines of an explanation, with the places of their entries.
+mod placed_lines;
 /// Streams that are read one after the other.
 pub mod chained_stream;
 /// A stream that keeps its last error.
@@ -65,7 +74,9 @@ pub use ended::Ended;
 pub use hint::hint_of;
 pub use json::{Question, answer_as_json};
 pub use last_error_stream::LastErrorStream;
-pub use merge_command::{MergeOutcome, answer_merge};
+pub use map_fault::MapFault;
+pub use mapped_reason::{MappedOutcome, answer_mapped_reason};
+pub use merge_command::{Mapping, MergeOutcome, answer_merge};
 pub use range::{answer_range, range_text};
 pub use replays_command::answer_replays;
 pub use runtime_audit::audit_core;

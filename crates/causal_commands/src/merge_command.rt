@@ -1,24 +1,36 @@
 //! The command `merge`, over any reader and writer.
-ghost use Rattle.std.specs.Prelude.{◌≡◌, [], None, IfOk, IfErr};
-ghost use Rattle.causal_commands.specs.Merges.{WritesMergeFor, HasExcerpt, HasExcerptFor, ReadsAtMostRecordings};
+ghost use Rattle.std.specs.Prelude.{◌≡◌, None, IfOk, IfErr};
+ghost use Rattle.causal_commands.specs.Merges.{WritesMergeFor, ReturnsNothing, HasExcerpt, HasExcerptFor, ReadsAtMostRecordings};
 ghost use Rattle.causal_commands.specs.Inside.MergeOutcomes.{IsFaultOutcome, IsTraceOutcome, IsMerge, IsMergeFor, MergeWritesNothing};
 
 use crate::bounded_read::{ReadFault, read_at_most};
 use crate::ended::Ended;
 use crate::excerpt::line_excerpt;
-use causal_merge::{MergeFault, MergeKind, MergedTrace, fault_line, max_input_len, merge_within};
+use causal_merge::{
+    MappedTrace, MergeFault, MergeKind, MergedTrace, Origin, fault_line, max_input_len,
+    merge_mapped, merge_within,
+};
 use causal_text::{TextKind, text_of, write_whole};
 use causal_trace::limits::Limits;
 use std::alloc::Global;
 use std::io::{Read, Write};
 
-/// The outcome of a merge: how it ended, the torn lines, and the error.
+/// Whether the origins of the entries are returned. They need 16 bytes for each.
+#[derive(Clone, Copy)]
+pub enum Mapping {
+    Mapped,
+    Unmapped,
+}
+
+/// The outcome of a merge: how it ended, the torn lines, the origins of the entries, and the error.
 #[derive(Drop)]
 pub struct MergeOutcome {
     pub ended: Ended,
     /// The numbers of the lines that a kill cut short and that are skipped, from 1, ascending; empty if there is no
     /// trace.
     pub torn: Vec<u32>,
+    /// Where the entries of the trace come from, in their order; empty if they are not wanted, or there is no trace.
+    pub origins: Vec<Origin>,
     /// The first error of the recorder files, if its line was written or would have been.
     pub fault: Option<MergeFault>,
     /// The first 80 bytes of the line of that error, without its line feed; empty if there is no error.
@@ -27,7 +39,7 @@ pub struct MergeOutcome {
 
 /// Reads the recorder files of all processes of one run within the limits, with their lines in any order, and writes
 /// the merged trace, or the line of their first error. The outcome reports a failure of the reader, the writer or an
-/// allocation.
+/// allocation; of a trace it has the origins of the entries, if they are wanted.
 ///
 /// At most one byte more than the limit is read (67,108,865 bytes by the default limits), so that input that is too
 /// long is detected. The input is read in pieces of 4,096 bytes, before anything is written.
@@ -36,14 +48,15 @@ pub fn answer_merge<I: Read, O: Write>(
     input: &mut I,
     output: &mut O,
     limits: Limits,
+    mapping: Mapping,
 ) -> MergeOutcome
-    ensures writes { WritesMergeFor limits.entries (I.remaining input.old) result
+    ensures writes { WritesMergeFor limits.entries mapping (I.remaining input.old) result
         (O.contents output.old) (O.contents output.new) }
     ensures excerpt { HasExcerptFor limits.entries (I.remaining input.old) result }
     ensures most { ReadsAtMostRecordings limits.entries (I.remaining input.old)
         (I.remaining input.new) }
 {
-    let MergeAnswer { merging, text } = match answer_from(alloc, input, limits) {
+    let MergeAnswer { merging, text } = match answer_from(alloc, input, limits, mapping) {
         Ok(answer) => answer,
         Err(ended) => return empty_outcome(alloc, ended),
     };
@@ -52,19 +65,22 @@ pub fn answer_merge<I: Read, O: Write>(
         Err(_) => MergeOutcome {
             ended: Ended::WriteFault,
             torn: merging.torn,
+            origins: merging.origins,
             fault: merging.fault,
             excerpt: merging.excerpt,
         },
     }
 }
 
-/// Returns an outcome without torn lines and without an error.
+/// Returns an outcome without torn lines, origins and error.
 fn empty_outcome(alloc: Global, ended: Ended) -> MergeOutcome
-    ensures { (result.ended ≡ ended) × (result.torn.items ≡ []) × (result.fault ≡ None) }
+    ensures ended { result.ended ≡ ended }
+    ensures empty { ReturnsNothing result }
 {
     MergeOutcome {
         ended,
         torn: Vec::new(alloc),
+        origins: Vec::new(alloc),
         fault: None,
         excerpt: Vec::new(alloc),
     }
@@ -77,9 +93,14 @@ struct MergeAnswer {
     text: Vec<u8>,
 }
 
-fn answer_from<I: Read>(alloc: Global, input: &mut I, limits: Limits) -> Result<MergeAnswer, Ended>
-    ensures ok { IfOk result (λ answer. IsMergeFor limits.entries (I.remaining input.old)
-        answer.merging answer.text.items) }
+fn answer_from<I: Read>(
+    alloc: Global,
+    input: &mut I,
+    limits: Limits,
+    mapping: Mapping,
+) -> Result<MergeAnswer, Ended>
+    ensures ok { IfOk result (λ answer. IsMergeFor limits.entries mapping
+        (I.remaining input.old) answer.merging answer.text.items) }
     ensures err { IfErr result MergeWritesNothing }
     ensures excerpt { IfOk result
         (λ answer. HasExcerptFor limits.entries (I.remaining input.old) answer.merging) }
@@ -87,26 +108,43 @@ fn answer_from<I: Read>(alloc: Global, input: &mut I, limits: Limits) -> Result<
         (I.remaining input.new) }
 {
     match read_at_most(alloc, input, max_input_len(limits) + 1) {
-        Ok(text) => answer_to(alloc, text.as_slice(), limits),
+        Ok(text) => answer_to(alloc, text.as_slice(), limits, mapping),
         Err(ReadFault::Read) => Err(Ended::ReadFault),
         Err(ReadFault::NoMemory) => Err(Ended::NoMemory),
     }
 }
 
-fn answer_to(alloc: Global, text: &[u8], limits: Limits) -> Result<MergeAnswer, Ended>
-    ensures ok { IfOk result
-        (λ answer. IsMerge limits.entries text.now answer.merging answer.text.items) }
+fn answer_to(
+    alloc: Global,
+    text: &[u8],
+    limits: Limits,
+    mapping: Mapping,
+) -> Result<MergeAnswer, Ended>
+    ensures ok { IfOk result (λ answer. IsMerge limits.entries mapping text.now
+        answer.merging answer.text.items) }
     ensures err { IfErr result MergeWritesNothing }
     ensures excerpt { IfOk result (λ answer. HasExcerpt text.now answer.merging) }
 {
-    match merge_within(alloc, text, limits) {
-        Ok(merged) => trace_answer(alloc, merged),
-        Err(fault) => fault_answer(alloc, text, fault),
+    match mapping {
+        Mapping::Unmapped => match merge_within(alloc, text, limits) {
+            Ok(merged) => trace_answer(alloc, merged, Vec::new(alloc)),
+            Err(fault) => fault_answer(alloc, text, fault),
+        },
+        Mapping::Mapped => match merge_mapped(alloc, text, limits) {
+            Ok(MappedTrace { merged, origins }) => trace_answer(alloc, merged, origins),
+            Err(fault) => fault_answer(alloc, text, fault),
+        },
     }
 }
 
-fn trace_answer(alloc: Global, merged: MergedTrace) -> Result<MergeAnswer, Ended>
-    ensures ok { IfOk result (λ answer. IsTraceOutcome merged answer.merging answer.text.items) }
+/// Returns the answer with the text of a merged trace, and with these origins.
+fn trace_answer(
+    alloc: Global,
+    merged: MergedTrace,
+    origins: Vec<Origin>,
+) -> Result<MergeAnswer, Ended>
+    ensures ok { IfOk result (λ answer. IsTraceOutcome merged origins.items
+        answer.merging answer.text.items) }
     ensures err { IfErr result MergeWritesNothing }
     ensures faultless { IfOk result (λ answer. answer.merging.fault ≡ None) }
 {
@@ -117,6 +155,7 @@ fn trace_answer(alloc: Global, merged: MergedTrace) -> Result<MergeAnswer, Ended
     let merging = MergeOutcome {
         ended: Ended::Merged,
         torn,
+        origins,
         fault: None,
         excerpt: Vec::new(alloc),
     };
@@ -140,6 +179,7 @@ fn fault_answer(alloc: Global, input: &[u8], fault: MergeFault) -> Result<MergeA
     let merging = MergeOutcome {
         ended: Ended::Faulted,
         torn: Vec::new(alloc),
+        origins: Vec::new(alloc),
         fault: Some(fault),
         excerpt,
     };

@@ -95,7 +95,11 @@ pub(crate) fn view_answer<I: Read, R: Threads + Wait>(
 }
 
 /// Returns the view of the first error of a text without verdict, or the ending if there is nothing to write.
-fn view_fault_answer(alloc: Global, stopped: StreamRefusal, view: View) -> Result<Answer, Ended>
+pub(crate) fn view_fault_answer(
+    alloc: Global,
+    stopped: StreamRefusal,
+    view: View,
+) -> Result<Answer, Ended>
     ensures ended { IfOk result (λ answer. answer.ended ≡ Ended.Faulted) }
     ensures whole_answer { IfOk result (λ answer. WritesWholeAnswer answer.ended) }
     ensures ok { IfOk result (λ answer. (most : ℕ) (text : List ℕ) →
@@ -128,7 +132,7 @@ pub(crate) struct ViewText {
     pub text: Vec<u8>,
 }
 
-fn read_view<I: Read, R: Threads + Wait>(
+pub(crate) fn read_view<I: Read, R: Threads + Wait>(
     rt: &R,
     alloc: Global,
     input: &mut I,

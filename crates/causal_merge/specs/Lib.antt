@@ -7,6 +7,7 @@ pub mod FaultDetails
 pub mod EventMerge
 pub mod Origins
 pub mod Merges
+pub mod InputFiles
 pub mod Maps
 pub mod FaultLine
 pub mod Hints

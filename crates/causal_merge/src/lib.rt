@@ -19,10 +19,14 @@ mod hint;
 pub mod limits;
 /// Laws of torn lines.
 pub mod laws;
+/// The files of the input.
+pub mod input_files;
 /// Parses the bytes of a line.
 mod line_parser;
 /// The lines of a map.
 pub mod map;
+/// The map of a merged trace, with all its lines.
+pub mod map_lines;
 /// Merges recorder files into a trace.
 pub mod merge;
 /// Converts events in the merge order to entries.
@@ -46,8 +50,10 @@ mod value;
 
 pub use fault::{MergeFault, MergeKind};
 pub use fault_details::MergeDetail;
+pub use input_files::InputFile;
 pub use limits::max_input_len;
 pub use map::{map_line, quoted_name, read_place};
+pub use map_lines::map_text;
 pub use merge::{MappedTrace, MergedTrace, merge_mapped, merge_text, merge_within};
 pub use origins::Origin;
 pub use report::fault_line;

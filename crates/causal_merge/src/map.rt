@@ -23,7 +23,7 @@ const MAX_LINE: usize = 65_536;
 /// `NoMemory` if an allocation failed.
 pub fn map_line(
     alloc: Global,
-    position: u32,
+    position: usize,
     file: &str,
     line: u64,
     clock: u64,

@@ -7,6 +7,7 @@ use Rattle.causal_commands.specs.declared.view.View.TheVariants.{Picture}
 use Rattle.causal_commands.specs.declared.view.View.TheVariants as view
 use Rattle.causal_commands.specs.Json.{WritesObjectFor, StopsFor, faults_of}
 use Rattle.causal_commands.specs.Diagnostics.{IsDiagnosisFor}
+use Rattle.causal_commands.specs.MappedReasons.{WritesMappedFor}
 use Rattle.causal_commands.specs.Merges.{WritesMergeFor, ReadsAtMostRecordings}
 use Rattle.causal_commands.specs.Reasons.{IsReasonFor}
 use Rattle.causal_commands.specs.Runs.{WritesScriptFor, ReadsAtMostScript}
@@ -18,7 +19,7 @@ use Rattle.causal_commands.specs.Views.{WritesViewFor}
 use Rattle.causal_tool.specs.declared.args.Form.{Form}
 use Rattle.causal_tool.specs.declared.args.Form.TheVariants.{Lines, Json}
 use Rattle.causal_tool.specs.declared.args.Invocation.{Invocation}
-use Rattle.causal_tool.specs.declared.args.Invocation.TheVariants.{Trace, Draw, Merge, Run}
+use Rattle.causal_tool.specs.declared.args.Invocation.TheVariants.{Trace, Draw, MappedReason, Merge, Run}
 use Rattle.causal_tool.specs.declared.run.CommandOutcome.{CommandOutcome}
 use Rattle.causal_tool.specs.declared.run.CommandOutcome.TheVariants as outcome_of
 
@@ -31,27 +32,36 @@ WritesAnswerIn Lines most (Reason faults workers) given ended old new = WritesVi
 WritesAnswerIn Lines most (Range workers) given ended old new = WritesRangeFor most given ended old new
 WritesAnswerIn Lines most (Replays workers) given ended old new = WritesReplaysFor most given ended old new
 
--- What a command writes for the bytes of a reader, and that the error that it returns is true: each command of the
--- command line is answered by its own call.
-abbrev pub Answers : Invocation → CommandOutcome → Option (List ℕ) → Option (List ℕ) → Option (List ℕ) → Type 0
-Answers (Trace question form limits) (outcome_of.Trace f outcome) given old new =
+-- What a command writes for the bytes of a reader, and of a map, and that the error that it returns is true: each command
+-- of the command line is answered by its own call.
+abbrev pub Answers : Invocation → CommandOutcome → Option (List ℕ) → Option (List ℕ) → Option (List ℕ) → Option (List ℕ) → Type 0
+Answers (Trace question form limits) (outcome_of.Trace f outcome) given map old new =
     WritesAnswerIn form limits.entries question given outcome.ended old new × IsDiagnosisFor limits.entries given f outcome.fault × (f ≡ faults_of question)
-Answers (Draw faults workers limits selection) (outcome_of.Trace f outcome) given old new =
+Answers (Draw faults workers limits selection) (outcome_of.Trace f outcome) given map old new =
     WritesViewFor limits.entries (Picture selection) given faults outcome.ended old new × IsDiagnosisFor limits.entries given f outcome.fault × (f ≡ faults)
-Answers (Merge limits) (outcome_of.Merge outcome) given old new = WritesMergeFor limits.entries given outcome old new
-Answers Run (outcome_of.Script outcome) given old new = WritesScriptFor given outcome.ended old new × IsReasonFor given outcome.fault
-Answers _ _ given old new = ⊥
+Answers (MappedReason faults workers limits) (outcome_of.MappedReason f outcome) given map old new =
+    WritesMappedFor limits.entries given map faults outcome old new × IsDiagnosisFor limits.entries given f outcome.outcome.fault × (f ≡ faults)
+Answers (Merge limits mapping) (outcome_of.Merge outcome) given map old new = WritesMergeFor limits.entries mapping given outcome old new
+Answers Run (outcome_of.Script outcome) given map old new = WritesScriptFor given outcome.ended old new × IsReasonFor given outcome.fault
+Answers _ _ given map old new = ⊥
 
 -- what a command consumes of its input: at most one piece after bytes that decide nothing, or at most one byte more than
 -- recordings or a script may have
 abbrev pub ReadsFor : Invocation → Option (List ℕ) → Option (List ℕ) → Type 0
 ReadsFor (Trace question form limits) old new = StopsFor limits.entries question old new
 ReadsFor (Draw faults workers limits selection) old new = StopsFor limits.entries (Reason faults workers) old new
-ReadsFor (Merge limits) old new = ReadsAtMostRecordings limits.entries old new
+ReadsFor (MappedReason faults workers limits) old new = StopsFor limits.entries (Reason faults workers) old new
+ReadsFor (Merge limits mapping) old new = ReadsAtMostRecordings limits.entries old new
 ReadsFor Run old new = ReadsAtMostScript old new
+
+-- what a command consumes of a map: at most one byte more than a map may have; but for `explain`, nothing
+abbrev pub ReadsMapFor : Invocation → Option (List ℕ) → Option (List ℕ) → Type 0
+ReadsMapFor (MappedReason faults workers limits) old new = ReadsAtMostRecordings limits.entries old new
+ReadsMapFor _ old new = new ≡ old
 
 -- how a command ended
 abbrev pub ended_of : CommandOutcome → Ended
 ended_of (outcome_of.Trace f outcome) = outcome.ended
+ended_of (outcome_of.MappedReason f outcome) = outcome.outcome.ended
 ended_of (outcome_of.Merge outcome) = outcome.ended
 ended_of (outcome_of.Script outcome) = outcome.ended

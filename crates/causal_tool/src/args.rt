@@ -5,7 +5,7 @@ ghost use Rattle.causal_tool.specs.Inside.Refusals.{exit_for_clap_error};
 ghost use Rattle.causal_tool.specs.Args.{HasWorkerCountInRange, AsksWithinRange};
 
 use crate::help_text::{ANSWERS, PICTURES, REASONS, RECORDINGS, REPLAYS, SCRIPTS};
-use causal_commands::{Ended, Question};
+use causal_commands::{Ended, Mapping, Question};
 use causal_picture::Selection;
 use causal_trace::limits::{DEFAULT_ENTRIES, Limits};
 use clap::builder::ValueParser;
@@ -51,19 +51,28 @@ pub(crate) enum Invocation {
         limits: Limits,
         selection: Selection,
     },
-    /// The trace merged from recorder files, within limits.
+    /// The reason for the verdict on a trace within limits, with the places of a map.
+    MappedReason {
+        faults: u16,
+        workers: u32,
+        limits: Limits,
+    },
+    /// The trace merged from recorder files, within limits, and its map, if that is wanted.
     Merge {
         limits: Limits,
+        mapping: Mapping,
     },
     /// The trace of a script's run.
     Run,
 }
 
-/// A command line: what it requests, and the files that it names; without one, standard input is read.
+/// A command line: what it requests, the files that it names, and the file of a map; without a file, standard input is
+/// read.
 #[derive(Drop)]
 pub(crate) struct CommandLine {
     pub asked: Invocation,
     pub files: Vec<String>,
+    pub map: Option<String>,
 }
 
 /// Why no command is run.
@@ -164,6 +173,7 @@ fn parse_args<'a, S: AsStr>(alloc: Global, words: &'a [S]) -> Result<Option<Comm
         Some(asked) => Ok(Some(CommandLine {
             asked,
             files: parse_files(alloc, given)?,
+            map: parse_map(alloc, given)?,
         })),
         None => Ok(None),
     }
@@ -180,9 +190,27 @@ fn parse_command(name: &str, given: &ArgMatches) -> Option<Invocation>
         "draw" => parse_draw(given),
         "merge" => Some(Invocation::Merge {
             limits: parse_limits(given),
+            mapping: parse_mapping(given),
         }),
         "run" => Some(Invocation::Run),
         _ => None,
+    }
+}
+
+/// Returns whether a map is wanted.
+fn parse_mapping(given: &ArgMatches) -> Mapping {
+    if given.get_str("map").is_some() {
+        Mapping::Mapped
+    } else {
+        Mapping::Unmapped
+    }
+}
+
+/// Returns the name of the file of a map, if there is one.
+fn parse_map(alloc: Global, given: &ArgMatches) -> Result<Option<String>, AllocError> {
+    match given.get_str("map") {
+        Some(name) => Ok(Some(String::from_str(alloc, name)?)),
+        None => Ok(None),
     }
 }
 
@@ -228,6 +256,13 @@ fn parse_explain(given: &ArgMatches) -> Option<Invocation>
 {
     let workers = parse_workers(given)?;
     let question = match given.get_one::<u16>("faults") {
+        Some(faults) if given.get_str("map").is_some() => {
+            return Some(Invocation::MappedReason {
+                faults,
+                workers,
+                limits: parse_limits(given),
+            });
+        }
         Some(faults) => Question::Reason { faults, workers },
         None => Question::Range { workers },
     };
@@ -302,6 +337,10 @@ enum OptionKind {
     UntilBreach,
     /// The answer is JSON.
     Json,
+    /// The file of the map that is read.
+    MapRead,
+    /// The file of the map that is written.
+    MapWritten,
     /// The line of the entry around which entries are drawn.
     Around,
     /// The processes that are drawn.
@@ -345,6 +384,7 @@ const COMMANDS: [CommandSpec; 6] = [
             OptionKind::Workers,
             OptionKind::Entries,
             OptionKind::Json,
+            OptionKind::MapRead,
         ],
     },
     CommandSpec {
@@ -375,7 +415,11 @@ const COMMANDS: [CommandSpec; 6] = [
         name: "merge",
         about: "Merges recordings into one trace",
         help: RECORDINGS,
-        given: &[OptionKind::Files, OptionKind::Entries],
+        given: &[
+            OptionKind::Files,
+            OptionKind::Entries,
+            OptionKind::MapWritten,
+        ],
     },
     CommandSpec {
         name: "run",
@@ -438,6 +482,24 @@ fn only_option<'a>(alloc: Global) -> Arg<'a> {
         .value_parser(ValueParser::Names(&["breach"]))
 }
 
+/// Returns the option that names the file of a map.
+fn map_option<'a>(alloc: Global, help: &'static str) -> Arg<'a> {
+    Arg::new(alloc, "map")
+        .long("map")
+        .value_name("PATH")
+        .help(help)
+}
+
+/// Returns the option of a map that is read: for an explanation in lines.
+fn map_read_option<'a>(alloc: Global) -> Result<Arg<'a>, AllocError> {
+    map_option(
+        alloc,
+        "Tells of each entry its file, line and clock, by the map that merge wrote",
+    )
+    .requires_arg("faults")?
+    .conflicts_with("json")
+}
+
 /// Returns an option without a value.
 fn flag<'a>(alloc: Global, name: &'static str, help: &'static str) -> Arg<'a> {
     Arg::new(alloc, name)
@@ -461,8 +523,8 @@ fn files_argument<'a>(alloc: Global) -> Arg<'a> {
         .num_args(0..)
 }
 
-fn option<'a>(alloc: Global, given: OptionKind) -> Arg<'a> {
-    match given {
+fn option<'a>(alloc: Global, given: OptionKind) -> Result<Arg<'a>, AllocError> {
+    Ok(match given {
         OptionKind::Faults { is_required } => faults(alloc, is_required),
         OptionKind::Workers => workers_option(alloc),
         OptionKind::Entries => entries_option(alloc),
@@ -472,11 +534,16 @@ fn option<'a>(alloc: Global, given: OptionKind) -> Arg<'a> {
             "Ends at the first breach found, without reading on",
         ),
         OptionKind::Json => flag(alloc, "json", "Answers with one JSON object"),
+        OptionKind::MapRead => map_read_option(alloc)?,
+        OptionKind::MapWritten => map_option(
+            alloc,
+            "Writes the file, the line and the clock of each entry into this file",
+        ),
         OptionKind::Around => around_option(alloc),
         OptionKind::Only => only_option(alloc),
         OptionKind::File => file_argument(alloc),
         OptionKind::Files => files_argument(alloc),
-    }
+    })
 }
 
 /// Adds one command to the program's.
@@ -494,7 +561,7 @@ fn subcommand_of<'a>(alloc: Global, described: &CommandSpec) -> Result<Command<'
         .about(described.about)
         .after_help(described.help);
     for given in described.given {
-        words = words.arg(option(alloc, *given))?;
+        words = words.arg(option(alloc, *given)?)?;
     }
     Ok(words)
 }

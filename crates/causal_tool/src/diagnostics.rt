@@ -6,7 +6,9 @@ use crate::hints::{Content, print_hints};
 use crate::merge_diagnostics::print_merge_diagnostics;
 use crate::place::InputNames;
 use crate::run::CommandOutcome;
-use causal_commands::{DiagnosedFault, Ended, Outcome, Reason, diagnostic_text, hint_of};
+use causal_commands::{
+    DiagnosedFault, Ended, MapFault, MappedOutcome, Outcome, Reason, diagnostic_text, hint_of,
+};
 use causal_text::TextFault;
 use std::fmt::Display;
 
@@ -44,18 +46,21 @@ pub(crate) fn print_diagnostics<R: Eprint + AllocGlobal, S: Drop>(
     rt: &R,
     command: &str,
     input: &InputNames<'_, S>,
+    map: &str,
     outcome: CommandOutcome,
 ) -> Ended
     ensures { result ≡ ended_of outcome }
 {
     match outcome {
         CommandOutcome::Trace { f, outcome } => {
-            let Outcome { ended, fault } = outcome;
-            if let Some(fault) = fault {
-                print_trace_fault(rt, command, input, f, &fault);
-                print_trace_hints(rt, command, input, &fault);
+            print_trace_outcome(rt, command, input, f, outcome)
+        }
+        CommandOutcome::MappedReason { f, outcome } => {
+            let MappedOutcome { outcome, map_fault } = outcome;
+            if let Some(fault) = map_fault {
+                print_map_fault(rt, command, map, &fault);
             }
-            ended
+            print_trace_outcome(rt, command, input, f, outcome)
         }
         CommandOutcome::Merge { outcome } => print_merge_diagnostics(rt, command, input, outcome),
         CommandOutcome::Script { outcome } => {
@@ -66,6 +71,36 @@ pub(crate) fn print_diagnostics<R: Eprint + AllocGlobal, S: Drop>(
             ended
         }
     }
+}
+
+/// Prints the diagnostic of a trace, if it is invalid, and returns how the command ended.
+fn print_trace_outcome<R: Eprint + AllocGlobal, S: Drop>(
+    rt: &R,
+    command: &str,
+    input: &InputNames<'_, S>,
+    f: u16,
+    outcome: Outcome<DiagnosedFault>,
+) -> Ended
+    ensures { result ≡ outcome.ended }
+{
+    let Outcome { ended, fault } = outcome;
+    if let Some(fault) = fault {
+        print_trace_fault(rt, command, input, f, &fault);
+        print_trace_hints(rt, command, input, &fault);
+    }
+    ended
+}
+
+/// Prints why a map is not that of the trace, with its file's name.
+fn print_map_fault<R: Eprint>(rt: &R, command: &str, map: &str, fault: &MapFault) {
+    let _ = match fault {
+        MapFault::Entry { position, .. } => {
+            let line = position.saturating_add(1);
+            eprintln!(rt; "{command}: {map}:{line}: {fault}")
+        }
+        _ => eprintln!(rt; "{command}: {map}: {fault}"),
+    };
+    let _ = eprintln!(rt; "{command}: give the map that merge wrote with this trace");
 }
 
 /// Prints the diagnostic of an invalid trace.

@@ -12,8 +12,8 @@ Answers, as one line on standard output:
       P depends; entries count from 0
   fault line=L KIND
       the text is no trace: its first fault is at line L
-With --until-breach a look is taken after 1, 2, 4 entries and so on. Where it finds a breach
-nothing more is read, and the line ends with
+With --until-breach the trace is audited after 1, 2, 4 entries and so on. Where that finds a
+breach, nothing more is read, and the line ends with
   read=N
       N entries were read; what comes later may have a fault
 With --json the same as one JSON object:
@@ -46,6 +46,11 @@ Without --faults, for which numbers of faults F the run is safe, a line for each
   exceeded to=F       up to F, at some instant more than F processes are down
   accept from=F to=F  the run is safe
   orphan from=F       from F on, at some instant a delivery has an orphan
+
+With --map, by a file that `merge --map` has written for this trace, the lines with line=L have
+before the colon
+  at=FILE:LINE clock=CLOCK
+      where the recordings have that entry
 
 With --json the same as one JSON object, but for the sentences behind the colons:
   {\"verdict\":\"orphan\",\"f\":F,..,\"reason\":[{\"fact\":\"delivery\",\"line\":L,..},..]}
@@ -123,6 +128,10 @@ Answers on standard output:
 
 Standard error tells each line that a kill has cut, which is passed over, and what a fault means;
 it names FILE:LINE.
+
+With --map, after the trace, into that file a line for each entry, which `explain --map` reads:
+  [POSITION,\"FILE\",LINE,CLOCK]
+      entry POSITION, counted from 0, is line LINE of that recording
 
 Exit status:
   0  the trace was printed

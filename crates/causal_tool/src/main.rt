@@ -4,7 +4,8 @@
 //! guarantees.
 //!
 //! - [`answer_audit`] is `audit`, and [`answer_until_breach`] is `audit --until-breach`.
-//! - [`answer_view`] is `explain` and `draw`; [`answer_range`] is `explain` without a bound f.
+//! - [`answer_view`] is `explain` and `draw`; [`answer_range`] is `explain` without a bound f, and
+//!   [`answer_mapped_reason`] is `explain --map`.
 //! - [`answer_replays`] is `replays`.
 //! - [`answer_as_json`] is `audit`, `explain` and `replays` with `--json`.
 //! - [`answer_merge`] is `merge`, and [`answer_script`] is `run`.
@@ -26,6 +27,8 @@ mod diagnostics;
 mod help_text;
 /// What standard error adds to the message of an error.
 mod hints;
+/// The file of a map.
+mod map_file;
 /// Messages on recorder files for standard error.
 mod merge_diagnostics;
 /// The place of a line of the input.
@@ -43,12 +46,13 @@ mod tracked_stream;
 
 use crate::args::{CommandLine, EarlyExit, Invocation, parse_command_line};
 use crate::diagnostics::{print_diagnostics, print_error_line};
+use crate::map_file::{MapFile, write_map};
 use crate::place::{InputNames, file_name};
 use crate::progress::ProgressStream;
 use crate::run::{CommandOutcome, run_command};
 use crate::source::{OpenFault, is_standard_input, open_sources};
 pub use causal_commands::audit_stream;
-use causal_commands::{Ended, LastErrorStream, Question};
+use causal_commands::{Ended, LastErrorStream, MergeOutcome, Question};
 use std::io::{self, ErrorKind, IsTerminal};
 use std::process::ExitCode;
 
@@ -63,7 +67,7 @@ fn name_of(asked: Invocation) -> &'static str {
             question: Question::Replays { .. },
             ..
         } => "causal_tool replays",
-        Invocation::Trace { .. } => "causal_tool explain",
+        Invocation::Trace { .. } | Invocation::MappedReason { .. } => "causal_tool explain",
         Invocation::Draw { .. } => "causal_tool draw",
         Invocation::Merge { .. } => "causal_tool merge",
         Invocation::Run => "causal_tool run",
@@ -132,7 +136,25 @@ fn exit_unopened(rt: &HostRuntime, command: &str, files: &[String], fault: OpenF
     }
 }
 
-/// Prints the diagnostics of the outcome, and why no answer was written whole, if so; returns the exit code.
+/// Prints why no answer was written whole, if so, where the input or the output failed.
+fn print_stream_ending<S: Drop>(
+    rt: &HostRuntime,
+    command: &str,
+    input: &InputNames<'_, S>,
+    ended: Ended,
+    read_error: Option<io::Error>,
+    write_error: Option<io::Error>,
+) {
+    let (file, reason) = match ended {
+        Ended::ReadFault => (input.present_file(), read_error),
+        Ended::WriteFault => (None, write_error),
+        _ => (None, None),
+    };
+    print_ending(rt, command, ended, file, reason);
+}
+
+/// Prints the diagnostics of the outcome, and why no answer was written whole, if so; returns the exit code. `map` is the
+/// name of the file of the map, if one was read or written, and `map_error` its error, by which the command then ended.
 fn exit_after<S: Drop>(
     rt: &HostRuntime,
     command: &str,
@@ -140,16 +162,17 @@ fn exit_after<S: Drop>(
     outcome: CommandOutcome,
     read_error: Option<io::Error>,
     write_error: Option<io::Error>,
+    map: &str,
+    map_error: Option<io::Error>,
 ) -> ExitCode
     ensures { exit_status result ≡ status_of (ended_of outcome) }
 {
-    let ended = print_diagnostics(rt, command, input, outcome);
-    let (file, reason) = match ended {
-        Ended::ReadFault => (input.present_file(), read_error),
-        Ended::WriteFault => (None, write_error),
-        _ => (None, None),
-    };
-    print_ending(rt, command, ended, file, reason);
+    let ended = print_diagnostics(rt, command, input, map, outcome);
+    if map_error.is_some() {
+        print_ending(rt, command, ended, Some(map), map_error);
+    } else {
+        print_stream_ending(rt, command, input, ended, read_error, write_error);
+    }
     exit_code_of(ended)
 }
 
@@ -164,8 +187,26 @@ fn exit_early(rt: &HostRuntime, exit: EarlyExit) -> ExitCode {
     }
 }
 
+/// Writes the map of a merge, if one is wanted; returns the outcome with how the command then ends, and the error of the
+/// map's file.
+fn with_map<S: Drop>(
+    rt: &HostRuntime,
+    map: Option<&str>,
+    input: &InputNames<'_, S>,
+    outcome: CommandOutcome,
+) -> (CommandOutcome, Option<io::Error>) {
+    match outcome {
+        CommandOutcome::Merge { outcome } => {
+            let (ended, error) = write_map(rt, map, input, &outcome);
+            let outcome = MergeOutcome { ended, ..outcome };
+            (CommandOutcome::Merge { outcome }, error)
+        }
+        _ => (outcome, None),
+    }
+}
+
 fn main(rt: HostRuntime) -> ExitCode {
-    let CommandLine { asked, files } = match parse_command_line(&rt) {
+    let CommandLine { asked, files, map } = match parse_command_line(&rt) {
         Ok(line) => line,
         Err(exit) => return exit_early(&rt, exit),
     };
@@ -179,7 +220,19 @@ fn main(rt: HostRuntime) -> ExitCode {
     let reader = ProgressStream::new(rt, command, sources, is_watched);
     let mut input = LastErrorStream::new(reader);
     let mut output = LastErrorStream::new(io::writer(&rt));
-    let outcome = run_command(&rt, asked, &mut input, &mut output);
+    let map = map.as_ref().map(|name| name.as_str());
+    let mut map_input = LastErrorStream::new(MapFile::new(rt, map));
+    let outcome = run_command(&rt, asked, &mut input, &mut map_input, &mut output);
     let names = InputNames::new(files.as_slice(), input.stream().stream());
-    exit_after(&rt, command, &names, outcome, input.error(), output.error())
+    let (outcome, map_error) = with_map(&rt, map, &names, outcome);
+    exit_after(
+        &rt,
+        command,
+        &names,
+        outcome,
+        input.error(),
+        output.error(),
+        map.unwrap_or(""),
+        map_input.error().or(map_error),
+    )
 }

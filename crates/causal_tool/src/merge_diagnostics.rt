@@ -25,6 +25,7 @@ pub(crate) fn print_merge_diagnostics<R: Eprint + AllocGlobal, S: Drop>(
         torn,
         fault,
         excerpt,
+        ..
     } = told;
     print_torn_lines(rt, command, input, torn.as_slice());
     if let Some(fault) = fault {

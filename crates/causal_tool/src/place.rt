@@ -1,6 +1,9 @@
 //! The place of a line of the input: its file, and its line there.
 use crate::tracked_stream::TrackedStream;
 use causal_commands::ChainedStream;
+use causal_merge::{InputFile, quoted_name};
+use causal_name::NoMemory;
+use std::alloc::Global;
 use std::fmt::{self, Display, Formatter, Write};
 
 /// The place of a line: the index of the file in which it begins, and its number there, counted from 1.
@@ -55,6 +58,23 @@ impl<'a, S: Drop> InputNames<'a, S> {
             .streams()
             .get(place.file)?
             .line_start(place.line)
+    }
+
+    /// Returns the files with their names and where they begin in the input; none for standard input alone.
+    pub(crate) fn input_files(&self, alloc: Global) -> Result<Vec<InputFile>, NoMemory> {
+        let mut files = Vec::new(alloc);
+        let mut feeds: u64 = 0;
+        let mut is_in_line = false;
+        for (name, stream) in self.files.iter().zip(self.sources.streams()) {
+            files.push(InputFile {
+                name: quoted_name(alloc, name.as_str())?,
+                feeds,
+                begun: feeds.saturating_add(u64::from(is_in_line)),
+            })?;
+            feeds = feeds.saturating_add(stream.feeds());
+            is_in_line = stream.is_in_line().unwrap_or(is_in_line);
+        }
+        Ok(files)
     }
 
     /// Returns how messages name this line, if it is of a file.

@@ -3,12 +3,13 @@ ghost use Rattle.std.specs.Prelude.{◌≡◌};
 ghost use Rattle.causal_commands.specs.Diagnostics.{IsDiagnosisFor};
 ghost use Rattle.causal_commands.specs.Json.{HasFewWorkers, StopsFor, faults_of};
 ghost use Rattle.causal_tool.specs.Args.{HasWorkerCountInRange};
-ghost use Rattle.causal_tool.specs.Commands.{WritesAnswerIn, Answers, ReadsFor};
+ghost use Rattle.causal_tool.specs.Commands.{WritesAnswerIn, Answers, ReadsFor, ReadsMapFor};
 
 use crate::args::{Form, Invocation};
 use causal_commands::{
-    DiagnosedFault, MergeOutcome, Outcome, Question, Reason, View, answer_as_json, answer_audit,
-    answer_merge, answer_range, answer_replays, answer_script, answer_until_breach, answer_view,
+    DiagnosedFault, MappedOutcome, MergeOutcome, Outcome, Question, Reason, View, answer_as_json,
+    answer_audit, answer_mapped_reason, answer_merge, answer_range, answer_replays, answer_script,
+    answer_until_breach, answer_view,
 };
 use causal_trace::limits::Limits;
 use causal_workers::OpenGate;
@@ -24,6 +25,11 @@ pub(crate) enum CommandOutcome {
     Trace {
         f: u16,
         outcome: Outcome<DiagnosedFault>,
+    },
+    /// Of an explanation with the places of a map, for the bound f.
+    MappedReason {
+        f: u16,
+        outcome: MappedOutcome,
     },
     /// Of a merge of recordings.
     Merge {
@@ -91,17 +97,18 @@ fn random_seed<R: RandomSource>(rt: &R) -> u64 {
     }
 }
 
-/// Runs the command, and returns its outcome.
-pub(crate) fn run_command<R: Threads + Wait + AllocGlobal + RandomSource, I: Read, O: Write>(
-    rt: &R,
-    asked: Invocation,
-    input: &mut I,
-    output: &mut O,
-) -> CommandOutcome
+/// Runs the command, and returns its outcome. Only `explain` reads a map.
+pub(crate) fn run_command<
+    R: Threads + Wait + AllocGlobal + RandomSource,
+    I: Read,
+    M: Read,
+    O: Write,
+>(rt: &R, asked: Invocation, input: &mut I, map: &mut M, output: &mut O) -> CommandOutcome
     requires { HasWorkerCountInRange asked }
-    ensures answers { Answers asked result (I.remaining input.old)
+    ensures answers { Answers asked result (I.remaining input.old) (M.remaining map.old)
         (O.contents output.old) (O.contents output.new) }
     ensures reads { ReadsFor asked (I.remaining input.old) (I.remaining input.new) }
+    ensures map { ReadsMapFor asked (M.remaining map.old) (M.remaining map.new) }
 {
     let alloc = rt.alloc();
     match asked {
@@ -131,8 +138,16 @@ pub(crate) fn run_command<R: Threads + Wait + AllocGlobal + RandomSource, I: Rea
                 View::Picture { selection },
             ),
         },
-        Invocation::Merge { limits } => CommandOutcome::Merge {
-            outcome: answer_merge(alloc, input, output, limits),
+        Invocation::MappedReason {
+            faults,
+            workers,
+            limits,
+        } => CommandOutcome::MappedReason {
+            f: faults,
+            outcome: answer_mapped_reason(rt, alloc, input, map, output, limits, faults, workers),
+        },
+        Invocation::Merge { limits, mapping } => CommandOutcome::Merge {
+            outcome: answer_merge(alloc, input, output, limits, mapping),
         },
         Invocation::Run => CommandOutcome::Script {
             outcome: answer_script(rt, alloc, input, output, random_seed(rt)),

@@ -8,7 +8,7 @@ use Rattle.causal_commands.proofs.merge_command.answer_from.Goals as goal
 pub returns-in-Ok-clause-ok : goal.returns-in-Ok-clause-ok
 returns-in-Ok-clause-ok g c = IfOk-weaker c.answer_to.result _ _ (λ answer h.
     IfSome-weaker (g.I.Read.remaining c.args.input.now) _ _ (λ given same.
-    subst (λ text. IsMerge c.args.limits.entries text answer.merging answer.text.items) (c.as_slice.ensures.value ∙ same ∙ ap (λ n. take (n + 1) given) c.max_input_len.ensures.value) h) c.in-Ok.ensures.text) c.answer_to.ensures.ok
+    subst (λ text. IsMerge c.args.limits.entries c.args.mapping text answer.merging answer.text.items) (c.as_slice.ensures.value ∙ same ∙ ap (λ n. take (n + 1) given) c.max_input_len.ensures.value) h) c.in-Ok.ensures.text) c.answer_to.ensures.ok
 
 pub returns-in-Ok-clause-excerpt : goal.returns-in-Ok-clause-excerpt
 returns-in-Ok-clause-excerpt g c = IfOk-weaker c.answer_to.result _ _ (λ answer h.

@@ -1,8 +1,11 @@
+use Rattle.std.proofs.Common.{◌∙◌, ap, sym}
 use Rattle.std.proofs.lemmas.Result.{IfOk-weaker}
+use Rattle.causal_commands.specs.declared.merge_command.Mapping.{Mapping}
+use Rattle.causal_commands.specs.Merges.{returned_origins}
 use Rattle.causal_commands.proofs.merge_command.answer_to.Goals as goal
 
 pub returns-in-Ok-clause-ok : goal.returns-in-Ok-clause-ok
-returns-in-Ok-clause-ok c = IfOk-weaker c.trace_answer.result _ _ (λ answer h. h c.args.limits.entries c.args.text.now c.in-Ok.ensures.ok) c.trace_answer.ensures.ok
-
-pub returns-in-Err-clause-ok : goal.returns-in-Err-clause-ok
-returns-in-Err-clause-ok c = IfOk-weaker c.fault_answer.result _ _ (λ answer h. h c.args.limits.entries c.args.text.now c.in-Err.ensures.err) c.fault_answer.ensures.ok
+returns-in-Ok-clause-ok c =
+    let merges = c.in-Ok.ensures.ok in
+    let none = c.new.ensures.items ∙ sym (ap (λ (mapping : Mapping). returned_origins mapping merges.0) c.in-Unmapped.is) in
+    IfOk-weaker c.trace_answer.result _ _ (λ answer h. h c.args.limits.entries c.args.mapping c.args.text.now merges.0 merges.1 none) c.trace_answer.ensures.ok

@@ -1,0 +1,169 @@
+//! The command `explain --map`, over any readers and writer.
+ghost use Rattle.std.specs.Prelude.{◌≡◌, ◌≢◌, ◌≤◌, ℕ, List, IfOk, IfErr, Err, None};
+ghost use Rattle.causal_text.specs.Streams.{StopsWithin};
+ghost use Rattle.causal_reading.specs.Reads.{max_read};
+ghost use Rattle.causal_commands.specs.Diagnostics.{IsDiagnosisFor};
+ghost use Rattle.causal_commands.specs.Merges.{ReadsAtMostRecordings};
+ghost use Rattle.causal_commands.specs.MappedReasons.{WritesMappedFor};
+ghost use Rattle.causal_commands.specs.Inside.Answers.{WritesNothing, WritesWholeAnswer};
+ghost use Rattle.causal_commands.specs.Inside.Refusals.{IsTrueRefusalFor};
+ghost use Rattle.causal_commands.specs.Inside.MappedAnswers.{IsMappedFor, IsPlacedFor, IsPlaced};
+
+use crate::answer::{Answer, ended_of, write_answer};
+use crate::bounded_read::{ReadFault, read_at_most};
+use crate::diagnostic::DiagnosedFault;
+use crate::ended::Ended;
+use crate::map_fault::{MapFault, PlaceError};
+use crate::placed_lines::placed_text;
+use crate::stream::Outcome;
+use crate::view::{View, ViewText, read_view, view_fault_answer};
+use causal_merge::max_input_len;
+use causal_trace::limits::Limits;
+use std::alloc::Global;
+use std::io::{Read, Write};
+use std::sync::Wait;
+use std::thread::Threads;
+
+/// The outcome of an explanation with places: that of the explanation, and the error of the map.
+#[derive(Clone, Copy)]
+pub struct MappedOutcome {
+    pub outcome: Outcome<DiagnosedFault>,
+    /// Why the map is not that of the trace. The ending is then `Faulted`, and nothing was written.
+    pub map_fault: Option<MapFault>,
+}
+
+/// Explains the verdict for f on a trace as [`answer_view`](crate::answer_view) does, with the places that a map has:
+/// each line with a field `line=L` gets the fields ` at=FILE:LINE clock=CLOCK` of that entry. The map is read after the
+/// trace, if that is valid: at most one byte more than a map may have, which is as many bytes as recordings.
+///
+/// A map that is too long, has another number of lines than the trace has entries, or has another line for an entry that
+/// is named is an error, after which nothing is written. A map that cannot be read is `ReadFault`.
+pub fn answer_mapped_reason<R: Threads + Wait, I: Read, M: Read, O: Write>(
+    rt: &R,
+    alloc: Global,
+    input: &mut I,
+    map: &mut M,
+    output: &mut O,
+    limits: Limits,
+    f: u16,
+    workers: u32,
+) -> MappedOutcome
+    requires { (1 ≤ workers) × (workers ≤ 64) }
+    ensures writes { WritesMappedFor limits.entries (I.remaining input.old)
+        (M.remaining map.old) f result (O.contents output.old) (O.contents output.new) }
+    ensures fault { IsDiagnosisFor limits.entries (I.remaining input.old)
+        f result.outcome.fault }
+    ensures stops { StopsWithin limits.entries (max_read workers)
+        (I.remaining input.old) (I.remaining input.new) }
+    ensures map { ReadsAtMostRecordings limits.entries (M.remaining map.old)
+        (M.remaining map.new) }
+    ensures never_no_worker { result.outcome.ended ≢ Ended.NoWorker }
+{
+    match mapped_answer(rt, alloc, input, map, limits, f, workers) {
+        Ok(MappedAnswer { answer, map_fault }) => MappedOutcome {
+            outcome: write_answer(alloc, output, f, answer),
+            map_fault,
+        },
+        Err(ended) => MappedOutcome {
+            outcome: Outcome { ended, fault: None },
+            map_fault: None,
+        },
+    }
+}
+
+/// The answer, and the error of the map, if that is the reason for its ending.
+#[derive(Drop)]
+struct MappedAnswer {
+    answer: Answer,
+    map_fault: Option<MapFault>,
+}
+
+fn mapped_answer<I: Read, M: Read, R: Threads + Wait>(
+    rt: &R,
+    alloc: Global,
+    input: &mut I,
+    map: &mut M,
+    limits: Limits,
+    f: u16,
+    workers: u32,
+) -> Result<MappedAnswer, Ended>
+    requires { (1 ≤ workers) × (workers ≤ 64) }
+    ensures ok { IfOk result (λ given. IsMappedFor limits.entries (I.remaining input.old)
+        (M.remaining map.old) f given) }
+    ensures rejected { IfOk result (λ given. IsTrueRefusalFor limits.entries
+        (I.remaining input.old) given.answer.refusal) }
+    ensures whole_answer { IfOk result (λ given. WritesWholeAnswer given.answer.ended) }
+    ensures err { IfErr result WritesNothing }
+    ensures stops { StopsWithin limits.entries (max_read workers)
+        (I.remaining input.old) (I.remaining input.new) }
+    ensures map { ReadsAtMostRecordings limits.entries (M.remaining map.old)
+        (M.remaining map.new) }
+    ensures never_no_worker { result ≢ Err Ended.NoWorker }
+{
+    match read_view(rt, alloc, input, limits, f, workers, View::Reason) {
+        Ok(shown) => with_places(alloc, map, limits, shown),
+        Err(stopped) => match view_fault_answer(alloc, stopped, View::Reason) {
+            Ok(answer) => Ok(MappedAnswer {
+                answer,
+                map_fault: None,
+            }),
+            Err(ended) => Err(ended),
+        },
+    }
+}
+
+/// Reads a map, and returns the answer with an explanation and the places of its entries.
+fn with_places<M: Read>(
+    alloc: Global,
+    map: &mut M,
+    limits: Limits,
+    shown: ViewText,
+) -> Result<MappedAnswer, Ended>
+    ensures ok { IfOk result (λ given. IsPlacedFor limits.entries (M.remaining map.old)
+        shown given) }
+    ensures none { IfOk result (λ given. given.answer.refusal ≡ None) }
+    ensures whole_answer { IfOk result (λ given. WritesWholeAnswer given.answer.ended) }
+    ensures err { IfErr result WritesNothing }
+    ensures map { ReadsAtMostRecordings limits.entries (M.remaining map.old)
+        (M.remaining map.new) }
+    ensures never_no_worker { result ≢ Err Ended.NoWorker }
+{
+    match read_at_most(alloc, map, max_input_len(limits) + 1) {
+        Ok(map) => placed_answer(alloc, map.as_slice(), limits, shown),
+        Err(ReadFault::Read) => Err(Ended::ReadFault),
+        Err(ReadFault::NoMemory) => Err(Ended::NoMemory),
+    }
+}
+
+fn placed_answer(
+    alloc: Global,
+    map: &[u8],
+    limits: Limits,
+    shown: ViewText,
+) -> Result<MappedAnswer, Ended>
+    ensures ok { IfOk result (λ given. IsPlaced limits.entries map.now shown given) }
+    ensures none { IfOk result (λ given. given.answer.refusal ≡ None) }
+    ensures whole_answer { IfOk result (λ given. WritesWholeAnswer given.answer.ended) }
+    ensures err { IfErr result (λ ended. ended ≡ Ended.NoMemory) }
+{
+    let ViewText { judged, text } = shown;
+    match placed_text(alloc, limits, map, judged.entries, text.as_slice()) {
+        Ok(line) => Ok(MappedAnswer {
+            answer: Answer {
+                ended: ended_of(judged.verdict),
+                line,
+                refusal: None,
+            },
+            map_fault: None,
+        }),
+        Err(PlaceError::Map(fault)) => Ok(MappedAnswer {
+            answer: Answer {
+                ended: Ended::Faulted,
+                line: Vec::new(alloc),
+                refusal: None,
+            },
+            map_fault: Some(fault),
+        }),
+        Err(PlaceError::NoMemory) => Err(Ended::NoMemory),
+    }
+}

@@ -1,0 +1,91 @@
+//! The file of a map: `explain` reads it, and `merge` writes it.
+use crate::place::InputNames;
+use causal_commands::{Ended, LastErrorStream, MergeOutcome};
+use causal_merge::{Origin, map_text};
+use causal_text::write_whole;
+use std::fs::{self, Files};
+use std::io::{self, Read, Result};
+
+/// The file of a map that is read. It is opened when it is first read, so that the command before it in a pipe may still
+/// write it.
+#[derive(Drop)]
+pub(crate) struct MapFile<'a, R: Files + Drop> {
+    rt: R,
+    name: Option<&'a str>,
+    file: Option<R::File>,
+}
+
+impl<'a, R: Files + Drop> MapFile<'a, R> {
+    /// Names the file; without a name there are no bytes.
+    pub(crate) fn new(rt: R, name: Option<&'a str>) -> MapFile<'a, R> {
+        MapFile {
+            rt,
+            name,
+            file: None,
+        }
+    }
+}
+
+impl<R: Files + Drop> Read for MapFile<'_, R> {
+    fn read(&mut self, buf: &mut [u8]) -> Result<usize> {
+        if let Some(file) = &mut self.file {
+            return file.read(buf);
+        }
+        let Some(name) = self.name else {
+            return Ok(0);
+        };
+        let mut file = fs::open(&self.rt, name)?;
+        let count = file.read(buf);
+        self.file = Some(file);
+        count
+    }
+}
+
+/// Why a map was not written.
+#[derive(Clone, Copy)]
+pub(crate) enum MapWriteFault {
+    /// The file could not be created or written.
+    Write(Option<io::Error>),
+    /// An allocation failed.
+    NoMemory,
+}
+
+/// Writes the map of a merged trace, if there is one and it is wanted, into the file with this name, which it creates or
+/// replaces. Returns how `merge` ends, and the error of the file.
+pub(crate) fn write_map<R: Files + AllocGlobal, S: Drop>(
+    rt: &R,
+    name: Option<&str>,
+    input: &InputNames<'_, S>,
+    merged: &MergeOutcome,
+) -> (Ended, Option<io::Error>) {
+    let (Ended::Merged, Some(name)) = (merged.ended, name) else {
+        return (merged.ended, None);
+    };
+    match write_lines(rt, name, input, merged.origins.as_slice()) {
+        Ok(()) => (Ended::Merged, None),
+        Err(MapWriteFault::Write(error)) => (Ended::WriteFault, error),
+        Err(MapWriteFault::NoMemory) => (Ended::NoMemory, None),
+    }
+}
+
+fn write_lines<R: Files + AllocGlobal, S: Drop>(
+    rt: &R,
+    name: &str,
+    input: &InputNames<'_, S>,
+    origins: &[Origin],
+) -> std::result::Result<(), MapWriteFault> {
+    let Ok(files) = input.input_files(rt.alloc()) else {
+        return Err(MapWriteFault::NoMemory);
+    };
+    let Ok(text) = map_text(rt.alloc(), files.as_slice(), origins) else {
+        return Err(MapWriteFault::NoMemory);
+    };
+    let mut file = match fs::create(rt, name) {
+        Ok(file) => LastErrorStream::new(file),
+        Err(error) => return Err(MapWriteFault::Write(Some(error))),
+    };
+    match write_whole(text.as_slice(), &mut file) {
+        Ok(()) => Ok(()),
+        Err(_) => Err(MapWriteFault::Write(file.error())),
+    }
+}
