@@ -10,6 +10,9 @@ import time
 CALLS = {
     "nixu": """
 use crate::c_entry::CEntry;
+use crate::c_fact::CFact;
+use crate::c_merge_fault::CMergeFault;
+use crate::c_recording::CRecording;
 use crate::c_stray::CStray;
 use crate::c_verdict::CVerdict;
 use crate::handle::Handle;
@@ -21,6 +24,10 @@ fn main(rt: HostRuntime) {
         kind: 0, entries: 0, deliveries: 0, instant: 0, delivery: 0, orphan: 0, line: 0, fault: 0, processes: [0u8; 256],
     };
     let mut stray = CStray { kind: 0, instant: 0, rsn: 0, first: 0, second: 0, line: 0, fault: 0, process: 0 };
+    let mut unmerged = CMergeFault {
+        recording: 0, line: 0, kind: 0, given: 0, next: 0, lane: 0, ssn: 0, rsn: 0, process: 0, source: 0, dest: 0, missing: [0u8; 256],
+    };
+    let recordings = [CRecording { text: b"" }];
     let entry = CEntry { kind: 3, ssn: 0, rsn: 0, send: 0, source: 0, dest: 0, who: 0 };
     let mut handle = Handle::new_closed(alloc);
     let mut out = [0u8; 1];
@@ -31,6 +38,11 @@ fn main(rt: HostRuntime) {
     audit::nixu_audit_each(alloc, b"", &[], &mut []);
     replays::nixu_replays(alloc, b"", &mut stray);
     replays::nixu_trace_replays(alloc, &mut handle, &mut stray);
+    explanations::nixu_facts(alloc, b"", 0, &mut verdict, &mut [], &mut needed);
+    explanations::nixu_trace_facts(alloc, &mut handle, 0, &mut verdict, &mut [], &mut needed);
+    explanations::nixu_reader_facts(alloc, &mut handle, 0, &mut verdict, &mut [], &mut needed);
+    merging::nixu_merge(alloc, &recordings, 1, &mut out, &mut needed, &mut unmerged);
+    merging::nixu_merge_fault_text(0, &mut out, &mut needed);
     views::nixu_line(alloc, b"", 0, &mut out, &mut needed);
     views::nixu_explain(alloc, b"", 0, &mut out, &mut needed);
     views::nixu_draw(alloc, b"", 0, &mut out, &mut needed);

@@ -4,7 +4,8 @@
 
    The words: line, explain, draw: what the call gives; audit: the verdict's line out of the struct; each: the lines for 0, 1, 2, 3
    faults of a text that is read once; fed: as audit, of the text in pieces of many lengths; sentence: that of the text's fault,
-   empty where it has none; entries: of a file of entries (entries.h), the verdict's line and then the text of the trace. */
+   empty where it has none; facts: the lines of explain without their sentences, out of the structs; merge: of recordings, in pieces
+   of some bytes; entries: of a file of entries (entries.h), the verdict's line, the stray, the facts, and the text of the trace. */
 #include "entries.h"
 #include "text.h"
 
@@ -13,17 +14,17 @@
 #include <stdlib.h>
 #include <string.h>
 
-enum { MOST = 8192, FAULTS = 4 };
+enum { MOST = 8192, LONGEST = 1 << 16, FAULTS = 4, FACTS = 512, PIECE = 37 };
 
 typedef struct answer {
-  char at[MOST];
+  char at[LONGEST];
   size_t length;
 } answer;
 
 static void say(answer *to, const char *form, ...) {
   va_list given;
   va_start(given, form);
-  to->length += (size_t)vsnprintf(to->at + to->length, MOST - to->length, form, given);
+  to->length += (size_t)vsnprintf(to->at + to->length, LONGEST - to->length, form, given);
   va_end(given);
 }
 
@@ -108,10 +109,94 @@ static uint32_t replays(answer *to, bytes text) {
   return status;
 }
 
+static const char *deed(uint32_t by) {
+  return by == NIXU_DELIVER ? "deliver" : by == NIXU_CRASH ? "crash" : by == NIXU_RESTART ? "restart" : "forget";
+}
+
+/* The line of a fact about the breach, with the numbers of lines in place of positions. */
+static void say_breach_fact(answer *to, const nixu_fact *fact) {
+  unsigned line = fact->entry + 2, send = fact->send + 2, process = fact->process;
+  switch (fact->kind) {
+  case NIXU_FACT_DELIVERY:
+    say(to, "delivery line=%u process=%u source=%u ssn=%u rsn=%u\n", (unsigned)fact->delivery + 2, process, (unsigned)fact->source,
+        (unsigned)fact->ssn, (unsigned)fact->rsn);
+    break;
+  case NIXU_FACT_UNSTABLE: say(to, "unstable line=%u\n", (unsigned)fact->instant + 1); break;
+  case NIXU_FACT_HOLDER: say(to, "holder process=%u line=%u\n", process, line); break;
+  case NIXU_FACT_NO_HOLDER: say(to, "holder process=-\n"); break;
+  case NIXU_FACT_LOSS: say(to, "loss process=%u line=%u by=%s\n", process, line, deed(fact->by)); break;
+  case NIXU_FACT_CRASH: say(to, "crash process=%u\n", process); break;
+  case NIXU_FACT_CHAIN: say(to, "chain line=%u process=%u\n", line, process); break;
+  case NIXU_FACT_UNLISTED: say(to, "unlisted line=%u send=%u process=%u\n", line, send, process); break;
+  case NIXU_FACT_LISTED: say(to, "listed\n"); break;
+  case NIXU_FACT_UNDERWAY: say(to, "underway send=%u line=%u process=%u\n", send, line, process); break;
+  case NIXU_FACT_ORPHAN: say(to, "orphan process=%u\n", process); break;
+  default: say(to, "no fact has the kind %u\n", (unsigned)fact->kind);
+  }
+}
+
+static void say_fact(answer *to, const nixu_fact *fact) {
+  unsigned line = fact->entry + 2, process = fact->process, delivery = fact->delivery;
+  switch (fact->kind) {
+  case NIXU_FACT_DOWN: say(to, "down process=%u line=%u\n", process, line); break;
+  case NIXU_FACT_CAUSE: say(to, "cause line=%u process=%u by=%s\n", line, process, deed(fact->by)); break;
+  case NIXU_FACT_CLOSEST:
+    say(to, "closest faults=%u line=%u until=%u orphan=%u\n", (unsigned)fact->faults, delivery + 2, (unsigned)fact->instant + 1, process);
+    break;
+  case NIXU_FACT_NEVER: say(to, "closest faults=-\n"); break;
+  case NIXU_FACT_STRAYED:
+    say(to, "strayed instant=%u process=%u rsn=%u first=%u second=%u\n", (unsigned)fact->instant, process, (unsigned)fact->rsn, delivery,
+        (unsigned)fact->second);
+    break;
+  case NIXU_FACT_LOGGED: say(to, "logged delivery=%u process=%u line=%u\n", delivery, process, line); break;
+  case NIXU_FACT_STABLE: say(to, "stable delivery=%u\n", delivery); break;
+  default: say_breach_fact(to, fact);
+  }
+}
+
+static uint32_t say_facts(answer *to, uint32_t status, const nixu_verdict *told, const nixu_fact *facts, size_t count, uint16_t faults) {
+  if (count > FACTS) return NIXU_MISUSED;
+  if (status <= NIXU_FAULT) say_verdict(to, told, faults);
+  for (size_t i = 0; status == NIXU_OK && i < count; i++) say_fact(to, &facts[i]);
+  return status;
+}
+
+static uint32_t facts(answer *to, bytes text, uint16_t faults) {
+  nixu_verdict told;
+  nixu_fact found[FACTS];
+  size_t needed = 0;
+  uint32_t status = nixu_facts(text.at, text.length, faults, &told, found, FACTS, &needed);
+  return say_facts(to, status, &told, found, needed, faults);
+}
+
+/* The line of an error, counted over all recordings. */
+static unsigned line_over_all(const nixu_merge_fault *fault, bytes text) {
+  unsigned line = fault->line;
+  for (size_t i = 0; i < fault->recording * PIECE; i++) line += text.at[i] == '\n';
+  return line;
+}
+
+/* Recordings that are cut anywhere, into pieces of some bytes. */
+static uint32_t merge(bytes text, answer *to) {
+  size_t count = text.length / PIECE + 1, needed = 0;
+  nixu_recording *pieces = malloc(count * sizeof *pieces);
+  nixu_merge_fault fault;
+  if (!pieces) return NIXU_NO_MEMORY;
+  for (size_t i = 0; i < count; i++) {
+    pieces[i].text = text.at + i * PIECE;
+    pieces[i].length = i + 1 < count ? PIECE : text.length % PIECE;
+  }
+  uint32_t status = nixu_merge(pieces, count, NIXU_USUAL_ENTRIES, (uint8_t *)to->at, LONGEST, &needed, &fault);
+  free(pieces);
+  if (status == NIXU_OK) to->length = needed;
+  if (status == NIXU_FAULT) say(to, "fault line=%u %s\n", line_over_all(&fault, text), fault_name(fault.kind));
+  return status;
+}
+
 static uint32_t sentence(answer *to, bytes text, uint16_t faults) {
   nixu_verdict told;
   uint32_t status = nixu_audit(text.at, text.length, faults, &told);
-  return status == NIXU_FAULT ? nixu_fault_text(told.fault, (uint8_t *)to->at, MOST, &to->length) : status;
+  return status == NIXU_FAULT ? nixu_fault_text(told.fault, (uint8_t *)to->at, LONGEST, &to->length) : status;
 }
 
 static shows *call_of(const char *word) {
@@ -143,7 +228,8 @@ static uint32_t print_recording(nixu_trace *trace, const recording *all, uint16_
   answer told = {"", 0};
   nixu_verdict verdict;
   nixu_stray stray;
-  size_t at;
+  nixu_fact found[FACTS];
+  size_t at, needed = 0;
   uint32_t fault, status = push_all(trace, all, &at, &fault, NULL);
   if (status == NIXU_FAULT) {
     say(&told, "fault line=%zu %s\n", at + 2, fault_name(fault));
@@ -154,6 +240,8 @@ static uint32_t print_recording(nixu_trace *trace, const recording *all, uint16_
   if (status != NIXU_OK) return status;
   say_verdict(&told, &verdict, faults);
   say_stray(&told, &stray);
+  status = nixu_trace_facts(trace, faults, &verdict, found, FACTS, &needed);
+  if (say_facts(&told, status, &verdict, found, needed, faults) != NIXU_OK) return status ? status : NIXU_MISUSED;
   return print_trace(trace, &told);
 }
 
@@ -183,6 +271,8 @@ static uint32_t print_task(const char *word, bytes text, uint16_t faults) {
   else if (!strcmp(word, "each")) status = audit_each(&told, text);
   else if (!strcmp(word, "fed")) status = fed(&told, text, faults);
   else if (!strcmp(word, "replays")) status = replays(&told, text);
+  else if (!strcmp(word, "facts")) status = facts(&told, text, faults);
+  else if (!strcmp(word, "merge")) status = merge(text, &told);
   else status = sentence(&told, text, faults);
   print(told.at, told.length);
   return status;

@@ -183,6 +183,152 @@ static void try_no_stray(void) {
   expect(stray.kind == NIXU_FAULTY && stray.line == 1 && stray.fault == NIXU_CUT && !stray.instant, "it is cut then");
 }
 
+/* examples/orphan.jsonl. Below the verdict's line examples/orphan.txt has ten, for one failure. */
+static const char ORPHAN[] = "[\"trace\",1,3]\n[\"send\",0,1,0]\n[\"deliver\",1,0,0,[[0,0,1,0]]]\n[\"send\",1,2,0]\n"
+                             "[\"deliver\",2,2,0,[[1,0,2,0]]]\n[\"end\",4]\n";
+
+static void expect_facts_of_the_orphan(const nixu_verdict *told, const nixu_fact *facts, size_t needed) {
+  static const nixu_fact wanted[] = {
+      {.kind = NIXU_FACT_DELIVERY, .delivery = 1, .process = 1},
+      {.kind = NIXU_FACT_CAUSE, .entry = 3, .send = 2, .by = NIXU_DELIVER, .process = 2},
+      {.kind = NIXU_FACT_UNSTABLE, .instant = 4},
+      {.kind = NIXU_FACT_HOLDER, .entry = 1, .process = 1},
+      {.kind = NIXU_FACT_CRASH, .process = 1},
+      {.kind = NIXU_FACT_CHAIN, .entry = 1, .process = 1},
+      {.kind = NIXU_FACT_CHAIN, .entry = 2, .process = 1},
+      {.kind = NIXU_FACT_CHAIN, .entry = 3, .process = 2},
+      {.kind = NIXU_FACT_UNLISTED, .entry = 3, .send = 2, .process = 2},
+      {.kind = NIXU_FACT_ORPHAN, .process = 2},
+  };
+  enum { FIELDS = offsetof(nixu_fact, source) + 1 };
+  expect(told->kind == NIXU_ORPHAN && told->orphan == 2, "process 2 is an orphan");
+  expect(needed == sizeof wanted / sizeof *wanted, "it has ten facts");
+  for (size_t i = 0; i < sizeof wanted / sizeof *wanted && i < needed; i++)
+    expect(!memcmp(&facts[i], &wanted[i], FIELDS), "each fact of an orphan is told");
+}
+
+static void try_facts(void) {
+  nixu_verdict told;
+  nixu_fact facts[16], few[16];
+  size_t needed = 77, again = 77;
+  const uint8_t *text = (const uint8_t *)ORPHAN;
+  expect(nixu_facts(text, sizeof ORPHAN - 1, 1, &told, facts, 16, &needed) == NIXU_OK, "an orphan is explained");
+  expect_facts_of_the_orphan(&told, facts, needed);
+  for (size_t room = 0; room <= needed + 1; room++) {
+    size_t given = (room < needed ? room : needed) * sizeof *facts;
+    memset(few, 0xa5, sizeof few);
+    expect(nixu_facts(text, sizeof ORPHAN - 1, 1, &told, few, room, &again) == NIXU_OK && again == needed, "any room will do");
+    expect(!memcmp(few, facts, given) && is_filled((uint8_t *)few + given, sizeof few - given), "the first facts, and no more");
+  }
+  expect(nixu_facts(text, sizeof ORPHAN - 1, 1, &told, NULL, 0, &again) == NIXU_OK && again == needed, "no room at all");
+  again = 77;
+  memset(few, 0xa5, sizeof few);
+  expect(nixu_facts(NULL, 0, 1, &told, few, 16, &again) == NIXU_FAULT && told.fault == NIXU_CUT, "an empty text has no facts");
+  expect(again == 77 && is_filled(few, sizeof few), "none was written then");
+}
+
+static void try_facts_of_a_reader(void) {
+  static const uint16_t faults[] = {1};
+  nixu_reader reader = {0};
+  nixu_verdict told, alone;
+  nixu_fact facts[16];
+  size_t needed = 77, end = sizeof ORPHAN - 1, header = strlen("[\"trace\",1,3]\n"), last = strlen("[\"end\",4]\n");
+  const uint8_t *text = (const uint8_t *)ORPHAN;
+  memset(&told, 0xa5, sizeof told);
+  expect(nixu_reader_facts(&reader, 1, &told, facts, 16, &needed) == NIXU_CLOSED, "no reader explains");
+  expect(nixu_reader_open(&reader) == NIXU_OK && nixu_reader_feed(&reader, text, header - 1, &alone) == NIXU_OK, "a part of a line");
+  expect(nixu_reader_facts(&reader, 1, &told, facts, 16, &needed) == NIXU_MISUSED, "the header is not complete");
+  expect(needed == 77 && is_filled(&told, sizeof told), "nothing was written then");
+  expect(nixu_reader_feed(&reader, text + header - 1, 1, &alone) == NIXU_OK, "its line feed");
+  expect(nixu_reader_facts(&reader, 1, &told, facts, 16, &needed) == NIXU_OK, "no entry is explained");
+  expect(told.kind == NIXU_ACCEPTED && !told.entries && needed == 1 && facts->kind == NIXU_FACT_NEVER, "no delivery has an orphan");
+  expect(nixu_reader_feed(&reader, text + header, end - header - last, &alone) == NIXU_OK, "all entries");
+  expect(nixu_reader_facts(&reader, 1, &told, facts, 16, &needed) == NIXU_OK, "they are explained before the end");
+  expect_facts_of_the_orphan(&told, facts, needed);
+  expect(nixu_reader_feed(&reader, text + end - last, last, &alone) == NIXU_OK, "the end line");
+  expect(nixu_reader_facts(&reader, 1, &told, facts, 16, &needed) == NIXU_OK, "they are explained after the end");
+  expect_facts_of_the_orphan(&told, facts, needed);
+  expect(nixu_reader_finish(&reader, faults, 1, &alone, 1) == NIXU_OK && !memcmp(&alone, &told, sizeof told), "it is open still");
+  expect(nixu_reader_facts(&reader, 1, &told, facts, 16, &needed) == NIXU_CLOSED, "it is closed");
+}
+
+static void try_facts_of_a_trace(void) {
+  static const nixu_entry crash = {NIXU_CRASH, 0, 0, 0, 0, 0, 1};
+  nixu_trace trace = {0};
+  nixu_verdict told;
+  nixu_fact facts[2];
+  size_t needed = 77;
+  uint32_t fault;
+  expect(nixu_trace_facts(&trace, 0, &told, facts, 2, &needed) == NIXU_CLOSED && needed == 77, "no trace explains");
+  expect(nixu_trace_open(&trace, 2) == NIXU_OK && nixu_trace_push(&trace, &crash, NULL, 0, &fault) == NIXU_OK, "process 1 crashes");
+  expect(nixu_trace_facts(&trace, 0, &told, facts, 2, &needed) == NIXU_OK && needed == 2, "an excess has a cause and who is down");
+  expect(facts[0].kind == NIXU_FACT_CAUSE && facts[0].by == NIXU_CRASH && facts[0].process == 1 && !facts[0].entry, "the crash");
+  expect(facts[1].kind == NIXU_FACT_DOWN && facts[1].process == 1 && !facts[1].entry, "process 1 is down since it");
+  expect(nixu_trace_facts(&trace, 1, &told, facts, 2, &needed) == NIXU_OK && needed == 1, "it is open still");
+  expect(facts->kind == NIXU_FACT_NEVER, "and accepted for one failure");
+  nixu_trace_close(&trace);
+}
+
+/* The recordings of docs/MERGING.md. */
+static const char FIRST[] = "[\"recording\",0,1,2,4711]\n[\"send\",0,1764118000000001,1,0]\n";
+static const char SECOND[] = "[\"recording\",1,1,2,4711]\n[\"deliver\",1,1764118000000002,0,0,0,0,[[0,0,1,0]]]\n";
+
+static nixu_recording recording_of(const char *text) {
+  nixu_recording made = {(const uint8_t *)text, strlen(text)};
+  return made;
+}
+
+static void try_merge(void) {
+  static const char wanted[] = "[\"trace\",1,2]\n[\"send\",0,1,0]\n[\"deliver\",1,0,0,[[0,0,1,0]]]\n[\"end\",2]\n";
+  nixu_recording both[] = {recording_of(FIRST), {NULL, 0}, recording_of(SECOND)};
+  nixu_merge_fault fault;
+  uint8_t out[ROOM];
+  size_t needed = 77;
+  memset(&fault, 0xa5, sizeof fault);
+  for (size_t room = 0; room <= sizeof wanted; room++) {
+    size_t given = room < sizeof wanted - 1 ? room : sizeof wanted - 1;
+    memset(out, 0xa5, ROOM);
+    expect(nixu_merge(both, 3, NIXU_USUAL_ENTRIES, out, room, &needed, &fault) == NIXU_OK, "two recordings merge, in any room");
+    expect(needed == sizeof wanted - 1 && !memcmp(out, wanted, given), "into their trace");
+    expect(is_filled(out + given, ROOM - given) && is_filled(&fault, sizeof fault), "nothing else was written then");
+  }
+  needed = 77;
+  memset(out, 0xa5, ROOM);
+  expect(nixu_merge(both, 3, 0, out, ROOM, &needed, &fault) == NIXU_MISUSED, "a trace may have an entry");
+  expect(nixu_merge(both, 3, NIXU_MOST_ENTRIES + 1, out, ROOM, &needed, &fault) == NIXU_MISUSED, "there is a greatest number of entries");
+  expect(is_filled(&fault, sizeof fault), "no error was written then");
+  expect(nixu_merge(both, 3, 1, out, ROOM, &needed, &fault) == NIXU_FAULT && fault.kind == NIXU_TOO_LONG, "two are more than one");
+  expect(fault.recording == 2 && fault.line == 2, "the second line of the last recording is too much");
+  expect(needed == 77 && is_filled(out, ROOM), "no byte was written then");
+}
+
+static void try_merge_faults(void) {
+  nixu_recording one[] = {recording_of(FIRST), {NULL, 0}}, twice[] = {recording_of(FIRST), recording_of(FIRST)};
+  nixu_recording unsent[] = {recording_of("[\"recording\",0,1,2,4711]\n"), recording_of(SECOND)};
+  nixu_merge_fault fault;
+  size_t needed = 77;
+  expect(nixu_merge(NULL, 0, 1, NULL, 0, &needed, &fault) == NIXU_FAULT, "no recordings have no header");
+  expect(fault.kind == NIXU_NO_HEADER && !fault.recording && fault.line == 1 && !fault.missing[0], "nor is the run known");
+  expect(nixu_merge(one, 2, 9, NULL, 0, &needed, &fault) == NIXU_FAULT && fault.kind == NIXU_NO_HEADER, "a recording is missing");
+  expect(fault.recording == 1 && fault.line == 1 && fault.missing[1] && !fault.missing[0], "it is that of process 1");
+  expect(nixu_merge(twice, 2, 9, NULL, 0, &needed, &fault) == NIXU_FAULT && fault.kind == NIXU_NO_HEADER, "again");
+  expect(fault.recording == 1 && fault.line == 3, "the line would come next in the last recording");
+  expect(nixu_merge(unsent, 2, 9, NULL, 0, &needed, &fault) == NIXU_FAULT && fault.kind == NIXU_NO_SEND, "there is no such send");
+  expect(fault.recording == 1 && fault.line == 2 && fault.process == 1, "process 1 delivers it");
+  expect(!fault.source && !fault.lane && !fault.ssn && needed == 77, "it is message 0 of incarnation 0 of process 0");
+}
+
+static void try_merge_sentences(void) {
+  uint8_t out[ROOM];
+  size_t needed = 77;
+  for (uint32_t fault = NIXU_AFTER; fault <= NIXU_TWICE; fault++)
+    expect(nixu_merge_fault_text(fault, out, ROOM, &needed) == NIXU_OK && needed > 0 && needed < ROOM, "an error has a sentence");
+  expect(needed == strlen("another line of this process has the same clock"), "that of Twice");
+  needed = 77;
+  expect(nixu_merge_fault_text(0, out, ROOM, &needed) == NIXU_MISUSED, "no error has the number 0");
+  expect(nixu_merge_fault_text(NIXU_TWICE + 1, out, ROOM, &needed) == NIXU_MISUSED && needed == 77, "no error has the number 23");
+}
+
 static void try_long_text(void) {
   nixu_verdict told;
   uint8_t *blank = malloc(LONGEST + 1);
@@ -207,6 +353,12 @@ int main(int argc, char **argv) {
   try_limits_of_a_reader();
   try_limits_of_a_trace();
   try_no_stray();
+  try_facts();
+  try_facts_of_a_reader();
+  try_facts_of_a_trace();
+  try_merge();
+  try_merge_faults();
+  try_merge_sentences();
   if (argc > 2) try_long_text();
   free(text.at);
   printf("%d edges are wrong\n", wrong);

@@ -11,12 +11,14 @@
 #include <stdlib.h>
 #include <string.h>
 
-enum { ROOM = 1 << 18, FAULTS = 3 };
+enum { ROOM = 1 << 18, FAULTS = 3, FACTS = 64 };
 
 /* What a call may write. */
 typedef struct written {
   nixu_verdict told[FAULTS];
   nixu_stray stray;
+  nixu_fact facts[FACTS];
+  nixu_merge_fault fault;
   size_t needed;
   uint8_t out[ROOM];
 } written;
@@ -44,6 +46,28 @@ static uint32_t draw(bytes text, written *to) {
 
 static uint32_t replays(bytes text, written *to) {
   return nixu_replays(text.at, text.length, &to->stray);
+}
+
+static uint32_t facts(bytes text, written *to) {
+  return nixu_facts(text.at, text.length, 1, to->told, to->facts, FACTS, &to->needed);
+}
+
+/* Recordings of two processes. */
+static uint32_t merge(bytes text, written *to) {
+  static const char lines[] = "[\"recording\",0,1,2,7]\n[\"send\",0,1,1,0]\n[\"recording\",1,1,2,7]\n[\"deliver\",1,2,0,0,0,0,[[0,0,1,0]]]\n";
+  const nixu_recording halves[] = {{(const uint8_t *)lines, 40}, {(const uint8_t *)lines + 40, sizeof lines - 41}};
+  return text.at ? nixu_merge(halves, 2, 9, to->out, ROOM, &to->needed, &to->fault) : NIXU_CLOSED;
+}
+
+/* The facts of the complete lines of a text that has not ended. An error of the text is one of feeding it. */
+static uint32_t facts_so_far(bytes text, written *to) {
+  nixu_reader reader = {0};
+  size_t half = text.length / 2;
+  uint32_t status = nixu_reader_open(&reader);
+  if (status == NIXU_OK) status = nixu_reader_feed(&reader, text.at, half, to->told);
+  if (status == NIXU_OK) status = nixu_reader_facts(&reader, 1, to->told, to->facts, FACTS, &to->needed);
+  nixu_reader_close(&reader);
+  return status;
 }
 
 /* A text in two pieces. After an error nothing is left open. */
@@ -93,6 +117,14 @@ static uint32_t entries_replays(bytes text, written *to) {
   nixu_trace trace = {0};
   uint32_t status = recorded_by(&trace);
   if (status == NIXU_OK) status = nixu_trace_replays(&trace, &to->stray);
+  nixu_trace_close(&trace);
+  return trace.held || trace.full || text.at ? NIXU_CLOSED : status;
+}
+
+static uint32_t entries_facts(bytes text, written *to) {
+  nixu_trace trace = {0};
+  uint32_t status = recorded_by(&trace);
+  if (status == NIXU_OK) status = nixu_trace_facts(&trace, 1, to->told, to->facts, FACTS, &to->needed);
   nixu_trace_close(&trace);
   return trace.held || trace.full || text.at ? NIXU_CLOSED : status;
 }
@@ -149,6 +181,9 @@ static long try_text(const char *path) {
   growths += try_call(explain, "nixu_explain", path, text);
   growths += try_call(draw, "nixu_draw", path, text);
   growths += try_call(replays, "nixu_replays", path, text);
+  growths += try_call(facts, "nixu_facts", path, text);
+  growths += try_call(facts_so_far, "nixu_reader_facts", path, text);
+  growths += try_call(merge, "nixu_merge", path, text);
   growths += try_call(fed, "a fed reader", path, text);
   free(text.at);
   return growths;
@@ -161,6 +196,7 @@ static long try_entries(const char *path) {
     growths += try_call(entries_audit, "nixu_trace_audit", path, none);
     growths += try_call(entries_text, "nixu_trace_text", path, none);
     growths += try_call(entries_replays, "nixu_trace_replays", path, none);
+    growths += try_call(entries_facts, "nixu_trace_facts", path, none);
   }
   free_recording(&all);
   return growths;

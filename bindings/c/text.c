@@ -41,6 +41,7 @@ uint32_t shown(shows *call, bytes text, uint16_t faults, bytes *told) {
 const char *fault_name(uint32_t fault) {
   static const char *const names[] = {"?",        "After",     "Big",    "Syntax",   "Form",   "Header", "Version",
                                       "Processes", "TooLong",  "NoProcess", "NotUp", "NotDown", "Lanes", "WrongSsn",
-                                      "NoSend",   "WrongRsn",  "Doubled", "Unsorted", "NoDelivery", "Count", "Cut"};
+                                      "NoSend",   "WrongRsn",  "Doubled", "Unsorted", "NoDelivery", "Count", "Cut",
+                                      "NoHeader", "Twice"};
   return names[fault < sizeof names / sizeof *names ? fault : 0];
 }

@@ -30,7 +30,7 @@ def files_of(version, library):
     facts, info = project(), f"nixu-{version}.dist-info"
     metadata = f"Metadata-Version: 2.1\nName: {facts['name']}\nVersion: {version}\nSummary: {facts['description']}\n"
     files = {"nixu/libnixu.so": library}
-    for name in ("__init__.py", "_library.py", "_node.py", "_open.py", "py.typed"):
+    for name in ("__init__.py", "_explanation.py", "_library.py", "_merge.py", "_node.py", "_open.py", "py.typed"):
         with open(os.path.join(HERE, "nixu", name), "rb") as file:
             files[f"nixu/{name}"] = file.read()
     files[f"{info}/METADATA"] = f"{metadata}Requires-Python: {facts['requires-python']}\n".encode()

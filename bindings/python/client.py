@@ -11,6 +11,7 @@ import sys
 import nixu
 
 FAULTS = (0, 1, 2, 3)
+PIECE = 37
 SHOWS = {"line": nixu.line, "explain": nixu.explain, "draw": nixu.draw}
 
 
@@ -32,6 +33,67 @@ def strayed(told: nixu.Stray | None) -> str:
     return f"strayed instant={told.instant} process={told.process} rsn={told.rsn} first={told.first} second={told.second}\n"
 
 
+def deed(by: nixu.EntryKind) -> str:
+    return by.value
+
+
+def caused(cause: nixu.Cause) -> str:
+    return f"cause line={cause.entry + 2} process={cause.process} by={deed(cause.by)}\n"
+
+
+def down(events: tuple[nixu.Event, ...]) -> str:
+    return "".join(f"down process={event.process} line={event.entry + 2}\n" for event in events)
+
+
+def breach(told: nixu.Orphan, reason: nixu.Breach) -> str:
+    det, holders = reason.determinant, reason.holders
+    lines = [f"delivery line={told.delivery + 2} process={det.dest} source={det.source} ssn={det.ssn} rsn={det.rsn}\n"]
+    lines += [caused(reason.cause), f"unstable line={told.instant + 1}\n"]
+    lines += [f"holder process={event.process} line={event.entry + 2}\n" for event in holders] or ["holder process=-\n"]
+    lines += [f"loss process={loss.process} line={loss.entry + 2} by={deed(loss.by)}\n" for loss in reason.losses]
+    lines += [down(reason.down), *(f"crash process={process}\n" for process in sorted(told.crash))]
+    lines += [f"chain line={event.entry + 2} process={event.process}\n" for event in reason.chain]
+    unlisted, underway = reason.unlisted, reason.underway
+    lines += [f"unlisted line={unlisted.entry + 2} send={unlisted.send + 2} process={unlisted.process}\n" if unlisted else "listed\n"]
+    if underway:
+        lines += [f"underway send={underway.send + 2} line={underway.entry + 2} process={underway.process}\n"]
+    return "".join([*lines, f"orphan process={told.orphan}\n"])
+
+
+def margin(closest: nixu.Closest | None) -> str:
+    if closest is None:
+        return "closest faults=-\n"
+    return f"closest faults={closest.faults} line={closest.delivery + 2} until={closest.instant + 1} orphan={closest.orphan}\n"
+
+
+def copied(copies: nixu.Copies) -> str:
+    lines = [f"logged delivery={copies.delivery} process={event.process} line={event.entry + 2}\n" for event in copies.logged]
+    return "".join(lines) + f"stable delivery={copies.delivery}\n" * copies.stable
+
+
+def facts(told: nixu.Explanation, f: int) -> str:
+    """The lines of explain without their sentences."""
+    reason, straying = told.reason, told.straying
+    if isinstance(reason, nixu.Margin):
+        lines = margin(reason.closest)
+    elif isinstance(reason, nixu.Excess):
+        lines = caused(reason.cause) + down(reason.down)
+    else:
+        lines = breach(told.verdict, reason)
+    stray = strayed(straying.stray) + copied(straying.first) + copied(straying.second) if straying else ""
+    return said(told.verdict, f) + lines + stray
+
+
+def merged(text: bytes) -> str:
+    """Recordings that are cut anywhere, into pieces of some bytes."""
+    pieces = [text[at : at + PIECE] for at in range(0, len(text), PIECE)]
+    try:
+        return nixu.merge(pieces).decode()
+    except nixu.MergeFault as fault:
+        line = fault.line + b"".join(pieces[: fault.recording]).count(b"\n")
+        return f"fault line={line} {fault.kind.name}\n"
+
+
 def verdict(word: str, text: bytes, f: int) -> str:
     if word in SHOWS:
         return SHOWS[word](text, f)
@@ -41,6 +103,10 @@ def verdict(word: str, text: bytes, f: int) -> str:
         return "".join(map(said, nixu.audit_each(text, FAULTS), FAULTS))
     if word == "replays":
         return strayed(nixu.replays(text))
+    if word == "facts":
+        return facts(nixu.explanation(text, f), f)
+    if word == "merge":
+        return merged(text)
     if word == "fed":
         return said(fed(text, f), f)
     if word == "entries":
@@ -83,7 +149,7 @@ def recorded(file: str, f: int) -> str:
                 trace.push(entry(line))
             except nixu.Refused as refused:
                 return f"fault line={i + 2} {refused.kind.name}\n"
-        return said(trace.audit(f), f) + strayed(trace.replays()) + trace.text()
+        return said(trace.audit(f), f) + strayed(trace.replays()) + facts(trace.explanation(f), f) + trace.text()
 
 
 def answer(word: str, text: bytes, f: int) -> str:

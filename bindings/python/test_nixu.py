@@ -200,6 +200,112 @@ class Calls(unittest.TestCase):
         trace.close()
         self.raises(RuntimeError, "the Trace is closed", trace.replays)
 
+    def test_an_orphan_is_explained(self):
+        told = nixu.explanation(example("forgotten.jsonl"), faults=1)
+        events = [(1, 1), (1, 2), (2, 3), (2, 4), (0, 5)]
+        forgets = nixu.EntryKind.Forget
+        wanted = nixu.Breach(
+            determinant=nixu.Determinant(source=0, ssn=0, dest=1, rsn=0),
+            cause=nixu.Cause(process=1, entry=6, by=forgets, send=None),
+            holders=(nixu.Event(process=2, entry=3),),
+            losses=(nixu.Loss(process=1, entry=6, by=forgets),),
+            down=(),
+            chain=tuple(nixu.Event(process, entry) for process, entry in events),
+            unlisted=nixu.Arrival(process=0, entry=5, send=4),
+            underway=None,
+        )
+        self.assertEqual(told, nixu.Explanation(nixu.Orphan(7, 3, 7, 1, frozenset({2}), 0), wanted, None))
+
+    def test_a_determinant_in_transit_is_explained(self):
+        reason = nixu.explanation(example("transit.jsonl"), 1).reason
+        self.assertEqual(reason.cause, nixu.Cause(2, 4, nixu.EntryKind.Deliver, send=3))
+        self.assertEqual(reason.underway, nixu.Arrival(process=3, entry=5, send=2))
+
+    def test_an_excess_and_an_accepted_run_are_explained(self):
+        cause = nixu.Cause(process=2, entry=7, by=nixu.EntryKind.Crash, send=None)
+        wanted = nixu.Excess(cause, (nixu.Event(1, 6), nixu.Event(2, 7)))
+        self.assertEqual(nixu.explanation(example("crashes.jsonl"), 1).reason, wanted)
+        closest = nixu.Closest(faults=2, delivery=1, instant=6, orphan=0)
+        self.assertEqual(nixu.explanation(example("ring.jsonl"), 0).reason, nixu.Margin(closest))
+
+    def test_a_stray_is_explained(self):
+        told = nixu.explanation(example("strayed.jsonl"), 1)
+        first, second = nixu.Copies(2, (nixu.Event(2, 4),), False), nixu.Copies(7, (nixu.Event(1, 7),), False)
+        self.assertEqual(told.straying, nixu.Straying(nixu.Stray(8, 1, 0, 2, 7), first, second))
+        self.assertEqual(told.reason, nixu.Margin(None))
+
+    def test_more_facts_than_there_was_room_for(self):
+        trace = nixu.Trace(256)
+        for who in range(100):
+            trace.push(nixu.Crash(who))
+        self.assertEqual(trace.explanation(99).reason.down, tuple(nixu.Event(who, who) for who in range(100)))
+
+    def test_open_handles_explain_what_they_have(self):
+        text, reader, trace = example("orphan.jsonl"), nixu.Reader(), self.orphaned()
+        wanted = nixu.explanation(text, 1)
+        self.assertEqual(trace.explanation(1), wanted)
+        self.raises(ValueError, "the header line is not complete yet", reader.explanation, 1)
+        reader.feed(text[:-1])
+        self.assertEqual(reader.explanation(1), wanted)
+        reader.feed(b"\n")
+        self.assertEqual(reader.explanation(1), wanted)
+        self.assertEqual(reader.finish(1), wanted.verdict)
+        trace.close()
+        self.raises(RuntimeError, "the Reader is closed", reader.explanation, 1)
+        self.raises(RuntimeError, "the Trace is closed", trace.explanation, 1)
+
+    def test_wrong_arguments_of_explanations_are_named(self):
+        text, trace, reader = example("ring.jsonl"), nixu.Trace(3), nixu.Reader()
+        self.is_told(nixu.explanation, example("skipped.jsonl"), 0)
+        self.raises(TypeError, "text must be bytes, not str", nixu.explanation, "hello", 1)
+        self.raises(TypeError, "faults must be an int, not str", nixu.explanation, text, "1")
+        for handle in (trace, reader):
+            self.raises(TypeError, "faults must be an int, not NoneType", handle.explanation, None)
+            self.raises(ValueError, "faults must be from 0 to 65535, not -1", handle.explanation, -1)
+
+    FIRST = b'["recording",0,1,2,4711]\n["send",0,1764118000000001,1,0]\n'
+    HEADER = b'["recording",1,1,2,4711]\n'
+    SECOND = HEADER + b'["deliver",1,1764118000000002,0,0,0,0,[[0,0,1,0]]]\n'
+
+    def test_recordings_are_merged(self):
+        wanted = b'["trace",1,2]\n["send",0,1,0]\n["deliver",1,0,0,[[0,0,1,0]]]\n["end",2]\n'
+        self.assertEqual(nixu.merge([self.FIRST, self.SECOND]), wanted)
+        self.assertEqual(nixu.merge((self.SECOND, b"", self.FIRST), entries=2), wanted)
+        self.assertEqual(nixu.audit(wanted, 1), nixu.Accepted(2, 1))
+
+    def unmerged(self, *recordings):
+        with self.assertRaises(nixu.MergeFault) as raised:
+            nixu.merge(recordings)
+        fault = raised.exception
+        return fault, (fault.kind.name, fault.recording, fault.line)
+
+    def test_the_first_fault_of_recordings_is_told(self):
+        fault, place = self.unmerged(self.FIRST)
+        self.assertEqual((place, fault.missing), (("NoHeader", 0, 3), {1}))
+        fault, place = self.unmerged()
+        self.assertEqual((place, fault.missing), (("NoHeader", 0, 1), frozenset()))
+        self.assertEqual(self.unmerged(self.FIRST, self.SECOND, self.FIRST)[1], ("Twice", 2, 2))
+        event = b'["deliver",1,1764118000000002,0,0,%d,%d,%s]\n'
+        fault, place = self.unmerged(self.FIRST, self.HEADER + event % (0, 7, b"[]"))
+        self.assertEqual((place, fault.process, fault.given, fault.next), (("WrongRsn", 1, 2), 1, 7, 0))
+        self.assertEqual(str(fault), "line 2 of recording 1: the receive sequence number is not the next one")
+        self.assertEqual((fault.source, fault.ssn, fault.lane, fault.determinant), (None, None, None, None))
+        fault, place = self.unmerged(self.FIRST, self.HEADER + event % (3, 0, b"[]"))
+        self.assertEqual((place, fault.process, fault.source, fault.lane, fault.ssn), (("NoSend", 1, 2), 1, 0, 0, 3))
+        fault, place = self.unmerged(self.FIRST, self.HEADER + event % (0, 0, b"[[0,9,1,0]]"))
+        self.assertEqual((place, fault.determinant), (("NoDelivery", 1, 2), nixu.Determinant(0, 9, 1, 0)))
+        self.assertEqual(self.unmerged(self.FIRST, b"no line\n")[1], ("Syntax", 1, 1))
+        self.assertEqual(len({kind.sentence for kind in nixu.MergeFaultKind}), len(nixu.MergeFaultKind))
+
+    def test_wrong_arguments_of_merge_are_named(self):
+        for given in (self.FIRST, "hello", 7, None):
+            wanted = f"recordings must be a sequence of bytes, not {type(given).__name__}"
+            self.raises(TypeError, wanted, nixu.merge, given)
+        self.raises(TypeError, "recordings[1] must be bytes, not str", nixu.merge, [self.FIRST, "hello"])
+        self.raises(TypeError, "entries must be an int, not str", nixu.merge, [self.FIRST], "9")
+        for entries in (0, nixu.MOST_ENTRIES + 1):
+            self.raises(ValueError, f"entries must be from 1 to 16777216, not {entries}", nixu.merge, [self.FIRST], entries)
+
     def test_threads_may_call_side_by_side(self):
         text, wrong = example("ring.jsonl"), []
         wanted = nixu.explain(text, 2)

@@ -18,13 +18,18 @@ from dataclasses import dataclass
 from typing import NamedTuple, Union
 
 from . import _library as c
+from ._explanation import Arrival, Breach, Cause, Closest, Copies, EntryKind, Event, Excess, Loss, Margin, Reason, Stray, Straying
+from ._explanation import reason_of, straying_of
 from ._library import MOST_ENTRIES, VERSION
+from ._merge import MergeFault, MergeFaultKind, merge
 from ._node import Acknowledgement, Log, Message, MessageName, Node, NodeFault, NodeFaultKind, NodeState, NotUp, Number, Question, Received
 from ._node import Resent, Sent, Stage, crash_line
 from ._open import Determinant, Open, check, determinant_of, determinants_of, number_of_32_bits, process_of
 
 __all__ = ["Accepted", "Exceeded", "Orphan", "Verdict", "Fault", "FaultKind", "audit", "audit_each", "line", "explain", "draw", "VERSION"]
-__all__ += ["USUAL_ENTRIES", "MOST_ENTRIES", "Stray", "replays"]
+__all__ += ["USUAL_ENTRIES", "MOST_ENTRIES", "Stray", "replays", "merge", "MergeFault", "MergeFaultKind"]
+__all__ += ["explanation", "Explanation", "Reason", "Margin", "Closest", "Excess", "Breach", "Cause", "EntryKind", "Event", "Arrival", "Loss"]
+__all__ += ["Straying", "Copies"]
 __all__ += ["Reader", "Trace", "Refused", "Entry", "Send", "Deliver", "Stable", "Crash", "Restart", "Forget", "Determinant"]
 __all__ += ["Node", "NodeFault", "NodeFaultKind", "NodeState", "Stage", "Sent", "Resent", "MessageName", "crash_line"]
 __all__ += ["Received", "Message", "Question", "Acknowledgement", "Log", "Number", "NotUp"]
@@ -70,19 +75,14 @@ Verdict = Union[Accepted, Exceeded, Orphan]
 
 
 @dataclass(frozen=True)
-class Stray:
-    """Two different determinants survive in one slot: the process delivered another message than a survivor names."""
+class Explanation:
+    """A verdict, and why it is so."""
 
-    instant: int
-    """The first instant with such a slot, as a number of entries."""
-    process: int
-    """The receiver of the least such slot."""
-    rsn: int
-    """The receive sequence number of the slot."""
-    first: int
-    """The position of the first delivery with a survivor of the slot, from 0."""
-    second: int
-    """The position of the first delivery with another survivor of the slot."""
+    verdict: Verdict
+    reason: Reason
+    """A Margin for Accepted, an Excess for Exceeded, a Breach for Orphan."""
+    straying: Union[Straying, None]
+    """The first stray, if a recovery did not follow what survives."""
 
 
 class FaultKind(enum.IntEnum):
@@ -219,6 +219,11 @@ def explain(text: bytes, faults: int) -> str:
     return _shown(c.library.nixu_explain, 16_384, text, faults)
 
 
+def explanation(text: bytes, faults: int) -> Explanation:
+    """The verdict on the trace that a text spells, and why it is so: what explain tells, as a value. Raises as audit does."""
+    return _explanation(lambda *rest: c.library.nixu_facts(c.text_of("text", text), len(text), *rest), faults)
+
+
 def draw(text: bytes, faults: int) -> str:
     """The space-time diagram of the run with its verdict, in SVG, as `causal_tool draw` prints it. Raises as audit does."""
     return _shown(c.library.nixu_draw, 196_608, text, faults)
@@ -246,6 +251,14 @@ class Reader(Open):
         if status == c.FAULT:
             raise Fault(told.line, FaultKind(told.fault))
         check(status, "Reader")
+
+    def explanation(self, faults: int) -> Explanation:
+        """The verdict on the entries that the complete lines so far have, and why it is so. The reader stays open.
+
+        Raises ValueError where the header line is not complete yet, and MemoryError.
+        """
+        with self._alone() as handle:
+            return _explanation(lambda *rest: c.library.nixu_reader_facts(handle, *rest), faults, "Reader")
 
     def finish(self, faults: int) -> Verdict:
         """Ends the text, and tells the verdict on the trace that the pieces spell. Raises as feed does; the reader is closed."""
@@ -305,6 +318,11 @@ class Trace(Open):
         check(status, "Trace")
         return _stray(status, told)
 
+    def explanation(self, faults: int) -> Explanation:
+        """The verdict on the entries so far, and why it is so. Raises MemoryError."""
+        with self._alone() as handle:
+            return _explanation(lambda *rest: c.library.nixu_trace_facts(handle, *rest), faults, "Trace")
+
     def text(self) -> str:
         """The text of the trace so far, which `audit` reads. Raises MemoryError."""
         needed = ctypes.c_size_t()
@@ -350,6 +368,23 @@ def _shown(call: Callable[..., int], room: int, text: bytes, faults: int) -> str
         audit(text, faults)
     check(status)
     return ctypes.string_at(out, needed.value).decode()
+
+
+def _explanation(call: Callable[..., int], faults: int, handle: str = "handle") -> Explanation:
+    """What a call tells with its facts. It is asked with a first room, and once more where that was too small."""
+    told, needed, bound, room = c.Summary(), ctypes.c_size_t(), _bound(faults), 64
+    facts = (c.CFact * room)()
+    status = call(bound, told, facts, room, needed)
+    if status == c.OK and needed.value > room:
+        room = needed.value
+        facts = (c.CFact * room)()
+        status = call(bound, told, facts, room, needed)
+    if status == c.MISUSED:
+        raise ValueError("the header line is not complete yet")
+    if status != c.FAULT:
+        check(status, handle)
+    verdict, found = _verdict(status, told), facts[: needed.value]
+    return Explanation(verdict, reason_of(found), straying_of(found))
 
 
 def _verdict(status: int, told: c.Summary) -> Verdict:

@@ -39,6 +39,28 @@ class CStray(ctypes.Structure):
     _fields_ += [("process", ctypes.c_uint8)]
 
 
+class CFact(ctypes.Structure):
+    """`nixu_fact`."""
+
+    _fields_ = [(name, ctypes.c_uint32) for name in ("kind", "entry", "delivery", "send", "second", "instant", "ssn", "rsn", "faults", "by")]
+    _fields_ += [(name, ctypes.c_uint8) for name in ("process", "source")]
+
+
+class CRecording(ctypes.Structure):
+    """`nixu_recording`."""
+
+    _fields_ = [("text", ctypes.c_char_p), ("length", ctypes.c_size_t)]
+
+
+class CMergeFault(ctypes.Structure):
+    """`nixu_merge_fault`."""
+
+    _fields_ = [("recording", ctypes.c_size_t)]
+    _fields_ += [(name, ctypes.c_uint32) for name in ("line", "kind", "given", "next", "lane", "ssn", "rsn")]
+    _fields_ += [(name, ctypes.c_uint8) for name in ("process", "source", "dest")]
+    _fields_ += [("missing", ctypes.c_uint8 * 256)]
+
+
 class Handle(ctypes.Structure):
     """`nixu_reader`, `nixu_trace` and `nixu_node`."""
 
@@ -125,12 +147,18 @@ def _declare(library: ctypes.CDLL) -> None:
     number, out = ctypes.c_uint32, [ctypes.c_char_p, ctypes.c_size_t, ctypes.POINTER(ctypes.c_size_t)]
     handle, told, faults = ctypes.POINTER(Handle), ctypes.POINTER(Summary), ctypes.POINTER(ctypes.c_uint16)
     det, fault, now = ctypes.POINTER(CDeterminant), ctypes.POINTER(number), ctypes.c_uint64
+    facts = [told, ctypes.POINTER(CFact), size, ctypes.POINTER(size)]
     arguments: dict[str, list[Any]] = {
         "version": [],
         "audit": [*text, ctypes.c_uint16, told],
         "audit_each": [*text, faults, size, told, size],
         **{view: [*text, ctypes.c_uint16, *out] for view in ("line", "explain", "draw")},
         "replays": [*text, ctypes.POINTER(CStray)],
+        "facts": [*text, ctypes.c_uint16, *facts],
+        "trace_facts": [handle, ctypes.c_uint16, *facts],
+        "reader_facts": [handle, ctypes.c_uint16, *facts],
+        "merge": [ctypes.POINTER(CRecording), size, number, *out, ctypes.POINTER(CMergeFault)],
+        "merge_fault_text": [number, *out],
         "fault_text": [number, *out],
         "reader_open_within": [handle, number],
         "reader_feed": [handle, *text, told],

@@ -1,6 +1,9 @@
 //! Does what a file of tasks asks for, and answers in the form that bindings/test compares with the program's answers: the form and the
 //! words are those of ../c/client.c.
-use nixu::{Audit, Determinant, Entry, Error, Reader, Stray, Trace, Verdict};
+use nixu::{
+    Audit, Breach, Cause, CauseKind, Closest, Copies, Determinant, Entry, Error, Event, Explanation, LostBy, MergeFaultKind, Reader,
+    Reason, Stray, Trace, Verdict,
+};
 use std::io::{self, Write};
 
 fn set(processes: &[u8]) -> String {
@@ -34,6 +37,87 @@ fn strayed(found: Option<Stray>) -> String {
         Some(Stray { instant, process, rsn, first, second }) => {
             format!("strayed instant={instant} process={process} rsn={rsn} first={first} second={second}\n")
         }
+    }
+}
+
+fn caused(cause: &Cause) -> String {
+    let by = match cause.by {
+        CauseKind::Delivery { .. } => "deliver",
+        CauseKind::Crash => "crash",
+        CauseKind::Restart => "restart",
+        CauseKind::Forgetting => "forget",
+    };
+    format!("cause line={} process={} by={by}\n", cause.entry + 2, cause.process)
+}
+
+fn events(word: &str, all: &[Event]) -> String {
+    all.iter().map(|event| format!("{word} process={} line={}\n", event.process, event.entry + 2)).collect()
+}
+
+fn breach(breach: &Breach, instant: u32, delivery: u32, crash: &[u8], orphan: u8) -> String {
+    let Determinant { source, ssn, dest, rsn } = breach.determinant;
+    let mut out = format!("delivery line={} process={dest} source={source} ssn={ssn} rsn={rsn}\n", delivery + 2);
+    out += &caused(&breach.cause);
+    out += &format!("unstable line={}\n", instant + 1);
+    out += &if breach.holders.is_empty() { "holder process=-\n".into() } else { events("holder", &breach.holders) };
+    for loss in &breach.losses {
+        let by = if loss.by == LostBy::Crash { "crash" } else { "forget" };
+        out += &format!("loss process={} line={} by={by}\n", loss.process, loss.entry + 2);
+    }
+    out += &events("down", &breach.down);
+    out.extend(crash.iter().map(|process| format!("crash process={process}\n")));
+    out.extend(breach.chain.iter().map(|event| format!("chain line={} process={}\n", event.entry + 2, event.process)));
+    out += &match breach.unlisted {
+        Some(it) => format!("unlisted line={} send={} process={}\n", it.entry + 2, it.send + 2, it.process),
+        None => "listed\n".into(),
+    };
+    if let Some(it) = breach.underway {
+        out += &format!("underway send={} line={} process={}\n", it.send + 2, it.entry + 2, it.process);
+    }
+    out + &format!("orphan process={orphan}\n")
+}
+
+fn copied(delivery: u32, copies: &Copies) -> String {
+    let line = |event: &Event| format!("logged delivery={delivery} process={} line={}\n", event.process, event.entry + 2);
+    let stable = if copies.stable { format!("stable delivery={delivery}\n") } else { String::new() };
+    copies.logged.iter().map(line).collect::<String>() + &stable
+}
+
+/// The lines of explain without their sentences.
+fn facts(told: &Explanation, f: u16) -> String {
+    let lines = match (&told.reason, &told.audit.verdict) {
+        (Reason::Accepted(None), _) => "closest faults=-\n".into(),
+        (Reason::Accepted(Some(Closest { faults, delivery, instant, orphan })), _) => {
+            format!("closest faults={faults} line={} until={} orphan={orphan}\n", delivery + 2, instant + 1)
+        }
+        (Reason::Exceeded { cause, down }, _) => caused(cause) + &events("down", down),
+        (Reason::Orphan(it), Verdict::Orphan { instant, delivery, crash, orphan }) => {
+            breach(it, *instant, *delivery, crash, *orphan)
+        }
+        (Reason::Orphan(_), _) => "an orphan of another verdict\n".into(),
+    };
+    let strays = told.straying.iter().map(|it| {
+        strayed(Some(it.stray)) + &copied(it.stray.first, &it.first) + &copied(it.stray.second, &it.second)
+    });
+    said(&told.audit, f) + &lines + &strays.collect::<String>()
+}
+
+fn kind_name(kind: &MergeFaultKind) -> String {
+    match kind {
+        MergeFaultKind::Line(kind) => format!("{kind:?}"),
+        kind => format!("{kind:?}").split([' ', '(']).next().unwrap_or_default().into(),
+    }
+}
+
+/// Recordings that are cut anywhere, into pieces of some bytes.
+fn merged(text: &[u8]) -> Result<String, Error> {
+    let pieces: Vec<&[u8]> = text.chunks(37).collect();
+    match nixu::merge(&pieces) {
+        Err(Error::Merge(fault)) => {
+            let before = pieces[..fault.recording].concat().iter().filter(|byte| **byte == b'\n').count();
+            Ok(format!("fault line={} {}\n", before + fault.line as usize, kind_name(&fault.kind)))
+        }
+        told => told.map(|text| String::from_utf8_lossy(&text).into_owned()),
     }
 }
 
@@ -101,7 +185,8 @@ fn recorded(file: &str, faults: u16) -> Result<String, Error> {
             told => told?,
         }
     }
-    Ok(said(&trace.audit(faults)?, faults) + &strayed(trace.replays()?) + &trace.text()?)
+    let told = said(&trace.audit(faults)?, faults) + &strayed(trace.replays()?);
+    Ok(told + &facts(&trace.explanation(faults)?, faults) + &trace.text()?)
 }
 
 fn answer(word: &str, text: &[u8], faults: u16) -> Result<String, Error> {
@@ -112,6 +197,8 @@ fn answer(word: &str, text: &[u8], faults: u16) -> Result<String, Error> {
         "audit" => or_fault(nixu::audit(text, faults).map(|told| said(&told, faults))),
         "each" => each(text),
         "replays" => or_fault(nixu::replays(text).map(strayed)),
+        "facts" => or_fault(nixu::explanation(text, faults).map(|told| facts(&told, faults))),
+        "merge" => merged(text),
         "fed" => or_fault(fed(text, faults).map(|told| said(&told, faults))),
         "entries" => recorded(&String::from_utf8_lossy(text), faults),
         _ => sentence(text, faults),

@@ -1,5 +1,6 @@
 //! Faults of texts, and the other reasons for which a call gives no verdict.
 use crate::foreign::{self, Summary};
+use crate::merge::MergeFault;
 use crate::node_fault::NodeFault;
 use std::error;
 use std::fmt::{self, Display, Formatter};
@@ -12,6 +13,10 @@ pub enum Error {
     Fault(Fault),
     /// Something stands against an entry: this first.
     Refused(FaultKind),
+    /// The recordings make no trace.
+    Merge(MergeFault),
+    /// A reader has not read its header line yet.
+    NoHeader,
     /// A node refuses the call, and is as it was.
     Node(NodeFault),
     /// The determinants of an acknowledgement don't ascend.
@@ -44,6 +49,8 @@ impl Display for Error {
         match self {
             Error::Fault(fault) => fault.fmt(to),
             Error::Refused(kind) => kind.fmt(to),
+            Error::Merge(fault) => fault.fmt(to),
+            Error::NoHeader => to.write_str("the header line is not complete yet"),
             Error::Node(fault) => fault.fmt(to),
             Error::Unsorted => to.write_str("the determinants don't ascend"),
             Error::Processes => to.write_str("a trace has 1 to 256 processes"),

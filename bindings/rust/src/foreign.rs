@@ -58,6 +58,77 @@ pub struct CStray {
 
 const _: () = assert!(std::mem::size_of::<CStray>() == 32);
 
+/// `nixu_fact`.
+#[repr(C)]
+#[derive(Clone, Copy, Default)]
+pub struct Fact {
+    pub kind: u32,
+    pub entry: u32,
+    pub delivery: u32,
+    pub send: u32,
+    pub second: u32,
+    pub instant: u32,
+    pub ssn: u32,
+    pub rsn: u32,
+    pub faults: u32,
+    pub by: u32,
+    pub process: u8,
+    pub source: u8,
+}
+
+const _: () = assert!(std::mem::size_of::<Fact>() == 44);
+
+/// `nixu_recording`.
+#[repr(C)]
+struct Recording {
+    text: *const u8,
+    length: usize,
+}
+
+const _: () = assert!(std::mem::size_of::<Recording>() == 16);
+
+/// The numbers of two errors that only recordings have.
+pub const NO_HEADER: u32 = 21;
+pub const TWICE: u32 = 22;
+
+/// `nixu_merge_fault`.
+#[repr(C)]
+pub struct CMergeFault {
+    pub recording: usize,
+    pub line: u32,
+    pub kind: u32,
+    pub given: u32,
+    pub next: u32,
+    pub lane: u32,
+    pub ssn: u32,
+    pub rsn: u32,
+    pub process: u8,
+    pub source: u8,
+    pub dest: u8,
+    pub missing: [u8; 256],
+}
+
+const _: () = assert!(std::mem::size_of::<CMergeFault>() == 296);
+
+impl Default for CMergeFault {
+    fn default() -> Self {
+        CMergeFault {
+            recording: 0,
+            line: 0,
+            kind: 0,
+            given: 0,
+            next: 0,
+            lane: 0,
+            ssn: 0,
+            rsn: 0,
+            process: 0,
+            source: 0,
+            dest: 0,
+            missing: [0; 256],
+        }
+    }
+}
+
 /// `nixu_reader`, `nixu_trace` and `nixu_node`. It is freed by nobody: whoever has one closes it.
 #[repr(C)]
 #[derive(Debug)]
@@ -119,6 +190,41 @@ extern "C" {
     fn nixu_line(text: *const u8, length: usize, faults: u16, out: *mut u8, room: usize, needed: *mut usize) -> u32;
     fn nixu_explain(text: *const u8, length: usize, faults: u16, out: *mut u8, room: usize, needed: *mut usize) -> u32;
     fn nixu_draw(text: *const u8, length: usize, faults: u16, out: *mut u8, room: usize, needed: *mut usize) -> u32;
+    fn nixu_facts(
+        text: *const u8,
+        length: usize,
+        faults: u16,
+        told: *mut Summary,
+        facts: *mut Fact,
+        room: usize,
+        needed: *mut usize,
+    ) -> u32;
+    fn nixu_trace_facts(
+        trace: *mut Handle,
+        faults: u16,
+        told: *mut Summary,
+        facts: *mut Fact,
+        room: usize,
+        needed: *mut usize,
+    ) -> u32;
+    fn nixu_reader_facts(
+        reader: *mut Handle,
+        faults: u16,
+        told: *mut Summary,
+        facts: *mut Fact,
+        room: usize,
+        needed: *mut usize,
+    ) -> u32;
+    fn nixu_merge(
+        recordings: *const Recording,
+        count: usize,
+        entries: u32,
+        out: *mut u8,
+        room: usize,
+        needed: *mut usize,
+        fault: *mut CMergeFault,
+    ) -> u32;
+    fn nixu_merge_fault_text(fault: u32, out: *mut u8, room: usize, needed: *mut usize) -> u32;
     fn nixu_fault_text(fault: u32, out: *mut u8, room: usize, needed: *mut usize) -> u32;
     fn nixu_reader_open_within(reader: *mut Handle, entries: u32) -> u32;
     fn nixu_reader_feed(reader: *mut Handle, piece: *const u8, length: usize, told: *mut Summary) -> u32;
@@ -184,6 +290,50 @@ pub fn show(Shows(call): Shows, text: &[u8], faults: u16, out: &mut [u8]) -> Sho
     let mut needed = 0;
     // SAFETY: slices are as long as they say; the bytes and the number are lent to this call alone.
     let status = unsafe { call(text.as_ptr(), text.len(), faults, out.as_mut_ptr(), out.len(), &mut needed) };
+    Shown { status, needed }
+}
+
+pub fn facts(text: &[u8], faults: u16, told: &mut Summary, facts: &mut [Fact], needed: &mut usize) -> u32 {
+    let room = facts.len();
+    // SAFETY: slices are as long as they say; the structs and the number are lent to this call alone.
+    unsafe { nixu_facts(text.as_ptr(), text.len(), faults, told, facts.as_mut_ptr(), room, needed) }
+}
+
+pub fn trace_facts(
+    trace: &mut Handle,
+    faults: u16,
+    told: &mut Summary,
+    facts: &mut [Fact],
+    needed: &mut usize,
+) -> u32 {
+    // SAFETY: the handle is one of a trace; all are lent to this call alone, and the slice is as long as it says.
+    unsafe { nixu_trace_facts(trace, faults, told, facts.as_mut_ptr(), facts.len(), needed) }
+}
+
+pub fn reader_facts(
+    reader: &mut Handle,
+    faults: u16,
+    told: &mut Summary,
+    facts: &mut [Fact],
+    needed: &mut usize,
+) -> u32 {
+    // SAFETY: the handle is one of a reader; all are lent to this call alone, and the slice is as long as it says.
+    unsafe { nixu_reader_facts(reader, faults, told, facts.as_mut_ptr(), facts.len(), needed) }
+}
+
+pub fn merge(recordings: &[&[u8]], entries: u32, out: &mut [u8], fault: &mut CMergeFault) -> Shown {
+    let given: Vec<_> = recordings.iter().map(|text| Recording { text: text.as_ptr(), length: text.len() }).collect();
+    let mut needed = 0;
+    // SAFETY: slices are as long as they say, also those of the recordings; the bytes and the struct are lent to this call alone.
+    let status =
+        unsafe { nixu_merge(given.as_ptr(), given.len(), entries, out.as_mut_ptr(), out.len(), &mut needed, fault) };
+    Shown { status, needed }
+}
+
+pub fn merge_fault_text(fault: u32, out: &mut [u8]) -> Shown {
+    let mut needed = 0;
+    // SAFETY: the slice is as long as it says; its bytes and the number are lent to this call alone.
+    let status = unsafe { nixu_merge_fault_text(fault, out.as_mut_ptr(), out.len(), &mut needed) };
     Shown { status, needed }
 }
 

@@ -31,9 +31,11 @@
 //! library itself asks of memory may be refused, and is told as [`Error::NoMemory`]; the vectors and strings of this package are as
 //! those of any other.
 
+mod explanation;
 mod fault;
 mod foreign;
 mod foreign_node;
+mod merge;
 mod node;
 mod node_fault;
 mod reader;
@@ -41,7 +43,11 @@ mod stray;
 mod trace;
 mod verdict;
 
+pub use explanation::{
+    Arrival, Breach, Cause, CauseKind, Closest, Copies, Event, Explanation, Loss, LostBy, Reason, Straying,
+};
 pub use fault::{Error, Fault, FaultKind};
+pub use merge::{merge, merge_within, MergeFault, MergeFaultKind};
 pub use node::{crash_line, Identity, Message, MessageName, Node, NodeState, Received, Resent, Sent, Stage};
 pub use node_fault::NodeFault;
 pub use reader::Reader;
@@ -112,6 +118,23 @@ pub fn line(text: &[u8], faults: u16) -> Result<String, Error> {
 /// As for [`audit`].
 pub fn explain(text: &[u8], faults: u16) -> Result<String, Error> {
     shown(foreign::EXPLAIN, 16_384, text, faults)
+}
+
+/// The verdict on the trace that a text spells, and why it is so: what [`explain`] tells, as a value.
+///
+/// ```
+/// let text = b"[\"trace\",1,2]\n[\"send\",0,1,0]\n[\"crash\",0]\n[\"end\",2]\n";
+/// let told = nixu::explanation(text, 0)?;
+/// let cause = nixu::Cause { process: 0, entry: 1, by: nixu::CauseKind::Crash };
+/// let down = vec![nixu::Event { process: 0, entry: 1 }];
+/// assert_eq!(told.reason, nixu::Reason::Exceeded { cause, down });
+/// # Ok::<(), nixu::Error>(())
+/// ```
+///
+/// # Errors
+/// As for [`audit`].
+pub fn explanation(text: &[u8], faults: u16) -> Result<Explanation, Error> {
+    explanation::ask(|told, facts, needed| foreign::facts(text, faults, told, facts, needed))
 }
 
 /// The space-time diagram of the run with its verdict, in SVG, as `causal_tool draw` prints it.

@@ -1,4 +1,5 @@
 //! Texts that come in pieces.
+use crate::explanation::{self, Explanation};
 use crate::fault::{Error, Fault};
 use crate::foreign::{self, Handle, Summary};
 use crate::verdict::{self, Audit};
@@ -54,6 +55,16 @@ impl Reader {
             foreign::FAULT => Err(Fault::told(&told)),
             status => Err(Error::of_status(status)),
         }
+    }
+
+    /// The verdict on the entries that the complete lines so far have, and why it is so.
+    ///
+    /// # Errors
+    /// [`Error::NoHeader`] where the header line is not complete yet, [`Error::NoMemory`], and [`Error::Closed`] after an earlier
+    /// error.
+    pub fn explanation(&mut self, faults: u16) -> Result<Explanation, Error> {
+        let reader = &mut self.0;
+        explanation::ask(|told, facts, needed| foreign::reader_facts(reader, faults, told, facts, needed))
     }
 
     /// The verdict on the trace that the pieces spell, with up to `faults` processes down at once.

@@ -1,4 +1,5 @@
 //! Traces that are made of entries.
+use crate::explanation::{self, Explanation};
 use crate::fault::{Error, FaultKind};
 use crate::foreign::{self, Handle, Summary};
 use crate::stray::{self, Stray};
@@ -142,6 +143,15 @@ impl Trace {
         let mut told = foreign::CStray::default();
         let status = foreign::trace_replays(&mut self.0, &mut told);
         stray::told(status, &told)
+    }
+
+    /// The verdict on the entries so far, and why it is so.
+    ///
+    /// # Errors
+    /// [`Error::NoMemory`].
+    pub fn explanation(&mut self, faults: u16) -> Result<Explanation, Error> {
+        let trace = &mut self.0;
+        explanation::ask(|told, facts, needed| foreign::trace_facts(trace, faults, told, facts, needed))
     }
 
     /// The text of the trace so far, which [`crate::audit`] reads.

@@ -1,5 +1,8 @@
 //! Calls whose answers are worked out by hand: the tables of examples/README.md and of docs/FORMAT.md.
-use nixu::{Audit, Determinant, Entry, Error, Fault, FaultKind, Reader, Trace, Verdict};
+use nixu::{
+    Arrival, Audit, Breach, Cause, CauseKind, Closest, Copies, Determinant, Entry, Error, Event, Fault, FaultKind, Loss, LostBy, MergeFault,
+    MergeFaultKind, Reader, Reason, Stray, Straying, Trace, Verdict,
+};
 use std::thread;
 
 fn example(name: &str) -> Vec<u8> {
@@ -173,4 +176,134 @@ fn a_trace_has_1_to_256_processes() {
     assert_eq!(Trace::new(0).err(), Some(Error::Processes));
     assert_eq!(Trace::new(257).err(), Some(Error::Processes));
     assert_eq!(Trace::new(256).unwrap().text().unwrap(), "[\"trace\",2,256]\n[\"end\",0]\n");
+}
+
+fn event(process: u8, entry: u32) -> Event {
+    Event { process, entry }
+}
+
+/// That of forgotten.txt, for one failure.
+fn forgotten() -> Breach {
+    Breach {
+        determinant: Determinant { source: 0, ssn: 0, dest: 1, rsn: 0 },
+        cause: Cause { process: 1, entry: 6, by: CauseKind::Forgetting },
+        holders: vec![event(2, 3)],
+        losses: vec![Loss { process: 1, entry: 6, by: LostBy::Forgetting }],
+        down: vec![],
+        chain: vec![event(1, 1), event(1, 2), event(2, 3), event(2, 4), event(0, 5)],
+        unlisted: Some(Arrival { process: 0, entry: 5, send: 4 }),
+        underway: None,
+    }
+}
+
+#[test]
+fn an_orphan_is_explained() {
+    let told = nixu::explanation(&example("forgotten.jsonl"), 1).unwrap();
+    let verdict = Verdict::Orphan { instant: 7, delivery: 1, crash: vec![2], orphan: 0 };
+    assert_eq!(told.audit, Audit { entries: 7, deliveries: 3, verdict });
+    assert_eq!((told.reason, told.straying), (Reason::Orphan(forgotten()), None));
+}
+
+#[test]
+fn a_determinant_in_transit_is_explained() {
+    match nixu::explanation(&example("transit.jsonl"), 1).unwrap().reason {
+        Reason::Orphan(breach) => {
+            assert_eq!(breach.cause, Cause { process: 2, entry: 4, by: CauseKind::Delivery { send: 3 } });
+            assert_eq!(breach.underway, Some(Arrival { process: 3, entry: 5, send: 2 }));
+        }
+        other => panic!("{other:?}"),
+    }
+}
+
+#[test]
+fn an_excess_and_an_accepted_run_are_explained() {
+    let told = nixu::explanation(&example("crashes.jsonl"), 1).unwrap();
+    let cause = Cause { process: 2, entry: 7, by: CauseKind::Crash };
+    assert_eq!(told.reason, Reason::Exceeded { cause, down: vec![event(1, 6), event(2, 7)] });
+    let told = nixu::explanation(&example("ring.jsonl"), 0).unwrap();
+    let closest = Closest { faults: 2, delivery: 1, instant: 6, orphan: 0 };
+    assert_eq!(told.reason, Reason::Accepted(Some(closest)));
+}
+
+#[test]
+fn a_stray_is_explained() {
+    let told = nixu::explanation(&example("strayed.jsonl"), 1).unwrap();
+    let stray = Stray { instant: 8, process: 1, rsn: 0, first: 2, second: 7 };
+    let copies = |process, entry| Copies { logged: vec![event(process, entry)], stable: false };
+    assert_eq!(told.straying, Some(Straying { stray, first: copies(2, 4), second: copies(1, 7) }));
+    assert_eq!(told.reason, Reason::Accepted(None));
+}
+
+#[test]
+fn open_handles_explain_what_they_have() {
+    let wanted = nixu::explanation(&example("orphan.jsonl"), 1);
+    assert_eq!(orphaned().explanation(1), wanted);
+    let (text, mut reader) = (example("orphan.jsonl"), Reader::new().unwrap());
+    assert_eq!(reader.explanation(1), Err(Error::NoHeader));
+    reader.feed(&text[..text.len() - 1]).unwrap();
+    assert_eq!(reader.explanation(1), wanted);
+    reader.feed(b"\n").unwrap();
+    assert_eq!(reader.explanation(1), wanted);
+    assert_eq!(reader.finish(1), wanted.map(|told| told.audit));
+}
+
+#[test]
+fn a_text_with_a_fault_is_not_explained() {
+    let fault = Error::Fault(Fault { line: 2, kind: FaultKind::WrongSsn });
+    assert_eq!(nixu::explanation(&example("skipped.jsonl"), 0), Err(fault));
+}
+
+/// More processes are down than a call first has room for.
+#[test]
+fn a_long_explanation_is_whole() {
+    let mut trace = Trace::new(256).unwrap();
+    for who in 0..100 {
+        trace.push(&Entry::Crash { who }).unwrap();
+    }
+    let cause = Cause { process: 99, entry: 99, by: CauseKind::Crash };
+    let down = (0..100).map(|who| event(who, u32::from(who))).collect();
+    assert_eq!(trace.explanation(99).unwrap().reason, Reason::Exceeded { cause, down });
+}
+
+const FIRST: &[u8] = b"[\"recording\",0,1,2,4711]\n[\"send\",0,1764118000000001,1,0]\n";
+const SECOND: &[u8] = b"[\"recording\",1,1,2,4711]\n[\"deliver\",1,1764118000000002,0,0,0,0,[[0,0,1,0]]]\n";
+
+#[test]
+fn recordings_are_merged() {
+    let wanted = b"[\"trace\",1,2]\n[\"send\",0,1,0]\n[\"deliver\",1,0,0,[[0,0,1,0]]]\n[\"end\",2]\n";
+    assert_eq!(nixu::merge(&[FIRST, SECOND]).unwrap(), wanted);
+    assert_eq!(nixu::merge(&[SECOND, b"", FIRST]).unwrap(), wanted);
+    assert_eq!(nixu::merge_within(&[FIRST, SECOND], 2).unwrap(), wanted);
+    assert_eq!(nixu::merge_within(&[FIRST, SECOND], 0), Err(Error::Entries));
+    assert_eq!(nixu::merge_within(&[FIRST, SECOND], nixu::MOST_ENTRIES + 1), Err(Error::Entries));
+}
+
+#[test]
+fn the_first_fault_of_recordings_is_told() {
+    let told = |recordings: &[&[u8]]| match nixu::merge(recordings) {
+        Err(Error::Merge(fault)) => fault,
+        other => panic!("{other:?}"),
+    };
+    let missing = MergeFaultKind::NoHeader { missing: vec![1] };
+    assert_eq!(told(&[FIRST]), MergeFault { recording: 0, line: 3, kind: missing });
+    assert_eq!(told(&[]), MergeFault { recording: 0, line: 1, kind: MergeFaultKind::NoHeader { missing: vec![] } });
+    assert_eq!(told(&[FIRST, SECOND, FIRST]), MergeFault { recording: 2, line: 2, kind: MergeFaultKind::Twice });
+    let header = &SECOND[..25];
+    let delivered = |event: &str| [header, event.as_bytes()].concat();
+    let wrong = delivered("[\"deliver\",1,1764118000000002,0,0,0,7,[]]\n");
+    let kind = MergeFaultKind::WrongRsn { process: 1, given: 7, next: 0 };
+    let fault = told(&[FIRST, &wrong]);
+    assert_eq!(fault, MergeFault { recording: 1, line: 2, kind });
+    assert_eq!(fault.to_string(), "line 2 of recording 1: the receive sequence number is not the next one");
+    let unsent = delivered("[\"deliver\",1,1764118000000002,0,0,3,0,[]]\n");
+    let kind = MergeFaultKind::NoSend { process: 1, source: 0, lane: 0, ssn: 3 };
+    assert_eq!(told(&[FIRST, &unsent]), MergeFault { recording: 1, line: 2, kind });
+    let unknown = delivered("[\"deliver\",1,1764118000000002,0,0,0,0,[[0,9,1,0]]]\n");
+    let kind = MergeFaultKind::NoDelivery(Determinant { source: 0, ssn: 9, dest: 1, rsn: 0 });
+    assert_eq!(told(&[FIRST, &unknown]), MergeFault { recording: 1, line: 2, kind });
+    let twice = delivered("[\"deliver\",1,1764118000000002,0,0,0,0,[]]\n[\"deliver\",1,1764118000000003,0,0,0,1,[]]\n");
+    let kind = MergeFaultKind::Doubled { process: 1, source: 0, ssn: 0 };
+    assert_eq!(told(&[FIRST, &twice]), MergeFault { recording: 1, line: 3, kind });
+    let broken = told(&[FIRST, b"no line\n"]);
+    assert_eq!(broken, MergeFault { recording: 1, line: 1, kind: MergeFaultKind::Line(FaultKind::Syntax) });
 }

@@ -1,5 +1,5 @@
 -- The position of a reader of lines, and the position after one more line.
-use Rattle.std.specs.Prelude.{◌≡◌, ℕ, ◌+◌, ◌<◌, ◌≤◌, List, length, Result, Ok, Err}
+use Rattle.std.specs.Prelude.{◌≡◌, ℕ, ◌+◌, ◌<◌, ◌≤◌, List, length, Option, Some, None, Result, Ok, Err}
 use Rattle.causal_trace.specs.Rows.{Recording}
 use Rattle.causal_line.specs.declared.kind.TextKind.{TextKind}
 use Rattle.causal_line.specs.declared.kind.TextKind.TheVariants as kind
@@ -24,6 +24,12 @@ abbrev pub entries_in : Stage → ℕ
 entries_in Opening = 0
 entries_in (Within version r) = length r.past
 entries_in (Ended version r) = length r.past
+
+-- the recording of the lines up to a stage; None before the header
+abbrev pub recording_at : Stage → Option Recording
+recording_at Opening = None
+recording_at (Within version r) = Some r
+recording_at (Ended version r) = Some r
 
 -- the number of lines read at a stage
 abbrev pub lines_in : Stage → ℕ

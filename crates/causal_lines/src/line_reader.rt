@@ -1,7 +1,7 @@
 //! The reader of lines.
-ghost use Rattle.std.specs.Prelude.{◌≡◌, ◌≢◌, ◌+◌, ◌<◌, ◌≤◌, length, None, IfSome, IfNone, IfErr};
+ghost use Rattle.std.specs.Prelude.{◌≡◌, ◌≢◌, ◌+◌, ◌<◌, ◌≤◌, length, None, Some, IfSome, IfNone, IfErr};
 ghost use Rattle.causal_trace.specs.Rows.{Recording};
-ghost use Rattle.causal_lines.specs.ReadPositions.{start_position, position_after, finish_at, IsFaultFrom, HasRoomFor};
+ghost use Rattle.causal_lines.specs.ReadPositions.{start_position, position_after, finish_at, recording_at, IsFaultFrom, HasRoomFor};
 ghost use Rattle.causal_line.specs.Refusals.{ReturnsTextRefusal, IsWithinText, IsContextAt};
 ghost use Rattle.causal_line.specs.Returns.{Returns};
 ghost use Rattle.causal_line.specs.Values.{parse_line};
@@ -168,6 +168,19 @@ impl LineReader {
         match &self.stage {
             Stage::Within { trace, .. } => Some(trace.trace()),
             _ => None,
+        }
+    }
+
+    /// Returns the trace so far, also after the end line; None before the header.
+    pub fn trace_so_far(&self) -> Option<&Trace>
+        ensures some { IfSome result
+            (λ trace. recording_at self.now.stage ≡ Some trace.now.recording) }
+        ensures none { IfNone result (recording_at self.now.stage ≡ None) }
+    {
+        match &self.stage {
+            Stage::Opening => None,
+            Stage::Within { trace, .. } => Some(trace.trace()),
+            Stage::Ended { trace, .. } => Some(trace.trace()),
         }
     }
 

@@ -34,6 +34,14 @@ abbrev pub stable_part : ℕ → Bool → List ℕ
 stable_part k true = stable_line k
 stable_part k false = []
 
+-- who has the determinant of the delivery at position k at instant t: these processes, ascending, in their logs; and
+-- whether stable storage has it
+pub record AreCopies (r : Recording) (t k : ℕ) (holdings : List Holding) (stable : Bool) : Type 0 where
+  pub det : Det
+  pub delivered : det_at r.past k ≡ Some det
+  pub logged : AreHoldings r.processes (instant r.past t) det holdings
+  pub stored : stable ≡ is_stable (instant r.past t) det
+
 -- the lines of who has the determinant of the delivery at position k at instant t: the processes with it in their logs,
 -- ascending, then stable storage
 pub record AreCopyLines (r : Recording) (t k : ℕ) (out : List ℕ) : Type 0 where

@@ -40,4 +40,4 @@ pub use explanation::explanation_text;
 pub use json::{ranges_object, verdict_object};
 pub use reason::{line_with_reason, reason_text};
 pub use stray::stray_fields;
-pub use survivors::survivor_lines;
+pub use survivors::{Copies, copies_of, survivor_lines};

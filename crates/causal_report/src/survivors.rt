@@ -34,6 +34,38 @@ pub fn survivor_lines(alloc: Global, trace: &Trace, stray: Stray) -> Result<Vec<
     Ok(text)
 }
 
+/// Who has the determinant of a delivery at an instant.
+#[derive(Drop)]
+pub struct Copies {
+    /// The processes with it in their logs, ascending.
+    pub holders: Vec<Holding>,
+    /// Whether stable storage has it.
+    pub is_stable: bool,
+}
+
+/// Returns who has the determinant of the delivery at a position, at the instant after `end` entries.
+///
+/// O(entries + listed determinants) time.
+///
+/// # Errors
+/// `NoMemory` if allocation failed.
+pub fn copies_of(alloc: Global, trace: &Trace, end: u32, delivery: u32) -> Result<Copies, NoMemory>
+    requires within { end ≤ length trace.now.recording.past }
+    requires delivered { (d : Determinant) ×
+        (det_at (instant trace.now.recording.past end) delivery ≡ Some d) }
+    ensures { IfOk result
+        (λ copies. survivors.AreCopies trace.now.recording end delivery copies.holders.items copies.is_stable) }
+{
+    let Some(det) = trace.det_at(delivery) else {
+        unreachable!();
+    };
+    let history = holder_history(alloc, trace, end, det)?;
+    Ok(Copies {
+        holders: history.holders,
+        is_stable: is_stable_at(trace, end, det),
+    })
+}
+
 /// Returns the lines of who has the determinant of the delivery at a position, at the instant after `end` entries.
 fn copy_lines(alloc: Global, trace: &Trace, end: u32, delivery: u32) -> Result<Vec<u8>, NoMemory>
     requires within { end ≤ length trace.now.recording.past }
@@ -42,13 +74,10 @@ fn copy_lines(alloc: Global, trace: &Trace, end: u32, delivery: u32) -> Result<V
     ensures { IfOk result (λ text.
         survivors.AreCopyLines trace.now.recording end delivery text.items) }
 {
-    let Some(det) = trace.det_at(delivery) else {
-        unreachable!();
-    };
-    let history = holder_history(alloc, trace, end, det)?;
+    let copies = copies_of(alloc, trace, end, delivery)?;
     let mut text = String::new(alloc);
-    push_logged(&mut text, delivery, history.holders.as_slice())?;
-    push_stable(&mut text, delivery, is_stable_at(trace, end, det))?;
+    push_logged(&mut text, delivery, copies.holders.as_slice())?;
+    push_stable(&mut text, delivery, copies.is_stable)?;
     Ok(text.into_bytes())
 }
 

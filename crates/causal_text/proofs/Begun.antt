@@ -5,10 +5,10 @@ use Rattle.causal_trace.specs.Rows.{Recording}
 use Rattle.causal_line.specs.declared.kind.TextFault.{TextFault}
 use Rattle.causal_line.specs.declared.stage.Stage.{Stage}
 use Rattle.causal_line.specs.declared.stage.Stage.TheVariants.{Within}
-use Rattle.causal_text.specs.Prefixes.{SpellsSoFar, HasPrefixSpelling}
+use Rattle.causal_text.specs.Prefixes.{SpellsLines, SpellsSoFar, HasPrefixSpelling}
 use Rattle.causal_text.specs.PushReaders.{HasReceived}
 use Rattle.causal_line.specs.Lines.{lines, no_feed, IsComplete}
-use Rattle.causal_lines.specs.ReadPositions.{ReadPosition, start_position, position_after}
+use Rattle.causal_lines.specs.ReadPositions.{ReadPosition, start_position, position_after, recording_at}
 use Rattle.causal_text.specs.Pieces.{AreComplete, concat_lines, PieceState, RepresentsBytes}
 use Rattle.causal_text.specs.Spelling.{LeadsTo}
 use Rattle.causal_line.specs.Refusals.{IsWithinText}
@@ -74,26 +74,31 @@ none_there (y ∷ ys) z zs none complete is =
     let one : y ∷ ys ≡ z = cc in
     not_complete z (subst (λ xs. no_feed xs ≡ true) one none) complete
 
--- the complete lines of the bytes spell the recording to which they led
-pub says_stage : (most : ℕ) (h : PieceState) (b : List ℕ) (r : Recording) (s : RepresentsBytes most h b) (c : SpellsSoFar most b r) → h.place.stage ≡ Within c.version r
-says_stage most h b r s c = told (nested c.complete s.complete (lines c.rest) (lines h.rest) (sym (split c.complete c.rest c.each c.whole) ∙ split s.complete h.rest s.each s.whole)) where
+-- the complete lines of the bytes lead to the reader's stage alone
+pub reached : (most : ℕ) (h : PieceState) (b : List ℕ) (s : RepresentsBytes most h b) (complete : List (List ℕ)) (left : List ℕ) (stage : Stage)
+    → b ≡ concat_lines complete ++ left → AreComplete complete → no_feed left ≡ true → LeadsTo most complete stage → h.place.stage ≡ stage
+reached most h b s complete left stage whole each unfinished reaches = told (nested complete s.complete (lines left) (lines h.rest) (sym (split complete left each whole) ∙ split s.complete h.rest s.each s.whole)) where
   split : (ls : List (List ℕ)) (rest : List ℕ) → AreComplete ls → b ≡ concat_lines ls ++ rest → lines b ≡ ls ++ lines rest
   split ls rest each whole = ap lines whole ∙ lines_joined ls rest each
 
-  led : c.complete ≡ s.complete → h.place.stage ≡ Within c.version r
+  led : complete ≡ s.complete → h.place.stage ≡ stage
   led same =
-      let there = Leads-reached most c.complete (Within c.version r) c.reaches in
+      let there = Leads-reached most complete stage reaches in
       let one : Ok h.place ≡ Ok there.0 = sym (after_lines-place most s.complete h.place s.place_is) ∙ ap (after_lines most start_position) (sym same) ∙ there.1 in
       let place : h.place ≡ there.0 = cc in
       ap (λ (p : ReadPosition). p.stage) place ∙ there.2
 
-  all : (zs : List (List ℕ)) → s.complete ≡ c.complete ++ zs → lines c.rest ≡ zs ++ lines h.rest → c.complete ≡ s.complete
-  all [] is rest = sym (is ∙ append-nil c.complete)
-  all (z ∷ zs) is rest = absurd (none_there c.rest z (zs ++ lines h.rest) c.unfinished (complete_in c.complete z zs (subst AreComplete is s.each)) rest)
+  all : (zs : List (List ℕ)) → s.complete ≡ complete ++ zs → lines left ≡ zs ++ lines h.rest → complete ≡ s.complete
+  all [] is rest = sym (is ∙ append-nil complete)
+  all (z ∷ zs) is rest = absurd (none_there left z (zs ++ lines h.rest) unfinished (complete_in complete z zs (subst AreComplete is s.each)) rest)
 
-  told : Nested c.complete s.complete (lines c.rest) (lines h.rest) → h.place.stage ≡ Within c.version r
+  told : Nested complete s.complete (lines left) (lines h.rest) → h.place.stage ≡ stage
   told (inl p) = led (all p.0 p.1 p.2)
-  told (inr p) = absurd (none_there h.rest p.0 (p.1 ++ lines c.rest) s.unfinished (complete_in s.complete p.0 p.1 (subst AreComplete p.2 c.each)) p.3)
+  told (inr p) = absurd (none_there h.rest p.0 (p.1 ++ lines left) s.unfinished (complete_in s.complete p.0 p.1 (subst AreComplete p.2 each)) p.3)
+
+-- the complete lines of the bytes spell the recording to which they led
+pub says_stage : (most : ℕ) (h : PieceState) (b : List ℕ) (r : Recording) (s : RepresentsBytes most h b) (c : SpellsSoFar most b r) → h.place.stage ≡ Within c.version r
+says_stage most h b r s c = reached most h b s c.complete c.rest (Within c.version r) c.whole c.each c.unfinished c.reaches
 
 -- a part without a line feed ends no line
 pub still_begins : (most : ℕ) (h : PieceState) (b part : List ℕ) (r : Recording) → RepresentsBytes most h b → no_feed part ≡ true → HasPrefixSpelling most (b ++ part) r → HasPrefixSpelling most b r
@@ -198,3 +203,28 @@ pub trace_none : {T : Type 0} (o : Option T) (n : ℕ) (h : PieceState) → IfNo
     → IfNone o ((most : ℕ) (b : List ℕ) (r : Recording) → HasReceived most (record { most = n; pieces = h }) b → SpellsSoFar most b r → ⊥)
 trace_none None n h none = λ most b r fed says. none r (says.version, says_stage most h b r fed.1.0 says)
 trace_none (Some t) n h none = tt
+
+-- the trace, with or without an end line, is that of the complete lines
+pub so_far_says : {T : Type 0} (o : Option T) (run : T → Recording) (n : ℕ) (h : PieceState) → IfSome o (λ t. recording_at h.place.stage ≡ Some (run t))
+    → IfSome o (λ t. (most : ℕ) (b : List ℕ) → HasReceived most (record { most = n; pieces = h }) b → SpellsLines most b (run t))
+so_far_says None run n h is = tt
+so_far_says (Some t) run n h is = λ most b fed.
+    record {
+      complete = fed.1.0.complete;
+      rest = h.rest;
+      stage = h.place.stage;
+      whole = fed.1.0.whole;
+      each = fed.1.0.each;
+      unfinished = fed.1.0.unfinished;
+      reaches = fed.1.0.place_is.reaches;
+      recorded = is;
+    }
+
+-- before the header the complete lines spell none
+pub so_far_none : {T : Type 0} (o : Option T) (n : ℕ) (h : PieceState) → IfNone o (recording_at h.place.stage ≡ None)
+    → IfNone o ((most : ℕ) (b : List ℕ) (r : Recording) → HasReceived most (record { most = n; pieces = h }) b → SpellsLines most b r → ⊥)
+so_far_none None n h none = λ most b r fed says.
+    let stage : h.place.stage ≡ says.stage = reached most h b fed.1.0 says.complete says.rest says.stage says.whole says.each says.unfinished says.reaches in
+    let bad : None ≡ Some r = sym none ∙ ap recording_at stage ∙ says.recorded in
+    cc
+so_far_none (Some t) n h none = tt

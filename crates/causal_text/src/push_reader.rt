@@ -4,7 +4,7 @@ ghost use Rattle.std.specs.Prelude.{◌≡◌, ◌++◌, ◌⊎◌, List, [], �
 ghost use Rattle.causal_trace.specs.Limits.{default_entries};
 ghost use Rattle.causal_trace.specs.Rows.{Recording};
 ghost use Rattle.causal_text.specs.FaultContexts.{IsTrueRefusalWithin, IsTrueRefusalAlways};
-ghost use Rattle.causal_text.specs.Prefixes.{HasPrefixSpelling, SpellsSoFar, IsRefusedAt};
+ghost use Rattle.causal_text.specs.Prefixes.{HasPrefixSpelling, SpellsLines, SpellsSoFar, IsRefusedAt};
 ghost use Rattle.causal_text.specs.PushReaders.{HasReceived};
 ghost use Rattle.causal_text.specs.Inside.Chunks.{IsParsed};
 ghost use Rattle.causal_line.specs.Lines.{IsComplete, no_feed};
@@ -206,6 +206,16 @@ impl PushReader {
             → HasReceived most self.now b → SpellsSoFar most b r → ⊥) }
     {
         self.pieces.trace()
+    }
+
+    /// Returns the trace of the complete lines, also after the end line; None before the header.
+    pub fn trace_so_far(&self) -> Option<&Trace>
+        ensures spells { IfSome result (λ trace. (most : ℕ) (b : List ℕ) → HasReceived most self.now b
+            → SpellsLines most b trace.now.recording) }
+        ensures none { IfNone result ((most : ℕ) (b : List ℕ) (r : Recording)
+            → HasReceived most self.now b → SpellsLines most b r → ⊥) }
+    {
+        self.pieces.trace_so_far()
     }
 
     /// Returns the trace, if the bytes so far are the whole text.

@@ -1,5 +1,5 @@
 //! Reading a text, whole or in pieces, up to its end or its first error.
-ghost use Rattle.std.specs.Prelude.{◌≡◌, ◌≢◌, ◌++◌, ◌+◌, ◌<◌, ◌≤◌, List, [], ℕ, length, None, IfOk, IfErr, IfSome, IfNone};
+ghost use Rattle.std.specs.Prelude.{◌≡◌, ◌≢◌, ◌++◌, ◌+◌, ◌<◌, ◌≤◌, List, [], ℕ, length, None, Some, IfOk, IfErr, IfSome, IfNone};
 ghost use Rattle.causal_trace.specs.Limits.{default_entries};
 ghost use Rattle.causal_trace.specs.Rows.{Recording};
 ghost use Rattle.causal_text.specs.FaultContexts.{HasTrueContextWithin};
@@ -10,6 +10,7 @@ ghost use Rattle.causal_text.specs.Inside.LineByLine.{read_text};
 ghost use Rattle.causal_text.specs.Pieces.{RepresentsBytes};
 ghost use Rattle.causal_text.specs.Streams.{HasNothingAfterEnd};
 ghost use Rattle.causal_text.specs.Inside.PartialLines.{IsFaultOfAll, with_line, IsLimitFault, finish_reading, FitsLimit};
+ghost use Rattle.causal_lines.specs.ReadPositions.{recording_at};
 ghost use Rattle.causal_text.specs.Spelling.{Spells, SpellsWithin, IsFirstFault, IsFirstFaultWithin, IsReadUpTo, IsReadAt};
 
 use crate::parsed_chunk::ChunkLine;
@@ -65,6 +66,15 @@ impl PieceReader {
         ensures none { IfNone result ((r : Recording) → IsWithinText self.now.place.stage r → ⊥) }
     {
         self.lines.trace()
+    }
+
+    /// Returns the trace of the complete lines, also after the end line; None before the header.
+    pub(crate) fn trace_so_far(&self) -> Option<&Trace>
+        ensures some { IfSome result
+            (λ trace. recording_at self.now.place.stage ≡ Some trace.now.recording) }
+        ensures none { IfNone result (recording_at self.now.place.stage ≡ None) }
+    {
+        self.lines.trace_so_far()
     }
 
     /// Reads the rest of a line, with its line feed.

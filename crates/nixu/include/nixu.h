@@ -219,6 +219,112 @@ uint32_t nixu_replays(const uint8_t *text, size_t length, nixu_stray *stray);
    NIXU_OK: `stray` is written. NIXU_NO_MEMORY. NIXU_CLOSED. */
 uint32_t nixu_trace_replays(nixu_trace *trace, nixu_stray *stray);
 
+/* ---- what explains a verdict ---- */
+
+/* The kinds of facts, with the fields that each uses: of an excess CAUSE and DOWN, of an accepted trace CLOSEST or
+   NEVER, of an orphan all from DELIVERY to ORPHAN, and DOWN; then those from STRAYED on, if a recovery has strayed.
+   The determinant is that of the delivery that has the orphan. */
+#define NIXU_FACT_DOWN       1 /* process: it is down since its crash, entry */
+#define NIXU_FACT_DELIVERY   2 /* delivery: it has the orphan; source, ssn, process (receiver), rsn: its determinant */
+#define NIXU_FACT_CAUSE      3 /* entry: by it the instant fails; process, by; send, if it is a delivery */
+#define NIXU_FACT_UNSTABLE   4 /* instant: the determinant is not in stable storage then */
+#define NIXU_FACT_HOLDER     5 /* process: its log has the determinant since entry */
+#define NIXU_FACT_NO_HOLDER  6 /* no log has the determinant */
+#define NIXU_FACT_LOSS       7 /* process: its log had the determinant, and lost it last by entry; by */
+#define NIXU_FACT_CRASH      8 /* process: it is in the crash set */
+#define NIXU_FACT_CHAIN      9 /* entry: an event of process on a shortest way from the delivery to the orphan */
+#define NIXU_FACT_UNLISTED  10 /* entry: the chain's first delivery whose receiver, process, then lacks it; send */
+#define NIXU_FACT_LISTED    11 /* after each delivery of the chain its receiver has the determinant */
+#define NIXU_FACT_UNDERWAY  12 /* entry: a later delivery brings it to process, of a message in transit then; send */
+#define NIXU_FACT_ORPHAN    13 /* process: the orphan */
+#define NIXU_FACT_CLOSEST   14 /* faults: the least number for which delivery has an orphan, process, at instant */
+#define NIXU_FACT_NEVER     15 /* no delivery has an orphan, for any number of failures */
+#define NIXU_FACT_STRAYED   16 /* as in nixu_stray: instant, process, rsn, delivery (the first), second */
+#define NIXU_FACT_LOGGED    17 /* process: its log has the determinant of delivery since entry */
+#define NIXU_FACT_STABLE    18 /* stable storage has the determinant of delivery */
+
+/* A fact that explains a verdict. Entries are given by their positions, from 0: position k is on line k + 2 of the
+   text. A field that its kind does not use is 0. */
+typedef struct nixu_fact {
+  uint32_t kind;     /* one of those above */
+  uint32_t entry;    /* the entry of the fact */
+  uint32_t delivery; /* the delivery that the fact is about */
+  uint32_t send;     /* the send entry whose message is delivered */
+  uint32_t second;   /* strayed: the first delivery with another survivor of the slot */
+  uint32_t instant;  /* a number of entries */
+  uint32_t ssn;      /* the message's send sequence number */
+  uint32_t rsn;      /* the receive sequence number */
+  uint32_t faults;   /* closest: a number of failures */
+  uint32_t by;       /* cause, loss: the kind of the entry, NIXU_DELIVER, NIXU_CRASH, NIXU_RESTART or NIXU_FORGET */
+  uint8_t process;   /* the process of the fact */
+  uint8_t source;    /* delivery: the message's sender */
+} nixu_fact;
+
+/* Writes the verdict on the trace that a text spells, for at most `faults` processes down at once, and the facts that
+   explain it: one for each line that nixu_explain prints below the first, in their order (docs/FORMAT.md). It writes as
+   many as fit to `facts`, which has room for `room`, and their total number to `needed`. Or it writes the text's first
+   error to `told`.
+
+   NIXU_OK: `told`, the facts and `needed` are written. NIXU_FAULT: `told` is written. NIXU_NO_MEMORY. */
+uint32_t nixu_facts(const uint8_t *text, size_t length, uint16_t faults, nixu_verdict *told, nixu_fact *facts,
+                    size_t room, size_t *needed);
+
+/* Writes the same of the entries so far. The trace stays open.
+
+   NIXU_OK: all are written. NIXU_NO_MEMORY. NIXU_CLOSED. */
+uint32_t nixu_trace_facts(nixu_trace *trace, uint16_t faults, nixu_verdict *told, nixu_fact *facts, size_t room,
+                          size_t *needed);
+
+/* Writes the same of the entries that the complete lines read so far have, the end line among them or not. The reader
+   stays open.
+
+   NIXU_OK: all are written. NIXU_MISUSED: the header line is not complete yet. NIXU_NO_MEMORY. NIXU_CLOSED. */
+uint32_t nixu_reader_facts(nixu_reader *reader, uint16_t faults, nixu_verdict *told, nixu_fact *facts, size_t room,
+                           size_t *needed);
+
+/* ---- the recordings of a run's processes ---- */
+
+typedef struct nixu_recording {
+  const uint8_t *text; /* its bytes (docs/MERGING.md) */
+  size_t length;
+} nixu_recording;
+
+/* Two more errors that recordings may have. The others have the numbers of the errors of a text, below. */
+#define NIXU_NO_HEADER 21 /* some process has no header */
+#define NIXU_TWICE     22 /* another line of this process has the same clock */
+
+/* The first error of recordings, with the values that explain it. A field that its kind does not use is 0. */
+typedef struct nixu_merge_fault {
+  size_t recording;     /* the recording in which its line begins, from 0; of NIXU_NO_HEADER the last */
+  uint32_t line;        /* the number of that line in the recording, from 1; of NIXU_NO_HEADER the one after the last */
+  uint32_t kind;        /* the number of the error */
+  uint32_t given;       /* wrong ssn, wrong rsn: the number that the line has */
+  uint32_t next;        /* wrong ssn, wrong rsn: the one that is the next */
+  uint32_t lane;        /* no send: the lane (incarnation) of the message's sender */
+  uint32_t ssn;         /* no send, doubled: the message's number; no delivery: the determinant's */
+  uint32_t rsn;         /* no delivery: the determinant's */
+  uint8_t process;      /* wrong ssn, no send, wrong rsn, doubled: the process of the line */
+  uint8_t source;       /* no send, doubled: the message's sender; no delivery: the determinant's */
+  uint8_t dest;         /* no delivery: the determinant's */
+  uint8_t missing[256]; /* no header: 1 for each process that has none, if the run is known; otherwise 0 */
+} nixu_merge_fault;
+
+/* Merges the recordings of all processes of a run into its trace, as `causal_tool merge` does: with at most `entries`
+   entries, 1 to NIXU_MOST_ENTRIES. It writes the text of the trace, which the calls above can read. The recordings are
+   read as one text, one after the other; a line that lacks its line feed goes on in the next recording. Torn lines are
+   passed over. The recordings have at most 1,024 bytes for each entry together, and at most 2,147,483,648; they are
+   copied.
+
+   NIXU_OK: the bytes are written. NIXU_FAULT: `fault` is written. NIXU_MISUSED: `entries` is out of range.
+   NIXU_NO_MEMORY. */
+uint32_t nixu_merge(const nixu_recording *recordings, size_t count, uint32_t entries, uint8_t *out, size_t room,
+                    size_t *needed, nixu_merge_fault *fault);
+
+/* Writes the sentence for the number of an error of recordings, as nixu_fault_text does.
+
+   NIXU_OK: the bytes are written. NIXU_MISUSED: no such error has the number. */
+uint32_t nixu_merge_fault_text(uint32_t fault, uint8_t *out, size_t room, size_t *needed);
+
 /* ---- the bytes that the program prints ---- */
 
 /* Writes the line of the verdict, as `causal_tool audit` prints it, with its line feed; or the line of the text's first
@@ -579,6 +685,33 @@ NIXU_CHECKED(stray_second, offsetof(nixu_stray, second) == 16);
 NIXU_CHECKED(stray_line, offsetof(nixu_stray, line) == 20);
 NIXU_CHECKED(stray_fault, offsetof(nixu_stray, fault) == 24);
 NIXU_CHECKED(stray_process, offsetof(nixu_stray, process) == 28);
+
+NIXU_CHECKED(fact, sizeof(nixu_fact) == 44 && offsetof(nixu_fact, kind) == 0);
+NIXU_CHECKED(fact_entry, offsetof(nixu_fact, entry) == 4);
+NIXU_CHECKED(fact_delivery, offsetof(nixu_fact, delivery) == 8);
+NIXU_CHECKED(fact_send, offsetof(nixu_fact, send) == 12);
+NIXU_CHECKED(fact_second, offsetof(nixu_fact, second) == 16);
+NIXU_CHECKED(fact_instant, offsetof(nixu_fact, instant) == 20);
+NIXU_CHECKED(fact_ssn, offsetof(nixu_fact, ssn) == 24);
+NIXU_CHECKED(fact_rsn, offsetof(nixu_fact, rsn) == 28);
+NIXU_CHECKED(fact_faults, offsetof(nixu_fact, faults) == 32);
+NIXU_CHECKED(fact_by, offsetof(nixu_fact, by) == 36);
+NIXU_CHECKED(fact_process, offsetof(nixu_fact, process) == 40);
+NIXU_CHECKED(fact_source, offsetof(nixu_fact, source) == 41);
+NIXU_CHECKED(recording, sizeof(nixu_recording) == 16 && offsetof(nixu_recording, text) == 0);
+NIXU_CHECKED(recording_length, offsetof(nixu_recording, length) == 8);
+NIXU_CHECKED(merge_fault, sizeof(nixu_merge_fault) == 296 && offsetof(nixu_merge_fault, recording) == 0);
+NIXU_CHECKED(merge_fault_line, offsetof(nixu_merge_fault, line) == 8);
+NIXU_CHECKED(merge_fault_kind, offsetof(nixu_merge_fault, kind) == 12);
+NIXU_CHECKED(merge_fault_given, offsetof(nixu_merge_fault, given) == 16);
+NIXU_CHECKED(merge_fault_next, offsetof(nixu_merge_fault, next) == 20);
+NIXU_CHECKED(merge_fault_lane, offsetof(nixu_merge_fault, lane) == 24);
+NIXU_CHECKED(merge_fault_ssn, offsetof(nixu_merge_fault, ssn) == 28);
+NIXU_CHECKED(merge_fault_rsn, offsetof(nixu_merge_fault, rsn) == 32);
+NIXU_CHECKED(merge_fault_process, offsetof(nixu_merge_fault, process) == 36);
+NIXU_CHECKED(merge_fault_source, offsetof(nixu_merge_fault, source) == 37);
+NIXU_CHECKED(merge_fault_dest, offsetof(nixu_merge_fault, dest) == 38);
+NIXU_CHECKED(merge_fault_missing, offsetof(nixu_merge_fault, missing) == 39);
 
 NIXU_CHECKED(node, sizeof(nixu_node) == 16 && offsetof(nixu_node, held) == 0 && offsetof(nixu_node, full) == 8);
 NIXU_CHECKED(identity, sizeof(nixu_node_identity) == 40 && offsetof(nixu_node_identity, run) == 0);

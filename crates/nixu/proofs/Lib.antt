@@ -1,2 +1,4 @@
 mod AsBox
 mod Each
+mod CrashSets
+mod PlaceLemmas

@@ -8,3 +8,8 @@ pub mod Numbers
 pub mod CVerdicts
 pub mod CStrays
 pub mod Views
+pub mod CFacts
+pub mod Facts
+pub mod Places
+pub mod CMergeFaults
+pub mod Merging

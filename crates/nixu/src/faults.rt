@@ -28,7 +28,7 @@ pub extern "C" fn nixu_fault_text(fault: u32, out: &mut [u8], needed: &mut usize
 }
 
 /// The kind of error with this number; None if there is none.
-fn kind_of(number: u32) -> Option<TextKind>
+pub(crate) fn kind_of(number: u32) -> Option<TextKind>
     ensures some { IfSome result (λ kind. (kind_number kind ≡ number) × (0 < number)) }
     ensures none { result ≡ None → IsNoFault number }
 {

@@ -35,5 +35,19 @@ pub mod c_verdict;
 pub mod c_stray;
 /// Whether the recoveries of a run follow what survives.
 pub mod replays;
+/// Facts that explain a verdict, in C's layout.
+pub mod c_fact;
+/// The facts that explain a verdict.
+mod fact_lists;
+/// Verdicts with the facts that explain them.
+pub mod explanations;
+/// Recordings in C's layout.
+pub mod c_recording;
+/// The first error of recordings, in C's layout.
+pub mod c_merge_fault;
+/// The recording in which a line begins.
+pub mod places;
+/// Merging of recordings.
+pub mod merging;
 /// The bytes that the program prints.
 pub mod views;

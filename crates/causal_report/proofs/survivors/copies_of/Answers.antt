@@ -1,6 +1,6 @@
 use Rattle.std.proofs.Common.{◌∙◌}
 use Rattle.causal_report.proofs.StoredLemmas.{delivered_in}
-use Rattle.causal_report.proofs.survivors.copy_lines.Goals as goal
+use Rattle.causal_report.proofs.survivors.copies_of.Goals as goal
 
 pub unreachable-requires : goal.unreachable-requires
 unreachable-requires c =
