@@ -1,6 +1,6 @@
 #!/usr/bin/env python3
-"""Measures a delivery of a node by the C library (node_calls.c), beside the same in plain Rust (node_plain.rs). It prints a section of
-RESULTS.md, and puts it there if it is told to.
+"""Measures a delivery of a node by the C library (node_calls.c), beside the same in plain Rust (node_plain.rs), and one of a node that
+never sends. It prints a section of RESULTS.md, and puts it there if it is told to.
 
     bench/measure_node.py [--library bindings/out] [--write]
 """
@@ -19,6 +19,7 @@ from release import facts_of  # noqa: E402
 RESULTS = os.path.join(HERE, "RESULTS.md")
 NAME = "A node by the library"
 CARRIED = (0, 1, 7, 15)
+OPEN = (1_024, 4_096, 16_384, 32_768)
 RUNS = 5
 BODY = 100
 
@@ -44,10 +45,16 @@ def row(calls, plain, carried, folder):
     return f"| {carried + 1} | {length} | {each} | {copy} | {delivery:,} | {plainly:,} | {delivery / plainly:.2f} | {line:,} | {send:,} |"
 
 
+def open_row(calls, count):
+    delivery, first, pair = map(min, zip(*(numbers([calls, "open", str(count)]) for _ in range(RUNS))))
+    return f"| {count:,} | {delivery:,} | {first / 1e6:.2f} | {pair / 1e6:.2f} |"
+
+
 def section(library):
     with tempfile.TemporaryDirectory() as folder:
         calls, plain = built(library, folder)
         rows = [row(calls, plain, carried, folder) for carried in CARRIED]
+        open_rows = [open_row(calls, count) for count in OPEN]
     facts = facts_of(library)
     return "\n".join([
         f"## {NAME}",
@@ -58,10 +65,18 @@ def section(library):
         "A delivery of a message of 100 bytes by `nixu_node_receive` (`bench/measure_node.py`); what it carries is new. Nanoseconds of processor",
         f"time, the least of {RUNS} runs. *plain*: the same with maps in plain Rust. *line*: `nixu_node_line`. *send*: `nixu_node_send` and its",
         "parcel. The target is 3,000 beyond copying, and 24 bytes for each determinant that is carried.",
+        *(["The library is built without proof too."] if facts["proved"] != "yes" else []),
         "",
         "| listed | bytes | for each carried | copying | delivery | plain | delivery / plain | line | send |",
         "|---|---|---|---|---|---|---|---|---|",
         *rows,
+        "",
+        "A node that receives so many messages, and neither sends nor stores: all their determinants stay open. *delivery*: nanoseconds for",
+        "each. *first send*: milliseconds of the next `nixu_node_send`; *pair*: of a delivery and a send after it, whose message carries all.",
+        "",
+        "| open | delivery | first send | pair |",
+        "|---|---|---|---|",
+        *open_rows,
         "",
     ])
 

@@ -3,7 +3,13 @@
    copying of a parcel, nixu_node_receive, nixu_node_line, and nixu_node_send of a message that carries as many. The parcels go to a
    file, each after its length, for node_plain.rs.
 
-   node_calls CARRIED FILE */
+   node_calls CARRIED FILE
+
+   Or process 2 receives so many messages that carry nothing, and neither sends nor stores, so that all their determinants stay
+   open. Prints nanoseconds for each nixu_node_receive, for the first nixu_node_send after them, and for each pair of a receive and
+   a send after that, whose message carries all.
+
+   node_calls open COUNT */
 #define _POSIX_C_SOURCE 200809L
 #include "nixu.h"
 
@@ -143,8 +149,39 @@ static double deliveries(double *line) {
   return all / MESSAGES;
 }
 
+/* Process 0 sends as many messages to process 2 as it is told, and 16 more. */
+static int open_deliveries(int count) {
+  enum { PAIRS = 16 };
+  static parcel given;
+  double all = 0, began, first;
+  nixu_node zero = {0}, two = {0};
+  nixu_node_sent sent;
+  open_node(&zero, 0);
+  open_node(&two, 2);
+  for (int i = 0; i < count; i++) {
+    send(&zero, 2, &given);
+    began = nanoseconds();
+    receive(&two, &given);
+    all += nanoseconds() - began;
+  }
+  began = nanoseconds();
+  must(nixu_node_send(&two, now++, 3, body, BODY, &sent, &fault));
+  first = nanoseconds() - began;
+  began = nanoseconds();
+  for (int i = 0; i < PAIRS; i++) {
+    send(&zero, 2, &given);
+    receive(&two, &given);
+    must(nixu_node_send(&two, now++, 3, body, BODY, &sent, &fault));
+  }
+  printf("%.0f %.0f %.0f\n", all / count, first, (nanoseconds() - began) / PAIRS);
+  nixu_node_close(&zero);
+  nixu_node_close(&two);
+  return 0;
+}
+
 int main(int count, char **words) {
   FILE *file;
+  if (count == 3 && !strcmp(words[1], "open")) return open_deliveries(atoi(words[2]));
   uint32_t carried = count > 1 ? (uint32_t)atoi(words[1]) : 0;
   double copy = 1e9, delivery = 1e9, line = 1e9;
   if (count != 3 || !(file = fopen(words[2], "wb"))) return 1;
