@@ -41,9 +41,9 @@ impl Books {
     }
 
     /// Returns whether a message is the one that others have delivered under its name.
-    pub fn agree(&self, to: u8, name: MsgName, value: u64) -> bool {
+    pub fn permits(&self, to: u8, name: MsgName, value: u64) -> bool {
         for (q, book) in self.kept.iter().enumerate() {
-            if !agrees(book.as_slice(), q == usize::from(to), name, value) {
+            if !is_permitted(book.as_slice(), q == usize::from(to), name, value) {
                 return false;
             }
         }
@@ -52,7 +52,7 @@ impl Books {
 }
 
 /// Returns whether one process has delivered a message of this name only if it is this one, and for that process.
-fn agrees(book: &[Kept], is_dest: bool, name: MsgName, value: u64) -> bool {
+fn is_permitted(book: &[Kept], is_dest: bool, name: MsgName, value: u64) -> bool {
     for kept in book {
         if kept.name == name && !(is_dest && kept.value == value) {
             return false;

@@ -82,7 +82,7 @@ fn clear_clock(bytes: &mut Vec<u8>) {
 }
 
 /// Returns the bytes that leave a process in place of these.
-pub fn altered(alloc: Global, settings: &Settings, bytes: Vec<u8>) -> Result<Vec<u8>, Stop> {
+pub fn alter(alloc: Global, settings: &Settings, bytes: Vec<u8>) -> Result<Vec<u8>, Stop> {
     let rule = match settings.broken {
         Some(rule @ (Rule::Piggyback | Rule::Answer | Rule::Floor)) => rule,
         Some(Rule::ParcelClock) => {

@@ -40,9 +40,9 @@ pub fn judge(
     judge_trace(alloc, &trace, faults)
 }
 
-/// Returns what is wrong with a run that ended so, and whose recordings were judged. A broken rule has to be found in
+/// Returns what is wrong with a run that ended so, and whose recordings gave this. A broken rule has to be found in
 /// what the processes did: that they cannot go on counts only if nothing else follows from it.
-pub fn judged(
+pub fn conclude(
     broken: Option<Rule>,
     outcome: Result<(), Stop>,
     found: Option<Wrong>,

@@ -1,6 +1,6 @@
 //! A process: its endpoint while it runs, and what its embedder knows.
 use crate::network::End;
-use crate::random::mixed;
+use crate::random::mix;
 use crate::settings::{RUN, Rule};
 use crate::stop::Stop;
 use crate::world::World;
@@ -82,7 +82,7 @@ impl Life {
         count: u64,
     ) -> Result<(), Stop> {
         for i in 0..count {
-            let value = mixed(self.value.wrapping_add(i));
+            let value = mix(self.value.wrapping_add(i));
             let to = self.other(world, value >> 8);
             self.send(endpoint, world, to, value)?;
         }
@@ -91,7 +91,7 @@ impl Life {
 
     /// The application begins.
     pub fn open(&mut self, endpoint: &mut Endpoint, world: &mut World) -> Result<(), Stop> {
-        self.value = mixed(u64::from(self.me));
+        self.value = mix(u64::from(self.me));
         self.received = 0;
         self.send_some(endpoint, world, 2)
     }
@@ -110,7 +110,7 @@ impl Life {
             0
         };
         let taken = value.wrapping_add(u64::from(source.0)).wrapping_add(time);
-        self.value = mixed(self.value.wrapping_add(mixed(taken)));
+        self.value = mix(self.value.wrapping_add(mix(taken)));
         self.received = self.received.saturating_add(1);
         if self.received > ENOUGH {
             return Ok(());

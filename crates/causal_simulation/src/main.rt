@@ -36,7 +36,7 @@ mod storage;
 /// What surrounds the processes.
 mod world;
 
-use crate::judging::{judge, judged};
+use crate::judging::{conclude, judge};
 use crate::running::Simulation;
 use crate::settings::Rule;
 use crate::stop::{Stop, Wrong};
@@ -102,7 +102,7 @@ fn run_seed<R: Print>(
     let text = world.recording.text.as_slice();
     let faults = world.settings.faults;
     let found = judge(alloc, text, world.recording.events, faults)?;
-    let found = judged(broken, outcome, found);
+    let found = conclude(broken, outcome, found);
     if let Some(wrong) = found {
         print_wrong(rt, alloc, seed, faults, wrong, text)?;
     }
@@ -149,10 +149,10 @@ fn run_all<R: Print>(rt: &R, alloc: Global, request: Request) -> Result<bool, No
         restarts,
         stored,
     } = total;
-    let is_told = println!(rt;
+    let is_printed = println!(rt;
         "runs={runs} wrong={wrong} deliveries={deliveries} crashes={crashes} restarts={restarts} stored={stored}"
     ).is_ok();
-    Ok(is_told && wrong == 0)
+    Ok(is_printed && wrong == 0)
 }
 
 fn main(rt: HostRuntime) -> ExitCode {

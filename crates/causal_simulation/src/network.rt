@@ -19,7 +19,7 @@ pub enum Packet {
         to: u8,
         from: u8,
     },
-    /// A process that gathers is told that another one has ended.
+    /// The report to a process that gathers that another one has ended.
     Ended {
         to: u8,
         round: u64,

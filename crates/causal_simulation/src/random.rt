@@ -8,7 +8,7 @@ pub struct Random {
 }
 
 /// Returns a word in which each bit depends on all bits of this one.
-pub fn mixed(word: u64) -> u64 {
+pub fn mix(word: u64) -> u64 {
     let word = (word ^ (word >> 30)).wrapping_mul(0xBF58_476D_1CE4_E5B9);
     let word = (word ^ (word >> 27)).wrapping_mul(0x94D0_49BB_1331_11EB);
     word ^ (word >> 31)
@@ -17,13 +17,13 @@ pub fn mixed(word: u64) -> u64 {
 impl Random {
     /// Returns the sequence of a seed.
     pub fn of_seed(seed: u64) -> Random {
-        Random { state: mixed(seed) }
+        Random { state: mix(seed) }
     }
 
     /// Returns the next word.
     pub fn word(&mut self) -> u64 {
         self.state = self.state.wrapping_add(0x9E37_79B9_7F4A_7C15);
-        mixed(self.state)
+        mix(self.state)
     }
 
     /// Returns a number below the bound, or 0.

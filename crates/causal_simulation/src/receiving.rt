@@ -104,7 +104,7 @@ impl Life {
         Ok(())
     }
 
-    /// Is told that a process has ended.
+    /// Takes the report that a process has ended.
     fn take_end(
         &mut self,
         endpoint: &mut Endpoint,

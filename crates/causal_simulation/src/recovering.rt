@@ -10,7 +10,7 @@ use causal_name::{Det, Pid};
 use causal_node::node_fault::NodeFault;
 
 impl Life {
-    /// Asks a process that has not replied, or is told that it has ended.
+    /// Asks a process that has not replied; if that has ended, a report of the end is under way instead.
     fn ask(&mut self, endpoint: &mut Endpoint, world: &mut World, who: u8) -> Result<(), Stop> {
         let mut end = world.end_of(who);
         if world.settings.breaks(Rule::EarlyEnded) && end.is_none() {

@@ -103,7 +103,7 @@ impl Process {
     }
 
     /// Ends the process if it was killed.
-    fn settle<T: Drop>(
+    fn end_if_killed<T: Drop>(
         &mut self,
         world: &mut World,
         outcome: Result<T, Stop>,
@@ -134,7 +134,7 @@ impl Simulation {
     }
 
     /// Returns how many processes are down.
-    fn down(&self) -> u32 {
+    fn count_down(&self) -> u32 {
         let mut count = 0u32;
         for process in self.processes.iter() {
             count = count.saturating_add(u32::from(process.life.is_down));
@@ -150,7 +150,7 @@ impl Simulation {
             u32::from(self.world.settings.faults)
         };
         match self.processes.get(at) {
-            Some(process) => process.life.is_down || self.down() < most,
+            Some(process) => process.life.is_down || self.count_down() < most,
             None => false,
         }
     }
@@ -176,7 +176,7 @@ impl Simulation {
                 if let Some(process) = self.processes.get_mut(usize::from(to)) {
                     let outcome = process.take(&mut self.world, &packet);
                     fate = process
-                        .settle(&mut self.world, outcome)?
+                        .end_if_killed(&mut self.world, outcome)?
                         .unwrap_or(Fate::Taken);
                 }
             }
@@ -194,7 +194,7 @@ impl Simulation {
         }
         if let Some(process) = self.processes.get_mut(at) {
             let outcome = process.act_alone(&mut self.world);
-            process.settle(&mut self.world, outcome)?;
+            process.end_if_killed(&mut self.world, outcome)?;
         }
         Ok(())
     }

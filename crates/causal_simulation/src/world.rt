@@ -1,6 +1,6 @@
 //! What surrounds the processes.
 use crate::books::Books;
-use crate::broken::altered;
+use crate::broken::alter;
 use crate::network::{End, Network, Packet};
 use crate::random::Random;
 use crate::recording::Recording;
@@ -82,7 +82,7 @@ impl World {
 
     /// Sends the bytes of a parcel.
     pub fn send(&mut self, to: u8, bytes: Vec<u8>) -> Result<(), Stop> {
-        let bytes = altered(self.alloc, &self.settings, bytes)?;
+        let bytes = alter(self.alloc, &self.settings, bytes)?;
         self.network.add(Packet::Parcel { to, bytes })?;
         Ok(())
     }
@@ -109,7 +109,7 @@ impl World {
 
     /// A process has sent a value: who has delivered the message of this name must have delivered the same.
     pub fn check_again(&self, to: u8, name: MsgName, value: u64) -> Result<(), Stop> {
-        if self.books.agree(to, name, value) {
+        if self.books.permits(to, name, value) {
             return Ok(());
         }
         Err(Stop::Wrong(Wrong::Differs))
