@@ -1,5 +1,5 @@
--- Lists that are joined, or the first error.
-use Rattle.std.proofs.Common.{◌≡◌, ◌++◌, ℕ, List, [], Result, Ok, Err, refl, ap, sym, append_assoc, arith}
+-- A list that is appended to those before it, or an error.
+use Rattle.std.proofs.Common.{◌≡◌, ◌++◌, ℕ, List, Result, Ok, Err, refl, ap, sym, append_assoc, arith}
 use Rattle.causal_commands.specs.declared.map_fault.MapFault.{MapFault}
 use Rattle.causal_commands.specs.PlacedLines.{with_front, joined}
 
@@ -11,12 +11,3 @@ front_twice a b (Err fault) = refl
 pub one_more : (old new : List ℕ) (first rest : Result (List ℕ) MapFault) → with_front old first ≡ Ok new → with_front old (joined first rest) ≡ with_front new rest
 one_more old new (Ok xs) rest e = grind (arith, front_twice old xs rest)
 one_more old new (Err fault) rest e = grind arith
-
--- the next list is an error
-pub one_wrong : (old : List ℕ) (fault : MapFault) (first rest : Result (List ℕ) MapFault) → first ≡ Err fault → with_front old (joined first rest) ≡ Err fault
-one_wrong old fault first rest e = rw e refl
-
--- the whole, behind nothing
-pub front_nil : (r : Result (List ℕ) MapFault) → with_front [] r ≡ r
-front_nil (Ok xs) = refl
-front_nil (Err fault) = refl

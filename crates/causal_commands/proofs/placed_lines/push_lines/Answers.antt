@@ -1,4 +1,4 @@
-use Rattle.std.proofs.Common.{◌≡◌, map, arith}
+use Rattle.std.proofs.Common.{map, arith}
 use Rattle.std.proofs.lemmas.List.{at_drop_more}
 use Rattle.causal_commands.specs.PlacedLines.{placed_lines, with_front}
 use Rattle.causal_commands.proofs.PlaceLemmas.{one_more}
