@@ -215,7 +215,7 @@ UNDRAWN = (
 )
 REFUSED_START = (
     "causal_tool run: line 1: this is no line of a script here\n"
-    "causal_tool run: expected there: start ring N F H, start echo N F H or start tally N F, with N 1 to 256, F 0 to 65535 and H 0 to 255\n"
+    "causal_tool run: expected there: start ring N F H, start echo N F H or start tally N F, or the same with explore in place of start and SEED STEPS at the end, with N 1 to 256, F 0 to 65535, H 0 to 255, SEED 0 to 4294967295 and STEPS 0 to 1000\n"
 )
 
 

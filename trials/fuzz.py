@@ -405,6 +405,9 @@ def random_script(rng, wrong, sizes):
 def run_case(rng):
     sizes = (1, 2, 3, 3, 4, 5, 8) if rng.random() < 0.98 else (64, 65, 256)
     text = random_script(rng, rng.choice((0.0, 0.0, 0.05)), sizes)
+    if rng.random() < 0.1:
+        first, rest = text.split(b"\n", 1)
+        text = first.replace(b"start", b"explore") + f" {rng.randrange(1000)} {rng.choice((0, 5, 30))}\n".encode() + rest
     kind = rng.random()
     at = rng.randrange(len(text) + 1)
     if kind < 0.1:

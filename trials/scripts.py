@@ -3,7 +3,8 @@ first line that is refused. It shares no code with the product.
 
 A script is ASCII lines of words with one space between them: `start ring N F H`, `start echo N F H` or `start tally N F` on
 line 1 (N processes, at most F of which may be down), then `deliver Q SOURCE SSN`, `crash P`, `restart P`, `flush P` and
-`forget P`. Numbers are plain digits without a leading zero."""
+`forget P`. Numbers are plain digits without a leading zero. With `explore` in place of `start`, and SEED STEPS at the end of
+that line, the run goes on after the commands by calls that the seed chooses."""
 import re
 
 import traces
@@ -11,6 +12,8 @@ import traces
 MAX_SCRIPT = 1_048_576
 U8, U16, U32 = 2**8, 2**16, 2**32
 MOST_PROCESSES = 256
+MAX_STEPS = 1_000
+RESTARTS = 64  # once so many were made, an exploration crashes no process
 ROOM = 9  # a delivery or a restart may append an entry and eight sends
 
 COMMANDS = {
@@ -38,16 +41,19 @@ def number(word, below):
 
 def start_of(line):
     words = line.split(b" ")
-    if len(words) < 2 or words[0] != b"start" or words[1] not in (b"ring", b"echo", b"tally"):
+    if len(words) < 2 or words[0] not in (b"start", b"explore") or words[1] not in (b"ring", b"echo", b"tally"):
         raise ScriptFault
     kind = words[1].decode()
-    limits = (MOST_PROCESSES + 1, U16) if kind == "tally" else (MOST_PROCESSES + 1, U16, U8)
+    limits = [MOST_PROCESSES + 1, U16] if kind == "tally" else [MOST_PROCESSES + 1, U16, U8]
+    own = len(limits)
+    if words[0] == b"explore":
+        limits += [U32, MAX_STEPS + 1]
     if len(words) != 2 + len(limits):
         raise ScriptFault
-    n, f, *param = [number(word, below) for word, below in zip(words[2:], limits)]
-    if n == 0:
+    numbers = [number(word, below) for word, below in zip(words[2:], limits)]
+    if numbers[0] == 0:
         raise ScriptFault
-    return kind, n, f, param[0] if param else 0
+    return (kind, *(numbers[:own] + [0])[:3]), numbers[own:]
 
 
 def command_of(line):
@@ -59,7 +65,8 @@ def command_of(line):
 
 
 def parsed(text):
-    """The start and the commands with their lines, else the line of the first fault and its kind."""
+    """The start with the numbers of its exploration, if it has one, and the commands with their lines; else the line of the first fault
+    and its kind."""
     lines, size = traces.lines_of(text), 0
     start, commands = None, []
     if not lines:
@@ -246,6 +253,47 @@ class Run:
             del memory.log[det]
 
 
+    # ---- exploring
+
+    def pending(self, q):
+        """What up processes have sent to q and q has not delivered since it came up, by sender and number."""
+        for source, sender in enumerate(self.memories):
+            if sender is not None:
+                for ssn, (to, *_) in enumerate(sender.sent):
+                    if to == q and (source, ssn) not in self.memories[q].received:
+                        yield source, ssn
+
+    def moves(self):
+        """What leads on, by process: the restart of one that is down, else each delivery that it may make."""
+        for p in range(self.n):
+            if self.memories[p] is None:
+                yield "restart", p
+            else:
+                named = self.named(p)
+                yield from (("deliver", p, *message) for message in self.pending(p) if named in (None, message))
+
+    def disturbance(self, choice):
+        p, kind = choice // 4 % self.n, choice % 4
+        if kind == 0 and self.restarts < RESTARTS:
+            return "crash", p
+        return "forget" if kind == 1 else "flush", p
+
+    def explore(self, seed, steps):
+        """Goes on with calls that the seed chooses, as long as something leads on. Refused ones change nothing."""
+        word = seed
+        for _ in range(steps):
+            moves = list(self.moves())
+            if not moves:
+                return
+            word = (word * 6364136223846793005 + 1442695040888963407) % 2**64  # the sequence of Knuth's MMIX
+            choice, kind = divmod(word >> 32, 8)
+            name, *numbers = moves[choice % len(moves)] if kind else self.disturbance(choice)
+            try:
+                getattr(self, name)(*numbers)
+            except Refused:
+                pass
+
+
 def spelled(value):
     if isinstance(value, (tuple, list)):
         return "[" + ",".join(map(spelled, value)) + "]"
@@ -264,11 +312,13 @@ def ran(text):
     script, fault = parsed(text)
     if fault:
         return "fault line=%d %s\n" % fault, 2
-    start, commands = script
+    (start, exploration), commands = script
     run = Run(*start)
     for line, (name, *numbers) in commands:
         try:
             getattr(run, name)(*numbers)
         except Refused as refused:
             return f"refused line={line} {refused}\n", 2
+    if exploration:
+        run.explore(*exploration)
     return text_of(run.n, run.entries), 0

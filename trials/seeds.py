@@ -1,6 +1,6 @@
 #!/usr/bin/env python3
 """Runs scripts by the built program under 100 seeds of its logs' hashes, and compares each answer with that of the plain model of the
-runtime: no answer may depend on the seed. A long script runs under all of them, the others under the first few. The random source that
+runtime: no answer may depend on the seed. A long script and one that explores run under all of them, the others under the first few. The random source that
 the program asks is replaced by a small library that is preloaded; it is built from seeds.c with the machine's C compiler. The source
 fails in one more run of each script.
 
@@ -49,9 +49,12 @@ def short_scripts():
         yield next(text for text in made if kind in text and text.count(b"\n") > 20 and b"restart" in text and b"flush" in text)
 
 
+EXPLORED = b"explore echo 5 2 40 10 400"  # ten crashes and restarts, with flushes and forgetting
+
+
 def tries():
     """Each script with each of its seeds, and with None: a source that fails."""
-    for text, count in [(long_script(5, 2, 10), SEEDS), *((text, FEW) for text in short_scripts())]:
+    for text, count in [(long_script(5, 2, 10), SEEDS), (EXPLORED, SEEDS), *((text, FEW) for text in short_scripts())]:
         for seed in [*seeds()[:count], None]:
             yield text, seed
 

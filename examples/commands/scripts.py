@@ -56,6 +56,42 @@ RECORDED = [
     ),
 ]
 
+# Scripts that go on by themselves. The sequence of a seed chooses by the high 32 bits of its words, w: if w is a multiple of 8, what
+# disturbs the run, by w / 8; else one of the moves, by w / 8 modulo their number.
+EXPLORED = [
+    ("no step", "explore ring 3 1 2 7 0", trace(1, 3, SENT), "accept f=1 entries=1 deliveries=0"),
+    # w modulo 8 is 4, 3 and 1; there is one move each time, and then none.
+    ("a ring, until nothing leads on", "explore ring 3 1 2 1 1000\n", texts.RING_TEXT, "accept f=1 entries=6 deliveries=3"),
+    ("the same, for two steps", "explore ring 3 1 2 1 2\n", trace(1, 3, RING[:5]), "accept f=1 entries=5 deliveries=2"),
+    # w modulo 8 is 1, 5, 0, 0 and 7. The third w / 8 is 371,190,114, a flush of 1, which has logged A; the fourth is 195,695,126, a flush of
+    # 0, which has logged nothing.
+    ("a flush in between", "explore ring 3 1 2 2 9", trace(1, 3, RING[:5], stable(A), RING[5]), "accept f=1 entries=7 deliveries=3"),
+    # w / 8 is 44,680,340, a crash of 1; its restart is the next move, then what it sends once more, and the answer.
+    (
+        "a crash and a restart",
+        "explore tally 2 1 29 10",
+        trace(
+            1, 2, send(1, 0, 0), crash(1), restart(1), send(1, 0, 0), deliver(0, 3, 0, [1, 0, 0, 0]), send(0, 1, 0),
+            deliver(1, 5, 0, [0, 0, 1, 0], [1, 0, 0, 0]),
+        ),
+        "accept f=1 entries=7 deliveries=2",
+    ),
+    # With F = 0 the crash is refused: two moves are left.
+    (
+        "a crash that is refused",
+        "explore tally 2 0 29 10",
+        trace(1, 2, send(1, 0, 0), deliver(0, 0, 0, [1, 0, 0, 0]), send(0, 1, 0), deliver(1, 2, 0, [0, 0, 1, 0])),
+        "accept f=0 entries=4 deliveries=2",
+    ),
+    # w / 8 is 41,987,951, odd: the second of the two messages for 0.
+    (
+        "a step after the commands",
+        "explore echo 2 1 1 0 1\ndeliver 1 0 0\n",
+        trace(1, 2, SENT, send(1, 0, 0), FIRST, send(1, 0, 1), deliver(0, 3, 0, *ANSWER)),
+        "accept f=1 entries=5 deliveries=2",
+    ),
+]
+
 # The last of as many processes as there may be is asked for each call; it has been sent nothing.
 GREATEST = "start echo 256 65535 255\ncrash 255\nrestart 255\nflush 255\nforget 255\ndeliver 255 255 4294967295\n"
 
@@ -73,6 +109,7 @@ REFUSED = [
     ("a flush of a process that is down", "start ring 3 1 2\ncrash 1\nflush 1\n", "3 Down"),
     ("the first of two lines that are refused", "start ring 2 1 1\ncrash 1\nflush 1\ncrash 1\n", "3 Down"),
     ("a restart of a process that is up", "start ring 3 1 2\nrestart 1\n", "2 NotDown"),
+    ("a command before an exploration", "explore ring 3 1 2 7 5\ndeliver 1 0 0\ncrash 9\n", "3 NoProcess"),
 ]
 
 # whole scripts with a fault on the first line
@@ -82,7 +119,11 @@ FIRST_LINE = [
     "start echo 3 1", "start tally 3", "start tally 0 1", "start tally 3 1 0", "start tally 3 1 0\n", "start sum 3 1 2",
     "Start ring 3 1 2", " start ring 3 1 2", "start  ring 3 1 2", "start\tring 3 1 2", "start ring 3 1 2\r\n", "start ring 03 1 2",
     "start ring +3 1 2", "start ring 3 -1 2", "start ring 3 1 2.0", "deliver 1 0 0", "\nstart ring 3 1 2", "\ufeffstart ring 3 1 2",
-    b"\xff",
+    b"\xff", "explore", "explore ring 3 1 2", "explore ring 3 1 2 7", "explore ring 3 1 2 7 ", "explore ring 3 1 2 7 5 6",
+    "explore ring 3 1 2 4294967296 5", "explore ring 3 1 2 7 1001", "explore ring 3 1 2 -7 5", "explore ring 3 1 2 07 5",
+    "explore ring 3 1 2 7 05", "explore ring 3 1 2  7 5", "explore ring 0 1 2 7 5", "explore ring 3 1 256 7 5", "explore 3 1 2 7 5",
+    "explore tally 3 1", "explore tally 3 1 7", "explore tally 3 1 2 7 5", "explore sum 3 1 2 7 5", "Explore ring 3 1 2 7 5",
+    "start ring 3 1 2 7 5", "start tally 3 1 7 5", "explored ring 3 1 2 7 5",
 ]
 
 # lines at fault that follow a first line
@@ -91,7 +132,7 @@ LATER_LINE = [
     "deliver 0 256 0", "deliver 0 0 4294967296", "deliver 0 0 18446744073709551616", "deliver 0 0", "deliver 0 0 0 0",
     "deliver  0 0 0", "deliver 0 0 +0", "deliver 0 0 0x0", "crash", "crash ", "crash 256", "crash 1 ", "crash 1 1", "crash  1",
     " crash 1", "crash\t1", "crash 1\r", "crash -1", "Crash 1", "crashed 1", "restart 256", "flush 256", "forget 256", "forget",
-    "forget 1 0", "stop 1", "1",
+    "forget 1 0", "stop 1", "1", "explore ring 3 1 2 7 5", "explore 7 5",
 ]
 
 # scripts, and what standard error tells of them
@@ -170,9 +211,9 @@ def sized_rows():
 
 
 def rows():
-    for name, script, recorded, _ in RECORDED:
+    for name, script, recorded, _ in RECORDED + EXPLORED:
         yield given(name, "run", script, 0, recorded, said="")
-    for name, _, recorded, line in RECORDED:
+    for name, _, recorded, line in RECORDED + EXPLORED:
         yield given(f"{name}, audited", f"audit --faults {line.split()[1][2:]}", recorded, 0, line + "\n")
     for name, script, line in REFUSED:
         yield refused(name, script, line)

@@ -25,7 +25,7 @@ script_bytes_read text = take (max_script + 1) text
 -- of the first command that such a run refuses. `Faulted`: the line of the text's first error.
 abbrev pub IsScriptAnswer : List ℕ → Ended → List ℕ → Type 0
 IsScriptAnswer text Ran out = (script : Script) × Spells text (script_content script) × (recording : Recording)
-    × IsRunFrom (IsStartOf script) script.commands recording × IsSafeTrace recording script.f × (out ≡ canonical_text recording)
+    × IsRunFrom (IsStartOf script) script.commands script.exploration recording × IsSafeTrace recording script.f × (out ≡ canonical_text recording)
 IsScriptAnswer text Refused out = (script : Script) × Spells text (script_content script) × (line : ℕ) × (why : CoreFault)
     × IsRefusedFrom (IsStartOf script) script.commands line why × (out ≡ refused_line line why)
 IsScriptAnswer text Faulted out = (first : ScriptFault) × IsFirstFault text first × (out ≡ script_line first)

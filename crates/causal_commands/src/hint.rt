@@ -22,7 +22,7 @@ fn expected_at(line: u32) -> &'static str
     ensures { result.now ≡ hints.expected_at line }
 {
     if line == 1 {
-        "expected there: start ring N F H, start echo N F H or start tally N F, with N 1 to 256, F 0 to 65535 and H 0 to 255"
+        "expected there: start ring N F H, start echo N F H or start tally N F, or the same with explore in place of start and SEED STEPS at the end, with N 1 to 256, F 0 to 65535, H 0 to 255, SEED 0 to 4294967295 and STEPS 0 to 1000"
     } else {
         "expected there: deliver Q SOURCE SSN, crash P, restart P, flush P or forget P, with one space between words, Q, SOURCE and P 0 to 255 and SSN 0 to 4294967295"
     }

@@ -9,7 +9,7 @@ use Rattle.causal_protocol.specs.Run.{Run}
 use Rattle.causal_protocol.specs.Steps.{Steps}
 use Rattle.causal_driver.specs.declared.schedule.Schedule.{Schedule}
 use Rattle.causal_driver.specs.declared.schedule.Call.{Call}
-use Rattle.causal_driver.specs.Schedules.{next_word, word_after, chosen, AreCalls}
+use Rattle.causal_driver.specs.Schedules.{next_word, word_after, first_word, chosen, AreCalls}
 use Rattle.causal_driver.specs.Inside.Turns.{IsMade, HaveMade}
 
 -- the word after this many others, the first taken out
@@ -29,7 +29,7 @@ extended s word (c ∷ calls) call old mid new made request step =
     (made.0, (made.1.0, (made.1.1.0, extended s (next_word word) calls call made.1.0 mid new made.1.1.1 later step)))
 
 -- nothing is made before the first turn
-pub none_made : (s : Schedule) (r : Run) → HaveMade s s.seed 0 [] r r
+pub none_made : (s : Schedule) (r : Run) → HaveMade s (first_word s) 0 [] r r
 unfolding AreCalls word_after
 none_made s r = record { lead = refl; next = refl; number = refl }
 
@@ -40,8 +40,8 @@ one_more s word made before after old mid new so turn =
     let more : length after ≡ length before + 1 = ap length turn.appended ∙ length-append before (turn.call ∷ []) in
     let one : length after ≡ suc (length before) = omega (arith, more) in
     record {
-      lead = rw turn.appended (extended s s.seed before turn.call old mid new so.lead (ap (λ w. chosen s w mid) (sym so.next) ∙ turn.request) turn.step);
-      next = ap next_word so.next ∙ sym (ap (word_after s.seed) one);
+      lead = rw turn.appended (extended s (first_word s) before turn.call old mid new so.lead (ap (λ w. chosen s w mid) (sym so.next) ∙ turn.request) turn.step);
+      next = ap next_word so.next ∙ sym (ap (word_after (first_word s)) one);
       number = more ∙ ap (λ n. n + 1) so.number;
     }
 

@@ -20,6 +20,10 @@ unfoldable pub word_after : ℕ → ℕ → ℕ
 word_after word zero = word
 word_after word (suc count) = next_word (word_after word count)
 
+-- the word that chooses the first request: not the seed itself, since the high bits of small seeds are alike
+abbrev pub first_word : Schedule → ℕ
+first_word s = next_word s.seed
+
 -- the number that a word chooses by: its high bits, since the low ones have short periods
 abbrev pub choice_of : ℕ → ℕ
 choice_of word = word / 2 ^ 32
@@ -44,5 +48,5 @@ AreCalls s word (call ∷ calls) old new =
 abbrev pub HasEnded : Schedule → End → ℕ → Run → Type 0
 HasEnded s Ends.Quiet count r = moves r ≡ []
 HasEnded s Ends.Steps count r = count ≡ s.steps
-HasEnded s Ends.NoSpare count r = (p : Pid) × (chosen s (word_after s.seed count) r ≡ Some (Requests.Restart p))
+HasEnded s Ends.NoSpare count r = (p : Pid) × (chosen s (word_after (first_word s) count) r ≡ Some (Requests.Restart p))
 HasEnded s Ends.NoMemory count r = Unit {0}

@@ -6,7 +6,7 @@ ghost use Rattle.causal_name.specs.declared.Pid.{Pid};
 ghost use Rattle.causal_protocol.specs.declared.request.Request.TheVariants as Requests;
 ghost use Rattle.causal_protocol.specs.Steps.{Steps};
 ghost use Rattle.causal_core.specs.CoreView.{core_run};
-ghost use Rattle.causal_driver.specs.Schedules.{chosen_among, AreCalls, HasEnded};
+ghost use Rattle.causal_driver.specs.Schedules.{chosen_among, first_word, AreCalls, HasEnded};
 ghost use Rattle.causal_driver.specs.Inside.Turns.{IsTurn};
 
 use crate::options::{disturbance, moves};
@@ -41,7 +41,18 @@ fn take_spare(
     spares.get_mut(usize::from(p.0))?.pop()
 }
 
-/// Restarts p as a spare.
+/// Returns a spare for p to its list, from which it was taken last, so that the list has space for it.
+fn return_spare(
+    spares: &mut [Vec<Box<dyn Process + Send>>],
+    p: Pid,
+    spare: Box<dyn Process + Send>,
+) {
+    if let Some(list) = spares.get_mut(usize::from(p.0)) {
+        let _ = list.push(spare);
+    }
+}
+
+/// Restarts p as a spare, which goes back to its list if that is refused.
 fn restart<S: Stable>(
     core: &mut Core<S>,
     spares: &mut [Vec<Box<dyn Process + Send>>],
@@ -57,7 +68,10 @@ fn restart<S: Stable>(
     };
     let answer = match core.restart(p, spare) {
         Ok(restarted) => Ok(restarted),
-        Err(refused) => Err(refused.fault),
+        Err(refused) => {
+            return_spare(spares, p, refused.spare);
+            Err(refused.fault)
+        }
     };
     Ok(Reply::of_restart(answer))
 }
@@ -126,8 +140,8 @@ fn turn<S: Stable>(
 /// flush or a forgetting. A refused call changes nothing, and the next one follows; a crash is refused if too many
 /// processes would be down. Equal seeds make equal calls on equal runs.
 ///
-/// A restart takes the last of the spares of its process; `spares` has their lists by process. Each call takes the time
-/// of one `pending` for each process, besides its own.
+/// A restart takes the last of the spares of its process; `spares` has their lists by process. A refused one puts it
+/// back. Each call takes the time of one `pending` for each process, besides its own.
 pub fn drive<S: Stable>(
     alloc: Global,
     core: &mut Core<S>,
@@ -135,13 +149,14 @@ pub fn drive<S: Stable>(
     spares: &mut [Vec<Box<dyn Process + Send>>],
 ) -> Driven
     requires { schedule.steps < 2 ^ 32 }
-    ensures calls { AreCalls schedule schedule.seed
+    ensures calls { AreCalls schedule (first_word schedule)
         result.calls.items (core_run core.old) (core_run core.new) }
     ensures few { length result.calls.items ≤ schedule.steps }
     ensures end { HasEnded schedule result.end (length result.calls.items) (core_run core.new) }
 {
     let mut calls = Vec::new(alloc);
-    let mut word = schedule.seed;
+    let first = next_word(schedule.seed);
+    let mut word = first;
     for made in 0..schedule.steps {
         match turn(alloc, core, schedule, word, spares, &mut calls) {
             Ok(TurnOutcome::Made) => word = next_word(word),

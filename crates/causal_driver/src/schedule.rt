@@ -7,7 +7,7 @@ use causal_protocol::request::{Reply, Request};
 /// A schedule. Equal schedules make equal calls on equal runtimes.
 #[derive(Clone, Copy)]
 pub struct Schedule {
-    /// The first word of the sequence that chooses the requests.
+    /// The word before those that choose the requests.
     pub seed: u64,
     /// The maximum number of calls.
     pub steps: u32,

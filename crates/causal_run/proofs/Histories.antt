@@ -5,11 +5,9 @@ use Rattle.std.proofs.lemmas.Bool.Decides.{nat_tests}
 use Rattle.causal_process.specs.declared.message.Input.{Input}
 use Rattle.causal_process.specs.declared.message.Outgoing.{Outgoing}
 use Rattle.causal_trace.specs.Rows.{Recording}
-use Rattle.causal_trace.specs.Judgement.{IsSafeTrace}
 use Rattle.causal_protocol.specs.declared.request.Request.{Request}
 use Rattle.causal_protocol.specs.declared.request.CoreFault.{CoreFault}
 use Rattle.causal_protocol.specs.Run.{Run}
-use Rattle.causal_protocol.specs.Runs.{IsSafeRun}
 use Rattle.causal_protocol.specs.Steps.{Steps}
 use Rattle.causal_core.specs.CoreView.{CoreState}
 use Rattle.causal_core.specs.Starts.{Starts}
@@ -21,7 +19,7 @@ use Rattle.causal_shared.specs.Finish.{HasSeatHistory, AllHaveSeats, before_item
 use Rattle.causal_script.specs.declared.script.Command.{Command}
 use Rattle.causal_run.specs.declared.fault.RunFault.{RunFault}
 use Rattle.causal_run.specs.declared.fault.RunFault.TheVariants as Fault
-use Rattle.causal_run.specs.Runs.{PerformsOne, Performs, IsStarted, IsRunFrom, IsRefusedFrom, ExplainsRunFault}
+use Rattle.causal_run.specs.Runs.{PerformsOne, Performs, IsStarted, IsRunTo, IsRefusedFrom, ExplainsRunFault}
 use Rattle.causal_run.specs.Inside.IssuedRequests.{IsPerformed, ArePerformed, IsRefusedRun, IsRefusedRunAt}
 use Rattle.causal_run.proofs.Refusals.{stands}
 
@@ -66,15 +64,13 @@ module _ {B : Type 0} (answers : B → List Input → List (List Outgoing)) wher
   }
 
   -- a legal history from a start, in which all commands were performed, is a run of them
-  pub run-of : (f : ℕ) (boxes : List B) (commands : List Command) (core : CoreState B) (r : Run) (items : List Item) (recording : Recording) → Starts answers f boxes core
-      → before_items r items ≡ opening_from core.run.recording core.run.faults → AllLegal r items → ArePerformed commands items → recording ≡ r.recording
-      → IsRunFrom (IsStarted answers f boxes) commands recording
-  run-of f boxes commands core r items recording starts opens legal done recorded = record {
+  pub run-of : (f : ℕ) (boxes : List B) (commands : List Command) (core : CoreState B) (r : Run) (items : List Item) → Starts answers f boxes core
+      → before_items r items ≡ opening_from core.run.recording core.run.faults → AllLegal r items → ArePerformed commands items
+      → IsRunTo (IsStarted answers f boxes) commands r
+  run-of f boxes commands core r items starts opens legal done = record {
     start = opening_in r items;
-    end = r;
     started = started f boxes core r items starts opens;
     performed = performed r commands items legal done;
-    recorded = recorded;
   }
 
   pub refused-at : (f : ℕ) (boxes : List B) (commands : List Command) (core : CoreState B) (r : Run) (items : List Item) (line : ℕ) (fault : CoreFault) → Starts answers f boxes core
@@ -104,12 +100,10 @@ module _ {B : Type 0} (answers : B → List Input → List (List Outgoing)) wher
   refused-as f boxes commands core r items Fault.Lock starts opens legal stopped = tt
   refused-as f boxes commands core r items (Fault.Finish fault) starts opens legal stopped = tt
 
-  -- a run is safe for the bound f with which its core started
-  pub safe-as : (f : ℕ) (boxes : List B) (core : CoreState B) (r : Run) (items : List Item) (recording : Recording) → Starts answers f boxes core
-      → before_items r items ≡ opening_from core.run.recording core.run.faults → IsSafeRun r → recording ≡ r.recording → IsSafeTrace recording f
-  safe-as f boxes core r items recording starts opens safe recorded =
-      let few : r.faults ≡ f = ap (λ (o : Opening). o.faults) opens ∙ ap (λ (run : Run). run.faults) starts.run in
-      rw recorded (subst (IsSafeTrace r.recording) few safe)
+  -- a run has the bound f with which its core started
+  pub faults-as : (f : ℕ) (boxes : List B) (core : CoreState B) (r : Run) (items : List Item) → Starts answers f boxes core
+      → before_items r items ≡ opening_from core.run.recording core.run.faults → r.faults ≡ f
+  faults-as f boxes core r items starts opens = ap (λ (o : Opening). o.faults) opens ∙ ap (λ (run : Run). run.faults) starts.run
 
 -- a new shared runtime has the initial state of the core that it was given
 pub opened-as : (r : Run) (items : List Item) (opening : Opening) (run : Run) → before_items r items ≡ opening → opening.recording ≡ run.recording → opening.faults ≡ run.faults → before_items r items ≡ opening_from run.recording run.faults

@@ -1,4 +1,5 @@
 mod Asks
+mod Explorations
 mod Histories
 mod Objects
 mod Refusals

@@ -16,7 +16,7 @@ use Rattle.causal_script.specs.declared.script.Script.{Script}
 use Rattle.causal_run.specs.declared.script_process.ScriptProcess.{ScriptProcess}
 use Rattle.causal_run.specs.declared.fault.RunFault.{RunFault}
 use Rattle.causal_run.specs.declared.fault.RunFault.TheVariants as Fault
-use Rattle.causal_run.specs.Runs.{IsStarted, IsRunFrom, ExplainsRunFault}
+use Rattle.causal_run.specs.Runs.{IsStarted, IsRunTo, ExplainsRunFault}
 use Rattle.causal_run.specs.ScriptProcesses.{IsStartOf, script_process_answers, script_processes_below}
 
 -- one more box, with the next process
@@ -70,8 +70,8 @@ starts-members answers of same script boxes count is all r started =
     subst (λ (ms : List ScriptProcess). IsStarted script_process_answers script.f ms r) (is ∙ ap (script_processes_below script.kind script.n script.param) all) (started-as answers script_process_answers of same script.f boxes r started)
 
 -- the same run, from another kind of start
-pub run-as : (Is Other : Run → Type 0) → ((r : Run) → Is r → Other r) → (commands : List Command) (recording : Recording) → IsRunFrom Is commands recording → IsRunFrom Other commands recording
-run-as Is Other turn commands recording run = record { start = run.start; end = run.end; started = turn run.start run.started; performed = run.performed; recorded = run.recorded }
+pub run-as : (Is Other : Run → Type 0) → ((r : Run) → Is r → Other r) → (commands : List Command) (end : Run) → IsRunTo Is commands end → IsRunTo Other commands end
+run-as Is Other turn commands end run = record { start = run.start; started = turn run.start run.started; performed = run.performed }
 
 -- the same refusal, from another kind of start
 pub told-as : (Is Other : Run → Type 0) → ((r : Run) → Is r → Other r) → (commands : List Command) (fault : RunFault) → ExplainsRunFault Is commands fault → ExplainsRunFault Other commands fault

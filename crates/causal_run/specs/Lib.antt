@@ -1,3 +1,4 @@
 pub mod Inside
 pub mod ScriptProcesses
 pub mod Runs
+pub mod Explorations

@@ -17,6 +17,8 @@ use Rattle.causal_core.specs.CoreView.{CoreState}
 use Rattle.causal_core.specs.Starts.{Starts}
 use Rattle.causal_script.specs.declared.script.Command.{Command}
 use Rattle.causal_script.specs.declared.script.Script.{Script}
+use Rattle.causal_script.specs.declared.script.Exploration.{Exploration}
+use Rattle.causal_run.specs.Explorations.{IsExplored}
 use Rattle.causal_run.specs.declared.fault.RunFault.{RunFault}
 use Rattle.causal_run.specs.declared.fault.RunFault.TheVariants as Fault
 
@@ -48,12 +50,18 @@ abbrev pub IsRefusedWith : Run → Request → CoreFault → Type 0
 IsRefusedWith r (Requests.Flush p) Faults.StoreFault = first_fault r (Requests.Flush p) ≡ None
 IsRefusedWith r request fault = first_fault r request ≡ Some fault
 
--- a run of all the commands, from such a start, with this recording
-pub record IsRunFrom (IsStart : Run → Type 0) (commands : List Command) (recording : Recording) : Type 0 where
+-- a run of all the commands, from such a start, that leads to this run
+pub record IsRunTo (IsStart : Run → Type 0) (commands : List Command) (end : Run) : Type 0 where
   pub start : Run
-  pub end : Run
   pub started : IsStart start
   pub performed : Performs start commands end
+
+-- a run of all the commands, from such a start, and then of this exploration, if there is one, with this recording
+pub record IsRunFrom (IsStart : Run → Type 0) (commands : List Command) (exploration : Option Exploration) (recording : Recording) : Type 0 where
+  pub mid : Run
+  pub end : Run
+  pub run : IsRunTo IsStart commands mid
+  pub explored : IsExplored exploration mid end
   pub recorded : recording ≡ end.recording
 
 -- a run of the commands before the line, from such a start, after which the command of the line has this fault
@@ -85,4 +93,4 @@ module _ {B : Type 0} (answers : B → List Input → List (List Outgoing)) wher
 
   -- the recording of a run of all the script's commands, from such a start
   abbrev pub IsRunOf : Script → List B → Recording → Type 0
-  IsRunOf script boxes recording = IsRunFrom (IsStarted script.f boxes) script.commands recording
+  IsRunOf script boxes recording = IsRunFrom (IsStarted script.f boxes) script.commands None recording

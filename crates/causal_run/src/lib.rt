@@ -1,9 +1,12 @@
-//! Runs a script through the shared runtime, by one seat.
+//! Runs a script through the shared runtime, by one seat, and explores the run from there.
 //!
 //! Start at [`run_script`], which makes the script's own processes and returns the trace of the run, or a [`RunFault`].
-//! [`perform`] does the same with processes and spares that the caller passes, [`perform_seeded`] also with its seed.
+//! [`perform`] performs the commands with processes and spares that the caller passes, [`perform_seeded`] also with its
+//! seed.
 #![tactic(auto)]
 
+/// How a run goes on after the commands of a script.
+mod exploration;
 /// The error of a script's run.
 mod fault;
 /// The processes of a script.

@@ -2,7 +2,8 @@
 ghost use Rattle.std.specs.Prelude.{◌≡◌, ◌≤◌, [], length, drop, IfOk, IfErr, OnOk};
 ghost use Rattle.std.specs.Vec.Iter.{into_iter_items};
 ghost use Rattle.causal_trace.specs.Judgement.{IsSafeTrace};
-ghost use Rattle.causal_run.specs.Runs.{spares_for, spares_in, IsRunOf, IsStarted, ExplainsRunFault};
+ghost use Rattle.causal_core.specs.CoreView.{core_run};
+ghost use Rattle.causal_run.specs.Runs.{spares_for, spares_in, IsRunOf, IsRunTo, IsStarted, ExplainsRunFault};
 ghost use Rattle.causal_run.specs.Inside.IssuedRequests.{RecordsRequest, ArePerformed, IsRefusedRun};
 
 use crate::fault::RunFault;
@@ -84,8 +85,44 @@ fn issue_all<R: Wait>(
     Ok(())
 }
 
-/// Runs a script through the shared runtime, with one seat and stable storage in memory, and returns the recorded
-/// trace. It starts these processes and issues the commands in order; each restart takes the next spare.
+/// Starts these processes, issues the commands of a script through the shared runtime, with one seat and stable storage
+/// in memory, and returns the core after them.
+pub(crate) fn core_after<R: Wait>(
+    rt: &R,
+    alloc: Global,
+    script: &Script,
+    boxes: Vec<Box<dyn Process + Send>>,
+    spares: Vec<Box<dyn Process + Send>>,
+    seed: u64,
+) -> Result<Core<MemStable>, RunFault>
+    requires some { 1 ≤ script.now.n }
+    requires few { script.now.n ≤ 256 }
+    requires boxes { length boxes.items ≡ script.now.n }
+    requires spares { length spares.items ≡ spares_in script.now.commands }
+    ensures run { IfOk result (λ core. IsRunTo
+        (IsStarted answers script.now.f boxes.items) script.now.commands (core_run core)) }
+    ensures faults { IfOk result (λ core. (core_run core).faults ≡ script.now.f) }
+    ensures refused { IfErr result
+        (ExplainsRunFault (IsStarted answers script.now.f boxes.items) script.now.commands) }
+{
+    let store = MemStable::with_seed(alloc, seed);
+    let core = Core::start_seeded(alloc, script.f, boxes, store, seed)?;
+    let (shared, mut seats) = Shared::open(alloc, core, 1, 0)?;
+    let outcome = issue_all(
+        rt,
+        &shared,
+        &mut seats[0],
+        script.commands.as_slice(),
+        spares,
+    );
+    let finished = finish(shared, seats)?;
+    outcome?;
+    Ok(finished.core)
+}
+
+/// Runs the commands of a script through the shared runtime, with one seat and stable storage in memory, and returns the
+/// recorded trace. It starts these processes and issues the commands in order; each restart takes the next spare. It
+/// explores nothing; `run_script` does.
 ///
 /// # Errors
 /// `Refused` with the line of the first refused command; `Memory` if allocation failed; `Lock`. If the shared runtime
@@ -109,7 +146,7 @@ pub fn perform<R: Wait>(
     perform_seeded(rt, alloc, script, boxes, spares, 0)
 }
 
-/// Runs a script as `perform` does. The logs and the store hash with this seed; only costs depend on it.
+/// Runs the commands of a script as `perform` does. The logs and the store hash with this seed; only costs depend on it.
 ///
 /// # Errors
 /// Those of `perform`.
@@ -130,17 +167,5 @@ pub fn perform_seeded<R: Wait>(
     ensures refused { IfErr result
         (ExplainsRunFault (IsStarted answers script.now.f boxes.items) script.now.commands) }
 {
-    let store = MemStable::with_seed(alloc, seed);
-    let core = Core::start_seeded(alloc, script.f, boxes, store, seed)?;
-    let (shared, mut seats) = Shared::open(alloc, core, 1, 0)?;
-    let outcome = issue_all(
-        rt,
-        &shared,
-        &mut seats[0],
-        script.commands.as_slice(),
-        spares,
-    );
-    let finished = finish(shared, seats)?;
-    outcome?;
-    Ok(finished.core.into_trace())
+    Ok(core_after(rt, alloc, script, boxes, spares, seed)?.into_trace())
 }

@@ -4,8 +4,9 @@ ghost use Rattle.causal_trace.specs.Judgement.{IsSafeTrace};
 ghost use Rattle.causal_run.specs.Runs.{IsRunFrom, ExplainsRunFault};
 ghost use Rattle.causal_run.specs.ScriptProcesses.{IsStartOf};
 
+use crate::exploration::{by_process, exploration_spares, explore_as};
 use crate::fault::RunFault;
-use crate::script_commands::perform_seeded;
+use crate::script_commands::core_after;
 use crate::script_process::ScriptProcess;
 use causal_process::Process;
 use causal_protocol::request::Request;
@@ -24,8 +25,8 @@ fn spare_for(script: &Script, p: u8) -> u8
     if u16::from(p) < script.n { p } else { 0 }
 }
 
-/// Runs a script: makes its processes and the spares of its restarts, and performs its commands. The logs and the store
-/// hash with this seed; only costs depend on it.
+/// Runs a script: makes its processes and the spares of its restarts, performs its commands, and then explores, if the
+/// script says so. The logs and the store hash with this seed; only costs depend on it.
 ///
 /// # Errors
 /// The errors of `perform`.
@@ -38,7 +39,8 @@ pub fn run_script<R: Wait>(
     requires some { 1 ≤ script.now.n }
     requires few { script.now.n ≤ 256 }
     ensures run { IfOk result
-        (λ trace. IsRunFrom (IsStartOf script.now) script.now.commands trace.recording) }
+        (λ trace. IsRunFrom (IsStartOf script.now) script.now.commands
+        script.now.exploration trace.recording) }
     ensures safe { IfOk result (λ trace. IsSafeTrace trace.recording script.now.f) }
     ensures refused { IfErr result (ExplainsRunFault (IsStartOf script.now) script.now.commands) }
 {
@@ -53,5 +55,13 @@ pub fn run_script<R: Wait>(
             spares.push(Box::new(alloc, ScriptProcess::new(script, me))?)?;
         }
     }
-    perform_seeded(rt, alloc, script, boxes, spares, seed)
+    let mut later: Vec<Box<dyn Process + Send>> = Vec::new(alloc);
+    for place in 0..exploration_spares(script) {
+        let me = (place % u32::from(script.n)) as u8;
+        later.push(Box::new(alloc, ScriptProcess::new(script, me))?)?;
+    }
+    let mut lists = by_process(alloc, script.n, later)?;
+    let mut core = core_after(rt, alloc, script, boxes, spares, seed)?;
+    explore_as(alloc, &mut core, script.exploration, lists.as_mut_slice())?;
+    Ok(core.into_trace())
 }

@@ -1,33 +1,65 @@
 -- A start and its line.
-use Rattle.std.proofs.Common.{◌≡◌, ℕ, ◌<◌, ◌≤◌, ◌^◌, List, ◌∷◌, ◌++◌, Some, None, refl, ap, sym, ◌∙◌, subst, arith, decimal, codes}
+use Rattle.std.proofs.Common.{◌≡◌, ℕ, ◌<◌, ◌≤◌, ◌^◌, List, ◌∷◌, ◌++◌, Bool, true, false, Option, Some, None, refl, ap, sym, ◌∙◌, subst, arith, decimal, codes}
+use Rattle.std.specs.Prelude.{IfSome, is_some}
+use Rattle.std.proofs.lemmas.List.{append-nil}
 use Rattle.std.proofs.lemmas.Option.{none-some, same_Some}
+use Rattle.causal_script.specs.declared.script.Exploration.{Exploration}
 use Rattle.causal_script.specs.declared.script.Kind.{Kind}
 use Rattle.causal_script.specs.declared.script.Kind.TheVariants.{Ring, Echo, Tally}
 use Rattle.causal_script.specs.declared.start.Start.{Start}
-use Rattle.causal_script.specs.Spelling.{start_line_at, start_line, IsStart}
+use Rattle.causal_script.specs.Spelling.{first_word, exploration_numbers, start_line, IsStart, IsExploration}
 use Rattle.causal_script.specs.Faults.{IsStartLine}
-use Rattle.causal_script.specs.Inside.Reading.{◌>>=◌, split_at_byte, number_of, count_of, numbered_start, parse_start_numbers, tally_of, start_of_kind, named_start, start_of}
+use Rattle.causal_script.specs.Inside.Reading.{◌>>=◌, split_at_byte, number_of, count_of, split_last, numbered_start, parse_start_numbers, tally_of, start_of_kind, named_start, start_of}
 use Rattle.causal_script.proofs.Cuts.{IsCut, cut_whole}
 use Rattle.causal_script.proofs.Numbers.{number_of-decimal, decimal-number_of, count_of-decimal, decimal-count_of, cut_number}
 use Rattle.causal_script.proofs.CommandLines.{bind_some, behind_cut, chosen, none_spelled}
 
 -- ---- from the line to the start
 
+-- the first word of a line that is to have an exploration, or none
+abbrev word_for : Bool → List ℕ
+word_for false = codes "start "
+word_for true = codes "explore "
+
+-- a start's last number, and the exploration after it
+record IsSplit (explores : Bool) (words : List ℕ) (parts : List ℕ × Option Exploration) : Type 0 where
+  whole : words ≡ parts.0 ++ exploration_numbers parts.1
+  fits : IfSome parts.1 IsExploration
+  word : word_for explores ≡ first_word parts.1
+
+split_last_is : (explores : Bool) (words : List ℕ) (parts : List ℕ × Option Exploration) → split_last explores words ≡ Some parts → IsSplit explores words parts
+unfolding split_last
+split_last_is false words parts e = subst (IsSplit false words) (same_Some _ _ e) (record { whole = sym (append-nil words); fits = tt; word = refl })
+split_last_is true words parts e =
+    let a = bind_some (split_at_byte 32 words) _ parts e in
+    let b = bind_some (split_at_byte 32 a.0.1) _ parts a.2 in
+    let seed = bind_some (number_of 4294967295 b.0.0) _ parts b.2 in
+    let steps = bind_some (number_of 1000 b.0.1) _ parts seed.2 in
+    let first : IsCut 32 words a.0 = cut_whole 32 words a.0 a.1 in
+    let second : IsCut 32 a.0.1 b.0 = cut_whole 32 a.0.1 b.0 b.1 in
+    let from = decimal-number_of 4294967295 seed.0 b.0.0 (omega arith) seed.1 in
+    let most = decimal-number_of 1000 steps.0 b.0.1 (omega arith) steps.1 in
+    let rest : a.0.1 ≡ decimal seed.0 ++ (32 ∷ decimal steps.0) = second.whole ∙ ap (λ xs. xs ++ 32 ∷ b.0.1) from.0 ∙ ap (λ xs. decimal seed.0 ++ (32 ∷ xs)) most.0 in
+    subst (IsSplit true words) (same_Some _ _ steps.2) (record { whole = first.whole ∙ ap (λ xs. a.0.0 ++ (32 ∷ xs)) rest; fits = (omega (arith, from.1), most.1); word = refl })
+
 -- the numbers after the kind
-record IsNumbers (kind : Kind) (words : List ℕ) (s : Start) : Type 0 where
+record IsNumbers (explores : Bool) (kind : Kind) (words : List ℕ) (s : Start) : Type 0 where
   n : ℕ
   f : ℕ
   param : ℕ
-  is : s ≡ record { kind = kind; n = n; f = f; param = param }
+  exploration : Option Exploration
+  is : s ≡ record { kind = kind; n = n; f = f; param = param; exploration = exploration }
   some : 1 ≤ n
   few : n ≤ 256
   faults : f < 2 ^ 16
   small : param < 2 ^ 8
+  fits : IfSome exploration IsExploration
+  word : word_for explores ≡ first_word exploration
 
-numbered_is : (kind : Kind) (words front back : List ℕ) (param : ℕ) (s : Start) → param < 2 ^ 8 → numbered_start kind front back param ≡ Some s
-    → (w : IsNumbers kind words s) × (front ≡ decimal w.n) × (back ≡ decimal w.f) × (w.param ≡ param)
+numbered_is : (explores : Bool) (kind : Kind) (words front back : List ℕ) (param : ℕ) (exploration : Option Exploration) (s : Start) → param < 2 ^ 8 → IfSome exploration IsExploration → word_for explores ≡ first_word exploration
+    → numbered_start kind front back param exploration ≡ Some s → (w : IsNumbers explores kind words s) × (front ≡ decimal w.n) × (back ≡ decimal w.f) × (w.param ≡ param) × (w.exploration ≡ exploration)
 unfolding numbered_start
-numbered_is kind words front back param s small e =
+numbered_is explores kind words front back param exploration s small fits word e =
     let n = bind_some (count_of front) _ s e in
     let f = bind_some (number_of 65535 back) _ s n.2 in
     let count = decimal-count_of n.0 front n.1 in
@@ -36,67 +68,80 @@ numbered_is kind words front back param s small e =
         n = n.0;
         f = f.0;
         param = param;
+        exploration = exploration;
         is = sym (same_Some _ _ f.2);
         some = count.1;
         few = count.2;
         faults = omega (arith, faults.1);
         small = small;
+        fits = fits;
+        word = word;
       },
       count.0,
       faults.0,
       refl,
+      refl,
     )
 
-with_param_is : (kind : Kind) (words : List ℕ) (s : Start) → parse_start_numbers kind words ≡ Some s → (w : IsNumbers kind words s) × (words ≡ decimal w.n ++ (32 ∷ (decimal w.f ++ (32 ∷ decimal w.param))))
+with_param_is : (explores : Bool) (kind : Kind) (words : List ℕ) (s : Start) → parse_start_numbers explores kind words ≡ Some s
+    → (w : IsNumbers explores kind words s) × (words ≡ decimal w.n ++ (32 ∷ (decimal w.f ++ (32 ∷ (decimal w.param ++ exploration_numbers w.exploration)))))
 unfolding parse_start_numbers
-with_param_is kind words s e =
+with_param_is explores kind words s e =
     let a = bind_some (split_at_byte 32 words) _ s e in
     let b = bind_some (split_at_byte 32 a.0.1) _ s a.2 in
-    let param = bind_some (number_of 255 b.0.1) _ s b.2 in
+    let c = bind_some (split_last explores b.0.1) _ s b.2 in
+    let param = bind_some (number_of 255 c.0.0) _ s c.2 in
     let first : IsCut 32 words a.0 = cut_whole 32 words a.0 a.1 in
     let second : IsCut 32 a.0.1 b.0 = cut_whole 32 a.0.1 b.0 b.1 in
-    let number = decimal-number_of 255 param.0 b.0.1 (omega arith) param.1 in
-    let w = numbered_is kind words a.0.0 b.0.0 param.0 s (omega (arith, number.1)) param.2 in
-    let rest : a.0.1 ≡ decimal w.0.f ++ (32 ∷ decimal w.0.param) = second.whole ∙ ap (λ xs. xs ++ 32 ∷ b.0.1) w.2 ∙ ap (λ xs. decimal w.0.f ++ (32 ∷ xs)) (number.0 ∙ ap decimal (sym w.3)) in
+    let split = split_last_is explores b.0.1 c.0 c.1 in
+    let number = decimal-number_of 255 param.0 c.0.0 (omega arith) param.1 in
+    let w = numbered_is explores kind words a.0.0 b.0.0 param.0 c.0.1 s (omega (arith, number.1)) split.fits split.word param.2 in
+    let last : b.0.1 ≡ decimal w.0.param ++ exploration_numbers w.0.exploration =
+    split.whole ∙ ap (λ xs. xs ++ exploration_numbers c.0.1) (number.0 ∙ ap decimal (sym w.3)) ∙ ap (λ e. decimal w.0.param ++ exploration_numbers e) (sym w.4) in
+    let rest : a.0.1 ≡ decimal w.0.f ++ (32 ∷ (decimal w.0.param ++ exploration_numbers w.0.exploration)) = second.whole ∙ ap (λ xs. xs ++ 32 ∷ b.0.1) w.2 ∙ ap (λ xs. decimal w.0.f ++ (32 ∷ xs)) last in
     (w.0, first.whole ∙ ap (λ xs. xs ++ 32 ∷ a.0.1) w.1 ∙ ap (λ xs. decimal w.0.n ++ (32 ∷ xs)) rest)
 
-tally_is : (words : List ℕ) (s : Start) → tally_of words ≡ Some s → (w : IsNumbers Tally words s) × (w.param ≡ 0) × (words ≡ decimal w.n ++ (32 ∷ decimal w.f))
+tally_is : (explores : Bool) (words : List ℕ) (s : Start) → tally_of explores words ≡ Some s → (w : IsNumbers explores Tally words s) × (w.param ≡ 0) × (words ≡ decimal w.n ++ (32 ∷ (decimal w.f ++ exploration_numbers w.exploration)))
 unfolding tally_of
-tally_is words s e =
+tally_is explores words s e =
     let a = bind_some (split_at_byte 32 words) _ s e in
+    let c = bind_some (split_last explores a.0.1) _ s a.2 in
     let first : IsCut 32 words a.0 = cut_whole 32 words a.0 a.1 in
-    let w = numbered_is Tally words a.0.0 a.0.1 0 s (omega arith) a.2 in
-    (w.0, w.3, first.whole ∙ ap (λ xs. xs ++ 32 ∷ a.0.1) w.1 ∙ ap (λ xs. decimal w.0.n ++ (32 ∷ xs)) w.2)
+    let split = split_last_is explores a.0.1 c.0 c.1 in
+    let w = numbered_is explores Tally words a.0.0 c.0.0 0 c.0.1 s (omega arith) split.fits split.word c.2 in
+    let last : a.0.1 ≡ decimal w.0.f ++ exploration_numbers w.0.exploration = split.whole ∙ ap (λ xs. xs ++ exploration_numbers c.0.1) w.2 ∙ ap (λ e. decimal w.0.f ++ exploration_numbers e) (sym w.4) in
+    (w.0, w.3, first.whole ∙ ap (λ xs. xs ++ 32 ∷ a.0.1) w.1 ∙ ap (λ xs. decimal w.0.n ++ (32 ∷ xs)) last)
 
 -- the line spells the start
 abbrev pub SaysStart : List ℕ → Start → Type 0
 SaysStart line s = IsStart s × (line ≡ start_line s)
 
-says_with_param : (kind : Kind) (word name words line : List ℕ) (s : Start) → (kind ≡ Tally → ⊥)
-    → ((n f param : ℕ) → codes "start " ++ (word ++ (32 ∷ (decimal n ++ (32 ∷ (decimal f ++ (32 ∷ decimal param)))))) ≡ start_line (record { kind = kind; n = n; f = f; param = param }))
-    → line ≡ codes "start " ++ (name ++ 32 ∷ words) → name ≡ word → parse_start_numbers kind words ≡ Some s → SaysStart line s
-says_with_param kind word name words line s other spells whole named e = grind (arith, with_param_is kind words s e)
+says_with_param : (explores : Bool) (kind : Kind) (word name words line : List ℕ) (s : Start) → (kind ≡ Tally → ⊥)
+    → ((n f param : ℕ) (e : Option Exploration) → first_word e ++ (word ++ (32 ∷ (decimal n ++ (32 ∷ (decimal f ++ (32 ∷ (decimal param ++ exploration_numbers e))))))) ≡ start_line (record { kind = kind; n = n; f = f; param = param; exploration = e }))
+    → line ≡ word_for explores ++ (name ++ 32 ∷ words) → name ≡ word → parse_start_numbers explores kind words ≡ Some s → SaysStart line s
+says_with_param explores kind word name words line s other spells whole named e = grind (arith, with_param_is explores kind words s e)
 
-says_tally : (name words line : List ℕ) (s : Start) → line ≡ codes "start " ++ (name ++ 32 ∷ words) → name ≡ codes "tally" → tally_of words ≡ Some s → SaysStart line s
-says_tally name words line s whole named e = grind (arith, tally_is words s e)
+says_tally : (explores : Bool) (name words line : List ℕ) (s : Start) → line ≡ word_for explores ++ (name ++ 32 ∷ words) → name ≡ codes "tally" → tally_of explores words ≡ Some s → SaysStart line s
+says_tally explores name words line s whole named e = grind (arith, tally_is explores words s e)
 
-says_kind : (name words line : List ℕ) (s : Start) → line ≡ codes "start " ++ (name ++ 32 ∷ words) → start_of_kind name words ≡ Some s → SaysStart line s
+says_kind : (explores : Bool) (name words line : List ℕ) (s : Start) → line ≡ word_for explores ++ (name ++ 32 ∷ words) → start_of_kind explores name words ≡ Some s → SaysStart line s
 unfolding start_of_kind
-says_kind name words line s whole e =
-    chosen name (codes "ring") _ _ s (λ named is. says_with_param Ring (codes "ring") name words line s (λ no. cc) (λ n f param. refl) whole named is)
-    (chosen name (codes "echo") _ _ s (λ named is. says_with_param Echo (codes "echo") name words line s (λ no. cc) (λ n f param. refl) whole named is)
-    (chosen name (codes "tally") _ None s (λ named is. says_tally name words line s whole named is)
+says_kind explores name words line s whole e =
+    chosen name (codes "ring") _ _ s (λ named is. says_with_param explores Ring (codes "ring") name words line s (λ no. cc) (λ n f param e. refl) whole named is)
+    (chosen name (codes "echo") _ _ s (λ named is. says_with_param explores Echo (codes "echo") name words line s (λ no. cc) (λ n f param e. refl) whole named is)
+    (chosen name (codes "tally") _ None s (λ named is. says_tally explores name words line s whole named is)
     (λ no. absurd (none-some s no)))) e
 
 says_named_start : (name words line : List ℕ) (s : Start) → line ≡ name ++ 32 ∷ words → named_start name words ≡ Some s → SaysStart line s
 unfolding named_start
 says_named_start name words line s whole e =
-    chosen name (codes "start") _ None s (λ named is. behind named is) (λ no. absurd (none-some s no)) e where
-      behind : name ≡ codes "start" → (split_at_byte 32 words >>= λ a. start_of_kind a.0 a.1) ≡ Some s → SaysStart line s
-      behind named is =
+    chosen name (codes "start") _ _ s (λ named is. behind false (whole ∙ ap (λ xs. xs ++ 32 ∷ words) named) is)
+    (chosen name (codes "explore") _ None s (λ named is. behind true (whole ∙ ap (λ xs. xs ++ 32 ∷ words) named) is) (λ no. absurd (none-some s no))) e where
+      behind : (explores : Bool) → line ≡ word_for explores ++ words → (split_at_byte 32 words >>= λ a. start_of_kind explores a.0 a.1) ≡ Some s → SaysStart line s
+      behind explores front is =
           let a = bind_some (split_at_byte 32 words) _ s is in
           let parts : IsCut 32 words a.0 = cut_whole 32 words a.0 a.1 in
-          says_kind a.0.0 a.0.1 line s (whole ∙ ap (λ xs. xs ++ 32 ∷ words) named ∙ ap (λ xs. codes "start " ++ xs) parts.whole) a.2
+          says_kind explores a.0.0 a.0.1 line s (front ∙ ap (λ xs. word_for explores ++ xs) parts.whole) a.2
 
 -- if a line is parsed as a start, it spells that start
 pub says_start : (line : List ℕ) (s : Start) → start_of line ≡ Some s → SaysStart line s
@@ -105,26 +150,35 @@ says_start line s e = behind_cut line _ s e (λ parts whole is. says_named_start
 
 -- ---- from the start to the line
 
-with_param_back : (kind : Kind) (n f param : ℕ) → 1 ≤ n → n ≤ 256 → f < 2 ^ 16 → param < 2 ^ 8
-    → parse_start_numbers kind (decimal n ++ (32 ∷ (decimal f ++ (32 ∷ decimal param)))) ≡ Some (record { kind = kind; n = n; f = f; param = param })
-unfolding parse_start_numbers numbered_start
-with_param_back kind n f param some few faults small = grind (arith, cut_number, number_of-decimal, count_of-decimal n some few)
+split_last_back : (k : ℕ) (e : Option Exploration) → k < 2 ^ 64 → IfSome e IsExploration → split_last (is_some e) (decimal k ++ exploration_numbers e) ≡ Some (decimal k, e)
+unfolding split_last
+split_last_back k None small fits = ap (λ xs. Some (xs, None)) (append-nil (decimal k))
+split_last_back k (Some e) small fits = grind (arith, cut_number, number_of-decimal)
 
-tally_back : (n f : ℕ) → 1 ≤ n → n ≤ 256 → f < 2 ^ 16 → tally_of (decimal n ++ (32 ∷ decimal f)) ≡ Some (record { kind = Tally; n = n; f = f; param = 0 })
+with_param_back : (kind : Kind) (n f param : ℕ) (e : Option Exploration) → 1 ≤ n → n ≤ 256 → f < 2 ^ 16 → param < 2 ^ 8 → IfSome e IsExploration
+    → parse_start_numbers (is_some e) kind (decimal n ++ (32 ∷ (decimal f ++ (32 ∷ (decimal param ++ exploration_numbers e))))) ≡ Some (record { kind = kind; n = n; f = f; param = param; exploration = e })
+unfolding parse_start_numbers numbered_start
+with_param_back kind n f param e some few faults small fits = grind (arith, cut_number, number_of-decimal, count_of-decimal n some few, split_last_back param e)
+
+tally_back : (n f : ℕ) (e : Option Exploration) → 1 ≤ n → n ≤ 256 → f < 2 ^ 16 → IfSome e IsExploration
+    → tally_of (is_some e) (decimal n ++ (32 ∷ (decimal f ++ exploration_numbers e))) ≡ Some (record { kind = Tally; n = n; f = f; param = 0; exploration = e })
 unfolding tally_of numbered_start
-tally_back n f some few faults = rw (cut_number n (decimal f) (omega arith)) (rw (count_of-decimal n some few) (rw (number_of-decimal 65535 f (omega arith) (omega arith)) refl))
+tally_back n f e some few faults fits =
+    rw (cut_number n (decimal f ++ exploration_numbers e) (omega arith)) (rw (split_last_back f e (omega arith) fits) (rw (count_of-decimal n some few) (rw (number_of-decimal 65535 f (omega arith) (omega arith)) refl)))
+
+start_back_of : (kind : Kind) (n f param : ℕ) (e : Option Exploration) → IsStart (record { kind = kind; n = n; f = f; param = param; exploration = e })
+    → start_of (start_line (record { kind = kind; n = n; f = f; param = param; exploration = e })) ≡ Some (record { kind = kind; n = n; f = f; param = param; exploration = e })
+unfolding start_of named_start start_of_kind
+start_back_of Ring n f param None h = with_param_back Ring n f param None h.some h.few h.faults h.param h.explored
+start_back_of Ring n f param (Some e) h = with_param_back Ring n f param (Some e) h.some h.few h.faults h.param h.explored
+start_back_of Echo n f param None h = with_param_back Echo n f param None h.some h.few h.faults h.param h.explored
+start_back_of Echo n f param (Some e) h = with_param_back Echo n f param (Some e) h.some h.few h.faults h.param h.explored
+start_back_of Tally n f param None h = rw (h.tally refl) (tally_back n f None h.some h.few h.faults h.explored)
+start_back_of Tally n f param (Some e) h = rw (h.tally refl) (tally_back n f (Some e) h.some h.few h.faults h.explored)
 
 -- the line of a start is parsed as that start
 pub start_back : (s : Start) → IsStart s → start_of (start_line s) ≡ Some s
-unfolding start_of named_start start_of_kind
-start_back s h = at s.kind refl where
-  at : (kind : Kind) → s.kind ≡ kind → start_of (start_line s) ≡ Some s
-  at Ring is = subst (λ (k : Kind). start_of (start_line_at k s) ≡ Some (record { kind = k; n = s.n; f = s.f; param = s.param })) (sym is) (with_param_back Ring s.n s.f s.param h.some h.few h.faults h.param)
-  at Echo is = subst (λ (k : Kind). start_of (start_line_at k s) ≡ Some (record { kind = k; n = s.n; f = s.f; param = s.param })) (sym is) (with_param_back Echo s.n s.f s.param h.some h.few h.faults h.param)
-  at Tally is =
-      let none : 0 ≡ s.param = sym (h.tally is) in
-      subst (λ (k : Kind). start_of (start_line_at k s) ≡ Some (record { kind = k; n = s.n; f = s.f; param = s.param })) (sym is)
-      (subst (λ (p : ℕ). start_of (start_line_at Tally s) ≡ Some (record { kind = Tally; n = s.n; f = s.f; param = p })) none (tally_back s.n s.f h.some h.few h.faults))
+start_back s h = start_back_of s.kind s.n s.f s.param s.exploration h
 
 -- ---- valid and invalid lines
 

@@ -1,11 +1,12 @@
 -- The script that a text spells.
-use Rattle.std.specs.Prelude.{◌≡◌, ℕ, ◌^◌, ◌<◌, ◌≤◌, List, ◌∷◌, ◌++◌, length, map, codes, decimal}
+use Rattle.std.specs.Prelude.{◌≡◌, ℕ, ◌^◌, ◌<◌, ◌≤◌, List, [], ◌∷◌, ◌++◌, length, map, codes, decimal, Option, Some, None, IfSome}
 use Rattle.std.specs.List.{AllByRecursion, range_with_len}
 use Rattle.causal_protocol.specs.declared.request.Request.{Request}
 use Rattle.causal_protocol.specs.declared.request.Request.TheVariants.{Deliver, Crash, Restart, Flush, Forget}
 use Rattle.causal_script.specs.declared.script.Kind.{Kind}
 use Rattle.causal_script.specs.declared.script.Kind.TheVariants.{Ring, Echo, Tally}
 use Rattle.causal_script.specs.declared.script.Command.{Command}
+use Rattle.causal_script.specs.declared.script.Exploration.{Exploration}
 use Rattle.causal_script.specs.declared.script.Script.{Script}
 use Rattle.causal_script.specs.declared.start.Start.{Start}
 use Rattle.causal_script.specs.Lines.{lines}
@@ -14,6 +15,10 @@ use Rattle.causal_script.specs.Lines.{lines}
 abbrev pub max_script : ℕ
 max_script = 1048576
 
+-- the maximum number of calls of an exploration
+abbrev pub max_steps : ℕ
+max_steps = 1000
+
 -- the content of a script, without the memory layout of its commands
 pub record ScriptContent : Type 0 where
   pub start : Start
@@ -21,19 +26,30 @@ pub record ScriptContent : Type 0 where
 
 -- the content of a script
 abbrev pub script_content : Script → ScriptContent
-script_content s = record { start = record { kind = s.kind; n = s.n; f = s.f; param = s.param }; commands = s.commands }
+script_content s = record { start = record { kind = s.kind; n = s.n; f = s.f; param = s.param; exploration = s.exploration }; commands = s.commands }
 
 -- ---- the lines
 
--- `N F PARAM`
-abbrev pub three_numbers : Start → List ℕ
-three_numbers s = decimal s.n ++ (codes " " ++ (decimal s.f ++ (codes " " ++ decimal s.param)))
+-- the first word, with the space after it
+abbrev pub first_word : Option Exploration → List ℕ
+first_word None = codes "start "
+first_word (Some e) = codes "explore "
+
+-- ` SEED STEPS`, where the run is explored
+abbrev pub exploration_numbers : Option Exploration → List ℕ
+exploration_numbers None = []
+exploration_numbers (Some e) = codes " " ++ (decimal e.seed ++ (codes " " ++ decimal e.steps))
+
+-- `N F PARAM`, and the numbers of the exploration
+abbrev pub start_numbers : Start → List ℕ
+start_numbers s = decimal s.n ++ (codes " " ++ (decimal s.f ++ (codes " " ++ (decimal s.param ++ exploration_numbers s.exploration))))
 
 -- the first line, for a given kind
 abbrev pub start_line_at : Kind → Start → List ℕ
-start_line_at Ring s = codes "start ring " ++ three_numbers s
-start_line_at Echo s = codes "start echo " ++ three_numbers s
-start_line_at Tally s = codes "start tally " ++ (decimal s.n ++ (codes " " ++ decimal s.f))
+start_line_at Ring s = first_word s.exploration ++ (codes "ring " ++ start_numbers s)
+start_line_at Echo s = first_word s.exploration ++ (codes "echo " ++ start_numbers s)
+start_line_at Tally s =
+    first_word s.exploration ++ (codes "tally " ++ (decimal s.n ++ (codes " " ++ (decimal s.f ++ exploration_numbers s.exploration))))
 
 -- the first line
 abbrev pub start_line : Start → List ℕ
@@ -50,6 +66,10 @@ command_line (Forget p) = codes "forget " ++ decimal p.0
 
 -- ---- the numbers
 
+-- the numbers of an exploration are in their ranges
+abbrev pub IsExploration : Exploration → Type 0
+IsExploration e = (e.seed < 2 ^ 32) × (e.steps ≤ max_steps)
+
 -- the numbers of a first line are in their ranges; a tally has no parameter
 pub record IsStart (s : Start) : Type 0 where
   pub some : 1 ≤ s.n
@@ -57,6 +77,7 @@ pub record IsStart (s : Start) : Type 0 where
   pub faults : s.f < 2 ^ 16
   pub param : s.param < 2 ^ 8
   pub tally : s.kind ≡ Tally → s.param ≡ 0
+  pub explored : IfSome s.exploration IsExploration
 
 -- the numbers of a command are in their ranges
 abbrev pub IsRequest : Request → Type 0

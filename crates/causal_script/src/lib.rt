@@ -22,4 +22,5 @@ mod tokens;
 
 pub use line::{refused_line, script_line};
 pub use parse::parse_script;
-pub use script::{Command, Commands, Kind, Script, ScriptFault, ScriptFaultKind};
+pub use script::{Command, Commands, Exploration, Kind, Script, ScriptFault, ScriptFaultKind};
+pub use start::MAX_STEPS;

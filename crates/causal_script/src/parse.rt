@@ -7,7 +7,7 @@ ghost use Rattle.causal_script.specs.Inside.Place.{IsBigLine, IsAfter, AreComman
 
 use crate::command::parse_request;
 use crate::script::{Command, Commands, Script, ScriptFault, ScriptFaultKind};
-use crate::start::{Start, parse_first_line};
+use crate::start::parse_first_line;
 use crate::tokens::split_at_byte;
 use std::alloc::Global;
 
@@ -121,13 +121,14 @@ pub fn parse_script(alloc: Global, bytes: &[u8]) -> Result<Script, ScriptFault>
             kind: ScriptFaultKind::Script,
         });
     };
-    let Start { kind, n, f, param } = line_or_fault(big, 1, parse_first_line(first))?;
+    let start = line_or_fault(big, 1, parse_first_line(first))?;
     let commands = parse_commands(alloc, rest, big)?;
     Ok(Script {
-        kind,
-        n,
-        f,
-        param,
+        kind: start.kind,
+        n: start.n,
+        f: start.f,
+        param: start.param,
+        exploration: start.exploration,
         commands: Commands::new(commands),
     })
 }

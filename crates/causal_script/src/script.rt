@@ -21,7 +21,16 @@ pub struct Command {
 /// Commands in order. Contracts see their list.
 pub type Commands = Sequence<Command>;
 
-/// A script: n processes of one kind, the bound f on processes that are down at once, and the commands in order.
+/// How a run goes on after the commands: by calls that a seed chooses.
+#[derive(Clone, Copy)]
+pub struct Exploration {
+    pub seed: u32,
+    /// The maximum number of calls, at most `MAX_STEPS`.
+    pub steps: u32,
+}
+
+/// A script: n processes of one kind, the bound f on processes that are down at once, the commands in order, and how the
+/// run goes on after them.
 #[derive(Drop)]
 pub struct Script {
     pub kind: Kind,
@@ -30,6 +39,8 @@ pub struct Script {
     pub f: u16,
     /// The hops of a ring, the rounds of an echo; 0 for a tally.
     pub param: u8,
+    /// None: the run ends after the commands.
+    pub exploration: Option<Exploration>,
     pub commands: Commands,
 }
 

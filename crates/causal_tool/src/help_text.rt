@@ -166,6 +166,11 @@ Kinds of processes (H from 0 to 255):
                       above 0 sends B - 1 back
   start tally N F     each but 0 sends its number to 0, which tells each the total so far
 
+With SEED STEPS at the end, explore in place of start lets the run go on after the commands, by
+at most STEPS calls (0 to 1000) that SEED (0 to 4294967295) chooses: deliveries, restarts, and now
+and then a crash, a flush or a forget; it ends when nothing is left to deliver.
+  explore ring 5 2 255 7 500
+
 Answers on standard output:
   the trace of the run, which an audit for F accepts
   refused line=L NAME

@@ -9,7 +9,7 @@ use Rattle.causal_driver.specs.declared.schedule.Call.{Call}
 use Rattle.causal_driver.specs.declared.driver.TurnOutcome.{TurnOutcome}
 use Rattle.causal_driver.specs.declared.driver.TurnOutcome.TheVariants as Outcomes
 use Rattle.causal_driver.specs.Options.{moves}
-use Rattle.causal_driver.specs.Schedules.{word_after, chosen, AreCalls}
+use Rattle.causal_driver.specs.Schedules.{word_after, first_word, chosen, AreCalls}
 
 -- the chosen request was made, and its call appended
 pub record IsMade (s : Schedule) (word : ℕ) (before after : List Call) (old new : Run) : Type 0 where
@@ -39,6 +39,6 @@ IsTurn s word Outcomes.NoSpare before after old new = LacksSpare s word before a
 
 -- this many calls were made so far, which lead from one run to the other, and this word chooses next
 pub record HaveMade (s : Schedule) (word made : ℕ) (calls : List Call) (old new : Run) : Type 0 where
-  pub lead : AreCalls s s.seed calls old new
-  pub next : word ≡ word_after s.seed (length calls)
+  pub lead : AreCalls s (first_word s) calls old new
+  pub next : word ≡ word_after (first_word s) (length calls)
   pub number : length calls ≡ made

@@ -1,5 +1,5 @@
 -- Parsing of one line, token by token.
-use Rattle.std.specs.Prelude.{ℕ, ◌==◌, ◌&&◌, not, Bool, false, List, [], ◌∷◌, codes, bytes_eq, nat_le, nat_lt, if◌then◌else◌, Option, Some, None, option_map}
+use Rattle.std.specs.Prelude.{ℕ, ◌==◌, ◌&&◌, not, Bool, true, false, List, [], ◌∷◌, codes, bytes_eq, nat_le, nat_lt, if◌then◌else◌, Option, Some, None, option_map}
 use Rattle.std.specs.Char.{is_ascii_digit}
 use Rattle.std.specs.Str.{all_ascii_digits}
 use Rattle.std.specs.Str.Parse.{digits_value}
@@ -8,7 +8,9 @@ use Rattle.causal_protocol.specs.declared.request.Request.{Request}
 use Rattle.causal_protocol.specs.declared.request.Request.TheVariants.{Deliver, Crash, Restart, Flush, Forget}
 use Rattle.causal_script.specs.declared.script.Kind.{Kind}
 use Rattle.causal_script.specs.declared.script.Kind.TheVariants.{Ring, Echo, Tally}
+use Rattle.causal_script.specs.declared.script.Exploration.{Exploration}
 use Rattle.causal_script.specs.declared.start.Start.{Start}
+use Rattle.causal_script.specs.Spelling.{max_steps}
 
 -- applies the next parsing step if the first returned a value
 infixl 10 ◌>>=◌
@@ -68,32 +70,43 @@ request_of line = split_at_byte space line >>= λ a. named_request a.0 a.1
 unfoldable pub count_of : List ℕ → Option ℕ
 count_of word = number_of 256 word >>= λ n. if nat_lt 0 n then Some n else None
 
+-- the last number of a start, and the exploration `SEED STEPS` after it, if there is to be one
+unfoldable pub split_last : Bool → List ℕ → Option (List ℕ × Option Exploration)
+split_last explores words =
+    if explores then
+    split_at_byte space words >>= (λ a. split_at_byte space a.1 >>= λ b.
+    number_of 4294967295 b.0 >>= λ seed. number_of max_steps b.1 >>= λ steps. Some (a.0, Some (record { seed = seed; steps = steps })))
+    else Some (words, None)
+
 -- a start with the process count and failure bound in these two tokens
-unfoldable pub numbered_start : Kind → List ℕ → List ℕ → ℕ → Option Start
-numbered_start kind n f param =
-    count_of n >>= λ n. number_of 65535 f >>= λ f. Some (record { kind = kind; n = n; f = f; param = param })
+unfoldable pub numbered_start : Kind → List ℕ → List ℕ → ℕ → Option Exploration → Option Start
+numbered_start kind n f param exploration =
+    count_of n >>= λ n. number_of 65535 f >>= λ f. Some (record { kind = kind; n = n; f = f; param = param; exploration = exploration })
 
--- the start in `N F PARAM`
-unfoldable pub parse_start_numbers : Kind → List ℕ → Option Start
-parse_start_numbers kind words =
-    split_at_byte space words >>= λ a. split_at_byte space a.1 >>= λ b. number_of 255 b.1 >>= λ param. numbered_start kind a.0 b.0 param
+-- the start in `N F PARAM`, or in `N F PARAM SEED STEPS`
+unfoldable pub parse_start_numbers : Bool → Kind → List ℕ → Option Start
+parse_start_numbers explores kind words =
+    split_at_byte space words >>= λ a. split_at_byte space a.1 >>= λ b. split_last explores b.1 >>= λ c.
+    number_of 255 c.0 >>= λ param. numbered_start kind a.0 b.0 param c.1
 
--- the start in `N F`
-unfoldable pub tally_of : List ℕ → Option Start
-tally_of words = split_at_byte space words >>= λ a. numbered_start Tally a.0 a.1 0
+-- the start in `N F`, or in `N F SEED STEPS`
+unfoldable pub tally_of : Bool → List ℕ → Option Start
+tally_of explores words = split_at_byte space words >>= λ a. split_last explores a.1 >>= λ c. numbered_start Tally a.0 c.0 0 c.1
 
 -- a start, by its kind and its numbers
-unfoldable pub start_of_kind : List ℕ → List ℕ → Option Start
-start_of_kind kind words =
-    if bytes_eq kind (codes "ring") then parse_start_numbers Ring words else
-    if bytes_eq kind (codes "echo") then parse_start_numbers Echo words else
-    if bytes_eq kind (codes "tally") then tally_of words else
+unfoldable pub start_of_kind : Bool → List ℕ → List ℕ → Option Start
+start_of_kind explores kind words =
+    if bytes_eq kind (codes "ring") then parse_start_numbers explores Ring words else
+    if bytes_eq kind (codes "echo") then parse_start_numbers explores Echo words else
+    if bytes_eq kind (codes "tally") then tally_of explores words else
     None
 
 -- a start, by the first token and the rest of the line
 unfoldable pub named_start : List ℕ → List ℕ → Option Start
 named_start name words =
-    if bytes_eq name (codes "start") then split_at_byte space words >>= (λ a. start_of_kind a.0 a.1) else None
+    if bytes_eq name (codes "start") then split_at_byte space words >>= (λ a. start_of_kind false a.0 a.1) else
+    if bytes_eq name (codes "explore") then split_at_byte space words >>= (λ a. start_of_kind true a.0 a.1) else
+    None
 
 -- the start in a first line
 unfoldable pub start_of : List ℕ → Option Start

@@ -6,7 +6,7 @@ use Rattle.causal_driver.proofs.driver.drive.Goals as goal
 
 -- src/driver.rt:121:5
 pub loop-made-init : goal.loop-made-init
-loop-made-init g c = rw c.new-calls.ensures.items (none_made c.args.schedule (core_run c.args.core.now))
+loop-made-init g c = rw (c.new-calls.ensures.items, c.next_word-first.ensures) (none_made c.args.schedule (core_run c.args.core.now))
 
 -- src/driver.rt:121:5
 pub loop-made-preserved : goal.loop-made-preserved

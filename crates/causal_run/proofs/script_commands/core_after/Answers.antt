@@ -5,8 +5,8 @@ use Rattle.causal_shared.specs.declared.item.Item.{Item}
 use Rattle.causal_shared.specs.Shared.{opening_of}
 use Rattle.causal_script.specs.declared.script.Command.{Command}
 use Rattle.causal_run.specs.Inside.IssuedRequests.{ArePerformed, IsRefusedRun}
-use Rattle.causal_run.proofs.Histories.{run-of, refused-as, safe-as, opened-as, one-seat, set-one}
-use Rattle.causal_run.proofs.script_commands.perform_seeded.Goals as goal
+use Rattle.causal_run.proofs.Histories.{run-of, refused-as, faults-as, opened-as, one-seat, set-one}
+use Rattle.causal_run.proofs.script_commands.core_after.Goals as goal
 
 pub returns-in_err-outcome-clause-refused : goal.returns-in_err-outcome-clause-refused
 returns-in_err-outcome-clause-refused g c =
@@ -32,14 +32,14 @@ returns-clause-run g c =
     let told = subst (λ (cs : List Command). ArePerformed cs seat.view.items) c.as_slice.ensures c.in_ok-outcome.ensures.ok in
     let done = subst (λ (is : List Item). ArePerformed c.args.script.now.commands is) whole told in
     let opens = opened-as r history (opening_of c.in_ok-shared.shared) (core_run c.in_ok-core.core) c.in_ok-finished.ensures.opening c.in_ok-shared.ensures.recording c.in_ok-shared.ensures.faults in
-    run-of _ c.args.script.now.f c.args.boxes.items c.args.script.now.commands (core_state c.in_ok-core.core) r history c.into_trace.result.recording c.in_ok-core.ensures.ok opens c.in_ok-finished.ensures.legal.legal done c.into_trace.ensures.recording
+    run-of _ c.args.script.now.f c.args.boxes.items c.args.script.now.commands (core_state c.in_ok-core.core) r history c.in_ok-core.ensures.ok opens c.in_ok-finished.ensures.legal.legal done
 
-pub returns-clause-safe : goal.returns-clause-safe
-returns-clause-safe g c =
+pub returns-clause-faults : goal.returns-clause-faults
+returns-clause-faults g c =
     let history = c.in_ok-finished.finished.history in
     let r = core_run c.in_ok-finished.finished.core in
     let opens = opened-as r history (opening_of c.in_ok-shared.shared) (core_run c.in_ok-core.core) c.in_ok-finished.ensures.opening c.in_ok-shared.ensures.recording c.in_ok-shared.ensures.faults in
-    safe-as _ c.args.script.now.f c.args.boxes.items (core_state c.in_ok-core.core) r history c.into_trace.result.recording c.in_ok-core.ensures.ok opens c.in_ok-finished.ensures.safe c.into_trace.ensures.recording
+    faults-as _ c.args.script.now.f c.args.boxes.items (core_state c.in_ok-core.core) r history c.in_ok-core.ensures.ok opens
 
 pub invariant_of-finished : goal.invariant_of-finished
 invariant_of-finished g c =
