@@ -51,7 +51,7 @@ class Answer:
     def __init__(self, program, first, count, *rule):
         ran = subprocess.run([program, str(first), str(count), *rule], capture_output=True, text=True)
         lines = ran.stdout.splitlines() or [""]
-        counts, wrong = COUNTS.fullmatch(lines[-1]), WRONG.match(lines[0])
+        counts, wrong = COUNTS.fullmatch(f"{lines[-1]} {ran.stderr.strip()}"), WRONG.match(lines[0])
         self.is_whole = bool(counts) and ran.returncode == int(counts[2]) and int(counts[2]) == bool(wrong)
         self.counts = [int(it) for it in counts.groups()] if counts else [0] * 6
         self.seed, self.kind = (int(wrong[1]), wrong[2]) if wrong else (None, None)

@@ -3,8 +3,8 @@
 //!
 //!     causal_simulation FROM COUNT [RULE]
 //!
-//! It makes COUNT runs, of the seeds from FROM on, and prints one line with counts. At the first run that is wrong it
-//! ends with status 1, and prints the run's recordings. With RULE the embedder, the network or storage breaks that rule.
+//! It makes COUNT runs, of the seeds from FROM on, and prints how many; what happened in them is counted on standard
+//! error. At the first run that is wrong it ends with status 1, and prints the run's recordings. With RULE the embedder, the network or storage breaks that rule.
 #![tactic(auto)]
 
 /// What processes that are up have delivered.
@@ -125,8 +125,8 @@ fn print_wrong<R: Print>(
     Ok(())
 }
 
-/// Makes the runs, and prints the counts.
-fn run_all<R: Print>(rt: &R, alloc: Global, request: Request) -> Result<bool, NoMemory> {
+/// Makes the runs, and prints how many; counts of what happened are on standard error.
+fn run_all<R: Print + Eprint>(rt: &R, alloc: Global, request: Request) -> Result<bool, NoMemory> {
     let mut total = Counts {
         deliveries: 0,
         crashes: 0,
@@ -149,9 +149,10 @@ fn run_all<R: Print>(rt: &R, alloc: Global, request: Request) -> Result<bool, No
         restarts,
         stored,
     } = total;
-    let is_printed = println!(rt;
-        "runs={runs} wrong={wrong} deliveries={deliveries} crashes={crashes} restarts={restarts} stored={stored}"
-    ).is_ok();
+    let _ = eprintln!(rt;
+        "deliveries={deliveries} crashes={crashes} restarts={restarts} stored={stored}"
+    );
+    let is_printed = println!(rt; "runs={runs} wrong={wrong}").is_ok();
     Ok(is_printed && wrong == 0)
 }
 
