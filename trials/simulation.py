@@ -27,6 +27,7 @@ RULES = {
     "floor": "Orphan Strayed Differs",
     "no_read": "Orphan Strayed Differs",
     "early_read": "Orphan Strayed Differs",
+    "fence": "Orphan Strayed Differs",
     "lose_stored": "Orphan Strayed Differs",
     "early_stored": "Orphan Strayed Differs",
     "storage_clock": "Merge",

@@ -222,10 +222,21 @@ impl Simulation {
             }
             3..=10 => self.act(at, true),
             _ => match self.world.network.take(&mut self.world.random) {
-                Some(packet) => self.deliver(packet, true),
+                Some(packet) => self.deliver_or_delay(packet),
                 None => self.act(at, true),
             },
         }
+    }
+
+    /// Lets a process or storage take a packet, or leaves it under way: a write is committed late, and the report of an end
+    /// comes late.
+    fn deliver_or_delay(&mut self, packet: Packet) -> Result<(), Stop> {
+        let is_slow = matches!(&packet, Packet::Write { .. } | Packet::Ended { .. });
+        if is_slow && !self.world.random.is_one_in(4) {
+            self.world.network.add(packet)?;
+            return Ok(());
+        }
+        self.deliver(packet, true)
     }
 
     /// Starts all processes, and makes the steps of a run.
@@ -233,7 +244,7 @@ impl Simulation {
         for at in 0..self.processes.len() {
             self.act(at, false)?;
         }
-        let steps = 30 + self.world.random.below(90);
+        let steps = 40 + self.world.random.below(200);
         for _ in 0..steps {
             self.step()?;
         }
