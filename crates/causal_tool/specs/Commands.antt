@@ -16,10 +16,10 @@ use Rattle.causal_commands.specs.Ranges.{WritesRangeFor}
 use Rattle.causal_commands.specs.Replays.{WritesReplaysFor}
 use Rattle.causal_commands.specs.Streams.{WritesWithin}
 use Rattle.causal_commands.specs.Views.{WritesViewFor}
-use Rattle.causal_tool.specs.declared.args.Form.{Form}
-use Rattle.causal_tool.specs.declared.args.Form.TheVariants.{Lines, Json}
-use Rattle.causal_tool.specs.declared.args.Invocation.{Invocation}
-use Rattle.causal_tool.specs.declared.args.Invocation.TheVariants.{Trace, Draw, MappedReason, Merge, Run}
+use Rattle.causal_arguments.specs.declared.subcommand.Form.{Form}
+use Rattle.causal_arguments.specs.declared.subcommand.Form.TheVariants.{Lines, Json}
+use Rattle.causal_tool.specs.declared.invocation.Invocation.{Invocation}
+use Rattle.causal_tool.specs.declared.invocation.Invocation.TheVariants.{Trace, Draw, MappedReason, Merge, Run}
 use Rattle.causal_tool.specs.declared.run.CommandOutcome.{CommandOutcome}
 use Rattle.causal_tool.specs.declared.run.CommandOutcome.TheVariants as outcome_of
 

@@ -1,3 +1,3 @@
 -- Definitions for private contracts; no public contract cites them.
-pub mod Refusals
+pub mod Exits
 pub mod Sources

@@ -1,3 +1,3 @@
 pub mod Inside
-pub mod Args
+pub mod Invocations
 pub mod Commands

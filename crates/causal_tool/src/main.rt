@@ -10,7 +10,8 @@
 //! - [`answer_as_json`] is `audit`, `explain` and `replays` with `--json`.
 //! - [`answer_merge`] is `merge`, and [`answer_script`] is `run`.
 //!
-//! [`parse_command_line`] parses the command line, [`open_sources`] opens what it names, and [`run_command`] runs the command.
+//! [`parse_command_line`] of `causal_arguments` parses the command line, [`Invocation::of`] names the call that answers it,
+//! [`open_sources`] opens what it names, and [`run_command`] runs the command.
 //! `main` adds the standard streams, the exit status, and the name of the command before each line on standard error.
 #![tactic(auto)]
 
@@ -18,15 +19,14 @@ ghost use Rattle.std.specs.Prelude.{◌≡◌};
 ghost use Rattle.std.specs.Process.{exit_status};
 ghost use Rattle.causal_commands.specs.Endings.{status_of};
 ghost use Rattle.causal_tool.specs.Commands.{ended_of};
+ghost use Rattle.causal_tool.specs.Inside.Exits.{status_after};
 
-/// The command line.
-mod args;
 /// Messages on the input of a command, for standard error.
 mod diagnostics;
-/// The help of each command after its options.
-mod help_text;
 /// What standard error adds to the message of an error.
 mod hints;
+/// The call that answers a command.
+mod invocation;
 /// The file of a map.
 mod map_file;
 /// Messages on recorder files for standard error.
@@ -44,49 +44,44 @@ mod source;
 /// A stream that counts its lines and keeps what was read last.
 mod tracked_stream;
 
-use crate::args::{CommandLine, EarlyExit, Invocation, parse_command_line};
 use crate::diagnostics::{print_diagnostics, print_error_line};
+use crate::invocation::Invocation;
 use crate::map_file::{MapFile, write_map};
 use crate::place::{InputNames, file_name};
 use crate::progress::ProgressStream;
 use crate::run::{CommandOutcome, run_command};
 use crate::source::{OpenFault, is_standard_input, open_sources};
+use causal_arguments::{CommandLine, EarlyExit, Subcommand, parse_command_line};
 pub use causal_commands::audit_stream;
-use causal_commands::{Ended, LastErrorStream, MergeOutcome, Question};
+use causal_commands::{Ended, LastErrorStream, MergeOutcome};
 use std::io::{self, ErrorKind, IsTerminal};
 use std::process::ExitCode;
 
 /// Returns the prefix of each line on standard error.
-fn name_of(asked: Invocation) -> &'static str {
-    match asked {
-        Invocation::Trace {
-            question: Question::Verdict { .. } | Question::Breach { .. },
-            ..
-        } => "causal_tool audit",
-        Invocation::Trace {
-            question: Question::Replays { .. },
-            ..
-        } => "causal_tool replays",
-        Invocation::Trace { .. } | Invocation::MappedReason { .. } => "causal_tool explain",
-        Invocation::Draw { .. } => "causal_tool draw",
-        Invocation::Merge { .. } => "causal_tool merge",
-        Invocation::Run => "causal_tool run",
+fn name_of(command: Subcommand) -> &'static str {
+    match command {
+        Subcommand::Audit { .. } => "causal_tool audit",
+        Subcommand::Explain { .. } | Subcommand::ExplainByMap { .. } => "causal_tool explain",
+        Subcommand::Replays { .. } => "causal_tool replays",
+        Subcommand::Draw { .. } => "causal_tool draw",
+        Subcommand::Merge { .. } => "causal_tool merge",
+        Subcommand::Run => "causal_tool run",
     }
 }
 
 /// Prints what is read, if it has to be typed at a terminal.
-fn prompt(rt: &HostRuntime, asked: Invocation, files: &[String]) {
+fn prompt(rt: &HostRuntime, command: Subcommand, files: &[String]) {
     let is_typed = files.is_empty() || files.iter().any(|name| is_standard_input(name.as_str()));
     if !is_typed || !rt.stdin().is_terminal() {
         return;
     }
-    let what = match asked {
-        Invocation::Merge { .. } => "recordings",
-        Invocation::Run => "a script",
+    let what = match command {
+        Subcommand::Merge { .. } => "recordings",
+        Subcommand::Run => "a script",
         _ => "a trace",
     };
-    let command = name_of(asked);
-    let _ = eprintln!(rt; "{command}: reading {what} from the terminal; end it with control-D");
+    let name = name_of(command);
+    let _ = eprintln!(rt; "{name}: reading {what} from the terminal; end it with control-D");
 }
 
 /// Prints why no answer was written whole, if so, with the name of the file that failed. It prints nothing if the answer's
@@ -176,15 +171,17 @@ fn exit_after<S: Drop>(
     exit_code_of(ended)
 }
 
-/// Prints why no command is run, and returns the exit code.
-fn exit_early(rt: &HostRuntime, exit: EarlyExit) -> ExitCode {
-    match exit {
-        EarlyExit::Status(status) => ExitCode::from(status),
-        EarlyExit::Ended(ended) => {
-            print_ending(rt, "causal_tool", ended, None, None);
-            exit_code_of(ended)
-        }
-    }
+/// Prints why no command is run, if that is still to be printed, and returns the exit code.
+fn exit_early(rt: &HostRuntime, exit: EarlyExit) -> ExitCode
+    ensures { exit_status result ≡ status_after exit }
+{
+    let ended = match exit {
+        EarlyExit::Status(status) => return ExitCode::from(status),
+        EarlyExit::WriteFault => Ended::WriteFault,
+        EarlyExit::NoMemory => Ended::NoMemory,
+    };
+    print_ending(rt, "causal_tool", ended, None, None);
+    exit_code_of(ended)
 }
 
 /// Writes the map of a merge, if one is wanted; returns the outcome with how the command then ends, and the error of the
@@ -206,28 +203,33 @@ fn with_map<S: Drop>(
 }
 
 fn main(rt: HostRuntime) -> ExitCode {
-    let CommandLine { asked, files, map } = match parse_command_line(&rt) {
+    let CommandLine {
+        command,
+        files,
+        map,
+    } = match parse_command_line(&rt) {
         Ok(line) => line,
         Err(exit) => return exit_early(&rt, exit),
     };
-    let command = name_of(asked);
+    let name = name_of(command);
     let sources = match open_sources(&rt, rt.alloc(), files.as_slice()) {
         Ok(sources) => sources,
-        Err(fault) => return exit_unopened(&rt, command, files.as_slice(), fault),
+        Err(fault) => return exit_unopened(&rt, name, files.as_slice(), fault),
     };
-    prompt(&rt, asked, files.as_slice());
+    prompt(&rt, command, files.as_slice());
     let is_watched = rt.stderr().is_terminal();
-    let reader = ProgressStream::new(rt, command, sources, is_watched);
+    let reader = ProgressStream::new(rt, name, sources, is_watched);
     let mut input = LastErrorStream::new(reader);
     let mut output = LastErrorStream::new(io::writer(&rt));
-    let map = map.as_ref().map(|name| name.as_str());
+    let map = map.as_ref().map(|path| path.as_str());
     let mut map_input = LastErrorStream::new(MapFile::new(rt, map));
+    let asked = Invocation::of(command);
     let outcome = run_command(&rt, asked, &mut input, &mut map_input, &mut output);
     let names = InputNames::new(files.as_slice(), input.stream().stream());
     let (outcome, map_error) = with_map(&rt, map, &names, outcome);
     exit_after(
         &rt,
-        command,
+        name,
         &names,
         outcome,
         input.error(),

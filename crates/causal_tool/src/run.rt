@@ -2,10 +2,11 @@
 ghost use Rattle.std.specs.Prelude.{◌≡◌};
 ghost use Rattle.causal_commands.specs.Diagnostics.{IsDiagnosisFor};
 ghost use Rattle.causal_commands.specs.Json.{HasFewWorkers, StopsFor, faults_of};
-ghost use Rattle.causal_tool.specs.Args.{HasWorkerCountInRange};
+ghost use Rattle.causal_tool.specs.Invocations.{HasWorkerCountInRange};
 ghost use Rattle.causal_tool.specs.Commands.{WritesAnswerIn, Answers, ReadsFor, ReadsMapFor};
 
-use crate::args::{Form, Invocation};
+use crate::invocation::Invocation;
+use causal_arguments::Form;
 use causal_commands::{
     DiagnosedFault, MappedOutcome, MergeOutcome, Outcome, Question, Reason, View, answer_as_json,
     answer_audit, answer_mapped_reason, answer_merge, answer_range, answer_replays, answer_script,

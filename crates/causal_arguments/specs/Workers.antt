@@ -1,0 +1,13 @@
+-- How many workers a command line requests.
+use Rattle.std.specs.Prelude.{⊤, ◌≤◌}
+use Rattle.causal_arguments.specs.declared.subcommand.Subcommand.{Subcommand}
+use Rattle.causal_arguments.specs.declared.subcommand.Subcommand.TheVariants.{Audit, Explain, ExplainByMap, Replays, Draw}
+
+-- a command that reads a trace is requested with 1 to 64 workers
+abbrev pub HasWorkersInRange : Subcommand → Type 0
+HasWorkersInRange (Audit faults ends_at_breach form workers limits) = (1 ≤ workers) × (workers ≤ 64)
+HasWorkersInRange (Explain faults form workers limits) = (1 ≤ workers) × (workers ≤ 64)
+HasWorkersInRange (ExplainByMap faults workers limits) = (1 ≤ workers) × (workers ≤ 64)
+HasWorkersInRange (Replays form workers limits) = (1 ≤ workers) × (workers ≤ 64)
+HasWorkersInRange (Draw faults around only_breach workers limits) = (1 ≤ workers) × (workers ≤ 64)
+HasWorkersInRange _ = ⊤

@@ -1,0 +1,31 @@
+-- Which call answers a command of the command line.
+use Rattle.std.specs.Prelude.{⊤, ◌≤◌, true, false, Some, None}
+use Rattle.causal_arguments.specs.declared.subcommand.Subcommand.{Subcommand}
+use Rattle.causal_arguments.specs.declared.subcommand.Subcommand.TheVariants.{Audit, Explain, ExplainByMap, Replays}
+use Rattle.causal_arguments.specs.declared.subcommand.Subcommand.TheVariants as command
+use Rattle.causal_commands.specs.Json.{HasFewWorkers}
+use Rattle.causal_commands.specs.declared.json.Question.TheVariants.{Verdict, Breach, Reason, Range}
+use Rattle.causal_commands.specs.declared.json.Question.TheVariants as question_on
+use Rattle.causal_commands.specs.declared.merge_command.Mapping.TheVariants.{Mapped, Unmapped}
+use Rattle.causal_tool.specs.declared.invocation.Invocation.{Invocation}
+use Rattle.causal_tool.specs.declared.invocation.Invocation.TheVariants.{Trace, Draw, MappedReason, Merge, Run}
+
+-- what a command requests: `explain` without a bound f requests all bounds
+abbrev pub invocation_of : Subcommand → Invocation
+invocation_of (Audit faults true form workers limits) = Trace (Breach faults workers) form limits
+invocation_of (Audit faults false form workers limits) = Trace (Verdict faults workers) form limits
+invocation_of (Explain (Some faults) form workers limits) = Trace (Reason faults workers) form limits
+invocation_of (Explain None form workers limits) = Trace (Range workers) form limits
+invocation_of (ExplainByMap faults workers limits) = MappedReason faults workers limits
+invocation_of (Replays form workers limits) = Trace (question_on.Replays workers) form limits
+invocation_of (command.Draw faults around only_breach workers limits) = Draw faults workers limits (record { around = around; only_focus = only_breach })
+invocation_of (command.Merge limits true) = Merge limits Mapped
+invocation_of (command.Merge limits false) = Merge limits Unmapped
+invocation_of command.Run = Run
+
+-- a question on a trace, or a picture of it, is requested with 1 to 64 workers
+abbrev pub HasWorkerCountInRange : Invocation → Type 0
+HasWorkerCountInRange (Trace question form limits) = HasFewWorkers question
+HasWorkerCountInRange (Draw faults workers limits selection) = (1 ≤ workers) × (workers ≤ 64)
+HasWorkerCountInRange (MappedReason faults workers limits) = (1 ≤ workers) × (workers ≤ 64)
+HasWorkerCountInRange _ = ⊤

@@ -1,0 +1,122 @@
+//! The call of `causal_commands` that answers a command.
+ghost use Rattle.std.specs.Prelude.{◌≡◌};
+ghost use Rattle.causal_arguments.specs.Workers.{HasWorkersInRange};
+ghost use Rattle.causal_tool.specs.Invocations.{HasWorkerCountInRange, invocation_of};
+
+use causal_arguments::{Form, Subcommand};
+use causal_commands::{Mapping, Question};
+use causal_picture::Selection;
+use causal_trace::limits::Limits;
+
+/// What the command line requests.
+#[derive(Clone, Copy)]
+pub(crate) enum Invocation {
+    /// The answer to a question on a trace within limits.
+    Trace {
+        question: Question,
+        form: Form,
+        limits: Limits,
+    },
+    /// A picture of a selected part of a trace within limits, with its verdict for at most `faults` processes down at
+    /// once.
+    Draw {
+        faults: u16,
+        workers: u32,
+        limits: Limits,
+        selection: Selection,
+    },
+    /// The reason for the verdict on a trace within limits, with the places of a map.
+    MappedReason {
+        faults: u16,
+        workers: u32,
+        limits: Limits,
+    },
+    /// The trace merged from recorder files, within limits, and its map, if that is wanted.
+    Merge {
+        limits: Limits,
+        mapping: Mapping,
+    },
+    /// The trace of a script's run.
+    Run,
+}
+
+impl Invocation {
+    /// Returns what a command requests.
+    pub(crate) fn of(command: Subcommand) -> Invocation
+        ensures of { result ≡ invocation_of command }
+        ensures workers { HasWorkersInRange command → HasWorkerCountInRange result }
+    {
+        match command {
+            Subcommand::Audit {
+                faults,
+                ends_at_breach,
+                form,
+                workers,
+                limits,
+            } => Invocation::Trace {
+                question: if ends_at_breach {
+                    Question::Breach { faults, workers }
+                } else {
+                    Question::Verdict { faults, workers }
+                },
+                form,
+                limits,
+            },
+            Subcommand::Explain {
+                faults,
+                form,
+                workers,
+                limits,
+            } => Invocation::Trace {
+                question: match faults {
+                    Some(faults) => Question::Reason { faults, workers },
+                    None => Question::Range { workers },
+                },
+                form,
+                limits,
+            },
+            Subcommand::ExplainByMap {
+                faults,
+                workers,
+                limits,
+            } => Invocation::MappedReason {
+                faults,
+                workers,
+                limits,
+            },
+            Subcommand::Replays {
+                form,
+                workers,
+                limits,
+            } => Invocation::Trace {
+                question: Question::Replays { workers },
+                form,
+                limits,
+            },
+            Subcommand::Draw {
+                faults,
+                around,
+                only_breach,
+                workers,
+                limits,
+            } => Invocation::Draw {
+                faults,
+                workers,
+                limits,
+                selection: Selection {
+                    around,
+                    only_focus: only_breach,
+                },
+            },
+            Subcommand::Merge { limits, has_map } => Invocation::Merge {
+                limits,
+                mapping: if has_map {
+                    Mapping::Mapped
+                } else {
+                    Mapping::Unmapped
+                },
+            },
+            Subcommand::Run => Invocation::Run,
+        }
+    }
+}
