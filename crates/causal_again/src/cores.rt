@@ -1,11 +1,11 @@
 //! The calls of a core.
 use crate::readings::is_judged;
 use crate::reporting::{TRIES, print_refusal, print_result};
-use causal_commands::audit_core;
 use causal_core::{Core, CoreFault, FlushFault};
 use causal_log::{MemStable, Stable};
 use causal_name::Pid;
 use causal_process::Process;
+use causal_runtime_commands::audit_core;
 use std::alloc::Global;
 use std::sync::Wait;
 use std::thread::Threads;

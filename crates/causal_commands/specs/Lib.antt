@@ -1,7 +1,5 @@
 pub mod Inside
-pub mod SafeVerdicts
 pub mod Endings
-pub mod Hints
 pub mod Json
 pub mod Views
 pub mod PlacedLines
@@ -11,10 +9,8 @@ pub mod Merges
 pub mod Reading
 pub mod Ranges
 pub mod Replays
-pub mod Reasons
 pub mod Diagnostics
 pub mod DiagnosticText
-pub mod Runs
 pub mod Streams
 pub mod EarlyAnswers
 pub mod AnswerWrites

@@ -1,14 +1,10 @@
-//! Bounded reads: the text of a script, or recorder files.
+//! Bounded reads: of recorder files, a map, or the text of a script.
 ghost use Rattle.std.specs.Prelude.{◌≡◌, IfOk, IfSome, take};
 ghost use Rattle.causal_commands.specs.Reading.{ReadsAtMost};
-ghost use Rattle.causal_commands.specs.Runs.{ReadsAtMostScript, script_bytes_read};
 
 use std::alloc::Global;
 use std::io::Read;
 use thiserror::Error;
-
-/// The maximum number of bytes read of a script: one more than a script may have, so that a longer one is detected.
-pub const MAX_SCRIPT_READ: usize = 1_048_577;
 
 // bytes per call of the reader
 const PIECE: usize = 4096;
@@ -24,22 +20,12 @@ pub enum ReadFault {
     NoMemory,
 }
 
-/// Returns the bytes of a reader to their end, or the first 1,048,577 of them. Each call of the reader requests at most
-/// 4,096 bytes, and none requests a byte after these.
+/// Returns the bytes of a reader to their end, or the first `most` of them. Each call of the reader requests at most 4,096
+/// bytes, and none requests a byte after these.
 ///
 /// # Errors
 /// `Read` if the reader failed, `NoMemory` if an allocation failed. The bytes read before are then lost.
-pub fn read_script<I: Read>(alloc: Global, input: &mut I) -> Result<Vec<u8>, ReadFault>
-    ensures text { IfOk result
-        (λ bytes. IfSome (I.remaining input.old) (λ text. bytes.items ≡ script_bytes_read text)) }
-    ensures most { ReadsAtMostScript (I.remaining input.old) (I.remaining input.new) }
-{
-    read_at_most(alloc, input, MAX_SCRIPT_READ)
-}
-
-/// Returns the bytes of a reader to their end, or the first `most` of them. Calls and errors are those of
-/// `read_script`.
-pub(crate) fn read_at_most<I: Read>(
+pub fn read_at_most<I: Read>(
     alloc: Global,
     input: &mut I,
     most: usize,

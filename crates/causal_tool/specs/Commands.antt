@@ -9,8 +9,8 @@ use Rattle.causal_commands.specs.Json.{WritesObjectFor, StopsFor, faults_of}
 use Rattle.causal_commands.specs.Diagnostics.{IsDiagnosisFor}
 use Rattle.causal_commands.specs.MappedReasons.{WritesMappedFor}
 use Rattle.causal_commands.specs.Merges.{WritesMergeFor, ReadsAtMostRecordings}
-use Rattle.causal_commands.specs.Reasons.{IsReasonFor}
-use Rattle.causal_commands.specs.Runs.{WritesScriptFor, ReadsAtMostScript}
+use Rattle.causal_runtime_commands.specs.Reasons.{IsReasonFor}
+use Rattle.causal_runtime_commands.specs.Runs.{WritesScriptFor, ReadsAtMostScript}
 use Rattle.causal_commands.specs.EarlyAnswers.{WritesEarlyFor}
 use Rattle.causal_commands.specs.Ranges.{WritesRangeFor}
 use Rattle.causal_commands.specs.Replays.{WritesReplaysFor}

@@ -6,9 +6,8 @@ use crate::hints::{Content, print_hints};
 use crate::merge_diagnostics::print_merge_diagnostics;
 use crate::place::InputNames;
 use crate::run::CommandOutcome;
-use causal_commands::{
-    DiagnosedFault, Ended, MapFault, MappedOutcome, Outcome, Reason, diagnostic_text, hint_of,
-};
+use causal_commands::{DiagnosedFault, Ended, MapFault, MappedOutcome, Outcome, diagnostic_text};
+use causal_runtime_commands::{Reason, hint_of};
 use causal_text::TextFault;
 use std::fmt::Display;
 

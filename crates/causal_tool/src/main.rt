@@ -1,7 +1,7 @@
 //! Audits or draws a recorded run, merges recorder files, or runs a script: of files, or on standard input.
 //!
-//! The commands are calls of `causal_commands`, over any reader and any writer. Their contracts are what the program
-//! guarantees.
+//! The commands are calls of `causal_commands` and `causal_runtime_commands`, over any reader and any writer. Their
+//! contracts are what the program guarantees.
 //!
 //! - [`answer_audit`] is `audit`, and [`answer_until_breach`] is `audit --until-breach`.
 //! - [`answer_view`] is `explain` and `draw`; [`answer_range`] is `explain` without a bound f, and

@@ -8,10 +8,11 @@ ghost use Rattle.causal_tool.specs.Commands.{WritesAnswerIn, Answers, ReadsFor, 
 use crate::invocation::Invocation;
 use causal_arguments::Form;
 use causal_commands::{
-    DiagnosedFault, MappedOutcome, MergeOutcome, Outcome, Question, Reason, View, answer_as_json,
-    answer_audit, answer_mapped_reason, answer_merge, answer_range, answer_replays, answer_script,
+    DiagnosedFault, MappedOutcome, MergeOutcome, Outcome, Question, View, answer_as_json,
+    answer_audit, answer_mapped_reason, answer_merge, answer_range, answer_replays,
     answer_until_breach, answer_view,
 };
+use causal_runtime_commands::{Reason, answer_script};
 use causal_trace::limits::Limits;
 use causal_workers::OpenGate;
 use std::io::{Read, Write};

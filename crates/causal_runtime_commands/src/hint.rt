@@ -1,6 +1,6 @@
 //! Hints on invalid lines of a script.
 ghost use Rattle.std.specs.Prelude.{◌≡◌, option_map};
-ghost use Rattle.causal_commands.specs.Hints as hints;
+ghost use Rattle.causal_runtime_commands.specs.Hints as hints;
 
 use crate::script::Reason;
 use causal_script::ScriptFaultKind;

@@ -1,13 +1,12 @@
 //! The command `run`, over any reader and writer.
 ghost use Rattle.std.specs.Prelude.{◌≡◌, Ok, IfOk, IfErr, IfSome};
-ghost use Rattle.causal_commands.specs.Runs.{IsScriptAnswer, WritesScriptFor, ReadsAtMostScript};
-ghost use Rattle.causal_commands.specs.Reasons.{IsReason, IsReasonFor};
-ghost use Rattle.causal_commands.specs.Inside.ScriptAnswers.{IsScriptFaultAnswer, IsRefusalAnswer, IsPrintedFor, RunWritesNothing};
-ghost use Rattle.causal_commands.specs.Inside.ReasonsForScripts.{IsFaultReason, IsRefusalReason};
+ghost use Rattle.causal_runtime_commands.specs.Runs.{IsScriptAnswer, WritesScriptFor, ReadsAtMostScript};
+ghost use Rattle.causal_runtime_commands.specs.Reasons.{IsReason, IsReasonFor};
+ghost use Rattle.causal_runtime_commands.specs.Inside.ScriptAnswers.{IsScriptFaultAnswer, IsRefusalAnswer, IsPrintedFor, RunWritesNothing};
+ghost use Rattle.causal_runtime_commands.specs.Inside.ReasonsForScripts.{IsFaultReason, IsRefusalReason};
 
-use crate::bounded_read::{ReadFault, read_script};
-use crate::ended::Ended;
-use crate::stream::Outcome;
+use crate::script_reading::read_script;
+use causal_commands::{Ended, Outcome, ReadFault};
 use causal_name::NoMemory;
 use causal_run::{RunFault, run_script};
 use causal_script::{ScriptFault, ScriptFaultKind, parse_script, refused_line, script_line};
@@ -29,7 +28,7 @@ pub enum Reason {
 }
 
 impl Reason {
-    ghost use Rattle.causal_commands.specs.Reasons.{line_of};
+    ghost use Rattle.causal_runtime_commands.specs.Reasons.{line_of};
 
     /// Returns the number of the line with the error or the refused command; None if the run failed for another reason.
     pub fn line(self) -> Option<u32>

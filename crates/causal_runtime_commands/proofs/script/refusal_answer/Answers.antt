@@ -4,9 +4,9 @@ use Rattle.causal_script.specs.Printing.{refused_line}
 use Rattle.causal_run.specs.Runs.{ExplainsRunFault}
 use Rattle.causal_run.specs.ScriptProcesses.{IsStartOf}
 use Rattle.std.specs.Prelude.{IfSome}
-use Rattle.causal_commands.specs.Reasons.{IsReason}
-use Rattle.causal_commands.specs.Runs.{IsScriptAnswer}
-use Rattle.causal_commands.proofs.script.refusal_answer.Goals as goal
+use Rattle.causal_runtime_commands.specs.Reasons.{IsReason}
+use Rattle.causal_runtime_commands.specs.Runs.{IsScriptAnswer}
+use Rattle.causal_runtime_commands.proofs.script.refusal_answer.Goals as goal
 
 pub returns-in-Refused-clause-ok : goal.returns-in-Refused-clause-ok
 returns-in-Refused-clause-ok c =

@@ -1,8 +1,8 @@
 use Rattle.std.proofs.Common.{◌≡◌, subst, sym, IfOk}
 use Rattle.std.proofs.lemmas.Result.{IfOk-weaker}
 use Rattle.causal_lines.specs.Canonical.{canonical_text}
-use Rattle.causal_commands.specs.Runs.{IsScriptAnswer}
-use Rattle.causal_commands.proofs.script.answer_to.Goals as goal
+use Rattle.causal_runtime_commands.specs.Runs.{IsScriptAnswer}
+use Rattle.causal_runtime_commands.proofs.script.answer_to.Goals as goal
 
 pub returns-in-Err-clause-ok : goal.returns-in-Err-clause-ok
 returns-in-Err-clause-ok g c = IfOk-weaker c.fault_answer.result _ _ (λ answer h. h c.args.text.now c.in-Err.ensures.err) c.fault_answer.ensures.ok

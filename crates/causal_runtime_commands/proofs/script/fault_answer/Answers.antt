@@ -2,9 +2,9 @@ use Rattle.std.proofs.Common.{◌≡◌, subst, sym, IfOk}
 use Rattle.std.proofs.lemmas.Result.{IfOk-weaker}
 use Rattle.causal_script.specs.Printing.{script_line}
 use Rattle.std.specs.Prelude.{IfSome}
-use Rattle.causal_commands.specs.Reasons.{IsReason}
-use Rattle.causal_commands.specs.Runs.{IsScriptAnswer}
-use Rattle.causal_commands.proofs.script.fault_answer.Goals as goal
+use Rattle.causal_runtime_commands.specs.Reasons.{IsReason}
+use Rattle.causal_runtime_commands.specs.Runs.{IsScriptAnswer}
+use Rattle.causal_runtime_commands.proofs.script.fault_answer.Goals as goal
 
 pub returns-in_default : goal.returns-in_default
 returns-in_default c = record {

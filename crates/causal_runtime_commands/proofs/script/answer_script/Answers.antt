@@ -1,5 +1,5 @@
-use Rattle.causal_commands.proofs.PrintLemmas.{prints_whole, prints_first}
-use Rattle.causal_commands.proofs.script.answer_script.Goals as goal
+use Rattle.causal_runtime_commands.proofs.PrintLemmas.{prints_whole, prints_first}
+use Rattle.causal_runtime_commands.proofs.script.answer_script.Goals as goal
 
 pub returns-in-Ok-write_whole-clause-prints : goal.returns-in-Ok-write_whole-clause-prints
 returns-in-Ok-write_whole-clause-prints g c =

@@ -10,7 +10,7 @@ use Rattle.causal_run.specs.Runs.{ExplainsRunFault}
 use Rattle.causal_run.specs.ScriptProcesses.{IsStartOf}
 use Rattle.causal_commands.specs.declared.ended.Ended.{Ended}
 use Rattle.causal_commands.specs.declared.ended.Ended.TheVariants.{ReadFault, NoMemory, FinishFault}
-use Rattle.causal_commands.specs.Runs.{IsScriptAnswer, script_bytes_read}
+use Rattle.causal_runtime_commands.specs.Runs.{IsScriptAnswer, script_bytes_read}
 
 -- the answer to the bytes read from a reader, if its bytes are known
 abbrev pub IsPrintedFor : Option (List ℕ) → Ended → List ℕ → Type 0

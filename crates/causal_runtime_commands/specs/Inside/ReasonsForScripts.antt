@@ -8,8 +8,8 @@ use Rattle.causal_script.specs.Faults.{IsFirstFault}
 use Rattle.causal_run.specs.declared.fault.RunFault.{RunFault}
 use Rattle.causal_run.specs.Runs.{ExplainsRunFault}
 use Rattle.causal_run.specs.ScriptProcesses.{IsStartOf}
-use Rattle.causal_commands.specs.declared.script.Reason.{Reason}
-use Rattle.causal_commands.specs.Reasons.{IsReason}
+use Rattle.causal_runtime_commands.specs.declared.script.Reason.{Reason}
+use Rattle.causal_runtime_commands.specs.Reasons.{IsReason}
 
 -- the reason, if any, is true of each text whose first error this is; of any text if the error is `NoMemory`
 abbrev pub IsFaultReason : ScriptFault → Option Reason → Type 0

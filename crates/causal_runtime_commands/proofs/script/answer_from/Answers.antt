@@ -1,10 +1,10 @@
 use Rattle.std.proofs.Common.{◌∙◌, subst}
 use Rattle.std.specs.Prelude.{IfSome}
 use Rattle.std.proofs.lemmas.Result.{IfOk-weaker}
-use Rattle.causal_commands.specs.Reasons.{IsReason}
-use Rattle.causal_commands.specs.Runs.{IsScriptAnswer}
-use Rattle.causal_commands.proofs.Known.{IfSome-weaker}
-use Rattle.causal_commands.proofs.script.answer_from.Goals as goal
+use Rattle.causal_runtime_commands.specs.Reasons.{IsReason}
+use Rattle.causal_runtime_commands.specs.Runs.{IsScriptAnswer}
+use Rattle.causal_runtime_commands.proofs.Known.{IfSome-weaker}
+use Rattle.causal_runtime_commands.proofs.script.answer_from.Goals as goal
 
 pub returns-in-Ok-clause-ok : goal.returns-in-Ok-clause-ok
 returns-in-Ok-clause-ok g c = IfOk-weaker c.answer_to.result _ _ (λ answer h.

@@ -4,7 +4,7 @@
 //! other.
 ghost use Rattle.std.specs.Prelude.{◌≡◌, IfOk};
 ghost use Rattle.causal_core.specs.CoreView.{core_run};
-ghost use Rattle.causal_commands.specs.SafeVerdicts.{IsUniqueVerdict, SafeTracesAreAccepted};
+ghost use Rattle.causal_runtime_commands.specs.SafeVerdicts.{IsUniqueVerdict, SafeTracesAreAccepted};
 
 use causal_audit::{Verdict, verdict_of};
 use causal_core::Core;

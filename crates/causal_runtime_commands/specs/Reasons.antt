@@ -6,9 +6,9 @@ use Rattle.causal_script.specs.Faults.{IsFirstFault}
 use Rattle.causal_run.specs.declared.fault.RunFault.TheVariants as run_fault
 use Rattle.causal_run.specs.Runs.{ExplainsRunFault}
 use Rattle.causal_run.specs.ScriptProcesses.{IsStartOf}
-use Rattle.causal_commands.specs.Runs.{script_bytes_read}
-use Rattle.causal_commands.specs.declared.script.Reason.{Reason}
-use Rattle.causal_commands.specs.declared.script.Reason.TheVariants as Why
+use Rattle.causal_runtime_commands.specs.Runs.{script_bytes_read}
+use Rattle.causal_runtime_commands.specs.declared.script.Reason.{Reason}
+use Rattle.causal_runtime_commands.specs.declared.script.Reason.TheVariants as Why
 
 -- the text is not a valid script, and this is its first error; or a refusal is that of the script's run, by its own
 -- processes

@@ -2,8 +2,8 @@
 use Rattle.std.specs.Prelude.{ℕ, ◌==◌, if◌then◌else◌, List, Option, Some, None, codes}
 use Rattle.causal_script.specs.declared.script.ScriptFaultKind.{ScriptFaultKind}
 use Rattle.causal_script.specs.declared.script.ScriptFaultKind.TheVariants as kind
-use Rattle.causal_commands.specs.declared.script.Reason.{Reason}
-use Rattle.causal_commands.specs.declared.script.Reason.TheVariants as Why
+use Rattle.causal_runtime_commands.specs.declared.script.Reason.{Reason}
+use Rattle.causal_runtime_commands.specs.declared.script.Reason.TheVariants as Why
 
 -- line 1 is a start line, each later one a command
 abbrev pub expected_at : ℕ → List ℕ

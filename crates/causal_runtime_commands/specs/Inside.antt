@@ -1,0 +1,3 @@
+-- Definitions for private contracts; no public contract cites them.
+pub mod ScriptAnswers
+pub mod ReasonsForScripts

@@ -1,0 +1,5 @@
+pub mod Inside
+pub mod SafeVerdicts
+pub mod Hints
+pub mod Reasons
+pub mod Runs
