@@ -1,3 +1,2 @@
 -- Definitions for private contracts; no public contract cites them.
 pub mod Exits
-pub mod Sources

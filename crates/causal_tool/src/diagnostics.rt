@@ -1,44 +1,14 @@
-//! Messages on the input of a command, for standard error.
+//! Messages on the outcome of a command, for standard error.
 ghost use Rattle.std.specs.Prelude.{◌≡◌};
 ghost use Rattle.causal_tool.specs.Commands.{ended_of};
 
-use crate::hints::{Content, print_hints};
-use crate::merge_diagnostics::print_merge_diagnostics;
-use crate::place::InputNames;
 use crate::run::CommandOutcome;
-use causal_commands::{DiagnosedFault, Ended, MapFault, MappedOutcome, Outcome, diagnostic_text};
+use causal_commands::{Ended, MappedOutcome, Outcome};
+use causal_console::{
+    InputNames, print_at_line, print_error_line, print_map_fault, print_merge_diagnostics,
+    print_trace_outcome,
+};
 use causal_runtime_commands::{Reason, hint_of};
-use causal_text::TextFault;
-use std::fmt::Display;
-
-/// Prints a message as one line on standard error, if it can be written.
-pub(crate) fn print_error_line<R: Eprint, D: Display>(rt: &R, command: &str, said: &D) {
-    let _ = eprintln!(rt; "{command}: {said}");
-}
-
-/// Prints a message that names a line of the input, `line LINE: ..`. If that line is of a file, `FILE:LINE` replaces
-/// `line LINE`.
-pub(crate) fn print_at_line<R: Eprint + AllocGlobal, D: Display, S: Drop>(
-    rt: &R,
-    command: &str,
-    input: &InputNames<'_, S>,
-    line: u32,
-    said: &D,
-) {
-    let (Ok(said), Ok(begin)) = (
-        format!(in rt.alloc(); "{said}"),
-        format!(in rt.alloc(); "line {line}"),
-    ) else {
-        return;
-    };
-    let label = input.label(line);
-    match said.as_str().strip_prefix(begin.as_str()) {
-        Some(rest) => {
-            let _ = eprintln!(rt; "{command}: {label}{rest}");
-        }
-        None => print_error_line(rt, command, &said),
-    }
-}
 
 /// Prints the diagnostics of a command's outcome, and returns how the command ended.
 pub(crate) fn print_diagnostics<R: Eprint + AllocGlobal, S: Drop>(
@@ -70,78 +40,6 @@ pub(crate) fn print_diagnostics<R: Eprint + AllocGlobal, S: Drop>(
             ended
         }
     }
-}
-
-/// Prints the diagnostic of a trace, if it is invalid, and returns how the command ended.
-fn print_trace_outcome<R: Eprint + AllocGlobal, S: Drop>(
-    rt: &R,
-    command: &str,
-    input: &InputNames<'_, S>,
-    f: u16,
-    outcome: Outcome<DiagnosedFault>,
-) -> Ended
-    ensures { result ≡ outcome.ended }
-{
-    let Outcome { ended, fault } = outcome;
-    if let Some(fault) = fault {
-        print_trace_fault(rt, command, input, f, &fault);
-        print_trace_hints(rt, command, input, &fault);
-    }
-    ended
-}
-
-/// Prints why a map is not that of the trace, with its file's name.
-fn print_map_fault<R: Eprint>(rt: &R, command: &str, map: &str, fault: &MapFault) {
-    let _ = match fault {
-        MapFault::Entry { position, .. } => {
-            let line = position.saturating_add(1);
-            eprintln!(rt; "{command}: {map}:{line}: {fault}")
-        }
-        _ => eprintln!(rt; "{command}: {map}: {fault}"),
-    };
-    let _ = eprintln!(rt; "{command}: give the map that merge wrote with this trace");
-}
-
-/// Prints the diagnostic of an invalid trace.
-fn print_trace_fault<R: Eprint + AllocGlobal, S: Drop>(
-    rt: &R,
-    command: &str,
-    input: &InputNames<'_, S>,
-    f: u16,
-    fault: &DiagnosedFault,
-) {
-    let Ok(bytes) = diagnostic_text(rt.alloc(), command, f, fault) else {
-        return;
-    };
-    let Ok(text) = String::from_utf8_lossy(rt.alloc(), bytes.as_slice()) else {
-        return;
-    };
-    let line = fault.fault.line;
-    let Ok(begin) = format!(in rt.alloc(); "{command}: line {line}") else {
-        return;
-    };
-    let label = input.label(line);
-    match text.as_str().strip_prefix(begin.as_str()) {
-        Some(rest) => {
-            let _ = eprint!(rt; "{command}: {label}{rest}");
-        }
-        None => {
-            let _ = rt.eprint(text);
-        }
-    }
-}
-
-/// Prints what helps to mend the error of a trace.
-fn print_trace_hints<R: Eprint, S: Drop>(
-    rt: &R,
-    command: &str,
-    input: &InputNames<'_, S>,
-    fault: &DiagnosedFault,
-) {
-    let TextFault { line, kind } = fault.fault;
-    let start = input.line_start(line);
-    let start = start.as_ref().map(|start| start.as_slice());
-    print_hints(rt, command, Content::Trace, kind, start);
 }
 
 /// Prints why a script was not run to its end, and what was expected in its place.

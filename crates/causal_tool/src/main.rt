@@ -11,7 +11,7 @@
 //! - [`answer_merge`] is `merge`, and [`answer_script`] is `run`.
 //!
 //! [`parse_command_line`] of `causal_arguments` parses the command line, [`Invocation::of`] names the call that answers it,
-//! [`open_sources`] opens what it names, and [`run_command`] runs the command.
+//! [`open_sources`] of `causal_console` opens what it names, and [`run_command`] runs the command.
 //! `main` adds the standard streams, the exit status, and the name of the command before each line on standard error.
 #![tactic(auto)]
 
@@ -21,39 +21,23 @@ ghost use Rattle.causal_commands.specs.Endings.{status_of};
 ghost use Rattle.causal_tool.specs.Commands.{ended_of};
 ghost use Rattle.causal_tool.specs.Inside.Exits.{status_after};
 
-/// Messages on the input of a command, for standard error.
+/// Messages on the outcome of a command, for standard error.
 mod diagnostics;
-/// What standard error adds to the message of an error.
-mod hints;
 /// The call that answers a command.
 mod invocation;
-/// The file of a map.
-mod map_file;
-/// Messages on recorder files for standard error.
-mod merge_diagnostics;
-/// The place of a line of the input.
-mod place;
-/// A stream that prints the progress of a long read on a terminal.
-mod progress;
 /// Runs the command of a command line.
 mod run;
-/// The shapes of lines, as messages show them.
-mod shapes;
-/// What a command line names: files, and standard input.
-mod source;
-/// A stream that counts its lines and keeps what was read last.
-mod tracked_stream;
 
-use crate::diagnostics::{print_diagnostics, print_error_line};
+use crate::diagnostics::print_diagnostics;
 use crate::invocation::Invocation;
-use crate::map_file::{MapFile, write_map};
-use crate::place::{InputNames, file_name};
-use crate::progress::ProgressStream;
 use crate::run::{CommandOutcome, run_command};
-use crate::source::{OpenFault, is_standard_input, open_sources};
 use causal_arguments::{CommandLine, EarlyExit, Subcommand, parse_command_line};
 pub use causal_commands::audit_stream;
 use causal_commands::{Ended, LastErrorStream, MergeOutcome};
+use causal_console::{
+    InputNames, MapFile, OpenFault, ProgressStream, file_name, is_standard_input, open_sources,
+    print_error_line, write_map,
+};
 use std::io::{self, ErrorKind, IsTerminal};
 use std::process::ExitCode;
 

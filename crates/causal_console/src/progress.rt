@@ -88,7 +88,7 @@ impl Progress {
 
 /// A stream, and the progress of its reading.
 #[derive(Drop)]
-pub(crate) struct ProgressStream<R: Drop, S: Drop> {
+pub struct ProgressStream<R: Drop, S: Drop> {
     rt: R,
     stream: S,
     progress: Option<Progress>,
@@ -96,12 +96,7 @@ pub(crate) struct ProgressStream<R: Drop, S: Drop> {
 
 impl<R: Clock + Drop, S: Drop> ProgressStream<R, S> {
     /// Wraps a stream that was not read yet. Progress is printed only if `is_watched`.
-    pub(crate) fn new(
-        rt: R,
-        command: &'static str,
-        stream: S,
-        is_watched: bool,
-    ) -> ProgressStream<R, S> {
+    pub fn new(rt: R, command: &'static str, stream: S, is_watched: bool) -> ProgressStream<R, S> {
         let progress = if is_watched {
             Progress::new(&rt, command)
         } else {
@@ -117,7 +112,7 @@ impl<R: Clock + Drop, S: Drop> ProgressStream<R, S> {
 
 impl<R: Drop, S: Drop> ProgressStream<R, S> {
     /// Returns the stream.
-    pub(crate) fn stream(&self) -> &S {
+    pub fn stream(&self) -> &S {
         &self.stream
     }
 }

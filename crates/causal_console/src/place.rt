@@ -15,7 +15,7 @@ struct Place {
 
 /// A line of the input as messages name it: `FILE:LINE`, or `line LINE` of standard input alone.
 #[derive(Clone, Copy)]
-pub(crate) struct LineLabel<'a> {
+pub struct LineLabel<'a> {
     file: Option<&'a str>,
     line: u64,
 }
@@ -32,14 +32,14 @@ impl Display for LineLabel<'_> {
 
 /// The files of a command line, and their streams.
 #[derive(Drop)]
-pub(crate) struct InputNames<'a, S: Drop> {
+pub struct InputNames<'a, S: Drop> {
     files: &'a [String],
     sources: &'a ChainedStream<TrackedStream<S>>,
 }
 
 impl<'a, S: Drop> InputNames<'a, S> {
     /// Returns the names for the streams of these files, or of standard input if there is none.
-    pub(crate) fn new(
+    pub fn new(
         files: &'a [String],
         sources: &'a ChainedStream<TrackedStream<S>>,
     ) -> InputNames<'a, S> {
@@ -47,12 +47,12 @@ impl<'a, S: Drop> InputNames<'a, S> {
     }
 
     /// Returns the name of the file that is read now, or that failed; None for standard input alone.
-    pub(crate) fn present_file(&self) -> Option<&'a str> {
+    pub fn present_file(&self) -> Option<&'a str> {
         file_name(self.files, self.sources.present())
     }
 
     /// Returns the first bytes of this line, if they are known: see `TrackedStream::line_start`.
-    pub(crate) fn line_start(&self, line: u32) -> Option<Vec<u8>> {
+    pub fn line_start(&self, line: u32) -> Option<Vec<u8>> {
         let place = place_of(self.sources.streams(), line);
         self.sources
             .streams()
@@ -61,7 +61,7 @@ impl<'a, S: Drop> InputNames<'a, S> {
     }
 
     /// Returns the files with their names and where they begin in the input; none for standard input alone.
-    pub(crate) fn input_files(&self, alloc: Global) -> Result<Vec<InputFile>, NoMemory> {
+    pub fn input_files(&self, alloc: Global) -> Result<Vec<InputFile>, NoMemory> {
         let mut files = Vec::new(alloc);
         let mut feeds: u64 = 0;
         let mut is_in_line = false;
@@ -78,14 +78,14 @@ impl<'a, S: Drop> InputNames<'a, S> {
     }
 
     /// Returns how messages name this line, if it is of a file.
-    pub(crate) fn file_label(&self, line: u32) -> Option<LineLabel<'a>> {
+    pub fn file_label(&self, line: u32) -> Option<LineLabel<'a>> {
         let label = self.label(line);
         label.file?;
         Some(label)
     }
 
     /// Returns how messages name this line, which is counted from 1 over all files.
-    pub(crate) fn label(&self, line: u32) -> LineLabel<'a> {
+    pub fn label(&self, line: u32) -> LineLabel<'a> {
         let place = place_of(self.sources.streams(), line);
         LineLabel {
             file: file_name(self.files, place.file),
@@ -95,7 +95,7 @@ impl<'a, S: Drop> InputNames<'a, S> {
 }
 
 /// Returns the name of a file, as messages have it; None for standard input alone.
-pub(crate) fn file_name<'a>(files: &'a [String], file: usize) -> Option<&'a str> {
+pub fn file_name<'a>(files: &'a [String], file: usize) -> Option<&'a str> {
     let name = files.get(file)?.as_str();
     if files.len() == 1 && crate::source::is_standard_input(name) {
         None

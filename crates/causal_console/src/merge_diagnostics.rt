@@ -12,7 +12,7 @@ const MAX_TORN_PRINTED: usize = 1000;
 
 /// Prints the torn lines, which a kill cut short, or the error of the recorder files with its possible cause. It
 /// returns the ending.
-pub(crate) fn print_merge_diagnostics<R: Eprint + AllocGlobal, S: Drop>(
+pub fn print_merge_diagnostics<R: Eprint + AllocGlobal, S: Drop>(
     rt: &R,
     command: &str,
     input: &InputNames<'_, S>,

@@ -9,7 +9,7 @@ use std::io::{self, Read, Result};
 /// The file of a map that is read. It is opened when it is first read, so that the command before it in a pipe may still
 /// write it.
 #[derive(Drop)]
-pub(crate) struct MapFile<'a, R: Files + Drop> {
+pub struct MapFile<'a, R: Files + Drop> {
     rt: R,
     name: Option<&'a str>,
     file: Option<R::File>,
@@ -17,7 +17,7 @@ pub(crate) struct MapFile<'a, R: Files + Drop> {
 
 impl<'a, R: Files + Drop> MapFile<'a, R> {
     /// Names the file; without a name there are no bytes.
-    pub(crate) fn new(rt: R, name: Option<&'a str>) -> MapFile<'a, R> {
+    pub fn new(rt: R, name: Option<&'a str>) -> MapFile<'a, R> {
         MapFile {
             rt,
             name,
@@ -43,7 +43,7 @@ impl<R: Files + Drop> Read for MapFile<'_, R> {
 
 /// Why a map was not written.
 #[derive(Clone, Copy)]
-pub(crate) enum MapWriteFault {
+enum MapWriteFault {
     /// The file could not be created or written.
     Write(Option<io::Error>),
     /// An allocation failed.
@@ -52,7 +52,7 @@ pub(crate) enum MapWriteFault {
 
 /// Writes the map of a merged trace, if there is one and it is wanted, into the file with this name, which it creates or
 /// replaces. Returns how `merge` ends, and the error of the file.
-pub(crate) fn write_map<R: Files + AllocGlobal, S: Drop>(
+pub fn write_map<R: Files + AllocGlobal, S: Drop>(
     rt: &R,
     name: Option<&str>,
     input: &InputNames<'_, S>,

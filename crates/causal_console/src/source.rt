@@ -11,13 +11,13 @@ const STANDARD_INPUT: &str = "-";
 
 /// An open stream that a command line names.
 #[derive(Drop)]
-pub(crate) enum Source<I: Drop, F: Drop> {
+pub enum Source<I: Drop, F: Drop> {
     Standard(I),
     File(F),
 }
 
 impl<I: Read + Drop, F: Read + Drop> Read for Source<I, F> {
-    ghost use Rattle.causal_tool.specs.Inside.Sources.{bytes_in_source};
+    ghost use Rattle.causal_console.specs.Sources.{bytes_in_source};
 
     ghost remaining = { bytes_in_source I.remaining F.remaining };
 
@@ -30,13 +30,13 @@ impl<I: Read + Drop, F: Read + Drop> Read for Source<I, F> {
 }
 
 /// The sources of a command line, read one after the other.
-pub(crate) type Sources<R> = ChainedStream<
+pub type Sources<R> = ChainedStream<
     TrackedStream<Source<<R as Input>::Reader, <R as Files>::File>>,
 >;
 
 /// Why a file was not opened.
 #[derive(Drop)]
-pub(crate) enum OpenFault {
+pub enum OpenFault {
     /// The system refused the file with this index.
     Refused { file: usize, error: Error },
     /// An allocation failed.
@@ -44,12 +44,12 @@ pub(crate) enum OpenFault {
 }
 
 /// Whether this name is that of standard input.
-pub(crate) fn is_standard_input(name: &str) -> bool {
+pub fn is_standard_input(name: &str) -> bool {
     name == STANDARD_INPUT
 }
 
 /// Opens each file in its order; standard input, if none is named.
-pub(crate) fn open_sources<R: Files + Input>(
+pub fn open_sources<R: Files + Input>(
     rt: &R,
     alloc: Global,
     files: &[String],

@@ -11,7 +11,7 @@ const MAX_SHOWN: usize = 80;
 /// A stream, the number of line feeds read, and the last piece read with the first bytes of the line that was open
 /// before it.
 #[derive(Drop)]
-pub(crate) struct TrackedStream<S: Drop> {
+pub struct TrackedStream<S: Drop> {
     stream: S,
     alloc: Global,
     /// The line feeds before the last piece.
@@ -30,7 +30,7 @@ pub(crate) struct TrackedStream<S: Drop> {
 
 impl<S: Drop> TrackedStream<S> {
     /// Wraps a stream that was not read yet.
-    pub(crate) fn new(alloc: Global, stream: S) -> TrackedStream<S> {
+    pub fn new(alloc: Global, stream: S) -> TrackedStream<S> {
         TrackedStream {
             stream,
             alloc,
@@ -44,18 +44,18 @@ impl<S: Drop> TrackedStream<S> {
     }
 
     /// Returns the number of line feeds that were read.
-    pub(crate) fn feeds(&self) -> u64 {
+    pub fn feeds(&self) -> u64 {
         self.feeds
     }
 
     /// Whether the last byte that was read is not a line feed; None if no byte was read.
-    pub(crate) fn is_in_line(&self) -> Option<bool> {
+    pub fn is_in_line(&self) -> Option<bool> {
         self.is_in_line
     }
 
     /// Returns the first bytes of this line of the stream, counted from 1, without its line feed: at most 80, as far as
     /// they were read. None if the line ended before the last piece, or an allocation failed.
-    pub(crate) fn line_start(&self, line: u64) -> Option<Vec<u8>> {
+    pub fn line_start(&self, line: u64) -> Option<Vec<u8>> {
         if self.is_lost {
             return None;
         }
