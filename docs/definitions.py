@@ -7,7 +7,7 @@ the comment line at its head, up to a colon or semicolon if five words are befor
 
 A file below crates/X/specs is cited if a definition of it is named by a clause of a function that is `pub`, or of a public trait's, or by a
 ghost item of a trait or an implementation. Files below specs/Inside, which no clause of a public call may cite, are left out, and so are
-those of causal_picture and causal_report: they are the parts of texts.
+those of causal_picture, which are the parts of a text. A crate whose README names each of its cited files is linked instead.
 """
 import argparse
 import glob
@@ -18,12 +18,11 @@ import sys
 HERE = os.path.dirname(os.path.abspath(__file__))
 TOP = os.path.dirname(HERE)
 PAGE = os.path.join(HERE, "DEFINITIONS.md")
-LEFT_OUT = ("causal_picture", "causal_report")
+LEFT_OUT = ("causal_picture",)
 HEAD = """\
 # Definitions
 
-The files of definitions that public contracts cite, from the base up. `docs/definitions.py` makes this page from their first lines;
-the READMEs of `causal_picture` and `causal_report` name theirs.
+The files of definitions that public contracts cite, from the base up. `docs/definitions.py` makes this page from their first lines.
 
 A state of a run is its **past**: the entries so far, newest first. Positions count from the oldest: the newest entry of `e ∷ past` has the
 position `length past`.
@@ -31,6 +30,7 @@ position `length past`.
 Sources: Lamport 1978 (CACM 21(7)) for happened-before; Alvisi and Marzullo 1998 (IEEE TSE 24(2)) for determinants and causal logging;
 Elnozahy, Alvisi, Wang and Johnson 2002 (ACM Computing Surveys 34(3)) for `Depend`, `Log`, `Stable` and orphans. The rest is this project's.
 """
+ELSEWHERE = "The READMEs of these crates name theirs: "
 IMPORT = re.compile(r"\buse Rattle\.(\w+)\.specs\.([\w.]+?)(?:\.\{([^}]*)\}| as (\w+))", re.S)
 PUBLIC = re.compile(r"\s*pub (?:const |unsafe )*(?:extern \"C\" )?fn \w")
 GHOST = re.compile(r"^    ghost (?!use\b)\w+\s*[:=]\s*\{.*?\};", re.S | re.M)
@@ -98,14 +98,22 @@ def row(path):
     return f"- [{name}](../{path}): {short if len(short.split()) > 4 else sentence.rstrip('.')}"
 
 
+def is_named(path, readme):
+    """Whether a README names the file, as `Name.antt`."""
+    return re.search(rf"\b{re.escape(os.path.basename(path))}", readme)
+
+
 def page():
-    files, parts = cited(), [HEAD]
+    files, parts, elsewhere = cited(), [], []
     for crate in (it for it in crates() if it not in LEFT_OUT):
         paths = sorted(os.path.relpath(path, TOP) for path in glob.glob(os.path.join(TOP, "crates", crate, "specs", "*.antt")))
-        rows = [row(path) for path in paths if path in files]
-        if rows:
-            parts.append(f"## {crate}\n\n" + "\n".join(rows) + "\n")
-    return "\n".join(parts)
+        paths = [path for path in paths if path in files]
+        readme = os.path.join("crates", crate, "README.md")
+        if paths and os.path.exists(os.path.join(TOP, readme)) and all(is_named(path, text_of(TOP, readme)) for path in paths):
+            elsewhere.append(f"[{crate}](../{readme})")
+        elif paths:
+            parts.append(f"## {crate}\n\n" + "\n".join(map(row, paths)) + "\n")
+    return "\n".join([HEAD, ELSEWHERE + ",\n".join(elsewhere) + ".\n", *parts])
 
 
 def main():
