@@ -13,7 +13,12 @@ use Rattle.causal_text.specs.PushReaders.{PushReaderState, HasReceived}
 use Rattle.causal_text.specs.Streams.{max_piece}
 use Rattle.causal_text.proofs.Lemmas.GoesOn.{texts_go_on}
 use Rattle.causal_audit.proofs.Lemmas.Beginnings.{beginnings_decide}
-use Rattle.causal_workers.specs.Streaming.{EarlyBreachIsFinal, HasNoEarlyBreach, IsBreachSoFar, IsEarlyBreach, ExplainsVerdictError, StopsOnceJudged, is_checkpoint_length}
+use Rattle.causal_workers.specs.Streaming.{EarlyBreachIsFinal, HasNoEarlyBreach, IsBreachSoFar, IsEarlyBreach, IsLook, ExplainsVerdictError, StopsOnceJudged, is_checkpoint_length}
+use Rattle.causal_workers.specs.Inside.PieceOutcomes.{IsPieceOutcome}
+use Rattle.causal_workers.specs.declared.looks.Looks.{Looks}
+use Rattle.causal_workers.specs.declared.looks.Looks.TheVariants.{Checkpoints, Live}
+use Rattle.causal_workers.specs.declared.streaming.PieceOutcome.{PieceOutcome}
+use Rattle.causal_workers.specs.declared.streaming.PieceOutcome.TheVariants.{More, Breach}
 use Rattle.causal_workers.specs.declared.streaming.VerdictError.TheVariants.{Input}
 use Rattle.causal_workers.specs.declared.judgement.Judged.{Judged}
 
@@ -33,9 +38,9 @@ part_read most f b done part piece next whole received none same =
     subst (λ (bytes : List ℕ). HasReceived most next bytes × HasNoEarlyBreach most bytes f) (append_assoc b done part ∙ ap (λ xs. b ++ xs) (sym whole)) (received, λ r x look. none r (same r x) look)
 
 -- the judgement at the end of a line is the first that does not accept, in each text with this prefix
-pub early_in : (most : ℕ) (b done line after more : List ℕ) (f : ℕ) (judged : Judged) → HasNoEarlyBreach most (b ++ done) f → IsComplete line → IsBreachSoFar most ((b ++ done) ++ line) f judged
-    → IsEarlyBreach most ((b ++ (done ++ (line ++ after))) ++ more) f judged
-early_in most b done line after more f judged none complete breach =
+pub early_in : (looks : Looks) (most : ℕ) (b done line after more : List ℕ) (f : ℕ) (judged : Judged) → HasNoEarlyBreach most (b ++ done) f → IsComplete line → IsBreachSoFar looks most ((b ++ done) ++ line) f judged
+    → IsEarlyBreach looks most ((b ++ (done ++ (line ++ after))) ++ more) f judged
+early_in looks most b done line after more f judged none complete breach =
     grind (
       arith,
       append_assoc b (done ++ (line ++ after)) more,
@@ -45,9 +50,45 @@ early_in most b done line after more f judged none complete breach =
       append_assoc (b ++ done) line (after ++ more),
     )
 
--- a verdict at a checkpoint that does not accept is one on each whole run whose text has this prefix
+-- a breach that a look finds is one that looser looks may find
+pub looser_breach : (few looks : Looks) (most : ℕ) (bytes : List ℕ) (f : ℕ) (judged : Judged) → ((n : ℕ) → IsLook few n → IsLook looks n) → IsBreachSoFar few most bytes f judged → IsBreachSoFar looks most bytes f judged
+looser_breach few looks most bytes f judged looser found = record {
+  recording = found.recording;
+  says = found.says;
+  looked = looser (length found.recording.past) found.looked;
+  verdict = found.verdict;
+  breach = found.breach;
+  entries = found.entries;
+  deliveries = found.deliveries;
+}
+
+pub looser_early : (few looks : Looks) (most : ℕ) (text : List ℕ) (f : ℕ) (judged : Judged) → ((n : ℕ) → IsLook few n → IsLook looks n) → IsEarlyBreach few most text f judged → IsEarlyBreach looks most text f judged
+looser_early few looks most text f judged looser early = record {
+  before = early.before;
+  line = early.line;
+  more = early.more;
+  split = early.split;
+  complete = early.complete;
+  none = early.none;
+  breach = looser_breach few looks most (early.before ++ early.line) f judged looser early.breach;
+}
+
+pub looser_piece : (few looks : Looks) (most : ℕ) (b piece : List ℕ) (f : ℕ) (heard : PieceOutcome) → ((n : ℕ) → IsLook few n → IsLook looks n) → IsPieceOutcome few most b piece f heard → IsPieceOutcome looks most b piece f heard
+looser_piece few looks most b piece f (More next) looser outcome = outcome
+looser_piece few looks most b piece f (Breach judged) looser outcome = λ more. looser_early few looks most ((b ++ piece) ++ more) f judged looser (outcome more)
+
+-- a look at a checkpoint is one of all looks
+pub at_checkpoint : (looks : Looks) (n : ℕ) → IsLook Checkpoints n → IsLook looks n
+at_checkpoint Checkpoints n look = look
+at_checkpoint Live n look = tt
+
+-- a trace is audited at each checkpoint
+pub checkpoint_looked : (looks : Looks) (n : ℕ) → is_checkpoint_length n ≡ true → IsLook looks n
+checkpoint_looked looks n look = at_checkpoint looks n look
+
+-- a verdict of an audit that does not accept is one on each whole run whose text has this prefix
 pub early_is_final : EarlyBreachIsFinal
-early_is_final most text f judged whole early spells =
+early_is_final looks most text f judged whole early spells =
     let b = early.breach in
     let on = texts_go_on most text whole b.recording spells (early.before ++ early.line, early.more, early.split, b.says) in
     beginnings_decide b.recording whole on.0 f judged.verdict on.1 on.2 b.breach b.verdict

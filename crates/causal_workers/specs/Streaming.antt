@@ -14,6 +14,8 @@ use Rattle.causal_line.specs.declared.kind.TextKind.TheVariants as kind
 use Rattle.causal_audit.specs.declared.verdict.Verdict.TheVariants.{Accept}
 use Rattle.causal_audit.specs.Verdicts.{IsVerdict}
 use Rattle.causal_workers.specs.Judgements.{IsJudgementWithin}
+use Rattle.causal_workers.specs.declared.looks.Looks.{Looks}
+use Rattle.causal_workers.specs.declared.looks.Looks.TheVariants.{Checkpoints, Live}
 use Rattle.causal_workers.specs.declared.streaming.StreamVerdict.{StreamVerdict}
 use Rattle.causal_workers.specs.declared.streaming.StreamVerdict.TheVariants.{Early, Whole}
 use Rattle.causal_workers.specs.declared.streaming.VerdictError.{VerdictError}
@@ -24,35 +26,39 @@ use Rattle.causal_workers.specs.declared.judgement.Judged.{Judged}
 abbrev pub is_checkpoint_length : ℕ → Bool
 is_checkpoint_length entries = is_power_of_two entries
 
+-- a trace of this many entries may be audited while it is read: only at a checkpoint; in a live run, at any time
+abbrev pub IsLook : Looks → ℕ → Type 0
+IsLook Checkpoints entries = is_checkpoint_length entries ≡ true
+IsLook Live entries = Unit {0}
+
 -- each audit at a checkpoint of this text accepts
 abbrev pub HasNoEarlyBreach : ℕ → List ℕ → ℕ → Type 0
 HasNoEarlyBreach most text f = (r : Recording) → HasPrefixSpelling most text r → is_checkpoint_length (length r.past) ≡ true → IsSafeTrace r f
 
--- the complete lines of these bytes contain a recording at a checkpoint, whose verdict does not accept
-pub record IsBreachSoFar (most : ℕ) (bytes : List ℕ) (f : ℕ) (judged : Judged) : Type 0 where
+-- the complete lines of these bytes contain a recording that is audited, whose verdict does not accept
+pub record IsBreachSoFar (looks : Looks) (most : ℕ) (bytes : List ℕ) (f : ℕ) (judged : Judged) : Type 0 where
   pub recording : Recording
   pub says : SpellsSoFar most bytes recording
-  pub looked : is_checkpoint_length (length recording.past) ≡ true
+  pub looked : IsLook looks (length recording.past)
   pub verdict : IsVerdict recording f judged.verdict
   pub breach : judged.verdict ≢ Accept
   pub entries : judged.entries ≡ length recording.past
   pub deliveries : judged.deliveries ≡ deliveries_in recording.past
 
--- this is the judgement of the first audit that does not accept, as soon as `line` is read
-pub record IsEarlyBreach (most : ℕ) (text : List ℕ) (f : ℕ) (judged : Judged) : Type 0 where
+-- this is the judgement of an audit that does not accept, as soon as `line` is read; each at a checkpoint before accepts
+pub record IsEarlyBreach (looks : Looks) (most : ℕ) (text : List ℕ) (f : ℕ) (judged : Judged) : Type 0 where
   pub before : List ℕ
   pub line : List ℕ
   pub more : List ℕ
   pub split : text ≡ (before ++ line) ++ more
   pub complete : IsComplete line
   pub none : HasNoEarlyBreach most before f
-  pub breach : IsBreachSoFar most (before ++ line) f judged
+  pub breach : IsBreachSoFar looks most (before ++ line) f judged
 
--- the verdict on a text: that of the first checkpoint that does not accept, or, if all accept, the judgement of the
--- whole
-abbrev pub IsStreamVerdict : ℕ → List ℕ → ℕ → StreamVerdict → Type 0
-IsStreamVerdict most text f (Early judged) = IsEarlyBreach most text f judged
-IsStreamVerdict most text f (Whole judged) = HasNoEarlyBreach most text f × IsJudgementWithin most text f judged
+-- the verdict on a text: that of the first audit that does not accept, or, if all accept, the judgement of the whole
+abbrev pub IsStreamVerdict : Looks → ℕ → List ℕ → ℕ → StreamVerdict → Type 0
+IsStreamVerdict looks most text f (Early judged) = IsEarlyBreach looks most text f judged
+IsStreamVerdict looks most text f (Whole judged) = HasNoEarlyBreach most text f × IsJudgementWithin most text f judged
 
 -- why a text got no verdict; an error of the text other than `NoMemory` is reported only if all checkpoints accept
 abbrev pub ExplainsVerdictError : ℕ → List ℕ → ℕ → VerdictError → Type 0
@@ -67,8 +73,8 @@ pub record StopsOnceJudged (most f : ℕ) (old new : Option (List ℕ)) : Type 0
   pub reading : StopsOnceDecided most old new
   pub none : HasNoEarlyBreach most reading.before f
 
--- the law: a verdict at a checkpoint that does not accept is the verdict on the run that the whole text spells, if any
+-- the law: a verdict of an audit that does not accept is the verdict on the run that the whole text spells, if any
 abbrev pub EarlyBreachIsFinal : Type 0
 EarlyBreachIsFinal =
-    (most : ℕ) (text : List ℕ) (f : ℕ) (judged : Judged) (whole : Recording) → IsEarlyBreach most text f judged → SpellsWithin most text whole
+    (looks : Looks) (most : ℕ) (text : List ℕ) (f : ℕ) (judged : Judged) (whole : Recording) → IsEarlyBreach looks most text f judged → SpellsWithin most text whole
     → IsVerdict whole f judged.verdict

@@ -5,7 +5,7 @@
 //! of workers.
 //!
 //! Begin at [`audit`] for a trace, or [`audit_text`] for its text; [`judge_stream`] returns as soon as an audit
-//! at a checkpoint does not accept. All take a [`Gate`]; [`OpenGate`] blocks no worker. [`verdict_line`] prints their
+//! while it reads does not accept, and [`Looks`] are when it audits. All take a [`Gate`]; [`OpenGate`] blocks no worker. [`verdict_line`] prints their
 //! results.
 #![tactic(auto)]
 
@@ -13,6 +13,8 @@
 pub mod parallel_audit;
 /// The verdict on a text while it is read.
 pub mod streaming;
+/// When a trace is audited while it is read.
+pub mod looks;
 /// The gate that each worker passes before it begins.
 pub mod gate;
 /// The audit of a text or a trace, with the counts of the trace.
@@ -27,5 +29,6 @@ mod share;
 pub use gate::{Gate, OpenGate};
 pub use judgement::{AuditTextFault, Judged, audit_text, judge_trace};
 pub use line::verdict_line;
+pub use looks::Looks;
 pub use parallel_audit::{AuditFault, audit};
 pub use streaming::{StreamVerdict, VerdictError, judge_stream};

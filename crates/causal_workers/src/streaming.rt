@@ -1,14 +1,16 @@
-//! The verdict on a text while it is read: the reading stops at the first checkpoint whose audit does not accept.
+//! The verdict on a text while it is read: the reading stops at the first audit that does not accept.
 ghost use Rattle.std.specs.Prelude.{◌≡◌, ◌≢◌, ◌≤◌, ◌++◌, ℕ, List, IfOk, IfErr, IfSome, IfNone, Err, length, true};
 ghost use Rattle.causal_text.specs.PushReaders.{HasReceived};
 ghost use Rattle.causal_text.specs.Prefixes.{SpellsSoFar};
 ghost use Rattle.causal_trace.specs.Judgement.{IsSafeTrace};
 ghost use Rattle.causal_trace.specs.Rows.{Recording};
-ghost use Rattle.causal_workers.specs.Streaming.{EarlyBreachIsFinal, HasNoEarlyBreach, IsBreachSoFar, IsStreamVerdict, ExplainsVerdictError, StopsOnceJudged, is_checkpoint_length};
+ghost use Rattle.causal_workers.specs.Streaming.{EarlyBreachIsFinal, HasNoEarlyBreach, IsBreachSoFar, IsLook, IsStreamVerdict, ExplainsVerdictError, StopsOnceJudged};
 ghost use Rattle.causal_workers.specs.Inside.PieceOutcomes.{IsPieceOutcome};
+ghost use Rattle.causal_workers.specs.declared.looks.Looks.{Looks};
 
 use crate::gate::Gate;
 use crate::judgement::{Judged, judge_trace};
+use crate::looks::{LookTimer, Looks};
 use crate::parallel_audit::AuditFault;
 use causal_audit::Verdict;
 use causal_text::lines::split_complete;
@@ -16,6 +18,7 @@ use causal_text::{PushReader, ReadError, max_text_len};
 use causal_trace::limits::Limits;
 use std::alloc::Global;
 use std::io::Read;
+use std::rt::Clock;
 use std::sync::Wait;
 use std::thread::Threads;
 
@@ -25,7 +28,7 @@ const PIECE: usize = 4_096;
 /// The verdict on a text that may not have been read to its end.
 #[derive(Clone, Copy)]
 pub enum StreamVerdict {
-    /// The judgement at the first checkpoint whose audit does not accept; reading stopped there.
+    /// The judgement of the first look whose audit does not accept; reading stopped there.
     Early(Judged),
     /// The whole text spells a trace with this verdict.
     Whole(Judged),
@@ -52,29 +55,34 @@ enum PieceOutcome {
 /// cannot change the verdict, and its errors are not reported. So at most about twice the entries up to the first
 /// unsafe instant are read, and the rest of the last piece, which has at most 4,096 bytes.
 ///
-/// Each audit starts from the first entry. As each covers twice as many entries as the one before, all together cost
-/// about twice the last.
+/// With [`Looks::Live`] there are audits between checkpoints too. So the entries of an `Early` verdict depend on the
+/// time; what it finds does not.
+///
+/// Each audit starts from the first entry. As each at a checkpoint covers twice as many entries as the one before, all
+/// these together cost about twice the last. The others take at most half of the time.
 ///
 /// # Errors
 /// `Input` as in `read_within`, `Audit` as in `audit`.
-pub fn judge_stream<I: Read, G: Gate + Sync, R: Threads + Wait>(
+pub fn judge_stream<I: Read, G: Gate + Sync, R: Threads + Wait + Clock>(
     rt: &R,
     alloc: Global,
     source: &mut I,
     limits: Limits,
+    looks: Looks,
     f: u16,
     workers: u32,
     gate: &G,
 ) -> Result<StreamVerdict, VerdictError>
     requires { (1 ≤ workers) × (workers ≤ 64) }
     ensures ok { IfOk result (λ known. IfSome (I.remaining source.old)
-        (λ text. IsStreamVerdict limits.entries text f known)) }
+        (λ text. IsStreamVerdict looks limits.entries text f known)) }
     ensures err { IfErr result (λ unjudged. IfSome (I.remaining source.old)
         (λ text. ExplainsVerdictError limits.entries text f unjudged)) }
     ensures stops { StopsOnceJudged limits.entries f (I.remaining source.old) (I.remaining source.new) }
     ensures one_worker { result ≡ Err (VerdictError.Audit AuditFault.NoWorker) → 2 ≤ workers }
 {
     let mut prefix = PushReader::within(alloc, limits);
+    let mut timer = LookTimer::start(rt, looks);
     let mut buffer = [0u8; PIECE];
     for _i in 0..max_text_len(limits) + 2 {
         let Ok(n) = source.read(&mut buffer) else {
@@ -83,7 +91,16 @@ pub fn judge_stream<I: Read, G: Gate + Sync, R: Threads + Wait>(
         if n == 0 {
             return judge_whole(rt, alloc, prefix, f, workers, gate);
         }
-        match feed_and_audit(rt, alloc, prefix, &buffer[..n], f, workers, gate) {
+        match feed_in_time(
+            rt,
+            alloc,
+            &mut timer,
+            prefix,
+            &buffer[..n],
+            f,
+            workers,
+            gate,
+        ) {
             Ok(PieceOutcome::More(next)) => prefix = next,
             Ok(PieceOutcome::Breach(judged)) => return Ok(StreamVerdict::Early(judged)),
             Err(unjudged) => return Err(unjudged),
@@ -92,10 +109,11 @@ pub fn judge_stream<I: Read, G: Gate + Sync, R: Threads + Wait>(
     unreachable!()
 }
 
-/// Reads one more piece, and audits the trace at each checkpoint in it.
-fn feed_and_audit<G: Gate + Sync, R: Threads + Wait>(
+/// Reads one more piece, and audits the trace at each checkpoint in it, and at its last line if that is due.
+fn feed_in_time<G: Gate + Sync, R: Threads + Wait + Clock>(
     rt: &R,
     alloc: Global,
+    timer: &mut LookTimer,
     prefix: PushReader,
     piece: &[u8],
     f: u16,
@@ -103,8 +121,39 @@ fn feed_and_audit<G: Gate + Sync, R: Threads + Wait>(
     gate: &G,
 ) -> Result<PieceOutcome, VerdictError>
     requires { (1 ≤ workers) × (workers ≤ 64) }
+    ensures same { timer.new.looks ≡ timer.old.looks }
     ensures ok { IfOk result (λ heard. (most : ℕ) (b : List ℕ) → HasReceived most prefix b
-        → HasNoEarlyBreach most b f → IsPieceOutcome most b piece.now f heard) }
+        → HasNoEarlyBreach most b f
+        → IsPieceOutcome timer.old.looks most b piece.now f heard) }
+    ensures err { IfErr result (λ unjudged. (most : ℕ) (b : List ℕ) → HasReceived most prefix b
+        → HasNoEarlyBreach most b f → (more : List ℕ) →
+        ExplainsVerdictError most ((b ++ piece.now) ++ more) f unjudged) }
+    ensures one_worker { result ≡ Err (VerdictError.Audit AuditFault.NoWorker) → 2 ≤ workers }
+{
+    let Some(began) = timer.due(rt, piece) else {
+        let looks = Looks::Checkpoints;
+        return feed_and_audit(rt, alloc, prefix, piece, looks, f, workers, gate);
+    };
+    let looks = timer.looks;
+    let outcome = feed_and_audit(rt, alloc, prefix, piece, looks, f, workers, gate);
+    timer.note_look(rt, began);
+    outcome
+}
+
+/// Reads one more piece, and audits the trace at each checkpoint in it; in a live run, also at its last line.
+fn feed_and_audit<G: Gate + Sync, R: Threads + Wait>(
+    rt: &R,
+    alloc: Global,
+    prefix: PushReader,
+    piece: &[u8],
+    looks: Looks,
+    f: u16,
+    workers: u32,
+    gate: &G,
+) -> Result<PieceOutcome, VerdictError>
+    requires { (1 ≤ workers) × (workers ≤ 64) }
+    ensures ok { IfOk result (λ heard. (most : ℕ) (b : List ℕ) → HasReceived most prefix b
+        → HasNoEarlyBreach most b f → IsPieceOutcome looks most b piece.now f heard) }
     ensures err { IfErr result (λ unjudged. (most : ℕ) (b : List ℕ) → HasReceived most prefix b
         → HasNoEarlyBreach most b f → (more : List ℕ) →
         ExplainsVerdictError most ((b ++ piece.now) ++ more) f unjudged) }
@@ -117,7 +166,8 @@ fn feed_and_audit<G: Gate + Sync, R: Threads + Wait>(
             Ok(next) => next,
             Err(rejected) => return Err(VerdictError::Input(ReadError::Text(rejected))),
         };
-        match breach_so_far(rt, alloc, &reader, f, workers, gate) {
+        let looks_here = looks.before(after);
+        match breach_so_far(rt, alloc, &reader, looks_here, f, workers, gate) {
             Ok(None) => {}
             Ok(Some(judged)) => return Ok(PieceOutcome::Breach(judged)),
             Err(fault) => return Err(VerdictError::Audit(fault)),
@@ -130,28 +180,28 @@ fn feed_and_audit<G: Gate + Sync, R: Threads + Wait>(
     }
 }
 
-/// Returns the judgement of the trace so far if it is at a checkpoint and its verdict does not accept; `None`
-/// otherwise.
+/// Returns the judgement of the trace so far if it is audited now and its verdict does not accept; `None` otherwise.
 fn breach_so_far<G: Gate + Sync, R: Threads + Wait>(
     rt: &R,
     alloc: Global,
     prefix: &PushReader,
+    looks: Looks,
     f: u16,
     workers: u32,
     gate: &G,
 ) -> Result<Option<Judged>, AuditFault>
     requires { (1 ≤ workers) × (workers ≤ 64) }
     ensures breach { IfOk result (λ found. IfSome found (λ judged. (most : ℕ) (b : List ℕ)
-        → HasReceived most prefix.now b → IsBreachSoFar most b f judged)) }
+        → HasReceived most prefix.now b → IsBreachSoFar looks most b f judged)) }
     ensures none { IfOk result (λ found. IfNone found ((most : ℕ) (b : List ℕ) (r : Recording)
         → HasReceived most prefix.now b → SpellsSoFar most b r →
-        is_checkpoint_length (length r.past) ≡ true → IsSafeTrace r f)) }
+        IsLook looks (length r.past) → IsSafeTrace r f)) }
     ensures one_worker { result ≡ Err AuditFault.NoWorker → 2 ≤ workers }
 {
     let Some(trace) = prefix.trace() else {
         return Ok(None);
     };
-    if !trace.len().is_power_of_two() {
+    if !looks.has(trace.len()) {
         return Ok(None);
     }
     let judged = judge_trace(rt, alloc, trace, f, workers, gate)?;
@@ -172,7 +222,7 @@ fn judge_whole<G: Gate + Sync, R: Threads + Wait>(
 ) -> Result<StreamVerdict, VerdictError>
     requires { (1 ≤ workers) × (workers ≤ 64) }
     ensures ok { IfOk result (λ known. (most : ℕ) (b : List ℕ) → HasReceived most prefix b
-        → HasNoEarlyBreach most b f → IsStreamVerdict most b f known) }
+        → HasNoEarlyBreach most b f → (looks : Looks) → IsStreamVerdict looks most b f known) }
     ensures err { IfErr result (λ unjudged. (most : ℕ) (b : List ℕ) → HasReceived most prefix b
         → HasNoEarlyBreach most b f → ExplainsVerdictError most b f unjudged) }
     ensures one_worker { result ≡ Err (VerdictError.Audit AuditFault.NoWorker) → 2 ≤ workers }
@@ -187,7 +237,7 @@ fn judge_whole<G: Gate + Sync, R: Threads + Wait>(
     }
 }
 
-/// A law, of a function that does nothing: a verdict at a checkpoint that does not accept is the verdict on the whole
+/// A law, of a function that does nothing: a verdict of a look that does not accept is the verdict on the whole
 /// text, if that spells a trace.
 pub fn early_breach_is_final()
     ensures { EarlyBreachIsFinal }

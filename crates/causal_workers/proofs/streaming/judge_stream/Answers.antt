@@ -1,7 +1,8 @@
-use Rattle.std.proofs.Common.{◌++◌, [], take, length-append, subst, Result, Ok, Err, IfErr, arith}
+use Rattle.std.proofs.Common.{◌++◌, ◌∙◌, [], take, length-append, subst, Result, Ok, Err, IfErr, arith}
 use Rattle.std.proofs.KnownBytes.{Consumes-nil, Consumes-trans}
 use Rattle.std.proofs.lemmas.List.{length-take-le}
 use Rattle.causal_workers.specs.Streaming.{IsStreamVerdict, ExplainsVerdictError}
+use Rattle.causal_workers.specs.declared.looks.Looks.{Looks}
 use Rattle.causal_workers.specs.declared.streaming.StreamVerdict.TheVariants.{Early}
 use Rattle.causal_workers.specs.Inside.PieceOutcomes.{IsPieceOutcome}
 use Rattle.causal_workers.specs.declared.streaming.PieceOutcome.{PieceOutcome}
@@ -13,7 +14,7 @@ if_err (Ok x) P Q weaker h = tt
 if_err (Err e) P Q weaker h = weaker e h
 
 pub loop-i-init : goal.loop-i-init
-loop-i-init g c = ([], Consumes-nil _, c.within-prefix.ensures.read, λ r x look. absurd (c.within-prefix.ensures.none c.args.limits.entries r x), omega arith)
+loop-i-init g c = ([], Consumes-nil _, c.within-prefix.ensures.read, λ r x look. absurd (c.within-prefix.ensures.none c.args.limits.entries r x), omega arith, c.start-timer.ensures)
 
 pub returns-then-n-eq0-clause-err : goal.returns-then-n-eq0-clause-err
 returns-then-n-eq0-clause-err g c = grind (arith, if_err, at_end)
@@ -22,9 +23,10 @@ pub returns-in-Ok-Breach-clause-ok : goal.returns-in-Ok-Breach-clause-ok
 returns-in-Ok-Breach-clause-ok g c =
     let i = c.loop-i.invariant in
     let piece = take c.in-Ok.n c.read.new.buf in
-    going_on (g.I.Read.remaining c.args.source.now) (g.I.Read.remaining c.loop-i.source) (g.I.Read.remaining c.read.new.self) i.0 piece (λ text. IsStreamVerdict c.args.limits.entries text c.args.f (Early c.in-Ok-Breach.judged))
+    going_on (g.I.Read.remaining c.args.source.now) (g.I.Read.remaining c.loop-i.source) (g.I.Read.remaining c.read.new.self) i.0 piece (λ text. IsStreamVerdict c.args.looks c.args.limits.entries text c.args.f (Early c.in-Ok-Breach.judged))
     i.1 c.in-Ok.ensures.bytes.0
-    (subst (λ (heard : PieceOutcome). IsPieceOutcome c.args.limits.entries i.0 piece c.args.f heard) c.in-Ok-Breach.field-0-is (c.in-Ok-Breach.ensures.ok c.args.limits.entries i.0 i.2 i.3))
+    (subst (λ (heard : PieceOutcome). IsPieceOutcome c.args.looks c.args.limits.entries i.0 piece c.args.f heard) c.in-Ok-Breach.field-0-is
+    (subst (λ (looks : Looks). IsPieceOutcome looks c.args.limits.entries i.0 piece c.args.f c.in-Ok-Breach.field-0) i.5 (c.in-Ok-Breach.ensures.ok c.args.limits.entries i.0 i.2 i.3)))
 
 pub returns-in-Err-clause-err : goal.returns-in-Err-clause-err
 returns-in-Err-clause-err g c =
@@ -37,12 +39,13 @@ pub loop-i-preserved : goal.loop-i-preserved
 loop-i-preserved g c =
     let i = c.loop-i.invariant in
     let piece = take c.in-Ok.n c.read.new.buf in
-    let more = subst (λ (heard : PieceOutcome). IsPieceOutcome c.args.limits.entries i.0 piece c.args.f heard) c.in-Ok-More.field-0-is (c.in-Ok-More.ensures.ok c.args.limits.entries i.0 i.2 i.3) in (
+    let more = subst (λ (heard : PieceOutcome). IsPieceOutcome c.loop-i.timer.looks c.args.limits.entries i.0 piece c.args.f heard) c.in-Ok-More.field-0-is (c.in-Ok-More.ensures.ok c.args.limits.entries i.0 i.2 i.3) in (
       i.0 ++ piece,
       Consumes-trans (g.I.Read.remaining c.args.source.now) (g.I.Read.remaining c.loop-i.source) (g.I.Read.remaining c.read.new.self) i.0 piece i.1 c.in-Ok.ensures.bytes.0,
       more.0,
       more.1,
       grind (arith, length-take-le, length-append),
+      c.in-Ok-More.ensures.same ∙ i.5,
     )
 
 pub returns-in-Ok-Breach-clause-stops : goal.returns-in-Ok-Breach-clause-stops
