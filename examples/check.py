@@ -341,6 +341,7 @@ WORDS = [
     (["audit", "--faults", "1", "--until-breach"], b"orphan f=1 instant=4 delivery=1 crash=1 orphan=2 read=4\n", "", 1),
     (["audit", "--until-breach"], b"", USAGE + "the following required arguments were not provided:\n  --faults <F>\n", 3),
     (["audit", "--until-breach", "--faults", "1", "--entries", "0"], b"", USAGE + "invalid value '0' for '--entries <N>': 0 is not in 1..=16777216\n", 3),
+    (["audit", "--faults", "1", "--until-breach=often"], b"", USAGE + "invalid value 'often' for '--until-breach[=<WHEN>]'\n", 3),
     (["explain", "--until-breach"], b"", USAGE + "unexpected argument '--until-breach' found\n", 3),
     (["audit", "--faults", "0", "--entries", "4"], SAFE, "", 0),
     (["audit", "--faults", "0", "--entries", "16777216"], SAFE, "", 0),

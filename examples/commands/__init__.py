@@ -48,7 +48,7 @@ def modelled(row):
     if row.files is not None or row.made is not None or len(row.text) > SHORT or row.seen is not bytes.decode or {"--entries", "--json"} & set(row.words):
         return None
     if row.words[0] == "audit":
-        answered = auditor.audited_until_breach if "--until-breach" in row.words else auditor.audited
+        answered = auditor.audited_until_breach if {"--until-breach", "--until-breach=live"} & set(row.words) else auditor.audited
         line, status = answered(row.text, int(row.words[2]))
         return status, line + "\n"
     if row.words == ("replays",):

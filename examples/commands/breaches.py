@@ -29,11 +29,21 @@ def end(entries):
     return spelled("end", entries)
 
 
-def until(name, text, status, out, words="", **more):
-    return given(name, f"audit --faults 0 --until-breach {words}", text, status, out, **more)
+def until(name, text, status, out, words="", looks="", **more):
+    return given(name, f"audit --faults 0 --until-breach{looks} {words}", text, status, out, **more)
+
+
+def live_rows():
+    """Looks by time come at the last line of a piece, so an earlier one at a number of entries is the first; `trials/live.py` has slow runs."""
+    for name, words in (("live", ""), ("live, by four workers", "--workers 4")):
+        yield until(f"{name}: at a number of entries", lines(broken(3, 5)), 1, orphan(3, 4), words, "=live", said="")
+        yield until(f"{name}: nothing breaks", lines(TWO, sends(4), end(4)), 0, "accept f=0 entries=4 deliveries=0\n", words, "=live", said="")
+        yield until(f"{name}: a fault where nothing breaks", lines(TWO, sends(5), "[]"), 2, fault(7, "Form"), words, "=live")
+    yield until("live, as JSON", lines(broken(3, 4)), 1, '{"verdict":"orphan","f":0,"instant":3,"delivery":2,"crash":[],"orphan":1,"read":4}\n', "--json", "=live")
 
 
 def rows():
+    yield from live_rows()
     yield until("no text", "", 2, fault(1, "Cut"))
     yield until("a header alone", lines(TWO), 2, fault(2, "Cut"))
     yield until("a breach among what the look sees", lines(broken(3, 4)), 1, orphan(3, 4), said="")

@@ -57,6 +57,13 @@ def merge_rows():
     yield given("a name with a quotation mark", command + 'p"0\\.log p1.log', "", 0, MERGED, files={'p"0\\.log': FIRST, "p1.log": SECOND}, made={"run.map": odd})
     yield given("no events", command + "p0.log p1.log", "", 0, trace(1, 2), files={"p0.log": lines(A), "p1.log": lines(B)}, made={"run.map": ""})
     yield given("a fault", command + "p0.log p1.log", "", 2, "fault line=4 WrongRsn\n", files={"p0.log": FIRST, "p1.log": WRONG}, made={"run.map": None})
+    kept = {"p0.log": FIRST, "p1.log": WRONG, "run.map": MAP * 9}
+    yield given("a fault leaves an older map", command + "p0.log p1.log", "", 2, "fault line=4 WrongRsn\n", files=kept, made={"run.map": MAP * 9})
+    for name, named, replaced in (("p0.log", "p0.log p1.log", "p0.log"), ("./p1.log", "p0.log p1.log", "p1.log"), ("p1.log", "- ././p1.log", "././p1.log"), ("none", "p0.log none", "none")):
+        said = f"causal_tool merge: the map {name} would replace {replaced}, which is read: name another file\n"
+        yield given(f"the map {name} of {named}", f"merge --map {name} {named}", "", 3, "", said=said, files=BOTH, made=BOTH)
+    dash = '[0,"p0.log",2,1]\n[1,"-",2,2]\n'
+    yield given("standard input is no file of that name", "merge --map - p0.log -", SECOND, 0, MERGED, said="", files={"p0.log": FIRST}, made={"-": dash})
     said = "write fault\ncausal_tool merge: no/run.map: " + MISSING + "\n"
     yield given("a map that cannot be written", "merge --map no/run.map p0.log p1.log", "", 4, MERGED, said=said, files=BOTH)
     yield given("no map", "merge p0.log p1.log", "", 0, MERGED, files=BOTH, made={"run.map": None})

@@ -5,7 +5,7 @@ use Rattle.causal_arguments.specs.declared.subcommand.Subcommand.TheVariants.{Au
 
 -- a command that reads a trace is requested with 1 to 64 workers
 abbrev pub HasWorkersInRange : Subcommand → Type 0
-HasWorkersInRange (Audit faults ends_at_breach form workers limits) = (1 ≤ workers) × (workers ≤ 64)
+HasWorkersInRange (Audit faults until form workers limits) = (1 ≤ workers) × (workers ≤ 64)
 HasWorkersInRange (Explain faults form workers limits) = (1 ≤ workers) × (workers ≤ 64)
 HasWorkersInRange (ExplainByMap faults workers limits) = (1 ≤ workers) × (workers ≤ 64)
 HasWorkersInRange (Replays form workers limits) = (1 ≤ workers) × (workers ≤ 64)

@@ -12,7 +12,7 @@ use std::rt::Env;
 use std::{env, io};
 
 /// The exit status after bad usage.
-const BAD_USAGE: u8 = 3;
+pub const BAD_USAGE: u8 = 3;
 
 const ARGUMENTS_NOT_UTF8: &str =
     "error: the arguments are no UTF-8 text\n\nFor more information, try '--help'.";

@@ -16,6 +16,8 @@ With --until-breach the trace is audited after 1, 2, 4 entries and so on. Where 
 breach, nothing more is read, and the line ends with
   read=N
       N entries were read; what comes later may have a fault
+With --until-breach=live it is also audited at the end of input that comes a second or more after
+the last such audit; N then depends on the time
 With --json the same as one JSON object:
   {\"verdict\":\"orphan\",\"f\":F,\"instant\":T,\"delivery\":K,\"crash\":[P,..],\"orphan\":P}
 

@@ -16,5 +16,5 @@ pub mod subcommand;
 /// Takes a command with its options from what `clap` has matched.
 mod values;
 
-pub use arguments::{EarlyExit, parse_command_line};
-pub use subcommand::{CommandLine, Form, Subcommand};
+pub use arguments::{BAD_USAGE, EarlyExit, parse_command_line};
+pub use subcommand::{CommandLine, Form, Subcommand, Until};

@@ -4,6 +4,9 @@ use clap::builder::ValueParser;
 use clap::{Arg, ArgAction, Command, value_parser};
 use std::alloc::{AllocError, Global};
 
+/// The value of `--until-breach` by which a breach is looked for by time, too.
+pub(crate) const LIVE: &str = "live";
+
 /// An option of a command.
 #[derive(Clone, Copy)]
 enum OptionKind {
@@ -162,6 +165,18 @@ fn only_option<'a>(alloc: Global) -> Arg<'a> {
         .value_parser(ValueParser::Names(&["breach"]))
 }
 
+/// Returns the option that ends an audit at a breach; its value may be left out.
+fn until_breach_option<'a>(alloc: Global) -> Arg<'a> {
+    Arg::new(alloc, "until-breach")
+        .long("until-breach")
+        .value_name("WHEN")
+        .help("Ends at the first breach found, without reading on; live also looks by time")
+        .num_args(0..=1)
+        .require_equals(true)
+        .default_missing_value("checkpoints")
+        .value_parser(ValueParser::Names(&["checkpoints", LIVE]))
+}
+
 /// Returns the option that names the file of a map.
 fn map_option<'a>(alloc: Global, help: &'static str) -> Arg<'a> {
     Arg::new(alloc, "map")
@@ -208,11 +223,7 @@ fn option<'a>(alloc: Global, given: OptionKind) -> Result<Arg<'a>, AllocError> {
         OptionKind::Faults { is_required } => faults(alloc, is_required),
         OptionKind::Workers => workers_option(alloc),
         OptionKind::Entries => entries_option(alloc),
-        OptionKind::UntilBreach => flag(
-            alloc,
-            "until-breach",
-            "Ends at the first breach found, without reading on",
-        ),
+        OptionKind::UntilBreach => until_breach_option(alloc),
         OptionKind::Json => flag(alloc, "json", "Answers with one JSON object"),
         OptionKind::MapRead => map_read_option(alloc)?,
         OptionKind::MapWritten => map_option(

@@ -10,14 +10,25 @@ pub enum Form {
     Json,
 }
 
+/// How far an audit reads.
+#[derive(Clone, Copy)]
+pub enum Until {
+    /// To the end of the text.
+    End,
+    /// To the first breach that is found at 1, 2, 4, 8 .. entries.
+    Breach,
+    /// To the first breach that is found there, or by time between them.
+    LiveBreach,
+}
+
 /// A command with its options. `faults` is the bound f, the number of processes that may be down at once; `workers` is the
 /// number of threads that read, and that audit; `limits` are those of the trace.
 #[derive(Clone, Copy)]
 pub enum Subcommand {
-    /// The verdict on a trace; with `ends_at_breach` at the first breach found, without reading on.
+    /// The verdict on a trace, which is read as far as `until` says.
     Audit {
         faults: u16,
-        ends_at_breach: bool,
+        until: Until,
         form: Form,
         workers: u32,
         limits: Limits,

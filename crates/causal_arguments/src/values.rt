@@ -2,8 +2,8 @@
 ghost use Rattle.std.specs.Prelude.{◌≤◌, IfOk, IfSome};
 ghost use Rattle.causal_arguments.specs.Workers.{HasWorkersInRange};
 
-use crate::options::command_line;
-use crate::subcommand::{CommandLine, Form, Subcommand};
+use crate::options::{LIVE, command_line};
+use crate::subcommand::{CommandLine, Form, Subcommand, Until};
 use causal_trace::limits::{DEFAULT_ENTRIES, Limits};
 use clap::{ArgMatches, Error};
 use std::alloc::{AllocError, Global};
@@ -53,7 +53,7 @@ fn parse_audit(given: &ArgMatches) -> Option<Subcommand>
 {
     Some(Subcommand::Audit {
         faults: given.get_one::<u16>("faults")?,
-        ends_at_breach: given.get_flag("until-breach"),
+        until: parse_until(given),
         form: parse_form(given),
         workers: parse_workers(given)?,
         limits: parse_limits(given),
@@ -112,6 +112,15 @@ fn parse_workers(given: &ArgMatches) -> Option<u32>
     match given.get_one::<u32>("workers") {
         Some(workers @ 1..=64) => Some(workers),
         _ => None,
+    }
+}
+
+/// Returns how far an audit reads.
+fn parse_until(given: &ArgMatches) -> Until {
+    match given.get_str("until-breach") {
+        None => Until::End,
+        Some(when) if when == LIVE => Until::LiveBreach,
+        Some(_) => Until::Breach,
     }
 }
 

@@ -5,6 +5,7 @@ use Rattle.causal_line.specs.declared.text_refusal.TextRefusal.{TextRefusal}
 use Rattle.causal_text.specs.declared.context_reading.ReadError.TheVariants as read_error
 use Rattle.causal_line.specs.declared.kind.TextKind.TheVariants as kind
 use Rattle.causal_workers.specs.Streaming.{ExplainsVerdictError}
+use Rattle.causal_workers.specs.declared.looks.Looks.{Looks}
 use Rattle.causal_workers.specs.declared.streaming.VerdictError.TheVariants.{Input}
 use Rattle.causal_commands.specs.declared.ended.Ended.{Ended}
 use Rattle.causal_commands.specs.declared.ended.Ended.TheVariants.{Faulted}
@@ -54,13 +55,13 @@ pub rejects : (most : ℕ) (known : Option (List ℕ)) (stopped : StreamRefusal)
 rejects most known stopped (Err e) tells h = tt
 rejects most known stopped (Ok a) tells h = IfSome-weaker known _ _ (h most) tells
 
--- if no checkpoint finds a breach before the first error, the error's line answers `audit --until-breach`
+-- if no early audit finds a breach before the first error, the error's line answers `audit --until-breach`
 pub faults_until : (rejected : TextRefusal) (result : Result Answer Ended) → rejected.fault.kind ≢ kind.NoMemory → IfOk result (λ a. a.ended ≡ Faulted)
     → IfOk result (λ a. (k : ℕ) (text : List ℕ) → ExplainsStreamRefusal k text (Text rejected) → IsFaultLine k text a.line.items)
-    → IfOk result (λ a. (k : ℕ) (text : List ℕ) (f : ℕ) → ExplainsVerdictError k text f (Input (read_error.Text rejected)) → IsEarlyAnswer k text f a.ended a.line.items)
+    → IfOk result (λ a. (looks : Looks) (k : ℕ) (text : List ℕ) (f : ℕ) → ExplainsVerdictError k text f (Input (read_error.Text rejected)) → IsEarlyAnswer looks k text f a.ended a.line.items)
 faults_until rejected (Err e) some ended line = tt
-faults_until rejected (Ok a) some ended line = λ k text f told.
-    subst (λ (e : Ended). IsEarlyAnswer k text f e a.line.items) (sym ended) (told.1 some, line k text ((told.0.first some, told.0.kept), some))
+faults_until rejected (Ok a) some ended line = λ looks k text f told.
+    subst (λ (e : Ended). IsEarlyAnswer looks k text f e a.line.items) (sym ended) (told.1 some, line k text ((told.0.first some, told.0.kept), some))
 
 -- the refusal in that answer is that of the text
 pub rejects_until : (rejected : TextRefusal) (result : Result Answer Ended) → rejected.fault.kind ≢ kind.NoMemory

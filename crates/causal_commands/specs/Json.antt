@@ -21,7 +21,7 @@ use Rattle.causal_commands.specs.AnswerWrites.{WritesAnswer}
 -- the bound f of the question; `Range` and `Replays` have none, and the entries before an error are audited for 0
 abbrev pub faults_of : Question → ℕ
 faults_of (Verdict faults workers) = faults
-faults_of (Breach faults workers) = faults
+faults_of (Breach faults workers looks) = faults
 faults_of (Reason faults workers) = faults
 faults_of (Range workers) = 0
 faults_of (Replays workers) = 0
@@ -29,7 +29,7 @@ faults_of (Replays workers) = 0
 -- the number of workers that read and audit
 abbrev pub workers_of : Question → ℕ
 workers_of (Verdict faults workers) = workers
-workers_of (Breach faults workers) = workers
+workers_of (Breach faults workers looks) = workers
 workers_of (Reason faults workers) = workers
 workers_of (Range workers) = workers
 workers_of (Replays workers) = workers
@@ -40,13 +40,13 @@ HasFewWorkers question = (1 ≤ workers_of question) × (workers_of question ≤
 
 -- the bytes consumed of a source decide nothing of the question on its text, but for one last piece at most
 abbrev pub StopsFor : ℕ → Question → Option (List ℕ) → Option (List ℕ) → Type 0
-StopsFor most (Breach faults workers) old new = StopsOnceJudged most faults old new
+StopsFor most (Breach faults workers looks) old new = StopsOnceJudged most faults old new
 StopsFor most question old new = StopsWithin most (max_read (workers_of question)) old new
 
 -- the lines that answer the question on a text, for this ending
 abbrev pub AreLines : ℕ → Question → List ℕ → Ended → List ℕ → Type 0
 AreLines most (Verdict faults workers) text ended lines = IsAnswer most text faults ended lines
-AreLines most (Breach faults workers) text ended lines = IsEarlyAnswer most text faults ended lines
+AreLines most (Breach faults workers looks) text ended lines = IsEarlyAnswer looks most text faults ended lines
 AreLines most (Reason faults workers) text ended lines = IsViewAnswer most view.Reason text faults ended lines
 AreLines most (Range workers) text ended lines = IsRangeAnswer most text ended lines
 AreLines most (Replays workers) text ended lines = IsReplaysAnswer most WithSurvivors text ended lines

@@ -16,9 +16,10 @@ use crate::view::View;
 use crate::{range, view};
 use causal_report::{ranges_object, verdict_object};
 use causal_trace::limits::Limits;
-use causal_workers::{OpenGate, judge_stream};
+use causal_workers::{Looks, OpenGate, judge_stream};
 use std::alloc::{AllocError, Global};
 use std::io::{Read, Write};
+use std::rt::Clock;
 use std::sync::Wait;
 use std::thread::Threads;
 
@@ -26,17 +27,31 @@ use std::thread::Threads;
 #[derive(Clone, Copy)]
 pub enum Question {
     /// The verdict for at most `faults` processes down at once, by `workers` threads.
-    Verdict { faults: u16, workers: u32 },
-    /// The verdict at the first checkpoint that finds a breach, without reading on; if none does, the verdict on the
-    /// whole text.
-    Breach { faults: u16, workers: u32 },
+    Verdict {
+        faults: u16,
+        workers: u32,
+    },
+    /// The verdict at the first look that finds a breach, without reading on; if none does, the verdict on the whole
+    /// text.
+    Breach {
+        faults: u16,
+        workers: u32,
+        looks: Looks,
+    },
     /// The verdict on the whole text, by one worker, and the reason for it. `workers` threads read.
-    Reason { faults: u16, workers: u32 },
+    Reason {
+        faults: u16,
+        workers: u32,
+    },
     /// The bounds f for which the trace is safe. `workers` threads read.
-    Range { workers: u32 },
+    Range {
+        workers: u32,
+    },
     /// Whether recoveries follow what survives, and if not, who has which of the two determinants. `workers` threads
     /// read.
-    Replays { workers: u32 },
+    Replays {
+        workers: u32,
+    },
 }
 
 impl Question {
@@ -58,9 +73,8 @@ impl Question {
 /// an allocation or a thread start. With one worker it is never `NoWorker`.
 ///
 /// The text is read in pieces of 4,096 bytes, to its end or to the piece with its first error; by several workers, but
-/// for `Breach`, in pieces of at most 65,536 bytes for each. `Breach` also stops at the first checkpoint that finds a
-/// breach.
-pub fn answer_as_json<R: Threads + Wait, I: Read, O: Write>(
+/// for `Breach`, in pieces of at most 65,536 bytes for each. `Breach` also stops at the first look that finds a breach.
+pub fn answer_as_json<R: Threads + Wait + Clock, I: Read, O: Write>(
     rt: &R,
     alloc: Global,
     input: &mut I,
@@ -105,7 +119,7 @@ fn object_answer(alloc: Global, lines: Answer) -> Result<Answer, Ended>
     }
 }
 
-fn answer_lines<I: Read, R: Threads + Wait>(
+fn answer_lines<I: Read, R: Threads + Wait + Clock>(
     rt: &R,
     alloc: Global,
     input: &mut I,
@@ -127,8 +141,12 @@ fn answer_lines<I: Read, R: Threads + Wait>(
             let judged = judge_input(rt, alloc, input, limits, faults, workers, &OpenGate);
             verdict_answer(alloc, faults, judged)
         }
-        Question::Breach { faults, workers } => {
-            let known = judge_stream(rt, alloc, input, limits, faults, workers, &OpenGate);
+        Question::Breach {
+            faults,
+            workers,
+            looks,
+        } => {
+            let known = judge_stream(rt, alloc, input, limits, looks, faults, workers, &OpenGate);
             early_answer(alloc, faults, known)
         }
         Question::Reason { faults, workers } => {

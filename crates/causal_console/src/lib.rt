@@ -25,7 +25,7 @@ pub mod source;
 pub mod tracked_stream;
 
 pub use diagnostics::{print_at_line, print_error_line, print_map_fault, print_trace_outcome};
-pub use map_file::{MapFile, write_map};
+pub use map_file::{MapFile, replaced_input, write_map};
 pub use merge_diagnostics::print_merge_diagnostics;
 pub use place::{InputNames, file_name};
 pub use progress::ProgressStream;

@@ -1,10 +1,12 @@
 //! The file of a map: `explain` reads it, and `merge` writes it.
 use crate::place::InputNames;
+use crate::source::is_standard_input;
 use causal_commands::{Ended, LastErrorStream, MergeOutcome};
 use causal_merge::{Origin, map_text};
 use causal_text::write_whole;
 use std::fs::{self, Files};
 use std::io::{self, Read, Result};
+use std::path::PathBuf;
 
 /// The file of a map that is read. It is opened when it is first read, so that the command before it in a pipe may still
 /// write it.
@@ -38,6 +40,37 @@ impl<R: Files + Drop> Read for MapFile<'_, R> {
         let count = file.read(buf);
         self.file = Some(file);
         count
+    }
+}
+
+/// Returns the first of these files that the file of a map would replace: it has that name, or the system resolves both
+/// names to one path, through folders and symbolic links. Another hard link to it, and standard input, are not found.
+pub fn replaced_input<'a, R: Files + AllocGlobal>(
+    rt: &R,
+    map: &str,
+    files: &'a [String],
+) -> Option<&'a str> {
+    let resolved = fs::canonicalize(rt, map).ok();
+    for file in files {
+        let name = file.as_str();
+        if is_standard_input(name) {
+            continue;
+        }
+        if name == map || is_resolved(rt, name, resolved.as_ref()) {
+            return Some(name);
+        }
+    }
+    None
+}
+
+/// Returns whether the system resolves a name to this path.
+fn is_resolved<R: Files + AllocGlobal>(rt: &R, name: &str, resolved: Option<&PathBuf>) -> bool {
+    let Some(resolved) = resolved else {
+        return false;
+    };
+    match fs::canonicalize(rt, name) {
+        Ok(path) => path.as_str() == resolved.as_str(),
+        Err(_) => false,
     }
 }
 

@@ -27,7 +27,7 @@ use Rattle.causal_tool.specs.declared.run.CommandOutcome.TheVariants as outcome_
 abbrev pub WritesAnswerIn : Form → ℕ → Question → Option (List ℕ) → Ended → Option (List ℕ) → Option (List ℕ) → Type 0
 WritesAnswerIn Json most question given ended old new = WritesObjectFor most question given ended old new
 WritesAnswerIn Lines most (Verdict faults workers) given ended old new = WritesWithin most given faults ended old new
-WritesAnswerIn Lines most (Breach faults workers) given ended old new = WritesEarlyFor most given faults ended old new
+WritesAnswerIn Lines most (Breach faults workers looks) given ended old new = WritesEarlyFor looks most given faults ended old new
 WritesAnswerIn Lines most (Reason faults workers) given ended old new = WritesViewFor most view.Reason given faults ended old new
 WritesAnswerIn Lines most (Range workers) given ended old new = WritesRangeFor most given ended old new
 WritesAnswerIn Lines most (Replays workers) given ended old new = WritesReplaysFor most given ended old new

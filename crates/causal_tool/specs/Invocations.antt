@@ -3,6 +3,8 @@ use Rattle.std.specs.Prelude.{⊤, ◌≤◌, true, false, Some, None}
 use Rattle.causal_arguments.specs.declared.subcommand.Subcommand.{Subcommand}
 use Rattle.causal_arguments.specs.declared.subcommand.Subcommand.TheVariants.{Audit, Explain, ExplainByMap, Replays}
 use Rattle.causal_arguments.specs.declared.subcommand.Subcommand.TheVariants as command
+use Rattle.causal_arguments.specs.declared.subcommand.Until.TheVariants as until
+use Rattle.causal_workers.specs.declared.looks.Looks.TheVariants.{Checkpoints, Live}
 use Rattle.causal_commands.specs.Json.{HasFewWorkers}
 use Rattle.causal_commands.specs.declared.json.Question.TheVariants.{Verdict, Breach, Reason, Range}
 use Rattle.causal_commands.specs.declared.json.Question.TheVariants as question_on
@@ -12,8 +14,9 @@ use Rattle.causal_tool.specs.declared.invocation.Invocation.TheVariants.{Trace, 
 
 -- what a command requests: `explain` without a bound f requests all bounds
 abbrev pub invocation_of : Subcommand → Invocation
-invocation_of (Audit faults true form workers limits) = Trace (Breach faults workers) form limits
-invocation_of (Audit faults false form workers limits) = Trace (Verdict faults workers) form limits
+invocation_of (Audit faults until.End form workers limits) = Trace (Verdict faults workers) form limits
+invocation_of (Audit faults until.Breach form workers limits) = Trace (Breach faults workers Checkpoints) form limits
+invocation_of (Audit faults until.LiveBreach form workers limits) = Trace (Breach faults workers Live) form limits
 invocation_of (Explain (Some faults) form workers limits) = Trace (Reason faults workers) form limits
 invocation_of (Explain None form workers limits) = Trace (Range workers) form limits
 invocation_of (ExplainByMap faults workers limits) = MappedReason faults workers limits

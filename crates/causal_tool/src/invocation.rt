@@ -3,10 +3,11 @@ ghost use Rattle.std.specs.Prelude.{◌≡◌};
 ghost use Rattle.causal_arguments.specs.Workers.{HasWorkersInRange};
 ghost use Rattle.causal_tool.specs.Invocations.{HasWorkerCountInRange, invocation_of};
 
-use causal_arguments::{Form, Subcommand};
+use causal_arguments::{Form, Subcommand, Until};
 use causal_commands::{Mapping, Question};
 use causal_picture::Selection;
 use causal_trace::limits::Limits;
+use causal_workers::Looks;
 
 /// What the command line requests.
 #[derive(Clone, Copy)]
@@ -49,15 +50,23 @@ impl Invocation {
         match command {
             Subcommand::Audit {
                 faults,
-                ends_at_breach,
+                until,
                 form,
                 workers,
                 limits,
             } => Invocation::Trace {
-                question: if ends_at_breach {
-                    Question::Breach { faults, workers }
-                } else {
-                    Question::Verdict { faults, workers }
+                question: match until {
+                    Until::End => Question::Verdict { faults, workers },
+                    Until::Breach => Question::Breach {
+                        faults,
+                        workers,
+                        looks: Looks::Checkpoints,
+                    },
+                    Until::LiveBreach => Question::Breach {
+                        faults,
+                        workers,
+                        looks: Looks::Live,
+                    },
                 },
                 form,
                 limits,

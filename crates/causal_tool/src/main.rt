@@ -31,12 +31,12 @@ mod run;
 use crate::diagnostics::print_diagnostics;
 use crate::invocation::Invocation;
 use crate::run::{CommandOutcome, run_command};
-use causal_arguments::{CommandLine, EarlyExit, Subcommand, parse_command_line};
+use causal_arguments::{BAD_USAGE, CommandLine, EarlyExit, Subcommand, parse_command_line};
 pub use causal_commands::audit_stream;
 use causal_commands::{Ended, LastErrorStream, MergeOutcome};
 use causal_console::{
     InputNames, MapFile, OpenFault, ProgressStream, file_name, is_standard_input, open_sources,
-    print_error_line, write_map,
+    print_error_line, replaced_input, write_map,
 };
 use std::io::{self, ErrorKind, IsTerminal};
 use std::process::ExitCode;
@@ -168,6 +168,24 @@ fn exit_early(rt: &HostRuntime, exit: EarlyExit) -> ExitCode
     exit_code_of(ended)
 }
 
+/// Prints that the map of a merge would replace one of its files, if so, and returns the exit code then.
+fn exit_before_replacing(
+    rt: &HostRuntime,
+    command: Subcommand,
+    map: Option<&str>,
+    files: &[String],
+) -> Option<ExitCode> {
+    let (Subcommand::Merge { .. }, Some(map)) = (command, map) else {
+        return None;
+    };
+    let file = replaced_input(rt, map, files)?;
+    let name = name_of(command);
+    let _ = eprintln!(rt;
+        "{name}: the map {map} would replace {file}, which is read: name another file"
+    );
+    Some(ExitCode::from(BAD_USAGE))
+}
+
 /// Writes the map of a merge, if one is wanted; returns the outcome with how the command then ends, and the error of the
 /// map's file.
 fn with_map<S: Drop>(
@@ -196,6 +214,10 @@ fn main(rt: HostRuntime) -> ExitCode {
         Err(exit) => return exit_early(&rt, exit),
     };
     let name = name_of(command);
+    let map = map.as_ref().map(|path| path.as_str());
+    if let Some(exit) = exit_before_replacing(&rt, command, map, files.as_slice()) {
+        return exit;
+    }
     let sources = match open_sources(&rt, rt.alloc(), files.as_slice()) {
         Ok(sources) => sources,
         Err(fault) => return exit_unopened(&rt, name, files.as_slice(), fault),
@@ -205,7 +227,6 @@ fn main(rt: HostRuntime) -> ExitCode {
     let reader = ProgressStream::new(rt, name, sources, is_watched);
     let mut input = LastErrorStream::new(reader);
     let mut output = LastErrorStream::new(io::writer(&rt));
-    let map = map.as_ref().map(|path| path.as_str());
     let mut map_input = LastErrorStream::new(MapFile::new(rt, map));
     let asked = Invocation::of(command);
     let outcome = run_command(&rt, asked, &mut input, &mut map_input, &mut output);

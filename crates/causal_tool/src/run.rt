@@ -17,6 +17,7 @@ use causal_trace::limits::Limits;
 use causal_workers::OpenGate;
 use std::io::{Read, Write};
 use std::random::RandomSource;
+use std::rt::Clock;
 use std::sync::Wait;
 use std::thread::Threads;
 
@@ -44,7 +45,7 @@ pub(crate) enum CommandOutcome {
 }
 
 /// Answers a question on a trace within the limits, in this form.
-fn answer_question<R: Threads + Wait + AllocGlobal, I: Read, O: Write>(
+fn answer_question<R: Threads + Wait + Clock + AllocGlobal, I: Read, O: Write>(
     rt: &R,
     input: &mut I,
     output: &mut O,
@@ -67,8 +68,15 @@ fn answer_question<R: Threads + Wait + AllocGlobal, I: Read, O: Write>(
             Question::Verdict { faults, workers } => {
                 answer_audit(rt, alloc, input, output, limits, faults, workers, &OpenGate)
             }
-            Question::Breach { faults, workers } => {
-                answer_until_breach(rt, alloc, input, output, limits, faults, workers, &OpenGate)
+            Question::Breach {
+                faults,
+                workers,
+                looks,
+            } => {
+                let gate = &OpenGate;
+                answer_until_breach(
+                    rt, alloc, input, output, limits, looks, faults, workers, gate,
+                )
             }
             Question::Reason { faults, workers } => {
                 answer_view(
@@ -101,7 +109,7 @@ fn random_seed<R: RandomSource>(rt: &R) -> u64 {
 
 /// Runs the command, and returns its outcome. Only `explain` reads a map.
 pub(crate) fn run_command<
-    R: Threads + Wait + AllocGlobal + RandomSource,
+    R: Threads + Wait + Clock + AllocGlobal + RandomSource,
     I: Read,
     M: Read,
     O: Write,

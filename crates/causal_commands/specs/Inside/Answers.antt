@@ -1,6 +1,7 @@
 -- The answer to a trace's text, before it is written.
 use Rattle.std.specs.Prelude.{◌≡◌, ℕ, ◌<◌, ◌⊎◌, List, length, take, Option, IfSome, IfOk, MatchResult, Result, ⊤}
 use Rattle.std.specs.Io.KnownBytes.{Appends}
+use Rattle.causal_workers.specs.declared.looks.Looks.{Looks}
 use Rattle.causal_workers.specs.declared.streaming.StreamVerdict.{StreamVerdict}
 use Rattle.causal_workers.specs.declared.streaming.VerdictError.{VerdictError}
 use Rattle.causal_workers.specs.Streaming.{IsStreamVerdict, ExplainsVerdictError}
@@ -42,8 +43,8 @@ abbrev pub IsVerdictOrRefusal : ℕ → List ℕ → ℕ → Result Judged Strea
 IsVerdictOrRefusal most text f judged = MatchResult judged (IsJudgementWithin most text f) (ExplainsStreamRefusal most text)
 
 -- the result is an early or whole verdict on the text, or explains why there is none
-abbrev pub IsStreamVerdictOrError : ℕ → List ℕ → ℕ → Result StreamVerdict VerdictError → Type 0
-IsStreamVerdictOrError most text f known = MatchResult known (IsStreamVerdict most text f) (ExplainsVerdictError most text f)
+abbrev pub IsStreamVerdictOrError : Looks → ℕ → List ℕ → ℕ → Result StreamVerdict VerdictError → Type 0
+IsStreamVerdictOrError looks most text f known = MatchResult known (IsStreamVerdict looks most text f) (ExplainsVerdictError most text f)
 
 -- the endings that write a whole answer
 abbrev pub WritesWholeAnswer : Ended → Type 0

@@ -2,13 +2,13 @@ use Rattle.std.proofs.lemmas.Result.{IfOk-weaker}
 use Rattle.causal_commands.proofs.early_audit.early_answer.Goals as goal
 
 pub returns-in-Err-clause-ok : goal.returns-in-Err-clause-ok
-returns-in-Err-clause-ok c = rw c.in-Err.is (IfOk-weaker c.no_verdict_answer.result _ _ (λ answer h. λ most text told. h most text c.args.f told) c.no_verdict_answer.ensures.ok)
+returns-in-Err-clause-ok c = rw c.in-Err.is (IfOk-weaker c.no_verdict_answer.result _ _ (λ answer h. λ looks most text told. h looks most text c.args.f told) c.no_verdict_answer.ensures.ok)
 
 pub returns-in-Err-clause-rejected : goal.returns-in-Err-clause-rejected
-returns-in-Err-clause-rejected c = rw c.in-Err.is (IfOk-weaker c.no_verdict_answer.result _ _ (λ answer h. λ most text told. h most text c.args.f told) c.no_verdict_answer.ensures.rejected)
+returns-in-Err-clause-rejected c = rw c.in-Err.is (IfOk-weaker c.no_verdict_answer.result _ _ (λ answer h. λ looks most text told. h most text c.args.f told) c.no_verdict_answer.ensures.rejected)
 
 pub returns-in-Ok-stream_answer-clause-ok : goal.returns-in-Ok-stream_answer-clause-ok
-returns-in-Ok-stream_answer-clause-ok c = rw c.in-Ok.is (λ most text told. c.in-Ok-stream_answer.ensures.ok most text told)
+returns-in-Ok-stream_answer-clause-ok c = rw c.in-Ok.is (λ looks most text told. c.in-Ok-stream_answer.ensures.ok looks most text told)
 
 pub returns-in-Ok-stream_answer-clause-rejected : goal.returns-in-Ok-stream_answer-clause-rejected
-returns-in-Ok-stream_answer-clause-rejected c = rw c.in-Ok.is (λ most text told. rw c.in-Ok-stream_answer.ensures.rejected tt)
+returns-in-Ok-stream_answer-clause-rejected c = rw c.in-Ok.is (λ looks most text told. rw c.in-Ok-stream_answer.ensures.rejected tt)

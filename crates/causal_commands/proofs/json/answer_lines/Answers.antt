@@ -1,4 +1,5 @@
 use Rattle.std.specs.Prelude.{IfSome}
+use Rattle.std.proofs.lemmas.Result.{IfOk-weaker}
 use Rattle.causal_workers.specs.Streaming.{IsStreamVerdict, ExplainsVerdictError}
 use Rattle.causal_workers.specs.Judgements.{IsJudgementWithin}
 use Rattle.causal_workers.specs.declared.streaming.StreamVerdict.{StreamVerdict}
@@ -31,13 +32,13 @@ returns-in-Breach-clause-ok g c =
     let given = g.I.Read.remaining c.args.input.now in
     let f = c.in-Breach.faults in
     let known = c.judge_stream-known.result in
-    rw c.in-Breach.is (IfOk-known c.args.limits.entries given (λ k text. IsStreamVerdictOrError k text f known) (λ (a : Answer) k text. IsEarlyAnswer k text f a.ended a.line.items) c.early_answer.result
-    (tells given (λ (k : StreamVerdict) text. IsStreamVerdict c.args.limits.entries text f k) (λ (u : VerdictError) text. ExplainsVerdictError c.args.limits.entries text f u) known c.judge_stream-known.ensures.ok c.judge_stream-known.ensures.err) c.early_answer.ensures.ok)
+    rw c.in-Breach.is (IfOk-known c.args.limits.entries given (λ k text. IsStreamVerdictOrError c.in-Breach.looks k text f known) (λ (a : Answer) k text. IsEarlyAnswer c.in-Breach.looks k text f a.ended a.line.items) c.early_answer.result
+    (tells given (λ (k : StreamVerdict) text. IsStreamVerdict c.in-Breach.looks c.args.limits.entries text f k) (λ (u : VerdictError) text. ExplainsVerdictError c.args.limits.entries text f u) known c.judge_stream-known.ensures.ok c.judge_stream-known.ensures.err) (IfOk-weaker c.early_answer.result _ _ (λ answer h. h c.in-Breach.looks) c.early_answer.ensures.ok))
 
 pub returns-in-Breach-clause-rejected : goal.returns-in-Breach-clause-rejected
 returns-in-Breach-clause-rejected g c =
-    IfOk-known c.args.limits.entries (g.I.Read.remaining c.args.input.now) (λ k text. IsStreamVerdictOrError k text c.in-Breach.faults c.judge_stream-known.result) (λ (a : Answer) k text. IfSome a.refusal (IsTrueRefusal k text)) c.early_answer.result
-    (tells _ (λ (k : StreamVerdict) text. IsStreamVerdict c.args.limits.entries text c.in-Breach.faults k) (λ (u : VerdictError) text. ExplainsVerdictError c.args.limits.entries text c.in-Breach.faults u) c.judge_stream-known.result c.judge_stream-known.ensures.ok c.judge_stream-known.ensures.err) c.early_answer.ensures.rejected
+    IfOk-known c.args.limits.entries (g.I.Read.remaining c.args.input.now) (λ k text. IsStreamVerdictOrError c.in-Breach.looks k text c.in-Breach.faults c.judge_stream-known.result) (λ (a : Answer) k text. IfSome a.refusal (IsTrueRefusal k text)) c.early_answer.result
+    (tells _ (λ (k : StreamVerdict) text. IsStreamVerdict c.in-Breach.looks c.args.limits.entries text c.in-Breach.faults k) (λ (u : VerdictError) text. ExplainsVerdictError c.args.limits.entries text c.in-Breach.faults u) c.judge_stream-known.result c.judge_stream-known.ensures.ok c.judge_stream-known.ensures.err) (IfOk-weaker c.early_answer.result _ _ (λ answer h. h c.in-Breach.looks) c.early_answer.ensures.rejected)
 
 pub returns-in-Verdict-clause-stops : goal.returns-in-Verdict-clause-stops
 returns-in-Verdict-clause-stops g c = rw c.in-Verdict.is c.judge_input-judged.ensures.stops
