@@ -141,6 +141,33 @@ SENTENCES = [
     ("start ring 3 1 2\ncrash 9\n", "refused line=2 NoProcess", "line 2 is refused: there is no such process"),
 ]
 
+NOTHING = "causal_tool run: no message is pending there\n"
+
+# deliveries that are refused as not available, their lines, and what is pending for the receiver, as source and number
+PENDING = [
+    ("start ring 3 1 2\ndeliver 1 0 1\n", 2, [(0, 0)]),
+    # the first message of a ring is delivered; it goes on to 2
+    ("start ring 3 1 2\ndeliver 1 0 0\ndeliver 1 0 1\n", 3, []),
+    ("start ring 3 1 2\ndeliver 1 0 0\ndeliver 2 1 1\n", 3, [(1, 0)]),
+    # each but 0 of a tally has sent it one message; what 2 sent is lost, and 1 sends again
+    ("start tally 4 2\ndeliver 0 3 0\ncrash 2\ncrash 1\nrestart 1\ndeliver 0 1 1\n", 6, [(1, 0)]),
+    ("start tally 4 2\ndeliver 0 2 9\n", 2, [(1, 0), (2, 0), (3, 0)]),
+    (GREATEST, 6, [(254, 0)]),
+    # the receiver restarts, and may be given again what it had
+    ("start ring 2 1 1\ndeliver 1 0 0\ncrash 1\nrestart 1\ndeliver 1 0 7\n", 5, [(0, 0)]),
+]
+
+
+def pending_rows():
+    for script, line, names in PENDING:
+        said = f"causal_tool run: line {line} is refused: the message is not available\n"
+        said += "".join(f"causal_tool run: pending there: message {number} of process {source}\n" for source, number in names) or NOTHING
+        yield given(f"pending at line {line} of {script[:16]!r}, {len(names)}", "run", script, 2, f"refused line={line} NotAvailable\n", said=said)
+    # 255 processes have sent 0 a message each, of which 100 are listed
+    said = "".join(f"causal_tool run: pending there: message 0 of process {source}\n" for source in range(1, 101)) + "causal_tool run: 155 more are pending there\n"
+    said = "causal_tool run: line 2 is refused: the message is not available\n" + said
+    yield given("more than a hundred are pending", "run", "start tally 256 1\ndeliver 0 1 1\n", 2, "refused line=2 NotAvailable\n", said=said)
+
 # lines, up to how many bytes spaces follow them, and the fault
 PADDED = [
     ("", BYTES, "1 Script"),
@@ -230,5 +257,6 @@ def rows():
     for script, sizes in SHAPES:
         yield given(f"the sizes of {script!r}", "run", script, 0, sizes, seen=shape)
     yield given("nothing is told of a run", "run", "start ring 3 1 2\ndeliver 1 0 0\n", 0, (3, 1), seen=shape, said="")
+    yield from pending_rows()
     yield from longest_rows()
     yield from sized_rows()

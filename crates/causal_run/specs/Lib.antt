@@ -1,4 +1,5 @@
 pub mod Inside
 pub mod ScriptProcesses
 pub mod Runs
+pub mod Pending
 pub mod Explorations

@@ -1,6 +1,7 @@
 //! Runs a script through the shared runtime, by one seat, and explores the run from there.
 //!
 //! Start at [`run_script`], which makes the script's own processes and returns the trace of the run, or a [`RunFault`].
+//! [`pending_before`] returns what a refused delivery could have delivered.
 //! [`perform`] performs the commands with processes and spares that the caller passes, [`perform_seeded`] also with its
 //! seed.
 #![tactic(auto)]
@@ -20,4 +21,4 @@ mod run_refusals;
 
 pub use fault::RunFault;
 pub use script_commands::{perform, perform_seeded};
-pub use script_run::run_script;
+pub use script_run::{pending_before, run_script};

@@ -85,12 +85,13 @@ fn issue_all<R: Wait>(
     Ok(())
 }
 
-/// Starts these processes, issues the commands of a script through the shared runtime, with one seat and stable storage
-/// in memory, and returns the core after them.
+/// Starts these processes for the bound f of a script, issues commands through the shared runtime, with one seat and
+/// stable storage in memory, and returns the core after them.
 pub(crate) fn core_after<R: Wait>(
     rt: &R,
     alloc: Global,
     script: &Script,
+    commands: &[Command],
     boxes: Vec<Box<dyn Process + Send>>,
     spares: Vec<Box<dyn Process + Send>>,
     seed: u64,
@@ -98,23 +99,17 @@ pub(crate) fn core_after<R: Wait>(
     requires some { 1 ≤ script.now.n }
     requires few { script.now.n ≤ 256 }
     requires boxes { length boxes.items ≡ script.now.n }
-    requires spares { length spares.items ≡ spares_in script.now.commands }
+    requires spares { length spares.items ≡ spares_in commands.now }
     ensures run { IfOk result (λ core. IsRunTo
-        (IsStarted answers script.now.f boxes.items) script.now.commands (core_run core)) }
+        (IsStarted answers script.now.f boxes.items) commands.now (core_run core)) }
     ensures faults { IfOk result (λ core. (core_run core).faults ≡ script.now.f) }
     ensures refused { IfErr result
-        (ExplainsRunFault (IsStarted answers script.now.f boxes.items) script.now.commands) }
+        (ExplainsRunFault (IsStarted answers script.now.f boxes.items) commands.now) }
 {
     let store = MemStable::with_seed(alloc, seed);
     let core = Core::start_seeded(alloc, script.f, boxes, store, seed)?;
     let (shared, mut seats) = Shared::open(alloc, core, 1, 0)?;
-    let outcome = issue_all(
-        rt,
-        &shared,
-        &mut seats[0],
-        script.commands.as_slice(),
-        spares,
-    );
+    let outcome = issue_all(rt, &shared, &mut seats[0], commands, spares);
     let finished = finish(shared, seats)?;
     outcome?;
     Ok(finished.core)
@@ -167,5 +162,6 @@ pub fn perform_seeded<R: Wait>(
     ensures refused { IfErr result
         (ExplainsRunFault (IsStarted answers script.now.f boxes.items) script.now.commands) }
 {
-    Ok(core_after(rt, alloc, script, boxes, spares, seed)?.into_trace())
+    let commands = script.commands.as_slice();
+    Ok(core_after(rt, alloc, script, commands, boxes, spares, seed)?.into_trace())
 }

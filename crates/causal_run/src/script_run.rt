@@ -1,6 +1,7 @@
 //! A script, run by processes of its kind.
-ghost use Rattle.std.specs.Prelude.{◌≡◌, ◌≤◌, ◌<◌, IfOk, IfErr};
+ghost use Rattle.std.specs.Prelude.{◌≡◌, ◌≤◌, ◌<◌, IfOk, IfErr, IfSome};
 ghost use Rattle.causal_trace.specs.Judgement.{IsSafeTrace};
+ghost use Rattle.causal_run.specs.Pending.{IsDeliveryAt, IsPendingBefore};
 ghost use Rattle.causal_run.specs.Runs.{IsRunFrom, ExplainsRunFault};
 ghost use Rattle.causal_run.specs.ScriptProcesses.{IsStartOf};
 
@@ -8,9 +9,10 @@ use crate::exploration::{by_process, exploration_spares, explore_as};
 use crate::fault::RunFault;
 use crate::script_commands::core_after;
 use crate::script_process::ScriptProcess;
+use causal_name::{MsgName, Pid};
 use causal_process::Process;
-use causal_protocol::request::Request;
-use causal_script::Script;
+use causal_protocol::request::{CoreFault, Request};
+use causal_script::{Command, Script};
 use causal_trace::trace::Trace;
 use std::alloc::Global;
 use std::sync::Wait;
@@ -48,8 +50,9 @@ pub fn run_script<R: Wait>(
     for me in 0..script.n {
         boxes.push(Box::new(alloc, ScriptProcess::new(script, me as u8))?)?;
     }
+    let commands = script.commands.as_slice();
     let mut spares: Vec<Box<dyn Process + Send>> = Vec::new(alloc);
-    for command in script.commands.as_slice() {
+    for command in commands {
         if let Request::Restart { p } = command.request {
             let me = spare_for(script, p.0);
             spares.push(Box::new(alloc, ScriptProcess::new(script, me))?)?;
@@ -61,7 +64,60 @@ pub fn run_script<R: Wait>(
         later.push(Box::new(alloc, ScriptProcess::new(script, me))?)?;
     }
     let mut lists = by_process(alloc, script.n, later)?;
-    let mut core = core_after(rt, alloc, script, boxes, spares, seed)?;
+    let mut core = core_after(rt, alloc, script, commands, boxes, spares, seed)?;
     explore_as(alloc, &mut core, script.exploration, lists.as_mut_slice())?;
     Ok(core.into_trace())
+}
+
+/// Performs the commands of a script before this line again, and returns the messages that are pending then for the
+/// receiver of the line's delivery, by sender and number. Without a delivery on that line there is no list, nor if the
+/// receiver is down or no process.
+///
+/// # Errors
+/// The errors of `perform`.
+pub fn pending_before<R: Wait>(
+    rt: &R,
+    alloc: Global,
+    script: &Script,
+    line: u32,
+    seed: u64,
+) -> Result<Option<Vec<MsgName>>, RunFault>
+    requires some { 1 ≤ script.now.n }
+    requires few { script.now.n ≤ 256 }
+    ensures pending { IfOk result (λ found. IfSome found (λ names.
+        IsPendingBefore (IsStartOf script.now) script.now.commands line names.items)) }
+{
+    let Some((place, q)) = receiver_at(script.commands.as_slice(), line) else {
+        return Ok(None);
+    };
+    // as in `run_script`: no function may make boxes of a trait and return them
+    let mut boxes: Vec<Box<dyn Process + Send>> = Vec::new(alloc);
+    for me in 0..script.n {
+        boxes.push(Box::new(alloc, ScriptProcess::new(script, me as u8))?)?;
+    }
+    let commands = &script.commands.as_slice()[..place];
+    let mut spares: Vec<Box<dyn Process + Send>> = Vec::new(alloc);
+    for command in commands {
+        if let Request::Restart { p } = command.request {
+            let me = spare_for(script, p.0);
+            spares.push(Box::new(alloc, ScriptProcess::new(script, me))?)?;
+        }
+    }
+    let core = core_after(rt, alloc, script, commands, boxes, spares, seed)?;
+    match core.pending(q) {
+        Ok(names) => Ok(Some(names)),
+        Err(CoreFault::NoMemory) => Err(RunFault::Memory),
+        Err(_) => Ok(None),
+    }
+}
+
+/// Returns the index of the command on this line, and its receiver, if it is a delivery.
+fn receiver_at(commands: &[Command], line: u32) -> Option<(usize, Pid)>
+    ensures { IfSome result (λ found. IsDeliveryAt commands.now found.0 line found.1) }
+{
+    let place = commands.iter().position(|command| command.line == line)?;
+    match commands[place].request {
+        Request::Deliver { q, .. } => Some((place, q)),
+        _ => None,
+    }
 }

@@ -1,3 +1,4 @@
 mod Known
+mod PendingLemmas
 mod PrintLemmas
 mod SafeAccepts

@@ -5,8 +5,13 @@ use Rattle.causal_script.specs.Spelling.{Spells, script_content}
 use Rattle.causal_script.specs.Faults.{IsFirstFault}
 use Rattle.causal_run.specs.declared.fault.RunFault.TheVariants as run_fault
 use Rattle.causal_run.specs.Runs.{ExplainsRunFault}
+use Rattle.causal_run.specs.Pending.{IsPendingBefore}
 use Rattle.causal_run.specs.ScriptProcesses.{IsStartOf}
 use Rattle.causal_runtime_commands.specs.Runs.{script_bytes_read}
+use Rattle.causal_name.specs.declared.MsgName.{MsgName}
+use Rattle.causal_protocol.specs.declared.request.CoreFault.TheVariants.{NotAvailable}
+use Rattle.causal_run.specs.declared.fault.RunFault.{RunFault}
+use Rattle.causal_runtime_commands.specs.declared.script.ScriptOutcome.{ScriptOutcome}
 use Rattle.causal_runtime_commands.specs.declared.script.Reason.{Reason}
 use Rattle.causal_runtime_commands.specs.declared.script.Reason.TheVariants as Why
 
@@ -25,3 +30,18 @@ abbrev pub line_of : Reason → Option ℕ
 line_of (Why.Script fault) = Some fault.line
 line_of (Why.Run (run_fault.Refused line fault)) = Some line
 line_of (Why.Run _) = None
+
+-- the messages are pending for the receiver of the delivery that was refused as `NotAvailable`
+abbrev pub IsPendingAt : Script → RunFault → List MsgName → Type 0
+IsPendingAt script (run_fault.Refused line NotAvailable) names = IsPendingBefore (IsStartOf script) script.commands line names
+IsPendingAt script _ names = ⊥
+
+-- the messages are pending in the run of the script that the text spells, where it was refused for this reason
+abbrev pub ArePendingIn : List ℕ → Option Reason → List MsgName → Type 0
+ArePendingIn text (Some (Why.Run fault)) names = (script : Script) × Spells text (script_content script) × IsPendingAt script fault names
+ArePendingIn text _ names = ⊥
+
+-- the returned messages, if any, are pending in the run of the script in the bytes read from a reader, if its bytes are
+-- known
+abbrev pub ArePendingFor : Option (List ℕ) → ScriptOutcome → Type 0
+ArePendingFor given outcome = IfSome given (λ text. IfSome outcome.pending (λ names. ArePendingIn (script_bytes_read text) outcome.fault names.items))

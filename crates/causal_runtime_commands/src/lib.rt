@@ -15,5 +15,5 @@ pub mod script_reading;
 
 pub use hint::hint_of;
 pub use runtime_audit::audit_core;
-pub use script::{Reason, answer_script};
+pub use script::{Reason, ScriptOutcome, answer_script};
 pub use script_reading::{MAX_SCRIPT_READ, read_script};

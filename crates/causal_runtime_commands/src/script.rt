@@ -1,15 +1,19 @@
 //! The command `run`, over any reader and writer.
-ghost use Rattle.std.specs.Prelude.{◌≡◌, Ok, IfOk, IfErr, IfSome};
+ghost use Rattle.std.specs.Prelude.{◌≡◌, ◌≤◌, Ok, Some, None, IfOk, IfErr, IfSome};
 ghost use Rattle.causal_runtime_commands.specs.Runs.{IsScriptAnswer, WritesScriptFor, ReadsAtMostScript};
-ghost use Rattle.causal_runtime_commands.specs.Reasons.{IsReason, IsReasonFor};
-ghost use Rattle.causal_runtime_commands.specs.Inside.ScriptAnswers.{IsScriptFaultAnswer, IsRefusalAnswer, IsPrintedFor, RunWritesNothing};
+ghost use Rattle.causal_runtime_commands.specs.Reasons.{IsReason, IsReasonFor, IsPendingAt, ArePendingIn, ArePendingFor};
+ghost use Rattle.causal_runtime_commands.specs.declared.script.Reason.TheVariants as Why;
+ghost use Rattle.causal_runtime_commands.specs.Inside.ScriptAnswers.{IsScriptFaultAnswer, IsRefusalAnswer, IsPrintedFor, PendingIsTrue, RunWritesNothing};
 ghost use Rattle.causal_runtime_commands.specs.Inside.ReasonsForScripts.{IsFaultReason, IsRefusalReason};
 
 use crate::script_reading::read_script;
-use causal_commands::{Ended, Outcome, ReadFault};
-use causal_name::NoMemory;
-use causal_run::{RunFault, run_script};
-use causal_script::{ScriptFault, ScriptFaultKind, parse_script, refused_line, script_line};
+use causal_commands::{Ended, ReadFault};
+use causal_name::{MsgName, NoMemory};
+use causal_protocol::request::CoreFault;
+use causal_run::{RunFault, pending_before, run_script};
+use causal_script::{
+    Script, ScriptFault, ScriptFaultKind, parse_script, refused_line, script_line,
+};
 use causal_text::{text_of, write_whole};
 use std::alloc::Global;
 use std::io::{Read, Write};
@@ -42,9 +46,32 @@ impl Reason {
     }
 }
 
+/// The outcome of `run`: how it ended, why there is no trace, and, if a delivery was refused as `NotAvailable`, the
+/// messages that were pending for its receiver, by sender and number, if they could be determined.
+#[derive(Drop)]
+pub struct ScriptOutcome {
+    pub ended: Ended,
+    pub fault: Option<Reason>,
+    pub pending: Option<Vec<MsgName>>,
+}
+
+impl ScriptOutcome {
+    /// Returns the outcome of a run that ended before there was an answer.
+    fn unanswered(ended: Ended) -> ScriptOutcome
+        ensures { result ≡ record { ended = ended; fault = None; pending = None } }
+    {
+        ScriptOutcome {
+            ended,
+            fault: None,
+            pending: None,
+        }
+    }
+}
+
 /// Reads the text of a script, runs it and writes the trace of the run. If a command is refused or the text is not a
 /// valid script, it writes one line with that, and the outcome has the error or the refusal. The ending reports a failure
-/// of the reader, the writer or an allocation, and a shared runtime that could not be finished.
+/// of the reader, the writer or an allocation, and a shared runtime that could not be finished. After a `NotAvailable` the
+/// commands before it are performed again, to tell what was pending.
 ///
 /// At most 1,048,577 bytes of the text are read, one more than a script may have. The logs of the run hash with the seed;
 /// only costs depend on it.
@@ -54,38 +81,44 @@ pub fn answer_script<R: Wait, I: Read, O: Write>(
     input: &mut I,
     output: &mut O,
     seed: u64,
-) -> Outcome<Reason>
+) -> ScriptOutcome
     ensures prints { WritesScriptFor (I.remaining input.old) result.ended
         (O.contents output.old) (O.contents output.new) }
     ensures reason { IsReasonFor (I.remaining input.old) result.fault }
+    ensures pending { ArePendingFor (I.remaining input.old) result }
     ensures most { ReadsAtMostScript (I.remaining input.old) (I.remaining input.new) }
 {
     let ScriptAnswer {
         ended,
         text,
         reason,
+        pending,
     } = match answer_from(rt, alloc, input, seed) {
         Ok(answer) => answer,
-        Err(ended) => return Outcome { ended, fault: None },
+        Err(ended) => return ScriptOutcome::unanswered(ended),
     };
     match write_whole(text.as_slice(), output) {
-        Ok(()) => Outcome {
+        Ok(()) => ScriptOutcome {
             ended,
             fault: reason,
+            pending,
         },
-        Err(_) => Outcome {
+        Err(_) => ScriptOutcome {
             ended: Ended::WriteFault,
             fault: reason,
+            pending,
         },
     }
 }
 
-/// The text that answers a script, the ending after it is written, and, if it is not a trace, the reason.
+/// The text that answers a script, the ending after it is written, and, if it is not a trace, the reason and what was
+/// pending.
 #[derive(Drop)]
 struct ScriptAnswer {
     ended: Ended,
     text: Vec<u8>,
     reason: Option<Reason>,
+    pending: Option<Vec<MsgName>>,
 }
 
 fn answer_from<R: Wait, I: Read>(
@@ -97,6 +130,7 @@ fn answer_from<R: Wait, I: Read>(
     ensures ok { IfOk result
         (λ answer. IsPrintedFor (I.remaining input.old) answer.ended answer.text.items) }
     ensures reason { IfOk result (λ answer. IsReasonFor (I.remaining input.old) answer.reason) }
+    ensures pending { IfOk result (λ answer. PendingIsTrue (I.remaining input.old) answer) }
     ensures err { IfErr result RunWritesNothing }
     ensures most { ReadsAtMostScript (I.remaining input.old) (I.remaining input.new) }
 {
@@ -110,6 +144,8 @@ fn answer_from<R: Wait, I: Read>(
 fn answer_to<R: Wait>(rt: &R, alloc: Global, text: &[u8], seed: u64) -> Result<ScriptAnswer, Ended>
     ensures ok { IfOk result (λ answer. IsScriptAnswer text.now answer.ended answer.text.items) }
     ensures reason { IfOk result (λ answer. IfSome answer.reason (IsReason text.now)) }
+    ensures pending { IfOk result (λ answer. IfSome answer.pending
+        (λ names. ArePendingIn text.now answer.reason names.items)) }
     ensures err { IfErr result RunWritesNothing }
 {
     let script = match parse_script(alloc, text) {
@@ -118,13 +154,67 @@ fn answer_to<R: Wait>(rt: &R, alloc: Global, text: &[u8], seed: u64) -> Result<S
     };
     match run_script(rt, alloc, &script, seed) {
         Ok(trace) => line_answer(Ended::Ran, text_of(alloc, &trace), None),
-        Err(fault) => refusal_answer(alloc, fault),
+        Err(fault) => refused_answer(rt, alloc, &script, fault, seed),
+    }
+}
+
+/// Returns the answer to the script of this run, with what was pending.
+fn refused_answer<R: Wait>(
+    rt: &R,
+    alloc: Global,
+    script: &Script,
+    fault: RunFault,
+    seed: u64,
+) -> Result<ScriptAnswer, Ended>
+    requires some { 1 ≤ script.now.n }
+    requires few { script.now.n ≤ 256 }
+    ensures ok { IfOk result (λ answer. IsRefusalAnswer fault answer.ended answer.text.items) }
+    ensures reason { IfOk result (λ answer. IsRefusalReason fault answer.reason) }
+    ensures pending { IfOk result (λ answer. IfSome answer.pending (λ names.
+        (answer.reason ≡ Some (Why.Run fault)) × IsPendingAt script.now fault names.items)) }
+    ensures err { IfErr result RunWritesNothing }
+{
+    let ScriptAnswer {
+        ended,
+        text,
+        reason,
+        ..
+    } = refusal_answer(alloc, fault)?;
+    let pending = pending_at(rt, alloc, script, fault, seed);
+    Ok(ScriptAnswer {
+        ended,
+        text,
+        reason,
+        pending,
+    })
+}
+
+/// Returns what was pending for the receiver of a delivery that was refused as `NotAvailable`; None after any other fault,
+/// or if that cannot be determined.
+fn pending_at<R: Wait>(
+    rt: &R,
+    alloc: Global,
+    script: &Script,
+    fault: RunFault,
+    seed: u64,
+) -> Option<Vec<MsgName>>
+    requires some { 1 ≤ script.now.n }
+    requires few { script.now.n ≤ 256 }
+    ensures { IfSome result (λ names. IsPendingAt script.now fault names.items) }
+{
+    match fault {
+        RunFault::Refused {
+            line,
+            fault: CoreFault::NotAvailable,
+        } => pending_before(rt, alloc, script, line, seed).ok()?,
+        _ => None,
     }
 }
 
 fn fault_answer(alloc: Global, fault: ScriptFault) -> Result<ScriptAnswer, Ended>
     ensures ok { IfOk result (λ answer. IsScriptFaultAnswer fault answer.ended answer.text.items) }
     ensures reason { IfOk result (λ answer. IsFaultReason fault answer.reason) }
+    ensures pending { IfOk result (λ answer. answer.pending ≡ None) }
     ensures err { IfErr result RunWritesNothing }
 {
     match fault.kind {
@@ -140,6 +230,7 @@ fn fault_answer(alloc: Global, fault: ScriptFault) -> Result<ScriptAnswer, Ended
 fn refusal_answer(alloc: Global, fault: RunFault) -> Result<ScriptAnswer, Ended>
     ensures ok { IfOk result (λ answer. IsRefusalAnswer fault answer.ended answer.text.items) }
     ensures reason { IfOk result (λ answer. IsRefusalReason fault answer.reason) }
+    ensures same { IfOk result (λ answer. answer.reason ≡ Some (Why.Run fault)) }
     ensures err { IfErr result RunWritesNothing }
 {
     match fault {
@@ -164,6 +255,7 @@ fn line_answer(
 ) -> Result<ScriptAnswer, Ended>
     ensures ok { IfOk result (λ answer. (answer.ended ≡ ended) × (line ≡ Ok answer.text)) }
     ensures reason { IfOk result (λ answer. answer.reason ≡ reason) }
+    ensures pending { IfOk result (λ answer. answer.pending ≡ None) }
     ensures err { IfErr result RunWritesNothing }
 {
     match line {
@@ -171,6 +263,7 @@ fn line_answer(
             ended,
             text,
             reason,
+            pending: None,
         }),
         Err(NoMemory) => Err(Ended::NoMemory),
     }

@@ -9,7 +9,7 @@ use Rattle.causal_commands.specs.Json.{WritesObjectFor, StopsFor, faults_of}
 use Rattle.causal_commands.specs.Diagnostics.{IsDiagnosisFor}
 use Rattle.causal_commands.specs.MappedReasons.{WritesMappedFor}
 use Rattle.causal_commands.specs.Merges.{WritesMergeFor, ReadsAtMostRecordings}
-use Rattle.causal_runtime_commands.specs.Reasons.{IsReasonFor}
+use Rattle.causal_runtime_commands.specs.Reasons.{ArePendingFor, IsReasonFor}
 use Rattle.causal_runtime_commands.specs.Runs.{WritesScriptFor, ReadsAtMostScript}
 use Rattle.causal_commands.specs.EarlyAnswers.{WritesEarlyFor}
 use Rattle.causal_commands.specs.Ranges.{WritesRangeFor}
@@ -42,7 +42,7 @@ Answers (Draw faults workers limits selection) (outcome_of.Trace f outcome) give
 Answers (MappedReason faults workers limits) (outcome_of.MappedReason f outcome) given map old new =
     WritesMappedFor limits.entries given map faults outcome old new × IsDiagnosisFor limits.entries given f outcome.outcome.fault × (f ≡ faults)
 Answers (Merge limits mapping) (outcome_of.Merge outcome) given map old new = WritesMergeFor limits.entries mapping given outcome old new
-Answers Run (outcome_of.Script outcome) given map old new = WritesScriptFor given outcome.ended old new × IsReasonFor given outcome.fault
+Answers Run (outcome_of.Script outcome) given map old new = WritesScriptFor given outcome.ended old new × IsReasonFor given outcome.fault × ArePendingFor given outcome
 Answers _ _ given map old new = ⊥
 
 -- what a command consumes of its input: at most one piece after bytes that decide nothing, or at most one byte more than

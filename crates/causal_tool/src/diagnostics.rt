@@ -8,7 +8,11 @@ use causal_console::{
     InputNames, print_at_line, print_error_line, print_map_fault, print_merge_diagnostics,
     print_trace_outcome,
 };
-use causal_runtime_commands::{Reason, hint_of};
+use causal_name::{MsgName, Pid};
+use causal_runtime_commands::{Reason, ScriptOutcome, hint_of};
+
+// maximum number of pending messages that are printed one by one
+const MAX_PENDING_PRINTED: usize = 100;
 
 /// Prints the diagnostics of a command's outcome, and returns how the command ended.
 pub(crate) fn print_diagnostics<R: Eprint + AllocGlobal, S: Drop>(
@@ -33,9 +37,16 @@ pub(crate) fn print_diagnostics<R: Eprint + AllocGlobal, S: Drop>(
         }
         CommandOutcome::Merge { outcome } => print_merge_diagnostics(rt, command, input, outcome),
         CommandOutcome::Script { outcome } => {
-            let Outcome { ended, fault } = outcome;
+            let ScriptOutcome {
+                ended,
+                fault,
+                pending,
+            } = outcome;
             if let Some(reason) = fault {
                 print_reason(rt, command, input, reason);
+            }
+            if let Some(names) = pending {
+                print_pending(rt, command, names.as_slice());
             }
             ended
         }
@@ -55,5 +66,23 @@ fn print_reason<R: Eprint + AllocGlobal, S: Drop>(
     }
     if let Some(hint) = hint_of(reason) {
         print_error_line(rt, command, &hint);
+    }
+}
+
+/// Prints what was pending for the receiver of a refused delivery.
+fn print_pending<R: Eprint>(rt: &R, command: &str, names: &[MsgName]) {
+    if names.is_empty() {
+        return print_error_line(rt, command, &"no message is pending there");
+    }
+    for name in names.iter().take(MAX_PENDING_PRINTED) {
+        let MsgName {
+            source: Pid(source),
+            ssn,
+        } = *name;
+        let _ = eprintln!(rt; "{command}: pending there: message {ssn} of process {source}");
+    }
+    if names.len() > MAX_PENDING_PRINTED {
+        let more = names.len() - MAX_PENDING_PRINTED;
+        let _ = eprintln!(rt; "{command}: {more} more are pending there");
     }
 }

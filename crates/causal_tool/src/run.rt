@@ -12,7 +12,7 @@ use causal_commands::{
     answer_audit, answer_mapped_reason, answer_merge, answer_range, answer_replays,
     answer_until_breach, answer_view,
 };
-use causal_runtime_commands::{Reason, answer_script};
+use causal_runtime_commands::{ScriptOutcome, answer_script};
 use causal_trace::limits::Limits;
 use causal_workers::OpenGate;
 use std::io::{Read, Write};
@@ -40,7 +40,7 @@ pub(crate) enum CommandOutcome {
     },
     /// Of the run of a script.
     Script {
-        outcome: Outcome<Reason>,
+        outcome: ScriptOutcome,
     },
 }
 

@@ -10,7 +10,9 @@ use Rattle.causal_run.specs.Runs.{ExplainsRunFault}
 use Rattle.causal_run.specs.ScriptProcesses.{IsStartOf}
 use Rattle.causal_commands.specs.declared.ended.Ended.{Ended}
 use Rattle.causal_commands.specs.declared.ended.Ended.TheVariants.{ReadFault, NoMemory, FinishFault}
+use Rattle.causal_runtime_commands.specs.Reasons.{ArePendingIn}
 use Rattle.causal_runtime_commands.specs.Runs.{IsScriptAnswer, script_bytes_read}
+use Rattle.causal_runtime_commands.specs.declared.script.ScriptAnswer.{ScriptAnswer}
 
 -- the answer to the bytes read from a reader, if its bytes are known
 abbrev pub IsPrintedFor : Option (List ℕ) → Ended → List ℕ → Type 0
@@ -24,6 +26,10 @@ IsScriptFaultAnswer fault ended out = (text : List ℕ) → (fault.kind ≢ kind
 abbrev pub IsRefusalAnswer : RunFault → Ended → List ℕ → Type 0
 IsRefusalAnswer fault ended out = (text : List ℕ) (script : Script) → Spells text (script_content script)
     → ExplainsRunFault (IsStartOf script) script.commands fault → IsScriptAnswer text ended out
+
+-- what an answer tells as pending, if anything, is so for the bytes read from a reader, if its bytes are known
+abbrev pub PendingIsTrue : Option (List ℕ) → ScriptAnswer → Type 0
+PendingIsTrue given answer = IfSome given (λ text. IfSome answer.pending (λ names. ArePendingIn (script_bytes_read text) answer.reason names.items))
 
 -- the endings that write nothing
 abbrev pub RunWritesNothing : Ended → Type 0

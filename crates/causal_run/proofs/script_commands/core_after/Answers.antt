@@ -3,7 +3,6 @@ use Rattle.std.proofs.lemmas.Result.{err_from_is_err_and}
 use Rattle.causal_core.specs.CoreView.{core_run, core_state}
 use Rattle.causal_shared.specs.declared.item.Item.{Item}
 use Rattle.causal_shared.specs.Shared.{opening_of}
-use Rattle.causal_script.specs.declared.script.Command.{Command}
 use Rattle.causal_run.specs.Inside.IssuedRequests.{ArePerformed, IsRefusedRun}
 use Rattle.causal_run.proofs.Histories.{run-of, refused-as, faults-as, opened-as, one-seat, set-one}
 use Rattle.causal_run.proofs.script_commands.core_after.Goals as goal
@@ -16,11 +15,10 @@ returns-in_err-outcome-clause-refused g c =
     let fault = c.in_err-outcome.field-0.0 in
     let len : length c.in_ok-shared.seats.items ≡ 1 = search rules in
     let whole : seat.view.items ≡ history = one-seat history _ seat (set-one c.in_ok-shared.seats.items seat len) c.in_ok-finished.ensures.seats c.in_ok-finished.ensures.others in
-    let told = subst (λ (cs : List Command). IsRefusedRun cs seat.view.items fault) c.as_slice.ensures c.in_err-outcome.ensures.err in
-    let stopped = subst (λ (is : List Item). IsRefusedRun c.args.script.now.commands is fault) whole told in
+    let stopped = subst (λ (is : List Item). IsRefusedRun c.args.commands.now is fault) whole c.in_err-outcome.ensures.err in
     let opens = opened-as r history (opening_of c.in_ok-shared.shared) (core_run c.in_ok-core.core) c.in_ok-finished.ensures.opening c.in_ok-shared.ensures.recording c.in_ok-shared.ensures.faults in
     let p = err_from_is_err_and c.from_residual-in_err-outcome.result c.from_residual-in_err-outcome.ensures.1 in
-    rw (p.1, p.2) (refused-as _ c.args.script.now.f c.args.boxes.items c.args.script.now.commands (core_state c.in_ok-core.core) r history fault c.in_ok-core.ensures.ok opens c.in_ok-finished.ensures.legal.legal stopped)
+    rw (p.1, p.2) (refused-as _ c.args.script.now.f c.args.boxes.items c.args.commands.now (core_state c.in_ok-core.core) r history fault c.in_ok-core.ensures.ok opens c.in_ok-finished.ensures.legal.legal stopped)
 
 pub returns-clause-run : goal.returns-clause-run
 returns-clause-run g c =
@@ -29,10 +27,9 @@ returns-clause-run g c =
     let seat = c.issue_all-outcome.new.seat in
     let len : length c.in_ok-shared.seats.items ≡ 1 = search rules in
     let whole : seat.view.items ≡ history = one-seat history _ seat (set-one c.in_ok-shared.seats.items seat len) c.in_ok-finished.ensures.seats c.in_ok-finished.ensures.others in
-    let told = subst (λ (cs : List Command). ArePerformed cs seat.view.items) c.as_slice.ensures c.in_ok-outcome.ensures.ok in
-    let done = subst (λ (is : List Item). ArePerformed c.args.script.now.commands is) whole told in
+    let done = subst (λ (is : List Item). ArePerformed c.args.commands.now is) whole c.in_ok-outcome.ensures.ok in
     let opens = opened-as r history (opening_of c.in_ok-shared.shared) (core_run c.in_ok-core.core) c.in_ok-finished.ensures.opening c.in_ok-shared.ensures.recording c.in_ok-shared.ensures.faults in
-    run-of _ c.args.script.now.f c.args.boxes.items c.args.script.now.commands (core_state c.in_ok-core.core) r history c.in_ok-core.ensures.ok opens c.in_ok-finished.ensures.legal.legal done
+    run-of _ c.args.script.now.f c.args.boxes.items c.args.commands.now (core_state c.in_ok-core.core) r history c.in_ok-core.ensures.ok opens c.in_ok-finished.ensures.legal.legal done
 
 pub returns-clause-faults : goal.returns-clause-faults
 returns-clause-faults g c =

@@ -1,9 +1,11 @@
-use Rattle.std.proofs.Common.{◌≡◌, ◌∙◌, refl, subst, arith}
+use Rattle.std.proofs.Common.{◌≡◌, ◌∙◌, List, refl, subst, arith}
 use Rattle.std.proofs.lemmas.Result.{err_from_is_err_and}
 use Rattle.causal_trace.specs.Judgement.{IsSafeTrace}
 use Rattle.causal_core.specs.CoreView.{core_run}
 use Rattle.causal_run.specs.contracts.script_process.ScriptProcess.{the_row}
-use Rattle.causal_run.specs.ScriptProcesses.{script_process_of}
+use Rattle.causal_script.specs.declared.script.Command.{Command}
+use Rattle.causal_run.specs.Runs.{ExplainsRunFault, IsRunTo}
+use Rattle.causal_run.specs.ScriptProcesses.{IsStartOf, script_process_of}
 use Rattle.causal_run.proofs.Objects.{value_of, made_of, of_each}
 use Rattle.causal_run.proofs.Starts.{starts-members, run-as, told-as, more_members, as_many}
 use Rattle.causal_run.proofs.script_run.run_script.Goals as goal
@@ -23,15 +25,17 @@ core_after-requires-clause-boxes g c =
 pub returns-in_err-core-clause-refused : goal.returns-in_err-core-clause-refused
 returns-in_err-core-clause-refused g c =
     let p = err_from_is_err_and c.from_residual-in_err-core.result c.from_residual-in_err-core.ensures.1 in
-    rw (p.1, p.2) (told-as _ _ (starts-members _ (λ b. value_of b) (of_each _ (λ b w inputs. refl)) c.args.script.now c.loop-me.boxes.items c.loop-me.me c.loop-me.invariant (omega arith))
-    c.args.script.now.commands c.in_err-core.field-0.0 c.in_err-core.ensures.refused)
+    let told = told-as _ _ (starts-members _ (λ b. value_of b) (of_each _ (λ b w inputs. refl)) c.args.script.now c.loop-me.boxes.items c.loop-me.me c.loop-me.invariant (omega arith))
+    c.as_slice-commands.result.now c.in_err-core.field-0.0 c.in_err-core.ensures.refused in
+    rw (p.1, p.2) (subst (λ (cs : List Command). ExplainsRunFault (IsStartOf c.args.script.now) cs c.in_err-core.field-0.0) c.as_slice-commands.ensures told)
 
 pub returns-clause-run : goal.returns-clause-run
 returns-clause-run g c = record {
   mid = core_run c.in_ok-core.core;
   end = core_run c.explore_as.new.core;
-  run = run-as _ _ (starts-members _ (λ b. value_of b) (of_each _ (λ b w inputs. refl)) c.args.script.now c.loop-me.boxes.items c.loop-me.me c.loop-me.invariant (omega arith))
-      c.args.script.now.commands (core_run c.in_ok-core.core) c.in_ok-core.ensures.run;
+  run = subst (λ (cs : List Command). IsRunTo (IsStartOf c.args.script.now) cs (core_run c.in_ok-core.core)) c.as_slice-commands.ensures
+      (run-as _ _ (starts-members _ (λ b. value_of b) (of_each _ (λ b w inputs. refl)) c.args.script.now c.loop-me.boxes.items c.loop-me.me c.loop-me.invariant (omega arith))
+      c.as_slice-commands.result.now (core_run c.in_ok-core.core) c.in_ok-core.ensures.run);
   explored = c.in_ok-explore_as.ensures.run;
   recorded = c.into_trace.ensures.recording;
 }

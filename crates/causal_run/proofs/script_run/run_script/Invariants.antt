@@ -8,4 +8,4 @@ abbrev pub invariant-loop-me : goal.invariant-loop-me
 invariant-loop-me g l = map (λ b. value_of b) l.boxes.items ≡ script_processes_below l.script.kind l.script.n l.script.param l.me
 
 abbrev pub invariant-loop-command : goal.invariant-loop-command
-invariant-loop-command g l = length l.spares.items ≡ spares_in (take l.command-index l.script.commands)
+invariant-loop-command g l = length l.spares.items ≡ spares_in (take l.command-index l.commands)
