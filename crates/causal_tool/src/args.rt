@@ -59,6 +59,7 @@ pub(crate) enum Invocation {
     },
     /// The trace merged from recorder files, within limits, and its map, if that is wanted.
     Merge {
+        workers: u32,
         limits: Limits,
         mapping: Mapping,
     },
@@ -188,13 +189,21 @@ fn parse_command(name: &str, given: &ArgMatches) -> Option<Invocation>
         "explain" => parse_explain(given),
         "replays" => parse_replays(given),
         "draw" => parse_draw(given),
-        "merge" => Some(Invocation::Merge {
-            limits: parse_limits(given),
-            mapping: parse_mapping(given),
-        }),
+        "merge" => parse_merge(given),
         "run" => Some(Invocation::Run),
         _ => None,
     }
+}
+
+fn parse_merge(given: &ArgMatches) -> Option<Invocation>
+    ensures { IfSome result HasWorkerCountInRange }
+{
+    let workers = parse_workers(given)?;
+    Some(Invocation::Merge {
+        workers,
+        limits: parse_limits(given),
+        mapping: parse_mapping(given),
+    })
 }
 
 /// Returns whether a map is wanted.
@@ -417,6 +426,7 @@ const COMMANDS: [CommandSpec; 6] = [
         help: RECORDINGS,
         given: &[
             OptionKind::Files,
+            OptionKind::Workers,
             OptionKind::Entries,
             OptionKind::MapWritten,
         ],
