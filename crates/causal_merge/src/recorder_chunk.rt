@@ -37,9 +37,13 @@ impl<'a> Model for RecorderChunk<'a> {
     ghost invariant = { λ chunk. AreParsedLines chunk.parsed.items };
 }
 
-/// Parses the lines of a chunk, up to the first with an error. Needs nothing of the lines before it, so several threads
-/// can parse chunks at the same time; [`RecordingReader::feed_parsed`](crate::RecordingReader::feed_parsed) then reads
-/// them in order. O(bytes) time; about 5 times the chunk's size in memory.
+/// The size of the shortest line that is neither blank nor torn, `["crash",0,1]` with its line feed.
+const SHORTEST: usize = 14;
+
+/// Parses the lines of a chunk, up to the first with an error, and no more than whole lines of it there can be. Needs
+/// nothing of the lines before it, so several threads can parse chunks at the same time;
+/// [`RecordingReader::feed_parsed`](crate::RecordingReader::feed_parsed) then reads them in order, and those that were
+/// not parsed. O(bytes) time; at most about 8 times the chunk's size in memory.
 ///
 /// # Errors
 /// `NoMemory` if the list of lines could not be allocated. If a line's memory could not, the line has that error.
@@ -50,7 +54,7 @@ pub fn parse_recordings(alloc: Global, bytes: &[u8]) -> Result<RecorderChunk<'_>
     let mut rest = bytes;
     while let Some((line, after)) = split_line(rest) {
         let content = parse_line(alloc, line);
-        let goes_on = content.is_ok();
+        let goes_on = content.is_ok() && parsed.len() < bytes.len() / SHORTEST;
         parsed.push(ChunkLine {
             bytes: line,
             content,

@@ -41,8 +41,8 @@ pub(crate) fn feed_by<R: Threads>(
 /// takes the calling thread about as long, but a worker as long as its bytes: chunks of short lines differ most.
 pub(crate) fn evenness(piece: &[u8]) -> usize {
     let (sample, _) = piece.split_at(piece.len().min(SAMPLE));
-    let lines = sample.iter().filter(|byte| **byte == b'\n').count();
-    if lines > SAMPLE / 128 { 5 } else { 23 }
+    let feeds = sample.iter().filter(|byte| **byte == b'\n').count();
+    if feeds > SAMPLE / 128 { 5 } else { 23 }
 }
 
 /// Reads more bytes in the calling thread.
@@ -117,7 +117,7 @@ fn feed_after(
 pub(crate) fn split_lines(bytes: &[u8], at: usize) -> (&[u8], &[u8])
     requires { at ≤ length bytes.now }
     ensures whole { bytes.now ≡ result.0.now ++ result.1.now }
-    ensures lines { lines bytes.now ≡ lines result.0.now ++ lines result.1.now }
+    ensures parts { lines bytes.now ≡ lines result.0.now ++ lines result.1.now }
     ensures shorter { at + length result.1.now ≤ length bytes.now }
 {
     let (_, back) = bytes.split_at(at);

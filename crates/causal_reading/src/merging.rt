@@ -65,15 +65,15 @@ pub fn merge_mapped_by<R: Threads>(
 fn read_all_by<R: Threads>(
     rt: &R,
     alloc: Global,
-    reader: RecordingReader,
+    before: RecordingReader,
     text: &[u8],
     workers: u32,
 ) -> Result<RecordingReader, MergeFault>
     requires { (1 ≤ workers) × (workers ≤ 64) }
-    ensures { IsReadBy reader (lines text.now) result }
+    ensures { IsReadBy before (lines text.now) result }
 {
     let size = READ_PER_WORKER * workers as usize;
-    let mut reader = reader;
+    let mut reader = before;
     let mut left = text;
     while !left.is_empty() {
         let (piece, after) = split_lines(left, left.len().min(size));
