@@ -3,7 +3,8 @@
 merge_model.py. Recordings that were not damaged have to make the very trace that was split into them, and so have its verdict.
 Each beginning of a line of each kind has to be torn, and no line that has a whole line in it. Each difference is printed with its input.
 Recordings cut into files at any byte have to make the same trace, and the map of the plain model; `explain` has to add the places of that map
-to its lines. Then hostile recordings have to cost as their length. Everything is decided by the seed.
+to its lines. Then hostile recordings have to cost as their length. 1, 2, 3 or 16 workers read; some recordings are so long that all of them
+do. Everything is decided by the seed.
 
     trials/merges.py [--program PATH] [--cases 20000] [--seed 1] [--jobs N] [--bytes 16000000]
 """
@@ -11,6 +12,7 @@ import argparse
 import collections
 import concurrent.futures
 import functools
+import itertools
 import json
 import os
 import random
@@ -24,6 +26,10 @@ import fuzz
 import merge_model
 import scripts
 import traces
+
+WORKERS = ("1", "2", "3", "16")
+PADDED = 1 / 20  # of the recordings so many are so long that all workers read them
+LONG = 150_000  # bytes that they have at least
 
 TORN = re.compile(r"^causal_tool merge: torn line=(\d+): passed over$", re.MULTILINE)
 
@@ -97,6 +103,9 @@ def case(rng):
     """Recordings, and the trace that they have to make, where they were not damaged."""
     n, entries = trace_of(rng)
     lines = recordings_of(rng, n, entries)
+    if rng.random() < PADDED:
+        blank = " " * (LONG // len(lines))
+        lines = [line for pair in zip(lines, itertools.repeat(blank)) for line in pair]
     kind = rng.random()
     if kind < 0.35:
         return ("\n".join(lines) + "\n").encode(), scripts.text_of(n, entries)
@@ -115,8 +124,8 @@ def modelled(text):
     return merge_model.spell(n, entries), 0, torn, None
 
 
-def answered(program, text):
-    ended = subprocess.run([program, "merge"], input=text, capture_output=True, timeout=60)
+def answered(program, text, workers="1"):
+    ended = subprocess.run([program, "merge", "--workers", workers], input=text, capture_output=True, timeout=60)
     out, told = ended.stdout.decode(), ended.stderr.decode()
     is_explained = ended.returncode == 2 and out.split()[-1] in merge_model.EXPLAINED
     return out, ended.returncode, [int(line) for line in TORN.findall(told)], told.splitlines()[0] if is_explained else None
@@ -127,7 +136,7 @@ def chunk(program, seed, count):
     rng, wrong, met = random.Random(seed), [], collections.Counter()
     for _ in range(count):
         text, whole = case(rng)
-        wanted, got = modelled(text), answered(program, text)
+        wanted, got = modelled(text), answered(program, text, rng.choice(WORKERS))
         if got != wanted or (whole is not None and got[0] != whole):
             wrong.append((text, wanted, got))
         met["the trace that was split" if whole else wanted[0].split()[-1] if wanted[1] else "a trace"] += 1
@@ -212,7 +221,7 @@ def map_differs(program, rng):
             with open(os.path.join(folder, name), "wb") as file:
                 file.write(part)
         run = functools.partial(subprocess.run, capture_output=True, timeout=60, cwd=folder)
-        merged, mapped = run([program, "merge", *files]), run([program, "merge", "--map", "the.map", *files])
+        merged, mapped = run([program, "merge", *files]), run([program, "merge", "--workers", rng.choice(WORKERS), "--map", "the.map", *files])
         map_path = os.path.join(folder, "the.map")
         got = open(map_path, encoding="utf-8").read() if os.path.exists(map_path) else None
         if (merged.stdout, merged.returncode, merged.stderr) != (mapped.stdout, mapped.returncode, mapped.stderr) or got != wanted:
@@ -320,13 +329,13 @@ def hostile(begin, unit, end, size):
     return (begin + middle + end).encode()
 
 
-def cost(program, text):
+def cost(program, text, workers):
     """The first line of the answer, the seconds, and the most memory in bytes."""
     with tempfile.TemporaryFile() as given, tempfile.TemporaryFile() as out:
         given.write(text)
         given.seek(0)
         began = time.monotonic()
-        child = subprocess.Popen([program, "merge"], stdin=given, stdout=out, stderr=subprocess.DEVNULL)
+        child = subprocess.Popen([program, "merge", "--workers", workers], stdin=given, stdout=out, stderr=subprocess.DEVNULL)
         _, _, used = os.wait4(child.pid, 0)
         seconds = time.monotonic() - began
         child.returncode = 0
@@ -338,15 +347,15 @@ def compare_costs(program, size):
     """How many hostile recordings of so many bytes take more memory than their length allows, or more than their share of the time
     of those that have a quarter."""
     wrong = 0
-    for name, begin, unit, end, answer in HOSTILE:
+    for (name, begin, unit, end, answer), workers in itertools.product(HOSTILE, ("1", "4")):
         texts = [hostile(begin, unit, end, length) for length in (size // 4, size)]
-        (first, less, _), (_, more, memory) = [cost(program, text) for text in texts]
+        (first, less, _), (_, more, memory) = [cost(program, text, workers) for text in texts]
         ratio = len(texts[1]) / len(texts[0])
         is_wrong = memory > FACTOR * len(texts[1]) + ROOM or more > 2 * ratio * less + SLACK
         is_wrong = is_wrong or (answer is not None and first != answer)
         wrong += is_wrong
         times = memory / len(texts[1])
-        print(f"{'WRONG ' if is_wrong else ''}{name}: {less:.2f} s, then {more:.2f} s for {ratio:.0f} times the bytes; memory {times:.1f} times; {first}")
+        print(f"{'WRONG ' if is_wrong else ''}{name}, {workers} workers: {less:.2f} s, then {more:.2f} s for {ratio:.0f} times the bytes; memory {times:.1f} times; {first}")
     return wrong
 
 

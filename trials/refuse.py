@@ -34,8 +34,10 @@ FLUSHES = "start tally 3 1\ndeliver 0 2 0\ndeliver 2 0 0\nflush 2\nflush 2\nflus
 
 MESSAGE = '["recording",0,1,2,7]\n["send",0,2,1,0]\n["send"\n["recording",1,1,2,7]\n["deliver",1,3,0,0,0,0,[[0,0,1,0]]]\n'
 
-# so long that it is read in chunks
+# bytes of a text that is not read in chunks, and longer texts
+UNDIVIDED = 32_768
 LONG = RING.replace("[\"", " " * 15_000 + "[\"")
+LONG_MESSAGE = MESSAGE.replace("\n", "\n" + " " * 25_000 + "\n")
 
 TEXTS = [
     ("an accepted trace", RING, 0),
@@ -62,6 +64,8 @@ RUNS = [
     *((f"draw, {name}", ["draw", "--faults", "1"], text, status) for name, text, status in TEXTS),
     ("merge, with a torn line", ["merge"], MESSAGE, 0),
     ("merge of recordings with a fault", ["merge"], MESSAGE.replace('"send",0,2', '"send",0,4'), 2),
+    ("merge of a long text, 3 workers", ["merge", "--workers", "3"], LONG_MESSAGE, 0),
+    ("merge of a long text with a fault, 2 workers", ["merge", "--workers", "2"], LONG_MESSAGE.replace('"recording",1,1', '"recording",1,2'), 2),
     ("run, a replay", ["run"], REPLAY, 0),
     ("run, flushes", ["run"], FLUSHES, 0),
     ("run, a refused command", ["run"], REPLAY + "crash 9\n", 2),
@@ -165,7 +169,7 @@ class Tries:
             self.survived += got == plain
             reason = reason_of(words, refuse.get("error"))
             is_whole = not step or kind != "write" or got[1] == plain[1][: at - 1]
-            if not is_whole or not is_refusal(got, plain, kind, trouble[kind], reason, is_made_again, text.startswith(" ")):
+            if not is_whole or not is_refusal(got, plain, kind, trouble[kind], reason, is_made_again, len(text) > UNDIVIDED):
                 self.wrong.append((name, kind, at, every, refuse, got))
 
 

@@ -15,7 +15,7 @@ _causal_tool() {
         explain) offered="--faults --workers --entries --json --map --help" ;;
         replays) offered="--workers --entries --json --help" ;;
         draw) offered="--faults --workers --entries --around --only --help" ;;
-        merge) offered="--entries --map --help" ;;
+        merge) offered="--workers --entries --map --help" ;;
         run) offered="--help" ;;
         help) ((COMP_CWORD == 2)) && offered="audit explain replays draw merge run help" ;;
         esac

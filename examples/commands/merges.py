@@ -13,6 +13,10 @@ MESSAGE = lines(B, DELIVER, '["send",1', "", A, SEND)
 # the same with a heard line, a blank one, a header that stands twice and two lines that a kill has cut
 SHUFFLED = lines(DELIVER, B, " \t\r", SEND, "[", A, '["heard",0,9,1,2]', A) + '["send",0,1'
 MERGED = trace(1, 2, LOGGED)
+# the same message in a text that is so long that all workers parse lines, and with two faulty lines
+BLANK = " " * 60_000
+SPREAD = lines(DELIVER, BLANK, B, BLANK, '["send",1', BLANK, A, SEND)
+FAULTY = lines(DELIVER, BLANK, B, BLANK, '["sent",1]', BLANK, "{", A, SEND)
 # two processes go down and come up at the same clocks, and one sends in its second incarnation
 SAME_CLOCKS = lines(
     '["forget",1,7,[]]', '["deliver",1,6,0,1,0,0,[[0,0,1,0]]]', '["send",0,5,1,0]', '["restart",1,4,[]]', '["restart",0,4,[]]',
@@ -142,6 +146,10 @@ def torn(*numbers):
 def rows():
     yield given("a torn line", "merge", MESSAGE, 0, MERGED, said=torn(3))
     yield given("lines in another order", "merge", SHUFFLED, 0, MERGED, said=torn(5, 9))
+    yield given("by four workers", "merge --workers 4", SHUFFLED, 0, MERGED, said=torn(5, 9))
+    for count in (1, 2, 3, 16):
+        yield given(f"a long text by {count} workers", f"merge --workers {count}", SPREAD, 0, MERGED, said=torn(5))
+        yield given(f"a long text with faults by {count} workers", f"merge --workers {count}", FAULTY, 2, "fault line=5 Form\n")
     yield given("of one clock the lower process comes first", "merge", SAME_CLOCKS, 0, IN_ORDER, said="")
     yield given("a line of an event", "merge", lines(ROUND, FORGETS, REST), 0, FORGOTTEN, said="")
     yield given("what that event says", "audit --faults 1", FORGOTTEN, 1, "orphan f=1 instant=7 delivery=1 crash=2 orphan=0\n")

@@ -100,6 +100,7 @@ const COMMANDS: [CommandSpec; 6] = [
         help: RECORDINGS,
         given: &[
             OptionKind::Files,
+            OptionKind::Workers,
             OptionKind::Entries,
             OptionKind::MapWritten,
         ],

@@ -63,6 +63,7 @@ pub enum Subcommand {
     },
     /// The trace merged from recorder files, and its map, if that is wanted.
     Merge {
+        workers: u32,
         limits: Limits,
         has_map: bool,
     },

@@ -39,10 +39,7 @@ fn parse_command(name: &str, given: &ArgMatches) -> Option<Subcommand>
         "explain" => parse_explain(given),
         "replays" => parse_replays(given),
         "draw" => parse_draw(given),
-        "merge" => Some(Subcommand::Merge {
-            limits: parse_limits(given),
-            has_map: given.get_str("map").is_some(),
-        }),
+        "merge" => parse_merge(given),
         "run" => Some(Subcommand::Run),
         _ => None,
     }
@@ -102,6 +99,16 @@ fn parse_draw(given: &ArgMatches) -> Option<Subcommand>
         only_breach: given.get_str("only").is_some(),
         workers: parse_workers(given)?,
         limits: parse_limits(given),
+    })
+}
+
+fn parse_merge(given: &ArgMatches) -> Option<Subcommand>
+    ensures { IfSome result HasWorkersInRange }
+{
+    Some(Subcommand::Merge {
+        workers: parse_workers(given)?,
+        limits: parse_limits(given),
+        has_map: given.get_str("map").is_some(),
     })
 }
 

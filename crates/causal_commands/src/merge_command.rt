@@ -1,5 +1,5 @@
 //! The command `merge`, over any reader and writer.
-ghost use Rattle.std.specs.Prelude.{◌≡◌, None, IfOk, IfErr};
+ghost use Rattle.std.specs.Prelude.{◌≡◌, ◌≤◌, None, IfOk, IfErr};
 ghost use Rattle.causal_commands.specs.Merges.{WritesMergeFor, ReturnsNothing, HasExcerpt, HasExcerptFor, ReadsAtMostRecordings};
 ghost use Rattle.causal_commands.specs.Inside.MergeOutcomes.{IsFaultOutcome, IsTraceOutcome, IsMerge, IsMergeFor, MergeWritesNothing};
 
@@ -8,12 +8,13 @@ use crate::ended::Ended;
 use crate::excerpt::line_excerpt;
 use causal_merge::{
     MappedTrace, MergeFault, MergeKind, MergedTrace, Origin, fault_line, max_input_len,
-    merge_mapped, merge_within,
 };
+use causal_reading::{merge_by, merge_mapped_by};
 use causal_text::{TextKind, text_of, write_whole};
 use causal_trace::limits::Limits;
 use std::alloc::Global;
 use std::io::{Read, Write};
+use std::thread::Threads;
 
 /// Whether the origins of the entries are returned. They need 16 bytes for each.
 #[derive(Clone, Copy)]
@@ -38,25 +39,31 @@ pub struct MergeOutcome {
 }
 
 /// Reads the recorder files of all processes of one run within the limits, with their lines in any order, and writes
-/// the merged trace, or the line of their first error. The outcome reports a failure of the reader, the writer or an
-/// allocation; of a trace it has the origins of the entries, if they are wanted.
+/// the merged trace, or the line of their first error. 1 to 64 workers parse the lines. The outcome reports a failure of
+/// the reader, the writer or an allocation; of a trace it has the origins of the entries, if they are wanted.
 ///
 /// At most one byte more than the limit is read (67,108,865 bytes by the default limits), so that input that is too
 /// long is detected. The input is read in pieces of 4,096 bytes, before anything is written.
-pub fn answer_merge<I: Read, O: Write>(
+pub fn answer_merge<R: Threads, I: Read, O: Write>(
+    rt: &R,
     alloc: Global,
     input: &mut I,
     output: &mut O,
     limits: Limits,
+    workers: u32,
     mapping: Mapping,
 ) -> MergeOutcome
+    requires { (1 ≤ workers) × (workers ≤ 64) }
     ensures writes { WritesMergeFor limits.entries mapping (I.remaining input.old) result
         (O.contents output.old) (O.contents output.new) }
     ensures excerpt { HasExcerptFor limits.entries (I.remaining input.old) result }
     ensures most { ReadsAtMostRecordings limits.entries (I.remaining input.old)
         (I.remaining input.new) }
 {
-    let MergeAnswer { merging, text } = match answer_from(alloc, input, limits, mapping) {
+    let MergeAnswer {
+        merging,
+        text,
+    } = match answer_from(rt, alloc, input, limits, workers, mapping) {
         Ok(answer) => answer,
         Err(ended) => return empty_outcome(alloc, ended),
     };
@@ -93,12 +100,15 @@ struct MergeAnswer {
     text: Vec<u8>,
 }
 
-fn answer_from<I: Read>(
+fn answer_from<R: Threads, I: Read>(
+    rt: &R,
     alloc: Global,
     input: &mut I,
     limits: Limits,
+    workers: u32,
     mapping: Mapping,
 ) -> Result<MergeAnswer, Ended>
+    requires { (1 ≤ workers) × (workers ≤ 64) }
     ensures ok { IfOk result (λ answer. IsMergeFor limits.entries mapping
         (I.remaining input.old) answer.merging answer.text.items) }
     ensures err { IfErr result MergeWritesNothing }
@@ -108,29 +118,32 @@ fn answer_from<I: Read>(
         (I.remaining input.new) }
 {
     match read_at_most(alloc, input, max_input_len(limits) + 1) {
-        Ok(text) => answer_to(alloc, text.as_slice(), limits, mapping),
+        Ok(text) => answer_to(rt, alloc, text.as_slice(), limits, workers, mapping),
         Err(ReadFault::Read) => Err(Ended::ReadFault),
         Err(ReadFault::NoMemory) => Err(Ended::NoMemory),
     }
 }
 
-fn answer_to(
+fn answer_to<R: Threads>(
+    rt: &R,
     alloc: Global,
     text: &[u8],
     limits: Limits,
+    workers: u32,
     mapping: Mapping,
 ) -> Result<MergeAnswer, Ended>
+    requires { (1 ≤ workers) × (workers ≤ 64) }
     ensures ok { IfOk result (λ answer. IsMerge limits.entries mapping text.now
         answer.merging answer.text.items) }
     ensures err { IfErr result MergeWritesNothing }
     ensures excerpt { IfOk result (λ answer. HasExcerpt text.now answer.merging) }
 {
     match mapping {
-        Mapping::Unmapped => match merge_within(alloc, text, limits) {
+        Mapping::Unmapped => match merge_by(rt, alloc, text, limits, workers) {
             Ok(merged) => trace_answer(alloc, merged, Vec::new(alloc)),
             Err(fault) => fault_answer(alloc, text, fault),
         },
-        Mapping::Mapped => match merge_mapped(alloc, text, limits) {
+        Mapping::Mapped => match merge_mapped_by(rt, alloc, text, limits, workers) {
             Ok(MappedTrace { merged, origins }) => trace_answer(alloc, merged, origins),
             Err(fault) => fault_answer(alloc, text, fault),
         },

@@ -10,7 +10,7 @@ use Rattle.causal_merge.specs.declared.event.RunHeader.{RunHeader}
 use Rattle.causal_merge.specs.declared.event.RecorderLine.{RecorderLine}
 use Rattle.causal_merge.specs.declared.parsed_files.ParsedFiles.{ParsedFiles}
 use Rattle.causal_merge.specs.ReadLines.{has_header, HasAllHeaders, LacksHeader}
-use Rattle.causal_merge.specs.Inside.ParsedFiles.{IsParsed}
+use Rattle.causal_merge.specs.ParsedFiles.{IsParsed}
 
 contains_more : (s : FinSet nat_cmp) (n q : ℕ) → contains (insert s n) q ≡ (q == n || contains s q)
 contains_more s n q = contains-insert nat_cmp_total s n q ∙ ap (λ t. t || contains s q) (unsigned_tied q n)

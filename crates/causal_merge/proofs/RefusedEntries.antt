@@ -1,5 +1,5 @@
 -- The entry that a trace refuses is returned, unless an allocation failed.
-use Rattle.std.proofs.Common.{◌≡◌, ◌≢◌, ℕ, Option, Some, None, sym, refl, ap}
+use Rattle.std.proofs.Common.{◌≡◌, ◌≢◌, ℕ, Option, Some, None, ap}
 use Rattle.std.specs.Prelude.{option_map, unwrap_or}
 use Rattle.causal_trace.specs.declared.entry.Entry.{Entry}
 use Rattle.causal_trace.specs.declared.fault.TraceFault.{TraceFault}

@@ -20,7 +20,7 @@ use Rattle.causal_merge.specs.Merges.{MergesFrom, IsFirstFaultWithin}
 use Rattle.causal_merge.specs.Origins.{origin_of}
 use Rattle.causal_merge.specs.declared.merge.OrderedRun.{OrderedRun}
 use Rattle.causal_merge.specs.Inside.OrderedRuns.{IsOrderedRun}
-use Rattle.causal_merge.specs.Inside.ParsedFiles.{IsParsed, HasRead}
+use Rattle.causal_merge.specs.ParsedFiles.{IsParsed, HasRead}
 use Rattle.causal_merge.proofs.Prefixes.{reading-length}
 
 pub few_of : (g : ParsedFiles) (said : List RecorderLine) (run : RunHeader) → IsParsed g said → g.run ≡ Some run → IsProcessCount run.processes

@@ -1,5 +1,5 @@
 -- Definitions for private contracts; no public contract cites them.
-pub mod ParsedFiles
+pub mod RecorderChunks
 pub mod Sends
 pub mod Values
 pub mod Merger

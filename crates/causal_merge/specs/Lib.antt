@@ -2,6 +2,8 @@ pub mod Shapes
 pub mod TornLines
 pub mod ReadLines
 pub mod Reading
+pub mod ParsedFiles
+pub mod RecordingReaders
 pub mod Order
 pub mod FaultDetails
 pub mod EventMerge

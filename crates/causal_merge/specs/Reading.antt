@@ -46,10 +46,14 @@ check_header first said = Ok said
 abbrev pub next_line : ℕ → Option RunHeader → ℕ → List ℕ → Result RecorderLine TextKind
 next_line most first end line = if nat_lt (max_input_len most) end then Err Big else (parse_bytes (without_line_feed line) >>= check_header first)
 
+-- an error of this line
+abbrev pub line_fault : ℕ → TextKind → MergeFault
+line_fault line k = record { line = line; kind = kind.Line k; detail = None }
+
 -- the content with one more line, or the error of that line
 abbrev pub with_line : List RecorderLine → Result RecorderLine TextKind → Result (List RecorderLine) MergeFault
 with_line said (Ok said_next) = Ok (said_next ∷ said)
-with_line said (Err k) = Err (record { line = length said + 1; kind = kind.Line k; detail = None })
+with_line said (Err k) = Err (line_fault (length said + 1) k)
 
 -- the content of these lines, the newest first in both lists; else the error of the oldest line that has one
 abbrev pub read_all_lines : ℕ → List (List ℕ) → Result (List RecorderLine) MergeFault

@@ -2,7 +2,9 @@
 //!
 //! Start at [`merge_text`]: it reads the lines of all files, in any order, and returns the trace or the first error;
 //! [`fault_line`] returns the line that prints the error. [`merge_within`] merges within limits that the caller sets,
-//! and [`max_input_len`] returns the maximum size of recorder files for them.
+//! and [`max_input_len`] returns the maximum size of recorder files for them. [`RecordingReader`] reads the files part by
+//! part, and [`parse_recordings`] parses the lines of a part before their turn, so that several threads can share that
+//! work.
 #![tactic(auto)]
 
 /// The content of a line.
@@ -35,8 +37,10 @@ mod merger;
 mod order;
 /// Where the entries of a merged trace come from.
 pub mod origins;
-/// Reads the lines of a text.
-mod input_reader;
+/// A chunk of recorder files whose lines are parsed before their turn.
+pub mod recorder_chunk;
+/// A reader of recorder files in parts.
+pub mod recording_reader;
 /// The printed line of an error.
 pub mod report;
 /// The error message with values.
@@ -56,6 +60,8 @@ pub use map::{map_line, quoted_name, read_place};
 pub use map_lines::map_text;
 pub use merge::{MappedTrace, MergedTrace, merge_mapped, merge_text, merge_within};
 pub use origins::Origin;
+pub use recorder_chunk::{RecorderChunk, parse_recordings};
+pub use recording_reader::RecordingReader;
 pub use report::fault_line;
 pub use sends::SendName;
 pub use sentences::sentence;

@@ -4,10 +4,13 @@ ghost use Rattle.serde_json.specs.View.{view};
 ghost use Rattle.causal_line.specs.Returns.{Returns};
 ghost use Rattle.causal_merge.specs.Shapes.{check_header_values, header_of, parse_event, send_of, deliver_of, stable_of, heard_of, line_of};
 ghost use Rattle.causal_merge.specs.Reading.{parse_bytes, check_header, next_line, same_run, max_bytes};
-ghost use Rattle.causal_merge.specs.Inside.ParsedFiles.{IsSound};
+ghost use Rattle.causal_line.specs.Values.{without_line_feed};
+ghost use Rattle.causal_merge.specs.ParsedFiles.{IsSound};
+ghost use Rattle.causal_merge.specs.Inside.RecorderChunks.{IsParsedLine};
 
 use crate::event::{Action, RecordedEvent, RecorderLine, RunHeader};
 use crate::limits::max_input_len;
+use crate::recorder_chunk::ChunkLine;
 use crate::torn_lines::{is_blank, is_torn};
 use crate::value::value_of;
 use causal_line::fields::{det_of, dets_at, is_array_named, pid_at, u32_at, u64_at};
@@ -193,8 +196,16 @@ fn check_header(first: Option<RunHeader>, line: RecorderLine) -> Result<Recorder
     Ok(RecorderLine::Header { process, run })
 }
 
-/// Parses the next line, which ends at byte number `end` of the text; `first` is the run of the first header, if there
-/// was one.
+/// Parses a line, with its line feed if it has one. Needs nothing of the lines before it.
+pub(crate) fn parse_line(alloc: Global, line: &[u8]) -> Result<RecorderLine, TextKind>
+    ensures value { Returns result (parse_bytes (without_line_feed line.now)) }
+    ensures sound { IfOk result IsSound }
+{
+    parse_bytes(alloc, without_line_feed(line))
+}
+
+/// Returns the content of the next line, which ends at byte number `end` of the text, or its error; `first` is the run
+/// of the first header, if there was one.
 pub(crate) fn next_line(
     alloc: Global,
     limits: Limits,
@@ -209,6 +220,25 @@ pub(crate) fn next_line(
     if end > max_input_len(limits) {
         return Err(TextKind::Big);
     }
-    let said = parse_bytes(alloc, without_line_feed(line))?;
+    let said = parse_line(alloc, line)?;
+    check_header(first, said)
+}
+
+/// Returns what `next_line` does of a line that was parsed before its turn.
+pub(crate) fn next_parsed_line(
+    limits: Limits,
+    first: Option<RunHeader>,
+    end: usize,
+    line: ChunkLine<'_>,
+) -> Result<RecorderLine, TextKind>
+    requires { IsParsedLine line }
+    ensures value { Returns result (next_line limits.entries first end line.entry.bytes.now) }
+    ensures sound { IfOk result IsSound }
+    ensures within { OnOk result (end ≤ max_bytes) }
+{
+    if end > max_input_len(limits) {
+        return Err(TextKind::Big);
+    }
+    let said = line.content?;
     check_header(first, said)
 }

@@ -1,17 +1,21 @@
 //! Merges the recorder files of a run.
-ghost use Rattle.std.specs.Prelude.{◌≡◌, ◌≢◌, ℕ, List, map, IfOk, IfErr};
+ghost use Rattle.std.specs.Prelude.{◌≡◌, ◌≢◌, ◌≤◌, ℕ, List, map, reverse, IfOk, IfErr};
 ghost use Rattle.causal_trace.specs.Limits.{IsProcessCount};
 ghost use Rattle.causal_merge.specs.Merges.{Merges, MergesFrom, MergesWithin, IsFirstFault, IsFirstFaultWithin};
 ghost use Rattle.causal_merge.specs.Origins.{origin_of};
+ghost use Rattle.causal_merge.specs.ParsedFiles.{IsParsed, HasRead};
+ghost use Rattle.causal_merge.specs.Reading.{max_bytes};
+ghost use Rattle.causal_line.specs.Lines.{lines};
+ghost use Rattle.causal_merge.specs.declared.event.RecorderLine.{RecorderLine};
 ghost use Rattle.causal_merge.specs.Inside.OrderedRuns.{IsOrderedRun};
 
 use crate::event::{EventAtLine, RunHeader};
 use crate::fault::{MergeFault, MergeKind};
-use crate::input_reader::read_lines;
 use crate::merger::merge_events;
 use crate::order::sort_events;
 use crate::origins::{Origin, origins_of};
 use crate::parsed_files::ParsedFiles;
+use crate::recording_reader::RecordingReader;
 use causal_line::kind::TextKind;
 use causal_trace::limits::{DEFAULT_LIMITS, Limits};
 use causal_trace::trace::Trace;
@@ -49,8 +53,8 @@ pub fn merge_within(alloc: Global, text: &[u8], limits: Limits) -> Result<Merged
     ensures err { IfErr result (λ fault. fault.kind ≢ MergeKind.Line TextKind.NoMemory
         → IsFirstFaultWithin limits.entries text.now fault) }
 {
-    let ordered = order_run(alloc, text, limits)?;
-    merge_run(alloc, limits, ordered)
+    let reader = RecordingReader::within(alloc, limits).feed(text)?;
+    reader.merge()
 }
 
 /// A merged trace, and where its entries come from.
@@ -68,12 +72,8 @@ pub fn merge_mapped(alloc: Global, text: &[u8], limits: Limits) -> Result<Mapped
     ensures err { IfErr result (λ fault. fault.kind ≢ MergeKind.Line TextKind.NoMemory
         → IsFirstFaultWithin limits.entries text.now fault) }
 {
-    let ordered = order_run(alloc, text, limits)?;
-    let Ok(origins) = origins_of(alloc, ordered.events.as_slice()) else {
-        return Err(no_memory());
-    };
-    let merged = merge_run(alloc, limits, ordered)?;
-    Ok(MappedTrace { merged, origins })
+    let reader = RecordingReader::within(alloc, limits).feed(text)?;
+    reader.merge_mapped()
 }
 
 fn no_memory() -> MergeFault
@@ -88,19 +88,22 @@ fn no_memory() -> MergeFault
 
 /// The events of a run in the merge order, and the torn lines.
 #[derive(Drop)]
-struct OrderedRun {
+pub(crate) struct OrderedRun {
     run: RunHeader,
     events: Vec<EventAtLine>,
     torn: Vec<u32>,
 }
 
-/// Reads the lines of recorder files, and sorts their events.
-fn order_run(alloc: Global, text: &[u8], limits: Limits) -> Result<OrderedRun, MergeFault>
-    ensures ok { IfOk result (IsOrderedRun limits.entries text.now) }
-    ensures err { IfErr result (λ fault. fault.kind ≢ MergeKind.Line TextKind.NoMemory
-        → IsFirstFaultWithin limits.entries text.now fault) }
+/// Sorts the events of recorder files, of which no header is missing.
+pub(crate) fn order_run(gathered: ParsedFiles) -> Result<OrderedRun, MergeFault>
+    requires few { gathered.count ≤ max_bytes }
+    requires said { (said : List RecorderLine) × IsParsed gathered said }
+    ensures ok { IfOk result (λ ordered. (most : ℕ) (text : List ℕ)
+        → HasRead most gathered (reverse (lines text)) → IsOrderedRun most text ordered) }
+    ensures few { IfOk result (λ ordered. IsProcessCount ordered.run.processes) }
+    ensures err { IfErr result (λ fault. (most : ℕ) (text : List ℕ)
+        → HasRead most gathered (reverse (lines text)) → IsFirstFaultWithin most text fault) }
 {
-    let gathered = read_lines(alloc, limits, text)?;
     let run = gathered.whole_run()?;
     let ParsedFiles {
         mut events,
@@ -112,7 +115,11 @@ fn order_run(alloc: Global, text: &[u8], limits: Limits) -> Result<OrderedRun, M
 }
 
 /// Merges the events of a run, which are in the merge order.
-fn merge_run(alloc: Global, limits: Limits, ordered: OrderedRun) -> Result<MergedTrace, MergeFault>
+pub(crate) fn merge_run(
+    alloc: Global,
+    limits: Limits,
+    ordered: OrderedRun,
+) -> Result<MergedTrace, MergeFault>
     requires { IsProcessCount ordered.run.processes }
     ensures ok { IfOk result (λ merged. (text : List ℕ) → IsOrderedRun limits.entries text ordered
         → MergesFrom limits.entries text merged.trace.recording merged.torn.items
@@ -124,4 +131,25 @@ fn merge_run(alloc: Global, limits: Limits, ordered: OrderedRun) -> Result<Merge
     let OrderedRun { run, events, torn } = ordered;
     let trace = merge_events(alloc, limits, run.processes, events)?;
     Ok(MergedTrace { trace, torn })
+}
+
+/// Merges the events of a run as `merge_run` does, and returns where each comes from.
+pub(crate) fn map_run(
+    alloc: Global,
+    limits: Limits,
+    ordered: OrderedRun,
+) -> Result<MappedTrace, MergeFault>
+    requires { IsProcessCount ordered.run.processes }
+    ensures ok { IfOk result (λ mapped. (text : List ℕ) → IsOrderedRun limits.entries text ordered
+        → MergesFrom limits.entries text mapped.merged.trace.recording mapped.merged.torn.items
+        mapped.origins.items) }
+    ensures err { IfErr result (λ fault. (text : List ℕ) → IsOrderedRun limits.entries text ordered
+        → fault.kind ≢ MergeKind.Line TextKind.NoMemory
+        → IsFirstFaultWithin limits.entries text fault) }
+{
+    let Ok(origins) = origins_of(alloc, ordered.events.as_slice()) else {
+        return Err(no_memory());
+    };
+    let merged = merge_run(alloc, limits, ordered)?;
+    Ok(MappedTrace { merged, origins })
 }

@@ -1,21 +1,18 @@
 //! The content of the lines read so far, as the merge needs it.
-ghost use Rattle.std.specs.Prelude.{◌≡◌, ◌+◌, ◌<◌, ◌≤◌, ◌∷◌, ℕ, List, [], length, sum_by, slice_index_or, true, false, Ok, OnOk, IfOk, IfErr, not};
+ghost use Rattle.std.specs.Prelude.{◌≡◌, ◌+◌, ◌<◌, ◌≤◌, ◌∷◌, ℕ, List, [], length, slice_index_or, true, false, Ok, OnOk, IfOk, IfErr, not};
 ghost use Rattle.std.specs.Ordering.{nat_cmp};
 ghost use Rattle.std.specs.FinSet.{FinSet};
 ghost use Rattle.causal_holders.specs.Members.{HasMembers};
 ghost use Rattle.causal_trace.specs.Limits.{IsProcessCount};
-ghost use Rattle.causal_line.specs.Returns.{IsFaultOrNoMemory};
 ghost use Rattle.causal_merge.specs.declared.event.RecorderLine.{RecorderLine};
 ghost use Rattle.causal_merge.specs.ReadLines.{HasAllHeaders, LacksHeader, header_fault};
-ghost use Rattle.causal_merge.specs.Reading.{max_bytes, next_line};
-ghost use Rattle.causal_merge.specs.Inside.ParsedFiles.{IsParsed, HasRead, IsFaultOf, IsSound};
+ghost use Rattle.causal_merge.specs.Reading.{max_bytes};
+ghost use Rattle.causal_merge.specs.ParsedFiles.{IsParsed, HasRead, IsSound};
 
 use crate::event::{EventAtLine, RecorderLine, RunHeader};
 use crate::fault::{MergeFault, MergeKind};
-use crate::line_parser::next_line;
 use causal_holders::ByteSet;
 use causal_line::kind::TextKind;
-use causal_trace::limits::Limits;
 use std::alloc::Global;
 
 // those of the first n flags that are not set
@@ -70,8 +67,8 @@ impl ParsedFiles {
         }
     }
 
-    // adds the content of one more line
-    fn note(&mut self, line: RecorderLine) -> Result<(), TextKind>
+    /// Adds the content of one more line.
+    pub(crate) fn note(&mut self, line: RecorderLine) -> Result<(), TextKind>
         requires few { self.old.count ≤ max_bytes }
         requires sound { IsSound line }
         ensures ok { OnOk result
@@ -96,58 +93,6 @@ impl ParsedFiles {
         }
         self.count = number;
         Ok(())
-    }
-
-    // reads one more line, which ends at byte number `end` of the text
-    fn read_line(
-        &mut self,
-        alloc: Global,
-        limits: Limits,
-        end: usize,
-        line: &[u8],
-    ) -> Result<(), TextKind>
-        requires { self.old.count ≤ max_bytes }
-        ensures ok { OnOk result ((said : List RecorderLine) → IsParsed self.old said →
-            (next : RecorderLine)
-            × (next_line limits.entries self.old.run end line.now ≡ Ok next)
-            × IsParsed self.new (next ∷ said)) }
-        ensures err { IfErr result
-            (λ kind. IsFaultOrNoMemory kind kind
-            (next_line limits.entries self.old.run end line.now)) }
-        ensures within { OnOk result (end ≤ max_bytes) }
-        ensures count { OnOk result (self.new.count ≡ self.old.count + 1) }
-    {
-        let said = next_line(alloc, limits, self.run, end, line)?;
-        self.note(said)
-    }
-
-    /// Reads the next line, which ends at byte number `end` of the text.
-    pub(crate) fn push_line(
-        &mut self,
-        alloc: Global,
-        limits: Limits,
-        end: usize,
-        line: &[u8],
-    ) -> Result<(), MergeFault>
-        requires { self.old.count ≤ max_bytes }
-        ensures ok { OnOk result ((before : List (List ℕ)) → HasRead limits.entries self.old before
-            → end ≡ sum_by length (line.now ∷ before)
-            → HasRead limits.entries self.new (line.now ∷ before)) }
-        ensures err { IfErr result (λ fault. (before : List (List ℕ))
-            → HasRead limits.entries self.old before → end ≡ sum_by length (line.now ∷ before)
-            → IsFaultOf limits.entries fault (line.now ∷ before)) }
-        ensures count { OnOk result (self.new.count ≡ self.old.count + 1) }
-        ensures within { OnOk result (end ≤ max_bytes) }
-    {
-        let number = self.count + 1;
-        match self.read_line(alloc, limits, end, line) {
-            Ok(()) => Ok(()),
-            Err(kind) => Err(MergeFault {
-                line: number,
-                kind: MergeKind::Line(kind),
-                detail: None,
-            }),
-        }
     }
 
     /// Returns the run, if each of its processes has a header; else the error `NoHeader`.

@@ -12,7 +12,7 @@ use serde_json::Value;
 use std::alloc::Global;
 
 // a line with more bytes is scanned first
-const LONG: usize = 262_144;
+const LONG: usize = 16_384;
 
 /// Returns the JSON value of these bytes; None if they are JSON that has none of the shapes of a line.
 pub(crate) fn value_of(alloc: Global, bytes: &[u8]) -> Result<Option<Value>, TextKind>

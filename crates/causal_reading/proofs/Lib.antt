@@ -1,1 +1,2 @@
 mod FeedLemmas
+mod LineLemmas

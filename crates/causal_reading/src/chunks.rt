@@ -1,5 +1,6 @@
 //! More bytes of a text, cut into chunks that several workers parse.
-ghost use Rattle.std.specs.Prelude.{◌≡◌, ◌≤◌, ◌++◌, List, ℕ, IfOk, length};
+ghost use Rattle.std.specs.Prelude.{◌≡◌, ◌+◌, ◌≤◌, ◌++◌, List, ℕ, IfOk, length};
+ghost use Rattle.causal_line.specs.Lines.{lines};
 ghost use Rattle.causal_text.specs.PushReaders.{PushReaderState};
 ghost use Rattle.causal_reading.specs.Inside.Feeding.{IsFedBy};
 
@@ -11,10 +12,10 @@ use std::thread::{Threads, join};
 
 /// A piece of at most this many bytes is not divided. So a text below 64 KB starts no thread: of its pieces, each as
 /// long as all before it and 4,096 bytes, none is longer.
-const UNDIVIDED: usize = 32_768;
+pub(crate) const UNDIVIDED: usize = 32_768;
 
 /// The least mean size of the chunks of a piece, in bytes.
-const CHUNK: usize = 8_192;
+pub(crate) const CHUNK: usize = 8_192;
 
 /// How many bytes at the beginning of a piece show how long its lines are.
 const SAMPLE: usize = 4_096;
@@ -38,10 +39,10 @@ pub(crate) fn feed_by<R: Threads>(
 
 /// Returns twice the length of a piece's first chunk, less 1, in units of which each further chunk has one more. Any line
 /// takes the calling thread about as long, but a worker as long as its bytes: chunks of short lines differ most.
-fn evenness(piece: &[u8]) -> usize {
+pub(crate) fn evenness(piece: &[u8]) -> usize {
     let (sample, _) = piece.split_at(piece.len().min(SAMPLE));
-    let lines = sample.iter().filter(|byte| **byte == b'\n').count();
-    if lines > SAMPLE / 128 { 5 } else { 23 }
+    let feeds = sample.iter().filter(|byte| **byte == b'\n').count();
+    if feeds > SAMPLE / 128 { 5 } else { 23 }
 }
 
 /// Reads more bytes in the calling thread.
@@ -85,7 +86,7 @@ fn feed_chunks<R: Threads>(
 /// Returns about how many of `len` bytes lie before the last chunk. The lengths of the chunks are as 3 to 4 to 5 and so
 /// on if `evenness` is 5, as 12 to 13 to 14 if it is 23, since the calling thread has to check the lines of one before it
 /// needs the next.
-fn front_len(len: usize, chunks: usize, evenness: usize) -> usize
+pub(crate) fn front_len(len: usize, chunks: usize, evenness: usize) -> usize
     requires { 2 ≤ chunks }
     ensures { result ≤ len }
 {
@@ -113,9 +114,11 @@ fn feed_after(
 }
 
 /// Splits bytes after the first line feed from index `at` on; the second part is empty if there is none.
-fn split_lines(bytes: &[u8], at: usize) -> (&[u8], &[u8])
+pub(crate) fn split_lines(bytes: &[u8], at: usize) -> (&[u8], &[u8])
     requires { at ≤ length bytes.now }
-    ensures { bytes.now ≡ result.0.now ++ result.1.now }
+    ensures whole { bytes.now ≡ result.0.now ++ result.1.now }
+    ensures parts { lines bytes.now ≡ lines result.0.now ++ lines result.1.now }
+    ensures shorter { at + length result.1.now ≤ length bytes.now }
 {
     let (_, back) = bytes.split_at(at);
     match split_complete(back) {

@@ -20,7 +20,7 @@ use std::thread::Threads;
 const PIECE: usize = 4_096;
 
 /// The maximum size of a read in bytes, for each worker.
-const READ_PER_WORKER: usize = 65_536;
+pub(crate) const READ_PER_WORKER: usize = 65_536;
 
 /// Returns the trace that the bytes of a source spell, as [`read_within`] does, by 1 to 64 workers. The result is the
 /// same for every number of workers.

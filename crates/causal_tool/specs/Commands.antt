@@ -41,7 +41,7 @@ Answers (Draw faults workers limits selection) (outcome_of.Trace f outcome) give
     WritesViewFor limits.entries (Picture selection) given faults outcome.ended old new × IsDiagnosisFor limits.entries given f outcome.fault × (f ≡ faults)
 Answers (MappedReason faults workers limits) (outcome_of.MappedReason f outcome) given map old new =
     WritesMappedFor limits.entries given map faults outcome old new × IsDiagnosisFor limits.entries given f outcome.outcome.fault × (f ≡ faults)
-Answers (Merge limits mapping) (outcome_of.Merge outcome) given map old new = WritesMergeFor limits.entries mapping given outcome old new
+Answers (Merge workers limits mapping) (outcome_of.Merge outcome) given map old new = WritesMergeFor limits.entries mapping given outcome old new
 Answers Run (outcome_of.Script outcome) given map old new = WritesScriptFor given outcome.ended old new × IsReasonFor given outcome.fault × ArePendingFor given outcome
 Answers _ _ given map old new = ⊥
 
@@ -51,7 +51,7 @@ abbrev pub ReadsFor : Invocation → Option (List ℕ) → Option (List ℕ) →
 ReadsFor (Trace question form limits) old new = StopsFor limits.entries question old new
 ReadsFor (Draw faults workers limits selection) old new = StopsFor limits.entries (Reason faults workers) old new
 ReadsFor (MappedReason faults workers limits) old new = StopsFor limits.entries (Reason faults workers) old new
-ReadsFor (Merge limits mapping) old new = ReadsAtMostRecordings limits.entries old new
+ReadsFor (Merge workers limits mapping) old new = ReadsAtMostRecordings limits.entries old new
 ReadsFor Run old new = ReadsAtMostScript old new
 
 -- what a command consumes of a map: at most one byte more than a map may have; but for `explain`, nothing

@@ -22,13 +22,14 @@ invocation_of (Explain None form workers limits) = Trace (Range workers) form li
 invocation_of (ExplainByMap faults workers limits) = MappedReason faults workers limits
 invocation_of (Replays form workers limits) = Trace (question_on.Replays workers) form limits
 invocation_of (command.Draw faults around only_breach workers limits) = Draw faults workers limits (record { around = around; only_focus = only_breach })
-invocation_of (command.Merge limits true) = Merge limits Mapped
-invocation_of (command.Merge limits false) = Merge limits Unmapped
+invocation_of (command.Merge workers limits true) = Merge workers limits Mapped
+invocation_of (command.Merge workers limits false) = Merge workers limits Unmapped
 invocation_of command.Run = Run
 
--- a question on a trace, or a picture of it, is requested with 1 to 64 workers
+-- a question on a trace, a picture of it, or a merge is requested with 1 to 64 workers
 abbrev pub HasWorkerCountInRange : Invocation → Type 0
 HasWorkerCountInRange (Trace question form limits) = HasFewWorkers question
 HasWorkerCountInRange (Draw faults workers limits selection) = (1 ≤ workers) × (workers ≤ 64)
 HasWorkerCountInRange (MappedReason faults workers limits) = (1 ≤ workers) × (workers ≤ 64)
+HasWorkerCountInRange (Merge workers limits mapping) = (1 ≤ workers) × (workers ≤ 64)
 HasWorkerCountInRange _ = ⊤

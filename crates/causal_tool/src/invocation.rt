@@ -34,6 +34,7 @@ pub(crate) enum Invocation {
     },
     /// The trace merged from recorder files, within limits, and its map, if that is wanted.
     Merge {
+        workers: u32,
         limits: Limits,
         mapping: Mapping,
     },
@@ -117,7 +118,12 @@ impl Invocation {
                     only_focus: only_breach,
                 },
             },
-            Subcommand::Merge { limits, has_map } => Invocation::Merge {
+            Subcommand::Merge {
+                workers,
+                limits,
+                has_map,
+            } => Invocation::Merge {
+                workers,
                 limits,
                 mapping: if has_map {
                     Mapping::Mapped

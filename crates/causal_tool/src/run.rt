@@ -156,8 +156,12 @@ pub(crate) fn run_command<
             f: faults,
             outcome: answer_mapped_reason(rt, alloc, input, map, output, limits, faults, workers),
         },
-        Invocation::Merge { limits, mapping } => CommandOutcome::Merge {
-            outcome: answer_merge(alloc, input, output, limits, mapping),
+        Invocation::Merge {
+            workers,
+            limits,
+            mapping,
+        } => CommandOutcome::Merge {
+            outcome: answer_merge(rt, alloc, input, output, limits, workers, mapping),
         },
         Invocation::Run => CommandOutcome::Script {
             outcome: answer_script(rt, alloc, input, output, random_seed(rt)),

@@ -1,0 +1,22 @@
+use Rattle.std.proofs.Common.{inl}
+use Rattle.std.proofs.lemmas.Result.{err_from_is_err_and, IfOk-weaker, IfErr-weaker}
+use Rattle.causal_line.specs.Lines.{lines}
+use Rattle.causal_merge.proofs.Lemmas.ReadParts.{read_whole, whole_refused}
+use Rattle.causal_merge.proofs.merge.merge_within.Goals as goal
+
+pub returns-clause-ok : goal.returns-clause-ok
+returns-clause-ok c =
+    let most = c.args.limits.entries in
+    let text = c.args.text.now in
+    IfOk-weaker c.merge.result _ _ (λ merged h. h most text (read_whole most c.within.result c.in_ok-reader.reader (lines text) c.within.ensures c.in_ok-reader.ensures)) c.merge.ensures.ok
+
+pub returns-clause-err : goal.returns-clause-err
+returns-clause-err c =
+    let most = c.args.limits.entries in
+    let text = c.args.text.now in
+    IfErr-weaker c.merge.result _ _ (λ fault h. h most text (read_whole most c.within.result c.in_ok-reader.reader (lines text) c.within.ensures c.in_ok-reader.ensures)) c.merge.ensures.err
+
+pub returns-in_err-reader-clause-err : goal.returns-in_err-reader-clause-err
+returns-in_err-reader-clause-err c =
+    let p = err_from_is_err_and c.from_residual.result c.from_residual.ensures.1 in
+    rw (p.1, p.2) (λ other. inl (whole_refused c.args.limits.entries c.within.result (lines c.args.text.now) _ c.within.ensures c.in_err-reader.ensures other))
