@@ -10,7 +10,7 @@ use Rattle.std.specs.Ordering.{is_lt}
 use Rattle.std.specs.Option.{option_map, IsSome}
 use Rattle.indexmap.specs.IndexMap.{set_value_at}
 use Rattle.std.proofs.lemmas.Bool.Decides.{nat_tests}
-use Rattle.std.proofs.lemmas.List.Elements.{All-contains, All-cons, All-head, All-tail}
+use Rattle.std.proofs.lemmas.List.Elements.{All-contains, All-cons, All-head, All-nil, All-tail}
 use Rattle.std.proofs.lemmas.Map.Made.{is_some-lookup, Contains-from_values_of}
 use Rattle.std.proofs.lemmas.Map.Views.{Contains-from_lookup, lookup-from_Contains}
 use Rattle.std.specs.Cmp.{IsEquivalence}
@@ -24,7 +24,7 @@ use Rattle.causal_log.specs.declared.known.Known.{Known}
 use Rattle.causal_log.specs.declared.table.SlotKey.{SlotKey}
 use Rattle.causal_log.specs.Slots.{is_of_slot}
 use Rattle.causal_log.specs.Inside.Ranks.{IsAmong, IsLeastOfSlot, lesser_det}
-use Rattle.causal_log.specs.Inside.Tables.{HasSlotKey, slot_key, same_slot_key}
+use Rattle.causal_log.specs.Inside.Tables.{HasSlotKey, IsNotLater, is_later, slot_key, same_slot_key}
 use Rattle.causal_log.proofs.EntryLemmas.{below}
 use Rattle.causal_log.proofs.Lemmas.Ascents.{before_trans}
 use Rattle.causal_log.proofs.Lemmas.Searches.{both, or_right}
@@ -105,6 +105,18 @@ module _ (numbers : ℕ) where
       All-cons (HasSlotKey numbers) (e.0, (x.0, k)) es (record { slot = so.slot ∙ ap (λ o. slot_of (unwrap_or o x).0) at; number = so.number }) (All-tail (HasSlotKey numbers) e es all)
   keyed_set (e ∷ es) (suc i) x k at all =
       All-cons (HasSlotKey numbers) e (set_value_at es i (x.0, k)) (All-head (HasSlotKey numbers) e es all) (keyed_set es i x k at (All-tail (HasSlotKey numbers) e es all))
+
+-- what holds of each key holds of the entries
+pub all_keys : (P : SlotKey → Type 0) (es : Entries) → All P (keys_of es) → All (λ e. P e.0) es
+all_keys P [] all = All-nil (λ e. P e.0)
+all_keys P (e ∷ es) all = All-cons (λ e. P e.0) e es (All-head P e.0 (keys_of es) all) (all_keys P es (All-tail P e.0 (keys_of es) all))
+
+-- replacing the value of the entry at an index makes no slot a later one
+pub not_later_set : (last : Option Slot) (es : Entries) (i : ℕ) (w : Det × Known) → All (IsNotLater last) es → All (IsNotLater last) (set_value_at es i w)
+not_later_set last [] i w all = all
+not_later_set last (e ∷ es) zero w all = All-cons (IsNotLater last) (e.0, w) es (All-head (IsNotLater last) e es all) (All-tail (IsNotLater last) e es all)
+not_later_set last (e ∷ es) (suc i) w all =
+    All-cons (IsNotLater last) e (set_value_at es i w) (All-head (IsNotLater last) e es all) (not_later_set last es i w (All-tail (IsNotLater last) e es all))
 
 module _ {K X : Type 0} where
   pub values_set : (es : List (K × X)) (i : ℕ) (w : X) → values_of (set_value_at es i w) ≡ set (values_of es) i w
@@ -191,6 +203,21 @@ module _ (es : Entries) (numbers : ℕ) (keyed : All (HasSlotKey numbers) es) wh
       by : (o : Option (Det × Known)) → entry_of_key es slot numbers ≡ o → o ≡ None
       by None h = refl
       by (Some e) h = absurd (omega (arith, (entry_has_key slot numbers e h).number))
+
+  -- a determinant whose slot is later than those of all entries is not in the list
+  pub absent_later : (last : Option Slot) (d : Det) → All (IsNotLater last) es → is_later last (slot_of d) ≡ true → list_any (same_det d) (keys_of (values_of es)) ≡ false
+  absent_later last d ended later = by (lookup (same_det d) (values_of es)) refl
+    where
+      by : (o : Option Known) → lookup (same_det d) (values_of es) ≡ o → list_any (same_det d) (keys_of (values_of es)) ≡ false
+      by None none = sym (is_some-lookup (same_det d) (values_of es)) ∙ ap is_some none
+      by (Some v) some =
+          let way = Contains-from_values_of es (d, v) (Contains-from_lookup same_is d v (values_of es) some) in
+          let own = (All-contains (HasSlotKey numbers) es (way.0, (d, v)) keyed way.1).slot in
+          absurd (true≢false (sym later ∙ ap (is_later last) (sym own) ∙ All-contains (IsNotLater last) es (way.0, (d, v)) ended way.1))
+
+  -- no listed determinant fills a later slot
+  pub none_later : (last : Option Slot) (slot : Slot) → All (IsNotLater last) es → is_later last slot ≡ true → IsLeastOfSlot slot.dest slot.rsn (keys_of (values_of es)) None
+  none_later last slot ended later = λ q there. false_from_ne_true (is_of_slot slot.dest slot.rsn q) (λ fit. true≢false (sym there ∙ absent_later last q ended (ap (is_later last) (slot_is slot q fit) ∙ later)))
 
   module _ (distinct : IsDistinct same_slot_key (keys_of es)) where
     -- a listed determinant's entry is found by its slot and some number

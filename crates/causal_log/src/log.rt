@@ -278,9 +278,7 @@ impl Log {
         ensures succeeds { 1 ≤ self.old.spare → IsOk result }
         ensures spare { self.old.spare ≤ self.new.spare + 1 }
     {
-        if self.entries.find(det).is_none() {
-            self.entries.reserve(1)?;
-        }
+        self.entries.reserve_for(det)?;
         learn(&mut self.entries, det, news);
         self.sorted = false;
         let most = self.entries.entries().len();
@@ -297,6 +295,7 @@ impl Log {
         ensures succeeds { 1 ≤ self.old.spare → IsOk result }
         ensures spare { self.old.spare ≤ self.new.spare + 1 }
     {
+        self.entries.watch(me);
         self.learn(det, Known::held_by(me))
     }
 
@@ -339,6 +338,7 @@ impl Log {
         ensures map { self.new.map ≡ after_delivery carried.now own from me self.old.map }
         ensures spare { self.old.spare ≤ self.new.spare + (length carried.now + 1) }
     {
+        self.entries.watch(me);
         learn_items(&mut self.entries, carried.as_slice(), from, me);
         learn(&mut self.entries, own, Known::held_by(me));
         self.sorted = false;

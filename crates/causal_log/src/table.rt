@@ -1,7 +1,7 @@
 //! Log entries in insertion order, found by the slot of their determinant, and scans of all of them.
 #![tactic(auto, using(crate::proofs::Rules::of_table))]
 
-ghost use Rattle.std.specs.Prelude.{◌≡◌, ◌<◌, ◌≤◌, ◌+◌, ◌^◌, ◌++◌, ◌∷◌, [], not, filter, find, map, true, false, All, Some, None, IfSome, IsNone, IfOk, OnOk, OnErr, length, slice_get};
+ghost use Rattle.std.specs.Prelude.{◌≡◌, ◌<◌, ◌≤◌, ◌+◌, ◌^◌, ◌++◌, ◌∷◌, [], not, filter, find, map, true, false, All, Some, None, IfSome, IsNone, IsSome, IsOk, IfOk, OnOk, OnErr, length, slice_get};
 ghost use Rattle.std.specs.List.{IsDistinct, list_any};
 ghost use Rattle.std.specs.Map.{keys_of};
 ghost use Rattle.std.specs.FinMap as fin;
@@ -13,7 +13,7 @@ ghost use Rattle.causal_log.specs.declared.known.Known.{Known};
 ghost use Rattle.causal_log.specs.Knowledge.{union_with, is_carried};
 ghost use Rattle.causal_log.specs.Logs.{is_forgotten, log_of, item_of, batch_items, after_learn, IsLogged, after_absorb, after_learn_all};
 ghost use Rattle.causal_log.specs.Inside.Ranks.{IsLeastOfSlot, has_rank, lesser_det};
-ghost use Rattle.causal_log.specs.Inside.Tables.{HasSlotKey, slot_key, same_slot_key};
+ghost use Rattle.causal_log.specs.Inside.Tables.{HasSlotKey, is_later, slot_key, same_slot_key};
 
 use crate::batch::Item;
 use crate::hashing::SeededState;
@@ -26,11 +26,11 @@ use std::alloc::Global;
 use std::marker::Model;
 
 /// The key of an entry: its determinant's slot, and a number that tells apart entries of one slot. In a run each slot
-/// has one entry, whose number is 0.
+/// has one entry, whose number is 0. Of two whole words, a key is copied faster than one of three halves.
 #[derive(Clone, Copy, PartialEq, Eq, Hash)]
 pub(crate) struct SlotKey {
     pub slot: Slot,
-    pub number: u32,
+    pub number: u64,
 }
 
 /// Tables with a larger capacity use all of it: a run has few of them.
@@ -41,10 +41,12 @@ const MOST_STAGGERED: usize = 1152;
 pub(crate) struct Table {
     entries: IndexMap<SlotKey, (Det, Known), SeededState>,
     /// The number of each entry's key is less than this; at most 1 in a run.
-    numbers: u32,
+    numbers: u64,
+    /// No entry has a later slot of the same process, so looking up a later one needs no hash. `None` before `watch`.
+    last: Option<Slot>,
     /// How many more entries can be added without allocation.
     room: usize,
-    /// Which share of a capacity up to `MOST_STAGGERED` stays unused, in parts of 768. Capacities are 9 times a power of
+    /// Which share of a capacity up to `MOST_STAGGERED` stays unused, in parts of 512. Capacities are 9 times a power of
     /// two, so logs of one run would all grow during the same deliveries; with different shares they do not.
     unused: u8,
 }
@@ -60,7 +62,8 @@ impl Model for Table {
 
     ghost view = { λ t. record { entries = values_of t.entries.entries; spare = t.room } };
 
-    ghost invariant = { λ t. IsTable t.entries.entries t.numbers t.room (spare t.entries) };
+    ghost invariant = { λ t.
+        IsTable t.entries.entries t.numbers t.last t.room (spare t.entries) };
 }
 
 impl Table {
@@ -70,6 +73,7 @@ impl Table {
         Table {
             entries: IndexMap::with_hasher(alloc, SeededState::new(seed)),
             numbers: 0,
+            last: None,
             room: 0,
             unused: unused_share(seed),
         }
@@ -91,6 +95,9 @@ impl Table {
             Some (det, found.1)) }
         ensures within { IfSome result (λ found. found.0 < length self.now.entries) }
     {
+        if is_later(self.last, det.slot()) {
+            return None;
+        }
         search(&self.entries, self.numbers, det)
     }
 
@@ -112,7 +119,20 @@ impl Table {
     pub(crate) fn least_of(&self, slot: Slot) -> Option<Det>
         ensures { IsLeastOfSlot slot.dest slot.rsn (keys_of self.now.entries) result }
     {
+        if is_later(self.last, slot) {
+            return None;
+        }
         least_of_slot(&self.entries, self.numbers, slot)
+    }
+
+    /// Keeps the last slot of this process from now on, unless that of a process is kept.
+    #[inline]
+    pub(crate) fn watch(&mut self, dest: Pid)
+        ensures { self.new ≡ self.old }
+    {
+        if self.last.is_none() {
+            self.last = last_slot(self.entries.keys().as_slice(), dest);
+        }
     }
 
     /// Adds knowledge to the entry at an index, and returns the index.
@@ -144,6 +164,7 @@ impl Table {
         let number = unused_number(&self.entries, self.numbers, slot);
         insert_new(&mut self.entries, SlotKey { slot, number }, (det, known));
         self.numbers = self.numbers.max(number + 1);
+        self.last = last_with(self.last, slot);
         self.room -= 1;
         self.entries.len() - 1
     }
@@ -164,6 +185,7 @@ impl Table {
         let key = SlotKey { slot, number: 0 };
         let place = insert_unless_used(&mut self.entries, key, (det, *known))?;
         self.numbers = 1;
+        self.last = last_with(self.last, slot);
         self.room -= 1;
         Ok(place)
     }
@@ -195,6 +217,21 @@ impl Table {
         Ok(())
     }
 
+    /// Reserves capacity for a determinant, unless it is logged. Looks for it only if there is no capacity.
+    pub(crate) fn reserve_for(&mut self, det: Det) -> Result<(), NoMemory>
+        ensures entries { self.new.entries ≡ self.old.entries }
+        ensures ok { OnOk result
+            (fin.get (log_of self.old.entries) det ≡ None → 1 ≤ self.new.spare) }
+        ensures spare { self.old.spare ≤ self.new.spare }
+        ensures logged { IsSome (fin.get (log_of self.old.entries) det) → IsOk result }
+        ensures succeeds { 1 ≤ self.old.spare → IsOk result }
+    {
+        if self.room > 0 || self.find(det).is_some() {
+            return Ok(());
+        }
+        self.reserve(1)
+    }
+
     /// Returns a copy of the entries, with no reserved capacity.
     pub(crate) fn try_clone(&self) -> Result<Table, NoMemory>
         ensures { IfOk result (λ copy. copy.entries ≡ self.now.entries) }
@@ -202,6 +239,7 @@ impl Table {
         Ok(Table {
             entries: self.entries.clone()?,
             numbers: self.numbers,
+            last: self.last,
             room: 0,
             unused: self.unused,
         })
@@ -260,7 +298,7 @@ pub(crate) fn is_forgotten(next: Slot, entry: &(Det, Known)) -> bool
 /// Entries by slot and number.
 type Entries = IndexMap<SlotKey, (Det, Known), SeededState>;
 
-/// Returns which share of its capacity a table with this seed leaves unused, in parts of 768: less than a third. The shares
+/// Returns which share of its capacity a table with this seed leaves unused, in parts of 512: less than a half. The shares
 /// of consecutive seeds are far apart.
 fn unused_share(seed: u64) -> u8 {
     ((seed % 256) as u8).wrapping_mul(159)
@@ -287,7 +325,7 @@ fn grow(entries: &mut Entries, unused: u8, more: usize) -> Result<(), NoMemory>
     Ok(())
 }
 
-/// Returns how many more entries it holds without the unused share, which is given in parts of 768.
+/// Returns how many more entries it holds without the unused share, which is given in parts of 512.
 fn usable_spare(entries: &Entries, unused: u8) -> usize
     ensures { result ≤ spare entries.now }
 {
@@ -295,12 +333,12 @@ fn usable_spare(entries: &Entries, unused: u8) -> usize
     if capacity > MOST_STAGGERED {
         return spare_of(entries);
     }
-    let left = capacity.saturating_mul(usize::from(unused)) / 768;
+    let left = capacity.saturating_mul(usize::from(unused)) / 512;
     spare_of(entries).saturating_sub(left)
 }
 
 /// Returns the index of a determinant's entry, and what is known of it. Each entry's number is less than `numbers`.
-fn search(entries: &Entries, numbers: u32, det: Det) -> Option<(usize, Known)>
+fn search(entries: &Entries, numbers: u64, det: Det) -> Option<(usize, Known)>
     requires { All (HasSlotKey numbers) entries.now.entries }
     ensures place { IfSome result (λ found. slice_get (values entries.now) found.0 ≡
         Some (det, found.1)) }
@@ -323,12 +361,43 @@ fn search(entries: &Entries, numbers: u32, det: Det) -> Option<(usize, Known)>
 }
 
 /// Returns the determinant of the entry with this slot and number.
-fn det_of_key(entries: &Entries, slot: Slot, number: u32) -> Option<Det>
+fn det_of_key(entries: &Entries, slot: Slot, number: u64) -> Option<Det>
     ensures { result ≡ option_map (λ e. e.0)
         (get same_slot_key entries.now (slot_key slot number)) }
 {
     let (det, _) = *entries.get(&SlotKey { slot, number })?;
     Some(det)
+}
+
+/// Returns whether a slot is later than the last one that is kept, and of the same process.
+#[inline]
+fn is_later(last: Option<Slot>, slot: Slot) -> bool
+    ensures { result ≡ is_later last slot }
+{
+    let Some(last) = last else {
+        return false;
+    };
+    slot.dest == last.dest && last.rsn < slot.rsn
+}
+
+/// Returns the last slot to keep once an entry has this one.
+#[inline]
+fn last_with(last: Option<Slot>, slot: Slot) -> Option<Slot>
+    ensures kept { (each : Slot) → is_later last each ≡ false → is_later result each ≡ false }
+    ensures new { is_later result slot ≡ false }
+{
+    if is_later(last, slot) { Some(slot) } else { last }
+}
+
+/// Returns the last slot of a process among these keys.
+fn last_slot(keys: &[SlotKey], dest: Pid) -> Option<Slot>
+    ensures { All (λ key. is_later result key.slot ≡ false) keys.now }
+{
+    let mut last = Some(Slot { dest, rsn: 0 });
+    for key in keys {
+        last = last_with(last, key.slot);
+    }
+    last
 }
 
 /// Returns the lesser of two determinants, or the only one.
@@ -345,7 +414,7 @@ fn lesser_det(found: Option<Det>, other: Option<Det>) -> Option<Det>
 }
 
 /// Returns the least determinant of a slot. Each entry's number is less than `numbers`.
-fn least_of_slot(entries: &Entries, numbers: u32, slot: Slot) -> Option<Det>
+fn least_of_slot(entries: &Entries, numbers: u64, slot: Slot) -> Option<Det>
     requires { All (HasSlotKey numbers) entries.now.entries }
     ensures { IsLeastOfSlot slot.dest slot.rsn (keys_of (values entries.now)) result }
 {
@@ -396,7 +465,7 @@ fn insert_unless_used(
 }
 
 /// Returns the least number that no entry of this slot has.
-fn unused_number(entries: &Entries, numbers: u32, slot: Slot) -> u32
+fn unused_number(entries: &Entries, numbers: u64, slot: Slot) -> u64
     requires { All (HasSlotKey numbers) entries.now.entries }
     ensures within { result ≤ numbers }
     ensures few { result ≤ length entries.now.entries }

@@ -9,11 +9,10 @@ invariant_of-self-2 c =
     let old = log_of c.self.inside.entries.entries in
     let new = log_of c.learn.new.entries.entries in
     let dets = c.args.det ∷ [] in
-    let kept = c.if-is_none.self-inside.cached_batch in
-    let as_before : kept ≡ c.self.inside.cached_batch = grind arith in
+    let kept = c.self.inside.cached_batch in
     let same : new ≡ after_learn old c.args.det c.args.news = grind arith in
     record {
       ascending = λ h. absurd (true≢false (sym h));
       carries = c.note_change.ensures new []
-          (subst (λ log. CacheIsRightBut dets kept log) (sym same) (right_elsewhere kept dets old (after_learn old c.args.det c.args.news) (learned_elsewhere old c.args.det c.args.news) (subst (λ k. CacheIsRight k old) (sym as_before) c.self.invariant.carries)));
+          (subst (λ log. CacheIsRightBut dets kept log) (sym same) (right_elsewhere kept dets old (after_learn old c.args.det c.args.news) (learned_elsewhere old c.args.det c.args.news) c.self.invariant.carries));
     }

@@ -10,7 +10,7 @@ use Rattle.causal_name.specs.declared.Det.{Det}
 use Rattle.causal_name.specs.Names.{same_det}
 use Rattle.causal_log.specs.declared.known.Known.{Known}
 use Rattle.causal_log.specs.Logs.{log_of}
-use Rattle.causal_log.specs.Inside.Tables.{HasSlotKey, slot_key}
+use Rattle.causal_log.specs.Inside.Tables.{HasSlotKey, IsNotLater, slot_key}
 use Rattle.causal_log.proofs.EntryLemmas.{det_equiv, get_log, inserted}
 use Rattle.causal_log.proofs.SlotKeyLemmas.{values_push}
 use Rattle.causal_log.proofs.TableLemmas.{keys_push, lookup_push}
@@ -35,6 +35,11 @@ invariant_of-self c =
           (All-push (HasSlotKey most) es (key, e)
           (All-weaker (HasSlotKey c.self.inside.numbers) (HasSlotKey most) (λ x so. record { slot = so.slot; number = omega (arith, so.number, c.max-self-inside.ensures) }) es c.self.invariant.keyed)
           (record { slot = c.slot-slot.ensures; number = omega (arith, c.max-self-inside.ensures) }));
+      ended =
+          subst (All (IsNotLater c.last_with-self-inside.result)) (sym added)
+          (All-push (IsNotLater c.last_with-self-inside.result) es (key, e)
+          (All-weaker (IsNotLater c.self.inside.last) (IsNotLater c.last_with-self-inside.result) (λ x so. c.last_with-self-inside.ensures.kept x.0.slot so) es c.self.invariant.ended)
+          c.last_with-self-inside.ensures.new);
       few = omega (arith, ap length added, length_push es (key, e), room, c.requires.room, c.self.invariant.few);
       numbers_fit = omega (arith, c.max-self-inside.ensures, c.unused_number-number.ensures.few, room, c.requires.room, c.self.invariant.few, c.self.invariant.numbers_fit);
       entries_fit = omega (arith, room, c.requires.room, c.self.invariant.entries_fit, c.insert_new.ensures.room);

@@ -9,7 +9,7 @@ use Rattle.causal_name.specs.declared.Det.{Det}
 use Rattle.causal_name.specs.Names.{same_det}
 use Rattle.causal_log.specs.declared.known.Known.{Known}
 use Rattle.causal_log.specs.Logs.{log_of}
-use Rattle.causal_log.specs.Inside.Tables.{HasSlotKey, slot_key}
+use Rattle.causal_log.specs.Inside.Tables.{HasSlotKey, IsNotLater, slot_key}
 use Rattle.causal_log.proofs.EntryLemmas.{det_equiv, get_log, inserted}
 use Rattle.causal_log.proofs.SlotKeyLemmas.{values_push, absent_if_first}
 use Rattle.causal_log.proofs.TableLemmas.{keys_push, lookup_push, lookup_missing}
@@ -41,6 +41,11 @@ invariant_of-self-2 c =
           (All-push (HasSlotKey 1) es (key, e)
           (All-weaker (HasSlotKey c.self.inside.numbers) (HasSlotKey 1) (λ x so. record { slot = so.slot; number = omega (arith, so.number, few) }) es c.self.invariant.keyed)
           (record { slot = c.slot-slot.ensures; number = omega arith }));
+      ended =
+          subst (All (IsNotLater c.last_with-self-inside.result)) (sym added)
+          (All-push (IsNotLater c.last_with-self-inside.result) es (key, e)
+          (All-weaker (IsNotLater c.self.inside.last) (IsNotLater c.last_with-self-inside.result) (λ x so. c.last_with-self-inside.ensures.kept x.0.slot so) es c.self.invariant.ended)
+          c.last_with-self-inside.ensures.new);
       few = omega (arith, ap length added, length_push es (key, e), c.if-self-eq0.false, c.self.invariant.few);
       numbers_fit = omega (arith, c.if-self-eq0.false, c.self.invariant.few);
       entries_fit = omega (arith, c.if-self-eq0.false, c.self.invariant.entries_fit, c.in_ok-place.ensures.room);

@@ -5,7 +5,7 @@ use Rattle.std.specs.List.{IsDistinct}
 use Rattle.std.specs.Map.{keys_of, values_of}
 use Rattle.indexmap.proofs.CallerLemmas.{filter-RetainsPairs}
 use Rattle.causal_name.specs.Names.{same_det}
-use Rattle.causal_log.specs.Inside.Tables.{HasSlotKey}
+use Rattle.causal_log.specs.Inside.Tables.{HasSlotKey, IsNotLater}
 use Rattle.causal_log.proofs.SlotKeyLemmas.{values_filter}
 use Rattle.causal_log.proofs.table.Table.drop_stable.Goals as goal
 use Rattle.causal_log.proofs.table.Table.drop_stable.Goals.{After-retain}
@@ -24,6 +24,7 @@ invariant_of-self c =
     record {
       distinct = subst (λ vs. IsDistinct same_det (keys_of vs)) (sym (left_values w)) (IsDistinct-keys_filter same_det (λ e. not e.1.stable) (values_of es) c.self.invariant.distinct);
       keyed = subst (All P) (sym (left w)) (All-filter (λ e. not e.1.1.stable) P es c.self.invariant.keyed);
+      ended = subst (All (IsNotLater c.self.inside.last)) (sym (left w)) (All-filter (λ e. not e.1.1.stable) (IsNotLater c.self.inside.last) es c.self.invariant.ended);
       few = omega (arith, c.retain.ensures.bound, c.self.invariant.few);
       numbers_fit = c.self.invariant.numbers_fit;
       entries_fit = omega (arith, c.retain.ensures.room.0, c.self.invariant.entries_fit);

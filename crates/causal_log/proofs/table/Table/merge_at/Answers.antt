@@ -8,7 +8,7 @@ use Rattle.causal_log.specs.declared.known.Known.{Known}
 use Rattle.causal_log.specs.Knowledge.{union_with}
 use Rattle.causal_log.specs.Logs.{log_of}
 use Rattle.causal_log.proofs.EntryLemmas.{inserted}
-use Rattle.causal_log.proofs.SlotKeyLemmas.{keyed_set, values_set, length_set}
+use Rattle.causal_log.proofs.SlotKeyLemmas.{keyed_set, not_later_set, values_set, length_set}
 use Rattle.causal_log.proofs.TableLemmas.{lookup_set, keys_set}
 use Rattle.causal_log.proofs.table.Table.merge_at.Goals as goal
 
@@ -21,6 +21,7 @@ invariant_of-self c =
     record {
       distinct = subst (IsDistinct same_det) (sym keys) c.self.invariant.distinct;
       keyed = keyed_set c.self.inside.numbers es c.args.place x c.union_with-entry.result c.index_mut-entry.ensures.value c.self.invariant.keyed;
+      ended = not_later_set c.self.inside.last es c.args.place w c.self.invariant.ended;
       few = omega (arith, length_set es c.args.place w, c.self.invariant.few);
       numbers_fit = c.self.invariant.numbers_fit;
       entries_fit = c.self.invariant.entries_fit;

@@ -2,7 +2,7 @@ use Rattle.std.proofs.Common.{◌∙◌, ap, rules, arith}
 use Rattle.std.proofs.lemmas.List.Sorted.{All-permutation, IsPermutation-map, answers_always}
 use Rattle.std.specs.Map.{values_of}
 use Rattle.causal_log.specs.Logs.{log_of}
-use Rattle.causal_log.specs.Inside.Tables.{HasSlotKey}
+use Rattle.causal_log.specs.Inside.Tables.{HasSlotKey, IsNotLater}
 use Rattle.causal_log.proofs.EntryLemmas.{moved_log, moved_ascend, still_distinct}
 use Rattle.causal_log.proofs.SlotKeyLemmas.{values_sorted}
 use Rattle.causal_log.proofs.table.Table.sort.Goals as goal
@@ -15,6 +15,7 @@ invariant_of-self-2 c =
     record {
       distinct = still_distinct (values_of es) (values_of fs) (IsPermutation-map (λ e. e.1) es fs moved) c.self.invariant.distinct;
       keyed = All-permutation (HasSlotKey c.self.inside.numbers) es fs moved c.self.invariant.keyed;
+      ended = All-permutation (IsNotLater c.self.inside.last) es fs moved c.self.invariant.ended;
       few = omega (arith, c.sort_by_key.ensures.reordered.1, c.self.invariant.few);
       numbers_fit = c.self.invariant.numbers_fit;
       entries_fit = omega (arith, c.sort_by_key.ensures.room.0, c.self.invariant.entries_fit);
