@@ -33,7 +33,7 @@ SHAPES = {
     "hold its determinant",
     "buried": "one process delivers 32 messages in another order after each of its first restarts and in one order after all others; what it "
     "delivered first is then listed again and again",
-    "overlapping": "64 processes, of which one or two are always down, by turns; process 0 delivers its own messages and alone holds each",
+    "overlapping": "64 processes, of which one or two are always down, by turns; process 0 delivers messages of another one and alone holds each",
 }
 ONE_LINE = {
     "objects": "one line of objects with an empty name",
@@ -279,17 +279,20 @@ def buried(part, rng):
 
 
 def overlapping(part, rng):
-    """Each of the others crashes before the last one to crash restarts, so that one or two are down from the first instant on."""
-    n, restarts = 64, max(1, MAX_RESTARTS // part)
-    entries, down, ssn = [("send", 0, 63, 0), ("deliver", 63, 0, 0, [(0, 0, 63, 0)], (0, 0, 63, 0)), ("crash", 1)], 1, 1
+    """Each of the others crashes before the last one to crash restarts, so that one or two are down from the third instant on. Process 0
+    sends once, and what it delivers from then on has no effect elsewhere."""
+    n, restarts, ssn = 64, max(1, MAX_RESTARTS // part), 0
+    first = (0, 0, 62, 0)
+    entries, down = [("send", 0, 62, 0), ("deliver", 62, 0, 0, [first], first), ("crash", 1)], 1
     each = (MAX_ENTRIES // part - len(entries) - 2 * restarts) // (2 * restarts)
     for _ in range(restarts):
         for ssn in range(ssn, ssn + each):
-            own = (0, ssn, 0, ssn - 1)
-            entries += [("send", 0, 0, ssn), ("deliver", 0, len(entries), ssn - 1, [own], own)]
+            det = (63, ssn, 0, ssn)
+            entries += [("send", 63, 0, ssn), ("deliver", 0, len(entries), ssn, [det], det)]
         ssn += 1
-        entries += [("crash", down % (n - 1) + 1), ("restart", down, [])]
-        down = down % (n - 1) + 1
+        after = down % (n - 2) + 1
+        entries += [("crash", after), ("restart", down, [])]
+        down = after
     return n, entries
 
 
