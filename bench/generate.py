@@ -213,8 +213,8 @@ def run_restarts(run, rng, restarts):
         p = rng.randrange(run.n)
         return p, (p + rng.randrange(1, run.n)) % run.n
 
-    # each process replays about all that it has done, some three times, so not half of the entries are its own
-    apart = run.limit / 2.7 / (restarts + 1)
+    # each process replays about all that it has done, some three times, so not half of the entries are its own; for more restarts fewer are
+    apart = run.limit / max(2.7, 1.08 * (1 + restarts / (2 * run.n))) / (restarts + 1)
     done = 0
     while run.room() > spare(run):
         if done < restarts and run.own >= (done + 1) * apart:

@@ -31,6 +31,9 @@ SHAPES = {
     "them and lists all: for as many faults as there are processes all are open to the end",
     "reaching": "64 processes with 192 crashes and restarts, and one message on its way: each delivery soon reaches all processes, and two "
     "hold its determinant",
+    "buried": "one process delivers 32 messages in another order after each of its first restarts and in one order after all others; what it "
+    "delivered first is then listed again and again",
+    "overlapping": "64 processes, of which one or two are always down, by turns; process 0 delivers messages of another one and alone holds each",
 }
 ONE_LINE = {
     "objects": "one line of objects with an empty name",
@@ -254,6 +257,45 @@ def reaching(part, rng):
     return n, entries
 
 
+def buried(part, rng):
+    """The newest delivery of each determinant that is listed at the end is behind those of nearly all lanes."""
+    lanes, count, left = max(1, MAX_RESTARTS // part), 32, MAX_LISTED // part
+    entries, early = [("send", 0, 1, i) for i in range(count)], set()
+    for lane in range(lanes + 1):
+        if lane:
+            entries += [("crash", 1), ("restart", 1, [])]
+        turn = lane if lane < min(count, lanes // 2) else 0
+        for rsn in range(count):
+            det = (0, (rsn + turn) % count, 1, rsn)
+            entries.append(("deliver", 1, det[1], rsn, [det], det))
+            if turn:
+                early.add(det)
+    left -= count * (lanes + 1)
+    rounds = min(left // (len(early) + 1), (MAX_ENTRIES // part - len(entries)) // 2)
+    for i in range(rounds):
+        own = (0, count + i, 0, i)
+        entries += [("send", 0, 0, count + i), ("deliver", 0, len(entries), i, sorted([*early, own]), own)]
+    return 2, entries
+
+
+def overlapping(part, rng):
+    """Each of the others crashes before the last one to crash restarts, so that one or two are down from the third instant on. Process 0
+    sends once, and what it delivers from then on has no effect elsewhere."""
+    n, restarts, ssn = 64, max(1, MAX_RESTARTS // part), 0
+    first = (0, 0, 62, 0)
+    entries, down = [("send", 0, 62, 0), ("deliver", 62, 0, 0, [first], first), ("crash", 1)], 1
+    each = (MAX_ENTRIES // part - len(entries) - 2 * restarts) // (2 * restarts)
+    for _ in range(restarts):
+        for ssn in range(ssn, ssn + each):
+            det = (63, ssn, 0, ssn)
+            entries += [("send", 63, 0, ssn), ("deliver", 0, len(entries), ssn, [det], det)]
+        ssn += 1
+        after = down % (n - 2) + 1
+        entries += [("crash", after), ("restart", down, [])]
+        down = after
+    return n, entries
+
+
 MAKERS = {
     "colliding": lambda part, rng: self_deliveries(part, rng, True),
     "scattered": lambda part, rng: self_deliveries(part, rng, False),
@@ -267,16 +309,20 @@ MAKERS = {
     "forgotten": forgotten,
     "everywhere": everywhere,
     "reaching": reaching,
+    "buried": buried,
+    "overlapping": overlapping,
 }
 
 
 # For so many faults and more an early instant is unsafe: each of these runs logs for fewer.
 EARLY_FROM = {"down": 3, "shared": 2, "forgotten": 2, "reaching": 2}
+# For so many faults an early instant has too many down.
+EXCEEDED_FOR = {"overlapping": 1}
 
 
 def answer_of(shape, f, n, entries):
     """What the auditor has to answer, and the status with which it ends."""
-    if f >= EARLY_FROM.get(shape, f + 1):
+    if f >= EARLY_FROM.get(shape, f + 1) or f == EXCEEDED_FOR.get(shape):
         return first_breach(n, entries, f), 1
     first = generate.deliveries_of(entries)[0]
     if shape == "orphaned":

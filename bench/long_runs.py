@@ -2,6 +2,7 @@
 """Makes runs of millions of entries, written as they are simulated, and measures what their audit takes for each entry.
 
     long_runs.py [--program PATH] [--entries 65536,1048576,4194304] [--faults 1,2] [--shapes ring,gossip] [--workers 1]
+                 [--restarts 192]
 
 It prints a row for each run. It ends with status 1 where an answer is not the one that the run was made for.
 """
@@ -103,10 +104,11 @@ def run_acquainted(run):
     return run_pairs(run)
 
 
-def simulate(shape, f, entries, file):
+def simulate(shape, f, entries, file, most=generate.MAX_RESTARTS):
     """Writes a run of so many entries that is safe for f, and gives what is known of it."""
     n = generate.processes_of(shape)
-    restarts = min(generate.MAX_RESTARTS, entries // 341) if shape == "restarts" else 0
+    share = 341 if most == generate.MAX_RESTARTS else 256  # entries for each restart, and more
+    restarts = min(most, entries // share) if shape == "restarts" else 0
     lines = Lines(file)
     file.write('["trace",%d,%d]\n' % (2 if n > 64 else 1, n))
     run = LongRun(n, 1 if shape in PAIRS else f, entries, lines, restarts)
@@ -132,32 +134,33 @@ def about(lines):
     return {"entries": len(lines), "deliveries": lines.deliveries, "listed": lines.listed}
 
 
-def check(shape, f):
+def check(shape, f, most):
     """A short run of the same make is judged by the plain reader."""
     file = io.StringIO()
-    known = about(simulate(shape, f, SHORT, file))
+    known = about(simulate(shape, f, SHORT, file, most))
     said = answered(file.getvalue(), f)[1]
     if said != answer_of(f, known):
         sys.exit(f"{shape} f={f}: the plain reader says {said}")
 
 
-def made(shape, f, entries):
+def made(shape, f, entries, most):
     """The file of a run, and what is known of it. What an earlier call has made is taken as it is."""
-    path = os.path.join(INPUTS, f"long-{shape}-{f}-{entries}.jsonl")
+    name = f"{shape}{most}" if shape == "restarts" and most != generate.MAX_RESTARTS else shape
+    path = os.path.join(INPUTS, f"long-{name}-{f}-{entries}.jsonl")
     if not os.path.exists(path + ".about"):
         with open(path, "w", buffering=1 << 20) as file:
-            known = about(simulate(shape, f, entries, file))
+            known = about(simulate(shape, f, entries, file, most))
         with open(path + ".about", "w") as file:
             json.dump(known, file)
     with open(path + ".about") as file:
         return path, json.load(file)
 
 
-def rows(program, workers, shape, f, sizes):
+def rows(program, workers, shape, f, sizes, most):
     """Beside the time for each entry stands how many times it is that of the first size; of the memory, what each entry takes."""
     first = None
     for entries in sizes:
-        path, known = made(shape, f, entries)
+        path, known = made(shape, f, entries, most)
         command = [program, "audit", "--faults", str(f), "--workers", str(workers), "--entries", str(entries)]
         found = timed.measure(command, path)
         if found.line != answer_of(f, known):
@@ -178,6 +181,7 @@ def main():
     words.add_argument("--faults", default="1,2")
     words.add_argument("--shapes", default=",".join(SHAPES))
     words.add_argument("--workers", type=int, default=1)
+    words.add_argument("--restarts", type=int, default=generate.MAX_RESTARTS, help="at most, of `restarts`, and one for 256 entries")
     words.add_argument("--only-make", action="store_true", help="make the files, and measure nothing")
     given = words.parse_args()
     timed.LIMIT = 3600.0
@@ -187,12 +191,12 @@ def main():
     if given.only_make:
         for shape, f in asked:
             for entries in sizes:
-                made(shape, f, entries)
+                made(shape, f, entries, given.restarts)
         return
     print("| run | f | entries | listed | s | us an entry | times | bytes an entry |\n|---|---|---|---|---|---|---|---|")
     for shape, f in asked:
-        check(shape, f)
-        rows(given.program, given.workers, shape, f, sizes)
+        check(shape, f, given.restarts)
+        rows(given.program, given.workers, shape, f, sizes, given.restarts)
 
 
 if __name__ == "__main__":

@@ -2,3 +2,4 @@ pub mod LookSteps
 pub mod CoverStays
 pub mod LookFindings
 pub mod SurveyAsks
+pub mod Watched

@@ -218,8 +218,8 @@ impl Part<'_> {
     /// Returns the earliest breach of these deliveries, by instant and then by position, if it comes by the instant up
     /// to which the run is prepared; `None` if none has an orphan by then.
     ///
-    /// Memory, freed at the end: 4 bytes for each entry of its longest walk, 32 for each entry that mentions a
-    /// determinant of a group, at most 3.7 MB for the sends, and 32 kB.
+    /// Memory, freed at the end: 4 bytes for each entry of its longest walk, 32 for each that mentions a determinant of
+    /// a group, and for each send that other deliveries of the group reach than the send before it, and 32 kB.
     ///
     /// # Errors
     /// `NoMemory` if allocation fails.

@@ -106,9 +106,8 @@ impl<'a> SafetyScan<'a> {
     }
 
     /// Returns the next interval and advances; `None` if the scan is complete. An interval ends at the next entry that
-    /// mentions the determinant or restarts a process that was down or held it. Until then those processes remain down
-    /// or holders. The scan is complete once the determinant is stable, or held by too many processes and none is
-    /// released any more.
+    /// mentions the determinant or restarts a watched process. Until then these processes remain down or holders. The
+    /// scan is complete once the determinant is stable, or held by too many processes and none is released any more.
     pub fn next(&self, scan_position: &mut ScanPosition<'a>) -> Option<SafetyInterval>
         requires { scan_position.old.t ≤ self.now.end → IsScanPosition self.now scan_position.old }
         ensures formed { IsWellFormed self.now.run.trace.now.recording }
@@ -126,10 +125,12 @@ impl<'a> SafetyScan<'a> {
         let first = scan_position.t;
         let safety = scan_position.safety;
         let mention = scan_position.ahead.next(first, self.end);
-        let gone = scan_position.down_and_holders.down_or_holding();
+        let watched = scan_position
+            .down_and_holders
+            .watched(safety, self.limit, self.det.dest.0, self.reached);
         let last = scan_position
             .transitions
-            .next_restart(self.run.trace, gone, first, mention);
+            .next_restart(self.run.trace, watched, first, mention);
         let stretch = SafetyInterval {
             first,
             last,

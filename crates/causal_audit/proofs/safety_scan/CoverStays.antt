@@ -1,7 +1,7 @@
 -- Until when a process remains down or a holder of a determinant, and the determinant's safety until then.
 use Rattle.causal_audit.proofs.Common.{ℕ, ◌≡◌, ◌+◌, ◌<◌, ◌≤◌, inl, inr, Bool, true, false, List, [], ◌∷◌, length, refl, sym, ap, subst, ◌∙◌, arith, Some, None, ◌||◌, ◌&&◌, ◌==◌, not, ◌↔◌, Contains, cases_lt, false≢true, ne_eqb, eqb-true, or_cases, and_parts, or_right, eq-eqb, Det, same_det, count_below, count_below-within, members_counted, Entry, Send, Deliver, Stable, Crash, Restart, Forget, instant, is_down, is_stable, logs, list_has, entry_at, instant_length, det_then, accepted_then, nat_cmp_total, nat_cmp, FinSet, contains, difference, contains-difference, union, len, contains-union, Pid, AreLegalEntries, delivers_up, eqb_tells, nat_tests}
 use Rattle.causal_audit.specs.Laws.{down_or_holding}
-use Rattle.causal_audit.specs.Inside.SafetyScan.Scans.{IsAtRiskAt, RulesOut, IsSafetyOf}
+use Rattle.causal_audit.specs.Inside.SafetyScan.Scans.{AreWatched, IsAtRiskAt, RulesOut, IsSafetyOf}
 use Rattle.causal_audit.specs.NoRelease.{may_release, NoneReleasedFrom, RemainsSafe, OrphansEnd}
 use Rattle.causal_audit.proofs.Lemmas.OrphansByCounts.{exposed}
 use Rattle.causal_audit.proofs.NoOrphanSoFar.{not_yet}
@@ -173,17 +173,30 @@ module _ (n : ℕ) (past : List Entry) (d : Det) (formed : AreLegalEntries n pas
         member = λ q low. gone_shown q;
       })
 
+-- no determinant is at risk while processes that make it safe are down or hold it
+kept_by : (n most : ℕ) (past : List Entry) → AreLegalEntries n past → (d : Det) (u : ℕ) (reached members : FinSet nat_cmp) → HasReached past d.dest.0 reached → IsSafetyOf Safe most d.dest.0 reached members
+    → ((p : ℕ) → contains members p ≡ true → down_or_holding (instant past u) d p ≡ true) → IsAtRiskAt n most past d u → ⊥
+kept_by n most past formed d u reached members has_reached (inl many) stay thin =
+    let legal = accepted_then n past u formed in
+    let counted : len members ≡ count_below n (contains members) =
+    members_counted n members (contains members) (record {
+      process = λ q h.
+          elim (or_cases (is_down (instant past u) q) (logs (instant past u) q d) (stay q h)) [
+            | inl fell ↦ down_inside n (instant past u) q legal fell
+            | inr held ↦ logs_inside n (instant past u) q d legal held
+          ];
+      member = λ q low. refl;
+    }) in
+    omega (arith, thin.few, many, counted, count_below-within n (contains members) (down_or_holding (instant past u) d) (λ p low h. stay p h))
+kept_by n most past formed d u reached members has_reached (inr all) stay thin =
+    let q = process_at past thin.left_over.1 in
+    false≢true (sym thin.left_over.4 ∙ stay q (is_subset-contains nat_cmp_total reached members all q (has_reached thin.left_over.0 thin.left_over.1 thin.left_over.2 thin.left_over.3)))
+
 -- a safe determinant is not at risk while all of these processes remain down or holders
 pub kept_still : (n most : ℕ) (past : List Entry) → AreLegalEntries n past → (d : Det) (t u : ℕ) (reached down holders : FinSet nat_cmp) → HasReached past d.dest.0 reached → HasExactly down (λ p. is_down (instant past t) p)
     → HasExactly holders (λ p. logs (instant past t) p d) → IsSafetyOf Safe most d.dest.0 reached (union down holders) → ((p : ℕ) → down_or_holding (instant past t) d p ≡ true → down_or_holding (instant past u) d p ≡ true) → IsAtRiskAt n most past d u → ⊥
-kept_still n most past formed d t u reached down holders list_has downs holds (inl many) stay thin =
-    grind (arith, thin.few, many, gone_many n (instant past t) d (accepted_then n past t formed) down holders downs holds, count_below-within)
-kept_still n most past formed d t u reached down holders list_has downs holds (inr all) stay thin =
-    grind (
-      arith,
-      is_subset-contains nat_cmp_total reached (union down holders) all (process_at past thin.left_over.1) (list_has thin.left_over.0 thin.left_over.1 thin.left_over.2 thin.left_over.3),
-      gone_shown n (instant past t) d (accepted_then n past t formed) down holders downs holds (process_at past thin.left_over.1),
-    )
+kept_still n most past formed d t u reached down holders has_reached downs holds keep stay =
+    kept_by n most past formed d u reached (union down holders) has_reached keep (λ p h. stay p (sym (gone_shown n (instant past t) d (accepted_then n past t formed) down holders downs holds p) ∙ h))
 
 -- a change at or before the next mention that is not this mention precedes it
 pub beyond : (change mention : ℕ) → change ≤ mention → (mention == change) ≡ false → change < mention
@@ -214,10 +227,11 @@ mentioned_next past d mentions mentioned only t next none v above low found e th
       | inr apart ↦ apart.0 ∙ sym (unmentioned_at past d mentions mentioned t next none v above (beyond v next low apart.0) e there)
     ]
 
--- ---- until an entry mentions it or restarts one of them
+-- ---- until an entry mentions it or restarts a watched process
 
 module _ (n : ℕ) (past : List Entry) (formed : AreLegalEntries n past) (d : Det) (t next : ℕ) (within : next ≤ length past) (unmentioned : MentionsNone past d t next) where
-  module _ (down holders : FinSet nat_cmp) (unrestarted : RestartsNone past (union down holders) t next) (downs : HasExactly down (λ p. is_down (instant past t) p)) (holds : HasExactly holders (λ p. logs (instant past t) p d)) where
+  module _ (most : ℕ) (s : DetSafety) (reached down holders watched : FinSet nat_cmp) (watches : AreWatched s most d.dest.0 reached down holders watched) (unrestarted : RestartsNone past watched t next) (downs : HasExactly down (λ p. is_down (instant past t) p))
+      (holds : HasExactly holders (λ p. logs (instant past t) p d)) where
     legal : (u : ℕ) → AreLegalEntries n (instant past u)
     legal u = accepted_then n past u formed
 
@@ -225,22 +239,25 @@ module _ (n : ℕ) (past : List Entry) (formed : AreLegalEntries n past) (d : De
     pub holds_until : (u : ℕ) → t ≤ u → u ≤ next → (fell : FinSet nat_cmp) → HasExactly fell (λ p. is_down (instant past u) p) → HasExactly (difference holders fell) (λ p. logs (instant past u) p d)
     holds_until u up low fell falls p =
         difference_shown holders fell p (logs (instant past t) p d) (is_down (instant past u) p) (holds p) (falls p)
-        ∙ sym (holders_stay n past d (union down holders) t u p formed up (omega (arith, low, within))
+        ∙ sym (holders_stay n past d watched t u p formed up (omega (arith, low, within))
         (λ v e above below. unmentioned v e above (omega (arith, below, low))) (λ v e above below. unrestarted v e above (omega (arith, below, low)))
-        (λ held. gone_shown n (instant past t) d (legal t) down holders downs holds p ∙ or_right (is_down (instant past t) p) (logs (instant past t) p d) held))
+        (λ held. watches.holding p (holds p ∙ held)))
 
-    -- and each of them is still down or holds it
-    gone_until : (u : ℕ) → t ≤ u → u ≤ next → (p : ℕ) → down_or_holding (instant past t) d p ≡ true → down_or_holding (instant past u) d p ≡ true
-    gone_until u up low p here =
-        gone_stay past d (union down holders) t u p up (omega (arith, low, within))
+    -- and each watched process is still down or holds it
+    gone_until : (u : ℕ) → t ≤ u → u ≤ next → (p : ℕ) → contains watched p ≡ true → down_or_holding (instant past u) d p ≡ true
+    gone_until u up low p inside =
+        gone_stay past d watched t u p up (omega (arith, low, within))
         (λ v e above below. unmentioned v e above (omega (arith, below, low))) (λ v e above below. unrestarted v e above (omega (arith, below, low)))
-        (gone_shown n (instant past t) d (legal t) down holders downs holds p ∙ here) here
+        inside (sym (gone_shown n (instant past t) d (legal t) down holders downs holds p) ∙ watches.gone p inside)
+
+    stands_from : (r : DetSafety) → IsSafetyOf r most d.dest.0 reached watched → HasReached past d.dest.0 reached → (u : ℕ) → t ≤ u → u ≤ next → RulesOut r n most past d u
+    stands_from Safe keep has_reached u up low = kept_by n most past formed d u reached watched has_reached keep (gone_until u up low)
+    stands_from AtRisk here has_reached u up low = λ without_receiver. false≢true (sym without_receiver.receiver ∙ gone_until u up low d.dest.0 here)
+    stands_from AtRiskWithoutReceiver here has_reached u up low = tt
 
     -- so its safety is unchanged
-    pub stands_until : (most : ℕ) (s : DetSafety) (reached : FinSet nat_cmp) → HasReached past d.dest.0 reached → IsSafetyOf s most d.dest.0 reached (union down holders) → (u : ℕ) → t ≤ u → u ≤ next → RulesOut s n most past d u
-    stands_until most Safe reached list_has keep u up low = kept_still n most past formed d t u reached down holders list_has downs holds keep (gone_until u up low)
-    stands_until most AtRisk reached list_has here u up low = λ without_receiver. false≢true (sym without_receiver.receiver ∙ gone_until u up low d.dest.0 (sym (gone_shown n (instant past t) d (legal t) down holders downs holds d.dest.0) ∙ here))
-    stands_until most AtRiskWithoutReceiver reached list_has here u up low = tt
+    pub stands_until : HasReached past d.dest.0 reached → (u : ℕ) → t ≤ u → u ≤ next → RulesOut s n most past d u
+    stands_until = stands_from s watches.stands
 
 -- if no mention is left, no entry mentions it
 pub none_mention : (past : List Entry) (d : Det) (mentions : List ℕ) → HasMentions past d mentions → (t next last : ℕ) → next ≤ last → HasNoneUntil mentions t last → MentionsNone past d t next

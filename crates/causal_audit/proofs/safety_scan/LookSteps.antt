@@ -9,7 +9,7 @@ use Rattle.causal_audit.specs.declared.safety_scan.det_safety.SafetyInterval.{Sa
 use Rattle.causal_audit.specs.declared.index.transitions.TransitionCursor.{TransitionCursor}
 use Rattle.causal_audit.specs.Inside.PositionLists.{HasNoneUntil, IsCursor}
 use Rattle.causal_audit.specs.Inside.Index.RunIndexes.{IsTransitionIndex}
-use Rattle.causal_audit.specs.Inside.SafetyScan.Scans.{IsIntervalPassed, IsScanPosition, IsAtRiskAt, IsSafetyOf}
+use Rattle.causal_audit.specs.Inside.SafetyScan.Scans.{AreWatched, IsIntervalPassed, IsScanPosition, IsAtRiskAt, IsSafetyOf, RulesOut}
 use Rattle.causal_audit.specs.Inside.Index.TransitionCursors.{IsCursorAt}
 use Rattle.causal_audit.specs.Inside.DeliveryStates.{HasExactly, ShowsDownAfter, ShowsHoldersAfter}
 use Rattle.causal_audit.specs.Inside.SafetyScan.Persistence.{MentionsNone, RestartsNone}
@@ -19,31 +19,34 @@ use Rattle.causal_audit.proofs.index.Cursors.{cursor_later}
 use Rattle.causal_audit.proofs.Steps.{entry_read, entry_then, next_state}
 use Rattle.causal_audit.proofs.index.DownAfterTurns.{passed_down}
 
--- up to the next change no entry mentions the determinant or restarts a process that was down or held it
-pub record IsChange (look : SafetyScan) (scan_position : ScanPosition) (mention change : ℕ) : Type 0 where
+-- up to the next change no entry mentions the determinant or restarts a watched process
+pub record IsChange (look : SafetyScan) (scan_position : ScanPosition) (mention change : ℕ) (watched : FinSet nat_cmp) : Type 0 where
   pub formed : AreLegalEntries look.run.trace.now.recording.processes look.run.trace.now.recording.past
   pub at : IsScanPosition look scan_position
+  pub watches : AreWatched scan_position.safety look.limit look.det.dest.0 look.reached scan_position.down_and_holders.down scan_position.down_and_holders.holders watched
   pub up : scan_position.t ≤ change
   pub low : change ≤ mention
   pub early : mention ≤ look.end
   pub none : HasNoneUntil look.mentions.now scan_position.t mention
-  pub unrestarted : RestartsNone look.run.trace.now.recording.past (union scan_position.down_and_holders.down scan_position.down_and_holders.holders) scan_position.t change
+  pub unrestarted : RestartsNone look.run.trace.now.recording.past watched scan_position.t change
 
 -- the next change is the next mention, or a restart before it
-pub is_change : (look : SafetyScan) (scan_position : ScanPosition) (mention change : ℕ) (gone : FinSet nat_cmp) → AreLegalEntries look.run.trace.now.recording.processes look.run.trace.now.recording.past → IsScanPosition look scan_position → gone ≡ union scan_position.down_and_holders.down scan_position.down_and_holders.holders
-    → (scan_position.t ≤ mention) × (mention ≤ look.end) → (scan_position.t ≤ change) × (change ≤ mention) → ((list : List ℕ) → IsCursor list scan_position.t scan_position.ahead → HasNoneUntil list scan_position.t mention) → RestartsNone look.run.trace.now.recording.past gone scan_position.t change
-    → IsChange look scan_position mention change
-is_change look scan_position mention change gone formed at same early bounds none unrestarted = record {
+pub is_change : (look : SafetyScan) (scan_position : ScanPosition) (mention change : ℕ) (watched : FinSet nat_cmp) → AreLegalEntries look.run.trace.now.recording.processes look.run.trace.now.recording.past → IsScanPosition look scan_position
+    → AreWatched scan_position.safety look.limit look.det.dest.0 look.reached scan_position.down_and_holders.down scan_position.down_and_holders.holders watched
+    → (scan_position.t ≤ mention) × (mention ≤ look.end) → (scan_position.t ≤ change) × (change ≤ mention) → ((list : List ℕ) → IsCursor list scan_position.t scan_position.ahead → HasNoneUntil list scan_position.t mention) → RestartsNone look.run.trace.now.recording.past watched scan_position.t change
+    → IsChange look scan_position mention change watched
+is_change look scan_position mention change watched formed at watches early bounds none unrestarted = record {
   formed = formed;
   at = at;
+  watches = watches;
   up = bounds.0;
   low = bounds.1;
   early = early.1;
   none = none look.mentions.now at.mentions;
-  unrestarted = subst (λ s. RestartsNone look.run.trace.now.recording.past s scan_position.t change) same unrestarted;
+  unrestarted = unrestarted;
 }
 
-module _ (look : SafetyScan) (scan_position : ScanPosition) (mention change : ℕ) (is : IsChange look scan_position mention change) where
+module _ (look : SafetyScan) (scan_position : ScanPosition) (mention change : ℕ) (watched : FinSet nat_cmp) (is : IsChange look scan_position mention change watched) where
   abbrev pub past : List Entry
   past = look.run.trace.now.recording.past
 
@@ -58,15 +61,16 @@ module _ (look : SafetyScan) (scan_position : ScanPosition) (mention change : �
       none_mention (instant past look.end) look.det look.mentions.now look.mentioned scan_position.t change mention is.low is.none v e above below (entry_then past look.end v (omega (arith, below, is.low, is.early)) look.within ∙ there)
 
   -- the interval up to the next change is passed
-  pub passed_to : (s : SafetyInterval) (next : ℕ) → s.first ≡ scan_position.t → s.last ≡ change → IsSafetyOf s.safety look.limit look.det.dest.0 look.reached (union scan_position.down_and_holders.down scan_position.down_and_holders.holders) → change < next → next ≤ look.end + 1
+  pub passed_to : (s : SafetyInterval) (next : ℕ) → s.first ≡ scan_position.t → s.last ≡ change → s.safety ≡ scan_position.safety → change < next → next ≤ look.end + 1
       → ((u : ℕ) → change < u → u < next → IsAtRiskAt n look.limit past look.det u → ⊥) → IsIntervalPassed look scan_position.t next s
-  passed_to s next first last stands ahead bound after = record {
+  passed_to s next first last same ahead bound after = record {
     first = first;
     order = omega (arith, last, is.up);
     last = omega (arith, last, ahead);
     within = bound;
     stands = λ u above below.
-        stands_until n past is.formed look.det scan_position.t change within unmentioned scan_position.down_and_holders.down scan_position.down_and_holders.holders is.unrestarted is.at.down is.at.holders look.limit s.safety look.reached look.reaching stands u above (omega (arith, below, last));
+        subst (λ r. RulesOut r n look.limit past look.det u) (sym same)
+        (stands_until n past is.formed look.det scan_position.t change within unmentioned look.limit scan_position.safety look.reached scan_position.down_and_holders.down scan_position.down_and_holders.holders watched is.watches is.unrestarted is.at.down is.at.holders look.reaching u above (omega (arith, below, last)));
     after = λ u above below. after u (omega (arith, above, last)) below;
   }
 
@@ -110,7 +114,7 @@ module _ (look : SafetyScan) (scan_position : ScanPosition) (mention change : �
       holders_then =
           subst (λ x. HasExactly down_and_holders.holders (λ p. logs x p look.det)) (sym next)
           (holders_after (instant past change) told
-          (holds_until n past is.formed look.det scan_position.t change within unmentioned scan_position.down_and_holders.down scan_position.down_and_holders.holders is.unrestarted is.at.down is.at.holders change is.up (omega arith) fell fallen))
+          (holds_until n past is.formed look.det scan_position.t change within unmentioned look.limit scan_position.safety look.reached scan_position.down_and_holders.down scan_position.down_and_holders.holders watched is.watches is.unrestarted is.at.down is.at.holders change is.up (omega arith) fell fallen))
 
       -- the scan continues after it
       pub onward_stop : (new : ScanPosition) → new.t ≡ change + 1 → new.ahead ≡ ahead → new.transitions ≡ transitions → new.down_and_holders ≡ down_and_holders → IsSafetyOf new.safety look.limit look.det.dest.0 look.reached (union down_and_holders.down down_and_holders.holders) → IsScanPosition look new

@@ -4,10 +4,8 @@ ghost use Rattle.std.specs.FinSet as set;
 ghost use Rattle.causal_audit.specs.Inside.Group.Rows.{AreFirst, IsAdded, IsAt, IsSlotOf, max_slots, row};
 
 use crate::group::Places;
-use crate::group::walk::GROUP;
 use causal_holders::PROCESSES;
 use causal_name::NoMemory;
-use causal_trace::limits::MAX_RESTARTS;
 use std::alloc::Global;
 use std::marker::Model;
 
@@ -21,15 +19,12 @@ pub fn set_at(rows: &[Places], i: usize) -> Places
     }
 }
 
-/// The maximum number of slots that the sends of a walk take. Within a lane the set of a process only grows, and an
-/// entry shares the slot of its process's previous entry if their sets are equal.
-const SHARED: usize = (GROUP + 1) * (PROCESSES as usize + MAX_RESTARTS);
-
 /// A set for each entry of a walk. The model is the list of these sets.
 ///
 /// An entry takes 4 bytes, the number of its slot, and a slot takes 32 bytes. All empty sets of a new walk share one
-/// slot; an entry whose set got places has its own slot. So there is at most one slot for each entry that mentions a
-/// determinant, and 3.7 MB of slots for the sends.
+/// slot; an entry whose set got places has its own slot, and a send shares that of its process's previous send if their
+/// sets are equal. Within a lane the set of a process only grows. So there is at most one slot for each entry that
+/// mentions a determinant or sends, and 257 for the sends of each lane. Slots for sends are allocated as they are needed.
 #[derive(Drop)]
 pub struct Rows {
     slots: Vec<u32>,
@@ -164,8 +159,12 @@ impl Rows {
         ensures count { OnOk result (length self.new ≡ entries) }
         ensures empty { OnOk result ((i : ℕ) → row self.new i ≡ set.empty) }
     {
-        let more = marked.saturating_add(SHARED).min(entries as usize);
-        reset(&mut self.slots, &mut self.sets, entries, more)?;
+        reset(
+            &mut self.slots,
+            &mut self.sets,
+            entries,
+            marked.min(entries as usize),
+        )?;
         self.unshared = true;
         Ok(())
     }

@@ -115,8 +115,8 @@ impl WalkInput<'_> {
     /// There is one walk over the entries for each 256 deliveries, and no walk goes beyond a breach that was found. An
     /// entry takes O(determinants of the group that it newly mentions + deliveries that it may newly orphan) time. A
     /// crash or restart takes O(deliveries of the group) time, a restart or forgetting O(processes) more. Memory: 4
-    /// bytes for each entry of the longest walk, 32 for each entry that mentions a determinant of its group, and at
-    /// most 3.7 MB for the sends.
+    /// bytes for each entry of the longest walk, 32 for each that mentions a determinant of its group, and for each send
+    /// that other deliveries of the group reach than the send before it.
     ///
     /// # Errors
     /// `NoMemory` if allocation fails.

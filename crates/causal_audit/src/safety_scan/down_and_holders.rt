@@ -5,7 +5,7 @@ ghost use Rattle.causal_name.specs.declared.Det.{Det};
 ghost use Rattle.causal_trace.specs.Past.{list_has};
 ghost use Rattle.causal_audit.specs.Quiet.{mentioned_dets};
 ghost use Rattle.causal_audit.specs.Inside.DeliveryStates.{ShowsDownAfter, ShowsHoldersAfter};
-ghost use Rattle.causal_audit.specs.Inside.SafetyScan.Scans.{IsSafetyOf};
+ghost use Rattle.causal_audit.specs.Inside.SafetyScan.Scans.{AreWatched, IsSafetyOf};
 
 use crate::delivery_state::down_after;
 use crate::holders::holders_after;
@@ -41,6 +41,30 @@ impl DownAndHolders {
             DetSafety::AtRisk
         } else {
             DetSafety::AtRiskWithoutReceiver
+        }
+    }
+
+    /// Returns the processes to watch: the determinant's safety stands as long as none of them restarts, and no holder
+    /// is lost unseen. Processes that are down are among them only where the determinant is safe because of them.
+    #[tactic(auto, using(crate::proofs::safety_scan::Watched::watched_all, crate::proofs::safety_scan::Watched::watched_holders, crate::proofs::safety_scan::Watched::watched_receiver))]
+    pub fn watched(self, safety: DetSafety, most: u16, receiver: u8, reached: Holders) -> Holders
+        requires { IsSafetyOf safety most receiver reached (set.union self.down self.holders) }
+        ensures { AreWatched safety most receiver reached self.down self.holders result }
+    {
+        match safety {
+            DetSafety::Safe => {
+                if self.holders.len() > u32::from(most) || reached.is_subset(self.holders) {
+                    self.holders
+                } else {
+                    self.down_or_holding()
+                }
+            }
+            DetSafety::AtRisk => {
+                let mut members = self.holders;
+                members.insert(receiver);
+                members
+            }
+            DetSafety::AtRiskWithoutReceiver => self.holders,
         }
     }
 

@@ -39,6 +39,12 @@ IsSafetyOf Safe most receiver reached set = (most < len set) ⊎ (is_subset reac
 IsSafetyOf AtRisk most receiver reached set = contains set receiver ≡ true
 IsSafetyOf AtRiskWithoutReceiver most receiver reached set = Unit {0}
 
+-- these processes are down or hold d, the holders are among them, and d's safety follows from them alone
+pub record AreWatched (safety : DetSafety) (most receiver : ℕ) (reached down holders watched : FinSet nat_cmp) : Type 0 where
+  pub gone : (p : ℕ) → contains watched p ≡ true → contains (union down holders) p ≡ true
+  pub holding : (p : ℕ) → contains holders p ≡ true → contains watched p ≡ true
+  pub stands : IsSafetyOf safety most receiver reached watched
+
 -- a scan of d is at an instant: the mentions and transitions ahead, the down processes, the holders of d, and its
 -- safety
 pub record IsScanPosition (look : SafetyScan) (scan_position : ScanPosition) : Type 0 where
