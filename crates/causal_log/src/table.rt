@@ -386,7 +386,11 @@ fn last_with(last: Option<Slot>, slot: Slot) -> Option<Slot>
     ensures kept { (each : Slot) → is_later last each ≡ false → is_later result each ≡ false }
     ensures new { is_later result slot ≡ false }
 {
-    if is_later(last, slot) { Some(slot) } else { last }
+    if is_later(last, slot) {
+        Some(slot)
+    } else {
+        last
+    }
 }
 
 /// Returns the last slot of a process among these keys.

@@ -1,6 +1,6 @@
 use Rattle.std.proofs.Common.{◌≡◌, [], ◌∷◌, true≢false, sym, subst, arith}
 use Rattle.causal_log.specs.Logs.{log_of, after_learn}
-use Rattle.causal_log.specs.Inside.BatchCache.{CacheIsRight, CacheIsRightBut}
+use Rattle.causal_log.specs.Inside.BatchCache.{CacheIsRightBut}
 use Rattle.causal_log.proofs.ChangeLemmas.{right_elsewhere, learned_elsewhere}
 use Rattle.causal_log.proofs.log.Log.learn.Goals as goal
 
