@@ -60,10 +60,9 @@ pub fn answer_merge<R: Threads, I: Read, O: Write>(
     ensures most { ReadsAtMostRecordings limits.entries (I.remaining input.old)
         (I.remaining input.new) }
 {
-    let MergeAnswer {
-        merging,
-        text,
-    } = match answer_from(rt, alloc, input, limits, workers, mapping) {
+    let MergeAnswer { merging, text } = match answer_from(
+        rt, alloc, input, limits, workers, mapping,
+    ) {
         Ok(answer) => answer,
         Err(ended) => return empty_outcome(alloc, ended),
     };
