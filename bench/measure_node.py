@@ -1,6 +1,6 @@
 #!/usr/bin/env python3
 """Measures a delivery of a node by the C library (node_calls.c), beside the same in plain Rust (node_plain.rs), and one of a node that
-never sends. It prints a section of RESULTS.md, and puts it there if it is told to.
+never sends, and the memory of the names of received messages. It prints a section of RESULTS.md, and puts it there if it is told to.
 
     bench/measure_node.py [--library bindings/out] [--write]
 """
@@ -20,6 +20,8 @@ RESULTS = os.path.join(HERE, "RESULTS.md")
 NAME = "A node by the library"
 CARRIED = (0, 1, 7, 15)
 OPEN = (1_024, 4_096, 16_384, 32_768)
+APART = (1, 2, 8, 64)
+NAMES = 65_536
 RUNS = 5
 BODY = 100
 
@@ -50,11 +52,17 @@ def open_row(calls, count):
     return f"| {count:,} | {delivery:,} | {first / 1e6:.2f} | {pair / 1e6:.2f} |"
 
 
+def names_row(calls, apart):
+    each = subprocess.run([calls, "names", str(apart), str(NAMES)], capture_output=True, text=True, check=True).stdout.strip()
+    return f"| {apart} | {each} |"
+
+
 def section(library):
     with tempfile.TemporaryDirectory() as folder:
         calls, plain = built(library, folder)
         rows = [row(calls, plain, carried, folder) for carried in CARRIED]
         open_rows = [open_row(calls, count) for count in OPEN]
+        names_rows = [names_row(calls, apart) for apart in APART]
     facts = facts_of(library)
     return "\n".join([
         f"## {NAME}",
@@ -77,6 +85,13 @@ def section(library):
         "| open | delivery | first send | pair |",
         "|---|---|---|---|",
         *open_rows,
+        "",
+        f"A node that receives {NAMES:,} messages of one process and stores and forgets all: bytes of heap for each. *apart*: how far their",
+        "numbers are apart. 64 is the worst order; a list of the names, which is counted too, takes 8 to 16.",
+        "",
+        "| apart | bytes |",
+        "|---|---|",
+        *names_rows,
         "",
     ])
 

@@ -9,16 +9,22 @@
    open. Prints nanoseconds for each nixu_node_receive, for the first nixu_node_send after them, and for each pair of a receive and
    a send after that, whose message carries all.
 
-   node_calls open COUNT */
+   node_calls open COUNT
+
+   Or process 2 receives so many messages whose numbers are so far apart, and stores and forgets after each 64. Prints the bytes of
+   heap that it takes for each: what it keeps of a name.
+
+   node_calls names APART COUNT */
 #define _POSIX_C_SOURCE 200809L
 #include "nixu.h"
 
+#include <malloc.h>
 #include <stdio.h>
 #include <stdlib.h>
 #include <string.h>
 #include <time.h>
 
-enum { BODY = 100, ROOM = 4096, MESSAGES = 2048, EACH = 64, RUNS = 20, MOST = 2048 };
+enum { SSN = 28, BODY = 100, ROOM = 4096, MESSAGES = 2048, EACH = 64, RUNS = 20, MOST = 2048 };
 
 typedef struct parcel {
   uint8_t at[ROOM];
@@ -179,8 +185,32 @@ static int open_deliveries(int count) {
   return 0;
 }
 
+static size_t heap(void) {
+  struct mallinfo2 all = mallinfo2();
+  return all.uordblks + all.hblkhd;
+}
+
+static int names(uint32_t apart, uint32_t count) {
+  static parcel given;
+  nixu_node zero = {0}, two = {0};
+  open_node(&zero, 0);
+  open_node(&two, 2);
+  send(&zero, 2, &given);
+  for (uint32_t i = 0; i < count; i++) {
+    for (int k = 0; k < 4; k++) given.at[SSN + k] = (uint8_t)(i * apart >> (24 - 8 * k));
+    receive(&two, &given);
+    if (i % EACH == EACH - 1) store_and_forget(&two);
+  }
+  size_t whole = heap();
+  nixu_node_close(&two);
+  printf("%.1f\n", (double)(whole - heap()) / count);
+  nixu_node_close(&zero);
+  return 0;
+}
+
 int main(int count, char **words) {
   FILE *file;
+  if (count == 4 && !strcmp(words[1], "names")) return names((uint32_t)atoi(words[2]), (uint32_t)atoi(words[3]));
   if (count == 3 && !strcmp(words[1], "open")) return open_deliveries(atoi(words[2]));
   uint32_t carried = count > 1 ? (uint32_t)atoi(words[1]) : 0;
   double copy = 1e9, delivery = 1e9, line = 1e9;

@@ -16,7 +16,7 @@ import time
 TOP = os.path.dirname(os.path.dirname(os.path.abspath(__file__)))
 PROGRAM = os.path.join(TOP, "crates", "causal_simulation", "out", "causal_simulation")
 PIECE = 500  # seeds of one call of the program
-MOST = 8000  # seeds until which a broken rule must be caught
+MOST = 16_000  # seeds until which a broken rule must be caught
 
 # the rules, and how each may be caught: by merge, by the audit (Orphan, Exceeded), by replays (Strayed), by what a replay sends (Differs),
 # or since a process lacks for ever what it has to repeat (Stuck)
@@ -32,8 +32,10 @@ RULES = {
     "early_stored": "Orphan Strayed Differs",
     "storage_clock": "Merge",
     "parcel_clock": "Merge",
+    "end_clock": "Orphan Strayed Differs",
     "crash_clock": "Exceeded Orphan",
     "early_ended": "Orphan Strayed Differs",
+    "old_report": "Orphan Strayed Differs",
     "late_line": "Merge",
     "round_name": "Orphan Strayed Differs",
     "lane": "Merge Orphan Strayed Differs",

@@ -1,3 +1,5 @@
+pub mod MessageNames
+pub mod Inside
 pub mod NodeStates
 pub mod NodeRefusals
 pub mod NodeSteps

@@ -20,6 +20,7 @@ use Rattle.causal_memory.specs.Outboxes.{coded_kept}
 use Rattle.causal_protocol.specs.Limits.{max_entries}
 use Rattle.causal_protocol.specs.Memory.{Memory, SentMessage}
 use Rattle.causal_trace.specs.Limits.{max_processes}
+use Rattle.causal_node.specs.MessageNames.{coded_name}
 use Rattle.causal_node.specs.declared.node.Identity.{Identity}
 use Rattle.causal_node.specs.declared.node.Round.{Round}
 use Rattle.causal_node.specs.declared.node.Stage.{Stage}
@@ -58,10 +59,7 @@ recovery_of Stages.Up = None
 recovery_of Stages.Down = Some None
 recovery_of (Stages.Gathering r) = Some (Some (round_of r))
 
--- encodings: a message's name, a memory, a round and a node as their parts
-abbrev pub coded_name : Coded MsgName
-coded_name = code_by (ℕ × ℕ) (coded× coded_ℕ coded_ℕ) (λ m. (m.source.0, m.ssn)) (λ p. record { source = record { 0 = p.0 }; ssn = p.1 }) (λ _. refl)
-
+-- encodings: a memory, a round and a node as their parts
 abbrev pub coded_memory : Coded Memory
 coded_memory =
     code_by (LogMap × (List SentMessage × List MsgName)) (coded× (fin.code coded_det coded_known) (coded× (coded_list coded_kept) (coded_list coded_name)))

@@ -23,3 +23,5 @@ pub mod node_round;
 pub mod node_sent;
 /// A node sends a message.
 pub mod node_sending;
+/// The names of the messages that a lane has received.
+mod received_names;

@@ -7,6 +7,7 @@ ghost use Rattle.causal_memory.specs.Outboxes.{kept_message_of};
 ghost use Rattle.causal_memory.specs.Namings.{named_message_by};
 ghost use Rattle.causal_node.specs.NodeStates.{floor_of};
 
+use crate::received_names::ReceivedNames;
 use causal_holders::Holders;
 use causal_log::{Batch, Log};
 use causal_memory::naming::named_message;
@@ -67,7 +68,7 @@ pub struct Node {
     /// The batch that the next messages carry, if it is known.
     pub(crate) next_batch: Option<Arc<Batch>>,
     /// The names of the messages that the present lane has received.
-    pub(crate) received: BTreeSet<MsgName, Global>,
+    pub(crate) received: ReceivedNames,
     /// The names of the messages that the log of the restart has for this process.
     pub(crate) reserved: BTreeSet<MsgName, Global>,
     pub(crate) stage: Stage,
@@ -81,7 +82,7 @@ impl Model for Node {
 
     ghost coded = { coded_node };
 
-    ghost view = { λ n. record { identity = n.identity; lane = n.lane; floors = n.floors.items; memory = memory_of n.memory; bodies = bodies_of n.memory; received_names = n.received.keys; reserved_names = n.reserved.keys; recovery = recovery_of n.stage } };
+    ghost view = { λ n. record { identity = n.identity; lane = n.lane; floors = n.floors.items; memory = memory_of n.memory; bodies = bodies_of n.memory; received_names = n.received; reserved_names = n.reserved.keys; recovery = recovery_of n.stage } };
 
     ghost invariant = { λ n. IsNode n.identity n.next_batch (memory_of n.memory) };
 }

@@ -52,7 +52,7 @@ impl Node {
         if lane < self.floor(name.source) {
             return Some(NodeFault::OldLane);
         }
-        if self.received.contains(&name) {
+        if self.received.contains(name) {
             return Some(NodeFault::Duplicate);
         }
         match self.due() {
@@ -114,9 +114,9 @@ impl Node {
         {
             return Err(NodeFault::NoMemory);
         }
-        let Ok(_) = self.received.insert(name) else {
+        if self.received.insert(name).is_err() {
             return Err(NodeFault::NoMemory);
-        };
+        }
         self.memory.learn_delivery(det, &**piggyback);
         self.next_batch = None;
         Ok(Delivery { det, listed })

@@ -6,6 +6,7 @@ ghost use Rattle.causal_node.specs.NodeRefusals.{node_reason_of};
 
 use crate::node::{Identity, Node, Stage};
 use crate::node_fault::NodeFault;
+use crate::received_names::ReceivedNames;
 use causal_holders::Holders;
 use causal_log::Log;
 use causal_memory::restart_plan::RestartPlan;
@@ -69,7 +70,7 @@ impl Node {
             floors,
             memory: process_memory,
             next_batch: None,
-            received: BTreeSet::new(alloc),
+            received: ReceivedNames::new(alloc),
             reserved: BTreeSet::new(alloc),
             stage: if lane == 0 { Stage::Up } else { Stage::Down },
         })

@@ -11,6 +11,7 @@ ghost use Rattle.causal_memory.specs.RestartPlans.{IsRestartPlan};
 use crate::node::{Identity, Node, Round, Stage};
 use crate::node_fault::NodeFault;
 use crate::node_opening::processes_below;
+use crate::received_names::ReceivedNames;
 use causal_log::Log;
 use causal_memory::learning::learn_own_holding;
 use causal_memory::restart_plan::RestartPlan;
@@ -312,7 +313,7 @@ impl Node {
         } = plan;
         self.memory = process_memory;
         self.next_batch = None;
-        self.received = BTreeSet::new(self.alloc);
+        self.received = ReceivedNames::new(self.alloc);
         self.reserved = reserved;
         self.stage = Stage::Up;
         Ok(listed)

@@ -90,8 +90,24 @@ impl Network {
         Ok(())
     }
 
-    /// Removes a packet by chance, if there is one.
+    /// Adds a packet as if it were as old as another one, unless too many are under way.
+    pub fn delay(&mut self, random: &mut Random, packet: Packet) -> Result<(), NoMemory> {
+        let last = self.packets.len();
+        if last < MOST {
+            let at = random.index(last);
+            self.packets.push(packet)?;
+            if at < last {
+                self.packets.swap(at, last);
+            }
+        }
+        Ok(())
+    }
+
+    /// Removes a packet, if there is one: the newest half of the time, else one by chance.
     pub fn take(&mut self, random: &mut Random) -> Option<Packet> {
+        if random.is_one_in(2) {
+            return self.packets.pop();
+        }
         let at = random.index(self.packets.len());
         if at < self.packets.len() {
             return Some(self.packets.swap_remove(at));

@@ -89,7 +89,9 @@ impl Process {
         match &mut self.endpoint {
             None => self.start(world),
             Some(endpoint) if !is_up => self.life.recover(endpoint, world),
-            Some(endpoint) if world.random.is_one_in(2) => self.life.store(endpoint, world),
+            Some(endpoint) if world.random.is_one_in(world.thrift) => {
+                self.life.store(endpoint, world)
+            }
             Some(_) => world.greet_by_chance(self.life.me),
         }
     }
@@ -157,7 +159,10 @@ impl Simulation {
 
     /// Lets a process that runs next be killed at one of its next points, at times.
     fn set_fuse(&mut self, at: usize) {
-        let is_near = self.world.random.is_one_in(12);
+        let is_near = self
+            .world
+            .random
+            .is_one_in(self.world.calm.saturating_mul(12));
         let fuse = 1 + self.world.random.below(9);
         if is_near && self.may_end(at) {
             self.world.recording.set_fuse(fuse);
@@ -181,15 +186,32 @@ impl Simulation {
                 }
             }
         }
-        if is_harmful && (fate == Fate::Later || self.world.random.is_one_in(6)) {
-            self.world.network.add(packet)?;
+        // who has seen an end reports it again and again
+        let times = if matches!(&packet, Packet::Ended { .. }) {
+            2
+        } else {
+            6
+        };
+        if is_harmful && (fate == Fate::Later || self.world.random.is_one_in(times)) {
+            self.world.delay(packet)?;
         }
         Ok(())
+    }
+
+    /// Returns whether a process has ended and is not yet started.
+    fn rests(&mut self, at: usize) -> bool {
+        match self.processes.get(at) {
+            Some(process) if process.endpoint.is_none() => self.world.rests(process.life.me),
+            _ => false,
+        }
     }
 
     /// Lets a process do something without being asked.
     fn act(&mut self, at: usize, is_harmful: bool) -> Result<(), Stop> {
         if is_harmful {
+            if self.rests(at) {
+                return Ok(());
+            }
             self.set_fuse(at);
         }
         if let Some(process) = self.processes.get_mut(at) {
@@ -215,12 +237,12 @@ impl Simulation {
         self.world.tick();
         let at = self.world.random.index(self.processes.len());
         match self.world.random.below(32) {
-            0..=1 => self.crash(at),
+            0..=1 if self.world.random.is_one_in(self.world.calm) => self.crash(at),
             2 => {
                 let _lost = self.world.network.take(&mut self.world.random);
                 Ok(())
             }
-            3..=10 => self.act(at, true),
+            3..=14 => self.act(at, true),
             _ => match self.world.network.take(&mut self.world.random) {
                 Some(packet) => self.deliver_or_delay(packet),
                 None => self.act(at, true),
@@ -233,7 +255,7 @@ impl Simulation {
     fn deliver_or_delay(&mut self, packet: Packet) -> Result<(), Stop> {
         let is_slow = matches!(&packet, Packet::Write { .. } | Packet::Ended { .. });
         if is_slow && !self.world.random.is_one_in(4) {
-            self.world.network.add(packet)?;
+            self.world.delay(packet)?;
             return Ok(());
         }
         self.deliver(packet, true)
@@ -244,7 +266,12 @@ impl Simulation {
         for at in 0..self.processes.len() {
             self.act(at, false)?;
         }
-        let steps = 40 + self.world.random.below(200);
+        let most = if self.world.random.is_one_in(4) {
+            1_500
+        } else {
+            300
+        };
+        let steps = self.world.random.below(most).saturating_add(40);
         for _ in 0..steps {
             self.step()?;
         }

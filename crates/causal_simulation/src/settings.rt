@@ -96,11 +96,11 @@ pub struct Settings {
 impl Settings {
     /// Returns settings by chance: 2 to 4 processes, of which one or two may be down.
     pub fn by_chance(random: &mut Random, broken: Option<Rule>) -> Settings {
-        let (processes, faults) = match random.below(5) {
+        let (processes, faults) = match random.below(6) {
             0 => (2, 1),
             1 => (3, 1),
             2 => (4, 1),
-            3 => (3, 2),
+            3 | 4 => (3, 2),
             _ => (4, 2),
         };
         Settings {

@@ -35,8 +35,14 @@ pub struct World {
     /// The greatest clock at which a process has come up.
     pub risen: u64,
     time: u64,
-    /// How far the processes' times are apart, at most.
+    /// How far the times of two neighbours are apart.
     skew: u32,
+    /// A process that is started late, if there is one of this number.
+    lazy: u32,
+    /// Processes are ended so many times more rarely.
+    pub calm: u32,
+    /// Once in so many times a process that does something without being asked writes to storage.
+    pub thrift: u32,
 }
 
 impl World {
@@ -47,7 +53,11 @@ impl World {
         for _ in 0..settings.processes {
             ends.push(None)?;
         }
-        let skew = random.below(300);
+        let most = if random.is_one_in(2) { 20_000 } else { 300 };
+        let skew = random.below(most);
+        let lazy = random.below(4);
+        let calm = if random.is_one_in(2) { 6 } else { 1 };
+        let thrift = if random.is_one_in(2) { 60 } else { 2 };
         Ok(World {
             alloc,
             settings,
@@ -66,6 +76,9 @@ impl World {
             risen: 0,
             time: 1_000_000,
             skew,
+            lazy,
+            calm,
+            thrift,
         })
     }
 
@@ -85,6 +98,16 @@ impl World {
         let bytes = alter(self.alloc, &self.settings, bytes)?;
         self.network.add(Packet::Parcel { to, bytes })?;
         Ok(())
+    }
+
+    /// Returns whether a process that has ended waits for its start.
+    pub fn rests(&mut self, who: u8) -> bool {
+        u32::from(who) == self.lazy && !self.random.is_one_in(12)
+    }
+
+    /// Leaves a packet under way, behind newer ones.
+    pub fn delay(&mut self, packet: Packet) -> Result<(), NoMemory> {
+        self.network.delay(&mut self.random, packet)
     }
 
     /// A process says hello to all others.

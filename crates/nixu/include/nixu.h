@@ -561,8 +561,9 @@ uint32_t nixu_node_awaited(nixu_node *node, uint8_t processes[256]);
 uint32_t nixu_node_view(nixu_node *node, uint32_t *out, size_t room, size_t *needed);
 
 /* Takes from the caller, who knows that process `who` has ended and how often it has restarted, that it is not up and
-   that `lane` is its next lane: in the place of its reply to the round. The round may be given up, since its questions
-   had another lane; begin another.
+   that `lane` is its next lane: in the place of its reply to the round. That it has ended must be seen during the
+   round: it may have come up since what was seen before. The round may be given up, since its questions had another
+   lane; begin another.
 
    NIXU_OK. NIXU_FAULT: NIXU_NODE_UP, NIXU_NODE_UNASKED. NIXU_NO_MEMORY. NIXU_CLOSED. */
 uint32_t nixu_node_take_ended(nixu_node *node, uint64_t round, uint8_t who, uint32_t lane, uint32_t *fault);

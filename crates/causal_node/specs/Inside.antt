@@ -1,0 +1,2 @@
+-- Definitions that only models and private functions cite.
+pub mod ReceivedNames
