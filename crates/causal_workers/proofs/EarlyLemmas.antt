@@ -15,7 +15,7 @@ use Rattle.causal_text.proofs.Lemmas.GoesOn.{texts_go_on}
 use Rattle.causal_audit.proofs.Lemmas.Beginnings.{beginnings_decide}
 use Rattle.causal_workers.specs.Streaming.{EarlyBreachIsFinal, HasNoEarlyBreach, IsBreachSoFar, IsEarlyBreach, ExplainsVerdictError, StopsOnceJudged, is_checkpoint_length}
 use Rattle.causal_workers.specs.declared.streaming.VerdictError.TheVariants.{Input}
-use Rattle.causal_workers.specs.declared.judgement.Judged.{Judged}
+use Rattle.causal_audit.specs.declared.judged.Judged.{Judged}
 
 -- after one more line all audits at checkpoints accept, if the one at its end does
 pub none_more : (most : ℕ) (b line : List ℕ) (f : ℕ) → HasNoEarlyBreach most b f

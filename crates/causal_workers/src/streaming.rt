@@ -8,9 +8,9 @@ ghost use Rattle.causal_workers.specs.Streaming.{EarlyBreachIsFinal, HasNoEarlyB
 ghost use Rattle.causal_workers.specs.Inside.PieceOutcomes.{IsPieceOutcome};
 
 use crate::gate::Gate;
-use crate::judgement::{Judged, judge_trace};
+use crate::judgement::judge_trace;
 use crate::parallel_audit::AuditFault;
-use causal_audit::Verdict;
+use causal_audit::{Judged, Verdict};
 use causal_text::lines::split_complete;
 use causal_text::{PushReader, ReadError, max_text_len};
 use causal_trace::limits::Limits;
