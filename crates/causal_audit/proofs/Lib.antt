@@ -2,6 +2,7 @@ pub mod Lemmas
 mod AmongLemmas
 mod Begins
 mod Common
+mod Commas
 mod Between
 mod Exposure
 mod HeldOutside

@@ -13,3 +13,5 @@ pub mod Shares
 pub mod Covered
 pub mod NewOrphans
 pub mod Verdicts
+pub mod Judgements
+pub mod VerdictLines

@@ -4,7 +4,7 @@
 //! [`first_excess_in`] returns the first instant with too many processes down, and [`horizon_of`] an instant beyond
 //! which nothing decides. [`PreparedRun::of`] finds the deliveries that must be followed up to there, [`Part::earliest_breach`]
 //! follows a part of them, and [`decide_verdict`] combines the results into the verdict. [`Tables`] and [`check_step`] return the
-//! same verdict by vector clocks, and [`laws`] states the facts behind the audit.
+//! same verdict by vector clocks, [`verdict_line`] prints it, and [`laws`] states the facts behind the audit.
 #![tactic(auto)]
 
 // Public interface.
@@ -19,8 +19,12 @@ pub mod excess;
 pub mod clock_audit;
 /// A run indexed for its audit, and the search for the deliveries that must be followed.
 pub mod indexed_run;
+/// A verdict with the counts of its trace.
+pub mod judged;
 /// The laws behind the audit.
 pub mod laws;
+/// The printed line of a verdict.
+pub mod line;
 /// A run prepared for its audit, and parts of its deliveries.
 pub mod prepared_run;
 /// A run with its vector clocks.
@@ -48,6 +52,8 @@ pub use breach::{Breach, Excess, earlier_breach};
 pub use clock_audit::{decide_verdict, first_breach, first_excess, judge};
 pub use excess::{first_excess_in, last_deciding_instant};
 pub use indexed_run::{IndexedRun, OpenDeliveries};
+pub use judged::Judged;
+pub use line::verdict_line;
 pub use prepared_run::{Part, PreparedRun};
 pub use tables::Tables;
 pub use verdict::Verdict;

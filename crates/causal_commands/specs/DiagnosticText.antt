@@ -3,8 +3,8 @@ use Rattle.std.specs.Prelude.{ℕ, List, [], ◌++◌, Option, Some, None, codes
 use Rattle.causal_line.specs.declared.kind.TextFault.{TextFault}
 use Rattle.causal_line.specs.declared.fault_details.FaultDetail.{FaultDetail}
 use Rattle.causal_line.specs.DetailTexts.{sentence}
-use Rattle.causal_workers.specs.declared.judgement.Judged.{Judged}
-use Rattle.causal_workers.specs.Lines.{verdict_line}
+use Rattle.causal_audit.specs.declared.judged.Judged.{Judged}
+use Rattle.causal_audit.specs.VerdictLines.{verdict_line}
 use Rattle.causal_commands.specs.declared.diagnostic.DiagnosedFault.{DiagnosedFault}
 use Rattle.causal_commands.specs.declared.diagnostic.Diagnostic.{Diagnostic}
 

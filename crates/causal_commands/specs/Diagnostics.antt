@@ -9,7 +9,7 @@ use Rattle.causal_text.specs.Spelling.{IsFirstFaultWithin}
 use Rattle.causal_line.specs.FaultDetails.{IsFaultDetail, kind_of_detail}
 use Rattle.causal_commands.specs.declared.diagnostic.DiagnosedFault.{DiagnosedFault}
 use Rattle.causal_commands.specs.declared.diagnostic.Diagnostic.{Diagnostic}
-use Rattle.causal_commands.specs.Judgements.{IsJudgedOf}
+use Rattle.causal_audit.specs.Judgements.{IsJudgedOf}
 
 -- The lines before the error's line are a recording without error. What is wrong with that line is true, and of the
 -- kind of the error. The verdict and the counts are those of the entries before it, for f.

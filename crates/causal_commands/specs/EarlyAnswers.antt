@@ -3,10 +3,10 @@
 use Rattle.std.specs.Prelude.{◌≡◌, ℕ, ◌⊎◌, List, ◌++◌, codes, Option, IfSome}
 use Rattle.std.specs.Fmt.{decimal}
 use Rattle.causal_line.specs.Values.{without_line_feed}
-use Rattle.causal_workers.specs.declared.judgement.Judged.{Judged}
+use Rattle.causal_audit.specs.declared.judged.Judged.{Judged}
 use Rattle.causal_workers.specs.declared.looks.Looks.{Looks}
 use Rattle.causal_workers.specs.Streaming.{HasNoEarlyBreach, IsEarlyBreach}
-use Rattle.causal_workers.specs.Lines.{verdict_line}
+use Rattle.causal_audit.specs.VerdictLines.{verdict_line}
 use Rattle.causal_commands.specs.declared.ended.Ended.{Ended}
 use Rattle.causal_commands.specs.declared.ended.Ended.TheVariants.{Breached}
 use Rattle.causal_commands.specs.Streams.{IsAnswer}

@@ -4,7 +4,6 @@ pub mod Json
 pub mod Views
 pub mod PlacedLines
 pub mod MappedReasons
-pub mod Judgements
 pub mod Merges
 pub mod Reading
 pub mod Ranges

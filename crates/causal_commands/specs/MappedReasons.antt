@@ -2,7 +2,7 @@
 -- `most` is the maximum number of entries of a trace.
 use Rattle.std.specs.Prelude.{◌≡◌, ◌≢◌, ℕ, List, [], Option, None, Some, IfSome, Ok, Err}
 use Rattle.causal_audit.specs.declared.verdict.Verdict.TheVariants.{Accept}
-use Rattle.causal_workers.specs.declared.judgement.Judged.{Judged}
+use Rattle.causal_audit.specs.declared.judged.Judged.{Judged}
 use Rattle.causal_commands.specs.declared.ended.Ended.{Ended}
 use Rattle.causal_commands.specs.declared.ended.Ended.TheVariants.{Accepted, Breached, Faulted}
 use Rattle.causal_commands.specs.declared.map_fault.MapFault.{MapFault}

@@ -8,9 +8,9 @@ use Rattle.causal_line.specs.FaultLine.{fault_line}
 use Rattle.causal_audit.specs.declared.verdict.Verdict.TheVariants.{Accept}
 use Rattle.causal_commands.specs.declared.ended.Ended.{Ended}
 use Rattle.causal_commands.specs.declared.ended.Ended.TheVariants.{Accepted, Breached, Faulted}
-use Rattle.causal_workers.specs.declared.judgement.Judged.{Judged}
+use Rattle.causal_audit.specs.declared.judged.Judged.{Judged}
 use Rattle.causal_workers.specs.Judgements.{IsJudgementWithin}
-use Rattle.causal_workers.specs.Lines.{verdict_line}
+use Rattle.causal_audit.specs.VerdictLines.{verdict_line}
 use Rattle.causal_commands.specs.AnswerWrites.{WritesAnswer}
 
 -- the line of the text's first error

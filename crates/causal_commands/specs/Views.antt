@@ -13,9 +13,9 @@ use Rattle.causal_commands.specs.declared.view.View.{View}
 use Rattle.causal_commands.specs.declared.view.View.TheVariants.{Reason, Picture}
 use Rattle.causal_commands.specs.Streams.{IsFaultLine}
 use Rattle.causal_commands.specs.AnswerWrites.{WritesAnswer}
-use Rattle.causal_workers.specs.declared.judgement.Judged.{Judged}
+use Rattle.causal_audit.specs.declared.judged.Judged.{Judged}
 use Rattle.causal_workers.specs.Judgements.{IsJudgementWithin}
-use Rattle.causal_workers.specs.Lines.{verdict_line}
+use Rattle.causal_audit.specs.VerdictLines.{verdict_line}
 
 -- the view of a recording with this verdict for f: the verdict line with the reason below it, or the selected part of the
 -- picture

@@ -4,7 +4,7 @@ ghost use Rattle.std.specs.Prelude.{List, ℕ, IfOk, IfSome};
 ghost use Rattle.causal_text.specs.FaultContexts.{IsContextWithin};
 ghost use Rattle.causal_commands.specs.Inside.Refusals.{IsTrueRefusal};
 ghost use Rattle.causal_commands.specs.Diagnostics.{IsTrueDiagnosis, IsDiagnosticOf};
-ghost use Rattle.causal_commands.specs.Judgements.{IsJudgedOf};
+ghost use Rattle.causal_audit.specs.Judgements.{IsJudgedOf};
 
 use causal_audit::verdict_of;
 use causal_name::NoMemory;

@@ -4,7 +4,7 @@ ghost use Rattle.causal_audit.specs.Verdicts.{IsVerdict};
 ghost use Rattle.causal_text.specs.Streams.{StopsWithin};
 ghost use Rattle.causal_reading.specs.Reads.{max_read};
 ghost use Rattle.causal_commands.specs.Views.{WritesViewFor, IsViewOfFault, IsViewOf, IsViewText};
-ghost use Rattle.causal_commands.specs.Judgements.{IsJudgedOf};
+ghost use Rattle.causal_audit.specs.Judgements.{IsJudgedOf};
 ghost use Rattle.causal_commands.specs.Diagnostics.{IsDiagnosisFor};
 ghost use Rattle.causal_commands.specs.Inside.Answers.{IsViewAnswerFor, WritesNothing, WritesWholeAnswer, RefusalIsTrue};
 ghost use Rattle.causal_commands.specs.Inside.Refusals.{IsTrueRefusal, ExplainsStreamRefusal};

@@ -20,7 +20,7 @@ use Rattle.causal_workers.specs.declared.looks.Looks.TheVariants.{Checkpoints, L
 use Rattle.causal_workers.specs.declared.streaming.PieceOutcome.{PieceOutcome}
 use Rattle.causal_workers.specs.declared.streaming.PieceOutcome.TheVariants.{More, Breach}
 use Rattle.causal_workers.specs.declared.streaming.VerdictError.TheVariants.{Input}
-use Rattle.causal_workers.specs.declared.judgement.Judged.{Judged}
+use Rattle.causal_audit.specs.declared.judged.Judged.{Judged}
 
 -- after one more line all audits at checkpoints accept, if the one at its end does
 pub none_more : (most : ℕ) (b line : List ℕ) (f : ℕ) → HasNoEarlyBreach most b f

@@ -4,7 +4,7 @@ use Rattle.causal_trace.specs.Limits.{default_entries}
 use Rattle.causal_text.proofs.Lemmas.Exact.{one_recording}
 use Rattle.causal_audit.proofs.Lemmas.OneVerdict.{one_verdict}
 use Rattle.causal_workers.specs.Judgements.{IsJudgement}
-use Rattle.causal_workers.specs.declared.judgement.Judged.{Judged}
+use Rattle.causal_audit.specs.declared.judged.Judged.{Judged}
 
 -- a text has at most one judgement for each bound f
 pub one_judgement : (text : List ℕ) (f : ℕ) (a b : Judged) → IsJudgement text f a → IsJudgement text f b → b ≡ a

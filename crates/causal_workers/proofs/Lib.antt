@@ -1,4 +1,3 @@
-mod Commas
 mod EarlyLemmas
 mod JudgementLemmas
 mod ShareLemmas

@@ -1,4 +1,3 @@
 -- Invariants and contracts of private functions; no public clause cites them.
 pub mod PieceOutcomes
-pub mod JoinedNumbers
 pub mod Shares

@@ -7,7 +7,7 @@ use Rattle.causal_text.specs.Spelling.{Spells, SpellsWithin, IsFirstFault}
 use Rattle.causal_line.specs.declared.kind.TextKind.TheVariants as kind
 use Rattle.causal_audit.specs.declared.verdict.Verdict.{Verdict}
 use Rattle.causal_audit.specs.Verdicts.{IsVerdict}
-use Rattle.causal_workers.specs.declared.judgement.Judged.{Judged}
+use Rattle.causal_audit.specs.declared.judged.Judged.{Judged}
 use Rattle.causal_workers.specs.declared.judgement.AuditTextFault.{AuditTextFault}
 use Rattle.causal_workers.specs.declared.judgement.AuditTextFault.TheVariants.{Text, Audit}
 

@@ -1,4 +1,3 @@
 pub mod Inside
 pub mod Judgements
-pub mod Lines
 pub mod Streaming

@@ -20,7 +20,7 @@ use Rattle.causal_workers.specs.declared.streaming.StreamVerdict.{StreamVerdict}
 use Rattle.causal_workers.specs.declared.streaming.StreamVerdict.TheVariants.{Early, Whole}
 use Rattle.causal_workers.specs.declared.streaming.VerdictError.{VerdictError}
 use Rattle.causal_workers.specs.declared.streaming.VerdictError.TheVariants.{Input, Audit}
-use Rattle.causal_workers.specs.declared.judgement.Judged.{Judged}
+use Rattle.causal_audit.specs.declared.judged.Judged.{Judged}
 
 -- whether a trace of this many entries is audited: 1, 2, 4, 8 and so on
 abbrev pub is_checkpoint_length : ℕ → Bool

@@ -6,7 +6,7 @@ ghost use Rattle.causal_workers.specs.Judgements.{IsJudgement, IsFaultOf};
 
 use crate::gate::Gate;
 use crate::parallel_audit::{AuditFault, audit};
-use causal_audit::Verdict;
+use causal_audit::Judged;
 use causal_reading::read_trace_by;
 use causal_text::TextFault;
 use causal_trace::trace::Trace;
@@ -14,14 +14,6 @@ use std::alloc::Global;
 use std::sync::Wait;
 use std::thread::Threads;
 use thiserror::Error;
-
-/// The verdict on a trace, with its numbers of entries and deliveries.
-#[derive(Clone, Copy)]
-pub struct Judged {
-    pub verdict: Verdict,
-    pub entries: u32,
-    pub deliveries: u32,
-}
 
 /// Why a text got no verdict.
 #[derive(Clone, Copy, Debug, PartialEq, Eq, Error)]

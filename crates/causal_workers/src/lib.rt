@@ -19,16 +19,14 @@ pub mod looks;
 pub mod gate;
 /// The audit of a text or a trace, with the counts of the trace.
 pub mod judgement;
-/// The printed line of a verdict.
-pub mod line;
 /// A trace prepared by several workers.
 mod preparation;
 /// The work of one worker.
 mod share;
 
+pub use causal_audit::{Judged, verdict_line};
 pub use gate::{Gate, OpenGate};
-pub use judgement::{AuditTextFault, Judged, audit_text, judge_trace};
-pub use line::verdict_line;
+pub use judgement::{AuditTextFault, audit_text, judge_trace};
 pub use looks::Looks;
 pub use parallel_audit::{AuditFault, audit};
 pub use streaming::{StreamVerdict, VerdictError, judge_stream};

@@ -9,10 +9,10 @@ ghost use Rattle.causal_workers.specs.Inside.PieceOutcomes.{IsPieceOutcome};
 ghost use Rattle.causal_workers.specs.declared.looks.Looks.{Looks};
 
 use crate::gate::Gate;
-use crate::judgement::{Judged, judge_trace};
+use crate::judgement::judge_trace;
 use crate::looks::{LookTimer, Looks};
 use crate::parallel_audit::AuditFault;
-use causal_audit::Verdict;
+use causal_audit::{Judged, Verdict};
 use causal_text::lines::split_complete;
 use causal_text::{PushReader, ReadError, max_text_len};
 use causal_trace::limits::Limits;

@@ -2,12 +2,13 @@
 use Rattle.std.specs.Prelude.{◌≡◌, ℕ, List}
 use Rattle.std.specs.FinSet.{empty}
 use Rattle.causal_trace.specs.Limits.{default_entries}
+use Rattle.causal_trace.specs.Rows.{Recording}
 use Rattle.causal_line.specs.declared.kind.TextFault.{TextFault}
-use Rattle.causal_text.specs.Spelling.{IsFirstFaultWithin}
+use Rattle.causal_text.specs.Spelling.{Spells, IsFirstFaultWithin}
 use Rattle.causal_audit.specs.declared.verdict.Verdict.{Verdict}
 use Rattle.causal_audit.specs.declared.verdict.Verdict.TheVariants.{Accept, Exceeded, Orphan}
-use Rattle.causal_workers.specs.declared.judgement.Judged.{Judged}
-use Rattle.causal_workers.specs.Judgements.{IsJudgement}
+use Rattle.causal_audit.specs.declared.judged.Judged.{Judged}
+use Rattle.causal_audit.specs.Judgements.{IsJudgedOf}
 use Rattle.nixu_boundary.specs.Flags.{flags}
 use Rattle.nixu.specs.declared.c_verdict.CVerdict.{CVerdict}
 use Rattle.nixu.specs.Numbers.{kind_number}
@@ -66,9 +67,14 @@ c_fault_verdict fault = record {
   fault = kind_number fault.kind;
 }
 
+-- the text spells a trace, and this is the verdict on it for f with its counts: what causal_workers says by IsJudgement,
+-- field for field
+abbrev pub IsJudgementOfText : List ℕ → ℕ → Judged → Type 0
+IsJudgementOfText text f judged = (r : Recording) × Spells text r × IsJudgedOf r f judged
+
 -- the text spells a trace, and the struct is the verdict on it for f
 abbrev pub IsVerdictOfText : List ℕ → ℕ → CVerdict → Type 0
-IsVerdictOfText text f verdict = (judged : Judged) × IsJudgement text f judged × (verdict ≡ c_verdict_of judged)
+IsVerdictOfText text f verdict = (judged : Judged) × IsJudgementOfText text f judged × (verdict ≡ c_verdict_of judged)
 
 -- the text does not spell a trace of at most `most` entries, and the struct contains its first error
 abbrev pub IsFaultOfTextWithin : ℕ → List ℕ → CVerdict → Type 0

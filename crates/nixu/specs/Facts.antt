@@ -19,12 +19,12 @@ use Rattle.causal_replays.specs.Strays.{IsFirstStray}
 use Rattle.causal_report.specs.Survivors.{AreCopies}
 use Rattle.causal_text.specs.Prefixes.{SpellsLines}
 use Rattle.causal_text.specs.Spelling.{Spells}
-use Rattle.causal_workers.specs.declared.judgement.Judged.{Judged}
+use Rattle.causal_audit.specs.declared.judged.Judged.{Judged}
+use Rattle.causal_audit.specs.Judgements.{IsJudgedOf}
 use Rattle.nixu.specs.declared.c_fact.CFact.{CFact}
 use Rattle.nixu.specs.declared.c_verdict.CVerdict.{CVerdict}
 use Rattle.nixu.specs.CFacts.{closest_or_never, excess_facts, explanation_facts, strayed_fact, logged_fact, stable_facts}
 use Rattle.nixu.specs.CVerdicts.{c_verdict_of}
-use Rattle.nixu.specs.VerdictArrays.{IsJudged}
 
 -- accept: the delivery that comes closest to having an orphan. Exceeded: the crash that exceeded f, and each down
 -- process with its crash. Orphan: the entry that caused it, and the explanation of the orphan.
@@ -69,7 +69,7 @@ pub record AreFactsCopied (facts old new : List CFact) (needed : ℕ) : Type 0 w
 -- the struct is the verdict on the recording for f, and the facts that explain it are copied out
 pub record IsExplained (r : Recording) (f : ℕ) (verdict : CVerdict) (old new : List CFact) (needed : ℕ) : Type 0 where
   pub judged : Judged
-  pub judges : IsJudged r f judged
+  pub judges : IsJudgedOf r f judged
   pub struct : verdict ≡ c_verdict_of judged
   pub facts : List CFact
   pub explain : AreFacts r f judged.verdict facts

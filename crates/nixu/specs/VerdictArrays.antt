@@ -1,23 +1,16 @@
 -- Arrays of C verdicts on one trace, one verdict for each value of f.
 use Rattle.std.specs.Prelude.{◌≡◌, ℕ, List, [], ◌∷◌, ◌++◌, length, drop, replicate}
 use Rattle.causal_trace.specs.Limits.{default_entries}
-use Rattle.causal_trace.specs.Past.{deliveries_in}
 use Rattle.causal_trace.specs.Rows.{Recording}
 use Rattle.causal_text.specs.Spelling.{SpellsWithin}
-use Rattle.causal_audit.specs.Verdicts.{IsVerdict}
-use Rattle.causal_workers.specs.declared.judgement.Judged.{Judged}
+use Rattle.causal_audit.specs.Judgements.{IsJudgedOf}
+use Rattle.causal_audit.specs.declared.judged.Judged.{Judged}
 use Rattle.nixu.specs.declared.c_verdict.CVerdict.{CVerdict}
 use Rattle.nixu.specs.CVerdicts.{c_verdict_of, IsFaultOfTextWithin}
 
--- the verdict on a recording for f, with its numbers of entries and deliveries
-pub record IsJudged (r : Recording) (f : ℕ) (judged : Judged) : Type 0 where
-  pub verdict : IsVerdict r f judged.verdict
-  pub entries : judged.entries ≡ length r.past
-  pub deliveries : judged.deliveries ≡ deliveries_in r.past
-
 -- the struct is the verdict on the recording for f
 abbrev pub IsVerdictStruct : Recording → ℕ → CVerdict → Type 0
-IsVerdictStruct r f verdict = (judged : Judged) × IsJudged r f judged × (verdict ≡ c_verdict_of judged)
+IsVerdictStruct r f verdict = (judged : Judged) × IsJudgedOf r f judged × (verdict ≡ c_verdict_of judged)
 
 -- each struct is the verdict for the value of f at its index
 abbrev pub AreVerdictStructs : Recording → List ℕ → List CVerdict → Type 0

@@ -6,12 +6,12 @@ use Rattle.causal_line.specs.FaultLine.{fault_line}
 use Rattle.causal_text.specs.Spelling.{Spells, IsFirstFault}
 use Rattle.causal_report.specs.Drawings.{IsDrawing}
 use Rattle.causal_report.specs.Reasons.{IsReason}
-use Rattle.causal_workers.specs.declared.judgement.Judged.{Judged}
-use Rattle.causal_workers.specs.Lines.{verdict_line}
+use Rattle.causal_audit.specs.declared.judged.Judged.{Judged}
+use Rattle.causal_audit.specs.Judgements.{IsJudgedOf}
+use Rattle.causal_audit.specs.VerdictLines.{verdict_line}
 use Rattle.nixu_boundary.specs.declared.status.TheConstants.{OK, FAULT, NO_MEMORY}
 use Rattle.nixu.specs.declared.views.View.{View}
 use Rattle.nixu.specs.declared.views.View.TheVariants.{Line, Reason, Picture}
-use Rattle.nixu.specs.VerdictArrays.{IsJudged}
 use Rattle.nixu_boundary.specs.Buffers.{CopiesOut, IsUntouched}
 
 -- the bytes of a view, for a verdict with counts: the verdict's line, that line and its explanation, or a picture
@@ -22,7 +22,7 @@ IsViewText Picture r f judged bytes = IsDrawing r f judged.verdict bytes
 
 -- the bytes are the view of the recording's verdict for f
 abbrev pub IsViewOfRecording : View → Recording → ℕ → List ℕ → Type 0
-IsViewOfRecording view r f bytes = (judged : Judged) × IsJudged r f judged × IsViewText view r f judged bytes
+IsViewOfRecording view r f bytes = (judged : Judged) × IsJudgedOf r f judged × IsViewText view r f judged bytes
 
 -- the text spells a trace, and the bytes are the view of its verdict for f
 abbrev pub IsViewOf : View → List ℕ → ℕ → List ℕ → Type 0

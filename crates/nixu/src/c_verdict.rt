@@ -3,10 +3,9 @@ ghost use Rattle.std.specs.Prelude.{◌≡◌};
 ghost use Rattle.nixu.specs.CVerdicts.{c_verdict_of, c_fault_verdict};
 
 use crate::numbers::number_of;
-use causal_audit::Verdict;
+use causal_audit::{Judged, Verdict};
 use causal_holders::Holders;
 use causal_text::TextFault;
-use causal_workers::Judged;
 use nixu_boundary::flags::flags_of;
 
 /// The verdict on a trace, or the first error of a text that does not spell one.

@@ -1,11 +1,11 @@
 //! Verdicts with the facts that explain them.
 ghost use Rattle.std.specs.Prelude.{◌≡◌, ◌≢◌, ◌≤◌, ◌⊎◌, ◌↔◌, ℕ, List, None, IfOk};
+ghost use Rattle.causal_audit.specs.Judgements.{IsJudgedOf};
 ghost use Rattle.causal_text.specs.PushReaders.{HasReceived};
 ghost use Rattle.nixu.specs.CVerdicts.{IsFaultOfText};
 ghost use Rattle.nixu.specs.Entries.{recording_in, OfTrace};
 ghost use Rattle.nixu.specs.Facts.{AreFacts, AreFactsCopied, AreFactsUntouched, HasNoHeader, IsExplained, IsExplainedSoFar, IsExplainedText};
 ghost use Rattle.nixu.specs.OpenReaders.{HasReadIn, IsNoReader};
-ghost use Rattle.nixu.specs.VerdictArrays.{IsJudged};
 
 use crate::c_fact::CFact;
 use crate::c_verdict::{CVerdict, c_fault_verdict, c_verdict_of};
@@ -13,10 +13,10 @@ use crate::fact_lists::facts_of;
 use crate::handle::Handle;
 use crate::handle_content::HandleContent;
 use crate::judgement::{TextError, judge_trace, parse_trace};
+use causal_audit::Judged;
 use causal_name::NoMemory;
 use causal_text::PushReader;
 use causal_trace::Trace;
-use causal_workers::Judged;
 use nixu_boundary::status::{CLOSED, FAULT, MISUSED, NO_MEMORY, OK};
 use std::alloc::Global;
 
@@ -181,7 +181,7 @@ struct Explained {
 
 /// The verdict on a trace, and the facts that explain it.
 fn explanation_of(alloc: Global, trace: &Trace, faults: u16) -> Result<Explained, NoMemory>
-    ensures judged { IfOk result (λ found. IsJudged trace.now.recording faults found.judged) }
+    ensures judged { IfOk result (λ found. IsJudgedOf trace.now.recording faults found.judged) }
     ensures facts { IfOk result (λ found.
         AreFacts trace.now.recording faults found.judged.verdict found.facts.items) }
 {

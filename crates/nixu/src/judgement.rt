@@ -1,15 +1,13 @@
 //! Audits of texts and traces on the calling thread.
 ghost use Rattle.std.specs.Prelude.{◌≡◌, IfOk, IfErr};
 ghost use Rattle.causal_text.specs.Spelling.{Spells};
-ghost use Rattle.causal_audit.specs.Verdicts.{IsVerdict};
-ghost use Rattle.causal_workers.specs.Judgements.{IsJudgement};
+ghost use Rattle.causal_audit.specs.Judgements.{IsJudgedOf};
+ghost use Rattle.nixu.specs.CVerdicts.{IsJudgementOfText};
 ghost use Rattle.nixu.specs.TextErrors.{IsTextErrorOf};
-ghost use Rattle.nixu.specs.VerdictArrays.{IsJudged};
 
-use causal_audit::verdict_of;
+use causal_audit::{Judged, verdict_of};
 use causal_text::{TextFault, TextKind, read_trace};
 use causal_trace::Trace;
-use causal_workers::Judged;
 use std::alloc::Global;
 
 /// Why a text was not audited.
@@ -58,7 +56,7 @@ pub(crate) fn judge_trace(
     trace: &Trace,
     faults: u16,
 ) -> Result<Judged, causal_name::NoMemory>
-    ensures { IfOk result (IsJudged trace.now.recording faults) }
+    ensures { IfOk result (IsJudgedOf trace.now.recording faults) }
 {
     Ok(Judged {
         verdict: verdict_of(alloc, trace, faults)?,
@@ -72,7 +70,7 @@ pub(crate) fn judge_trace(
 /// # Errors
 /// Those of [`parse_trace`].
 pub(crate) fn judge_text(alloc: Global, text: &[u8], faults: u16) -> Result<Judged, TextError>
-    ensures ok { IfOk result (IsJudgement text.now faults) }
+    ensures ok { IfOk result (IsJudgementOfText text.now faults) }
     ensures err { IfErr result (IsTextErrorOf text.now) }
 {
     let trace = parse_trace(alloc, text)?;

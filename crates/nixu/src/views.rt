@@ -6,11 +6,11 @@ ghost use Rattle.nixu_boundary.specs.Buffers.{IsCopiedOut, IsUntouched};
 ghost use Rattle.nixu.specs.Views.{WritesView, IsViewText, IsViewOf, IsViewOfRecording, fault_view};
 
 use crate::judgement::{TextError, judge_trace, parse_trace};
+use causal_audit::{Judged, verdict_line};
 use causal_name::NoMemory;
 use causal_report::{drawing_of, line_with_reason};
 use causal_text::{TextFault, fault_line};
 use causal_trace::Trace;
-use causal_workers::{Judged, verdict_line};
 use nixu_boundary::buffer::copy_out;
 use nixu_boundary::status::{FAULT, NO_MEMORY, OK};
 use std::alloc::Global;

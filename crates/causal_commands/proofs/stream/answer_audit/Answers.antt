@@ -1,7 +1,7 @@
 use Rattle.causal_commands.specs.Streams.{IsAnswer}
 use Rattle.causal_commands.specs.Inside.Refusals.{ExplainsStreamRefusal}
 use Rattle.causal_workers.specs.Judgements.{IsJudgementWithin}
-use Rattle.causal_workers.specs.declared.judgement.Judged.{Judged}
+use Rattle.causal_audit.specs.declared.judged.Judged.{Judged}
 use Rattle.causal_commands.specs.declared.input_audit.StreamRefusal.{StreamRefusal}
 use Rattle.causal_commands.proofs.Known.{IfSome-weaker}
 use Rattle.causal_commands.proofs.Writing.{tells, writes, writes_nothing}

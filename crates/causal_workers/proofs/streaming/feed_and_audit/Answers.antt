@@ -4,7 +4,7 @@ use Rattle.std.specs.Prelude.{IfSome, IfNone, Option}
 use Rattle.causal_trace.specs.Judgement.{IsSafeTrace}
 use Rattle.causal_trace.specs.Rows.{Recording}
 use Rattle.causal_text.specs.Prefixes.{SpellsSoFar}
-use Rattle.causal_workers.specs.declared.judgement.Judged.{Judged}
+use Rattle.causal_audit.specs.declared.judged.Judged.{Judged}
 use Rattle.causal_workers.specs.Streaming.{HasNoEarlyBreach, IsBreachSoFar, IsEarlyBreach, IsLook}
 use Rattle.causal_workers.proofs.EarlyLemmas.{checkpoint_looked, early_in, looser_breach, none_more, part_read, piece_is, stops_in}
 use Rattle.causal_workers.proofs.streaming.feed_and_audit.Goals as goal

@@ -1,7 +1,7 @@
 -- Numbers joined by commas, given the decimal texts of the numbers.
 use Rattle.std.specs.Prelude.{◌≡◌, ℕ, List, map}
 use Rattle.std.specs.Fmt.{decimal}
-use Rattle.causal_workers.specs.Lines.{joined_by_commas}
+use Rattle.causal_audit.specs.VerdictLines.{joined_by_commas}
 
 -- if the texts are those of numbers, the line contains them joined by commas
 abbrev pub JoinsNumbers : List (List ℕ) → List ℕ → Type 0

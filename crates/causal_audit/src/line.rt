@@ -3,11 +3,11 @@ ghost use Rattle.std.specs.Prelude.{◌≡◌, IfOk, map};
 ghost use Rattle.std.specs.Fmt.{decimal};
 ghost use Rattle.std.specs.String.{string_bytes};
 ghost use Rattle.causal_holders.specs.Members.{ascending};
-ghost use Rattle.causal_workers.specs.Lines as lines;
-ghost use Rattle.causal_workers.specs.Inside.JoinedNumbers.{JoinsNumbers};
+ghost use Rattle.causal_audit.specs.VerdictLines as lines;
+ghost use Rattle.causal_audit.specs.Inside.JoinedNumbers.{JoinsNumbers};
 
-use crate::judgement::Judged;
-use causal_audit::Verdict;
+use crate::judged::Judged;
+use crate::verdict::Verdict;
 use causal_holders::Holders;
 use causal_name::NoMemory;
 use std::alloc::{AllocError, Global};

@@ -7,7 +7,7 @@ use Rattle.std.specs.FinSet.{FinSet}
 use Rattle.causal_holders.specs.Members.{ascending}
 use Rattle.causal_audit.specs.declared.verdict.Verdict.{Verdict}
 use Rattle.causal_audit.specs.declared.verdict.Verdict.TheVariants.{Accept, Exceeded, Orphan}
-use Rattle.causal_workers.specs.declared.judgement.Judged.{Judged}
+use Rattle.causal_audit.specs.declared.judged.Judged.{Judged}
 
 -- numbers joined by commas; `-` if there is none
 abbrev pub joined_by_commas : List ℕ → List ℕ

@@ -4,7 +4,7 @@ use Rattle.std.specs.Fmt.{decimal}
 use Rattle.std.specs.List.{join_by}
 use Rattle.std.proofs.lemmas.List.{map-append, append_assoc}
 use Rattle.std.proofs.lemmas.List.Folds.{flat_map-map}
-use Rattle.causal_workers.specs.Lines.{joined_by_commas}
+use Rattle.causal_audit.specs.VerdictLines.{joined_by_commas}
 
 join_by-map : {X : Type 0} (f : X → List ℕ) (sep : List ℕ) (xs : List X) → join_by f sep xs ≡ join_by (λ y. y) sep (map f xs)
 join_by-map f sep [] = refl

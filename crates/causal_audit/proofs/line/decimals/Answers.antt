@@ -1,7 +1,7 @@
 use Rattle.std.proofs.Common.{◌∙◌, string_bytes}
 use Rattle.causal_holders.specs.Members.{ascending}
-use Rattle.causal_workers.proofs.Commas.{written-none, written-next}
-use Rattle.causal_workers.proofs.line.decimals.Goals as goal
+use Rattle.causal_audit.proofs.Commas.{written-none, written-next}
+use Rattle.causal_audit.proofs.line.decimals.Goals as goal
 
 pub loop-process-init : goal.loop-process-init
 loop-process-init c =

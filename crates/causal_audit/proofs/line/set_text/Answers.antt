@@ -1,7 +1,7 @@
 use Rattle.std.proofs.Common.{arith}
 use Rattle.std.proofs.lemmas.Result.{IfOk-weaker}
-use Rattle.causal_workers.specs.Lines.{set_text}
-use Rattle.causal_workers.proofs.line.set_text.Goals as goal
+use Rattle.causal_audit.specs.VerdictLines.{set_text}
+use Rattle.causal_audit.proofs.line.set_text.Goals as goal
 
 pub returns : goal.returns
 unfolding set_text
