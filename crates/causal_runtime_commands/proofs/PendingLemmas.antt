@@ -10,11 +10,11 @@ use Rattle.causal_runtime_commands.specs.declared.script.Reason.TheVariants as W
 use Rattle.causal_runtime_commands.specs.Reasons.{IsPendingAt, ArePendingIn}
 
 -- what is pending in the run of a script is so in that of each text that spells it
-pub pending_told : {A : Type 0} (text : List ℕ) (script : Script) (fault : RunFault) (told : Option Reason) (pending : Option A) (items : A → List MsgName) → Spells text (script_content script)
-    → IfSome pending (λ names. (told ≡ Some (Why.Run fault)) × IsPendingAt script fault (items names)) → IfSome pending (λ names. ArePendingIn text told (items names))
-pending_told text script fault told None items spelled h = tt
-pending_told text script fault told (Some names) items spelled h = subst (λ (r : Option Reason). ArePendingIn text r (items names)) (sym h.0) (script, spelled, h.1)
+pub pending_of_text : {A : Type 0} (text : List ℕ) (script : Script) (fault : RunFault) (reason : Option Reason) (pending : Option A) (items : A → List MsgName) → Spells text (script_content script)
+    → IfSome pending (λ names. (reason ≡ Some (Why.Run fault)) × IsPendingAt script fault (items names)) → IfSome pending (λ names. ArePendingIn text reason (items names))
+pending_of_text text script fault reason None items spelled h = tt
+pending_of_text text script fault reason (Some names) items spelled h = subst (λ (r : Option Reason). ArePendingIn text r (items names)) (sym h.0) (script, spelled, h.1)
 
--- what is not told is true
-pub nothing_told : {A : Type 0} (text : List ℕ) (told : Option Reason) (pending : Option A) (items : A → List MsgName) → pending ≡ None → IfSome pending (λ names. ArePendingIn text told (items names))
-nothing_told text told pending items none = subst (λ (p : Option A). IfSome p (λ names. ArePendingIn text told (items names))) (sym none) tt
+-- an answer without pending messages says nothing false
+pub none_pending : {A : Type 0} (text : List ℕ) (reason : Option Reason) (pending : Option A) (items : A → List MsgName) → pending ≡ None → IfSome pending (λ names. ArePendingIn text reason (items names))
+none_pending {A = A} text reason pending items none = subst (λ (p : Option A). IfSome p (λ names. ArePendingIn text reason (items names))) (sym none) tt

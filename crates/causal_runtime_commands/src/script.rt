@@ -71,7 +71,7 @@ impl ScriptOutcome {
 /// Reads the text of a script, runs it and writes the trace of the run. If a command is refused or the text is not a
 /// valid script, it writes one line with that, and the outcome has the error or the refusal. The ending reports a failure
 /// of the reader, the writer or an allocation, and a shared runtime that could not be finished. After a `NotAvailable` the
-/// commands before it are performed again, to tell what was pending.
+/// commands before it are performed again, to find what was pending.
 ///
 /// At most 1,048,577 bytes of the text are read, one more than a script may have. The logs of the run hash with the seed;
 /// only costs depend on it.

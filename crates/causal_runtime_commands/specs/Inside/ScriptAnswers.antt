@@ -27,7 +27,7 @@ abbrev pub IsRefusalAnswer : RunFault → Ended → List ℕ → Type 0
 IsRefusalAnswer fault ended out = (text : List ℕ) (script : Script) → Spells text (script_content script)
     → ExplainsRunFault (IsStartOf script) script.commands fault → IsScriptAnswer text ended out
 
--- what an answer tells as pending, if anything, is so for the bytes read from a reader, if its bytes are known
+-- the pending messages of an answer, if any, are pending in the run of the bytes read from a reader, if its bytes are known
 abbrev pub PendingIsTrue : Option (List ℕ) → ScriptAnswer → Type 0
 PendingIsTrue given answer = IfSome given (λ text. IfSome answer.pending (λ names. ArePendingIn (script_bytes_read text) answer.reason names.items))
 

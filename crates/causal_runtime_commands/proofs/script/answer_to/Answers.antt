@@ -2,7 +2,7 @@ use Rattle.std.proofs.Common.{◌≡◌, subst, sym, IfOk}
 use Rattle.std.proofs.lemmas.Result.{IfOk-weaker}
 use Rattle.causal_lines.specs.Canonical.{canonical_text}
 use Rattle.causal_runtime_commands.specs.Runs.{IsScriptAnswer}
-use Rattle.causal_runtime_commands.proofs.PendingLemmas.{nothing_told, pending_told}
+use Rattle.causal_runtime_commands.proofs.PendingLemmas.{none_pending, pending_of_text}
 use Rattle.causal_runtime_commands.proofs.script.answer_to.Goals as goal
 
 pub returns-in-Err-clause-ok : goal.returns-in-Err-clause-ok
@@ -27,12 +27,12 @@ returns-clause-ok g c =
 
 pub returns-clause-pending : goal.returns-clause-pending
 returns-clause-pending g c =
-    IfOk-weaker c.refused_answer.result _ _ (λ answer h. pending_told c.args.text.now c.in-Ok.script c.in-Err-run_script.fault answer.reason answer.pending (λ names. names.items) c.in-Ok.ensures.ok h) c.refused_answer.ensures.pending
+    IfOk-weaker c.refused_answer.result _ _ (λ answer h. pending_of_text c.args.text.now c.in-Ok.script c.in-Err-run_script.fault answer.reason answer.pending (λ names. names.items) c.in-Ok.ensures.ok h) c.refused_answer.ensures.pending
 
 pub returns-in-Ok-run_script-clause-pending : goal.returns-in-Ok-run_script-clause-pending
 returns-in-Ok-run_script-clause-pending g c =
-    IfOk-weaker c.line_answer.result _ _ (λ answer h. nothing_told c.args.text.now answer.reason answer.pending (λ names. names.items) h) c.line_answer.ensures.pending
+    IfOk-weaker c.line_answer.result _ _ (λ answer h. none_pending c.args.text.now answer.reason answer.pending (λ names. names.items) h) c.line_answer.ensures.pending
 
 pub returns-in-Err-clause-pending : goal.returns-in-Err-clause-pending
 returns-in-Err-clause-pending g c =
-    IfOk-weaker c.fault_answer.result _ _ (λ answer h. nothing_told c.args.text.now answer.reason answer.pending (λ names. names.items) h) c.fault_answer.ensures.pending
+    IfOk-weaker c.fault_answer.result _ _ (λ answer h. none_pending c.args.text.now answer.reason answer.pending (λ names. names.items) h) c.fault_answer.ensures.pending

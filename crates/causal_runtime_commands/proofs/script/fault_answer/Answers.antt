@@ -12,5 +12,6 @@ returns-in_default c = record {
       subst (λ e. IsScriptAnswer text e answer.text.items) (sym h.0)
       (c.args.fault, first c.in_default.not-NoMemory, subst (λ r. IfOk r (λ line. line.items ≡ script_line c.args.fault)) h.1 c.script_line.ensures)) c.line_answer.ensures.ok;
   reason = IfOk-weaker c.line_answer.result _ _ (λ answer h. λ text first. subst (λ r. IfSome r (IsReason text)) (sym h) (first c.in_default.not-NoMemory)) c.line_answer.ensures.reason;
+  pending = c.line_answer.ensures.pending;
   err = c.line_answer.ensures.err;
 }
