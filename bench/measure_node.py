@@ -1,8 +1,9 @@
 #!/usr/bin/env python3
-"""Measures a delivery of a node by the C library (node_calls.c), beside the same in plain Rust (node_plain.rs), and one of a node that
-never sends, and the memory of the names of received messages. It prints a section of RESULTS.md, and puts it there if it is told to.
+"""Measures a delivery of a node by the C library (node_calls.c), beside the same in plain Rust (node_plain.rs) and on a core (`runtime/`),
+and one of a node that never sends, and the memory of the names of received messages. It prints a section of RESULTS.md, and puts it there
+if it is told to.
 
-    bench/measure_node.py [--library bindings/out] [--write]
+    bench/measure_node.py [--library bindings/out] [--core bench/out/runtime_bench] [--write]
 """
 import argparse
 import os
@@ -38,13 +39,14 @@ def numbers(words):
     return list(map(int, subprocess.run(words, capture_output=True, text=True, check=True).stdout.split()))
 
 
-def row(calls, plain, carried, folder):
+def row(calls, plain, core, carried, folder):
     """The least of some runs, in turn."""
-    path = os.path.join(folder, "parcels")
-    runs = [numbers([calls, str(carried), path]) + numbers([plain, path]) for _ in range(RUNS)]
-    length, copy, delivery, line, send, plainly = map(min, zip(*runs))
+    path, word = os.path.join(folder, "parcels"), str(carried)
+    runs = [numbers([calls, word, path]) + numbers([plain, path]) + numbers([core, "relay", word]) for _ in range(RUNS)]
+    length, copy, delivery, line, send, plainly, of_core = map(min, zip(*runs))
     each = f"{(length - 40 - BODY) / carried:.0f}" if carried else ""
-    return f"| {carried + 1} | {length} | {each} | {copy} | {delivery:,} | {plainly:,} | {delivery / plainly:.2f} | {line:,} | {send:,} |"
+    return (f"| {carried + 1} | {length} | {each} | {copy} | {delivery:,} | {plainly:,} | {delivery / plainly:.2f} | {of_core:,} "
+            f"| {delivery / of_core:.2f} | {line:,} | {send:,} |")
 
 
 def open_row(calls, count):
@@ -57,10 +59,16 @@ def names_row(calls, apart):
     return f"| {apart} | {each} |"
 
 
-def section(library):
+def is_proved(core):
+    """Whether bench/run has built the program: it proves what it builds, and then writes a file beside it."""
+    beside = core + ".sources"
+    return os.path.exists(beside) and os.path.getmtime(beside) >= os.path.getmtime(core)
+
+
+def section(library, core):
     with tempfile.TemporaryDirectory() as folder:
         calls, plain = built(library, folder)
-        rows = [row(calls, plain, carried, folder) for carried in CARRIED]
+        rows = [row(calls, plain, core, carried, folder) for carried in CARRIED]
         open_rows = [open_row(calls, count) for count in OPEN]
         names_rows = [names_row(calls, apart) for apart in APART]
     facts = facts_of(library)
@@ -71,12 +79,14 @@ def section(library):
         f"- Load: {os.getloadavg()[0]:.1f} processes",
         "",
         "A delivery of a message of 100 bytes by `nixu_node_receive` (`bench/measure_node.py`); what it carries is new. Nanoseconds of processor",
-        f"time, the least of {RUNS} runs. *plain*: the same with maps in plain Rust. *line*: `nixu_node_line`. *send*: `nixu_node_send` and its",
-        "parcel. The target is 3,000 beyond copying, and 24 bytes for each determinant that is carried.",
+        f"time, the least of {RUNS} runs. *plain*: the same with maps in plain Rust. *core*: a delivery of the same message on the runtime's core",
+        f"(`runtime_bench relay`), in a program that is built {'with' if is_proved(core) else 'without'} proof. *line*: `nixu_node_line`. *send*:",
+        "`nixu_node_send` and its parcel. The targets are 3,000 beyond copying, 1.5 times the core's delivery, and 24 bytes for each determinant",
+        "that is carried.",
         *(["The library is built without proof too."] if facts["proved"] != "yes" else []),
         "",
-        "| listed | bytes | for each carried | copying | delivery | plain | delivery / plain | line | send |",
-        "|---|---|---|---|---|---|---|---|---|",
+        "| listed | bytes | for each carried | copying | delivery | plain | delivery / plain | core | delivery / core | line | send |",
+        "|---|---|---|---|---|---|---|---|---|---|---|",
         *rows,
         "",
         "A node that receives so many messages, and neither sends nor stores: all their determinants stay open. *delivery*: nanoseconds for",
@@ -108,11 +118,14 @@ def put(made):
 def main():
     given = argparse.ArgumentParser(description=__doc__.split("\n\n")[0])
     given.add_argument("--library", default=os.path.join(TOP, "bindings", "out"), help="the folder that bindings/build wrote")
+    given.add_argument("--core", default=os.path.join(HERE, "out", "runtime_bench"), help="the program over the runtime that bench/run built")
     given.add_argument("--write", action="store_true", help="put the section into RESULTS.md")
     words = given.parse_args()
     if words.write and facts_of(words.library)["proved"] != "yes":
         sys.exit(f"bench/measure_node.py: {words.library} is built without proof, and slower; bindings/build proves it")
-    made = section(os.path.abspath(words.library))
+    if not os.path.exists(words.core):
+        sys.exit(f"bench/measure_node.py: there is no {words.core}; bench/run --only runtime builds it")
+    made = section(os.path.abspath(words.library), os.path.abspath(words.core))
     print(made)
     if words.write:
         put(made)
