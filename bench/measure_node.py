@@ -83,7 +83,7 @@ def section(library, core):
         f"(`runtime_bench relay`), in a program that is built {'with' if is_proved(core) else 'without'} proof. *line*: `nixu_node_line`. *send*:",
         "`nixu_node_send` and its parcel. The targets are 3,000 beyond copying, 1.5 times the core's delivery, and 24 bytes for each determinant",
         "that is carried.",
-        *(["The library is built without proof too."] if facts["proved"] != "yes" else []),
+        *(["The library is built without proof."] if facts["proved"] != "yes" else []),
         "",
         "| listed | bytes | for each carried | copying | delivery | plain | delivery / plain | core | delivery / core | line | send |",
         "|---|---|---|---|---|---|---|---|---|---|---|",
