@@ -11,7 +11,7 @@ _causal_tool() {
         offered="audit explain replays draw merge run help --help --version"
     else
         case ${COMP_WORDS[1]} in
-        audit) offered="--faults --workers --entries --until-breach --until-breach=live --json --help" ;;
+        audit) offered="--faults --workers --entries --until-breach --json --help" ;;
         explain) offered="--faults --workers --entries --json --map --help" ;;
         replays) offered="--workers --entries --json --help" ;;
         draw) offered="--faults --workers --entries --around --only --help" ;;
