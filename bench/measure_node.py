@@ -1,7 +1,7 @@
 #!/usr/bin/env python3
 """Measures a delivery of a node by the C library (node_calls.c), beside the same in plain Rust (node_plain.rs) and on a core (`runtime/`),
-and one of a node that never sends, and the memory of the names of received messages. It prints a section of RESULTS.md, and puts it there
-if it is told to.
+and one of a node that never sends; the memory of the names of received messages; and the reading of hostile parcels. It prints a section
+of RESULTS.md, and puts it there if it is told to.
 
     bench/measure_node.py [--library bindings/out] [--core bench/out/runtime_bench] [--write]
 """
@@ -22,6 +22,8 @@ NAME = "A node by the library"
 CARRIED = (0, 1, 7, 15)
 OPEN = (1_024, 4_096, 16_384, 32_768)
 APART = (1, 2, 8, 64)
+WRONG = ("whole", "cut", "unsorted", "trailing", "count")
+MANY = (4_096, 16_384, 65_536)
 NAMES = 65_536
 RUNS = 5
 BODY = 100
@@ -65,12 +67,22 @@ def is_proved(core):
     return os.path.exists(beside) and os.path.getmtime(beside) >= os.path.getmtime(core)
 
 
+def hostile_row(calls, count):
+    """Nanoseconds for each byte of a message that carries so many determinants, whole and wrong at its end."""
+    each = []
+    for kind in WRONG:
+        length, took = numbers([calls, "hostile", kind, str(count)])
+        each.append(f"{took / length:.2f}")
+    return f"| {count:,} | " + " | ".join(each) + " |"
+
+
 def section(library, core):
     with tempfile.TemporaryDirectory() as folder:
         calls, plain = built(library, folder)
         rows = [row(calls, plain, core, carried, folder) for carried in CARRIED]
         open_rows = [open_row(calls, count) for count in OPEN]
         names_rows = [names_row(calls, apart) for apart in APART]
+        hostile_rows = [hostile_row(calls, count) for count in MANY]
     facts = facts_of(library)
     return "\n".join([
         f"## {NAME}",
@@ -102,6 +114,14 @@ def section(library, core):
         "| apart | bytes |",
         "|---|---|",
         *names_rows,
+        "",
+        "A message that carries so many determinants: nanoseconds of `nixu_node_receive` for each of its bytes, the least of 20. *whole* is",
+        "delivered. The others are refused at their end: *cut* lacks a byte, *unsorted* has a determinant twice, *trailing* has a byte more,",
+        "*count* claims 4,294,967,295 determinants.",
+        "",
+        "| carried | " + " | ".join(WRONG) + " |",
+        "|" + "---|" * (len(WRONG) + 1),
+        *hostile_rows,
         "",
     ])
 

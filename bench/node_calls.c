@@ -14,7 +14,13 @@
    Or process 2 receives so many messages whose numbers are so far apart, and stores and forgets after each 64. Prints the bytes of
    heap that it takes for each: what it keeps of a name.
 
-   node_calls names APART COUNT */
+   node_calls names APART COUNT
+
+   Or process 2 receives a message that carries so many determinants: `whole`, or wrong at its end, so that it is read as far as one
+   can: `cut` lacks the last byte, `unsorted` has the last determinant twice, `trailing` has a byte more, and `count` claims four
+   thousand million determinants. Prints its length, and the nanoseconds of nixu_node_receive.
+
+   node_calls hostile KIND COUNT */
 #define _POSIX_C_SOURCE 200809L
 #include "nixu.h"
 
@@ -208,8 +214,62 @@ static int names(uint32_t apart, uint32_t count) {
   return 0;
 }
 
+static uint8_t *number(uint8_t *at, uint32_t value) {
+  for (int k = 0; k < 4; k++) at[k] = (uint8_t)(value >> (24 - 8 * k));
+  return at + 4;
+}
+
+/* A determinant of a delivery of process 0, with no other holder. */
+static uint8_t *determinant(uint8_t *at, uint32_t value) {
+  *at++ = 1;
+  at = number(at, value);
+  *at++ = 0;
+  at = number(at, value);
+  *at++ = 0;
+  return at;
+}
+
+/* The message to process 2 whose head is that of another. */
+static size_t make_long(uint8_t *at, const parcel *other, const char *kind, uint32_t count) {
+  uint8_t *end = at + SSN;
+  memcpy(at, other->at, SSN);
+  end = number(end, 0);
+  end = number(end, strcmp(kind, "count") ? count : UINT32_MAX);
+  for (uint32_t k = 0; k < count; k++) end = determinant(end, k + 1 == count && !strcmp(kind, "unsorted") ? k - 1 : k);
+  end = number(end, BODY);
+  memset(end, 0, BODY + 1);
+  end += BODY + !strcmp(kind, "trailing") - !strcmp(kind, "cut");
+  return (size_t)(end - at);
+}
+
+static int hostile(const char *kind, uint32_t count) {
+  static parcel given;
+  uint8_t *bytes = malloc(64 + BODY + 11 * (size_t)count);
+  double least = 1e12;
+  size_t length = 0;
+  if (!bytes) return 1;
+  for (int run = 0; run < RUNS; run++) {
+    nixu_node zero = {0}, two = {0};
+    nixu_node_received received;
+    open_node(&zero, 0);
+    open_node(&two, 2);
+    send(&zero, 2, &given);
+    length = make_long(bytes, &given, kind, count);
+    double began = nanoseconds();
+    uint32_t status = nixu_node_receive(&two, now++, bytes, length, &received, &fault);
+    least = least_of(least, began, 1);
+    if ((status == NIXU_OK) != !strcmp(kind, "whole")) must(status ? status : UINT32_MAX);
+    nixu_node_close(&zero);
+    nixu_node_close(&two);
+  }
+  free(bytes);
+  printf("%lu %.0f\n", (unsigned long)length, least);
+  return 0;
+}
+
 int main(int count, char **words) {
   FILE *file;
+  if (count == 4 && !strcmp(words[1], "hostile")) return hostile(words[2], (uint32_t)atoi(words[3]));
   if (count == 4 && !strcmp(words[1], "names")) return names((uint32_t)atoi(words[2]), (uint32_t)atoi(words[3]));
   if (count == 3 && !strcmp(words[1], "open")) return open_deliveries(atoi(words[2]));
   uint32_t carried = count > 1 ? (uint32_t)atoi(words[1]) : 0;
