@@ -143,7 +143,7 @@ def check(shape, f, most):
         sys.exit(f"{shape} f={f}: the plain reader says {said}")
 
 
-def made(shape, f, entries, most):
+def made(shape, f, entries, most=generate.MAX_RESTARTS):
     """The file of a run, and what is known of it. What an earlier call has made is taken as it is."""
     name = f"{shape}{most}" if shape == "restarts" and most != generate.MAX_RESTARTS else shape
     path = os.path.join(INPUTS, f"long-{name}-{f}-{entries}.jsonl")
