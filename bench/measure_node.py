@@ -11,6 +11,7 @@ import re
 import subprocess
 import sys
 import tempfile
+import time
 
 HERE = os.path.dirname(os.path.abspath(__file__))
 TOP = os.path.dirname(HERE)
@@ -87,6 +88,7 @@ def section(library, core):
     return "\n".join([
         f"## {NAME}",
         "",
+        f"- Date: {time.strftime('%Y-%m-%d %H:%M', time.gmtime())} UTC",
         f"- Program: commit {facts['commit']}",
         f"- Load: {os.getloadavg()[0]:.1f} processes",
         "",
