@@ -1,7 +1,7 @@
 -- Facts about the entries of a well-formed run.
 use Rattle.causal_audit.proofs.Common.{ℕ, ◌≡◌, ◌<◌, inl, inr, true, false, cond, List, [], ◌∷◌, length, Option, Some, None, refl, arith, ◌==◌, option_map_or, false≢true, eqb-true, Pid, Det, Entry, Send, Deliver, Stable, Crash, Restart, Forget, is_down, lane, restarts, listed_in, listed_by, entry_at, is_send_to, is_sent_to, det_of, det_at, first_fault, AreLegalEntries, actor, is_delivery_of, IsEventOf, Delivers, row_fails}
 use Rattle.causal_audit.specs.Numbers.{is_delivery}
-use Rattle.causal_trace.specs.Rows.{refusal_rows}
+use Rattle.causal_trace.specs.Rows.{rows_within, refusal_rows}
 use Rattle.causal_trace.specs.declared.fault.TraceFault.TheVariants.{NotUp}
 use Rattle.causal_trace.proofs.Lemmas.EntryFacts.{delivery_sent}
 use Rattle.causal_trace.proofs.Lemmas.WellFormed.{within_limits, limits}
@@ -10,13 +10,8 @@ use Rattle.causal_audit.proofs.Shown.{send_inside, deliver_inside}
 module _ (n : ℕ) (past : List Entry) where
   -- the sender of a send is up
   pub sends_up : (from to : Pid) (ssn : ℕ) → first_fault n past (Send from to ssn) ≡ None → is_down past from.0 ≡ false
-  unfolding refusal_rows
+  unfolding rows_within
   sends_up from to ssn legal = row_fails (refusal_rows n past (Send from to ssn)) legal 2 (is_down past from.0, NotUp) refl
-
-  -- before a restart there are lanes left
-  pub restarts_few : (who : Pid) (listed : List Det) → first_fault n past (Restart who listed) ≡ None → restarts past < 192
-  unfolding refusal_rows
-  restarts_few who listed legal = grind arith
 
   -- the process of an event is a process of the run, and up
   pub actor_inside : (e : Entry) (p : ℕ) → first_fault n past e ≡ None → actor e ≡ Some p → p < n

@@ -51,7 +51,7 @@ fits_option past p det o h = grind (arith, marked_fits)
 
 -- each determinant that p logs was delivered, so its stable entry is legal
 pub stable_legal : (n : ℕ) (past : List Entry) (p : ℕ) (det : Det) (m : Memory) → MatchesEntries past p m → is_some (fin.get m.log det) ≡ true → length past < 16777216 → listed_in past ≤ 268435456 → Rows.first_fault n past (Stable det) ≡ None
-unfolding Rows.refusal_rows
+unfolding Rows.rows_within
 stable_legal n past p det m fit logged short within = grind (arith, logged_passes)
 
 -- the stable entry of a determinant that an up process of a run logs is legal

@@ -76,7 +76,7 @@ forgotten_held r ms p listed run_data process is next =
 -- if the runtime does not refuse a forget, its entry is legal in the trace
 pub forget_legal : (r : Run) (p : Pid) (listed : List Det) → AllMatchEntries r.recording.processes r.recording.past (memories_of r) → first_fault r (Requests.Forget p) ≡ None → listed ≡ dets_to_forget r p → 1 ≤ length listed
     → (p.0 < r.recording.processes) × (Rows.first_fault r.recording.processes r.recording.past (Forget p listed) ≡ None)
-unfolding refusal_rows Rows.refusal_rows
+unfolding refusal_rows Rows.rows_within
 forget_legal r p listed fit none is some = grind (arith, fits_up, there, stable_ascends, stable_all)
 
 -- the list of a forget that is not refused has at most the limit's length

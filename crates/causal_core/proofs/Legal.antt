@@ -53,7 +53,7 @@ fits_up past p m h h2 = grind arith
 
 -- if the runtime does not refuse a crash, its entry is legal in the trace
 pub crash_legal : (r : Run) (p : Pid) → AllMatchEntries r.recording.processes r.recording.past (memories_of r) → IsWellFormed r.recording → first_fault r (Requests.Crash p) ≡ None → (p.0 < r.recording.processes) × (Rows.first_fault r.recording.processes r.recording.past (Crash p) ≡ None)
-unfolding refusal_rows Rows.refusal_rows
+unfolding refusal_rows Rows.rows_within
 crash_legal r p fit formed none = grind (arith, formed_short)
 
 same_then : (n : ℕ) (b : Bool) → ((n == n) || b) ≡ true

@@ -153,5 +153,5 @@ module _ (r : Run) (q source : Pid) (ssn : ℕ) (d : MayDeliver r q source ssn) 
 
   -- if the runtime does not refuse a delivery, its entry is legal in the trace
   pub legal : Rows.first_fault r.recording.processes r.recording.past (delivery_of r q (message_name source ssn)) ≡ None
-  unfolding Rows.refusal_rows
+  unfolding Rows.rows_within
   legal = grind (arith, rsn_is, sent_to, ascending, known, d.long)

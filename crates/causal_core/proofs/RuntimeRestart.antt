@@ -62,7 +62,7 @@ module _ (P : Det → Bool) where
 
 -- each stable determinant was delivered
 stable_delivered : (n : ℕ) (past : List Entry) → AreLegalEntries n past → (d : Det) → is_stable past d ≡ true → is_delivered past d ≡ true
-unfolding Rows.refusal_rows
+unfolding Rows.rows_within
 stable_delivered n [] h d h2 = grind arith
 stable_delivered n (each ∷ others) h d h2 = grind (arith, stable_delivered n others)
 
@@ -91,7 +91,7 @@ may_restart r p fit none = grind arith
 
 -- then its entry is legal
 pub restart_legal : (r : Run) (p : Pid) → MayRestart r p → are_delivered r.recording.past (restart_list r p) ≡ true → Rows.first_fault r.recording.processes r.recording.past (Restart p (restart_list r p)) ≡ None
-unfolding Rows.refusal_rows
+unfolding Rows.rows_within
 restart_legal r p may delivered = grind (arith, map_ascends, may.down, may.long)
 
 -- a restart is an entry of its process only

@@ -27,7 +27,7 @@ eqb_refl n = grind arith
 
 -- if the trace has capacity, the next send of an up process is a legal entry
 pub send_legal : (n : ℕ) (past : List Entry) (q to : Pid) (m : Memory) → q.0 < n → to.0 < n → MatchesEntries past q.0 m → length past < 16777216 → listed_in past ≤ 268435456 → Rows.first_fault n past (Send q to (length m.sent)) ≡ None
-unfolding Rows.refusal_rows
+unfolding Rows.rows_within
 send_legal n past q to m from process fit short within = grind arith
 
 -- the last element of a list with one more

@@ -29,7 +29,7 @@ use causal_name::{NoMemory, Pid};
 use causal_process::Outgoing;
 use causal_protocol::request::{CoreFault, Restarted};
 use causal_trace::entry::{Dets, Entry};
-use causal_trace::limits::MAX_RESTARTS;
+use causal_trace::limits::DEFAULT_RESTARTS;
 use std::alloc::Global;
 
 /// Stores the memory of process p.
@@ -62,7 +62,7 @@ impl RunData {
             ≡ (exceeds_limits self.now.run 9 listed || nat_le 192
             (restarts self.now.run.recording.past)) }
     {
-        self.trace.restarts() as usize >= MAX_RESTARTS || exceeds_limits(&self.trace, 9, listed)
+        self.trace.restarts() >= DEFAULT_RESTARTS || exceeds_limits(&self.trace, 9, listed)
     }
 
     /// Returns the first refusal that applies to a restart of p that lists the given number of determinants, if there

@@ -6,7 +6,8 @@ use crate::kind::{TextFault, TextKind};
 use causal_name::NoMemory;
 use std::alloc::Global;
 
-fn kind_name(kind: TextKind) -> &'static str
+/// Returns the name of a kind of error: `WrongSsn`.
+pub fn kind_name(kind: TextKind) -> &'static str
     ensures { result.now ≡ kind_name kind }
 {
     match kind {

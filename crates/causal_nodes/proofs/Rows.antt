@@ -11,7 +11,7 @@ use Rattle.causal_trace.specs.declared.entry.Entry.TheVariants.{Send, Deliver, S
 use Rattle.causal_trace.specs.declared.fault.TraceFault.{TraceFault}
 use Rattle.causal_trace.specs.Limits.{max_entries, max_listed, max_restarts}
 use Rattle.causal_trace.specs.Past.{list_has, is_down, sends, deliveries, message_at, is_sent_to, det_of, is_delivered, has_delivered, listed_by, listed_in, restarts}
-use Rattle.causal_trace.specs.Rows.{exceeds_any_limit, are_delivered, are_delivered_with, refusal_rows, first_refusal, first_fault, AreLegalEntries}
+use Rattle.causal_trace.specs.Rows.{exceeds_any_limit, are_delivered, are_delivered_with, rows_within, refusal_rows, first_refusal, first_fault, AreLegalEntries}
 use Rattle.causal_world.proofs.Lemmas.Functions.{below_is}
 
 -- what makes an entry legal, within the limits of a trace
@@ -62,7 +62,7 @@ module _ (n : ℕ) (past : List Entry) (count : length past + 1 ≤ max_entries)
   is_process p low = ap not (below_is p n low)
 
   legal_if : (e : Entry) → IsLegalHere n past e → listed_in past + length (listed_by e) ≤ max_listed → restarts (e ∷ past) ≤ max_restarts → first_fault n past e ≡ None
-  unfolding refusal_rows
+  unfolding rows_within
   legal_if (Send from to ssn) h listed lanes =
       no_refusal (refusal_rows n past (Send from to ssn)) (within 0 listed, (ap not (and_from (nat_lt from.0 n) (nat_lt to.0 n) (below_is from.0 n h.0) (below_is to.0 n h.1)), (h.2, (ap not (eq-eqb ssn (sends past from.0) h.3), tt))))
   legal_if (Deliver to send rsn listed) h few lanes =

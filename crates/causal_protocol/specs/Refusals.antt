@@ -6,7 +6,7 @@ use Rattle.causal_name.specs.declared.Pid.{Pid}
 use Rattle.causal_name.specs.declared.MsgName.{MsgName}
 use Rattle.causal_name.specs.declared.Det.{Det}
 use Rattle.causal_name.specs.Names.{same_message}
-use Rattle.causal_trace.specs.Limits.{max_restarts}
+use Rattle.causal_trace.specs.Limits.{default_restarts}
 use Rattle.causal_protocol.specs.Limits.{max_entries, max_listed}
 use Rattle.causal_trace.specs.Past.{listed_in, restarts}
 use Rattle.causal_log.specs.Logs.{stable_in, unstable_in}
@@ -70,7 +70,7 @@ refusal_rows r (Requests.Crash p) =
 refusal_rows r (Requests.Restart p) =
     fault_if (not (nat_lt p.0 r.recording.processes)) Faults.NoProcess
     ∷ fault_if (is_some (present_at (memories_of r) p.0)) Faults.NotDown
-    ∷ fault_if (exceeds_limits r 9 (length (restart_list r p)) || nat_le max_restarts (restarts r.recording.past)) Faults.Full
+    ∷ fault_if (exceeds_limits r 9 (length (restart_list r p)) || nat_le default_restarts (restarts r.recording.past)) Faults.Full
     ∷ []
 refusal_rows r (Requests.Flush p) =
     fault_if (not (nat_lt p.0 r.recording.processes)) Faults.NoProcess

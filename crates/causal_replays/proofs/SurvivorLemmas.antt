@@ -13,7 +13,7 @@ use Rattle.causal_trace.specs.declared.entry.Entry.{Entry}
 use Rattle.causal_trace.specs.declared.entry.Entry.TheVariants.{Send, Deliver, Stable, Crash, Restart, Forget}
 use Rattle.causal_trace.specs.declared.fault.TraceFault.TheVariants.{NoProcess, NoDelivery}
 use Rattle.causal_trace.specs.Past.{logs, is_stable, is_delivered, is_det, det_of, list_has}
-use Rattle.causal_trace.specs.Rows.{AreLegalEntries, first_fault, refusal_rows, are_delivered, are_delivered_with}
+use Rattle.causal_trace.specs.Rows.{AreLegalEntries, first_fault, rows_within, refusal_rows, are_delivered, are_delivered_with}
 use Rattle.causal_trace.specs.Survivors.{survives}
 use Rattle.causal_trace.proofs.Lemmas.EntryFacts.{row_fails, not_false}
 use Rattle.causal_replays.specs.Inside.Copies.{copied_by, named_by}
@@ -25,11 +25,11 @@ below : (p n : ℕ) → not (nat_lt p n) ≡ false → p < n
 below p n h = elim (cases_lt p n) [ inl k ↦ k | inr k ↦ absurd (false≢true (sym h ∙ ap not (le-ltb p n k))) ]
 
 restart_inside : (n : ℕ) (past : List Entry) (who : Pid) (listed : List Det) → first_fault n past (Restart who listed) ≡ None → who.0 < n
-unfolding refusal_rows
+unfolding rows_within
 restart_inside n past who listed legal = below who.0 n (row_fails (refusal_rows n past (Restart who listed)) legal 1 (not (nat_lt who.0 n), NoProcess) refl)
 
 deliver_inside : (n : ℕ) (past : List Entry) (to : Pid) (send rsn : ℕ) (listed : List Det) → first_fault n past (Deliver to send rsn listed) ≡ None → to.0 < n
-unfolding refusal_rows
+unfolding rows_within
 deliver_inside n past to send rsn listed legal = below to.0 n (row_fails (refusal_rows n past (Deliver to send rsn listed)) legal 1 (not (nat_lt to.0 n), NoProcess) refl)
 
 pub logs_inside : (n : ℕ) (past : List Entry) (p : ℕ) (d : Det) → AreLegalEntries n past → logs past p d ≡ true → p < n
@@ -53,21 +53,21 @@ each_listed test (x ∷ dets) d all h =
     ]
 
 deliver_lists : (n : ℕ) (past : List Entry) (to : Pid) (send rsn : ℕ) (listed : List Det) (d : Det) → first_fault n past (Deliver to send rsn listed) ≡ None → list_has listed d ≡ true → is_delivered (Deliver to send rsn listed ∷ past) d ≡ true
-unfolding refusal_rows
+unfolding rows_within
 deliver_lists n past to send rsn listed d legal h =
     let own = det_of past (Deliver to send rsn listed) in
     each_listed (λ x. is_det own x || is_delivered past x) listed d (not_false (are_delivered_with past own listed) (row_fails (refusal_rows n past (Deliver to send rsn listed)) legal 7 (not (are_delivered_with past own listed), NoDelivery) refl)) h
 
 restart_lists : (n : ℕ) (past : List Entry) (who : Pid) (listed : List Det) (d : Det) → first_fault n past (Restart who listed) ≡ None → list_has listed d ≡ true → is_delivered past d ≡ true
-unfolding refusal_rows
+unfolding rows_within
 restart_lists n past who listed d legal h = each_listed (is_delivered past) listed d (not_false (are_delivered past listed) (row_fails (refusal_rows n past (Restart who listed)) legal 5 (not (are_delivered past listed), NoDelivery) refl)) h
 
 stable_writes : (n : ℕ) (past : List Entry) (det : Det) → first_fault n past (Stable det) ≡ None → is_delivered past det ≡ true
-unfolding refusal_rows
+unfolding rows_within
 stable_writes n past det legal = not_false (is_delivered past det) (row_fails (refusal_rows n past (Stable det)) legal 1 (not (is_delivered past det), NoDelivery) refl)
 
 forget_lists : (n : ℕ) (past : List Entry) (who : Pid) (listed : List Det) → first_fault n past (Forget who listed) ≡ None → are_delivered past listed ≡ true
-unfolding refusal_rows
+unfolding rows_within
 forget_lists n past who listed legal = not_false (are_delivered past listed) (row_fails (refusal_rows n past (Forget who listed)) legal 4 (not (are_delivered past listed), NoDelivery) refl)
 
 all_true : (test : Det → Bool) (dets : List Det) → list_all test dets ≡ true → All (λ d. test d ≡ true) dets
@@ -76,7 +76,7 @@ all_true test (x ∷ dets) h = let each = and_parts (test x) (list_all test dets
 
 -- what a legal entry names is that of a delivery
 pub named_delivered : (n : ℕ) (past : List Entry) (e : Entry) → first_fault n past e ≡ None → All (λ d. is_delivered (e ∷ past) d ≡ true) (named_by e)
-unfolding refusal_rows
+unfolding rows_within
 named_delivered n past e legal = named e legal
   where
     still : (e : Entry) (dets : List Det) → list_all (is_delivered past) dets ≡ true → All (λ d. is_delivered (e ∷ past) d ≡ true) dets

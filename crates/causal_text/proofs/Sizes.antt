@@ -10,7 +10,7 @@ use Rattle.causal_trace.specs.declared.entry.Entry.{Entry}
 use Rattle.causal_trace.specs.declared.entry.Entry.TheVariants.{Send, Deliver, Stable, Crash, Restart, Forget}
 use Rattle.causal_trace.specs.Past.{listed_by, listed_in}
 use Rattle.causal_trace.specs.declared.fault.TraceFault.TheVariants.{NoSend, NotDown, NoDelivery}
-use Rattle.causal_trace.specs.Rows.{Recording, refusal_rows, first_fault, AreLegalEntries, IsWellFormed, FitsLimits}
+use Rattle.causal_trace.specs.Rows.{Recording, rows_within, refusal_rows, first_fault, AreLegalEntries, IsWellFormed, FitsLimits}
 use Rattle.causal_trace.proofs.Lemmas.EntryFacts.{row_fails}
 use Rattle.causal_trace.specs.Sizes.{DetIsBounded, DetsAreBounded, EntryIsBounded, EntriesAreBounded}
 use Rattle.causal_line.specs.declared.parsed_line.ParsedLine.TheVariants as parsed
@@ -98,7 +98,7 @@ length-whole r few small short = grind (arith, canonical_parts, header_short, en
 
 -- the first entry of a run lists nothing
 first_lists : (n : ℕ) (e : Entry) → first_fault n [] e ≡ None → length (listed_by e) ≡ 0
-unfolding refusal_rows
+unfolding rows_within
 first_lists n (Send from to ssn) h = refl
 first_lists n (Deliver to send rsn listed) h = absurd (false≢true (sym (row_fails (refusal_rows n [] (Deliver to send rsn listed)) h 3 (true, NoSend) refl)))
 first_lists n (Stable det) h = refl

@@ -21,7 +21,7 @@ use Rattle.causal_line.specs.Kinds.{text_kind_of}
 use Rattle.causal_line.specs.Values.{parse_line}
 use Rattle.causal_line.specs.Versions.{number_of, allows}
 use Rattle.causal_text.specs.Spelling.{IsSound}
-use Rattle.causal_trace.proofs.Lemmas.WellFormed.{rows_next}
+use Rattle.causal_trace.proofs.Lemmas.WellFormed.{rows_next, within_next}
 
 -- the parsed line becomes the last one, and the next stage is sound
 pub record Adds (most : ℕ) (s : Stage) (x : ParsedLine) (t : Stage) : Type 0 where
@@ -43,7 +43,7 @@ Adds-begun most number n false true t other is h = rw (eqb-true number 2 is) (Ad
 Adds-begun most number n false false t other third h = absurd (let no : Err kind.Version ≡ Ok t = h in cc)
 
 Adds-admitted : (most : ℕ) (version : Version) (r : Recording) (e : Entry) (o : Option TraceFault) (t : Stage) → fault_within most r e ≡ o → allows version e ≡ true → IsSound most (Within version r) → push_entry version r e o ≡ Ok t → Adds most (Within version r) (parsed.Entry e) t
-Adds-admitted most version r e None t is line w h = grind (arith, rows_next, said_entries)
+Adds-admitted most version r e None t is line w h = grind (arith, rows_next, within_next most r e w.2 is, said_entries)
 Adds-admitted most version r e (Some f) t is line w h = absurd (let no : Err (text_kind_of f) ≡ Ok t = h in cc)
 
 pub Adds-follow : (most : ℕ) (s : Stage) (x : ParsedLine) (t : Stage) → IsSound most s → apply_line most s x ≡ Ok t → Adds most s x t
@@ -51,7 +51,9 @@ Adds-follow most Opening (parsed.Header number n) t w h = Adds-begun most number
 Adds-follow most Opening (parsed.Entry e) t w h = absurd (let no : Err kind.Header ≡ Ok t = h in cc)
 Adds-follow most Opening (parsed.End count) t w h = absurd (let no : Err kind.Header ≡ Ok t = h in cc)
 Adds-follow most (Within version r) (parsed.Header number n) t w h = absurd (let no : Err kind.Header ≡ Ok t = h in cc)
-Adds-follow most (Within version r) (parsed.Entry e) t w h = grind (arith, common_steps, passed, Adds-admitted)
+Adds-follow most (Within version r) (parsed.Entry e) t w h =
+    let p = passed (allows version e) _ kind.Form t h in
+    Adds-admitted most version r e (fault_within most r e) t refl p.0 w p.1
 Adds-follow most (Within version r) (parsed.End count) t w h = grind arith
 Adds-follow most (Ended version r) x t w h = absurd (let no : Err kind.After ≡ Ok t = h in cc)
 

@@ -10,7 +10,7 @@ use Rattle.causal_trace.specs.declared.entry.Entry.TheVariants.{Send, Deliver, S
 use Rattle.causal_trace.specs.declared.fault.TraceFault.TheVariants.{NoProcess}
 use Rattle.causal_trace.specs.declared.lanes.LaneState.{LaneState}
 use Rattle.causal_trace.specs.Past.{is_down, lane, sends, deliveries}
-use Rattle.causal_trace.specs.Rows.{refusal_rows, first_fault}
+use Rattle.causal_trace.specs.Rows.{rows_within, refusal_rows, first_fault}
 use Rattle.causal_trace.specs.Inside.Index.{lane_of, first_lane, lane_after, subject, lanes_after, lanes_after_of, ArePresentLanes, CountersFit}
 use Rattle.causal_trace.proofs.Lemmas.EntryFacts.{row_fails}
 use Rattle.causal_trace.proofs.Lemmas.CountBounds.{sends_few, deliveries_few}
@@ -65,7 +65,7 @@ below_counts a b n h = grind arith
 
 -- the process of a legal entry is a process of the run
 pub subject_there : (n : ℕ) (past : List Entry) (e : Entry) → first_fault n past e ≡ None → IfSome (subject e) (λ p. p.0 < n)
-unfolding refusal_rows
+unfolding rows_within
 subject_there n past (Send from to ssn) h = below_counts from.0 to.0 n (row_fails (refusal_rows n past (Send from to ssn)) h 1 (not (nat_lt from.0 n && nat_lt to.0 n), NoProcess) refl)
 subject_there n past (Deliver to send rsn listed) h = below_count to.0 n (row_fails (refusal_rows n past (Deliver to send rsn listed)) h 1 (not (nat_lt to.0 n), NoProcess) refl)
 subject_there n past (Stable det) h = tt

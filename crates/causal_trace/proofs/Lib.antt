@@ -8,5 +8,6 @@ mod TraceIndex
 mod LaneRecords
 mod Receipts
 mod Rooms
+mod SortedLemmas
 mod Sizes
 mod LaneCounts

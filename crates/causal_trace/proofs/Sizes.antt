@@ -10,7 +10,7 @@ use Rattle.causal_trace.specs.declared.entry.Entry.{Entry}
 use Rattle.causal_trace.specs.declared.entry.Entry.TheVariants.{Send, Deliver, Stable, Crash, Restart, Forget}
 use Rattle.causal_trace.specs.declared.fault.TraceFault.TheVariants.{NoProcess, Lanes, WrongRsn, NoDelivery}
 use Rattle.causal_trace.specs.Past.{restarts, message_at, det_from, det_of, is_det, is_delivered, deliveries}
-use Rattle.causal_trace.specs.Rows.{refusal_rows, first_fault, are_delivered, are_delivered_with, AreLegalEntries}
+use Rattle.causal_trace.specs.Rows.{rows_within, refusal_rows, first_fault, are_delivered, are_delivered_with, AreLegalEntries}
 use Rattle.causal_trace.specs.Sizes.{DetIsBounded, DetsAreBounded, EntryIsBounded, EntriesAreBounded, NumbersAreBounded, LimitsAreKept}
 use Rattle.causal_trace.proofs.Lemmas.CountBounds.{sends_few, deliveries_few}
 use Rattle.causal_trace.proofs.Lemmas.WellFormed.{short_next, formed_short}
@@ -65,7 +65,7 @@ module _ (limit : ℕ) where
 
   -- a legal entry has bounded numbers
   entry_small : (n : ℕ) (past : List Entry) (e : Entry) → n ≤ limit → EntriesAreBounded limit past → length past < 16777216 → first_fault n past e ≡ None → EntryIsBounded limit e
-  unfolding refusal_rows
+  unfolding rows_within
   entry_small n past (Send from to ssn) few h short next = grind (arith, below_both, row_fails, equal, sends_few)
   entry_small n past (Deliver to send rsn listed) few h short next =
       let e : Entry = Deliver to send rsn listed in
@@ -81,13 +81,13 @@ module _ (limit : ℕ) where
   entry_small n past (Restart who listed) few h short next = grind (arith, below, row_fails, all_delivered_small, not_false)
   entry_small n past (Forget who listed) few h short next = grind (arith, below, row_fails, all_delivered_small, not_false)
 
-room : (n m : ℕ) → nat_le 192 n ≡ false → n + 1 ≤ 192
+room : (n m : ℕ) → nat_le 65536 n ≡ false → n + 1 ≤ 65536
 room n m h = grind arith
 
-restarts_few : (n : ℕ) (past : List Entry) → AreLegalEntries n past → restarts past ≤ 192
-unfolding refusal_rows
+restarts_few : (n : ℕ) (past : List Entry) → AreLegalEntries n past → restarts past ≤ 65536
+unfolding rows_within
 restarts_few n [] h = omega arith
-restarts_few n (Restart who listed ∷ past) h = room (restarts past) 0 (row_fails (refusal_rows n past (Restart who listed)) h.1 3 (nat_le 192 (restarts past), Lanes) refl)
+restarts_few n (Restart who listed ∷ past) h = room (restarts past) 0 (row_fails (refusal_rows n past (Restart who listed)) h.1 3 (nat_le 65536 (restarts past), Lanes) refl)
 restarts_few n (Send from to ssn ∷ past) h = restarts_few n past h.0
 restarts_few n (Deliver to send rsn listed ∷ past) h = restarts_few n past h.0
 restarts_few n (Stable det ∷ past) h = restarts_few n past h.0

@@ -13,10 +13,12 @@ use Rattle.causal_trace.specs.declared.entry.Entry.{Entry}
 use Rattle.causal_trace.specs.declared.entry.Entry.TheVariants.{Send, Deliver, Stable, Crash, Restart, Forget}
 use Rattle.causal_trace.specs.declared.fault.TraceFault.TheVariants.{WrongSsn}
 use Rattle.causal_trace.specs.declared.lanes.LaneState.{LaneState}
+use Rattle.causal_trace.specs.declared.sorted_deliveries.SortedDeliveries.{SortedDeliveries}
+use Rattle.causal_trace.specs.Inside.SortedDeliveries.{AreDeliveries}
 use Rattle.causal_trace.specs.Limits.{IsProcessCount}
 use Rattle.causal_trace.specs.Past.{listed_by, lane, sends, restarts, deliveries_in, entry_at, is_send_to, message_sent, message_at, det_from, det_of}
 use Rattle.causal_trace.specs.Numbers.{delivered_dets, number_of}
-use Rattle.causal_trace.specs.Rows.{Recording, refusal_rows, first_fault}
+use Rattle.causal_trace.specs.Rows.{Recording, rows_within, refusal_rows, first_fault}
 use Rattle.causal_trace.specs.State.{with_entry}
 use Rattle.causal_trace.specs.Inside.Index.{AreChains, HasHeads, first_lane, lanes_after, IsIndexed, is_restart}
 use Rattle.causal_trace.specs.Inside.Chains.{Heads, HasHead, ChainsState, head_of, heads_of, heads_after, is_of, nodes_after, with_next_head, with_head, with_message}
@@ -69,7 +71,7 @@ delivers_message n past to send rsn listed h = grind (arith, sends_one, delivers
 
 -- the number of a legal send is its sender's next number
 numbered_next : (n : ℕ) (past : List Entry) (from to : Pid) (ssn : ℕ) → first_fault n past (Send from to ssn) ≡ None → ssn ≡ sends past from.0
-unfolding refusal_rows
+unfolding rows_within
 numbered_next n past from to ssn h = eqb-true ssn (sends past from.0) (not_false (ssn == sends past from.0) (row_fails (refusal_rows n past (Send from to ssn)) h 3 (not (ssn == sends past from.0), WrongSsn) refl))
 
 named_push : (e : Entry) (past : List Entry) (heads : Heads) → IfSome (message_sent e) (HasHead heads) → HasHeads past heads → HasHeads (e ∷ past) heads
@@ -154,12 +156,12 @@ no_heads (suc n) zero = refl
 no_heads (suc n) (suc p) = no_heads n p
 
 -- the initial index is that of no entries
-pub indexed_none : (n : ℕ) (lanes : List LaneState) (c : ChainsState) → IsProcessCount n → lanes ≡ replicate n first_lane → c.heads ≡ replicate n [] → c.nodes ≡ [] → IsIndexed (record { processes = n; past = [] }) 0 0 lanes c
-indexed_none n lanes c count all_fresh no_chains no_nodes = grind (arith, common_steps, no_lanes, length-replicate, no_heads)
+pub indexed_none : (n : ℕ) (lanes : List LaneState) (c : ChainsState) (sorted : SortedDeliveries) → IsProcessCount n → lanes ≡ replicate n first_lane → c.heads ≡ replicate n [] → c.nodes ≡ [] → AreDeliveries sorted [] → IsIndexed (record { processes = n; past = [] }) 0 0 lanes c sorted
+indexed_none n lanes c sorted count all_fresh no_chains no_nodes unused = grind (arith, common_steps, no_lanes, length-replicate, no_heads)
 
 -- the index after a legal entry is that of the past with it
-pub indexed_push : (r : Recording) (e : Entry) (listed restarted l : ℕ) (lanes : List LaneState) (c new : ChainsState) → IsIndexed r listed restarted lanes c → first_fault r.processes r.past e ≡ None → ((d : Det) → det_of r.past e ≡ Some d → l ≡ lane r.past d.dest.0) → new.heads ≡ heads_after (message_sent e) (det_of r.past e) c → new.nodes ≡ nodes_after (message_sent e) (det_of r.past e) l c → IsIndexed (with_entry r e) (listed + length (listed_by e)) (restarted + cond (is_restart e) 1 0) (lanes_after e lanes) new
-indexed_push r e listed restarted l lanes c new was next at heads nodes =
+pub indexed_push : (r : Recording) (e : Entry) (listed restarted l : ℕ) (lanes : List LaneState) (c new : ChainsState) (sorted resorted : SortedDeliveries) → IsIndexed r listed restarted lanes c sorted → first_fault r.processes r.past e ≡ None → ((d : Det) → det_of r.past e ≡ Some d → l ≡ lane r.past d.dest.0) → new.heads ≡ heads_after (message_sent e) (det_of r.past e) c → new.nodes ≡ nodes_after (message_sent e) (det_of r.past e) l c → AreDeliveries resorted (delivered_dets (e ∷ r.past)) → IsIndexed (with_entry r e) (listed + length (listed_by e)) (restarted + cond (is_restart e) 1 0) (lanes_after e lanes) new resorted
+indexed_push r e listed restarted l lanes c new sorted resorted was next at heads nodes deliveries =
     grind (
       arith,
       kept_push r e listed was.kept next,
@@ -168,12 +170,12 @@ indexed_push r e listed restarted l lanes c new was next at heads nodes =
     )
 
 -- a stable entry leaves the index unchanged
-pub indexed_stable : (r : Recording) (det : Det) (listed restarted : ℕ) (lanes : List LaneState) (c : ChainsState) → IsIndexed r listed restarted lanes c → first_fault r.processes r.past (Stable det) ≡ None → IsIndexed (with_entry r (Stable det)) listed restarted lanes c
-indexed_stable r det listed restarted lanes c was next = grind (arith, kept_push, lanes_push)
+pub indexed_stable : (r : Recording) (det : Det) (listed restarted : ℕ) (lanes : List LaneState) (c : ChainsState) (sorted : SortedDeliveries) → IsIndexed r listed restarted lanes c sorted → first_fault r.processes r.past (Stable det) ≡ None → IsIndexed (with_entry r (Stable det)) listed restarted lanes c sorted
+indexed_stable r det listed restarted lanes c sorted was next = grind (arith, kept_push, lanes_push)
 
--- the index depends on the heads and the nodes of the chains only
-pub indexed_same : (r : Recording) (listed restarted : ℕ) (lanes : List LaneState) (c new : ChainsState) → IsIndexed r listed restarted lanes c → new.heads ≡ c.heads → new.nodes ≡ c.nodes → IsIndexed r listed restarted lanes new
-indexed_same r listed restarted lanes c new was heads nodes = grind arith
+-- the index depends on the heads and the nodes of the chains only, and on the deliveries in the sorted set
+pub indexed_same : (r : Recording) (listed restarted : ℕ) (lanes : List LaneState) (c new : ChainsState) (sorted resorted : SortedDeliveries) → IsIndexed r listed restarted lanes c sorted → new.heads ≡ c.heads → new.nodes ≡ c.nodes → AreDeliveries resorted (delivered_dets r.past) → IsIndexed r listed restarted lanes new resorted
+indexed_same r listed restarted lanes c new sorted resorted was heads nodes deliveries = grind arith
 
 -- the sender of a legal send is a process of the run
 pub sender_there : (n : ℕ) (past : List Entry) (e : Entry) → first_fault n past e ≡ None → IfSome (message_sent e) (λ m. m.source.0 < n)

@@ -2,3 +2,4 @@
 pub mod Chains
 pub mod Index
 pub mod Lists
+pub mod SortedDeliveries

@@ -1,5 +1,5 @@
 -- The limits of a trace.
-use Rattle.std.specs.Prelude.{ℕ, ◌*◌, ◌≤◌, Bool, ◌&&◌, nat_le}
+use Rattle.std.specs.Prelude.{ℕ, ◌*◌, ◌/◌, ◌≤◌, Bool, ◌&&◌, nat_le, min, if◌then◌else◌}
 
 -- the maximum number of processes
 abbrev pub max_processes : ℕ
@@ -21,9 +21,18 @@ default_entries = 65536
 abbrev pub listed_limit : ℕ → ℕ
 listed_limit entries = 16 * entries
 
--- the maximum number of restarts
+-- the maximum number of restarts of any trace
 abbrev pub max_restarts : ℕ
-max_restarts = 192
+max_restarts = 65536
+
+-- the default maximum number of restarts
+abbrev pub default_restarts : ℕ
+default_restarts = 192
+
+-- The maximum number of restarts of a trace of at most this many entries: 192 up to the default maximum of entries, and
+-- beyond it one for each 256 entries.
+unfoldable pub restart_limit : ℕ → ℕ
+restart_limit entries = if nat_le entries default_entries then default_restarts else min max_restarts (entries / 256)
 
 -- whether a run may have n processes
 abbrev pub is_process_count : ℕ → Bool

@@ -7,7 +7,7 @@ use Rattle.causal_trace.specs.declared.entry.Entry.{Entry}
 use Rattle.causal_trace.specs.declared.entry.Entry.TheVariants.{Send, Deliver, Stable, Crash, Restart, Forget}
 use Rattle.causal_trace.specs.declared.fault.TraceFault.{TraceFault}
 use Rattle.causal_trace.specs.declared.fault.TraceFault.TheVariants.{Processes, NoMemory, TooLong, NoProcess, NotUp, NotDown, Lanes, WrongSsn, NoSend, WrongRsn, Doubled, Unsorted, NoDelivery}
-use Rattle.causal_trace.specs.Limits.{max_entries, max_listed, max_restarts, default_entries, listed_limit, is_process_count, IsProcessCount}
+use Rattle.causal_trace.specs.Limits.{max_entries, max_listed, max_restarts, default_entries, listed_limit, restart_limit, is_process_count, IsProcessCount}
 use Rattle.causal_name.specs.Names.{is_ascending}
 use Rattle.causal_trace.specs.Past.{is_down, sends, deliveries, message_at, is_sent_to, det_of, is_det, is_delivered, has_delivered, listed_by, listed_in, restarts}
 
@@ -27,16 +27,16 @@ are_delivered past listed = list_all (is_delivered past) listed
 abbrev pub are_delivered_with : List Entry → Option Det → List Det → Bool
 are_delivered_with past own listed = list_all (λ d. is_det own d || is_delivered past d) listed
 
--- The refusal rows of an entry that follows this past in a run of n processes. A row is a test and the error if it
--- holds; the rows are checked in this order.
-unfoldable pub refusal_rows : ℕ → List Entry → Entry → List (Bool × TraceFault)
-refusal_rows n past (Send from to ssn) =
+-- The refusal rows of an entry that follows this past in a run of n processes with at most `most` restarts. A row is a
+-- test and the error if it holds; the rows are checked in this order.
+unfoldable pub rows_within : ℕ → ℕ → List Entry → Entry → List (Bool × TraceFault)
+rows_within most n past (Send from to ssn) =
     (exceeds_any_limit past 0, TooLong)
     ∷ (not (nat_lt from.0 n && nat_lt to.0 n), NoProcess)
     ∷ (is_down past from.0, NotUp)
     ∷ (not (ssn == sends past from.0), WrongSsn)
     ∷ []
-refusal_rows n past (Deliver to send rsn listed) =
+rows_within most n past (Deliver to send rsn listed) =
     (exceeds_any_limit past (length listed), TooLong)
     ∷ (not (nat_lt to.0 n), NoProcess)
     ∷ (is_down past to.0, NotUp)
@@ -46,30 +46,34 @@ refusal_rows n past (Deliver to send rsn listed) =
     ∷ (not (is_ascending listed), Unsorted)
     ∷ (not (are_delivered_with past (det_of past (Deliver to send rsn listed)) listed), NoDelivery)
     ∷ []
-refusal_rows n past (Stable det) =
+rows_within most n past (Stable det) =
     (exceeds_any_limit past 0, TooLong)
     ∷ (not (is_delivered past det), NoDelivery)
     ∷ []
-refusal_rows n past (Crash who) =
+rows_within most n past (Crash who) =
     (exceeds_any_limit past 0, TooLong)
     ∷ (not (nat_lt who.0 n), NoProcess)
     ∷ (is_down past who.0, NotUp)
     ∷ []
-refusal_rows n past (Restart who listed) =
+rows_within most n past (Restart who listed) =
     (exceeds_any_limit past (length listed), TooLong)
     ∷ (not (nat_lt who.0 n), NoProcess)
     ∷ (not (is_down past who.0), NotDown)
-    ∷ (nat_le max_restarts (restarts past), Lanes)
+    ∷ (nat_le most (restarts past), Lanes)
     ∷ (not (is_ascending listed), Unsorted)
     ∷ (not (are_delivered past listed), NoDelivery)
     ∷ []
-refusal_rows n past (Forget who listed) =
+rows_within most n past (Forget who listed) =
     (exceeds_any_limit past (length listed), TooLong)
     ∷ (not (nat_lt who.0 n), NoProcess)
     ∷ (is_down past who.0, NotUp)
     ∷ (not (is_ascending listed), Unsorted)
     ∷ (not (are_delivered past listed), NoDelivery)
     ∷ []
+
+-- the refusal rows of any trace
+abbrev pub refusal_rows : ℕ → List Entry → Entry → List (Bool × TraceFault)
+refusal_rows n past e = rows_within max_restarts n past e
 
 -- the error of the first row that holds
 abbrev pub first_refusal : List (Bool × TraceFault) → Option TraceFault
@@ -103,9 +107,13 @@ pub record IsWellFormed (r : Recording) : Type 0 where
 abbrev pub fault_by_refusal_rows : Recording → Entry → Option TraceFault
 fault_by_refusal_rows r e = first_fault r.processes r.past e
 
--- the first error under the limits of at most `entries` entries, which are checked before the rows
+-- the first error under a limit of restarts, and the other limits of any trace
+abbrev pub fault_by_rows_within : ℕ → Recording → Entry → Option TraceFault
+fault_by_rows_within most r e = first_refusal (rows_within most r.processes r.past e)
+
+-- the first error under the limits of at most `entries` entries; those of entries and lists are checked before the rows
 abbrev pub fault_within : ℕ → Recording → Entry → Option TraceFault
-fault_within entries r e = if exceeds entries r.past (length (listed_by e)) then Some TooLong else fault_by_refusal_rows r e
+fault_within entries r e = if exceeds entries r.past (length (listed_by e)) then Some TooLong else fault_by_rows_within (restart_limit entries) r e
 
 -- the error of a refused entry: its first error, or `NoMemory` if it is legal
 abbrev pub refusal_within : ℕ → Recording → Entry → TraceFault
@@ -123,7 +131,8 @@ fault_next r e = fault_within default_entries r e
 abbrev pub refusal_next : Recording → Entry → TraceFault
 refusal_next r e = refusal_within default_entries r e
 
--- a recording of at most `entries` entries, which list at most the determinants that this limit allows
+-- a recording of at most `entries` entries, with at most the listed determinants and the restarts that this limit allows
 pub record FitsLimits (entries : ℕ) (r : Recording) : Type 0 where
   pub few : length r.past ≤ entries
   pub listed : listed_in r.past ≤ listed_limit entries
+  pub restarted : restarts r.past ≤ restart_limit entries

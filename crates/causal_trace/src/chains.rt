@@ -2,7 +2,7 @@
 ghost use Rattle.std.specs.Prelude.{◌≡◌, ◌<◌, ◌≤◌, ◌+◌, ◌&&◌, ℕ, nat_lt, [], length, map, replicate, Some, IfOk, OnOk, OnErr, vec_len};
 ghost use Rattle.causal_trace.specs.Limits.{max_entries};
 ghost use Rattle.causal_name.specs.Names.{message_of};
-ghost use Rattle.causal_trace.specs.Inside.Chains.{chain_of, head_of, is_newest_in, is_of, least_room, place_of, with_head, with_message, with_receipt, AreLinked, HasHead, IsPlaceBelow};
+ghost use Rattle.causal_trace.specs.Inside.Chains.{chain_of, head_of, is_newest_in, is_of, least_room, place_of, with_head, with_message, with_receipt, AreLinked, HasHead, IfFinished, IsPlaceBelow};
 
 use causal_name::{Det, MsgName, NoMemory, Pid};
 use std::alloc::Global;
@@ -25,6 +25,16 @@ pub(crate) struct Receipt {
 pub(crate) struct Node {
     pub receipt: Receipt,
     pub next: Option<u32>,
+}
+
+/// The number of receipts that a search visits before it turns to another structure, if there is one.
+const FEW_STEPS: usize = 16;
+
+/// The result of a search that visits few receipts: what was found, or that the chain continues.
+#[derive(Clone, Copy)]
+pub(crate) enum Search {
+    Finished(Option<u32>),
+    Unfinished,
 }
 
 /// The receipts of each message. Each process has a list of heads, indexed by send sequence number. A head is the
@@ -152,8 +162,28 @@ impl Chains {
         None
     }
 
+    /// Searches as `find_from` does, but visits at most 16 receipts.
+    pub(crate) fn find_near(&self, begin: Option<u32>, det: Det, among: usize) -> Search
+        requires linked { AreLinked self.now.heads self.now.nodes }
+        requires begin { IsPlaceBelow begin (length self.now.nodes) }
+        ensures { IfFinished result (λ found. found ≡ place_of among det self.now.nodes begin) }
+    {
+        let mut place = begin;
+        for _ in 0..FEW_STEPS {
+            let Some(k) = place else {
+                return Search::Finished(None);
+            };
+            let node = self.nodes[k as usize];
+            if is_of_first(among, det, k, node.receipt) {
+                return Search::Finished(Some(k));
+            }
+            place = node.next;
+        }
+        Search::Unfinished
+    }
+
     /// Returns the index of the message's newest receipt.
-    fn head(&self, message: MsgName) -> Option<u32>
+    pub(crate) fn head(&self, message: MsgName) -> Option<u32>
         ensures { result ≡ head_of self.now.heads message }
     {
         let heads = self.heads.get(message.source.0 as usize)?;

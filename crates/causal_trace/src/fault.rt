@@ -19,7 +19,7 @@ pub enum TraceFault {
     NotUp,
     /// Only a process that is down restarts.
     NotDown,
-    /// A trace has at most 192 restarts.
+    /// A trace has at most 192 restarts, unless the caller's limit of entries allows more.
     Lanes,
     /// A lane (incarnation) numbers its sends from 0, one by one.
     WrongSsn,

@@ -16,6 +16,8 @@ pub mod laws;
 pub mod limits;
 /// Linear scans of the entries.
 mod scans;
+/// The deliveries in the order of their determinants.
+mod sorted_deliveries;
 /// The trace, `push` and the queries.
 pub mod trace;
 

@@ -4,20 +4,27 @@ ghost use Rattle.std.specs.Option.{option_copied, option_map_or};
 ghost use Rattle.causal_name.specs.Names.{is_ascending, message_of};
 ghost use Rattle.causal_trace.specs.Limits.{max_entries};
 ghost use Rattle.causal_trace.specs.Past.{message_sent};
+ghost use Rattle.causal_trace.specs.Numbers.{delivered_dets};
+ghost use Rattle.causal_trace.specs.State.{past_at};
 ghost use Rattle.causal_trace.specs.Inside.Chains.{HasHead, heads_after, nodes_after};
+ghost use Rattle.causal_trace.specs.Inside.SortedDeliveries.{AreDeliveries};
 
-use crate::chains::{Chains, Receipt};
+use crate::chains::{Chains, Receipt, Search};
 use crate::entry::{Dets, Entry};
 use crate::fault::{RefusedEntry, TraceFault};
 use crate::lanes::{LaneState, clone_entries, clone_lanes, count_entry, new_lanes, restarts_in};
-use crate::limits::{DEFAULT_LIMITS, Limits, MAX_ENTRIES, MAX_LISTED, MAX_PROCESSES, MAX_RESTARTS};
+use crate::limits::{DEFAULT_LIMITS, Limits, MAX_ENTRIES, MAX_LISTED, MAX_PROCESSES};
 use crate::scans;
+use crate::sorted_deliveries::SortedDeliveries;
 use causal_name::{Det, MsgName, NoMemory, Pid};
 use std::alloc::Global;
 use std::marker::Model;
 
+/// With more restarts than this, a trace keeps its deliveries sorted, since a message may have many receipts.
+const FEW_RESTARTS: u32 = 192;
+
 /// A trace: a well-formed recorded run of 1 to 256 processes. Every trace is within 16,777,216 entries, 268,435,456
-/// listed determinants and 192 restarts. `push` applies the smaller default limits, `push_within` those of its
+/// listed determinants and 65,536 restarts. `push` applies the smaller default limits, `push_within` those of its
 /// caller.
 ///
 /// Contracts see its recording, and how many further pushes cannot fail to allocate: of any entries, and of stable
@@ -25,7 +32,9 @@ use std::marker::Model;
 ///
 /// Besides the entries it stores each process's present lane (incarnation), and the receivers and lanes of each
 /// message's deliveries. So a push takes O(1) time, plus O(lanes) for the message that it delivers and for each
-/// determinant that it mentions. No input makes it slower.
+/// determinant that it mentions. With more than 192 restarts the deliveries are sorted too: the push that begins this
+/// takes O(entries log entries) time, and from then on a delivery and each mentioned determinant take O(log entries).
+/// If an allocation for this fails, the sorted deliveries are given up. No input makes a push slower.
 #[derive(Drop)]
 pub struct Trace {
     processes: u16,
@@ -34,6 +43,7 @@ pub struct Trace {
     restarts: u32,
     lanes: Vec<LaneState>,
     chains: Chains,
+    sorted: SortedDeliveries,
 }
 
 impl Model for Trace {
@@ -45,7 +55,7 @@ impl Model for Trace {
 
     ghost view = { λ a. record { recording = record { processes = a.processes; past = reverse a.entries.items }; spare = min (vec_capacity a.entries - vec_len a.entries) a.chains.spare; stable_spare = vec_capacity a.entries - vec_len a.entries } };
 
-    ghost invariant = { λ a. IsIndexed (record { processes = a.processes; past = reverse a.entries.items }) a.listed a.restarts a.lanes.items a.chains };
+    ghost invariant = { λ a. IsIndexed (record { processes = a.processes; past = reverse a.entries.items }) a.listed a.restarts a.lanes.items a.chains a.sorted };
 }
 
 impl PartialEq for Trace {
@@ -70,7 +80,7 @@ impl Trace {
     ghost use Rattle.causal_name.specs.declared.Det.{Det};
     ghost use Rattle.causal_trace.specs.Past.{lane, entry_at, listed_in, restarts, deliveries_in, det_at, is_delivered, has_delivered};
     ghost use Rattle.causal_trace.specs.Numbers.{delivered_dets, number_of};
-    ghost use Rattle.causal_trace.specs.Rows.{fault_by_refusal_rows, fault_within, fault_next, refusal_within, refusal_next, returned_entry, IsNewRefusal, exceeds, exceeds_any_limit, are_delivered_with, first_refusal, IsWellFormed};
+    ghost use Rattle.causal_trace.specs.Rows.{fault_by_refusal_rows, fault_by_rows_within, fault_within, fault_next, refusal_within, refusal_next, returned_entry, IsNewRefusal, exceeds, exceeds_any_limit, are_delivered_with, first_refusal, IsWellFormed};
     ghost use Rattle.causal_trace.specs.Inside.Index.{lane_of};
     ghost use Rattle.causal_trace.specs.State.{entries_of, with_entry, is_up_at, lane_at};
 
@@ -93,11 +103,12 @@ impl Trace {
             restarts: 0,
             lanes: new_lanes(alloc, n as usize)?,
             chains: Chains::new(alloc, n as usize)?,
+            sorted: SortedDeliveries::new(alloc),
         })
     }
 
-    /// Appends the entry if it is legal and the trace stays within the default limits: 65,536 entries and 1,048,576
-    /// listed determinants. On an error the entry is dropped and the trace is unchanged.
+    /// Appends the entry if it is legal and the trace stays within the default limits: 65,536 entries, 1,048,576
+    /// listed determinants and 192 restarts. On an error the entry is dropped and the trace is unchanged.
     ///
     /// # Errors
     /// The first variant of `TraceFault` that applies to the entry; `NoMemory` if none applies and an allocation
@@ -119,7 +130,7 @@ impl Trace {
     /// Appends the entry as `push` does, with the caller's limits in place of the default limits.
     ///
     /// # Errors
-    /// Those of `push`; `TooLong` if the trace would exceed these limits.
+    /// Those of `push`; `TooLong` if the trace would exceed these limits, `Lanes` at a restart beyond their number.
     pub fn push_within(&mut self, limits: Limits, entry: Entry) -> Result<(), TraceFault>
         ensures legal { OnOk result (fault_within limits.entries self.old.recording entry ≡ None) }
         ensures ok { OnOk result (self.new.recording ≡ with_entry self.old.recording entry) }
@@ -139,6 +150,7 @@ impl Trace {
     ///
     /// # Errors
     /// Those of `push_within`.
+    #[tactic(auto, using(crate::proofs::Lemmas::WellFormed::rows_next))]
     pub fn try_push(&mut self, limits: Limits, entry: Entry) -> Result<(), RefusedEntry>
         ensures legal { OnOk result (fault_within limits.entries self.old.recording entry ≡ None) }
         ensures ok { OnOk result (self.new.recording ≡ with_entry self.old.recording entry) }
@@ -166,7 +178,7 @@ impl Trace {
         }
     }
 
-    /// Appends a legal entry in reserved capacity. It allocates nothing and cannot fail.
+    /// Appends a legal entry in reserved capacity. It cannot fail; only the sorted deliveries allocate.
     pub fn push_reserved(&mut self, entry: Entry)
         requires legal { fault_by_refusal_rows self.old.recording entry ≡ None }
         requires room { 1 ≤ self.old.spare }
@@ -188,9 +200,13 @@ impl Trace {
     {
         let own = scans::det_of_next(self.entries.as_slice(), &entry);
         let lane = self.receipt_lane(own);
+        let number = self.deliveries();
         self.entries.reserve(1)?;
         add_to_chains(&mut self.chains, &entry, own, lane)?;
         count_entry(self.lanes.as_mut_slice(), &entry);
+        let begins = is_first_of_many(self.restarts, &entry);
+        self.sorted.fill_if(begins, self.entries.as_slice());
+        self.sorted.add_own(own, number);
         self.restarts += restarts_in(&entry);
         self.listed += entry.listed_count() as u32;
         self.entries.push_reserved(entry);
@@ -278,7 +294,7 @@ impl Trace {
         self.listed
     }
 
-    /// Returns the number of restarts, 0 to 192.
+    /// Returns the number of restarts, 0 to 65,536.
     pub fn restarts(&self) -> u32
         ensures value { result ≡ restarts self.now.recording.past }
         ensures few { result ≤ max_restarts }
@@ -317,25 +333,42 @@ impl Trace {
     }
 
     /// Returns the number, counted from 0, of the newest delivery with this determinant among the first `among`
-    /// deliveries; None if there is none. O(lanes that delivered the message) time.
+    /// deliveries; None if there is none. O(lanes that delivered the message) time; with sorted deliveries O(log
+    /// entries).
     pub fn delivery_of(&self, det: Det, among: usize) -> Option<u32>
         ensures value { result ≡ number_of among (delivered_dets self.now.recording.past) det }
         ensures among { IfSome result (λ i. i < among) }
         ensures below { IfSome result (λ i. i < deliveries_in self.now.recording.past) }
     {
-        self.chains.find(det, among)
+        if !self.sorted.is_complete() {
+            return self.chains.find(det, among);
+        }
+        match self
+            .chains
+            .find_near(self.chains.head(det.message()), det, among)
+        {
+            Search::Finished(found) => found,
+            Search::Unfinished => self.sorted.newest(det, among),
+        }
     }
 
     /// Returns the number of the newest delivery with this determinant before delivery `number`, which must have it
     /// too; None if there is none. The search continues in the message's chain from that delivery. All calls for one
-    /// determinant, each with the last result, take O(lanes that delivered the message) time together.
+    /// determinant, each with the last result, take O(lanes that delivered the message) time together; with sorted
+    /// deliveries a call takes O(log entries).
     pub fn older_delivery(&self, det: Det, number: u32) -> Option<u32>
         requires { number_of (number + 1) (delivered_dets self.now.recording.past) det
             ≡ Some number }
         ensures value { result ≡ number_of number (delivered_dets self.now.recording.past) det }
         ensures older { IfSome result (λ i. i < number) }
     {
-        self.chains.find_from(Some(number), det, number as usize)
+        if !self.sorted.is_complete() {
+            return self.chains.find_from(Some(number), det, number as usize);
+        }
+        match self.chains.find_near(Some(number), det, number as usize) {
+            Search::Finished(found) => found,
+            Search::Unfinished => self.sorted.newest(det, number as usize),
+        }
     }
 
     /// Checks whether process p is up after the first t entries; false if p is not below `processes`. O(t) time: a
@@ -372,7 +405,7 @@ impl Trace {
         self.chains.is_newest_in(message, p, lane)
     }
 
-    /// Returns an equal trace.
+    /// Returns an equal trace. O(entries) time; if the deliveries are sorted, they are sorted again.
     ///
     /// # Errors
     /// `NoMemory` if an allocation failed.
@@ -382,6 +415,11 @@ impl Trace {
         let entries = clone_entries(&self.entries)?;
         let lanes = clone_lanes(&self.lanes)?;
         let chains = self.chains.try_clone()?;
+        let sorted = sorted_again(
+            &self.sorted,
+            self.entries.as_slice(),
+            *self.entries.allocator(),
+        );
         Ok(Trace {
             processes: self.processes,
             entries,
@@ -389,6 +427,7 @@ impl Trace {
             restarts: self.restarts,
             lanes,
             chains,
+            sorted,
         })
     }
 
@@ -440,7 +479,7 @@ impl Trace {
         self.entries.len() >= MAX_ENTRIES || listed > MAX_LISTED - self.listed as usize
     }
 
-    #[tactic(auto, unfolding(crate::specs::Rows::refusal_rows))]
+    #[tactic(auto, unfolding(crate::specs::Rows::rows_within))]
     fn send_fault(&self, from: Pid, to: Pid, ssn: u32) -> Option<TraceFault>
         ensures { result ≡ fault_by_refusal_rows self.now.recording (Entry.Send from to ssn) }
     {
@@ -460,7 +499,7 @@ impl Trace {
         None
     }
 
-    #[tactic(auto, unfolding(crate::specs::Rows::refusal_rows))]
+    #[tactic(auto, unfolding(crate::specs::Rows::rows_within))]
     fn deliver_fault(&self, to: Pid, send: u32, rsn: u32, listed: &Dets) -> Option<TraceFault>
         ensures { result ≡ fault_by_refusal_rows self.now.recording
             (Entry.Deliver to send rsn listed.now) }
@@ -488,7 +527,7 @@ impl Trace {
         self.listed_fault(scans::det_from(to, rsn, message), listed)
     }
 
-    #[tactic(auto, unfolding(crate::specs::Rows::refusal_rows))]
+    #[tactic(auto, unfolding(crate::specs::Rows::rows_within))]
     fn stable_fault(&self, det: Det) -> Option<TraceFault>
         ensures { result ≡ fault_by_refusal_rows self.now.recording (Entry.Stable det) }
     {
@@ -501,7 +540,7 @@ impl Trace {
         None
     }
 
-    #[tactic(auto, unfolding(crate::specs::Rows::refusal_rows))]
+    #[tactic(auto, unfolding(crate::specs::Rows::rows_within))]
     fn crash_fault(&self, who: Pid) -> Option<TraceFault>
         ensures { result ≡ fault_by_refusal_rows self.now.recording (Entry.Crash who) }
     {
@@ -517,9 +556,10 @@ impl Trace {
         None
     }
 
-    #[tactic(auto, unfolding(crate::specs::Rows::refusal_rows))]
-    fn restart_fault(&self, who: Pid, listed: &Dets) -> Option<TraceFault>
-        ensures { result ≡ fault_by_refusal_rows self.now.recording (Entry.Restart who listed.now) }
+    #[tactic(auto, unfolding(crate::specs::Rows::rows_within))]
+    fn restart_fault(&self, most: u32, who: Pid, listed: &Dets) -> Option<TraceFault>
+        ensures { result ≡ fault_by_rows_within most self.now.recording
+            (Entry.Restart who listed.now) }
     {
         if self.exceeds_any_limit(listed.as_slice().len()) {
             return Some(TraceFault::TooLong);
@@ -530,13 +570,13 @@ impl Trace {
         if !self.present_lane(who).down {
             return Some(TraceFault::NotDown);
         }
-        if self.restarts as usize >= MAX_RESTARTS {
+        if self.restarts >= most {
             return Some(TraceFault::Lanes);
         }
         self.listed_fault(None, listed)
     }
 
-    #[tactic(auto, unfolding(crate::specs::Rows::refusal_rows))]
+    #[tactic(auto, unfolding(crate::specs::Rows::rows_within))]
     fn forget_fault(&self, who: Pid, listed: &Dets) -> Option<TraceFault>
         ensures { result ≡ fault_by_refusal_rows self.now.recording (Entry.Forget who listed.now) }
     {
@@ -575,12 +615,13 @@ impl Trace {
         if self.exceeds(limits, entry.listed_count()) {
             return Some(TraceFault::TooLong);
         }
-        self.fault_of(entry)
+        self.fault_of(limits.restart_limit(), entry)
     }
 
-    /// Returns the first error of the entry, by the refusal rows.
-    fn fault_of(&self, entry: &Entry) -> Option<TraceFault>
-        ensures { result ≡ fault_by_refusal_rows self.now.recording entry.now }
+    /// Returns the first error of the entry, by the refusal rows with at most `most` restarts.
+    #[tactic(auto, unfolding(crate::specs::Rows::rows_within))]
+    fn fault_of(&self, most: u32, entry: &Entry) -> Option<TraceFault>
+        ensures { result ≡ fault_by_rows_within most self.now.recording entry.now }
     {
         match entry {
             Entry::Send { from, to, ssn } => self.send_fault(*from, *to, *ssn),
@@ -592,10 +633,26 @@ impl Trace {
             } => { self.deliver_fault(*to, *send, *rsn, listed) }
             Entry::Stable { det } => self.stable_fault(*det),
             Entry::Crash { who } => self.crash_fault(*who),
-            Entry::Restart { who, listed } => self.restart_fault(*who, listed),
+            Entry::Restart { who, listed } => self.restart_fault(most, *who, listed),
             Entry::Forget { who, listed } => self.forget_fault(*who, listed),
         }
     }
+}
+
+/// Checks whether the entry is the first restart with which there are more than [`FEW_RESTARTS`], if there are
+/// `restarts` before it.
+fn is_first_of_many(restarts: u32, entry: &Entry) -> bool {
+    restarts == FEW_RESTARTS && restarts_in(entry) == 1
+}
+
+/// Returns the sorted deliveries of these entries if `sorted` is complete; otherwise an unused set.
+fn sorted_again(sorted: &SortedDeliveries, entries: &[Entry], alloc: Global) -> SortedDeliveries
+    requires { length entries.now ≤ max_entries }
+    ensures { AreDeliveries result (delivered_dets (past_at entries.now (length entries.now))) }
+{
+    let mut again = SortedDeliveries::new(alloc);
+    again.fill_if(sorted.is_complete(), entries);
+    again
 }
 
 /// Adds the entry's send or delivery to the chains. `own` is its own determinant, delivered in `lane`.

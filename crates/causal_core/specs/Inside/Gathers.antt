@@ -7,7 +7,7 @@ use Rattle.causal_name.specs.declared.Pid.{Pid}
 use Rattle.causal_name.specs.declared.Det.{Det}
 use Rattle.causal_log.specs.Logs.{LogMap}
 use Rattle.causal_log.specs.Stores.{DetSet, set_has}
-use Rattle.causal_trace.specs.Limits.{max_restarts}
+use Rattle.causal_trace.specs.Limits.{default_restarts}
 use Rattle.causal_trace.specs.Past.{restarts}
 use Rattle.causal_protocol.specs.Memory.{Memories, present_at}
 use Rattle.causal_protocol.specs.Refusals.{first_fault_in, exceeds_limits, fault_if}
@@ -48,7 +48,7 @@ listing_fault r p listed =
     first_fault_in
     (fault_if (not (nat_lt p.0 r.recording.processes)) Faults.NoProcess
     ∷ fault_if (is_some (present_at (memories_of r) p.0)) Faults.NotDown
-    ∷ fault_if (exceeds_limits r 9 listed || nat_le max_restarts (restarts r.recording.past)) Faults.Full
+    ∷ fault_if (exceeds_limits r 9 listed || nat_le default_restarts (restarts r.recording.past)) Faults.Full
     ∷ [])
 
 -- the restart plan of p

@@ -9,7 +9,7 @@ use Rattle.causal_trace.specs.declared.entry.Entry.TheVariants.{Send, Deliver, S
 use Rattle.causal_trace.specs.declared.fault.TraceFault.{TraceFault}
 use Rattle.causal_trace.specs.declared.fault.TraceFault.TheVariants.{NotUp, NotDown, NoSend}
 use Rattle.causal_trace.specs.Past.{is_down, is_sent_to}
-use Rattle.causal_trace.specs.Rows.{refusal_rows, first_refusal, first_fault, AreLegalEntries}
+use Rattle.causal_trace.specs.Rows.{rows_within, refusal_rows, first_refusal, first_fault, AreLegalEntries}
 use Rattle.causal_trace.specs.Dependence.{is_delivery_of}
 use Rattle.causal_trace.proofs.Lemmas.WellFormed.{nothing_told}
 use Rattle.causal_trace.proofs.Lemmas.Instants.{entry_beyond}
@@ -28,17 +28,17 @@ row_fails (first ∷ rest) h (suc k) row at = row_fails rest (nothing_told first
 
 -- the receiver of a legal delivery is up
 pub delivers_up : (n : ℕ) (past : List Entry) (to : Pid) (send rsn : ℕ) (listed : List Det) → first_fault n past (Deliver to send rsn listed) ≡ None → is_down past to.0 ≡ false
-unfolding refusal_rows
+unfolding rows_within
 delivers_up n past to send rsn listed h = row_fails (refusal_rows n past (Deliver to send rsn listed)) h 2 (is_down past to.0, NotUp) refl
 
 -- the process of a legal restart is down
 pub restarts_down : (n : ℕ) (past : List Entry) (who : Pid) (listed : List Det) → first_fault n past (Restart who listed) ≡ None → is_down past who.0 ≡ true
-unfolding refusal_rows
+unfolding rows_within
 restarts_down n past who listed h = not_false (is_down past who.0) (row_fails (refusal_rows n past (Restart who listed)) h 2 (not (is_down past who.0), NotDown) refl)
 
 -- a legal delivery names an earlier send to its receiver
 pub delivers_sent : (n : ℕ) (past : List Entry) (to : Pid) (send rsn : ℕ) (listed : List Det) → first_fault n past (Deliver to send rsn listed) ≡ None → is_sent_to past send to.0 ≡ true
-unfolding refusal_rows
+unfolding rows_within
 delivers_sent n past to send rsn listed h = not_false (is_sent_to past send to.0) (row_fails (refusal_rows n past (Deliver to send rsn listed)) h 3 (not (is_sent_to past send to.0), NoSend) refl)
 
 -- the position of a send to a process is below the length of the past

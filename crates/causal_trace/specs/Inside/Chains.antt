@@ -12,6 +12,8 @@ use Rattle.causal_trace.specs.declared.entry.Entry.{Entry}
 use Rattle.causal_trace.specs.declared.entry.Entry.TheVariants.{Deliver}
 use Rattle.causal_trace.specs.declared.chains.Receipt.{Receipt}
 use Rattle.causal_trace.specs.declared.chains.Node.{Node}
+use Rattle.causal_trace.specs.declared.chains.Search.{Search}
+use Rattle.causal_trace.specs.declared.chains.Search.TheVariants.{Finished, Unfinished}
 use Rattle.causal_trace.specs.Past.{is_message, lane, message_at}
 
 -- the heads of each process, indexed by send sequence number
@@ -92,6 +94,11 @@ place_of m d (node ∷ older) at =
     if option_map_or (λ k. k == length older) at false
     then (if nat_lt (length older) m && is_of d node.receipt then Some (length older) else place_of m d older node.next)
     else place_of m d older at
+
+-- what a search found, if it finished, has this property
+abbrev pub IfFinished : Search → (Option ℕ → Type 0) → Type 0
+IfFinished (Finished found) P = P found
+IfFinished Unfinished P = Unit {0}
 
 -- the least spare capacity of the lists of heads and of the node array
 abbrev pub least_room : List (Vec (Option ℕ) Global) → ℕ → ℕ

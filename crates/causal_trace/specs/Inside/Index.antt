@@ -1,4 +1,4 @@
--- What a trace stores besides its entries: the present lanes and the chains of deliveries.
+-- What a trace stores besides its entries: the present lanes, the chains of deliveries and the sorted deliveries.
 use Rattle.std.specs.Prelude.{◌≡◌, ℕ, ◌+◌, ◌<◌, ◌≤◌, Bool, true, false, List, length, slice_index_or, slice_set, Option, Some, None, IfSome}
 use Rattle.causal_name.specs.declared.Pid.{Pid}
 use Rattle.causal_name.specs.declared.MsgName.{MsgName}
@@ -13,7 +13,9 @@ use Rattle.causal_trace.specs.Numbers.{delivered_dets, number_of}
 use Rattle.causal_trace.specs.Rows.{Recording}
 use Rattle.causal_trace.specs.Bounds.{IsBounded}
 use Rattle.causal_trace.specs.Inside.Chains.{Heads, AreLinked, HasHead, ChainsState, chain, head_of, heads_of, place_of, receipts}
+use Rattle.causal_trace.specs.Inside.SortedDeliveries.{AreDeliveries}
 use Rattle.causal_trace.specs.declared.chains.Node.{Node}
+use Rattle.causal_trace.specs.declared.sorted_deliveries.SortedDeliveries.{SortedDeliveries}
 
 -- the present lane (incarnation) of p
 abbrev pub lane_of : List Entry → ℕ → LaneState
@@ -77,11 +79,12 @@ pub record AreChains (n : ℕ) (past : List Entry) (heads : Heads) (nodes : List
   pub placed : (k : ℕ) (d : Det) → place_of k d nodes (head_of heads (message_of d)) ≡ number_of k (delivered_dets past) d
 
 -- a recording, and what a trace stores besides it
-pub record IsIndexed (r : Recording) (n_listed n_restarts : ℕ) (by_process : List LaneState) (by_message : ChainsState) : Type 0 where
+pub record IsIndexed (r : Recording) (n_listed n_restarts : ℕ) (by_process : List LaneState) (by_message : ChainsState) (by_det : SortedDeliveries) : Type 0 where
   pub kept : IsBounded r n_listed
   pub restarted : n_restarts ≡ restarts r.past
   pub lanes : ArePresentLanes r.processes r.past by_process
   pub chains : AreChains r.processes r.past by_message.heads by_message.nodes
+  pub sorted : AreDeliveries by_det (delivered_dets r.past)
 
 -- whether the entry is a restart
 abbrev pub is_restart : Entry → Bool
