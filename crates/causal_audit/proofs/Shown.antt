@@ -1,7 +1,9 @@
 -- How one more entry changes the sets of down processes and of holders.
-use Rattle.causal_audit.proofs.Common.{ℕ, ◌≡◌, ◌<◌, inl, inr, Bool, true, false, List, [], ◌∷◌, None, refl, sym, ap, subst, ◌∙◌, arith, ◌&&◌, ◌||◌, ◌==◌, not, nat_lt, nat_cmp, nat_cmp_total, unsigned_tied, FinSet, contains, empty, insert, remove, len, contains-empty, contains-insert, contains-remove, false≢true, cases_lt, le-ltb, eqb-true, and_parts, or_cases, nat_tests, Pid, Det, count_below, members_counted, Entry, Send, Deliver, Stable, Crash, Restart, Forget, is_down, logs, list_has, AreLegalEntries, first_fault, row_fails}
-use Rattle.causal_trace.specs.Rows.{refusal_rows}
+use Rattle.causal_audit.proofs.Common.{ℕ, ◌≡◌, ◌<◌, ◌≤◌, inl, inr, Bool, true, false, List, [], ◌∷◌, None, refl, sym, ap, subst, ◌∙◌, arith, ◌&&◌, ◌||◌, ◌==◌, not, nat_lt, nat_cmp, nat_cmp_total, unsigned_tied, FinSet, contains, empty, insert, remove, len, contains-empty, contains-insert, contains-remove, false≢true, cases_lt, le-ltb, eqb-true, and_parts, or_cases, nat_tests, Pid, Det, count_below, count_below-le, members_counted, Entry, Send, Deliver, Stable, Crash, Restart, Forget, is_down, logs, list_has, AreLegalEntries, first_fault, row_fails}
+use Rattle.causal_trace.specs.Rows.{rows_within, refusal_rows}
 use Rattle.causal_trace.specs.declared.fault.TraceFault.TheVariants.{NoProcess}
+use Rattle.causal_holders.specs.Members.{AreProcesses}
+use Rattle.causal_holders.proofs.Lemmas.MemberCounts.{len_counted}
 use Rattle.causal_audit.specs.Verdicts.{HasMembers}
 use Rattle.causal_audit.specs.Inside.DeliveryStates.{HasExactly}
 
@@ -56,19 +58,19 @@ below_both p q n h = elim (cases_lt p n) [ inl k ↦ k | inr k ↦ absurd (false
 
 -- a process that crashes, restarts, delivers or sends is a process of the run
 pub crash_inside : (n : ℕ) (past : List Entry) (who : Pid) → first_fault n past (Crash who) ≡ None → who.0 < n
-unfolding refusal_rows
+unfolding rows_within
 crash_inside n past who legal = below who.0 n (row_fails (refusal_rows n past (Crash who)) legal 1 (not (nat_lt who.0 n), NoProcess) refl)
 
 pub restart_inside : (n : ℕ) (past : List Entry) (who : Pid) (listed : List Det) → first_fault n past (Restart who listed) ≡ None → who.0 < n
-unfolding refusal_rows
+unfolding rows_within
 restart_inside n past who listed legal = below who.0 n (row_fails (refusal_rows n past (Restart who listed)) legal 1 (not (nat_lt who.0 n), NoProcess) refl)
 
 pub deliver_inside : (n : ℕ) (past : List Entry) (to : Pid) (send rsn : ℕ) (listed : List Det) → first_fault n past (Deliver to send rsn listed) ≡ None → to.0 < n
-unfolding refusal_rows
+unfolding rows_within
 deliver_inside n past to send rsn listed legal = below to.0 n (row_fails (refusal_rows n past (Deliver to send rsn listed)) legal 1 (not (nat_lt to.0 n), NoProcess) refl)
 
 pub send_inside : (n : ℕ) (past : List Entry) (from to : Pid) (ssn : ℕ) → first_fault n past (Send from to ssn) ≡ None → from.0 < n
-unfolding refusal_rows
+unfolding rows_within
 send_inside n past from to ssn legal = below_both from.0 to.0 n (row_fails (refusal_rows n past (Send from to ssn)) legal 1 (not (nat_lt from.0 n && nat_lt to.0 n), NoProcess) refl)
 
 pub down_inside : (n : ℕ) (past : List Entry) (p : ℕ) → AreLegalEntries n past → is_down past p ≡ true → p < n
@@ -96,3 +98,7 @@ down_members n past s a shown = record { process = λ p h. down_inside n past p 
 -- the size of a set of exactly the passing numbers is their count
 pub counted : (n : ℕ) (s : FinSet nat_cmp) (test : ℕ → Bool) → HasMembers n s test → len s ≡ count_below n test
 counted n s test m = members_counted n s test (record { process = m.process; member = m.member })
+
+-- a set of processes has at most 256 members
+pub few_members : (s : FinSet nat_cmp) → AreProcesses s → len s ≤ 256
+few_members s inside = omega (arith, len_counted 256 s inside, count_below-le 256 (contains s))

@@ -7,3 +7,4 @@ mod PackedSpans
 pub mod Reachable
 pub mod Receivers
 pub mod DownAfterTurns
+pub mod DownCounts

@@ -3,3 +3,4 @@ pub mod CoverStays
 pub mod LookFindings
 pub mod SurveyAsks
 pub mod Watched
+pub mod SafeByDown

@@ -4,6 +4,8 @@
 pub mod by_process;
 /// A cursor over a list of positions.
 pub mod cursor;
+/// The restarts by the number of processes that are down after them.
+pub mod falls;
 /// Numbered lists of positions.
 pub mod lists;
 /// The positions at which each determinant is mentioned.

@@ -1,6 +1,6 @@
 //! The scan of one determinant: how safe it is at each instant of a run. The result does not depend on a delivery or
 //! its dependents, so deliveries that share a determinant share the scan.
-ghost use Rattle.std.specs.Prelude.{◌≡◌, ◌≤◌, ◌<◌, ◌∷◌, true, length, List, MatchOption};
+ghost use Rattle.std.specs.Prelude.{◌≡◌, ◌≤◌, ◌<◌, ◌∷◌, ◌||◌, true, length, List, MatchOption};
 ghost use Rattle.std.specs.List.Sorted.{IsNonDecreasing};
 ghost use Rattle.causal_trace.specs.declared.entry.Entry.{Entry};
 ghost use Rattle.causal_trace.specs.Limits.{max_entries};
@@ -9,6 +9,7 @@ ghost use Rattle.causal_trace.specs.Rows.{IsWellFormed};
 ghost use Rattle.causal_audit.specs.Inside.PositionLists.{HasNoneUntil, AreMentionsOf, HasMentions};
 ghost use Rattle.causal_audit.specs.Inside.Index.IndexedTraces.{AreMentionsOf-prop};
 ghost use Rattle.causal_audit.specs.Inside.Index.Reachability.{HasReached};
+ghost use Rattle.causal_audit.specs.Inside.SafetyScan.Persistence.{concerns_one};
 
 /// The processes that are down, and those that hold a determinant.
 pub mod down_and_holders;
@@ -69,6 +70,25 @@ fn first_or_end(list: &[u32], end: u32) -> u32
     }
 }
 
+/// Returns whether an entry is a crash or restart of one of these processes.
+fn concerns_one(entry: &Entry, members: Holders) -> bool
+    ensures { result ≡ concerns_one members entry.now }
+{
+    match entry {
+        Entry::Crash { who } => members.contains(who.0),
+        Entry::Restart { who, .. } => members.contains(who.0),
+        _ => false,
+    }
+}
+
+/// Returns whether an entry is a scan's own: it mentions the determinant, or is a crash or restart of a holder, or no
+/// process is released any more.
+fn is_own(lasting: bool, mentioned: bool, entry: &Entry, holders: Holders) -> bool
+    ensures { result ≡ (lasting || (mentioned || concerns_one holders entry.now)) }
+{
+    lasting || mentioned || concerns_one(entry, holders)
+}
+
 /// Returns whether an entry writes the determinant to stable storage.
 fn writes_det(entry: &Entry, det: Det) -> bool
     ensures { result ≡ true → (past : List Entry) → is_stable (entry.now ∷ past) det ≡ true }
@@ -80,7 +100,8 @@ fn writes_det(entry: &Entry, det: Det) -> bool
 }
 
 impl<'a> SafetyScan<'a> {
-    ghost use Rattle.causal_audit.specs.Inside.SafetyScan.Scans.{IsIntervalPassed, IsScanPosition};
+    ghost use Rattle.causal_audit.specs.Inside.SafetyScan.Scans.{IsIntervalPassed, IsKeptUnmentioned, IsScanPosition};
+    ghost use Rattle.causal_audit.specs.Inside.Index.TransitionCursors.{IsCursorAt};
 
     /// Returns a scan position at the first mention, or at `cursor_at` if that is earlier. Before the first mention no
     /// process holds the determinant.
@@ -105,9 +126,36 @@ impl<'a> SafetyScan<'a> {
         }
     }
 
+    /// Returns the next position at which the determinant's safety may change, or `mention` if that is earlier: a
+    /// restart of a watched process, or the first after which too few are down. Advances the cursor to it.
+    fn next_change(
+        &self,
+        scan_position: &ScanPosition<'a>,
+        transitions: &mut TransitionCursor<'a>,
+        mention: u32,
+    ) -> u32
+        requires scan_position { IsScanPosition self.now scan_position.now }
+        requires same { transitions.old.transitions.now ≡ self.now.run.transitions.now }
+        requires order { scan_position.now.t ≤ mention }
+        requires early { mention ≤ self.now.end }
+        ensures bounds { (scan_position.now.t ≤ result) × (result ≤ mention) }
+        ensures passed { IsCursorAt self.now.run.transitions.now result transitions.new }
+        ensures kept { IsKeptUnmentioned self.now scan_position.now result }
+    {
+        let known = &scan_position.down_and_holders;
+        let safety = scan_position.safety;
+        match known.down_bound(safety, self.limit, self.reached) {
+            Some(count) => { transitions.next_fall(known.holders, count, scan_position.t, mention) }
+            None => {
+                let watched = known.watched(safety, self.limit, self.det.dest.0, self.reached);
+                transitions.next_restart(self.run.trace, watched, scan_position.t, mention)
+            }
+        }
+    }
+
     /// Returns the next interval and advances; `None` if the scan is complete. An interval ends at the next entry that
-    /// mentions the determinant or restarts a watched process. Until then these processes remain down or holders. The
-    /// scan is complete once the determinant is stable, or held by too many processes and none is released any more.
+    /// mentions the determinant or may change its safety. The scan is complete once the determinant is stable, or held by
+    /// too many processes and none is released any more.
     pub fn next(&self, scan_position: &mut ScanPosition<'a>) -> Option<SafetyInterval>
         requires { scan_position.old.t ≤ self.now.end → IsScanPosition self.now scan_position.old }
         ensures formed { IsWellFormed self.now.run.trace.now.recording }
@@ -123,20 +171,19 @@ impl<'a> SafetyScan<'a> {
             return None;
         }
         let first = scan_position.t;
-        let safety = scan_position.safety;
-        let mention = scan_position.ahead.next(first, self.end);
-        let watched = scan_position
-            .down_and_holders
-            .watched(safety, self.limit, self.det.dest.0, self.reached);
-        let last = scan_position
-            .transitions
-            .next_restart(self.run.trace, watched, first, mention);
+        let holders = scan_position.down_and_holders.holders;
+        let mut ahead = scan_position.ahead;
+        let mut transitions = scan_position.transitions;
+        let mention = ahead.next(first, self.end);
+        let last = self.next_change(&*scan_position, &mut transitions, mention);
         let stretch = SafetyInterval {
             first,
             last,
-            safety: safety,
+            safety: scan_position.safety,
         };
         scan_position.t = self.end + 1;
+        scan_position.ahead = ahead;
+        scan_position.transitions = transitions;
         if last == self.end {
             return Some(stretch);
         }
@@ -147,10 +194,11 @@ impl<'a> SafetyScan<'a> {
         scan_position
             .down_and_holders
             .apply_entry(scan_position.transitions.down(), entry, mention == last);
+        let lasting = self.run.transitions.no_release_from <= last + 1;
+        let own = is_own(lasting, mention == last, entry, holders);
         scan_position.safety = scan_position
             .down_and_holders
-            .safety(self.limit, self.det.dest.0, self.reached);
-        let lasting = self.run.transitions.no_release_from <= last + 1;
+            .safety_after(own, self.limit, self.det.dest.0, self.reached);
         if lasting && scan_position.safety.is_safe() {
             return Some(stretch);
         }

@@ -1,7 +1,7 @@
 //! The tables of a recorded run, for the audit by vector clocks.
-ghost use Rattle.std.specs.Prelude.{◌≡◌, ◌≤◌, ◌<◌, IfOk, length, Some};
+ghost use Rattle.std.specs.Prelude.{◌≡◌, ◌≤◌, ◌<◌, ◌↔◌, IfOk, length, Some};
 ghost use Rattle.causal_trace.specs.Limits.{max_entries};
-ghost use Rattle.causal_trace.specs.Past.{deliveries_in, det_at};
+ghost use Rattle.causal_trace.specs.Past.{deliveries_in, det_at, restarts};
 ghost use Rattle.causal_trace.specs.Rows.{IsWellFormed};
 ghost use Rattle.causal_audit.specs.Inside.Among.{FirstBreachBy};
 ghost use Rattle.causal_audit.specs.Numbers.{IsNumbered};
@@ -11,7 +11,7 @@ use crate::by_clock::events::clocks_of;
 use crate::by_clock::orphans::first_orphan;
 use crate::index::mentions::{Mentions, mentions_in};
 use crate::index::positions::positions_of;
-use causal_clock::Clocks;
+use causal_clock::{ClockFault, Clocks, OPENED_LANES};
 use causal_name::{Det, NoMemory};
 use causal_trace::trace::Trace;
 use std::alloc::Global;
@@ -42,8 +42,24 @@ impl Tables {
     /// Returns the tables of a trace. Takes O(entries · lanes + listed determinants) time.
     ///
     /// # Errors
-    /// `NoMemory` if allocation fails.
-    pub fn of(alloc: Global, trace: &Trace) -> Result<Tables, NoMemory>
+    /// `Lanes` if the trace has more than [`OPENED_LANES`] restarts, otherwise `NoMemory` if allocation fails.
+    pub fn of(alloc: Global, trace: &Trace) -> Result<Tables, ClockFault>
+        ensures ok { IfOk result (λ tables. tables ≡ trace.now.recording) }
+        ensures lanes { (result ≡ Err ClockFault.Lanes)
+            ↔ (OPENED_LANES < restarts trace.now.recording.past) }
+    {
+        if trace.restarts() > OPENED_LANES {
+            return Err(ClockFault::Lanes);
+        }
+        match Tables::of_few_lanes(alloc, trace) {
+            Ok(tables) => Ok(tables),
+            Err(NoMemory) => Err(ClockFault::NoMemory),
+        }
+    }
+
+    /// Returns the tables of a trace of which the clock can have each lane.
+    fn of_few_lanes(alloc: Global, trace: &Trace) -> Result<Tables, NoMemory>
+        requires { restarts trace.now.recording.past ≤ OPENED_LANES }
         ensures { IfOk result (λ tables. tables ≡ trace.now.recording) }
     {
         let entries = trace.entries();

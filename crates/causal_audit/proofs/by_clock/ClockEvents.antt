@@ -1,12 +1,12 @@
 -- The event of one more entry: it may be added, and the clock then represents one more entry.
-use Rattle.causal_audit.proofs.Common.{ℕ, ◌≡◌, ◌≢◌, ◌+◌, ◌<◌, inl, inr, true, cond, List, [], ◌∷◌, ◌++◌, length, Option, Some, None, refl, sym, ap, ◌∙◌, arith, length-append, false, subst, ◌↔◌, slice_index, slice_set, ◌==◌, get_or-append, get_or-append_seam, false≢true, cases_lt, eq-eqb, ne_eqb, eqb-true, eqb_tells, get_or-set_same, get_or-set_other, length-set, Pid, Det, Entry, Restart, Send, Deliver, Stable, Crash, Forget, lane, restarts, actor, is_delivery_of, IsEventOf, Delivers, event_below, event_lane, AreLegalEntries, delivers_sent, sent_within}
+use Rattle.causal_audit.proofs.Common.{ℕ, ◌≡◌, ◌≢◌, ◌+◌, ◌<◌, ◌≤◌, inl, inr, true, cond, List, [], ◌∷◌, ◌++◌, length, Option, Some, None, refl, sym, ap, ◌∙◌, arith, length-append, false, subst, ◌↔◌, slice_index, slice_set, ◌==◌, get_or-append, get_or-append_seam, false≢true, cases_lt, eq-eqb, ne_eqb, eqb-true, eqb_tells, get_or-set_same, get_or-set_other, length-set, Pid, Det, Entry, Restart, Send, Deliver, Stable, Crash, Forget, lane, restarts, actor, is_delivery_of, IsEventOf, Delivers, event_below, event_lane, AreLegalEntries, delivers_sent, sent_within}
 use Rattle.causal_clock.specs.declared.Event.{Event}
 use Rattle.causal_clock.specs.Timeline.{Timeline, lane_of, send_of, with_event}
 use Rattle.causal_audit.specs.Inside.ByClock.ClockOfRun.{IsClockOf, IsClockWithLanes, CanExtendClock}
 use Rattle.causal_audit.proofs.by_clock.Link.{delivers_below}
 use Rattle.causal_clock.specs.declared.ClockFault.{ClockFault}
 use Rattle.causal_clock.specs.declared.ClockFault.TheVariants.{Lanes as ClockLanes, NoMemory as ClockNoMemory}
-use Rattle.causal_audit.proofs.Legal.{restarts_few, entry_short}
+use Rattle.causal_audit.proofs.Legal.{entry_short}
 use Rattle.causal_audit.proofs.Shown.{send_inside, deliver_inside, restart_inside}
 
 -- ==== one more entry, and one more event for it
@@ -211,7 +211,9 @@ module _ (x : Entry) (c : Timeline) (present : List ℕ) (can : CanExtendClock x
   restarted_in who listed is = (inside who.0 (restart_inside can.processes can.past who listed (accepted_as (Restart who listed) is).1)).0
 
   pub lanes_left : (who : Pid) (listed : List Det) → x ≡ Restart who listed → c.opened < 192
-  lanes_left who listed is = omega (arith, can.mirrors.opened, restarts_few can.processes can.past who listed (accepted_as (Restart who listed) is).1)
+  lanes_left who listed is =
+      let few : restarts can.past + 1 ≤ 192 = subst (λ y. restarts (y ∷ can.past) ≤ 192) is can.lanes in
+      omega (arith, can.mirrors.opened, few)
 
 not_sent : (i : ℕ) → (None ≡ Some i) ↔ (false ≡ true)
 not_sent i = (λ h. absurd (let k : None ≡ Some i = h in cc), λ h. absurd (false≢true h))

@@ -7,10 +7,10 @@ use Rattle.causal_audit.specs.declared.group.walk_input.OpenDelivery.{OpenDelive
 use Rattle.causal_audit.specs.BreachOrder.{earlier_breach}
 use Rattle.causal_audit.specs.Laws.{down_or_holding, IsExposed}
 use Rattle.causal_audit.specs.NewOrphans.{MayGetOrphan}
-use Rattle.causal_audit.specs.Quiet.{is_transition, mentioned_dets}
+use Rattle.causal_audit.specs.Quiet.{mentioned_dets}
 use Rattle.causal_audit.specs.Inside.Among.{FirstBreachBy, HasNoOrphanBy, EarliestAmongBy}
 use Rattle.causal_audit.specs.Inside.DeliveryStates.{BreachAt}
-use Rattle.causal_audit.specs.Inside.Group.Walk.{AreCopiesOfGroup, AreCopies, AreCopiesAfter, copies_at, no_copies, AreHeldBefore, IsLacked, IsSuspect, IsBreachOfPlace, IsWalkStep, position_at, AreStillOpen, HasRow, HaveNoOrphans, IsWalkState, ArePlaces, AreNewlyReached, row, row_of, IsReach, AppliesEntry, IsPlaceAdded, opened_at, RowsAreHeld, IsDeliveredTo, IsHeldBy, CountsEarlier, ArePlacesAt, AreMentionedPlaces, AreMarked}
+use Rattle.causal_audit.specs.Inside.Group.Walk.{AreCopiesOfGroup, AreCopies, AreCopiesAfter, copies_at, is_crash, no_copies, AreHeldBefore, IsLacked, IsSuspect, IsBreachOfPlace, IsWalkStep, position_at, AreStillOpen, HasRow, HaveNoOrphans, IsWalkState, ArePlaces, AreNewlyReached, row, row_of, IsReach, AppliesEntry, IsPlaceAdded, opened_at, RowsAreHeld, IsDeliveredTo, IsHeldBy, CountsEarlier, ArePlacesAt, AreMentionedPlaces, AreMarked}
 use Rattle.causal_audit.specs.Inside.Group.OpenDeliveries.{positions_of, IsDeliveryAt, IsOpenDelivery}
 use Rattle.causal_audit.proofs.AmongLemmas.{among_push, among_wider, among_none}
 use Rattle.causal_audit.proofs.Between.{depends_before, logs_stay, stable_stays}
@@ -58,10 +58,22 @@ copies_held (Crash who) past d copies held are = absurd held
 copies_held (Restart who listed) past d copies held are = absurd held
 copies_held (Forget who listed) past d copies held are = absurd held
 
--- an entry does not change them if it is not a crash or restart, and mentions the determinant at most for a process
+listed_or : (a l b : Bool) → l ≡ false → b ≡ ((a && l) || b)
+listed_or a l b h = grind (arith, nat_tests)
+
+-- who holds a determinant is unchanged by an entry that is not a crash and does not mention it
+logs_kept : (e : Entry) (past : List Entry) (d : Det) → is_crash e ≡ false → list_has (mentioned_dets e) d ≡ false → (p : ℕ) → logs past p d ≡ logs (e ∷ past) p d
+logs_kept (Send from to ssn) past d turn silent p = refl
+logs_kept (Deliver to send rsn listed) past d turn silent p = logs_stay (Deliver to send rsn listed) past d refl silent p
+logs_kept (Stable det) past d turn silent p = refl
+logs_kept (Crash who) past d turn silent p = absurd (false≢true (sym turn))
+logs_kept (Restart who listed) past d turn silent p = listed_or (who.0 == p) (list_has listed d) (logs past p d) silent
+logs_kept (Forget who listed) past d turn silent p = logs_stay (Forget who listed) past d refl silent p
+
+-- an entry does not change them if it is not a crash, and mentions the determinant at most for a process
 -- that logs it
-pub copies_still : (e : Entry) (past : List Entry) (d : Det) (copies : Copies) → is_transition e ≡ false → (list_has (mentioned_dets e) d ≡ false) ⊎ IsDeliveredTo e past d → AreCopies past d copies → AreCopies (e ∷ past) d copies
-copies_still e past d copies turn (inl silent) are = record { holders = λ p. are.holders p ∙ logs_stay e past d turn silent p; stable = are.stable ∙ stable_stays e past d silent }
+pub copies_still : (e : Entry) (past : List Entry) (d : Det) (copies : Copies) → is_crash e ≡ false → (list_has (mentioned_dets e) d ≡ false) ⊎ IsDeliveredTo e past d → AreCopies past d copies → AreCopies (e ∷ past) d copies
+copies_still e past d copies turn (inl silent) are = record { holders = λ p. are.holders p ∙ logs_kept e past d turn silent p; stable = are.stable ∙ stable_stays e past d silent }
 copies_still e past d copies turn (inr held) are = copies_held e past d copies held are
 
 -- the copies at all places except the remaining ones are updated
@@ -196,7 +208,7 @@ in_or_out s j = cases_Bool (contains s j)
 
 -- the copies after a step
 pub copied_next : (r : Recording) (candidates : List OpenDelivery) (s : WalkStep) → IsWalkStep r candidates s → (all held places : FinSet nat_cmp) (old new : List Copies) → ArePlaces candidates all → AreHeldBefore r candidates s held
-    → ((j : ℕ) → contains all j ≡ true → contains places j ≡ false → (is_transition s.entry.now ≡ false) × ((contains s.mentioned j ≡ false) ⊎ (contains held j ≡ true)))
+    → ((j : ℕ) → contains all j ≡ true → contains places j ≡ false → (is_crash s.entry.now ≡ false) × ((contains s.mentioned j ≡ false) ⊎ (contains held j ≡ true)))
     → ((j : ℕ) → contains places j ≡ false → copies_at new j ≡ copies_at old j) → ((j : ℕ) → contains places j ≡ true → AreCopiesAfter s.entry.now (contains s.mentioned j) (copies_at old j) (copies_at new j))
     → AreCopiesOfGroup r candidates s.t old → AreCopiesOfGroup r candidates (s.t + 1) new
 copied_next r candidates s step all held places old new are before quiet others renewed known j d low at =

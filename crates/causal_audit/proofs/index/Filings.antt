@@ -3,7 +3,7 @@ use Rattle.std.proofs.lemmas.Grind.{common_steps}
 use Rattle.causal_audit.proofs.Common.{ℕ, ◌≡◌, ◌≢◌, ◌+◌, ◌<◌, ◌≤◌, inl, inr, true, false, Result, Ok, Err, List, [], ◌∷◌, ◌++◌, length, Option, Some, None, refl, sym, ap, subst, ◌∙◌, arith, Bool, ◌⊎◌, OnOk, Contains, ◌==◌, ◌&&◌, ◌||◌, option_map_or, All, get_or-eq_default, cases_lt, false≢true, cond-true, cond-false, false_from_ne_true, eqb-true, eq-eqb, ne_eqb, and_parts, or_cases, cases_Bool, or_left, or_right, get_or-set_same, get_or-set_other, get_or_past, All-push, All-set, All-get_or, All-weaker, Contains-append_left, Contains-push, Contains-push_cases, IsNonDecreasingBy-push, Entry, entry_at, list_has, nat_cmp, FinSet, contains, empty, remove, contains-empty, IsNonDecreasing, Send, Deliver, Stable, Crash, Restart, Forget, entry_beyond, Det, same_det}
 use Rattle.causal_audit.specs.Inside.Index.Lists.{Ascends, list_at, with_added, AreMentions, AreMentionsWith, mentions_of, AreTransitionsOf, IsFirstCrash, is_transition_of}
 use Rattle.causal_audit.specs.Inside.PositionLists.{HasNoneUntil}
-use Rattle.causal_audit.specs.Inside.SafetyScan.Persistence.{restarts_one, RestartsNone}
+use Rattle.causal_audit.specs.Inside.SafetyScan.Persistence.{restarts_one, CrashesNone, RestartsNone}
 use Rattle.causal_audit.specs.Covered.{IsCrashOf}
 use Rattle.causal_audit.proofs.group.GroupReach.{left_out}
 use Rattle.causal_audit.proofs.Steps.{entry_cases, entry_within}
@@ -132,7 +132,7 @@ first_crash_is past lists p k end c are after within none found = record {
 
 -- ---- the least over some processes
 
--- no process other than the remaining ones restarts before `next`
+-- no process other than the remaining ones has a position before `next`
 abbrev pub RestNone : List (List ℕ) → FinSet nat_cmp → FinSet nat_cmp → ℕ → ℕ → Type 0
 RestNone lists members rest from next =
     (p : ℕ) → contains members p ≡ true → contains rest p ≡ false → HasNoneUntil (list_at lists p) from next
@@ -160,6 +160,12 @@ none_rest past lists members from next are none v e late early at =
     false_from_ne_true (restarts_one members e) (λ is.
     let one = restarted_one members e is in
     false≢true (sym (are.all one.0 v e at (none one.0 one.1 (contains-empty nat_cmp one.0) v late early)) ∙ one.2))
+
+-- and none of them crashes before it
+pub none_crashes : (past : List Entry) (lists : List (List ℕ)) (members : FinSet nat_cmp) (from next : ℕ) → AreTransitionsOf false past lists → RestNone lists members empty from next → CrashesNone past members from next
+none_crashes past lists members from next are none v who late early at =
+    false_from_ne_true (contains members who.0) (λ is.
+    false≢true (sym (are.all who.0 v (Crash who) at (none who.0 is (contains-empty nat_cmp who.0) v late early)) ∙ eq-eqb who.0 who.0 refl))
 
 -- ==== the lists of the entries that mention each determinant
 

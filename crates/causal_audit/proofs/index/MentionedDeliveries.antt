@@ -1,9 +1,9 @@
 -- Each determinant that an entry mentions is that of a delivery, so it has a number.
-use Rattle.causal_audit.proofs.Common.{ℕ, ◌≡◌, ◌+◌, ◌<◌, ◌≤◌, inl, inr, Bool, true, List, [], ◌∷◌, ◌++◌, length, reverse, take, Option, Some, None, refl, sym, ap, subst, ◌∙◌, arith, not, nat_lt, ◌&&◌, ◌||◌, All, All-cons, All-head, All-nil, All-push, All-tail, All-weaker, and_parts, option_map_or, is_some, cases_Bool, cases_lt, cond-true, cond-false, false≢true, or_right, take_all, reverse-append, reverse-reverse, Det, same_det, Entry, Send, Deliver, Stable, Crash, Restart, Forget, Recording, AreLegalEntries, accepted_then, deliveries_in, det_of, entries_of, first_fault, instant, instants_stay, one_more_instant, row_fails}
+use Rattle.causal_audit.proofs.Common.{ℕ, ◌≡◌, ◌+◌, ◌≤◌, inl, inr, Bool, true, List, [], ◌∷◌, length, reverse, take, Option, Some, None, refl, sym, ap, subst, ◌∙◌, arith, not, nat_lt, ◌&&◌, ◌||◌, All, All-cons, All-head, All-nil, All-push, All-tail, All-weaker, and_parts, option_map_or, is_some, cases_Bool, cases_lt, cond-true, cond-false, or_right, take_all, reverse-append, reverse-reverse, Det, same_det, Entry, Send, Deliver, Stable, Crash, Restart, Forget, Recording, AreLegalEntries, accepted_then, deliveries_in, det_of, entries_of, first_fault, instant, instants_stay, one_more_instant, row_fails}
 use Rattle.std.specs.List.{list_all}
 use Rattle.causal_trace.specs.Past.{is_delivered, is_det}
 use Rattle.causal_trace.specs.Numbers.{delivered_dets, number_of}
-use Rattle.causal_trace.specs.Rows.{are_delivered, are_delivered_with, refusal_rows}
+use Rattle.causal_trace.specs.Rows.{are_delivered, are_delivered_with, rows_within, refusal_rows}
 use Rattle.causal_trace.specs.declared.fault.TraceFault.TheVariants.{NoDelivery}
 use Rattle.causal_trace.proofs.Lemmas.DeliveryNumbers.{delivered_numbered, listed_once}
 use Rattle.causal_trace.proofs.Lemmas.EntryFacts.{not_false}
@@ -31,7 +31,7 @@ delivered_still e past dets all = All-weaker (λ d. is_delivered past d ≡ true
 
 -- by the next legal entry
 next_delivered : (n : ℕ) (past : List Entry) (e : Entry) → first_fault n past e ≡ None → AreDelivered (e ∷ past) (mentioned_dets e)
-unfolding refusal_rows
+unfolding rows_within
 next_delivered n past (Send from to ssn) legal = All-nil (λ d. is_delivered (Send from to ssn ∷ past) d ≡ true)
 next_delivered n past (Deliver to send rsn listed) legal =
     let e : Entry = Deliver to send rsn listed in

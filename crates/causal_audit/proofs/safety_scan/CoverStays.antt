@@ -1,5 +1,5 @@
 -- Until when a process remains down or a holder of a determinant, and the determinant's safety until then.
-use Rattle.causal_audit.proofs.Common.{ℕ, ◌≡◌, ◌+◌, ◌<◌, ◌≤◌, inl, inr, Bool, true, false, List, [], ◌∷◌, length, refl, sym, ap, subst, ◌∙◌, arith, Some, None, ◌||◌, ◌&&◌, ◌==◌, not, ◌↔◌, Contains, cases_lt, false≢true, ne_eqb, eqb-true, or_cases, and_parts, or_right, eq-eqb, Det, same_det, count_below, count_below-within, members_counted, Entry, Send, Deliver, Stable, Crash, Restart, Forget, instant, is_down, is_stable, logs, list_has, entry_at, instant_length, det_then, accepted_then, nat_cmp_total, nat_cmp, FinSet, contains, difference, contains-difference, union, len, contains-union, Pid, AreLegalEntries, delivers_up, eqb_tells, nat_tests}
+use Rattle.causal_audit.proofs.Common.{ℕ, ◌≡◌, ◌+◌, ◌<◌, ◌≤◌, inl, inr, Bool, true, false, List, [], ◌∷◌, length, refl, sym, ap, subst, ◌∙◌, arith, Some, None, ◌||◌, ◌&&◌, ◌==◌, not, ◌↔◌, Contains, cases_lt, false≢true, false_from_ne_true, ne_eqb, eqb-true, or_cases, and_parts, or_right, eq-eqb, Det, same_det, count_below, count_below-within, members_counted, Entry, Send, Deliver, Stable, Crash, Restart, Forget, instant, is_down, is_stable, logs, list_has, entry_at, instant_length, det_then, accepted_then, nat_cmp_total, nat_cmp, FinSet, contains, difference, contains-difference, union, len, contains-union, Pid, AreLegalEntries, delivers_up, eqb_tells, nat_tests}
 use Rattle.causal_audit.specs.Laws.{down_or_holding}
 use Rattle.causal_audit.specs.Inside.SafetyScan.Scans.{AreWatched, IsAtRiskAt, RulesOut, IsSafetyOf}
 use Rattle.causal_audit.specs.NoRelease.{may_release, NoneReleasedFrom, RemainsSafe, OrphansEnd}
@@ -122,7 +122,7 @@ holder_up n (Crash who ∷ past) d p formed h = grind (arith, holder_up n past d
 holder_up n (Restart who listed ∷ past) d p formed h = grind (arith, holder_up n past d p formed.0)
 holder_up n (Forget who listed ∷ past) d p formed h = holder_up n past d p formed.0 (and_parts (not (who.0 == p && list_has listed d)) (logs past p d) h).1
 
-up_held : (held down : Bool) → (held ≡ true → down ≡ false) → held ≡ (held && not down)
+pub up_held : (held down : Bool) → (held ≡ true → down ≡ false) → held ≡ (held && not down)
 up_held held down h = grind (arith, nat_tests)
 
 crash_held : (w was down held : Bool) → held ≡ (was && not down) → (not w && held) ≡ (was && not (w || down))
@@ -229,21 +229,35 @@ mentioned_next past d mentions mentioned only t next none v above low found e th
 
 -- ---- until an entry mentions it or restarts a watched process
 
+-- what restarts none of some processes restarts none of fewer
+restarts_within : (inner outer : FinSet nat_cmp) (e : Entry) → ((p : ℕ) → contains inner p ≡ true → contains outer p ≡ true) → restarts_one outer e ≡ false → restarts_one inner e ≡ false
+restarts_within inner outer (Send from to ssn) inside out = refl
+restarts_within inner outer (Deliver to send rsn listed) inside out = refl
+restarts_within inner outer (Stable det) inside out = refl
+restarts_within inner outer (Crash who) inside out = refl
+restarts_within inner outer (Restart who listed) inside out = false_from_ne_true (contains inner who.0) (λ h. false≢true (sym out ∙ inside who.0 h))
+restarts_within inner outer (Forget who listed) inside out = refl
+
 module _ (n : ℕ) (past : List Entry) (formed : AreLegalEntries n past) (d : Det) (t next : ℕ) (within : next ≤ length past) (unmentioned : MentionsNone past d t next) where
+  -- if no holder restarts, the holders that are not down then still hold it
+  pub holds_until : (holders : FinSet nat_cmp) → HasExactly holders (λ p. logs (instant past t) p d) → RestartsNone past holders t next
+      → (u : ℕ) → t ≤ u → u ≤ next → (fell : FinSet nat_cmp) → HasExactly fell (λ p. is_down (instant past u) p) → HasExactly (difference holders fell) (λ p. logs (instant past u) p d)
+  holds_until holders holds unrestarted u up low fell falls p =
+      difference_shown holders fell p (logs (instant past t) p d) (is_down (instant past u) p) (holds p) (falls p)
+      ∙ sym (holders_stay n past d holders t u p formed up (omega (arith, low, within))
+      (λ v e above below. unmentioned v e above (omega (arith, below, low))) (λ v e above below. unrestarted v e above (omega (arith, below, low)))
+      (λ held. holds p ∙ held))
+
   module _ (most : ℕ) (s : DetSafety) (reached down holders watched : FinSet nat_cmp) (watches : AreWatched s most d.dest.0 reached down holders watched) (unrestarted : RestartsNone past watched t next) (downs : HasExactly down (λ p. is_down (instant past t) p))
       (holds : HasExactly holders (λ p. logs (instant past t) p d)) where
     legal : (u : ℕ) → AreLegalEntries n (instant past u)
     legal u = accepted_then n past u formed
 
-    -- the holders that are not down then still hold it
-    pub holds_until : (u : ℕ) → t ≤ u → u ≤ next → (fell : FinSet nat_cmp) → HasExactly fell (λ p. is_down (instant past u) p) → HasExactly (difference holders fell) (λ p. logs (instant past u) p d)
-    holds_until u up low fell falls p =
-        difference_shown holders fell p (logs (instant past t) p d) (is_down (instant past u) p) (holds p) (falls p)
-        ∙ sym (holders_stay n past d watched t u p formed up (omega (arith, low, within))
-        (λ v e above below. unmentioned v e above (omega (arith, below, low))) (λ v e above below. unrestarted v e above (omega (arith, below, low)))
-        (λ held. watches.holding p (holds p ∙ held)))
+    -- no holder restarts
+    pub holders_unrestarted : RestartsNone past holders t next
+    holders_unrestarted v e above below at = restarts_within holders watched e watches.holding (unrestarted v e above below at)
 
-    -- and each watched process is still down or holds it
+    -- each watched process is still down or holds it
     gone_until : (u : ℕ) → t ≤ u → u ≤ next → (p : ℕ) → contains watched p ≡ true → down_or_holding (instant past u) d p ≡ true
     gone_until u up low p inside =
         gone_stay past d watched t u p up (omega (arith, low, within))

@@ -9,44 +9,41 @@ use Rattle.causal_audit.specs.declared.safety_scan.det_safety.SafetyInterval.{Sa
 use Rattle.causal_audit.specs.declared.index.transitions.TransitionCursor.{TransitionCursor}
 use Rattle.causal_audit.specs.Inside.PositionLists.{HasNoneUntil, IsCursor}
 use Rattle.causal_audit.specs.Inside.Index.RunIndexes.{IsTransitionIndex}
-use Rattle.causal_audit.specs.Inside.SafetyScan.Scans.{AreWatched, IsIntervalPassed, IsScanPosition, IsAtRiskAt, IsSafetyOf, RulesOut}
+use Rattle.causal_audit.specs.Inside.SafetyScan.Scans.{IsIntervalPassed, IsKeptUnmentioned, IsKeptUntil, IsScanPosition, IsAtRiskAt, IsSafetyOf, RulesOut}
 use Rattle.causal_audit.specs.Inside.Index.TransitionCursors.{IsCursorAt}
 use Rattle.causal_audit.specs.Inside.DeliveryStates.{HasExactly, ShowsDownAfter, ShowsHoldersAfter}
-use Rattle.causal_audit.specs.Inside.SafetyScan.Persistence.{MentionsNone, RestartsNone}
+use Rattle.causal_audit.specs.Inside.SafetyScan.Persistence.{MentionsNone}
 use Rattle.causal_audit.specs.Quiet.{mentioned_dets}
-use Rattle.causal_audit.proofs.safety_scan.CoverStays.{gone_lasts, holds_until, kept_still, mentioned_next, none_mention, stands_until, none_later, over_then}
+use Rattle.causal_audit.proofs.safety_scan.CoverStays.{gone_lasts, holds_until, kept_still, mentioned_next, none_mention, none_later, over_then}
 use Rattle.causal_audit.proofs.index.Cursors.{cursor_later}
 use Rattle.causal_audit.proofs.Steps.{entry_read, entry_then, next_state}
 use Rattle.causal_audit.proofs.index.DownAfterTurns.{passed_down}
 
--- up to the next change no entry mentions the determinant or restarts a watched process
-pub record IsChange (look : SafetyScan) (scan_position : ScanPosition) (mention change : ℕ) (watched : FinSet nat_cmp) : Type 0 where
+-- up to the next change no entry mentions the determinant, and the scan's position is kept
+pub record IsChange (look : SafetyScan) (scan_position : ScanPosition) (mention change : ℕ) : Type 0 where
   pub formed : AreLegalEntries look.run.trace.now.recording.processes look.run.trace.now.recording.past
   pub at : IsScanPosition look scan_position
-  pub watches : AreWatched scan_position.safety look.limit look.det.dest.0 look.reached scan_position.down_and_holders.down scan_position.down_and_holders.holders watched
   pub up : scan_position.t ≤ change
   pub low : change ≤ mention
   pub early : mention ≤ look.end
   pub none : HasNoneUntil look.mentions.now scan_position.t mention
-  pub unrestarted : RestartsNone look.run.trace.now.recording.past watched scan_position.t change
+  pub kept : IsKeptUnmentioned look scan_position change
 
--- the next change is the next mention, or a restart before it
-pub is_change : (look : SafetyScan) (scan_position : ScanPosition) (mention change : ℕ) (watched : FinSet nat_cmp) → AreLegalEntries look.run.trace.now.recording.processes look.run.trace.now.recording.past → IsScanPosition look scan_position
-    → AreWatched scan_position.safety look.limit look.det.dest.0 look.reached scan_position.down_and_holders.down scan_position.down_and_holders.holders watched
-    → (scan_position.t ≤ mention) × (mention ≤ look.end) → (scan_position.t ≤ change) × (change ≤ mention) → ((list : List ℕ) → IsCursor list scan_position.t scan_position.ahead → HasNoneUntil list scan_position.t mention) → RestartsNone look.run.trace.now.recording.past watched scan_position.t change
-    → IsChange look scan_position mention change watched
-is_change look scan_position mention change watched formed at watches early bounds none unrestarted = record {
+-- the next change is the next mention, or a transition before it
+pub is_change : (look : SafetyScan) (scan_position : ScanPosition) (mention change : ℕ) → AreLegalEntries look.run.trace.now.recording.processes look.run.trace.now.recording.past → IsScanPosition look scan_position
+    → (scan_position.t ≤ mention) × (mention ≤ look.end) → (scan_position.t ≤ change) × (change ≤ mention) → ((list : List ℕ) → IsCursor list scan_position.t scan_position.ahead → HasNoneUntil list scan_position.t mention) → IsKeptUnmentioned look scan_position change
+    → IsChange look scan_position mention change
+is_change look scan_position mention change formed at early bounds none kept = record {
   formed = formed;
   at = at;
-  watches = watches;
   up = bounds.0;
   low = bounds.1;
   early = early.1;
   none = none look.mentions.now at.mentions;
-  unrestarted = unrestarted;
+  kept = kept;
 }
 
-module _ (look : SafetyScan) (scan_position : ScanPosition) (mention change : ℕ) (watched : FinSet nat_cmp) (is : IsChange look scan_position mention change watched) where
+module _ (look : SafetyScan) (scan_position : ScanPosition) (mention change : ℕ) (is : IsChange look scan_position mention change) where
   abbrev pub past : List Entry
   past = look.run.trace.now.recording.past
 
@@ -60,6 +57,9 @@ module _ (look : SafetyScan) (scan_position : ScanPosition) (mention change : �
   unmentioned v e above below there =
       none_mention (instant past look.end) look.det look.mentions.now look.mentioned scan_position.t change mention is.low is.none v e above below (entry_then past look.end v (omega (arith, below, is.low, is.early)) look.within ∙ there)
 
+  kept_until : IsKeptUntil look scan_position change
+  kept_until = is.kept is.formed unmentioned
+
   -- the interval up to the next change is passed
   pub passed_to : (s : SafetyInterval) (next : ℕ) → s.first ≡ scan_position.t → s.last ≡ change → s.safety ≡ scan_position.safety → change < next → next ≤ look.end + 1
       → ((u : ℕ) → change < u → u < next → IsAtRiskAt n look.limit past look.det u → ⊥) → IsIntervalPassed look scan_position.t next s
@@ -70,7 +70,7 @@ module _ (look : SafetyScan) (scan_position : ScanPosition) (mention change : �
     within = bound;
     stands = λ u above below.
         subst (λ r. RulesOut r n look.limit past look.det u) (sym same)
-        (stands_until n past is.formed look.det scan_position.t change within unmentioned look.limit scan_position.safety look.reached scan_position.down_and_holders.down scan_position.down_and_holders.holders watched is.watches is.unrestarted is.at.down is.at.holders look.reaching u above (omega (arith, below, last)));
+        (kept_until.stands u above (omega (arith, below, last)));
     after = λ u above below. after u (omega (arith, above, last)) below;
   }
 
@@ -93,12 +93,9 @@ module _ (look : SafetyScan) (scan_position : ScanPosition) (mention change : �
         over_then n look.limit past look.det (change + 1) u (inl (ap (λ x. is_stable x look.det) next ∙ writes (instant past change))) (omega (arith, above)) (omega (arith, under, look.within)) thin.unstable thin.few
 
     module _ (ahead : Cursor) (cursor : (list : List ℕ) → IsCursor list scan_position.t scan_position.ahead → IsCursor list scan_position.t ahead) (found : (list : List ℕ) → IsCursor list scan_position.t scan_position.ahead → mention < look.end → Contains list mention)
-        (transitions : TransitionCursor) (passes : IsCursorAt scan_position.transitions.transitions.now change transitions) (fell : FinSet nat_cmp)
+        (transitions : TransitionCursor) (passed : IsCursorAt look.run.transitions.now change transitions) (fell : FinSet nat_cmp)
         (falls : (entries : List Entry) (t : ℕ) → t ≤ length entries → IsTransitionIndex entries transitions.transitions.now → IsCursorAt transitions.transitions.now t transitions → HasExactly fell (λ p. is_down (instant entries t) p)) (down_and_holders : DownAndHolders) (down_after : ShowsDownAfter e fell down_and_holders.down)
         (holders_after : ShowsHoldersAfter ((mention == change) ≡ list_has (mentioned_dets e) look.det) e look.det (difference scan_position.down_and_holders.holders fell) down_and_holders.holders) where
-      passed : IsCursorAt look.run.transitions.now change transitions
-      passed = subst (λ ts. IsCursorAt ts change transitions) is.at.transitions passes
-
       fallen : HasExactly fell (λ p. is_down (instant past change) p)
       fallen = let walk = passed_down past look.run.transitions.now change transitions look.run.turned passed in falls past change within walk.0 walk.1
 
@@ -114,7 +111,7 @@ module _ (look : SafetyScan) (scan_position : ScanPosition) (mention change : �
       holders_then =
           subst (λ x. HasExactly down_and_holders.holders (λ p. logs x p look.det)) (sym next)
           (holders_after (instant past change) told
-          (holds_until n past is.formed look.det scan_position.t change within unmentioned look.limit scan_position.safety look.reached scan_position.down_and_holders.down scan_position.down_and_holders.holders watched is.watches is.unrestarted is.at.down is.at.holders change is.up (omega arith) fell fallen))
+          (holds_until n past is.formed look.det scan_position.t change within unmentioned scan_position.down_and_holders.holders is.at.holders kept_until.unrestarted change is.up (omega arith) fell fallen))
 
       -- the scan continues after it
       pub onward_stop : (new : ScanPosition) → new.t ≡ change + 1 → new.ahead ≡ ahead → new.transitions ≡ transitions → new.down_and_holders ≡ down_and_holders → IsSafetyOf new.safety look.limit look.det.dest.0 look.reached (union down_and_holders.down down_and_holders.holders) → IsScanPosition look new

@@ -1,4 +1,5 @@
 pub mod Lists
+pub mod Falls
 pub mod RunIndexes
 pub mod IndexedTraces
 pub mod Packed

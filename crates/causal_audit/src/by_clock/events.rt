@@ -1,11 +1,12 @@
 //! The clock of a run. It has one event for each entry, so an event's number is the entry's position. The event of an
 //! entry other than a send or a delivery is a local event that does not affect the order of the others.
-ghost use Rattle.std.specs.Prelude.{◌≡◌, ◌<◌, ◌∷◌, ℕ, List, OnOk, IfOk, IfErr, length, slice_index};
+ghost use Rattle.std.specs.Prelude.{◌≡◌, ◌≤◌, ◌<◌, ◌∷◌, ℕ, List, OnOk, IfOk, IfErr, length, slice_index};
 ghost use Rattle.causal_trace.specs.declared.entry.Entry.{Entry};
+ghost use Rattle.causal_trace.specs.Past.{restarts};
 ghost use Rattle.causal_trace.specs.Rows.{AreLegalEntries};
 ghost use Rattle.causal_audit.specs.Inside.ByClock.ClockOfRun.{CanExtendClock, IsClockWithLanes, IsClockOf};
 
-use causal_clock::{ClockFault, Clocks};
+use causal_clock::{ClockFault, Clocks, OPENED_LANES};
 use causal_name::NoMemory;
 use causal_trace::entry::Entry;
 use causal_trace::trace::Trace;
@@ -49,11 +50,12 @@ fn first_lanes(alloc: Global, n: u16) -> Result<Vec<u32>, NoMemory>
     Ok(lanes)
 }
 
-/// Returns the clock of a run.
+/// Returns the clock of a run, which must have no more restarts than a clock opens lanes.
 ///
 /// # Errors
 /// `NoMemory` if allocation fails.
 pub fn clocks_of(alloc: Global, trace: &Trace) -> Result<Clocks, NoMemory>
+    requires { restarts trace.now.recording.past ≤ OPENED_LANES }
     ensures { IfOk result (λ clocks. IsClockOf trace.now.recording.past clocks.events) }
 {
     let n = trace.processes();

@@ -1,13 +1,11 @@
 //! Where each determinant of a group has copies, by place: in which logs, and whether in stable storage.
 ghost use Rattle.std.specs.Prelude.{◌≡◌, ◌<◌, ◌⊎◌, ℕ, true, false, length};
 ghost use Rattle.std.specs.FinSet as set;
-ghost use Rattle.causal_audit.specs.Quiet.{is_transition};
-ghost use Rattle.causal_audit.specs.Inside.Group.Walk.{AreCopiesAfter, copies_at, no_copies};
+ghost use Rattle.causal_audit.specs.Inside.Group.Walk.{AreCopiesAfter, copies_at, is_crash, no_copies};
 
 use crate::delivery_state::stable_after;
 use crate::group::Places;
 use crate::holders::holders_after;
-use crate::index::transitions::is_transition;
 use causal_holders::Holders;
 use causal_trace::entry::Entry;
 
@@ -48,17 +46,17 @@ fn copies_after(copies: Copies, entry: &Entry, mentioned: bool) -> Copies
     }
 }
 
-/// Returns the places whose copies an entry may change. A crash or restart may change all. Another entry may change
-/// those that it mentions, except those that the receiver holds already.
+/// Returns the places whose copies an entry may change. A crash may change all. Another entry may change those that it
+/// mentions, except those that the receiver holds already.
 pub fn changed_places(entry: &Entry, mentioned: Places, held: Places, all: Places) -> Places
     ensures quiet { (j : ℕ) → set.contains all j ≡ true → set.contains result j ≡ false →
-        (is_transition entry.now ≡ false) × ((set.contains mentioned j ≡ false) ⊎
+        (is_crash entry.now ≡ false) × ((set.contains mentioned j ≡ false) ⊎
         (set.contains held j ≡ true)) }
 {
-    if is_transition(entry) {
-        return all;
+    match entry {
+        Entry::Crash { .. } => all,
+        _ => mentioned.minus(held),
     }
-    mentioned.minus(held)
 }
 
 /// Updates the copies at the places `touched` by one entry, which mentions the determinants of the places `mentioned`.

@@ -11,7 +11,7 @@ use causal_holders::Holders;
 use causal_name::NoMemory;
 use causal_trace::entry::Entry;
 
-/// For each process the ascending positions of its crashes, or of its restarts. A run has at most 192 restarts.
+/// For each process the ascending positions of its crashes, or of its restarts.
 #[derive(Drop)]
 pub struct ByProcess {
     pub lists: Vec<Vec<u32>>,
@@ -50,9 +50,9 @@ pub fn note(
 }
 
 impl ByProcess {
-    ghost use Rattle.std.specs.Prelude.{Contains, true};
+    ghost use Rattle.std.specs.Prelude.{Contains, false, true};
     ghost use Rattle.causal_audit.specs.Inside.PositionLists.{HasNoneUntil};
-    ghost use Rattle.causal_audit.specs.Inside.SafetyScan.Persistence.{RestartsNone};
+    ghost use Rattle.causal_audit.specs.Inside.SafetyScan.Persistence.{CrashesNone, RestartsNone};
 
     /// Returns the first position of a process at or after `from`, or `end` if that is earlier, by a binary search.
     pub fn next_of(&self, process: u8, from: u32, end: u32) -> u32
@@ -75,6 +75,9 @@ impl ByProcess {
         ensures none { (past : List Entry) →
             AreTransitionsOf true past (lists_in self.now.lists.items) →
             RestartsNone past members from result }
+        ensures crashed { (past : List Entry) →
+            AreTransitionsOf false past (lists_in self.now.lists.items) →
+            CrashesNone past members from result }
     {
         let mut next = end;
         let mut rest = members;

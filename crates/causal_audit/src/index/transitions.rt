@@ -12,6 +12,7 @@ ghost use Rattle.causal_audit.specs.Inside.SafetyScan.Persistence.{RestartsNone,
 
 use crate::delivery_state::down_after;
 use crate::index::by_process::{ByProcess, note};
+use crate::index::falls::{Falls, note_fall};
 use crate::index::lists::empty_lists;
 use crate::index::releases::last_release_end;
 use causal_holders::{Holders, PROCESSES};
@@ -20,17 +21,16 @@ use causal_trace::entry::Entry;
 use causal_trace::trace::Trace;
 use std::alloc::Global;
 
-/// Up to this many processes, the next restart of each is searched separately.
-const FEW_PROCESSES: u32 = 8;
-
 /// The positions of the crashes and restarts, the down processes after each, and the crashes and restarts of each
-/// process. Besides these, a position from which no entry releases a process.
+/// process, and the restarts by the number of processes that are down after them. Besides these, a position from which
+/// no entry releases a process.
 #[derive(Drop)]
 pub struct Transitions {
     pub positions: Vec<u32>,
     pub downs: Vec<Holders>,
     pub crashes: ByProcess,
     pub restarts: ByProcess,
+    pub falls: Falls,
     pub no_release_from: u32,
     ghost ascending: { IsNonDecreasing positions.items },
     ghost counted: { length downs.items ≡ length positions.items },
@@ -72,6 +72,7 @@ struct TransitionsBuilder {
     downs: Vec<Holders>,
     crashes: Vec<Vec<u32>>,
     restarts: Vec<Vec<u32>>,
+    falls: Vec<Vec<u32>>,
     no_release_from: u32,
     down: Holders,
 }
@@ -107,11 +108,13 @@ impl TransitionsBuilder {
     {
         let crashes = empty_lists(alloc, PROCESSES as u32)?;
         let restarts = empty_lists(alloc, PROCESSES as u32)?;
+        let falls = empty_lists(alloc, PROCESSES as u32 + 1)?;
         Ok(TransitionsBuilder {
             positions: Vec::new(alloc),
             downs: Vec::new(alloc),
             crashes,
             restarts,
+            falls,
             no_release_from: 0,
             down: Holders::none(),
         })
@@ -121,6 +124,7 @@ impl TransitionsBuilder {
     fn note(&mut self, entry: &Entry, i: u32) -> Result<(), NoMemory>
         requires position { i < max_entries }
         requires counts { (vec_len self.old.crashes ≡ 256) × (vec_len self.old.restarts ≡ 256) }
+        requires falls { vec_len self.old.falls ≡ 257 }
         ensures { OnOk result ((past : List Entry) → length past ≡ i →
             IsBuilderOf past self.old → IsBuilderOf (entry.now ∷ past) self.new) }
     {
@@ -128,7 +132,8 @@ impl TransitionsBuilder {
         self.no_release_from = last_release_end(self.no_release_from, entry, i);
         note_transition(&mut self.positions, &mut self.downs, entry, self.down, i)?;
         note(&mut self.crashes, false, entry, i)?;
-        note(&mut self.restarts, true, entry, i)
+        note(&mut self.restarts, true, entry, i)?;
+        note_fall(&mut self.falls, entry, self.down, i)
     }
 
     /// Returns the crashes and restarts of the entries that were added.
@@ -145,6 +150,7 @@ impl TransitionsBuilder {
             restarts: ByProcess {
                 lists: self.restarts,
             },
+            falls: Falls { lists: self.falls },
             no_release_from: self.no_release_from,
         }
     }
@@ -219,7 +225,7 @@ impl Transitions {
 
     /// Returns the first position at or after `from` at which one of these processes restarts, or `end` if that is
     /// earlier. Scans the transitions one by one.
-    fn next_of_many(&self, trace: &Trace, members: Holders, from: u32, end: u32) -> u32
+    fn next_in_between(&self, trace: &Trace, members: Holders, from: u32, end: u32) -> u32
         requires order { from ≤ end }
         requires transitions { IsTransitionIndex trace.now.recording.past self.now }
         ensures bounds { (from ≤ result) × (result ≤ end) }
@@ -241,7 +247,8 @@ impl Transitions {
 
     /// Returns the first position at or after `from` at which one of these processes restarts, or `end` if that is
     /// earlier. The first `passed` transitions precede `from`. Usually no transition lies in between, so one comparison
-    /// suffices. Otherwise it takes a binary search for each of few processes, or O(transitions in between) time.
+    /// suffices. Otherwise it takes a binary search for each process, or a look at each transition in between if these
+    /// are no more than the processes.
     fn next_restart(
         &self,
         trace: &Trace,
@@ -259,17 +266,20 @@ impl Transitions {
         if self.are_ahead(passed, end) {
             return end;
         }
-        if members.len() <= FEW_PROCESSES {
-            self.restarts.next_among(members, from, end)
+        if self.are_ahead(passed.saturating_add(members.len() as usize), end) {
+            self.next_in_between(trace, members, from, end)
         } else {
-            self.next_of_many(trace, members, from, end)
+            self.restarts.next_among(members, from, end)
         }
     }
 }
 
 impl TransitionCursor<'_> {
+    ghost use Rattle.causal_audit.specs.Inside.Index.Lists.{list_at, lists_in};
     ghost use Rattle.causal_audit.specs.Inside.Index.RunIndexes.{IsTransitionIndex};
     ghost use Rattle.causal_audit.specs.Inside.Index.TransitionCursors.{IsCursorAt};
+    ghost use Rattle.causal_audit.specs.Inside.PositionLists.{HasNoneUntil};
+    ghost use Rattle.causal_audit.specs.Inside.SafetyScan.Persistence.{CrashesNone};
 
     /// Returns the processes that are down after the transitions that were passed.
     pub fn down(&self) -> Holders
@@ -299,6 +309,23 @@ impl TransitionCursor<'_> {
             .transitions
             .next_restart(trace, members, passed, from, end);
         self.passed = self.transitions.count_before_near(passed, position);
+        position
+    }
+
+    /// Returns the first position at or after `from` at which one of these processes crashes, or at which a restart
+    /// leaves only `count` processes down, or `end` if that is earlier. Advances past the crashes and restarts before
+    /// it. Takes a binary search for each process and one more.
+    pub fn next_fall(&mut self, members: Holders, count: u8, from: u32, end: u32) -> u32
+        requires order { from ≤ end }
+        ensures bounds { (from ≤ result) × (result ≤ end) }
+        ensures passed { IsCursorAt self.old.transitions.now result self.new }
+        ensures none { (past : List Entry) → IsTransitionIndex past self.old.transitions.now →
+            CrashesNone past members from result × HasNoneUntil (list_at (lists_in
+            self.old.transitions.now.falls.lists.items) count) from result }
+    {
+        let fall = self.transitions.falls.next_to(count, from, end);
+        let position = self.transitions.crashes.next_among(members, from, fall);
+        self.passed = self.transitions.count_before_near(self.passed, position);
         position
     }
 }

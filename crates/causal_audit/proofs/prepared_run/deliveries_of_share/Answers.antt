@@ -1,4 +1,4 @@
-use Rattle.std.proofs.Common.{◌≡◌, ◌+◌, ◌-◌, ◌<◌, ap, arith}
+use Rattle.std.proofs.Common.{◌≡◌, ◌+◌, ◌-◌, ap, arith}
 use Rattle.causal_audit.specs.Shares.{walked}
 use Rattle.causal_audit.specs.Inside.Group.OpenDeliveries.{open_lengths_of}
 use Rattle.causal_audit.proofs.ShareLemmas.{walked_more}

@@ -2,6 +2,7 @@
 use Rattle.std.specs.Prelude.{◌≡◌, ℕ, ◌<◌, ◌≤◌, ◌↔◌, Some, List, ◌∷◌, length, slice_index}
 use Rattle.causal_audit.specs.Inside.Common.{Entry, lane, restarts, AreLegalEntries, IsWellFormed, Recording, entries_of, IsEventOf, Delivers}
 use Rattle.causal_clock.specs.declared.Event.{Event}
+use Rattle.causal_clock.specs.declared.TheConstants.{OPENED_LANES}
 use Rattle.causal_clock.specs.Timeline.{Timeline, lane_of, send_of}
 use Rattle.causal_audit.specs.Inside.Index.Departures.{AreDepartures, process_at}
 
@@ -29,6 +30,7 @@ pub record CanExtendClock (e : Entry) (clock : Timeline) (present : List ℕ) : 
   pub few : processes ≤ 256
   pub some : 1 ≤ processes
   pub accepted : AreLegalEntries processes (e ∷ past)
+  pub lanes : restarts (e ∷ past) ≤ OPENED_LANES
   pub mirrors : IsClockWithLanes processes past clock present
 
 -- for each well-formed run of these entries, oldest first, the list contains the departure of each entry

@@ -1,6 +1,6 @@
 -- The state of a walk: by place, what is known of each delivery of the group.
 use Rattle.std.specs.Prelude.{◌≡◌, ℕ, ◌+◌, ◌-◌, ◌<◌, ◌≤◌, ◌↔◌, ◌⊎◌, Bool, true, false, List, ◌∷◌, length, Option, Some, None, slice_index_or, Contains}
-use Rattle.causal_audit.specs.Inside.Common.{nat_cmp, FinSet, contains, empty, Det, Entry, det_at, list_has, logs, is_stable, is_down, instant, entry_at, message_sent, Pid, Send, AreLegalEntries, Recording, IsWellFormed, actor, Reaches, Depends, Deliver, Restart, Forget, max_entries}
+use Rattle.causal_audit.specs.Inside.Common.{nat_cmp, FinSet, contains, empty, Det, Entry, det_at, list_has, logs, is_stable, is_down, instant, entry_at, message_sent, Pid, Send, Crash, AreLegalEntries, Recording, IsWellFormed, actor, Reaches, Depends, Deliver, Restart, Forget, max_entries}
 pub use Rattle.causal_audit.specs.Inside.Group.Rows.{row}
 use Rattle.causal_audit.specs.declared.group.reach.ReachSets.{ReachSets}
 use Rattle.causal_audit.specs.declared.group.walk_input.OpenDelivery.{OpenDelivery}
@@ -149,6 +149,11 @@ pub record AreCopies (past : List Entry) (d : Det) (copies : Copies) : Type 0 wh
 abbrev pub AreCopiesAfter : Entry → Bool → Copies → Copies → Type 0
 AreCopiesAfter e mentioned before after =
     (past : List Entry) (d : Det) → mentioned ≡ list_has (mentioned_dets e) d → AreCopies past d before → AreCopies (e ∷ past) d after
+
+-- whether an entry is a crash
+abbrev pub is_crash : Entry → Bool
+is_crash (Crash who) = true
+is_crash _ = false
 
 -- the copies of a determinant that is neither stable nor in a log
 abbrev pub no_copies : Copies

@@ -8,14 +8,16 @@ use Rattle.causal_audit.specs.declared.index.transitions.TransitionsBuilder.{Tra
 use Rattle.causal_audit.specs.declared.index.run_index.RunIndex.{RunIndex}
 use Rattle.causal_audit.specs.NoRelease.{NoneReleasedFrom}
 use Rattle.causal_audit.specs.Inside.DeliveryStates.{HasExactly}
+use Rattle.causal_audit.specs.Inside.Index.Falls.{AreFalls}
 use Rattle.causal_audit.specs.Inside.Index.Lists.{AreTransitionsOf, AreMentions, AreTransitions, lists_in}
 
 -- the value contains the transitions of the run, the down processes after each, the crashes and restarts of each
--- process, and a position from which no process is released
+-- process, the restarts by the number that are down after them, and a position from which no process is released
 pub record IsTransitionIndex (past : List Entry) (transitions : Transitions) : Type 0 where
   pub turned : AreTransitions past transitions.positions.items transitions.downs.items
   pub crashed : AreTransitionsOf false past (lists_in transitions.crashes.lists.items)
   pub restarted : AreTransitionsOf true past (lists_in transitions.restarts.lists.items)
+  pub fallen : AreFalls past (lists_in transitions.falls.lists.items)
   pub lasting : NoneReleasedFrom past transitions.no_release_from
 
 -- the builder contains the transitions of the entries so far, and the down processes
@@ -26,6 +28,8 @@ pub record IsBuilderOf (past : List Entry) (filing : TransitionsBuilder) : Type 
   pub crashes : vec_len filing.crashes ≡ 256
   pub restarted : AreTransitionsOf true past (lists_in filing.restarts.items)
   pub restarts : vec_len filing.restarts ≡ 256
+  pub fallen : AreFalls past (lists_in filing.falls.items)
+  pub falls : vec_len filing.falls ≡ 257
   pub lasting : NoneReleasedFrom past filing.no_release_from
 
 -- the lists contain exactly the mentions of each determinant in a past, by the first deliveries of the whole run

@@ -1,6 +1,6 @@
 -- The position of a determinant's scan, the determinant's safety there, and the scan's result.
 use Rattle.std.specs.Prelude.{◌≡◌, ℕ, ◌<◌, ◌≤◌, true, false, List, ◌+◌, ◌⊎◌, Contains}
-use Rattle.causal_audit.specs.Inside.Common.{nat_cmp, FinSet, contains, len, union, Det, Entry, instant, is_stable, is_down, logs, All, IsNonDecreasingBy, Reaches}
+use Rattle.causal_audit.specs.Inside.Common.{nat_cmp, FinSet, contains, len, union, Det, Entry, instant, is_stable, is_down, logs, All, IsNonDecreasingBy, Reaches, AreLegalEntries}
 use Rattle.std.specs.FinSet.{is_subset}
 use Rattle.causal_name.specs.Sets.{count_below}
 use Rattle.causal_audit.specs.Laws.{down_or_holding}
@@ -8,6 +8,7 @@ use Rattle.causal_audit.specs.declared.safety_scan.det_safety.DetSafety.{DetSafe
 use Rattle.causal_audit.specs.declared.safety_scan.det_safety.DetSafety.TheVariants.{Safe, AtRisk, AtRiskWithoutReceiver}
 use Rattle.causal_audit.specs.Inside.PositionLists.{IsCursor}
 use Rattle.causal_audit.specs.Inside.Index.Departures.{process_at}
+use Rattle.causal_audit.specs.Inside.SafetyScan.Persistence.{MentionsNone, RestartsNone}
 use Rattle.causal_audit.specs.Inside.DeliveryStates.{HasExactly}
 use Rattle.causal_audit.specs.declared.safety_scan.SafetyScan.{SafetyScan}
 use Rattle.causal_audit.specs.declared.safety_scan.ScanPosition.{ScanPosition}
@@ -45,6 +46,11 @@ pub record AreWatched (safety : DetSafety) (most receiver : ℕ) (reached down h
   pub holding : (p : ℕ) → contains holders p ≡ true → contains watched p ≡ true
   pub stands : IsSafetyOf safety most receiver reached watched
 
+-- d is safe as long as its holders are up and more than this number of processes are down, as they are now
+pub record IsDownBound (most : ℕ) (down holders : FinSet nat_cmp) (count : ℕ) : Type 0 where
+  pub rest : count + len holders ≡ most
+  pub more : count < len down
+
 -- a scan of d is at an instant: the mentions and transitions ahead, the down processes, the holders of d, and its
 -- safety
 pub record IsScanPosition (look : SafetyScan) (scan_position : ScanPosition) : Type 0 where
@@ -54,6 +60,17 @@ pub record IsScanPosition (look : SafetyScan) (scan_position : ScanPosition) : T
   pub down : HasExactly scan_position.down_and_holders.down (λ p. is_down (instant look.run.trace.now.recording.past scan_position.t) p)
   pub holders : HasExactly scan_position.down_and_holders.holders (λ p. logs (instant look.run.trace.now.recording.past scan_position.t) p look.det)
   pub stands : IsSafetyOf scan_position.safety look.limit look.det.dest.0 look.reached (union scan_position.down_and_holders.down scan_position.down_and_holders.holders)
+
+-- up to the instant `change` no holder of d restarts, and d has the safety of the scan's position
+pub record IsKeptUntil (look : SafetyScan) (scan_position : ScanPosition) (change : ℕ) : Type 0 where
+  pub unrestarted : RestartsNone look.run.trace.now.recording.past scan_position.down_and_holders.holders scan_position.t change
+  pub stands : (u : ℕ) → scan_position.t ≤ u → u ≤ change → RulesOut scan_position.safety look.run.trace.now.recording.processes look.limit look.run.trace.now.recording.past look.det u
+
+-- if the entries are legal and none before the instant `change` mentions d, the scan's position is kept until then
+abbrev pub IsKeptUnmentioned : SafetyScan → ScanPosition → ℕ → Type 0
+IsKeptUnmentioned look scan_position change =
+    AreLegalEntries look.run.trace.now.recording.processes look.run.trace.now.recording.past
+    → MentionsNone look.run.trace.now.recording.past look.det scan_position.t change → IsKeptUntil look scan_position change
 
 -- a scan moved from the instant t to `next` and passed the interval s: d has this safety at each instant of s, and is
 -- not at risk after s and before `next`

@@ -1,4 +1,6 @@
-use Rattle.causal_audit.proofs.Common.{◌≡◌, ◌+◌, ◌∷◌, ◌++◌, length, take, drop, arith, subst, length-reverse, instant, AreLegalEntries, accepted_then}
+use Rattle.causal_audit.proofs.Common.{◌≡◌, ◌+◌, ◌≤◌, ◌∷◌, ◌++◌, length, take, drop, arith, subst, length-reverse, instant, AreLegalEntries, accepted_then, restarts}
+use Rattle.causal_trace.proofs.Lemmas.AtInstants.{at_instant}
+use Rattle.causal_trace.proofs.Lemmas.WellFormed.{restarts_before}
 use Rattle.std.proofs.lemmas.Grind.{common_steps}
 use Rattle.causal_audit.specs.Inside.ByClock.ClockOfRun.{IsClockWithLanes}
 use Rattle.causal_audit.proofs.Steps.{next_state}
@@ -16,6 +18,7 @@ add_event-requires c = let r = c.args.trace.now.recording in
       few = formed.count.1;
       some = formed.count.0;
       accepted = subst (AreLegalEntries r.processes) next (accepted_then r.processes r.past (i + 1) formed.accepted);
+      lanes = subst (λ p. restarts p ≤ 192) next (at_instant (λ p. restarts p ≤ 192) (λ e p few. restarts_before 192 p e few) r.past (i + 1) c.requires);
       mirrors = rw c.as_mut_slice.ensures.value c.loop-entry.invariant.mirrors;
     }
 

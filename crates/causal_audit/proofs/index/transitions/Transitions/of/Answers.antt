@@ -8,6 +8,9 @@ loop-i-init c = c.in_ok-filing.ensures
 pub note-requires-clause-counts : goal.note-requires-clause-counts
 note-requires-clause-counts c = (c.loop-i.invariant.crashes, c.loop-i.invariant.restarts)
 
+pub note-requires-clause-falls : goal.note-requires-clause-falls
+note-requires-clause-falls c = c.loop-i.invariant.falls
+
 pub loop-i-preserved : goal.loop-i-preserved
 loop-i-preserved c = grind (arith, common_steps)
 

@@ -2,6 +2,7 @@ use Rattle.causal_audit.proofs.Common.{◌≡◌, [], ℕ, true, false, Bool, Ve
 use Rattle.causal_audit.specs.Inside.Index.Lists.{AreTransitionsOf, lists_in}
 use Rattle.causal_audit.proofs.Shown.{shows_none}
 use Rattle.causal_audit.proofs.index.DownAfterTurns.{turns_none}
+use Rattle.causal_audit.proofs.index.DownCounts.{falls_of_none}
 use Rattle.causal_audit.proofs.index.Filings.{turns_of_none}
 use Rattle.causal_audit.proofs.index.transitions.TransitionsBuilder.new.Goals as goal
 
@@ -17,5 +18,7 @@ returns c = record {
   crashes = c.in_ok-crashes.ensures.count;
   restarted = none_yet true c.in_ok-restarts.restarts.items c.in_ok-restarts.ensures.empty;
   restarts = c.in_ok-restarts.ensures.count;
+  fallen = falls_of_none (lists_in c.in_ok-falls.falls.items) (All-map (λ list. list ≡ []) (λ (list : Vec ℕ Global). list.items) c.in_ok-falls.falls.items c.in_ok-falls.ensures.empty);
+  falls = c.in_ok-falls.ensures.count;
   lasting = tt;
 }

@@ -1,4 +1,4 @@
-use Rattle.causal_audit.proofs.Common.{rules, ◌≡◌, ◌+◌, ◌<◌, Some, slice_index, length, ap, subst, arith, accepted_then, det_at, det_within, instant, instant_length}
+use Rattle.causal_audit.proofs.Common.{◌≡◌, ◌+◌, ◌<◌, Some, slice_index, length, ap, subst, arith, accepted_then, det_at, det_within, instant, instant_length}
 use Rattle.causal_trace.specs.Numbers.{delivered_dets, number_of}
 use Rattle.causal_audit.specs.Numbers.{IsNumbered}
 use Rattle.causal_audit.specs.Inside.Group.OpenDeliveries.{SearchScope, IsListedOrSafe, delivery_count}

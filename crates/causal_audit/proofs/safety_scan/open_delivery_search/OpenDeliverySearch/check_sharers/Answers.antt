@@ -1,4 +1,4 @@
-use Rattle.causal_audit.proofs.Common.{◌≡◌, ◌+◌, ◌<◌, ◌≤◌, inl, inr, cases_lt, None, Some, length, instant, det_then, sym, subst, ◌∙◌, arith, AreLegalEntries}
+use Rattle.causal_audit.proofs.Common.{◌≡◌, ◌<◌, ◌≤◌, inl, inr, cases_lt, None, Some, length, instant, det_then, sym, subst, ◌∙◌, arith, AreLegalEntries}
 use Rattle.causal_trace.specs.Numbers.{delivered_dets, number_of}
 use Rattle.causal_trace.proofs.Lemmas.DeliveryNumbers.{number_among}
 use Rattle.causal_audit.specs.Numbers.{IsNumbered}

@@ -1,5 +1,5 @@
 use Rattle.std.proofs.lemmas.Grind.{common_steps}
-use Rattle.causal_audit.proofs.Common.{◌≡◌, ◌<◌, ◌≤◌, get_or, length, ap, subst, arith, refl, Contains, Contains-get_or}
+use Rattle.causal_audit.proofs.Common.{◌<◌, ◌≤◌, get_or, length, ap, subst, arith, refl, Contains, Contains-get_or}
 use Rattle.causal_trace.specs.Numbers.{delivered_dets}
 use Rattle.causal_audit.specs.Searches.{SearchScope, delivery_count}
 use Rattle.causal_audit.specs.Inside.Index.Lists.{AreOwned, list_at}

@@ -1,4 +1,4 @@
-use Rattle.causal_audit.proofs.Common.{◌≡◌, ◌+◌, ◌-◌, ◌≤◌, length, sym, subst, arith}
+use Rattle.causal_audit.proofs.Common.{◌≡◌, ◌+◌, ◌-◌, sym, subst, arith}
 use Rattle.causal_audit.specs.Inside.Group.OpenDeliveries.{AreOpenBetween}
 use Rattle.causal_audit.proofs.safety_scan.SurveyAsks.{nothing_listed, one_more_number}
 use Rattle.causal_audit.proofs.safety_scan.open_delivery_search.OpenDeliverySearch.open_deliveries.Goals as goal

@@ -1,6 +1,6 @@
 use Rattle.std.proofs.Common.{ℕ, ◌<◌, ◌≤◌, ◌-◌, length, get_or}
 use Rattle.causal_audit.proofs.index.DownAfterTurns.{PassNone}
-use Rattle.causal_audit.proofs.index.transitions.Transitions.next_of_many.Given as goal
+use Rattle.causal_audit.proofs.index.transitions.Transitions.next_in_between.Given as goal
 
 -- the transitions left are at or after `from`, and those passed restart none of these processes
 abbrev pub invariant-loop-position : goal.invariant-loop-position

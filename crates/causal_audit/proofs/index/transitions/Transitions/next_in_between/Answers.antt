@@ -1,7 +1,7 @@
 use Rattle.std.proofs.Common.{◌≡◌, ◌<◌, ◌≤◌, length, get_or, subst, arith}
 use Rattle.causal_audit.proofs.Steps.{entry_read}
 use Rattle.causal_audit.proofs.index.DownAfterTurns.{left_above, none_restarts, passed_one_more}
-use Rattle.causal_audit.proofs.index.transitions.Transitions.next_of_many.Goals as goal
+use Rattle.causal_audit.proofs.index.transitions.Transitions.next_in_between.Goals as goal
 
 pub loop-position-preserved : goal.loop-position-preserved
 loop-position-preserved c = grind (arith, passed_one_more, entry_read)

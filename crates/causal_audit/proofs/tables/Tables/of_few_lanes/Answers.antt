@@ -2,7 +2,7 @@ use Rattle.causal_audit.proofs.Common.{ap, reverse, reverse-reverse, subst, sym,
 use Rattle.causal_audit.specs.Numbers.{ArePositions}
 use Rattle.causal_audit.specs.Inside.ByClock.TablesOfRun.{AreTables}
 use Rattle.causal_audit.specs.Inside.Index.RunIndexes.{IsMentionIndex}
-use Rattle.causal_audit.proofs.tables.Tables.of.Goals as goal
+use Rattle.causal_audit.proofs.tables.Tables.of_few_lanes.Goals as goal
 
 pub invariant_of-result : goal.invariant_of-result
 invariant_of-result c =
