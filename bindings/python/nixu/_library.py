@@ -11,7 +11,7 @@ VERSION = 1
 """The version of the interface for which this module was written."""
 
 MOST_ENTRIES = 16_777_216
-"""The greatest number of entries that a trace may have."""
+"""The greatest number of entries that a trace may have. If more than 65,536 are allowed, one in 256 may be a restart; else 192 may."""
 
 OK, FAULT, NO_MEMORY, MISUSED, CLOSED = range(5)
 

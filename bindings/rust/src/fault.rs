@@ -112,7 +112,7 @@ pub enum FaultKind {
     NotUp,
     /// The process is not down.
     NotDown,
-    /// Too many lanes have been opened.
+    /// Too many lanes have been opened: there are more restarts than the number of entries allows.
     Lanes,
     /// The send sequence number is not the next one.
     WrongSsn,

@@ -63,7 +63,7 @@ pub const VERSION: u32 = 1;
 /// How many entries a trace may have where no other number is given.
 pub const USUAL_ENTRIES: u32 = 65_536;
 
-/// The greatest number of entries that a trace may have.
+/// The greatest number of entries that a trace may have. If more than [`USUAL_ENTRIES`] are allowed, one in 256 may be a restart; else 192 may.
 pub const MOST_ENTRIES: u32 = 16_777_216;
 
 /// The version of the library that is linked. It has to be [`VERSION`].

@@ -27,7 +27,7 @@ use std::rt::Clock;
 use std::sync::Wait;
 use std::thread::Threads;
 
-/// Does what `answer_audit` does, but stops reading at the first of these looks that finds a breach;
+/// Does what `answer_audit` does, but stops reading at the first of these audits that finds a breach;
 /// [`judge_stream`] defines them. The verdict line then ends with ` read=N`, the number of entries
 /// that were read, and an error in the rest of the text is not reported. Of the text at most the rest of a piece of
 /// 4,096 bytes is read after what decides.

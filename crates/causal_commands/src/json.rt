@@ -31,7 +31,7 @@ pub enum Question {
         faults: u16,
         workers: u32,
     },
-    /// The verdict at the first look that finds a breach, without reading on; if none does, the verdict on the whole
+    /// The verdict at the first audit that finds a breach, without reading on; if none does, the verdict on the whole
     /// text.
     Breach {
         faults: u16,
@@ -73,7 +73,7 @@ impl Question {
 /// an allocation or a thread start. With one worker it is never `NoWorker`.
 ///
 /// The text is read in pieces of 4,096 bytes, to its end or to the piece with its first error; by several workers, but
-/// for `Breach`, in pieces of at most 65,536 bytes for each. `Breach` also stops at the first look that finds a breach.
+/// for `Breach`, in pieces of at most 65,536 bytes for each. `Breach` also stops at the first audit that finds one.
 pub fn answer_as_json<R: Threads + Wait + Clock, I: Read, O: Write>(
     rt: &R,
     alloc: Global,

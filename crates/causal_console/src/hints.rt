@@ -2,7 +2,7 @@
 use crate::diagnostics::print_error_line;
 use crate::shapes::{RECORDING_SHAPES, Shape, TRACE_SHAPES};
 use causal_text::TextKind;
-use causal_trace::limits::{MAX_ENTRIES, MAX_RESTARTS};
+use causal_trace::limits::{DEFAULT_ENTRIES, DEFAULT_RESTARTS, MAX_ENTRIES};
 use std::fmt::{self, Display, Formatter, Write};
 
 /// What the lines of a text were taken for.
@@ -46,7 +46,7 @@ pub(crate) fn print_hints<R: Eprint>(
         }
         (TextKind::Lanes, _) => {
             let _ = eprintln!(rt;
-                "{command}: this is one restart too many: a trace has at most {MAX_RESTARTS} of all processes together"
+                "{command}: give --entries N for more than {DEFAULT_RESTARTS} restarts: at most N / 256 of all processes together, N above {DEFAULT_ENTRIES}, to {MAX_ENTRIES}"
             );
         }
         (TextKind::Form, Some(start)) => print_shape_hints(rt, command, content, start),

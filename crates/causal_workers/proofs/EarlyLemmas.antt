@@ -50,7 +50,7 @@ early_in looks most b done line after more f judged none complete breach =
       append_assoc (b ++ done) line (after ++ more),
     )
 
--- a breach that a look finds is one that looser looks may find
+-- a breach that an audit finds is one that an audit at more times may find
 pub looser_breach : (few looks : Looks) (most : ℕ) (bytes : List ℕ) (f : ℕ) (judged : Judged) → ((n : ℕ) → IsLook few n → IsLook looks n) → IsBreachSoFar few most bytes f judged → IsBreachSoFar looks most bytes f judged
 looser_breach few looks most bytes f judged looser found = record {
   recording = found.recording;
@@ -77,7 +77,7 @@ pub looser_piece : (few looks : Looks) (most : ℕ) (b piece : List ℕ) (f : �
 looser_piece few looks most b piece f (More next) looser outcome = outcome
 looser_piece few looks most b piece f (Breach judged) looser outcome = λ more. looser_early few looks most ((b ++ piece) ++ more) f judged looser (outcome more)
 
--- a look at a checkpoint is one of all looks
+-- an audit at a checkpoint is one at any of these times
 pub at_checkpoint : (looks : Looks) (n : ℕ) → IsLook Checkpoints n → IsLook looks n
 at_checkpoint Checkpoints n look = look
 at_checkpoint Live n look = tt

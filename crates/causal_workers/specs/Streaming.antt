@@ -55,7 +55,8 @@ pub record IsEarlyBreach (looks : Looks) (most : ℕ) (text : List ℕ) (f : ℕ
   pub none : HasNoEarlyBreach most before f
   pub breach : IsBreachSoFar looks most (before ++ line) f judged
 
--- the verdict on a text: that of the first audit that does not accept, or, if all accept, the judgement of the whole
+-- the verdict on a text: the judgement of an audit that does not accept, after checkpoints that do; or that of the whole
+-- text, each of whose checkpoints accepts
 abbrev pub IsStreamVerdict : Looks → ℕ → List ℕ → ℕ → StreamVerdict → Type 0
 IsStreamVerdict looks most text f (Early judged) = IsEarlyBreach looks most text f judged
 IsStreamVerdict looks most text f (Whole judged) = HasNoEarlyBreach most text f × IsJudgementWithin most text f judged

@@ -11,7 +11,7 @@ use std::time::{Duration, Instant};
 pub enum Looks {
     /// At each checkpoint: at 1, 2, 4, 8 .. entries.
     Checkpoints,
-    /// At each checkpoint, and at the last line of a piece that comes a second or more after the last such look, and no
+    /// At each checkpoint, and at the last line of a piece that comes a second or more after the last audit by time, and no
     /// sooner after it than it took. Without a clock, at each checkpoint alone.
     Live,
 }
@@ -27,7 +27,7 @@ impl Looks {
         }
     }
 
-    /// Returns these looks if no line follows in the rest of a piece; before other lines, those at checkpoints alone.
+    /// Returns this value if no line follows in the rest of a piece; before other lines, audits are at checkpoints alone.
     pub(crate) fn before(self, rest: &[u8]) -> Looks
         ensures { (entries : ℕ) → IsLook result entries → IsLook self entries }
     {
@@ -38,18 +38,18 @@ impl Looks {
     }
 }
 
-/// Decides when a live run is looked at between checkpoints.
+/// Decides when a live run is audited between checkpoints.
 #[derive(Clone, Copy)]
 pub(crate) struct LookTimer {
     pub looks: Looks,
-    /// When the last look ended. None if the clock failed then.
+    /// When the last audit by time ended. None if the clock failed then.
     last: Option<Instant>,
-    /// How long no look follows it.
+    /// How long no audit by time follows it.
     pause: Duration,
 }
 
 impl LookTimer {
-    /// Starts a timer, as if a look had just ended.
+    /// Starts a timer, as if an audit by time had just ended.
     pub(crate) fn start<R: Clock>(rt: &R, looks: Looks) -> LookTimer
         ensures { result.looks ≡ looks }
     {
@@ -60,7 +60,7 @@ impl LookTimer {
         }
     }
 
-    /// Returns the present time if a look is due at the last line of this piece.
+    /// Returns the present time if an audit is due at the last line of this piece.
     pub(crate) fn due<R: Clock>(&self, rt: &R, piece: &[u8]) -> Option<Instant> {
         let (Looks::Live, Some(last)) = (self.looks, self.last) else {
             return None;
@@ -74,7 +74,7 @@ impl LookTimer {
         }
     }
 
-    /// Takes in that a look that began at this time has just ended.
+    /// Notes that an audit by time that began then has just ended.
     pub(crate) fn note_look<R: Clock>(&mut self, rt: &R, began: Instant)
         ensures { self.new.looks ≡ self.old.looks }
     {

@@ -28,7 +28,7 @@ const PIECE: usize = 4_096;
 /// The verdict on a text that may not have been read to its end.
 #[derive(Clone, Copy)]
 pub enum StreamVerdict {
-    /// The judgement of the first look whose audit does not accept; reading stopped there.
+    /// The judgement of the first audit that does not accept; reading stopped there.
     Early(Judged),
     /// The whole text spells a trace with this verdict.
     Whole(Judged),
@@ -237,7 +237,7 @@ fn judge_whole<G: Gate + Sync, R: Threads + Wait>(
     }
 }
 
-/// A law, of a function that does nothing: a verdict of a look that does not accept is the verdict on the whole
+/// A law, of a function that does nothing: a verdict of an audit that does not accept is the verdict on the whole
 /// text, if that spells a trace.
 pub fn early_breach_is_final()
     ensures { EarlyBreachIsFinal }

@@ -45,7 +45,7 @@ uint32_t nixu_version(void);
 #define NIXU_MISUSED   3 /* the arguments are invalid; each call lists the cases */
 #define NIXU_CLOSED    4 /* no reader, no trace, or no node is open; nothing was done */
 
-/* ---- the maximum number of entries of a trace ---- */
+/* ---- the maximum number of entries of a trace, of which 192 may be restarts, or above the default one in 256 ---- */
 
 #define NIXU_USUAL_ENTRIES 65536    /* the default */
 #define NIXU_MOST_ENTRIES  16777216 /* the greatest number that a caller can choose */
