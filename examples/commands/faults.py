@@ -3,7 +3,7 @@ from . import texts
 from .row import given
 from .texts import A, B, C, LOGGED, RING, SENT, crash, deliver, forget, lines, restart, send, spelled, trace
 
-# how long a text may be, how many entries a trace may have, and how many times processes may restart
+# how long a text may be, how many entries a trace may have, and how many times processes may restart, unless asked for more
 BYTES, ENTRIES, RESTARTS = 33_554_432, 65_536, 192
 # so many determinants, listed as many times, are as many as entries may list
 LISTED = 1_024
@@ -178,6 +178,15 @@ def asked_limits():
         yield faulty(f"one byte more than for {n} entries", padded + " ", "2 Big", f" --entries {n}")
 
 
+def asked_restarts():
+    """As many restarts as a limit of N entries lets pass, and one more: N / 256 where N is beyond the usual limit."""
+    for n, most in ((1_000, RESTARTS), (ENTRIES, RESTARTS), (ENTRIES + 1, 256), (2 * ENTRIES, 512), (16_777_216, 65_536)):
+        turns = [crash(0), restart(0)] * most
+        text, more = trace(1, 1, turns), lines(spelled("trace", 1, 1), turns, crash(0), restart(0))
+        yield accepted(f"{most} restarts of {n} entries", text, f"accept f=1 entries={2 * most} deliveries=0", f" --entries {n}")
+        yield faulty(f"{most + 1} restarts of {n} entries", more, f"{2 * most + 3} Lanes", f" --entries {n}")
+
+
 def faulty(name, text, fault, asked="", **more):
     return given(name, "audit --faults 0" + asked, text, 2, f"fault line={fault}\n", **more)
 
@@ -225,6 +234,7 @@ def rows():
     for name, text, fault in limits():
         yield faulty(name, text, fault) if fault else accepted(name, text, "accept f=0 entries=0 deliveries=0")
     yield from asked_limits()
+    yield from asked_restarts()
     # the piece that has one byte too many is read, and no further one
     yield faulty("much too long", " " * (BYTES + 5_000), "1 Big", left=5_000 - 4_096)
     yield given("what is wrong", "audit --faults 0", lines(TWO, send(0, 1, 1)), 2, "fault line=2 WrongSsn\n", said=WRONG)

@@ -38,7 +38,7 @@ OTHERS = [
 ]
 
 LONGER = "causal_tool {}: give --entries N for a longer one, N to 16777216\n"
-RESTARTS = "causal_tool audit: this is one restart too many: a trace has at most 192 of all processes together\n"
+RESTARTS = "causal_tool audit: give --entries N for more than 192 restarts: at most N / 256 of all processes together, N above 65536, to 16777216\n"
 
 
 def shape_rows():

@@ -176,6 +176,10 @@ def rows():
     second = lines(A, B, SEND, '["send",0,2,1,1]')
     yield given("a second event of one", "merge --entries 1", second, 2, "fault line=4 TooLong\n")
     yield given("a second event of two", "merge --entries 2", second, 0, trace(1, 2, LOGGED[0], '["send",0,1,1]'))
+    recorded = ['["recording",0,1,1,7]', *(f'["{word}",0,{2 * k + i}{rest}]' for k in range(513) for i, (word, rest) in enumerate((("crash", ""), ("restart", ",[]"))))]
+    turns = ['["crash",0]', '["restart",0,[]]'] * 512
+    yield given("as many restarts as asked for", "merge --entries 131072", lines(recorded[:1025]), 0, trace(1, 1, turns))
+    yield given("one restart too many", "merge --entries 131072", lines(recorded), 2, "fault line=1027 Lanes\n")
     # 1,024 bytes for each
     yield given("much too long for one event", "merge --entries 1", " " * (1_024 + 1 + 5_000), 2, "fault line=1 Big\n", left=5_000)
     yield given("not too long for two", "merge --entries 2", " " * 2_048, 2, "fault line=2 NoHeader\n")

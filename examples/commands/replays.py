@@ -152,6 +152,9 @@ def rows():
     yield given("of a file", "replays run.jsonl", "", 1, STRAYED, said="", files={"run.jsonl": TWO_LOGS})
     yield given("as many entries as may be", "replays --entries 8", TWO_LOGS, 1, STRAYED, said="")
     yield given("one more", "replays --entries 7", TWO_LOGS, 2, "fault line=9 TooLong\n")
+    turns = ['["crash",0]', '["restart",0,[]]'] * 512
+    yield given("as many restarts as may be", "replays --entries 131072", trace(1, 1, turns), 0, "followed entries=1024 deliveries=0\n")
+    yield given("one restart more", "replays --entries 131072", trace(1, 1, turns, turns[:2]), 2, "fault line=1027 Lanes\n")
     said = SAID.format(2, 1, 0, 2, "accept f=0 entries=0 deliveries=0")
     yield given("no trace", "replays", trace(1, 2, send(0, 1, 1)), 2, "fault line=2 WrongSsn\n", said=said)
     yield given("no trace, in JSON", "replays --json", trace(1, 2, send(0, 1, 1)), 2, '{"verdict":"fault","line":2,"kind":"WrongSsn"}\n', said=said)

@@ -11,6 +11,9 @@ mod clocks;
 /// Entries of a trace in short form.
 #[cfg(test)]
 mod entries;
+/// Searches of a trace with more than 192 restarts.
+#[cfg(test)]
+mod many_lanes;
 /// Texts read in pieces, and written to writers that fail.
 #[cfg(test)]
 mod text;
