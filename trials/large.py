@@ -161,6 +161,29 @@ LARGE = [
     replayed(190),
     token(65_537),
 ]
+# Runs with more than 192 restarts, which need a greater limit of entries.
+MANY = [*(losing(1_000, kinds) for kinds in ORDERS), losing_early(5, 2_000), replayed(4_096)]
+MANY_LIMIT = 1_048_576
+
+
+def output_of(program, command, words, limit, text):
+    words = [program, command, *words, "--entries", str(limit)]
+    return subprocess.run(words, input=text, capture_output=True, timeout=60).stdout.decode()
+
+
+def wrong_of_many(program, n, entries, f, wanted):
+    """What the program says wrongly of a run with many restarts: they deliver what they did before, so that no recovery strays."""
+    text = text_of(n, entries)
+    followed = accepted(f, entries).replace(f"accept f={f}", "followed") + "\n"
+    said = {"explain": output_of(program, "explain", ["--faults", str(f)], MANY_LIMIT, text).split("\n")[0]}
+    said["replays"] = output_of(program, "replays", [], MANY_LIMIT, text)
+    said["audit with fewer"] = output_of(program, "audit", ["--faults", str(f)], 65_536, text)
+    right = {"explain": wanted, "replays": followed, "audit with fewer": f"fault line={lines_of_restarts(entries)[traces.MAX_RESTARTS]} Lanes\n"}
+    return [f"{len(entries)} entries: {name} says {said[name]}, and not {right[name]}" for name in right if said[name] != right[name]]
+
+
+def lines_of_restarts(entries):
+    return [line for line, entry in enumerate(entries, 2) if entry[0] == "restart"]
 
 
 def main():
@@ -173,15 +196,18 @@ def main():
         if said != wanted:
             wrong += 1
             print(f"the model says {said}, and not {wanted}")
-    for n, entries, f, wanted in SMALL + LARGE:
-        text = text_of(n, entries)
+    for n, entries, f, wanted in SMALL + LARGE + MANY:
+        text, limit = text_of(n, entries), MANY_LIMIT if len(lines_of_restarts(entries)) > traces.MAX_RESTARTS else max(len(entries), 65_536)
         for workers in WORKERS:
-            words = [program, "audit", "--faults", str(f), "--workers", str(workers), "--entries", str(max(len(entries), 65_536))]
-            said = subprocess.run(words, input=text, capture_output=True, timeout=60).stdout.decode().rstrip("\n")
+            said = output_of(program, "audit", ["--faults", str(f), "--workers", str(workers)], limit, text).rstrip("\n")
             if said != wanted:
                 wrong += 1
                 print(f"{len(entries)} entries, {workers} workers: the program says {said}, and not {wanted}")
-    print(f"{len(SMALL)} small runs and {len(LARGE)} large ones by {len(WORKERS)} numbers of workers, {wrong} wrong")
+    for run in MANY:
+        for said in wrong_of_many(program, *run):
+            wrong += 1
+            print(said)
+    print(f"{len(SMALL)} small runs, {len(LARGE)} large ones and {len(MANY)} with many restarts by {len(WORKERS)} numbers of workers, {wrong} wrong")
     sys.exit(1 if wrong else 0)
 
 

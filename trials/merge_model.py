@@ -25,7 +25,7 @@ KINDS = {
     "TooLong": "the limit on entries or on listed determinants is passed",
     "NotUp": "by the clocks the process is down here",
     "NotDown": "by the clocks the process is up here: a restart needs a crash before it",
-    "Lanes": "192 restarts have been made",
+    "Lanes": "the limit on restarts is passed",
     "WrongSsn": "this is not the number of sends so far in the sender's present incarnation: a line before it is missing?",
     "NoSend": "no line sends this message to this process: a recording is missing, or its end was lost",
     "WrongRsn": "this is not the number of deliveries so far in the present incarnation: a line before it is missing?",
