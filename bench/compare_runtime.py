@@ -107,9 +107,9 @@ def collisions(builds):
         told = builds.in_turn([program], [["keys", count]])[0]
         each = [took / many for many, took in zip(told[::2], told[1::2])]
         rows.append((f"{count:,}", *(f"{x:.1f}" for x in each)))
-        ratios += [(each[1] / each[0], f"alike, {count:,}"), (each[3] / each[0], f"seeded, {count:,}")]
+        ratios += [(each[1] / each[0], f"alike, {count:,}"), (each[3] / each[4], f"seeded, {count:,}")]
     builds.aim("picked and colliding / spread, with a seed", MOST_PICKED, ratios)
-    return table(["determinants", "spread", "alike", "picked", "seeded"], rows)
+    return table(["determinants", "spread", "alike", "picked", "seeded", "spread, seeded"], rows)
 
 
 def main():

@@ -34,6 +34,8 @@ SHAPES = {
     "buried": "one process delivers 32 messages in another order after each of its first restarts and in one order after all others; what it "
     "delivered first is then listed again and again",
     "overlapping": "64 processes, of which one or two are always down, by turns; process 0 delivers messages of another one and alone holds each",
+    "spared": "the same, but another process holds each determinant too, and a third one was reached, so that each is safe for two as long as "
+    "any process is down",
 }
 ONE_LINE = {
     "objects": "one line of objects with an empty name",
@@ -278,22 +280,50 @@ def buried(part, rng):
     return 2, entries
 
 
+class TurnsDown:
+    """A run of 64 processes in which process 62 was reached by process 0, and the others crash by turns: each before the last one to crash
+    restarts, so that one or two are down from the third instant on."""
+
+    def __init__(self, part, others):
+        first = (0, 0, 62, 0)
+        self.entries = [("send", 0, 62, 0), ("deliver", 62, 0, 0, [first], first), ("crash", 1)]
+        self.others, self.down, self.turns = others, 1, max(1, MAX_RESTARTS // part)
+        self.each = (MAX_ENTRIES // part - len(self.entries) - 2 * self.turns) // self.turns
+
+    def turn(self):
+        after = self.down % self.others + 1
+        self.entries += [("crash", after), ("restart", self.down, [])]
+        self.down = after
+
+    def deliver(self, source, ssn, dest, rsn, listed):
+        """Sends and delivers a message, whose delivery lists these and its own."""
+        own = (source, ssn, dest, rsn)
+        self.entries += [("send", source, dest, ssn), ("deliver", dest, len(self.entries), rsn, sorted([*listed, own]), own)]
+        return own
+
+
 def overlapping(part, rng):
-    """Each of the others crashes before the last one to crash restarts, so that one or two are down from the third instant on. Process 0
-    sends once, and what it delivers from then on has no effect elsewhere."""
-    n, restarts, ssn = 64, max(1, MAX_RESTARTS // part), 0
-    first = (0, 0, 62, 0)
-    entries, down = [("send", 0, 62, 0), ("deliver", 62, 0, 0, [first], first), ("crash", 1)], 1
-    each = (MAX_ENTRIES // part - len(entries) - 2 * restarts) // (2 * restarts)
-    for _ in range(restarts):
-        for ssn in range(ssn, ssn + each):
-            det = (63, ssn, 0, ssn)
-            entries += [("send", 63, 0, ssn), ("deliver", 0, len(entries), ssn, [det], det)]
+    """Process 0 sends once, and what it delivers from then on has no effect elsewhere."""
+    run, ssn = TurnsDown(part, 62), 0
+    for _ in range(run.turns):
+        for ssn in range(ssn, ssn + run.each // 2):
+            run.deliver(63, ssn, 0, ssn, [])
         ssn += 1
-        after = down % (n - 2) + 1
-        entries += [("crash", after), ("restart", down, [])]
-        down = after
-    return n, entries
+        run.turn()
+    return 64, run.entries
+
+
+def spared(part, rng):
+    """Process 61 lists what process 0 delivers, eight determinants at a time."""
+    run, ssn, sent = TurnsDown(part, 60), 0, 0
+    for _ in range(run.turns):
+        for sent in range(sent, sent + run.each // 18):
+            listed = [run.deliver(63, ssn + i, 0, ssn + i, []) for i in range(8)]
+            run.deliver(0, sent + 1, 61, sent, listed)
+            ssn += 8
+        sent += 1
+        run.turn()
+    return 64, run.entries
 
 
 MAKERS = {
@@ -311,13 +341,14 @@ MAKERS = {
     "reaching": reaching,
     "buried": buried,
     "overlapping": overlapping,
+    "spared": spared,
 }
 
 
 # For so many faults and more an early instant is unsafe: each of these runs logs for fewer.
 EARLY_FROM = {"down": 3, "shared": 2, "forgotten": 2, "reaching": 2}
 # For so many faults an early instant has too many down.
-EXCEEDED_FOR = {"overlapping": 1}
+EXCEEDED_FOR = {"overlapping": 1, "spared": 1}
 
 
 def answer_of(shape, f, n, entries):
@@ -393,13 +424,23 @@ def make(shape, f_word, part=1, seed=1):
     return text, about
 
 
+def set_limits(entries):
+    """Sets the limits that `--entries` sets."""
+    global MAX_ENTRIES, MAX_LISTED, MAX_RESTARTS
+    MAX_ENTRIES, MAX_LISTED = entries, 16 * entries
+    MAX_RESTARTS = min(65_536, entries // 256) if entries > 65_536 else MAX_RESTARTS
+
+
 def main():
     words = argparse.ArgumentParser(description=__doc__.split("\n")[0])
     words.add_argument("shape", choices=[*SHAPES, *LINES])
     words.add_argument("f", help="0, 1, 2, .. or n for the number of processes; a number for a line")
     words.add_argument("--part", type=int, default=1, help="every limit is divided by this (1)")
     words.add_argument("--seed", type=int, default=1)
+    words.add_argument("--entries", type=int, help="the limit of entries, which sets the others, in place of the default")
     given = words.parse_args()
+    if given.entries:
+        set_limits(given.entries)
     text, about = make(given.shape, given.f, given.part, given.seed)
     sys.stdout.write(text)
     print(about, file=sys.stderr)

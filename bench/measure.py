@@ -134,7 +134,7 @@ def plan_of_stable():
 def plan_of_hostile():
     """The same of the traces that were made to be slow: those that cost most come first."""
     order = ["released", "replayed", "colliding", "scattered", "late", "early", "down", "shared", "forgotten", "everywhere", "reaching"]
-    order += ["overlapping", "buried", "orphaned"]
+    order += ["overlapping", "spared", "buried", "orphaned"]
     return [("lists", "safe", "1", 1)] + [(shape, "hostile", f, 1) for f in ("n", "8", "2") for shape in order]
 
 
