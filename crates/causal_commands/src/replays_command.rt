@@ -25,7 +25,7 @@ use std::thread::Threads;
 /// surviving determinant at each instant, or the first instant that strays from this; or the line of the text's first
 /// error. The outcome reports a failure of the reader, the writer or an allocation.
 ///
-/// The text is read in pieces, of 4,096 bytes with one worker and otherwise of at most 65,536 for each, to its end or to
+/// The text is read in pieces, of 4,096 bytes with one worker and otherwise as `read_by` reads it, to its end or to
 /// the piece with its first error.
 pub fn answer_replays<R: Threads, I: Read, O: Write>(
     rt: &R,

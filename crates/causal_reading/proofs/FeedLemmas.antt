@@ -1,6 +1,6 @@
 -- More bytes of a text, part after part.
 use Rattle.std.proofs.Common.{arith, ◌≡◌, ◌≤◌, ◌*◌, ℕ, zero, suc, List, [], ◌++◌, length, take, drop, Result, Ok, Err, Option, Some, None, ap, sym, subst, ◌∙◌, append_assoc}
-use Rattle.std.specs.Prelude.{IfOk, IfErr, IfSome}
+use Rattle.std.specs.Prelude.{IfOk, IfErr, IfSome, max}
 use Rattle.std.specs.Io.KnownBytes.{Consumes, Keeps}
 use Rattle.std.proofs.Math.Seq.{take-append_seam}
 use Rattle.std.proofs.lemmas.List.{take-append-drop}
@@ -9,7 +9,7 @@ use Rattle.causal_line.specs.declared.text_refusal.TextRefusal.{TextRefusal}
 use Rattle.causal_text.specs.FaultContexts.{IsTrueRefusalWithin, IsTrueRefusalAlways}
 use Rattle.causal_text.specs.PushReaders.{PushReaderState, HasReceived}
 use Rattle.causal_text.specs.Streams.{StopsWithin, StopsOnceDecided, max_piece}
-use Rattle.causal_reading.specs.Reads.{max_read}
+use Rattle.causal_reading.specs.Reads.{max_read, shared_read}
 use Rattle.causal_reading.specs.Inside.Feeding.{IsFedBy}
 
 -- what `feed` and `feed_parsed` ensure of bytes
@@ -46,12 +46,15 @@ written_over size bytes behind same = subst (λ (n : ℕ). take n (bytes ++ behi
 pub stops_wider : (most few many : ℕ) (old new : Option (List ℕ)) → few ≤ many → StopsWithin most few old new → StopsWithin most many old new
 stops_wider most few many old new wider s = record { before = s.before; piece = s.piece; consumed = s.consumed; undecided = s.undecided; one_piece = omega (arith, wider, s.one_piece) }
 
--- several workers read 65,536 bytes for each
-pub max_read_many : (workers : ℕ) → 2 ≤ workers → max_read workers ≡ 65536 * workers
+pub shared_read_least : (workers : ℕ) → 524288 ≤ shared_read workers
+unfolding shared_read
+shared_read_least workers = let least : 524288 ≤ max 524288 (65536 * workers) = grind arith in least
+
+pub max_read_many : (workers : ℕ) → 2 ≤ workers → max_read workers ≡ shared_read workers
 max_read_many workers many = grind arith
 
 pub max_read_least : (workers : ℕ) → max_piece ≤ max_read workers
-max_read_least workers = grind arith
+max_read_least workers = grind (arith, shared_read_least workers)
 
 -- the bytes read decide nothing, and one more piece was consumed
 pub piece_stops : (most size : ℕ) (old mid new : Option (List ℕ)) (read piece : List ℕ) (reader : PushReaderState) → Consumes old mid read → Consumes mid new piece → length piece ≤ size → HasReceived most reader read

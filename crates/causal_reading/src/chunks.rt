@@ -42,7 +42,7 @@ pub(crate) fn feed_by<R: Threads>(
 pub(crate) fn evenness(piece: &[u8]) -> usize {
     let (sample, _) = piece.split_at(piece.len().min(SAMPLE));
     let feeds = sample.iter().filter(|byte| **byte == b'\n').count();
-    if feeds > SAMPLE / 128 { 5 } else { 23 }
+    if feeds > SAMPLE / 128 { 13 } else { 23 }
 }
 
 /// Reads more bytes in the calling thread.
@@ -83,8 +83,8 @@ fn feed_chunks<R: Threads>(
     feed_after(fed, parsed)
 }
 
-/// Returns about how many of `len` bytes lie before the last chunk. The lengths of the chunks are as 3 to 4 to 5 and so
-/// on if `evenness` is 5, as 12 to 13 to 14 if it is 23, since the calling thread has to check the lines of one before it
+/// Returns about how many of `len` bytes lie before the last chunk. The lengths of the chunks are as 7 to 8 to 9 and so
+/// on if `evenness` is 13, as 12 to 13 to 14 if it is 23, since the calling thread has to check the lines of one before it
 /// needs the next.
 pub(crate) fn front_len(len: usize, chunks: usize, evenness: usize) -> usize
     requires { 2 ≤ chunks }

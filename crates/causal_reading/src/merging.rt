@@ -5,7 +5,7 @@ ghost use Rattle.causal_merge.specs.Merges.{MergesFrom, MergesWithin, IsFirstFau
 ghost use Rattle.causal_merge.specs.RecordingReaders.{IsReadBy};
 
 use crate::chunks::split_lines;
-use crate::reading::READ_PER_WORKER;
+use crate::reading::shared_read;
 use crate::recorded_chunks::read_lines_by;
 use causal_merge::{MappedTrace, MergeFault, MergeKind, MergedTrace, RecordingReader};
 use causal_text::TextKind;
@@ -17,7 +17,7 @@ use std::thread::Threads;
 /// workers, who parse the lines; the calling thread checks, sorts and merges them. The result is the same for every
 /// number of workers. With one worker no thread starts.
 ///
-/// Memory, besides that of `merge_within`: for each worker about 5 times 65,536 bytes for the parsed lines.
+/// Memory, besides that of `merge_within`: for the parsed lines as in [`read_by`](crate::read_by).
 ///
 /// # Errors
 /// Those of `merge_within`. `NoMemory` in a worker is returned when the line or chunk has its turn.
@@ -61,7 +61,7 @@ pub fn merge_mapped_by<R: Threads>(
     reader.merge_mapped()
 }
 
-/// Reads all lines of a text, 65,536 bytes for each worker at a time.
+/// Reads all lines of a text, as much at a time as the workers share.
 fn read_all_by<R: Threads>(
     rt: &R,
     alloc: Global,
@@ -72,7 +72,7 @@ fn read_all_by<R: Threads>(
     requires { (1 ≤ workers) × (workers ≤ 64) }
     ensures { IsReadBy before (lines text.now) result }
 {
-    let size = READ_PER_WORKER * workers as usize;
+    let size = shared_read(workers);
     let mut reader = before;
     let mut left = text;
     while !left.is_empty() {

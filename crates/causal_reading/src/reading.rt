@@ -1,11 +1,11 @@
 //! Reading a trace from a byte source or a text in memory, with lines that several workers parse.
-ghost use Rattle.std.specs.Prelude.{◌≡◌, ◌≢◌, ◌≤◌, ℕ, List, IfOk, IfErr, IfSome, vec_len};
+ghost use Rattle.std.specs.Prelude.{◌≡◌, ◌≢◌, ◌<◌, ◌≤◌, ℕ, List, IfOk, IfErr, IfSome, vec_len};
 ghost use Rattle.causal_text.specs.FaultContexts.{ExplainsReadErrorWithin};
 ghost use Rattle.causal_text.specs.PushReaders.{HasReceived};
 ghost use Rattle.causal_text.specs.Spelling.{Spells, SpellsWithin, IsFirstFault, IsReadUpTo};
 ghost use Rattle.causal_trace.specs.Limits.{default_entries};
 ghost use Rattle.causal_text.specs.Streams.{StopsWithin};
-ghost use Rattle.causal_reading.specs.Reads.{max_read};
+ghost use Rattle.causal_reading.specs.Reads.{max_read, shared_read};
 ghost use Rattle.causal_reading.specs.Inside.Feeding.{IsBufferSize};
 
 use crate::chunks::feed_by;
@@ -19,18 +19,33 @@ use std::thread::Threads;
 /// The size of the first read in bytes.
 const PIECE: usize = 4_096;
 
-/// The maximum size of a read in bytes, for each worker.
-pub(crate) const READ_PER_WORKER: usize = 65_536;
+/// The least number of bytes that several workers take at a time: so many that starting their threads takes little of the
+/// time, and so few that the parsed lines take little memory.
+const LEAST_SHARED: usize = 524_288;
+
+/// The least number of these bytes for each worker.
+const READ_PER_WORKER: usize = 65_536;
+
+/// Returns how many bytes several workers take at a time.
+#[tactic(auto, unfolding(crate::specs::Reads::shared_read))]
+pub(crate) fn shared_read(workers: u32) -> usize
+    requires { workers ≤ 64 }
+    ensures value { result ≡ shared_read workers }
+    ensures some { 0 < result }
+{
+    LEAST_SHARED.max(READ_PER_WORKER * workers as usize)
+}
 
 /// Returns the trace that the bytes of a source spell, as [`read_within`] does, by 1 to 64 workers. The result is the
 /// same for every number of workers.
 ///
-/// A read asks for 4,096 bytes at first, and for twice as many after each read that got them all, up to 65,536 for each
-/// worker. What it gets is read at once, so a live source is never waited for. A piece of more than 32,768 bytes is cut
-/// at line feeds into a chunk for each worker, which parse the chunks at the same time; then the calling thread checks
-/// the lines in order. If a thread cannot start, the calling thread parses its chunk. With one worker no thread starts.
+/// A read asks for 4,096 bytes at first, and for twice as many after each read that got them all, up to 524,288, or 65,536
+/// for each worker if that is more. What it gets is read at once, so a live source is never waited for. A piece of more
+/// than 32,768 bytes is cut at line feeds into a chunk for each worker, which parse the chunks at the same time; then the
+/// calling thread checks the lines in order. If a thread cannot start, the calling thread parses its chunk. With one
+/// worker no thread starts.
 ///
-/// Memory, besides that of the trace: 65,536 bytes for each worker, and about 5 times as much for the parsed lines.
+/// Memory, besides that of the trace: the bytes of a read, and about 5 times as much for the parsed lines.
 ///
 /// # Errors
 /// Those of [`read_within`]. `NoMemory` in a worker is returned when the line or chunk has its turn.
@@ -106,21 +121,21 @@ fn finish(reader: PushReader) -> Result<Trace, ReadError>
     }
 }
 
-/// Doubles the buffer after a read that filled it, up to 65,536 bytes for each worker.
+/// Doubles the buffer after a read that filled it, up to what the workers take at a time.
 fn grow_buffer(buffer: &mut Vec<u8>, n: usize, workers: u32)
     requires workers { workers ≤ 64 }
     requires size { IsBufferSize workers (vec_len buffer.old) }
     ensures { IsBufferSize workers (vec_len buffer.new) }
 {
     let size = buffer.len();
-    if n == size && size * 2 <= READ_PER_WORKER * workers as usize {
+    if n == size && size * 2 <= shared_read(workers) {
         // if the allocation fails, the buffer is long enough as it is
         let _ = buffer.resize(size * 2, 0);
     }
 }
 
 /// Returns the trace that a text spells, under the default limits, as `read_trace` of `causal_text` does, by 1 to 64
-/// workers. The result is the same for every number of workers. It reads 65,536 bytes for each worker at a time.
+/// workers. The result is the same for every number of workers. It reads as much at a time as `read_by`.
 ///
 /// # Errors
 /// Those of `read_trace`. `NoMemory` in a worker is returned when the line or chunk has its turn.
@@ -137,7 +152,7 @@ pub fn read_trace_by<R: Threads>(
     ensures memory { IfErr result (λ fault. fault.kind ≡ TextKind.NoMemory
         → IsReadUpTo default_entries bytes.now fault.line) }
 {
-    let size = READ_PER_WORKER * workers as usize;
+    let size = shared_read(workers);
     let mut reader = PushReader::new(alloc);
     let mut left = bytes;
     while !left.is_empty() {
