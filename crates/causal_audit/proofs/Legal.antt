@@ -1,5 +1,5 @@
 -- Facts about the entries of a well-formed run.
-use Rattle.causal_audit.proofs.Common.{ℕ, ◌≡◌, ◌<◌, inl, inr, true, false, cond, List, [], ◌∷◌, length, Option, Some, None, refl, arith, ◌==◌, option_map_or, false≢true, eqb-true, Pid, Det, Entry, Send, Deliver, Stable, Crash, Restart, Forget, is_down, lane, restarts, listed_in, listed_by, entry_at, is_send_to, is_sent_to, det_of, det_at, first_fault, AreLegalEntries, actor, is_delivery_of, IsEventOf, Delivers, row_fails}
+use Rattle.causal_audit.proofs.Common.{ℕ, ◌≡◌, ◌<◌, inl, inr, true, false, cond, List, [], ◌∷◌, length, Option, Some, None, refl, arith, ◌==◌, option_map_or, false≢true, eqb-true, Pid, Det, Entry, Send, Deliver, Stable, Crash, Restart, Forget, is_down, lane, listed_in, listed_by, entry_at, is_send_to, is_sent_to, det_of, det_at, first_fault, AreLegalEntries, actor, is_delivery_of, IsEventOf, Delivers, row_fails}
 use Rattle.causal_audit.specs.Numbers.{is_delivery}
 use Rattle.causal_trace.specs.Rows.{rows_within, refusal_rows}
 use Rattle.causal_trace.specs.declared.fault.TraceFault.TheVariants.{NotUp}

@@ -6,8 +6,8 @@ use crate::group::walk_input::OpenDelivery;
 use crate::index::departures::departures_of;
 use crate::index::indexed_trace::IndexedTrace;
 use crate::index::positions::positions_of;
-use crate::index::reachability::reachable_sets;
 use crate::index::run_index::RunIndex;
+use crate::index_parts::{PrefixIndex, WholeIndex};
 use crate::safety_scan::open_delivery_search::OpenDeliverySearch;
 use causal_holders::Holders;
 use causal_name::NoMemory;
@@ -50,19 +50,42 @@ impl IndexedRun {
         requires { end ≤ length trace.now.recording.past }
         ensures { IfOk result (λ indexed. indexed ≡ search_scope trace.now.recording f end) }
     {
-        let index = RunIndex::of(alloc, trace, end)?;
+        let prefix = PrefixIndex::of(alloc, trace, f, end)?;
+        let whole = WholeIndex::of(alloc, trace)?;
+        let indexed = IndexedRun::from_parts(alloc, trace, whole, prefix)?;
+        Ok(indexed)
+    }
+
+    /// Indexes a trace, given the two parts of its index. It adds when the effect of each event leaves its process, and the
+    /// deliveries: they use the memory again that `PrefixIndex::of` took for a time.
+    ///
+    /// # Errors
+    /// `NoMemory` if allocation fails.
+    pub fn from_parts(
+        alloc: Global,
+        trace: &Trace,
+        whole: WholeIndex,
+        prefix: PrefixIndex,
+    ) -> Result<IndexedRun, NoMemory>
+        requires whole { whole ≡ prefix.run }
+        requires same { trace.now.recording ≡ prefix.run }
+        ensures { IfOk result (λ indexed. indexed ≡ prefix) }
+    {
         let entries = trace.entries();
         let departures = departures_of(alloc, entries)?;
-        let reached = reachable_sets(alloc, trace)?;
-        let positions = positions_of(alloc, &entries[..end as usize])?;
+        let positions = positions_of(alloc, &entries[..prefix.end as usize])?;
+        let index = RunIndex {
+            transitions: whole.transitions,
+            mentions: prefix.mentions,
+        };
         Ok(IndexedRun {
-            run: Snapshot::of(trace),
+            run: prefix.run,
             index,
             departures,
-            reached,
+            reached: whole.reached,
             positions,
-            f,
-            end,
+            f: prefix.f,
+            end: prefix.end,
         })
     }
 

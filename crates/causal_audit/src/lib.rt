@@ -17,6 +17,8 @@ pub mod breach;
 pub mod excess;
 /// The verdict by vector clocks.
 pub mod clock_audit;
+/// The two parts of the index of a run.
+pub mod index_parts;
 /// A run indexed for its audit, and the search for the deliveries that must be followed.
 pub mod indexed_run;
 /// A verdict with the counts of its trace.
@@ -51,6 +53,7 @@ pub use audit::{earliest_breach, horizon_of, verdict_of};
 pub use breach::{Breach, Excess, earlier_breach};
 pub use clock_audit::{decide_verdict, first_breach, first_excess, judge};
 pub use excess::{first_excess_in, last_deciding_instant};
+pub use index_parts::{PrefixIndex, WholeIndex};
 pub use indexed_run::{IndexedRun, OpenDeliveries};
 pub use judged::Judged;
 pub use line::verdict_line;

@@ -1,5 +1,6 @@
 pub mod Lists
 pub mod Falls
+pub mod Parts
 pub mod RunIndexes
 pub mod IndexedTraces
 pub mod Packed
