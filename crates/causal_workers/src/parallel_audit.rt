@@ -43,8 +43,8 @@ impl From<NoMemory> for AuditFault {
 
 /// Returns the verdict on a trace for f, by 1 to 64 workers. It is the same for every number of workers.
 ///
-/// The run is prepared up to an instant beyond which nothing decides: the calling thread indexes it, and all workers
-/// search for the deliveries that must be followed. These are divided among the workers, in groups that one walk over
+/// The run is prepared up to an instant beyond which nothing decides: two threads index it, and all workers search for
+/// the deliveries that must be followed. These are divided among the workers, in groups that one walk over
 /// the entries follows. Worker 0 is the calling thread, and begins after all others were started. Each worker calls the
 /// gate's `enter` once with its number, even if no delivery is left for it.
 ///
