@@ -1,7 +1,7 @@
 //! A stream that counts its lines and keeps what was read last, so that a line with an error can be found and shown.
 ghost use Rattle.std.specs.Prelude.{◌≡◌};
 
-use memchr::{memchr, memchr_iter, memrchr};
+use memchr::{memchr, memrchr};
 use std::alloc::{AllocError, Global};
 use std::io::{Read, Result};
 
@@ -82,9 +82,7 @@ impl<S: Drop> TrackedStream<S> {
         };
         self.is_in_line = Some(*last != b'\n');
         self.feeds_before = self.feeds;
-        self.feeds = self
-            .feeds
-            .saturating_add(memchr_iter(b'\n', piece).count() as u64);
+        self.feeds = self.feeds.saturating_add(count_feeds(piece));
         if self.keep(piece).is_err() {
             self.is_lost = true;
         }
@@ -107,6 +105,25 @@ impl<S: Drop> TrackedStream<S> {
         self.piece.clear();
         self.piece.extend_from_slice(piece)
     }
+}
+
+/// Returns how many of the bytes are line feeds. A part of at most 255 bytes is counted in one byte, so that the processor
+/// adds up many at once.
+fn count_feeds(bytes: &[u8]) -> u64 {
+    let mut feeds: u64 = 0;
+    for part in bytes.chunks(255) {
+        feeds = feeds.saturating_add(u64::from(count_few_feeds(part)));
+    }
+    feeds
+}
+
+/// Returns how many of at most 255 bytes are line feeds.
+fn count_few_feeds(bytes: &[u8]) -> u8 {
+    let mut feeds: u8 = 0;
+    for byte in bytes {
+        feeds = feeds.wrapping_add(u8::from(*byte == b'\n'));
+    }
+    feeds
 }
 
 /// Returns what follows the line feed with this number, counted from 0.
