@@ -103,6 +103,28 @@ impl SortedDeliveries {
         }
     }
 
+    /// Adds the delivery with determinant `own`, if there is one, after those of these entries, of which there are
+    /// `number`, if the set is complete or `begins`; if it begins, it is filled first. Most traces have few restarts, and
+    /// so need no such set: for them this is a test. O(log deliveries) time unless it begins.
+    pub(crate) fn add_next(
+        &mut self,
+        begins: bool,
+        entries: &[Entry],
+        own: Option<Det>,
+        number: u32,
+    )
+        requires { length entries.now ≤ max_entries }
+        ensures { (dets : List Det) →
+            dets ≡ delivered_dets (past_at entries.now (length entries.now)) →
+            length dets ≡ number → AreDeliveries self.old dets →
+            AreDeliveries self.new (option_map_or (λ det. det ∷ dets) own dets) }
+    {
+        if begins || self.complete {
+            self.fill_if(begins, entries);
+            self.add_own(own, number);
+        }
+    }
+
     /// Returns the number of the newest delivery with this determinant among the first `among` deliveries.
     /// O(log deliveries) time.
     pub(crate) fn newest(&self, det: Det, among: usize) -> Option<u32>

@@ -205,8 +205,8 @@ impl Trace {
         add_to_chains(&mut self.chains, &entry, own, lane)?;
         count_entry(self.lanes.as_mut_slice(), &entry);
         let begins = is_first_of_many(self.restarts, &entry);
-        self.sorted.fill_if(begins, self.entries.as_slice());
-        self.sorted.add_own(own, number);
+        self.sorted
+            .add_next(begins, self.entries.as_slice(), own, number);
         self.restarts += restarts_in(&entry);
         self.listed += entry.listed_count() as u32;
         self.entries.push_reserved(entry);

@@ -58,8 +58,8 @@ add_to_chains-requires-clause-delivered c = grind (arith, own_is ((goal.at.add_t
 pub add_to_chains-requires-clause-few : goal.add_to_chains-requires-clause-few
 add_to_chains-requires-clause-few c = grind (arith, kept, deliveries_in_few)
 
-pub fill_if-requires : goal.fill_if-requires
-fill_if-requires c = grind (arith, c.self.invariant.kept.short, length-reverse)
+pub add_next-requires : goal.add_next-requires
+add_next-requires c = grind (arith, c.self.invariant.kept.short, length-reverse)
 
 pub invariant_of-self-2 : goal.invariant_of-self-2
 invariant_of-self-2 c =
@@ -71,14 +71,13 @@ invariant_of-self-2 c =
     let dets = delivered_dets (reverse items) in
     let read : past_at c.as_slice-2.result.now (length c.as_slice-2.result.now) ≡ reverse items =
     ap (λ es. past_at es (length es)) (c.as_slice-2.ensures.value ∙ c.reserve.ensures.items) ∙ past_whole items in
-    let filled : AreDeliveries c.fill_if.new.self dets =
-    subst (λ past. AreDeliveries c.fill_if.new.self (delivered_dets past)) read (c.fill_if.ensures (subst (λ past. AreDeliveries c.self.inside.sorted (delivered_dets past)) (sym read) c.self.invariant.sorted)) in
     let count : length dets ≡ c.deliveries-number.result =
     sym c.self.invariant.chains.numbered ∙ c.self.invariant.chains.counted ∙ ap (λ s. deliveries_in s.recording.past) c.self.view_is ∙ sym c.deliveries-number.ensures in
-    let sorted : AreDeliveries c.add_own.new.self (delivered_dets (c.args.entry ∷ reverse items)) =
-    subst (λ own. AreDeliveries c.add_own.new.self (option_map_or (λ det. det ∷ dets) own dets)) (own_is d) (c.add_own.ensures dets count filled) in
+    let same : dets ≡ delivered_dets (past_at c.as_slice-2.result.now (length c.as_slice-2.result.now)) = ap delivered_dets (sym read) in
+    let sorted : AreDeliveries c.add_next.new.self (delivered_dets (c.args.entry ∷ reverse items)) =
+    subst (λ own. AreDeliveries c.add_next.new.self (option_map_or (λ det. det ∷ dets) own dets)) (own_is d) (c.add_next.ensures dets same count c.self.invariant.sorted) in
     rw (c.push_reserved.ensures.items, c.reserve.ensures.items, c.listed_count.ensures, c.restarts_in.ensures, lanes, reverse-append)
-    (indexed_push _ c.args.entry _ _ c.receipt_lane-lane.result _ c.self.inside.chains c.add_to_chains.new.chains c.self.inside.sorted c.add_own.new.self c.self.invariant (next d)
+    (indexed_push _ c.args.entry _ _ c.receipt_lane-lane.result _ c.self.inside.chains c.add_to_chains.new.chains c.self.inside.sorted c.add_next.new.self c.self.invariant (next d)
     (λ e h. c.receipt_lane-lane.ensures e (own_is d ∙ h) ∙ ap (λ s. lane s.recording.past e.dest.0) (sym c.self.view_is))
     (c.in_ok-add_to_chains.ensures.heads ∙ ap (λ o. heads_after (message_sent c.args.entry) o c.self.inside.chains) (own_is d))
     (c.in_ok-add_to_chains.ensures.nodes ∙ ap (λ o. nodes_after (message_sent c.args.entry) o c.receipt_lane-lane.result c.self.inside.chains) (own_is d))
