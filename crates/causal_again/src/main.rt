@@ -20,6 +20,7 @@ mod reporting;
 
 use std::alloc::Global;
 use std::process::ExitCode;
+use std::rt::Clock;
 use std::sync::Wait;
 use std::thread::Threads;
 
@@ -32,7 +33,7 @@ fn of_a_script<R: Print + Eprint + Threads + Wait>(rt: &R, alloc: Global) -> boo
 }
 
 /// Reads the text of a trace, and audits it.
-fn of_a_text<R: Print + Eprint + Threads + Wait>(rt: &R, alloc: Global) -> bool {
+fn of_a_text<R: Print + Eprint + Threads + Wait + Clock>(rt: &R, alloc: Global) -> bool {
     match readings::read(rt, alloc) {
         Some(trace) => readings::is_judged(rt, alloc, &trace) && readings::are_read(rt, alloc),
         None => false,

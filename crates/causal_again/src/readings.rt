@@ -8,6 +8,7 @@ use causal_workers::{OpenGate, audit, audit_text};
 use std::alloc::Global;
 use std::io;
 use std::io::Read;
+use std::rt::Clock;
 use std::sync::Wait;
 use std::thread::Threads;
 
@@ -77,7 +78,7 @@ fn is_read_in_pieces<P: Print + Eprint>(rt: &P, alloc: Global) -> bool {
     }
 }
 
-fn is_answered<R: Print + Eprint + Threads + Wait>(rt: &R, alloc: Global) -> bool {
+fn is_answered<R: Print + Eprint + Threads + Wait + Clock>(rt: &R, alloc: Global) -> bool {
     match audit_stream(
         rt,
         alloc,
@@ -95,7 +96,7 @@ fn is_answered<R: Print + Eprint + Threads + Wait>(rt: &R, alloc: Global) -> boo
 
 /// Reads the text in pieces, prints the answer of an audit, and audits the text with two threads, each until it
 /// succeeds.
-pub fn are_read<R: Print + Eprint + Threads + Wait>(rt: &R, alloc: Global) -> bool {
+pub fn are_read<R: Print + Eprint + Threads + Wait + Clock>(rt: &R, alloc: Global) -> bool {
     let mut is_read = false;
     let mut is_told = false;
     let mut is_judged = false;

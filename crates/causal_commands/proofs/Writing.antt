@@ -3,13 +3,16 @@ use Rattle.std.proofs.Common.{◌≡◌, ◌<◌, List, ℕ, Option, None, Some,
 use Rattle.std.specs.Prelude.{IfErr, IfSome, MatchResult}
 use Rattle.std.specs.Io.KnownBytes.{Appends}
 use Rattle.std.proofs.KnownBytes.{Keeps-refl}
+use Rattle.causal_report.specs.declared.form.Form.{Form}
+use Rattle.causal_report.specs.Replies.{reply_text}
 use Rattle.causal_commands.specs.declared.answer.Answer.{Answer}
 use Rattle.causal_commands.specs.declared.ended.Ended.{Ended}
 use Rattle.causal_commands.specs.declared.ended.Ended.TheVariants.{Accepted, Breached, Ranged, Followed, Strayed, Merged, Faulted, Ran, Refused, ReadFault, WriteFault, NoMemory, NoWorker, FinishFault}
-use Rattle.causal_commands.specs.declared.json.Question.{Question}
-use Rattle.causal_commands.specs.Json.{IsObject, object_of}
+use Rattle.causal_commands.specs.declared.question.Question.{Question}
+use Rattle.causal_commands.specs.declared.response.Response.{Response}
+use Rattle.causal_commands.specs.Answers.{IsAnswer}
 use Rattle.causal_commands.specs.AnswerWrites.{WritesAnswer}
-use Rattle.causal_commands.specs.Inside.Answers.{AreLinesFor, IsObjectFor, WritesNothing, WritesWholeAnswer, IsWritten}
+use Rattle.causal_commands.specs.Inside.Answers.{IsReplyFor, WritesNothing, WritesWholeAnswer, IsWritten}
 use Rattle.causal_commands.proofs.Known.{IfSome-weaker}
 
 -- an answer that is appended whole is written as its ending requires
@@ -82,8 +85,9 @@ pub tells : {A E : Type 0} (known : Option (List ℕ)) (P : A → List ℕ → T
 tells known P Q (Ok a) ok err = ok
 tells known P Q (Err e) ok err = err
 
--- the object of the lines that answer is the answer as JSON
-pub objects : (most : ℕ) (question : Question) (known : Option (List ℕ)) (lines answer : Answer) → answer.ended ≡ lines.ended → answer.line.items ≡ object_of lines.ended lines.line.items
-    → AreLinesFor most question known lines.ended lines.line.items → IsObjectFor most question known answer.ended answer.line.items
-objects most question known lines answer ended object are =
-    IfSome-weaker known _ _ (λ text is. subst (λ (e : Ended). IsObject most question text e answer.line.items) (sym ended) (lines.line.items, is, object)) are
+-- the printed reply is the answer
+pub printed : (most : ℕ) (form : Form) (question : Question) (known : Option (List ℕ)) (response : Response) (answer : Answer) → answer.ended ≡ response.ended
+    → answer.line.items ≡ reply_text form response.reply → IsReplyFor most question known response.ended response.reply
+    → IfSome known (λ text. IsAnswer most form question text answer.ended answer.line.items)
+printed most form question known response answer ended line are =
+    IfSome-weaker known _ _ (λ text is. subst (λ (e : Ended). IsAnswer most form question text e answer.line.items) (sym ended) (response.reply, is, line)) are

@@ -2,6 +2,5 @@
 pub mod Answers
 pub mod MergeOutcomes
 pub mod Refusals
-pub mod ReplayAnswers
 pub mod Placing
 pub mod MappedAnswers

@@ -3,39 +3,43 @@
 use Rattle.std.specs.Prelude.{◌≡◌, ◌≢◌, ℕ, List, [], Option, None, Some, IfSome, Ok, Err}
 use Rattle.causal_audit.specs.declared.verdict.Verdict.TheVariants.{Accept}
 use Rattle.causal_audit.specs.declared.judged.Judged.{Judged}
+use Rattle.causal_audit.specs.VerdictLines.{verdict_line}
+use Rattle.causal_report.specs.declared.fact.Fact.{Fact}
+use Rattle.causal_report.specs.declared.form.Form.TheVariants.{Lines}
+use Rattle.causal_report.specs.declared.reply.Reply.{Reply}
+use Rattle.causal_report.specs.Replies.{reply_text}
 use Rattle.causal_commands.specs.declared.ended.Ended.{Ended}
 use Rattle.causal_commands.specs.declared.ended.Ended.TheVariants.{Accepted, Breached, Faulted}
 use Rattle.causal_commands.specs.declared.map_fault.MapFault.{MapFault}
 use Rattle.causal_commands.specs.declared.mapped_reason.MappedOutcome.{MappedOutcome}
-use Rattle.causal_commands.specs.declared.view.View.TheVariants.{Reason}
 use Rattle.causal_commands.specs.AnswerWrites.{WritesAnswer}
 use Rattle.causal_commands.specs.Merges.{bytes_read}
-use Rattle.causal_commands.specs.PlacedLines.{placed_text}
-use Rattle.causal_commands.specs.Streams.{IsFaultLine}
-use Rattle.causal_commands.specs.Views.{IsViewOf}
+use Rattle.causal_commands.specs.PlacedLines.{placed_text, with_front}
+use Rattle.causal_commands.specs.Replies.{IsExplained, IsFaultReply}
 
--- the text spells a trace with this verdict for f, and the output is its explanation with the places of the map
-pub record IsMappedView (most : ℕ) (text map : List ℕ) (f : ℕ) (judged : Judged) (out : List ℕ) : Type 0 where
-  pub explanation : List ℕ
-  pub explains : IsViewOf most Reason text f judged explanation
-  pub placed : placed_text most map judged.entries explanation ≡ Ok out
+-- the text spells a trace with this verdict for f, and the output is its line and those of the facts that explain it, with
+-- the places of the map
+pub record IsMappedReason (most : ℕ) (text map : List ℕ) (f : ℕ) (judged : Judged) (out : List ℕ) : Type 0 where
+  pub facts : List Fact
+  pub explained : IsExplained most text f judged facts
+  pub placed : with_front (verdict_line f judged) (placed_text most map judged.entries facts) ≡ Ok out
 
--- the text spells a trace, and the map has this error for its explanation for f
+-- the text spells a trace, and the map has this error for the facts that explain its verdict for f
 pub record IsMapFault (most : ℕ) (text map : List ℕ) (f : ℕ) (fault : MapFault) : Type 0 where
   pub judged : Judged
-  pub explanation : List ℕ
-  pub explains : IsViewOf most Reason text f judged explanation
-  pub faulty : placed_text most map judged.entries explanation ≡ Err fault
+  pub facts : List Fact
+  pub explained : IsExplained most text f judged facts
+  pub faulty : with_front (verdict_line f judged) (placed_text most map judged.entries facts) ≡ Err fault
 
 -- what is written if an error is found: the line of the text's first error; of an error of the map, nothing
 abbrev pub IsMappedFault : ℕ → List ℕ → List ℕ → ℕ → Option MapFault → List ℕ → Type 0
-IsMappedFault most text map f None out = IsFaultLine most text out
+IsMappedFault most text map f None out = (reply : Reply) × IsFaultReply most text reply × (out ≡ reply_text Lines reply)
 IsMappedFault most text map f (Some fault) out = IsMapFault most text map f fault × (out ≡ [])
 
 -- the answer to a text and a map for f, by the ending, with the error of the map that is returned
 abbrev pub IsMappedAnswer : ℕ → List ℕ → List ℕ → ℕ → Option MapFault → Ended → List ℕ → Type 0
-IsMappedAnswer most text map f told Accepted out = (judged : Judged) × IsMappedView most text map f judged out × (judged.verdict ≡ Accept) × (told ≡ None)
-IsMappedAnswer most text map f told Breached out = (judged : Judged) × IsMappedView most text map f judged out × (judged.verdict ≢ Accept) × (told ≡ None)
+IsMappedAnswer most text map f told Accepted out = (judged : Judged) × IsMappedReason most text map f judged out × (judged.verdict ≡ Accept) × (told ≡ None)
+IsMappedAnswer most text map f told Breached out = (judged : Judged) × IsMappedReason most text map f judged out × (judged.verdict ≢ Accept) × (told ≡ None)
 IsMappedAnswer most text map f told Faulted out = IsMappedFault most text map f told out
 IsMappedAnswer most text map f told _ out = ⊥
 

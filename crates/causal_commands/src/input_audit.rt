@@ -1,5 +1,6 @@
 //! Reads the text of a trace and audits it.
 ghost use Rattle.std.specs.Prelude.{◌≡◌, ◌≢◌, ◌≤◌, ℕ, List, IfOk, IfErr, IfSome, Err};
+ghost use Rattle.causal_audit.specs.Judgements.{IsJudgedOf};
 ghost use Rattle.causal_text.specs.FaultContexts.{IsTrueRefusalWithin, ExplainsReadErrorWithin};
 ghost use Rattle.causal_text.specs.Spelling.{SpellsWithin};
 ghost use Rattle.causal_text.specs.Streams.{StopsWithin};
@@ -7,11 +8,12 @@ ghost use Rattle.causal_reading.specs.Reads.{max_read};
 ghost use Rattle.causal_workers.specs.Judgements.{IsJudgementWithin};
 ghost use Rattle.causal_commands.specs.Inside.Refusals.{ExplainsStreamRefusal};
 
+use causal_name::NoMemory;
 use causal_reading::read_by;
 use causal_text::{ReadError, TextKind, TextRefusal};
 use causal_trace::limits::Limits;
 use causal_trace::trace::Trace;
-use causal_workers::{AuditFault, Gate, Judged, judge_trace};
+use causal_workers::{AuditFault, Gate, Judged, OpenGate, judge_trace};
 use std::alloc::Global;
 use std::io::Read;
 use std::sync::Wait;
@@ -70,6 +72,22 @@ fn from_text_refusal(rejected: TextRefusal) -> StreamRefusal
     match rejected.fault.kind {
         TextKind::NoMemory => StreamRefusal::NoMemory,
         _ => StreamRefusal::Text(rejected),
+    }
+}
+
+/// Audits a trace by one worker, which needs no thread.
+pub(crate) fn judge_serially<R: Threads + Wait>(
+    rt: &R,
+    alloc: Global,
+    trace: &Trace,
+    f: u16,
+) -> Result<Judged, NoMemory>
+    ensures { IfOk result (IsJudgedOf trace.now.recording f) }
+{
+    match judge_trace(rt, alloc, trace, f, 1, &OpenGate) {
+        Ok(judged) => Ok(judged),
+        Err(AuditFault::NoMemory) => Err(NoMemory),
+        Err(AuditFault::NoWorker) => unreachable!(),
     }
 }
 

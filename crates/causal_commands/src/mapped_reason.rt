@@ -1,24 +1,32 @@
 //! The command `explain --map`, over any readers and writer.
-ghost use Rattle.std.specs.Prelude.{◌≡◌, ◌≢◌, ◌≤◌, ℕ, List, IfOk, IfErr, Err, None};
+ghost use Rattle.std.specs.Prelude.{◌≡◌, ◌≢◌, ◌≤◌, ◌++◌, ℕ, List, IfOk, IfErr, IfSome, Err, None};
+ghost use Rattle.causal_audit.specs.VerdictLines.{verdict_line};
 ghost use Rattle.causal_text.specs.Streams.{StopsWithin};
 ghost use Rattle.causal_reading.specs.Reads.{max_read};
 ghost use Rattle.causal_commands.specs.Diagnostics.{IsDiagnosisFor};
 ghost use Rattle.causal_commands.specs.Merges.{ReadsAtMostRecordings};
 ghost use Rattle.causal_commands.specs.MappedReasons.{WritesMappedFor};
 ghost use Rattle.causal_commands.specs.Inside.Answers.{WritesNothing, WritesWholeAnswer};
-ghost use Rattle.causal_commands.specs.Inside.Refusals.{IsTrueRefusalFor};
-ghost use Rattle.causal_commands.specs.Inside.MappedAnswers.{IsMappedFor, IsPlacedFor, IsPlaced};
+ghost use Rattle.causal_commands.specs.PlacedLines.{placed_text, with_front};
+ghost use Rattle.causal_commands.specs.Inside.Placing.{Gives};
+ghost use Rattle.causal_commands.specs.Inside.Refusals.{ExplainsStreamRefusal, IsTrueRefusal, IsTrueRefusalFor};
+ghost use Rattle.causal_commands.specs.Inside.MappedAnswers.{IsFaultAnswer, IsMappedFor, IsPlacedFor, IsPlaced};
 
 use crate::answer::{Answer, ended_of, write_answer};
 use crate::bounded_read::{ReadFault, read_at_most};
 use crate::diagnostic::DiagnosedFault;
 use crate::ended::Ended;
+use crate::input_audit::StreamRefusal;
 use crate::map_fault::{MapFault, PlaceError};
 use crate::placed_lines::placed_text;
+use crate::reason::{Explained, read_explained};
+use crate::response::{fault_response, printed_answer};
 use crate::stream::Outcome;
-use crate::view::{View, ViewText, read_view, view_fault_answer};
 use causal_merge::max_input_len;
+use causal_name::NoMemory;
+use causal_report::Form;
 use causal_trace::limits::Limits;
+use causal_workers::{Judged, verdict_line};
 use std::alloc::Global;
 use std::io::{Read, Write};
 use std::sync::Wait;
@@ -32,8 +40,8 @@ pub struct MappedOutcome {
     pub map_fault: Option<MapFault>,
 }
 
-/// Explains the verdict for f on a trace as [`answer_view`](crate::answer_view) does, with the places that a map has:
-/// each line with a field `line=L` gets the fields ` at=FILE:LINE clock=CLOCK` of that entry. The map is read after the
+/// Explains the verdict for f on a trace as [`Question::Reason`](crate::Question) does, in lines with the places that a map
+/// has: each line with a field `line=L` gets the fields ` at=FILE:LINE clock=CLOCK` of that entry. The map is read after the
 /// trace, if that is valid: at most one byte more than a map may have, which is as many bytes as recordings.
 ///
 /// A map that is too long, has another number of lines than the trace has entries, or has another line for an entry that
@@ -100,15 +108,32 @@ fn mapped_answer<I: Read, M: Read, R: Threads + Wait>(
         (M.remaining map.new) }
     ensures never_no_worker { result ≢ Err Ended.NoWorker }
 {
-    match read_view(rt, alloc, input, limits, f, workers, View::Reason) {
-        Ok(shown) => with_places(alloc, map, limits, shown),
-        Err(stopped) => match view_fault_answer(alloc, stopped, View::Reason) {
-            Ok(answer) => Ok(MappedAnswer {
-                answer,
-                map_fault: None,
-            }),
-            Err(ended) => Err(ended),
-        },
+    match read_explained(rt, alloc, input, limits, f, workers) {
+        Ok(known) => with_places(alloc, map, limits, f, known),
+        Err(stopped) => fault_answer(alloc, stopped),
+    }
+}
+
+/// Returns the answer with the first error of a text without verdict, or the ending if there is nothing to write.
+fn fault_answer(alloc: Global, stopped: StreamRefusal) -> Result<MappedAnswer, Ended>
+    ensures ok { IfOk result (IsFaultAnswer stopped) }
+    ensures rejected { IfOk result (λ given. (most : ℕ) (text : List ℕ)
+        → ExplainsStreamRefusal most text stopped →
+        IfSome given.answer.refusal (IsTrueRefusal most text)) }
+    ensures whole_answer { IfOk result (λ given. WritesWholeAnswer given.answer.ended) }
+    ensures err { IfErr result WritesNothing }
+    ensures no_worker { result ≡ Err Ended.NoWorker → stopped ≡ StreamRefusal.NoWorker }
+{
+    let response = match fault_response(alloc, stopped) {
+        Ok(response) => response,
+        Err(ended) => return Err(ended),
+    };
+    match printed_answer(alloc, Form::Lines, response) {
+        Ok(answer) => Ok(MappedAnswer {
+            answer,
+            map_fault: None,
+        }),
+        Err(ended) => Err(ended),
     }
 }
 
@@ -117,10 +142,11 @@ fn with_places<M: Read>(
     alloc: Global,
     map: &mut M,
     limits: Limits,
-    shown: ViewText,
+    f: u16,
+    known: Explained,
 ) -> Result<MappedAnswer, Ended>
     ensures ok { IfOk result (λ given. IsPlacedFor limits.entries (M.remaining map.old)
-        shown given) }
+        f known given) }
     ensures none { IfOk result (λ given. given.answer.refusal ≡ None) }
     ensures whole_answer { IfOk result (λ given. WritesWholeAnswer given.answer.ended) }
     ensures err { IfErr result WritesNothing }
@@ -129,7 +155,7 @@ fn with_places<M: Read>(
     ensures never_no_worker { result ≢ Err Ended.NoWorker }
 {
     match read_at_most(alloc, map, max_input_len(limits) + 1) {
-        Ok(map) => placed_answer(alloc, map.as_slice(), limits, shown),
+        Ok(map) => placed_answer(alloc, map.as_slice(), limits, f, known),
         Err(ReadFault::Read) => Err(Ended::ReadFault),
         Err(ReadFault::NoMemory) => Err(Ended::NoMemory),
     }
@@ -139,18 +165,18 @@ fn placed_answer(
     alloc: Global,
     map: &[u8],
     limits: Limits,
-    shown: ViewText,
+    f: u16,
+    known: Explained,
 ) -> Result<MappedAnswer, Ended>
-    ensures ok { IfOk result (λ given. IsPlaced limits.entries map.now shown given) }
+    ensures ok { IfOk result (λ given. IsPlaced limits.entries map.now f known given) }
     ensures none { IfOk result (λ given. given.answer.refusal ≡ None) }
     ensures whole_answer { IfOk result (λ given. WritesWholeAnswer given.answer.ended) }
     ensures err { IfErr result (λ ended. ended ≡ Ended.NoMemory) }
 {
-    let ViewText { judged, text } = shown;
-    match placed_text(alloc, limits, map, judged.entries, text.as_slice()) {
+    match placed_reason(alloc, map, limits, f, &known) {
         Ok(line) => Ok(MappedAnswer {
             answer: Answer {
-                ended: ended_of(judged.verdict),
+                ended: ended_of(known.judged.verdict),
                 line,
                 refusal: None,
             },
@@ -166,4 +192,33 @@ fn placed_answer(
         }),
         Err(PlaceError::NoMemory) => Err(Ended::NoMemory),
     }
+}
+
+/// Returns the line of the verdict for f, and the lines of its facts with the places of their entries.
+fn placed_reason(
+    alloc: Global,
+    map: &[u8],
+    limits: Limits,
+    f: u16,
+    known: &Explained,
+) -> Result<Vec<u8>, PlaceError>
+    ensures { Gives (λ out. out.items) result (with_front (verdict_line f known.now.judged)
+        (placed_text limits.entries map.now known.now.judged.entries known.now.facts.items)) }
+{
+    let entries = known.judged.entries;
+    match placed_text(alloc, limits, map, entries, known.facts.as_slice()) {
+        Ok(reason) => match line_and_text(alloc, f, &known.judged, reason.as_slice()) {
+            Ok(text) => Ok(text),
+            Err(NoMemory) => Err(PlaceError::NoMemory),
+        },
+        Err(error) => Err(error),
+    }
+}
+
+fn line_and_text(alloc: Global, f: u16, judged: &Judged, reason: &[u8]) -> Result<Vec<u8>, NoMemory>
+    ensures { IfOk result (λ text. text.items ≡ verdict_line f judged.now ++ reason.now) }
+{
+    let mut text = verdict_line(alloc, f, judged)?;
+    text.extend_from_slice(reason)?;
+    Ok(text)
 }

@@ -1,57 +1,62 @@
-//! The lines of an explanation, with the places of their entries in recordings.
-ghost use Rattle.std.specs.Prelude.{◌≡◌, ◌++◌, ◌∷◌, [], map, IfOk, OnOk};
-ghost use Rattle.causal_report.specs.Objects as objects;
+//! The lines of facts, with the places of their entries in recordings.
+ghost use Rattle.std.specs.Prelude.{◌≡◌, ◌++◌, map, IfOk, OnOk};
 ghost use Rattle.causal_commands.specs.PlacedLines as placed;
 ghost use Rattle.causal_commands.specs.Inside.Placing.{Gives, GivesAfter};
 
 use crate::map_fault::{MapFault, PlaceError};
-use crate::named_entry::{named_in, split_at_bytes};
 use causal_merge::{max_input_len, read_place};
+use causal_report::{Fact, fact_head, fact_sentence};
 use causal_text::TextKind;
 use causal_trace::limits::Limits;
 use std::alloc::{AllocError, Global};
 
-/// Returns the lines of an explanation of a trace with this many entries; each line that names an entry by a field
-/// `line=L` gets the fields ` at=FILE:LINE clock=CLOCK` by the map, before its sentence. The map must have a line for
-/// each entry; it is parsed only for entries that are named. O(map + text) time and memory.
+/// Returns the lines of facts on a trace with this many entries; each line of a fact that has an entry gets the fields
+/// ` at=FILE:LINE clock=CLOCK` by the map, before its sentence. The map must have a line for each entry; it is parsed
+/// only for entries of facts. O(map + facts) time and memory.
 pub(crate) fn placed_text(
     alloc: Global,
     limits: Limits,
     map: &[u8],
     entries: u32,
-    text: &[u8],
+    facts: &[Fact],
 ) -> Result<Vec<u8>, PlaceError>
     ensures { Gives (λ out. out.items) result
-        (placed.placed_text limits.entries map.now entries text.now) }
+        (placed.placed_text limits.entries map.now entries facts.now) }
 {
     if map.len() > max_input_len(limits) {
         return Err(PlaceError::Map(MapFault::Big));
     }
-    let (Ok(map_lines), Ok(facts)) = (lines(alloc, map), lines(alloc, text)) else {
+    let Ok(map_lines) = lines(alloc, map) else {
         return Err(PlaceError::NoMemory);
     };
-    placed_by(alloc, map_lines.as_slice(), entries, facts.as_slice())
+    placed_by(alloc, map_lines.as_slice(), entries, facts)
 }
 
 /// Returns the lines of a text, each of which ends with a line feed, without these.
 fn lines(alloc: Global, text: &[u8]) -> Result<Vec<&[u8]>, AllocError>
     ensures { IfOk result (λ found. map (λ line. line.now) found.items
-        ≡ objects.lines text.now) }
+        ≡ placed.lines text.now) }
 {
-    let mut found = split_at_bytes(alloc, b'\n', text)?;
+    let mut found = split_at_line_feeds(alloc, text)?;
     found.pop();
     Ok(found)
+}
+
+fn split_at_line_feeds(alloc: Global, text: &[u8]) -> Result<Vec<&[u8]>, AllocError>
+    ensures { IfOk result (λ found. map (λ part. part.now) found.items
+        ≡ placed.split_at_line_feeds text.now) }
+{
+    text.split(|byte| *byte == b'\n').collect(alloc)
 }
 
 fn placed_by(
     alloc: Global,
     map_lines: &[&[u8]],
     entries: u32,
-    facts: &[&[u8]],
+    facts: &[Fact],
 ) -> Result<Vec<u8>, PlaceError>
     ensures { Gives (λ out. out.items) result
-        (placed.placed_by (map (λ line. line.now) map_lines.now) entries
-        (map (λ line. line.now) facts.now)) }
+        (placed.placed_by (map (λ line. line.now) map_lines.now) entries facts.now) }
 {
     if map_lines.len() as u64 != u64::from(entries) {
         return Err(PlaceError::Map(MapFault::Length {
@@ -60,24 +65,23 @@ fn placed_by(
         }));
     }
     let mut out = Vec::new(alloc);
-    match push_lines(alloc, &mut out, map_lines, facts) {
+    match push_facts(alloc, &mut out, map_lines, facts) {
         Ok(()) => Ok(out),
         Err(error) => Err(error),
     }
 }
 
-fn push_lines(
+fn push_facts(
     alloc: Global,
     out: &mut Vec<u8>,
     map_lines: &[&[u8]],
-    facts: &[&[u8]],
+    facts: &[Fact],
 ) -> Result<(), PlaceError>
     ensures { GivesAfter out.old.items out.new.items result
-        (placed.placed_lines (map (λ line. line.now) map_lines.now)
-        (map (λ line. line.now) facts.now)) }
+        (placed.placed_lines (map (λ line. line.now) map_lines.now) facts.now) }
 {
     for fact in facts {
-        match push_line(alloc, out, map_lines, fact) {
+        match push_fact(alloc, out, map_lines, fact) {
             Ok(()) => {}
             Err(error) => return Err(error),
         }
@@ -85,19 +89,18 @@ fn push_lines(
     Ok(())
 }
 
-/// Appends a line with the place of the entry that it names.
-fn push_line(
+/// Appends the line of a fact with the place of its entry.
+fn push_fact(
     alloc: Global,
     out: &mut Vec<u8>,
     map_lines: &[&[u8]],
-    fact: &[u8],
+    fact: &Fact,
 ) -> Result<(), PlaceError>
     ensures { GivesAfter out.old.items out.new.items result
         (placed.placed_line (map (λ line. line.now) map_lines.now) fact.now) }
 {
-    let (fields, sentence) = split_fields(fact);
-    match place_in(alloc, map_lines, fields) {
-        Ok(place) => match push_parts(out, fields, place.as_slice(), sentence) {
+    match place_of(alloc, map_lines, fact.entry()) {
+        Ok(place) => match push_parts(alloc, out, fact, place.as_slice()) {
             Ok(()) => Ok(()),
             Err(_) => Err(PlaceError::NoMemory),
         },
@@ -105,41 +108,23 @@ fn push_line(
     }
 }
 
-fn push_parts(
-    out: &mut Vec<u8>,
-    fields: &[u8],
-    place: &[u8],
-    sentence: &[u8],
-) -> Result<(), AllocError>
+fn push_parts(alloc: Global, out: &mut Vec<u8>, fact: &Fact, place: &[u8]) -> Result<(), AllocError>
     ensures { OnOk result (out.new.items ≡ out.old.items
-        ++ (fields.now ++ (place.now ++ (sentence.now ++ 10 ∷ [])))) }
+        ++ placed.with_place fact.now place.now) }
 {
-    out.extend_from_slice(fields)?;
+    let head = fact_head(alloc, fact)?;
+    let sentence = fact_sentence(alloc, fact)?;
+    out.extend_from_slice(head.as_slice())?;
     out.extend_from_slice(place)?;
-    out.extend_from_slice(sentence)?;
-    out.extend_from_slice(b"\n")
+    out.extend_from_slice(sentence.as_slice())
 }
 
-/// Splits a line before its first colon; the second part is empty if there is none.
-fn split_fields(line: &[u8]) -> (&[u8], &[u8])
-    ensures fields { result.0.now ≡ placed.fields_part line.now }
-    ensures sentence { result.1.now ≡ placed.sentence_part line.now }
-{
-    match line.iter().position(|byte| *byte == b':') {
-        Some(at) => line.split_at(at),
-        None => (line, &[]),
-    }
-}
-
-/// Returns the fields of the place of the entry that a line names by its fields; none if it names no entry of the map.
-fn place_in(alloc: Global, map_lines: &[&[u8]], fields: &[u8]) -> Result<Vec<u8>, PlaceError>
+/// Returns the fields of the place of an entry; none if there is no entry, or the map has no line for it.
+fn place_of(alloc: Global, map_lines: &[&[u8]], entry: Option<u32>) -> Result<Vec<u8>, PlaceError>
     ensures { Gives (λ place. place.items) result
-        (placed.place_in (map (λ line. line.now) map_lines.now) fields.now) }
+        (placed.place_of (map (λ line. line.now) map_lines.now) entry) }
 {
-    let Ok(fields) = split_at_bytes(alloc, b' ', fields) else {
-        return Err(PlaceError::NoMemory);
-    };
-    match named_in(fields.as_slice()) {
+    match entry {
         Some(position) => match map_lines.get(position as usize) {
             Some(line) => place_at(alloc, position, line),
             None => Ok(Vec::new(alloc)),

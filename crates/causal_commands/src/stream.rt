@@ -1,19 +1,18 @@
-//! The command `audit`, over any reader and writer.
+//! The outcome of a command, and the command `audit` within the default limits.
 ghost use Rattle.std.specs.Prelude.{◌≡◌, ◌≤◌};
 ghost use Rattle.causal_text.specs.Streams.{StopsWithin};
 ghost use Rattle.causal_reading.specs.Reads.{max_read};
 ghost use Rattle.causal_trace.specs.Limits.{default_entries};
-ghost use Rattle.causal_commands.specs.Diagnostics.{IsDiagnosisFor};
-ghost use Rattle.causal_commands.specs.Streams.{WritesFor, WritesWithin};
+ghost use Rattle.causal_commands.specs.Answers.{WritesFor};
 
-use crate::answer::{verdict_answer, write_answer};
-use crate::diagnostic::DiagnosedFault;
 use crate::ended::Ended;
-use crate::input_audit::judge_input;
-use causal_trace::limits::{DEFAULT_LIMITS, Limits};
+use crate::question::{Question, answer_question};
+use causal_report::Form;
+use causal_trace::limits::DEFAULT_LIMITS;
 use causal_workers::Gate;
 use std::alloc::Global;
 use std::io::{Read, Write};
+use std::rt::Clock;
 use std::sync::Wait;
 use std::thread::Threads;
 
@@ -29,9 +28,9 @@ pub struct Outcome<F> {
 /// verdict, or the text's first error. The ending reports a failure of the reader, the writer, an allocation or a
 /// thread start. With one worker it is never `NoWorker`.
 ///
-/// The text is read in pieces, of 4,096 bytes with one worker and otherwise of at most 65,536 for each, to its end or to
-/// the piece with its first error.
-pub fn audit_stream<R: Threads + Wait, I: Read, O: Write, G: Gate + Sync>(
+/// The text is read in pieces, of 4,096 bytes with one worker and otherwise as `read_by` reads it, to its end or to the
+/// piece with its first error.
+pub fn audit_stream<R: Threads + Wait + Clock, I: Read, O: Write, G: Gate + Sync>(
     rt: &R,
     alloc: Global,
     input: &mut I,
@@ -41,38 +40,22 @@ pub fn audit_stream<R: Threads + Wait, I: Read, O: Write, G: Gate + Sync>(
     gate: &G,
 ) -> Ended
     requires { (1 ≤ workers) × (workers ≤ 64) }
-    ensures writes { WritesFor (I.remaining input.old) f result
-        (O.contents output.old) (O.contents output.new) }
+    ensures writes { WritesFor default_entries Form.Lines (Question.Verdict f workers)
+        (I.remaining input.old) result (O.contents output.old) (O.contents output.new) }
     ensures stops { StopsWithin default_entries (max_read workers)
         (I.remaining input.old) (I.remaining input.new) }
     ensures one_worker { result ≡ Ended.NoWorker → 2 ≤ workers }
 {
-    answer_audit(rt, alloc, input, output, DEFAULT_LIMITS, f, workers, gate).ended
-}
-
-/// Audits a trace as `audit_stream` does, within the given limits. The outcome also has the first error of an invalid
-/// text with its diagnostic, which is computed after the answer is written.
-pub fn answer_audit<R: Threads + Wait, I: Read, O: Write, G: Gate + Sync>(
-    rt: &R,
-    alloc: Global,
-    input: &mut I,
-    output: &mut O,
-    limits: Limits,
-    f: u16,
-    workers: u32,
-    gate: &G,
-) -> Outcome<DiagnosedFault>
-    requires { (1 ≤ workers) × (workers ≤ 64) }
-    ensures writes { WritesWithin limits.entries (I.remaining input.old) f result.ended
-        (O.contents output.old) (O.contents output.new) }
-    ensures fault { IsDiagnosisFor limits.entries (I.remaining input.old) f result.fault }
-    ensures stops { StopsWithin limits.entries (max_read workers)
-        (I.remaining input.old) (I.remaining input.new) }
-    ensures one_worker { result.ended ≡ Ended.NoWorker → 2 ≤ workers }
-{
-    let judged = judge_input(rt, alloc, input, limits, f, workers, gate);
-    match verdict_answer(alloc, f, judged) {
-        Ok(answer) => write_answer(alloc, output, f, answer),
-        Err(ended) => Outcome { ended, fault: None },
-    }
+    let (question, form) = (Question::Verdict { faults: f, workers }, Form::Lines);
+    answer_question(
+        rt,
+        alloc,
+        input,
+        output,
+        DEFAULT_LIMITS,
+        question,
+        form,
+        gate,
+    )
+    .ended
 }

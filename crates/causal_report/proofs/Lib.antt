@@ -1,2 +1,3 @@
-mod ListTexts
+mod Joining
+mod SetMembers
 mod StoredLemmas

@@ -8,7 +8,7 @@ use causal_trace::trace::Trace;
 
 /// The event of an entry; events are sends and deliveries.
 #[derive(Clone, Copy)]
-pub(crate) enum ChainEvent {
+pub enum ChainEvent {
     /// `from` sends its message number `ssn` to `to`.
     Send { from: u8, to: u8, ssn: u32 },
     /// `to` delivers the message of the entry at the position `send`.

@@ -1,43 +1,52 @@
-//! Explanations of a verdict on a recorded run: as text, one fact a line, with the lines of the trace's text; as JSON;
+//! Explanations of a verdict on a recorded run: as facts, printed as lines with the lines of the trace's text or as JSON;
 //! and as a picture.
 //!
-//! Begin at [`reason_text`] and [`drawing_of`]. [`reason_text`] returns [`explanation_text`] for an orphan,
-//! [`excess_text`] if too many processes are down, and [`closest_text`] for an accepted trace; each of the last three
-//! needs time and memory linear in its text. [`verdict_object`] and [`ranges_object`] format the same lines as JSON.
+//! Begin at [`facts_of`] and [`drawing_of`]. [`facts_of`] returns a value for each [`Fact`] that explains a verdict;
+//! [`facts_text`] formats a line for each. A [`Reply`] is an answer as a value: what was found, with the facts that
+//! explain it, or the bounds f for which each verdict holds. [`reply_text`] formats it in one of two forms.
 #![tactic(auto)]
 
-/// The text that names the entry by which an instant fails.
-mod cause;
-/// The text of a chain of dependence.
-mod chain;
-/// The text that names the delivery which comes closest to having an orphan.
-pub mod closest;
+/// The bounds f for which a verdict holds, as lines and as JSON objects.
+pub mod bounds;
 /// The space-time diagram of a trace, with its verdict.
 pub mod drawing;
 /// The event of a trace entry.
-mod event;
-/// The text of an excess.
-pub mod excess;
-/// The text that explains how a delivery gets an orphan.
-pub mod explanation;
-/// JSON objects of printed lines, without their sentences.
-mod json;
+pub mod event;
+/// The facts that explain a verdict, or say that a recovery strayed.
+pub mod fact;
+/// The facts that explain the verdict on a trace.
+pub mod facts;
+/// The fields of facts.
+mod fields;
+/// What an answer finds, and its line.
+pub mod finding;
+/// How answers are printed, and their fields.
+pub mod form;
+/// The lines of facts.
+pub mod lines;
+/// The members of findings in a JSON object.
+mod members;
 /// The line of an entry in its trace's text.
 mod place;
 /// The text that explains a verdict on a trace.
 pub mod reason;
-/// The text of the first stray of a run.
-pub mod stray;
-/// The lines of who has which of the two determinants of a stray.
-pub mod survivors;
-/// The text of the first delivery that brings a determinant which was in transit.
-mod underway;
+/// Replies to questions on a trace, as lines and as JSON.
+pub mod reply;
+/// The sentences of facts, for people.
+mod sentences;
+/// The facts of the first stray of a run.
+pub mod strays;
+/// Who has the determinant of a delivery at an instant.
+mod survivors;
 
-pub use closest::closest_text;
+pub use bounds::Bounds;
 pub use drawing::{drawing_of, selected_drawing_of};
-pub use excess::excess_text;
-pub use explanation::explanation_text;
-pub use json::{ranges_object, verdict_object};
-pub use reason::{line_with_reason, reason_text};
-pub use stray::stray_fields;
-pub use survivors::{Copies, copies_of, survivor_lines};
+pub use event::ChainEvent;
+pub use fact::{ClosestFailure, Fact};
+pub use facts::facts_of;
+pub use finding::Finding;
+pub use form::Form;
+pub use lines::{fact_head, fact_sentence, facts_text};
+pub use reason::line_with_reason;
+pub use reply::{Reply, reply_text};
+pub use strays::survivor_facts;

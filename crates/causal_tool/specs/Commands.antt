@@ -1,44 +1,27 @@
 -- What each command writes and returns.
 use Rattle.std.specs.Prelude.{◌≡◌, ℕ, List, Option}
 use Rattle.causal_commands.specs.declared.ended.Ended.{Ended}
-use Rattle.causal_commands.specs.declared.json.Question.{Question}
-use Rattle.causal_commands.specs.declared.json.Question.TheVariants.{Verdict, Breach, Reason, Range, Replays}
-use Rattle.causal_commands.specs.declared.view.View.TheVariants.{Picture}
-use Rattle.causal_commands.specs.declared.view.View.TheVariants as view
-use Rattle.causal_commands.specs.Json.{WritesObjectFor, StopsFor, faults_of}
+use Rattle.causal_commands.specs.declared.question.Question.TheVariants.{Reason}
+use Rattle.causal_commands.specs.Answers.{WritesFor}
+use Rattle.causal_commands.specs.Drawings.{WritesDrawingFor}
+use Rattle.causal_commands.specs.Questions.{StopsFor, faults_of}
 use Rattle.causal_commands.specs.Diagnostics.{IsDiagnosisFor}
 use Rattle.causal_commands.specs.MappedReasons.{WritesMappedFor}
 use Rattle.causal_commands.specs.Merges.{WritesMergeFor, ReadsAtMostRecordings}
 use Rattle.causal_runtime_commands.specs.Reasons.{ArePendingFor, IsReasonFor}
 use Rattle.causal_runtime_commands.specs.Runs.{WritesScriptFor, ReadsAtMostScript}
-use Rattle.causal_commands.specs.EarlyAnswers.{WritesEarlyFor}
-use Rattle.causal_commands.specs.Ranges.{WritesRangeFor}
-use Rattle.causal_commands.specs.Replays.{WritesReplaysFor}
-use Rattle.causal_commands.specs.Streams.{WritesWithin}
-use Rattle.causal_commands.specs.Views.{WritesViewFor}
-use Rattle.causal_arguments.specs.declared.subcommand.Form.{Form}
-use Rattle.causal_arguments.specs.declared.subcommand.Form.TheVariants.{Lines, Json}
 use Rattle.causal_tool.specs.declared.invocation.Invocation.{Invocation}
 use Rattle.causal_tool.specs.declared.invocation.Invocation.TheVariants.{Trace, Draw, MappedReason, Merge, Run}
 use Rattle.causal_tool.specs.declared.run.CommandOutcome.{CommandOutcome}
 use Rattle.causal_tool.specs.declared.run.CommandOutcome.TheVariants as outcome_of
 
--- what is written in answer to a question on the bytes of a reader, as lines or as a JSON object
-abbrev pub WritesAnswerIn : Form → ℕ → Question → Option (List ℕ) → Ended → Option (List ℕ) → Option (List ℕ) → Type 0
-WritesAnswerIn Json most question given ended old new = WritesObjectFor most question given ended old new
-WritesAnswerIn Lines most (Verdict faults workers) given ended old new = WritesWithin most given faults ended old new
-WritesAnswerIn Lines most (Breach faults workers looks) given ended old new = WritesEarlyFor looks most given faults ended old new
-WritesAnswerIn Lines most (Reason faults workers) given ended old new = WritesViewFor most view.Reason given faults ended old new
-WritesAnswerIn Lines most (Range workers) given ended old new = WritesRangeFor most given ended old new
-WritesAnswerIn Lines most (Replays workers) given ended old new = WritesReplaysFor most given ended old new
-
 -- What a command writes for the bytes of a reader, and of a map, and that the error that it returns is true: each command
 -- of the command line is answered by its own call.
 abbrev pub Answers : Invocation → CommandOutcome → Option (List ℕ) → Option (List ℕ) → Option (List ℕ) → Option (List ℕ) → Type 0
 Answers (Trace question form limits) (outcome_of.Trace f outcome) given map old new =
-    WritesAnswerIn form limits.entries question given outcome.ended old new × IsDiagnosisFor limits.entries given f outcome.fault × (f ≡ faults_of question)
+    WritesFor limits.entries form question given outcome.ended old new × IsDiagnosisFor limits.entries given f outcome.fault × (f ≡ faults_of question)
 Answers (Draw faults workers limits selection) (outcome_of.Trace f outcome) given map old new =
-    WritesViewFor limits.entries (Picture selection) given faults outcome.ended old new × IsDiagnosisFor limits.entries given f outcome.fault × (f ≡ faults)
+    WritesDrawingFor limits.entries selection given faults outcome.ended old new × IsDiagnosisFor limits.entries given f outcome.fault × (f ≡ faults)
 Answers (MappedReason faults workers limits) (outcome_of.MappedReason f outcome) given map old new =
     WritesMappedFor limits.entries given map faults outcome old new × IsDiagnosisFor limits.entries given f outcome.outcome.fault × (f ≡ faults)
 Answers (Merge workers limits mapping) (outcome_of.Merge outcome) given map old new = WritesMergeFor limits.entries mapping given outcome old new

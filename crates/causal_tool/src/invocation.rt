@@ -1,10 +1,10 @@
 //! The call of `causal_commands` that answers a command.
 ghost use Rattle.std.specs.Prelude.{◌≡◌};
 ghost use Rattle.causal_arguments.specs.Workers.{HasWorkersInRange};
-ghost use Rattle.causal_tool.specs.Invocations.{HasWorkerCountInRange, invocation_of};
+ghost use Rattle.causal_tool.specs.Invocations.{HasWorkerCountInRange, detail_of, form_of, invocation_of};
 
-use causal_arguments::{Form, Subcommand, Until};
-use causal_commands::{Mapping, Question};
+use causal_arguments::{Subcommand, Until};
+use causal_commands::{Form, Mapping, Question, StrayDetail};
 use causal_picture::Selection;
 use causal_trace::limits::Limits;
 use causal_workers::Looks;
@@ -69,7 +69,7 @@ impl Invocation {
                         looks: Looks::Live,
                     },
                 },
-                form,
+                form: form_of(form),
                 limits,
             },
             Subcommand::Explain {
@@ -82,7 +82,7 @@ impl Invocation {
                     Some(faults) => Question::Reason { faults, workers },
                     None => Question::Range { workers },
                 },
-                form,
+                form: form_of(form),
                 limits,
             },
             Subcommand::ExplainByMap {
@@ -99,8 +99,11 @@ impl Invocation {
                 workers,
                 limits,
             } => Invocation::Trace {
-                question: Question::Replays { workers },
-                form,
+                question: Question::Replays {
+                    workers,
+                    detail: detail_of(form),
+                },
+                form: form_of(form),
                 limits,
             },
             Subcommand::Draw {
@@ -133,5 +136,25 @@ impl Invocation {
             },
             Subcommand::Run => Invocation::Run,
         }
+    }
+}
+
+/// Returns the form of an answer that is requested.
+fn form_of(form: causal_arguments::Form) -> Form
+    ensures { result ≡ form_of form }
+{
+    match form {
+        causal_arguments::Form::Lines => Form::Lines,
+        causal_arguments::Form::Json => Form::Json,
+    }
+}
+
+/// Returns what `replays` reports besides a stray: JSON has the survivors too.
+fn detail_of(form: causal_arguments::Form) -> StrayDetail
+    ensures { result ≡ detail_of form }
+{
+    match form {
+        causal_arguments::Form::Lines => StrayDetail::Line,
+        causal_arguments::Form::Json => StrayDetail::WithSurvivors,
     }
 }

@@ -3,11 +3,8 @@
 //! The commands are calls of `causal_commands` and `causal_runtime_commands`, over any reader and any writer. Their
 //! contracts are what the program guarantees.
 //!
-//! - [`answer_audit`] is `audit`, and [`answer_until_breach`] is `audit --until-breach`.
-//! - [`answer_view`] is `explain` and `draw`; [`answer_range`] is `explain` without a bound f, and
-//!   [`answer_mapped_reason`] is `explain --map`.
-//! - [`answer_replays`] is `replays`.
-//! - [`answer_as_json`] is `audit`, `explain` and `replays` with `--json`.
+//! - [`answer_question`] is `audit`, `explain` and `replays`, as lines or with `--json`.
+//! - [`answer_mapped_reason`] is `explain --map`, and [`answer_drawing`] is `draw`.
 //! - [`answer_merge`] is `merge`, and [`answer_script`] is `run`.
 //!
 //! [`parse_command_line`] of `causal_arguments` parses the command line, [`Invocation::of`] names the call that answers it,

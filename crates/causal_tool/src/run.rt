@@ -1,19 +1,13 @@
 //! Runs the command of a command line, over any reader and any writer.
-ghost use Rattle.std.specs.Prelude.{◌≡◌};
-ghost use Rattle.causal_commands.specs.Diagnostics.{IsDiagnosisFor};
-ghost use Rattle.causal_commands.specs.Json.{HasFewWorkers, StopsFor, faults_of};
 ghost use Rattle.causal_tool.specs.Invocations.{HasWorkerCountInRange};
-ghost use Rattle.causal_tool.specs.Commands.{WritesAnswerIn, Answers, ReadsFor, ReadsMapFor};
+ghost use Rattle.causal_tool.specs.Commands.{Answers, ReadsFor, ReadsMapFor};
 
 use crate::invocation::Invocation;
-use causal_arguments::Form;
 use causal_commands::{
-    DiagnosedFault, MappedOutcome, MergeOutcome, Outcome, Question, View, answer_as_json,
-    answer_audit, answer_mapped_reason, answer_merge, answer_range, answer_replays,
-    answer_until_breach, answer_view,
+    DiagnosedFault, MappedOutcome, MergeOutcome, Outcome, answer_drawing, answer_mapped_reason,
+    answer_merge, answer_question,
 };
 use causal_runtime_commands::{ScriptOutcome, answer_script};
-use causal_trace::limits::Limits;
 use causal_workers::OpenGate;
 use std::io::{Read, Write};
 use std::random::RandomSource;
@@ -42,60 +36,6 @@ pub(crate) enum CommandOutcome {
     Script {
         outcome: ScriptOutcome,
     },
-}
-
-/// Answers a question on a trace within the limits, in this form.
-fn answer_question<R: Threads + Wait + Clock + AllocGlobal, I: Read, O: Write>(
-    rt: &R,
-    input: &mut I,
-    output: &mut O,
-    limits: Limits,
-    question: Question,
-    form: Form,
-) -> Outcome<DiagnosedFault>
-    requires { HasFewWorkers question }
-    ensures writes { WritesAnswerIn form limits.entries question (I.remaining input.old)
-        result.ended (O.contents output.old) (O.contents output.new) }
-    ensures fault { IsDiagnosisFor limits.entries (I.remaining input.old)
-        (faults_of question) result.fault }
-    ensures reads { StopsFor limits.entries question (I.remaining input.old)
-        (I.remaining input.new) }
-{
-    let alloc = rt.alloc();
-    match form {
-        Form::Json => answer_as_json(rt, alloc, input, output, limits, question),
-        Form::Lines => match question {
-            Question::Verdict { faults, workers } => {
-                answer_audit(rt, alloc, input, output, limits, faults, workers, &OpenGate)
-            }
-            Question::Breach {
-                faults,
-                workers,
-                looks,
-            } => {
-                let gate = &OpenGate;
-                answer_until_breach(
-                    rt, alloc, input, output, limits, looks, faults, workers, gate,
-                )
-            }
-            Question::Reason { faults, workers } => {
-                answer_view(
-                    rt,
-                    alloc,
-                    input,
-                    output,
-                    limits,
-                    faults,
-                    workers,
-                    View::Reason,
-                )
-            }
-            Question::Range { workers } => answer_range(rt, alloc, input, output, limits, workers),
-            Question::Replays { workers } => {
-                answer_replays(rt, alloc, input, output, limits, workers)
-            }
-        },
-    }
 }
 
 /// Returns a seed from the system's random source, or 0 if that fails: only costs depend on it.
@@ -128,7 +68,7 @@ pub(crate) fn run_command<
             limits,
         } => CommandOutcome::Trace {
             f: question.faults(),
-            outcome: answer_question(rt, input, output, limits, question, form),
+            outcome: answer_question(rt, alloc, input, output, limits, question, form, &OpenGate),
         },
         Invocation::Draw {
             faults,
@@ -137,16 +77,7 @@ pub(crate) fn run_command<
             selection,
         } => CommandOutcome::Trace {
             f: faults,
-            outcome: answer_view(
-                rt,
-                alloc,
-                input,
-                output,
-                limits,
-                faults,
-                workers,
-                View::Picture { selection },
-            ),
+            outcome: answer_drawing(rt, alloc, input, output, limits, faults, workers, selection),
         },
         Invocation::MappedReason {
             faults,

@@ -1,4 +1,3 @@
 mod AsBox
 mod Each
-mod CrashSets
 mod PlaceLemmas

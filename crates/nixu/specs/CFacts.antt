@@ -1,23 +1,17 @@
 -- The C structs of facts that explain a verdict, or say that a recovery strayed.
-use Rattle.std.specs.Prelude.{ℕ, ◌-◌, ◌==◌, if◌then◌else◌, length, Bool, true, false, List, [], ◌∷◌, ◌++◌, map, Option, Some, None}
+use Rattle.std.specs.Prelude.{ℕ, ◌-◌}
 use Rattle.causal_name.specs.declared.Det.{Det}
-use Rattle.causal_holders.specs.Members.{ascending}
-use Rattle.causal_trace.specs.declared.entry.Entry.{Entry}
-use Rattle.causal_trace.specs.declared.entry.Entry.TheVariants as entry
-use Rattle.causal_trace.specs.Past.{entry_at}
-use Rattle.causal_trace.specs.Rows.{Recording}
-use Rattle.causal_audit.specs.declared.breach.Breach.{Breach}
 use Rattle.causal_explain.specs.declared.cause.Cause.{Cause}
 use Rattle.causal_explain.specs.declared.cause.Cause.TheVariants as cause
-use Rattle.causal_explain.specs.declared.closest.Closest.{Closest}
-use Rattle.causal_explain.specs.declared.closest.Closest.TheVariants.{Never, At}
-use Rattle.causal_explain.specs.declared.explanation.DownProcess.{DownProcess}
-use Rattle.causal_explain.specs.declared.explanation.Explanation.{Explanation}
-use Rattle.causal_explain.specs.declared.explanation.Holding.{Holding}
 use Rattle.causal_explain.specs.declared.explanation.Loss.{Loss}
 use Rattle.causal_explain.specs.declared.explanation.LostBy.{LostBy}
-use Rattle.causal_explain.specs.declared.explanation.LostBy.TheVariants.{Crash, Forgetting}
+use Rattle.causal_explain.specs.declared.explanation.LostBy.TheVariants as lost
 use Rattle.causal_replays.specs.declared.stray.Stray.{Stray}
+use Rattle.causal_report.specs.declared.event.ChainEvent.{ChainEvent}
+use Rattle.causal_report.specs.declared.event.ChainEvent.TheVariants.{Send, Delivery, Other}
+use Rattle.causal_report.specs.declared.fact.ClosestFailure.{ClosestFailure}
+use Rattle.causal_report.specs.declared.fact.Fact.{Fact}
+use Rattle.causal_report.specs.declared.fact.Fact.TheVariants as fact_of
 use Rattle.nixu.specs.declared.c_fact.CFact.{CFact}
 
 -- the struct of a kind alone
@@ -37,123 +31,86 @@ fact k = record {
   source = 0;
 }
 
--- a down process, with its crash
-abbrev pub down_fact : DownProcess → CFact
-down_fact x = record (fact 1) { process = x.process; entry = x.since }
+-- the struct of a kind and a process
+abbrev pub process_fact : ℕ → ℕ → CFact
+process_fact k p = record (fact k) { process = p }
+
+-- the struct of a kind, a process and an entry
+abbrev pub process_at : ℕ → ℕ → ℕ → CFact
+process_at k p entry = record (process_fact k p) { entry = entry }
+
+-- the struct with a delivery
+abbrev pub of_delivery : CFact → ℕ → CFact
+of_delivery c k = record c { delivery = k }
+
+-- the struct with an instant
+abbrev pub at_instant : CFact → ℕ → CFact
+at_instant c t = record c { instant = t }
+
+-- the struct with a send entry
+abbrev pub with_send : CFact → ℕ → CFact
+with_send c send = record c { send = send }
+
+-- the struct with the kind of its entry
+abbrev pub by_entry : CFact → ℕ → CFact
+by_entry c by = record c { by = by }
 
 -- the delivery that has an orphan, with its determinant
 abbrev pub delivery_fact : ℕ → Det → CFact
-delivery_fact k d = record (fact 2) { delivery = k; process = d.dest.0; source = d.source.0; ssn = d.ssn; rsn = d.rsn }
+delivery_fact k d = record (process_fact 2 d.dest.0) { delivery = k; source = d.source.0; ssn = d.ssn; rsn = d.rsn }
 
 -- the entry before an instant, by which the instant fails
 abbrev pub cause_fact : ℕ → Cause → CFact
-cause_fact t (cause.Delivery p k) = record (fact 3) { entry = t - 1; process = p; send = k; by = 1 }
-cause_fact t (cause.Crash p) = record (fact 3) { entry = t - 1; process = p; by = 3 }
-cause_fact t (cause.Restart p) = record (fact 3) { entry = t - 1; process = p; by = 4 }
-cause_fact t (cause.Forgetting p) = record (fact 3) { entry = t - 1; process = p; by = 5 }
-
--- the determinant is not stable at an instant
-abbrev pub unstable_fact : ℕ → CFact
-unstable_fact t = record (fact 4) { instant = t }
-
--- a process that holds the determinant, with the entry since which it does
-abbrev pub holder_fact : Holding → CFact
-holder_fact x = record (fact 5) { process = x.process; entry = x.since }
-
--- each holder, or that there is none
-abbrev pub holder_facts : List Holding → List CFact
-holder_facts holders = if length holders == 0 then fact 6 ∷ [] else map holder_fact holders
+cause_fact t (cause.Delivery p send) = with_send (by_entry (process_at 3 p (t - 1)) 1) send
+cause_fact t (cause.Crash p) = by_entry (process_at 3 p (t - 1)) 3
+cause_fact t (cause.Restart p) = by_entry (process_at 3 p (t - 1)) 4
+cause_fact t (cause.Forgetting p) = by_entry (process_at 3 p (t - 1)) 5
 
 -- the kind of the entry by which a process loses a determinant
 abbrev pub kind_of_loss : LostBy → ℕ
-kind_of_loss Crash = 3
-kind_of_loss Forgetting = 5
+kind_of_loss lost.Crash = 3
+kind_of_loss lost.Forgetting = 5
 
 -- a process that lost the determinant, with the entry by which it did
 abbrev pub loss_fact : Loss → CFact
-loss_fact x = record (fact 7) { process = x.process; entry = x.lost; by = kind_of_loss x.by }
+loss_fact x = by_entry (process_at 7 x.process x.lost) (kind_of_loss x.by)
 
--- a process of the crash set
-abbrev pub crash_fact : ℕ → CFact
-crash_fact p = record (fact 8) { process = p }
+-- the process of an event: the sender of a send, the receiver of a delivery; 0 if it is neither
+abbrev pub actor_of : ChainEvent → ℕ
+actor_of (Send from to ssn) = from
+actor_of (Delivery to send) = to
+actor_of Other = 0
 
--- the process of an event: the sender of a send, the receiver of a delivery; 0 if the entry is neither
-abbrev pub actor_of : Option Entry → ℕ
-actor_of (Some (entry.Send from to ssn)) = from.0
-actor_of (Some (entry.Deliver to send rsn listed)) = to.0
-actor_of _ = 0
-
--- the send entry of a delivery; 0 if the entry is none
-abbrev pub send_of : Option Entry → ℕ
-send_of (Some (entry.Deliver to send rsn listed)) = send
+-- the send entry of a delivery; 0 if the event is none
+abbrev pub send_of : ChainEvent → ℕ
+send_of (Delivery to send) = send
 send_of _ = 0
 
--- an event of the chain: the entry at a position
-abbrev pub chain_fact : ℕ → Option Entry → CFact
-chain_fact k e = record (fact 9) { entry = k; process = actor_of e }
-
--- the struct of this kind of a delivery: the entry at a position
-abbrev pub arrival_fact : ℕ → ℕ → Option Entry → CFact
-arrival_fact kind k e = record (fact kind) { entry = k; send = send_of e; process = actor_of e }
-
--- the first delivery of a chain after which its receiver's log lacks the determinant; or that there is none
-abbrev pub unlisted_fact : Recording → Option ℕ → CFact
-unlisted_fact r None = fact 11
-unlisted_fact r (Some k) = arrival_fact 10 k (entry_at r.past k)
-
--- the delivery by which a determinant arrives that was in transit, if there is one
-abbrev pub underway_facts : Recording → Option ℕ → List CFact
-underway_facts r None = []
-underway_facts r (Some k) = arrival_fact 12 k (entry_at r.past k) ∷ []
-
--- the orphan
-abbrev pub orphan_fact : ℕ → CFact
-orphan_fact p = record (fact 13) { process = p }
-
 -- the delivery that has an orphan for the least number of failures
-abbrev pub closest_fact : ℕ → Breach → CFact
-closest_fact f b = record (fact 14) { faults = f; delivery = b.delivery; instant = b.instant; process = b.orphan }
-
--- that delivery, or that no delivery ever has one
-abbrev pub closest_or_never : Closest → CFact
-closest_or_never Never = fact 15
-closest_or_never (At f b) = closest_fact f b
+abbrev pub closest_fact : ClosestFailure → CFact
+closest_fact x = record (process_fact 14 x.orphan) { faults = x.faults; delivery = x.delivery; instant = x.instant }
 
 -- the first stray
 abbrev pub strayed_fact : Stray → CFact
-strayed_fact s = record (fact 16) { instant = s.instant; process = s.slot.dest.0; rsn = s.slot.rsn; delivery = s.first; second = s.second }
+strayed_fact s = record (process_fact 16 s.slot.dest.0) { instant = s.instant; rsn = s.slot.rsn; delivery = s.first; second = s.second }
 
--- a process with the determinant of a delivery in its log, with the entry since which it is there
-abbrev pub logged_fact : ℕ → Holding → CFact
-logged_fact k x = record (fact 17) { delivery = k; process = x.process; entry = x.since }
-
--- the determinant of a delivery is in stable storage
-abbrev pub stable_fact : ℕ → CFact
-stable_fact k = record (fact 18) { delivery = k }
-
--- that fact if the determinant is stable
-abbrev pub stable_facts : ℕ → Bool → List CFact
-stable_facts k true = stable_fact k ∷ []
-stable_facts k false = []
-
--- the facts of an excess: the crash that exceeded f, and the down processes
-abbrev pub excess_facts : ℕ → Cause → List DownProcess → List CFact
-excess_facts t c downs = cause_fact t c ∷ map down_fact downs
-
--- the delivery that has an orphan, the cause, and that the determinant is not stable
-abbrev pub breach_facts : Explanation → Cause → List CFact
-breach_facts e c = delivery_fact e.delivery e.det ∷ cause_fact e.instant c ∷ unstable_fact e.instant ∷ []
-
--- an event of the chain for each of these positions
-abbrev pub chain_facts : Recording → List ℕ → List CFact
-chain_facts r chain = map (λ k. chain_fact k (entry_at r.past k)) chain
-
--- the chain, its first delivery without the determinant, the determinant's late arrival, and the orphan
-abbrev pub path_facts : Recording → Explanation → List CFact
-path_facts r e = chain_facts r e.chain.items ++ (unlisted_fact r e.unlisted ∷ underway_facts r e.underway ++ orphan_fact e.orphan ∷ [])
-
--- the facts of an orphan, in the order of the printed explanation
-abbrev pub explanation_facts : Recording → Explanation → Cause → List CFact
-explanation_facts r e c =
-    breach_facts e c ++ (holder_facts e.holders.items ++ (map loss_fact e.losses.items
-    ++ (map down_fact e.down.items ++ (map crash_fact (ascending e.crash) ++ path_facts r e))))
+-- the struct of a fact
+abbrev pub c_fact_of : Fact → CFact
+c_fact_of (fact_of.Down x) = process_at 1 x.process x.since
+c_fact_of (fact_of.Delivery k d) = delivery_fact k d
+c_fact_of (fact_of.Cause t cause) = cause_fact t cause
+c_fact_of (fact_of.Unstable t) = at_instant (fact 4) t
+c_fact_of (fact_of.Holder x) = process_at 5 x.process x.since
+c_fact_of fact_of.NoHolder = fact 6
+c_fact_of (fact_of.Loss loss) = loss_fact loss
+c_fact_of (fact_of.Crash p) = process_fact 8 p
+c_fact_of (fact_of.Chain k event) = process_at 9 (actor_of event) k
+c_fact_of (fact_of.Unlisted k event is_own) = with_send (process_at 10 (actor_of event) k) (send_of event)
+c_fact_of fact_of.Listed = fact 11
+c_fact_of (fact_of.Underway k send to) = with_send (process_at 12 to k) send
+c_fact_of (fact_of.Orphan p) = process_fact 13 p
+c_fact_of (fact_of.Closest closest) = closest_fact closest
+c_fact_of fact_of.Never = fact 15
+c_fact_of (fact_of.Strayed stray) = strayed_fact stray
+c_fact_of (fact_of.Logged k x) = of_delivery (process_at 17 x.process x.since) k
+c_fact_of (fact_of.Stable k) = of_delivery (fact 18) k

@@ -1,13 +1,12 @@
 //! Facts that explain a verdict, in the layout of `nixu_fact` in nixu.h.
-ghost use Rattle.std.specs.Prelude.{◌≡◌};
-ghost use Rattle.causal_trace.specs.Past.{entry_at};
+ghost use Rattle.std.specs.Prelude.{◌≡◌, IfOk, map};
 ghost use Rattle.nixu.specs.CFacts as facts;
 
-use causal_audit::Breach;
-use causal_explain::{Cause, DownProcess, Holding, Loss, LostBy};
-use causal_name::{Det, Pid};
+use causal_explain::{Cause, Loss, LostBy};
+use causal_name::Det;
 use causal_replays::Stray;
-use causal_trace::{Entry, Trace};
+use causal_report::{ChainEvent, ClosestFailure, Fact};
+use std::alloc::{AllocError, Global};
 
 /// A fact that explains a verdict, or says that a recovery strayed.
 ///
@@ -43,7 +42,7 @@ pub struct CFact {
 }
 
 /// The struct of a kind alone.
-pub(crate) fn fact(kind: u32) -> CFact
+fn fact(kind: u32) -> CFact
     ensures { result ≡ facts.fact kind }
 {
     CFact {
@@ -62,210 +61,184 @@ pub(crate) fn fact(kind: u32) -> CFact
     }
 }
 
-/// A down process, with its crash.
-pub(crate) fn down_fact(down: &DownProcess) -> CFact
-    ensures { result ≡ facts.down_fact down.now }
+/// The struct of a kind and a process.
+fn process_fact(kind: u32, process: u8) -> CFact
+    ensures { result ≡ facts.process_fact kind process }
 {
     CFact {
-        process: down.process,
-        entry: down.since,
-        ..fact(1)
-    }
-}
-
-/// The delivery that has an orphan, with its determinant.
-pub(crate) fn delivery_fact(delivery: u32, det: Det) -> CFact
-    ensures { result ≡ facts.delivery_fact delivery det }
-{
-    CFact {
-        delivery,
-        process: det.dest.0,
-        source: det.source.0,
-        ssn: det.ssn,
-        rsn: det.rsn,
-        ..fact(2)
-    }
-}
-
-/// The entry by which an instant fails.
-pub(crate) fn cause_fact(instant: u32, cause: Cause) -> CFact
-    ensures { result ≡ facts.cause_fact instant cause }
-{
-    let last = CFact {
-        entry: instant.saturating_sub(1),
-        ..fact(3)
-    };
-    match cause {
-        Cause::Delivery { process, send } => CFact {
-            process,
-            send,
-            by: 1,
-            ..last
-        },
-        Cause::Crash { process } => CFact {
-            process,
-            by: 3,
-            ..last
-        },
-        Cause::Restart { process } => CFact {
-            process,
-            by: 4,
-            ..last
-        },
-        Cause::Forgetting { process } => CFact {
-            process,
-            by: 5,
-            ..last
-        },
-    }
-}
-
-/// The determinant is not stable at an instant.
-pub(crate) fn unstable_fact(instant: u32) -> CFact
-    ensures { result ≡ facts.unstable_fact instant }
-{
-    CFact { instant, ..fact(4) }
-}
-
-/// A process that holds the determinant, with the entry since which it does.
-pub(crate) fn holder_fact(holding: &Holding) -> CFact
-    ensures { result ≡ facts.holder_fact holding.now }
-{
-    CFact {
-        process: holding.process,
-        entry: holding.since,
-        ..fact(5)
-    }
-}
-
-/// A process that lost the determinant, with the entry by which it did.
-pub(crate) fn loss_fact(loss: &Loss) -> CFact
-    ensures { result ≡ facts.loss_fact loss.now }
-{
-    let by = match loss.by {
-        LostBy::Crash => 3,
-        LostBy::Forgetting => 5,
-    };
-    CFact {
-        process: loss.process,
-        entry: loss.lost,
-        by,
-        ..fact(7)
-    }
-}
-
-/// A process of the crash set.
-pub(crate) fn crash_fact(process: u8) -> CFact
-    ensures { result ≡ facts.crash_fact process }
-{
-    CFact { process, ..fact(8) }
-}
-
-/// An event of the chain: the entry at a position.
-pub(crate) fn chain_fact(trace: &Trace, position: u32) -> CFact
-    ensures { result ≡ facts.chain_fact position (entry_at trace.now.recording.past position) }
-{
-    CFact {
-        entry: position,
-        process: actor_at(trace, position),
-        ..fact(9)
-    }
-}
-
-/// The process of the event at a position: the sender of a send, the receiver of a delivery; 0 if it is neither.
-fn actor_at(trace: &Trace, position: u32) -> u8
-    ensures { result ≡ facts.actor_of (entry_at trace.now.recording.past position) }
-{
-    match trace.entry(position) {
-        Some(
-            Entry::Send {
-                from: Pid(from),
-                ..
-            },
-        ) => *from,
-        Some(Entry::Deliver { to: Pid(to), .. }) => *to,
-        _ => 0,
-    }
-}
-
-/// The send entry of the delivery at a position; 0 if it is none.
-fn send_at(trace: &Trace, position: u32) -> u32
-    ensures { result ≡ facts.send_of (entry_at trace.now.recording.past position) }
-{
-    match trace.entry(position) {
-        Some(Entry::Deliver { send, .. }) => *send,
-        _ => 0,
-    }
-}
-
-/// The struct of this kind of a delivery: the entry at a position.
-pub(crate) fn arrival_fact(kind: u32, trace: &Trace, position: u32) -> CFact
-    ensures { result
-        ≡ facts.arrival_fact kind position (entry_at trace.now.recording.past position) }
-{
-    CFact {
-        entry: position,
-        send: send_at(trace, position),
-        process: actor_at(trace, position),
+        process,
         ..fact(kind)
     }
 }
 
-/// The orphan.
-pub(crate) fn orphan_fact(process: u8) -> CFact
-    ensures { result ≡ facts.orphan_fact process }
+/// The struct of a kind, a process and an entry.
+fn process_at(kind: u32, process: u8, entry: u32) -> CFact
+    ensures { result ≡ facts.process_at kind process entry }
 {
     CFact {
-        process,
-        ..fact(13)
+        entry,
+        ..process_fact(kind, process)
+    }
+}
+
+/// The structs of facts.
+pub(crate) fn c_facts_of(alloc: Global, found: &[Fact]) -> Result<Vec<CFact>, AllocError>
+    ensures { IfOk result (λ structs. structs.items ≡ map facts.c_fact_of found.now) }
+{
+    found.iter().map(c_fact_of).collect(alloc)
+}
+
+/// The struct of a fact.
+fn c_fact_of(found: &Fact) -> CFact
+    ensures { result ≡ facts.c_fact_of found.now }
+{
+    match found {
+        Fact::Down(down) => process_at(1, down.process, down.since),
+        Fact::Delivery { delivery, det } => delivery_fact(*delivery, *det),
+        Fact::Cause { instant, cause } => cause_fact(*instant, *cause),
+        Fact::Unstable { instant } => at_instant(fact(4), *instant),
+        Fact::Holder(holding) => process_at(5, holding.process, holding.since),
+        Fact::NoHolder => fact(6),
+        Fact::Loss(loss) => loss_fact(*loss),
+        Fact::Crash { process } => process_fact(8, *process),
+        Fact::Chain { position, event } => process_at(9, actor_of(*event), *position),
+        Fact::Unlisted {
+            position,
+            event,
+            ..
+        } => with_send(process_at(10, actor_of(*event), *position), send_of(*event)),
+        Fact::Listed => fact(11),
+        Fact::Underway { position, send, to } => with_send(process_at(12, *to, *position), *send),
+        Fact::Orphan { process } => process_fact(13, *process),
+        Fact::Closest(closest) => closest_fact(*closest),
+        Fact::Never => fact(15),
+        Fact::Strayed(stray) => strayed_fact(*stray),
+        Fact::Logged { delivery, holding } => {
+            of_delivery(process_at(17, holding.process, holding.since), *delivery)
+        }
+        Fact::Stable { delivery } => of_delivery(fact(18), *delivery),
+    }
+}
+
+/// The struct with a delivery.
+fn of_delivery(of: CFact, delivery: u32) -> CFact
+    ensures { result ≡ facts.of_delivery of delivery }
+{
+    CFact { delivery, ..of }
+}
+
+/// The struct with an instant.
+fn at_instant(of: CFact, instant: u32) -> CFact
+    ensures { result ≡ facts.at_instant of instant }
+{
+    CFact { instant, ..of }
+}
+
+/// The struct with a send entry.
+fn with_send(of: CFact, send: u32) -> CFact
+    ensures { result ≡ facts.with_send of send }
+{
+    CFact { send, ..of }
+}
+
+/// The struct with the kind of its entry.
+fn by_entry(of: CFact, by: u32) -> CFact
+    ensures { result ≡ facts.by_entry of by }
+{
+    CFact { by, ..of }
+}
+
+/// The delivery that has an orphan, with its determinant.
+fn delivery_fact(delivery: u32, det: Det) -> CFact
+    ensures { result ≡ facts.delivery_fact delivery det }
+{
+    CFact {
+        delivery,
+        source: det.source.0,
+        ssn: det.ssn,
+        rsn: det.rsn,
+        ..process_fact(2, det.dest.0)
+    }
+}
+
+/// The entry by which an instant fails.
+fn cause_fact(instant: u32, cause: Cause) -> CFact
+    ensures { result ≡ facts.cause_fact instant cause }
+{
+    let last = instant.saturating_sub(1);
+    match cause {
+        Cause::Delivery { process, send } => with_send(
+            by_entry(process_at(3, process, last), 1),
+            send,
+        ),
+        Cause::Crash { process } => by_entry(process_at(3, process, last), 3),
+        Cause::Restart { process } => by_entry(process_at(3, process, last), 4),
+        Cause::Forgetting { process } => by_entry(process_at(3, process, last), 5),
+    }
+}
+
+/// A process that lost the determinant, with the entry by which it did.
+fn loss_fact(loss: Loss) -> CFact
+    ensures { result ≡ facts.loss_fact loss }
+{
+    by_entry(
+        process_at(7, loss.process, loss.lost),
+        kind_of_loss(loss.by),
+    )
+}
+
+/// The kind of the entry by which a process loses a determinant.
+fn kind_of_loss(by: LostBy) -> u32
+    ensures { result ≡ facts.kind_of_loss by }
+{
+    match by {
+        LostBy::Crash => 3,
+        LostBy::Forgetting => 5,
+    }
+}
+
+/// The process of an event: the sender of a send, the receiver of a delivery; 0 if it is neither.
+fn actor_of(event: ChainEvent) -> u8
+    ensures { result ≡ facts.actor_of event }
+{
+    match event {
+        ChainEvent::Send { from, .. } => from,
+        ChainEvent::Delivery { to, .. } => to,
+        ChainEvent::Other => 0,
+    }
+}
+
+/// The send entry of a delivery; 0 if the event is none.
+fn send_of(event: ChainEvent) -> u32
+    ensures { result ≡ facts.send_of event }
+{
+    match event {
+        ChainEvent::Delivery { send, .. } => send,
+        _ => 0,
     }
 }
 
 /// The delivery that has an orphan for the least number of failures.
-pub(crate) fn closest_fact(faults: u16, breach: &Breach) -> CFact
-    ensures { result ≡ facts.closest_fact faults breach.now }
+fn closest_fact(closest: ClosestFailure) -> CFact
+    ensures { result ≡ facts.closest_fact closest }
 {
     CFact {
-        faults: u32::from(faults),
-        delivery: breach.delivery,
-        instant: breach.instant,
-        process: breach.orphan,
-        ..fact(14)
+        faults: u32::from(closest.faults),
+        delivery: closest.delivery,
+        instant: closest.instant,
+        ..process_fact(14, closest.orphan)
     }
 }
 
 /// The first stray.
-pub(crate) fn strayed_fact(stray: Stray) -> CFact
+fn strayed_fact(stray: Stray) -> CFact
     ensures { result ≡ facts.strayed_fact stray }
 {
     CFact {
         instant: stray.instant,
-        process: stray.slot.dest.0,
         rsn: stray.slot.rsn,
         delivery: stray.first,
         second: stray.second,
-        ..fact(16)
-    }
-}
-
-/// A process with the determinant of a delivery in its log, with the entry since which it is there.
-pub(crate) fn logged_fact(delivery: u32, holding: &Holding) -> CFact
-    ensures { result ≡ facts.logged_fact delivery holding.now }
-{
-    CFact {
-        delivery,
-        process: holding.process,
-        entry: holding.since,
-        ..fact(17)
-    }
-}
-
-/// The determinant of a delivery is in stable storage.
-pub(crate) fn stable_fact(delivery: u32) -> CFact
-    ensures { result ≡ facts.stable_fact delivery }
-{
-    CFact {
-        delivery,
-        ..fact(18)
+        ..process_fact(16, stray.slot.dest.0)
     }
 }

@@ -4,17 +4,17 @@ ghost use Rattle.causal_audit.specs.Judgements.{IsJudgedOf};
 ghost use Rattle.causal_text.specs.PushReaders.{HasReceived};
 ghost use Rattle.nixu.specs.CVerdicts.{IsFaultOfText};
 ghost use Rattle.nixu.specs.Entries.{recording_in, OfTrace};
-ghost use Rattle.nixu.specs.Facts.{AreFacts, AreFactsCopied, AreFactsUntouched, HasNoHeader, IsExplained, IsExplainedSoFar, IsExplainedText};
+ghost use Rattle.nixu.specs.Facts.{AreFactsCopied, AreFactsUntouched, HasNoHeader, IsExplained, IsExplainedSoFar, IsExplainedText, AreStructs};
 ghost use Rattle.nixu.specs.OpenReaders.{HasReadIn, IsNoReader};
 
-use crate::c_fact::CFact;
+use crate::c_fact::{CFact, c_facts_of};
 use crate::c_verdict::{CVerdict, c_fault_verdict, c_verdict_of};
-use crate::fact_lists::facts_of;
 use crate::handle::Handle;
 use crate::handle_content::HandleContent;
 use crate::judgement::{TextError, judge_trace, parse_trace};
 use causal_audit::Judged;
 use causal_name::NoMemory;
+use causal_report::facts_of;
 use causal_text::PushReader;
 use causal_trace::Trace;
 use nixu_boundary::status::{CLOSED, FAULT, MISUSED, NO_MEMORY, OK};
@@ -183,10 +183,11 @@ struct Explained {
 fn explanation_of(alloc: Global, trace: &Trace, faults: u16) -> Result<Explained, NoMemory>
     ensures judged { IfOk result (λ found. IsJudgedOf trace.now.recording faults found.judged) }
     ensures facts { IfOk result (λ found.
-        AreFacts trace.now.recording faults found.judged.verdict found.facts.items) }
+        AreStructs trace.now.recording faults found.judged.verdict found.facts.items) }
 {
     let judged = judge_trace(alloc, trace, faults)?;
-    let facts = facts_of(alloc, trace, faults, judged.verdict)?;
+    let found = facts_of(alloc, trace, faults, judged.verdict)?;
+    let facts = c_facts_of(alloc, found.as_slice())?;
     Ok(Explained { judged, facts })
 }
 

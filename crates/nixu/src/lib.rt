@@ -37,8 +37,6 @@ pub mod c_stray;
 pub mod replays;
 /// Facts that explain a verdict, in C's layout.
 pub mod c_fact;
-/// The facts that explain a verdict.
-mod fact_lists;
 /// Verdicts with the facts that explain them.
 pub mod explanations;
 /// Recordings in C's layout.

@@ -6,37 +6,47 @@ use Rattle.causal_workers.specs.declared.streaming.StreamVerdict.{StreamVerdict}
 use Rattle.causal_workers.specs.declared.streaming.VerdictError.{VerdictError}
 use Rattle.causal_workers.specs.Streaming.{IsStreamVerdict, ExplainsVerdictError}
 use Rattle.causal_audit.specs.declared.judged.Judged.{Judged}
+use Rattle.causal_picture.specs.declared.selection.Selection.{Selection}
+use Rattle.causal_report.specs.declared.reply.Reply.{Reply}
 use Rattle.causal_workers.specs.Judgements.{IsJudgementWithin}
 use Rattle.causal_commands.specs.declared.answer.Answer.{Answer}
 use Rattle.causal_commands.specs.declared.ended.Ended.{Ended}
 use Rattle.causal_commands.specs.declared.ended.Ended.TheVariants.{Accepted, Breached, Ranged, Followed, Strayed, Merged, Faulted, Ran, Refused, ReadFault, WriteFault, NoMemory, NoWorker}
 use Rattle.causal_commands.specs.declared.input_audit.StreamRefusal.{StreamRefusal}
-use Rattle.causal_commands.specs.declared.json.Question.{Question}
-use Rattle.causal_commands.specs.declared.view.View.{View}
-use Rattle.causal_commands.specs.Json.{AreLines, IsObject}
-use Rattle.causal_commands.specs.Ranges.{IsRangeAnswer}
-use Rattle.causal_commands.specs.Views.{IsViewAnswer}
+use Rattle.causal_commands.specs.declared.question.Question.{Question}
+use Rattle.causal_commands.specs.declared.question.StrayDetail.{StrayDetail}
+use Rattle.causal_commands.specs.declared.response.Response.{Response}
+use Rattle.causal_commands.specs.Drawings.{IsDrawingAnswer}
+use Rattle.causal_commands.specs.Replies.{IsReply, IsReasonReply, IsRangeReply, IsReplaysReply}
 use Rattle.causal_commands.specs.Inside.Refusals.{IsTrueRefusalFor, ExplainsStreamRefusal}
 
--- the text is the view of the bytes of a reader, if they are known
-abbrev pub IsViewAnswerFor : ℕ → View → Option (List ℕ) → ℕ → Ended → List ℕ → Type 0
-IsViewAnswerFor most view given f ended out = IfSome given (λ text. IsViewAnswer most view text f ended out)
+-- the reply to the question on the bytes of a reader, if they are known
+abbrev pub IsReplyFor : ℕ → Question → Option (List ℕ) → Ended → Reply → Type 0
+IsReplyFor most question given ended reply = IfSome given (λ text. IsReply most question text ended reply)
 
--- the text has the bounds f for which the trace in the bytes of a reader is safe, if they are known
-abbrev pub IsRangeAnswerFor : ℕ → Option (List ℕ) → Ended → List ℕ → Type 0
-IsRangeAnswerFor most given ended out = IfSome given (λ text. IsRangeAnswer most text ended out)
+-- the verdict for f and the facts that explain it, of the bytes of a reader, if they are known
+abbrev pub IsReasonReplyFor : ℕ → Option (List ℕ) → ℕ → Ended → Reply → Type 0
+IsReasonReplyFor most given f ended reply = IfSome given (λ text. IsReasonReply most text f ended reply)
 
--- the lines answer the question on the bytes of a reader, if they are known
-abbrev pub AreLinesFor : ℕ → Question → Option (List ℕ) → Ended → List ℕ → Type 0
-AreLinesFor most question given ended lines = IfSome given (λ text. AreLines most question text ended lines)
+-- the bounds f for which the trace in the bytes of a reader is safe, if they are known
+abbrev pub IsRangeReplyFor : ℕ → Option (List ℕ) → Ended → Reply → Type 0
+IsRangeReplyFor most given ended reply = IfSome given (λ text. IsRangeReply most text ended reply)
 
--- the text is the JSON object that answers the question on the bytes of a reader, if they are known
-abbrev pub IsObjectFor : ℕ → Question → Option (List ℕ) → Ended → List ℕ → Type 0
-IsObjectFor most question given ended out = IfSome given (λ text. IsObject most question text ended out)
+-- whether the recoveries in the bytes of a reader follow what survives, if they are known
+abbrev pub IsReplaysReplyFor : ℕ → StrayDetail → Option (List ℕ) → Ended → Reply → Type 0
+IsReplaysReplyFor most detail given ended reply = IfSome given (λ text. IsReplaysReply most detail text ended reply)
 
--- an answer's refusal, if any, is true of the bytes of a reader, if they are known
-abbrev pub RefusalIsTrue : ℕ → Option (List ℕ) → Result Answer Ended → Type 0
-RefusalIsTrue most given answered = IfOk answered (λ answer. IsTrueRefusalFor most given answer.refusal)
+-- the picture of the bytes of a reader, if they are known
+abbrev pub IsDrawingAnswerFor : ℕ → Selection → Option (List ℕ) → ℕ → Ended → List ℕ → Type 0
+IsDrawingAnswerFor most selection given f ended out = IfSome given (λ text. IsDrawingAnswer most selection text f ended out)
+
+-- the refusal of a response, if any, is true of the bytes of a reader, if they are known
+abbrev pub RefusalIsTrue : ℕ → Option (List ℕ) → Result Response Ended → Type 0
+RefusalIsTrue most given result = IfOk result (λ response. IsTrueRefusalFor most given response.refusal)
+
+-- the refusal of an answer, if any, is true of the bytes of a reader, if they are known
+abbrev pub AnswerRefusalIsTrue : ℕ → Option (List ℕ) → Result Answer Ended → Type 0
+AnswerRefusalIsTrue most given result = IfOk result (λ answer. IsTrueRefusalFor most given answer.refusal)
 
 -- the result is the verdict on the text, or explains why there is none
 abbrev pub IsVerdictOrRefusal : ℕ → List ℕ → ℕ → Result Judged StreamRefusal → Type 0

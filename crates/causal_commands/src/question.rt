@@ -1,0 +1,158 @@
+//! Questions on a trace, and their answers, over any reader and writer.
+ghost use Rattle.std.specs.Prelude.{◌≡◌, ◌≤◌, IfOk, IfErr, Err};
+ghost use Rattle.causal_commands.specs.Answers.{WritesFor};
+ghost use Rattle.causal_commands.specs.Diagnostics.{IsDiagnosisFor};
+ghost use Rattle.causal_commands.specs.Questions as questions;
+ghost use Rattle.causal_commands.specs.Inside.Answers.{IsReplyFor, WritesNothing, WritesWholeAnswer, RefusalIsTrue};
+
+use crate::answer::write_answer;
+use crate::diagnostic::DiagnosedFault;
+use crate::early_audit::early_response;
+use crate::ended::Ended;
+use crate::input_audit::judge_input;
+use crate::range::range_response;
+use crate::reason::reason_response;
+use crate::replays::replays_response;
+use crate::response::{Response, printed_answer, verdict_response};
+use crate::stream::Outcome;
+use causal_report::Form;
+use causal_trace::limits::Limits;
+use causal_workers::{Gate, Looks, judge_stream};
+use std::alloc::Global;
+use std::io::{Read, Write};
+use std::rt::Clock;
+use std::sync::Wait;
+use std::thread::Threads;
+
+/// What is reported besides a stray.
+#[derive(Clone, Copy)]
+pub enum StrayDetail {
+    /// Nothing.
+    Line,
+    /// The processes that have one of its two determinants in their logs at its instant, and stable storage if it has
+    /// one.
+    WithSurvivors,
+}
+
+/// A question on a trace.
+#[derive(Clone, Copy)]
+pub enum Question {
+    /// The verdict for at most `faults` processes down at once, by `workers` threads.
+    Verdict {
+        faults: u16,
+        workers: u32,
+    },
+    /// The verdict at the first audit that finds a breach, without reading on; if none does, the verdict on the whole
+    /// text. [`judge_stream`] defines these audits.
+    Breach {
+        faults: u16,
+        workers: u32,
+        looks: Looks,
+    },
+    /// The verdict on the whole text, by one worker, and the reason for it. `workers` threads read.
+    Reason {
+        faults: u16,
+        workers: u32,
+    },
+    /// The bounds f for which the trace is safe. `workers` threads read.
+    Range {
+        workers: u32,
+    },
+    /// Whether recoveries follow what survives; if not, the first stray. `workers` threads read.
+    Replays {
+        workers: u32,
+        detail: StrayDetail,
+    },
+}
+
+impl Question {
+    /// Returns the bound f of the question; 0 for `Range` and `Replays`, which have none.
+    pub fn faults(self) -> u16
+        ensures { result ≡ questions.faults_of self }
+    {
+        match self {
+            Question::Verdict { faults, .. }
+            | Question::Breach { faults, .. }
+            | Question::Reason { faults, .. } => faults,
+            Question::Range { .. } | Question::Replays { .. } => 0,
+        }
+    }
+}
+
+/// Reads the text of a trace within the limits, and writes the answer to a question, as lines or as one JSON object on
+/// one line. If the text is invalid, the answer is its first error, and the outcome has that with its diagnostic, which
+/// is computed after the answer is written. The outcome also reports a failure of the reader, the writer, an allocation
+/// or a thread start. With one worker it is never `NoWorker`.
+///
+/// The text is read in pieces of 4,096 bytes, to its end or to the piece with its first error; by several workers, except
+/// for `Breach`, as `read_by` reads it. `Breach` also stops at the first audit that finds one; its answer then has the
+/// number of entries that were read, and an error in the rest of the text is not reported.
+pub fn answer_question<R: Threads + Wait + Clock, I: Read, O: Write, G: Gate + Sync>(
+    rt: &R,
+    alloc: Global,
+    input: &mut I,
+    output: &mut O,
+    limits: Limits,
+    question: Question,
+    form: Form,
+    gate: &G,
+) -> Outcome<DiagnosedFault>
+    requires { questions.HasFewWorkers question }
+    ensures writes { WritesFor limits.entries form question (I.remaining input.old)
+        result.ended (O.contents output.old) (O.contents output.new) }
+    ensures fault { IsDiagnosisFor limits.entries (I.remaining input.old)
+        (questions.faults_of question) result.fault }
+    ensures stops { questions.StopsFor limits.entries question
+        (I.remaining input.old) (I.remaining input.new) }
+    ensures one_worker { result.ended ≡ Ended.NoWorker → 2 ≤ questions.workers_of question }
+{
+    let response = match response_to(rt, alloc, input, limits, question, gate) {
+        Ok(response) => response,
+        Err(ended) => return Outcome { ended, fault: None },
+    };
+    match printed_answer(alloc, form, response) {
+        Ok(answer) => write_answer(alloc, output, question.faults(), answer),
+        Err(ended) => Outcome { ended, fault: None },
+    }
+}
+
+fn response_to<I: Read, G: Gate + Sync, R: Threads + Wait + Clock>(
+    rt: &R,
+    alloc: Global,
+    input: &mut I,
+    limits: Limits,
+    question: Question,
+    gate: &G,
+) -> Result<Response, Ended>
+    requires { questions.HasFewWorkers question }
+    ensures ok { IfOk result (λ response. IsReplyFor limits.entries question
+        (I.remaining input.old) response.ended response.reply) }
+    ensures rejected { RefusalIsTrue limits.entries (I.remaining input.old) result }
+    ensures whole_answer { IfOk result (λ response. WritesWholeAnswer response.ended) }
+    ensures err { IfErr result WritesNothing }
+    ensures stops { questions.StopsFor limits.entries question
+        (I.remaining input.old) (I.remaining input.new) }
+    ensures one_worker { result ≡ Err Ended.NoWorker → 2 ≤ questions.workers_of question }
+{
+    match question {
+        Question::Verdict { faults, workers } => {
+            let judged = judge_input(rt, alloc, input, limits, faults, workers, gate);
+            verdict_response(alloc, faults, judged)
+        }
+        Question::Breach {
+            faults,
+            workers,
+            looks,
+        } => {
+            let known = judge_stream(rt, alloc, input, limits, looks, faults, workers, gate);
+            early_response(alloc, faults, known)
+        }
+        Question::Reason { faults, workers } => {
+            reason_response(rt, alloc, input, limits, faults, workers)
+        }
+        Question::Range { workers } => range_response(rt, alloc, input, limits, workers),
+        Question::Replays { workers, detail } => {
+            replays_response(rt, alloc, input, limits, workers, detail)
+        }
+    }
+}

@@ -1,0 +1,15 @@
+use Rattle.std.proofs.Common.{◌∙◌}
+use Rattle.causal_holders.specs.Members.{ascending}
+use Rattle.causal_report.specs.declared.fact.Fact.TheVariants.{Crash}
+use Rattle.causal_report.proofs.SetMembers.{made-none, made-next}
+use Rattle.causal_report.proofs.facts.crash_facts.Goals as goal
+
+pub loop-process-init : goal.loop-process-init
+loop-process-init c =
+    made-none ascending Crash _ c.into_iter-process-iterator.result c.args.crash c.new-found.ensures.items
+    (c.into_iter-process-iterator.ensures.into_iter_gives ∙ c.iter-process-items.ensures)
+
+pub loop-process-preserved : goal.loop-process-preserved
+loop-process-preserved c =
+    made-next ascending Crash c.loop-process.found.items c.push.new.self.items _ c.in-Some.process
+    c.loop-process.process-iterator c.next.new.self c.loop-process.invariant c.in-Some.ensures.steps c.in_ok-push.ensures.items
