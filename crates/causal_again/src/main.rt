@@ -34,7 +34,7 @@ fn of_a_script<R: Print + Eprint + Threads + Wait>(rt: &R, alloc: Global) -> boo
 
 /// Reads the text of a trace, and audits it.
 fn of_a_text<R: Print + Eprint + Threads + Wait + Clock>(rt: &R, alloc: Global) -> bool {
-    match readings::read(rt, alloc) {
+    match readings::retry_read(rt, alloc) {
         Some(trace) => readings::is_judged(rt, alloc, &trace) && readings::are_read(rt, alloc),
         None => false,
     }

@@ -109,7 +109,7 @@ pub fn are_read<R: Print + Eprint + Threads + Wait + Clock>(rt: &R, alloc: Globa
 }
 
 /// Reads the text's trace, until it succeeds.
-pub fn read<P: Print + Eprint>(rt: &P, alloc: Global) -> Option<Trace> {
+pub fn retry_read<P: Print + Eprint>(rt: &P, alloc: Global) -> Option<Trace> {
     for _ in 0..TRIES {
         match read_trace(alloc, TEXT.as_bytes()) {
             Ok(trace) => return Some(trace),

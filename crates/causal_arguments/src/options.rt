@@ -259,7 +259,7 @@ fn subcommand_of<'a>(alloc: Global, described: &CommandSpec) -> Result<Command<'
 }
 
 /// Returns the program with its commands.
-pub(crate) fn command_line<'a>(alloc: Global) -> Result<Command<'a>, AllocError> {
+pub(crate) fn program_command<'a>(alloc: Global) -> Result<Command<'a>, AllocError> {
     let mut words = Command::new(alloc, "causal_tool")
         .about(
             "Audits recorded runs of processes that log their messages causally, and records such runs",

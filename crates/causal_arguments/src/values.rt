@@ -2,7 +2,7 @@
 ghost use Rattle.std.specs.Prelude.{◌≤◌, IfOk, IfSome};
 ghost use Rattle.causal_arguments.specs.Workers.{HasWorkersInRange};
 
-use crate::options::{LIVE, command_line};
+use crate::options::{LIVE, program_command};
 use crate::subcommand::{CommandLine, Form, Subcommand, Until};
 use causal_trace::limits::{DEFAULT_ENTRIES, Limits};
 use clap::{ArgMatches, Error};
@@ -16,7 +16,7 @@ pub(crate) fn parse_args<'a, S: AsStr>(
 ) -> Result<Option<CommandLine>, Error>
     ensures { IfOk result (λ line. IfSome line (λ line. HasWorkersInRange line.command)) }
 {
-    let matches = command_line(alloc)?.try_get_matches_from(words)?;
+    let matches = program_command(alloc)?.try_get_matches_from(words)?;
     let Some((name, given)) = matches.subcommand() else {
         return Ok(None);
     };

@@ -20,14 +20,14 @@ use Rattle.causal_log.proofs.Lemmas.KnowledgeGrows.{united_logged, united_holder
 use Rattle.causal_log.proofs.Lemmas.LogLists.{keys_logged}
 use Rattle.causal_log.proofs.Lemmas.Ascents.{map_ascends}
 use Rattle.causal_protocol.specs.MemoryQueries.{has_entry, log_knows_holder, log_knows_stable}
-use Rattle.causal_rounds.specs.Rounds.{set_at}
-use Rattle.causal_node.specs.declared.node_answer.Reply.TheVariants as Replies
+use Rattle.causal_rounds.specs.Rounds.{with_value_at}
+use Rattle.causal_node.specs.declared.node_answer.RoundReply.TheVariants as Replies
 use Rattle.causal_node.specs.NodeStates.{NodeState, Recovery, RoundState, floor_of}
-use Rattle.causal_node.specs.NodeRecovery.{ask_fault, restart_fault, new_round, with_recovery, map_round, with_log_of, without_awaited, after_not_up, after_number, raised_at, after_stored, after_read, after_restart_at, restart_log_of, opened, processes_below}
-use Rattle.causal_node.specs.NodeAnswers.{answer_fault, after_answer, after_answer_at, knows_number, reply_of}
+use Rattle.causal_node.specs.NodeRecovery.{ask_fault, node_restart_fault, new_round, with_recovery, map_round, with_log_of, without_awaited, after_not_up, after_number, raised_at, node_after_stored, node_after_read, after_restart_at, restart_log_of, opened, processes_below}
+use Rattle.causal_node.specs.NodeAnswers.{answer_fault, node_after_answer, after_answer_at, knows_number, round_reply}
 use Rattle.causal_nodes.specs.Node.{NodeRound, DownNode, Node, up_node, down_node}
 use Rattle.causal_nodes.specs.Packets.{Sent, question_packet, answer_packet, not_up_packet, read_packet, stored_packet, number_packet}
-use Rattle.causal_nodes.specs.NodeSteps.{NodeStep, hear_number_row, begin_row, not_up_row, give_up_row, hear_answer_row, hear_not_up_row, read_row, take_stored_row, hear_stored_row, restart_row, with_round, fallen_node, new_node_round, with_heard, with_stored}
+use Rattle.causal_nodes.specs.NodeSteps.{NodeStep, hear_number_row, begin_row, not_up_row, give_up_row, hear_answer_row, hear_not_up_row, read_row, take_stored_row, hear_stored_row, restart_row, with_round, fallen_node, new_node_round, with_heard, round_with_stored}
 use Rattle.causal_nodes.specs.NodeSteps as theory
 use Rattle.causal_calls.specs.Views.{numbers, log_view, RepresentsAt, Represents, IsRoundOf, IsDownView, IsNodeState, IsRecoveryState}
 use Rattle.causal_calls.specs.Parcels.{log_packet}
@@ -67,21 +67,21 @@ pub awaits_none : (awaited : set.FinSet nat_cmp) → nat_lt 0 (set.len awaited) 
 awaits_none awaited none q = ap (λ s. set.contains s q) (set.empty_of_len awaited (omega (arith, not_below 0 (set.len awaited) none))) ∙ set.contains-empty nat_cmp q
 
 -- one process more has replied
-heard_more : (heard : ℕ → Bool) (awaited : set.FinSet nat_cmp) (q p : ℕ) → (set.contains awaited p ≡ false → heard p ≡ true) → set.contains (set.remove awaited q) p ≡ false → set_at heard q true p ≡ true
+heard_more : (heard : ℕ → Bool) (awaited : set.FinSet nat_cmp) (q p : ℕ) → (set.contains awaited p ≡ false → heard p ≡ true) → set.contains (set.remove awaited q) p ≡ false → with_value_at heard q true p ≡ true
 heard_more heard awaited q p before gone = by (p == q) refl
   where
     by : (b : Bool) → (p == q) ≡ b → (if b then true else heard p) ≡ true
     by true is = refl
     by false is = before (sym (ap (λ b. not b && set.contains awaited p) is) ∙ sym (removed awaited q p) ∙ gone)
 
-still_heard : (heard : ℕ → Bool) (q p : ℕ) → heard p ≡ true → set_at heard q true p ≡ true
+still_heard : (heard : ℕ → Bool) (q p : ℕ) → heard p ≡ true → with_value_at heard q true p ≡ true
 still_heard heard q p h = by (p == q)
   where
     by : (b : Bool) → (if b then true else heard p) ≡ true
     by true = refl
     by false = h
 
-now_heard : (heard : ℕ → Bool) (q : ℕ) → set_at heard q true q ≡ true
+now_heard : (heard : ℕ → Bool) (q : ℕ) → with_value_at heard q true q ≡ true
 now_heard heard q = ap (λ b. if b then true else heard q) (eq-eqb q q refl)
 
 -- the greater of two numbers
@@ -138,12 +138,12 @@ module _ (position : ℕ) (s : NodeState) (k : IsNodeState s) where
       );
     }
 
-    pub says_not_up : (asker : Pid) (name : ℕ) (view : List ℕ) → answer_fault s asker view ≡ None → reply_of s view ≡ Replies.NotUp
-        → IsStepOf position s here (Some (question_packet asker.0 name (numbers view))) (after_answer s view) (not_up_packet me.0 asker.0 name ∷ []) []
+    pub says_not_up : (asker : Pid) (name : ℕ) (view : List ℕ) → answer_fault s asker view ≡ None → round_reply s view ≡ Replies.NotUp
+        → IsStepOf position s here (Some (question_packet asker.0 name (numbers view))) (node_after_answer s view) (not_up_packet me.0 asker.0 name ∷ []) []
     says_not_up asker name view legal reply =
         let knows = (replies_not_up (knows_number s view) s.recovery reply).0 in
         let apart : asker.0 ≡ me.0 → ⊥ = λ e. both_ways _ (or_else_none _ _ _ legal).0 (or_right _ _ (eq-eqb asker.0 me.0 e)) in
-        let after : after_answer s view ≡ with_recovery s (Some None) = λ i. if knows i then after_answer_at s view (down i) else s in
+        let after : node_after_answer s view ≡ with_recovery s (Some None) = λ i. if knows i then after_answer_at s view (down i) else s in
         subst (λ (t : NodeState). IsStepOf position s here (Some (question_packet asker.0 name (numbers view))) t (not_up_packet me.0 asker.0 name ∷ []) []) (sym after) (record {
           next = down_node (with_round x None);
           step = not_up_row x asker.0 name (numbers view) apart (eqb-true _ _ knows ∙ is_down.lane);
@@ -178,21 +178,21 @@ module _ (position : ℕ) (s : NodeState) (k : IsNodeState s) where
           );
         })
         by false higher = inl (record {
-          next = down_node (record { lane = x.lane; told = set_at x.told q.0 number; round = x.round });
+          next = down_node (record { lane = x.lane; told = with_value_at x.told q.0 number; round = x.round });
           step = hear_number_row x q.0 number;
           represents = (
-            record { lane = x.lane; told = set_at x.told q.0 number; round = x.round },
+            record { lane = x.lane; told = with_value_at x.told q.0 number; round = x.round },
             refl,
             record {
               lane = is_down.lane;
               told = λ p other. elim (floors_after q number p) [
                 | inl same ↦
                     let enough = not_below number (numbers s.floors q.0) higher in
-                    let here_is : set_at x.told q.0 number p ≡ number = ap (λ (b : Bool). if b then number else x.told p) (eq-eqb p q.0 same.0) in
+                    let here_is : with_value_at x.told q.0 number p ≡ number = ap (λ (b : Bool). if b then number else x.told p) (eq-eqb p q.0 same.0) in
                     omega (arith, same.1, enough, here_is)
                 | inr elsewhere ↦
                     let off : (p == q.0) ≡ false = elim (eqb_tells p q.0) [ inl is ↦ absurd (elsewhere.0 is.1) | inr not_it ↦ not_it.0 ] in
-                    let away : set_at x.told q.0 number p ≡ x.told p = ap (λ (b : Bool). if b then number else x.told p) off in
+                    let away : with_value_at x.told q.0 number p ≡ x.told p = ap (λ (b : Bool). if b then number else x.told p) off in
                     let old = is_down.told p other in
                     omega (arith, elsewhere.1, away, old)
               ];
@@ -297,19 +297,19 @@ module _ (position : ℕ) (s : NodeState) (k : IsNodeState s) where
     })
 
     pub takes_stored : (dets : Det → Bool) (det : Det) → dets det ≡ true
-        → IsStepOf position s there (Some (stored_packet me.0 r.name dets)) (after_stored s det s.recovery) [] (Stable det ∷ [])
-    takes_stored dets det has = subst (λ (m : ℕ). IsStepOf position s there (Some (stored_packet me.0 m dets)) (after_stored s det s.recovery) [] (Stable det ∷ [])) fits.name
-        (subst (λ (o : Recovery). IsStepOf position s there (Some (stored_packet me.0 y.name dets)) (after_stored s det o) [] (Stable det ∷ [])) (sym gathers) (record {
-          next = down_node (with_round x (Some (with_stored det y)));
+        → IsStepOf position s there (Some (stored_packet me.0 r.name dets)) (node_after_stored s det s.recovery) [] (Stable det ∷ [])
+    takes_stored dets det has = subst (λ (m : ℕ). IsStepOf position s there (Some (stored_packet me.0 m dets)) (node_after_stored s det s.recovery) [] (Stable det ∷ [])) fits.name
+        (subst (λ (o : Recovery). IsStepOf position s there (Some (stored_packet me.0 y.name dets)) (node_after_stored s det o) [] (Stable det ∷ [])) (sym gathers) (record {
+          next = down_node (with_round x (Some (round_with_stored det y)));
           step = take_stored_row x y dets det is_down.round.1 has;
           represents = (
-            with_round x (Some (with_stored det y)),
+            with_round x (Some (round_with_stored det y)),
             refl,
             record {
               lane = is_down.lane;
               told = is_down.told;
               round = (
-                with_stored det y,
+                round_with_stored det y,
                 refl,
                 record {
                   name = fits.name;
@@ -337,11 +337,11 @@ module _ (position : ℕ) (s : NodeState) (k : IsNodeState s) where
         marked_too a b = grind arith
 
     pub finishes : (dets : Det → Bool) → ((d : Det) → dets d ≡ true → has_entry d r.log ≡ true)
-        → IsStepOf position s there (Some (stored_packet me.0 r.name dets)) (with_recovery s (map_round after_read s.recovery)) [] []
-    finishes dets all = subst (λ (m : ℕ). IsStepOf position s there (Some (stored_packet me.0 m dets)) (with_recovery s (map_round after_read s.recovery)) [] []) fits.name (record {
+        → IsStepOf position s there (Some (stored_packet me.0 r.name dets)) (with_recovery s (map_round node_after_read s.recovery)) [] []
+    finishes dets all = subst (λ (m : ℕ). IsStepOf position s there (Some (stored_packet me.0 m dets)) (with_recovery s (map_round node_after_read s.recovery)) [] []) fits.name (record {
       next = down_node (with_round x (Some (with_heard n y)));
       step = hear_stored_row x y dets is_down.round.1 (λ d h. fits.has d ∙ all d h);
-      represents = as_round after_read (with_heard n y) (record {
+      represents = as_round node_after_read (with_heard n y) (record {
         name = fits.name;
         view = fits.view;
         heard = λ p low apart gone. still_heard y.heard n p (fits.heard p low apart gone);
@@ -382,17 +382,17 @@ module _ (position : ℕ) (s : NodeState) (k : IsNodeState s) where
         by (inl is) = mine (log_knows_holder d q r.log) (y.gathered.has d) (y.gathered.holder d q) (q == me.0) (λ h. fits.has d ∙ entry_of_holder r.log d q h) (λ h. fits.own d (subst (λ p. y.gathered.holder d p ≡ true) is.1 h)) is.0
         by (inr other) = others (log_knows_holder d q r.log) (y.gathered.has d) (y.gathered.holder d q) (q == me.0) (fits.holder d q other.1) other.0
 
-    restarted_log : (theory.after_restart me.0 (x.lane + 1) y).log ≡ log_view (restart_log_of me r.log)
+    restarted_log : (theory.up_after_restart me.0 (x.lane + 1) y).log ≡ log_view (restart_log_of me r.log)
     restarted_log = same_log _ _ (λ d. fits.has d ∙ sym (restarted_has d)) (λ d q. sym (restarted_holder d q)) (λ d. fits.stable d ∙ sym (held_stable me d (fin.keys r.log) r.log))
 
-    pub restarts : (reserved : List MsgName) → restart_fault s.recovery ≡ None
+    pub restarts : (reserved : List MsgName) → node_restart_fault s.recovery ≡ None
         → IsStepOf position s there None (after_restart_at s s.recovery reserved) [] (Restart me (fin.keys (after_restart_at s s.recovery reserved).memory.log) ∷ [])
     restarts reserved legal =
-        let done = or_else_none _ _ None (sym (ap restart_fault gathers) ∙ legal) in
+        let done = or_else_none _ _ None (sym (ap node_restart_fault gathers) ∙ legal) in
         let none = no_left _ _ done.0 in
         let read = from_not _ (no_right _ _ done.0) in
         subst (λ (o : Recovery). IsStepOf position s there None (after_restart_at s o reserved) [] (Restart me (fin.keys (after_restart_at s o reserved).memory.log) ∷ [])) (sym gathers) (record {
-          next = up_node (theory.after_restart me.0 (x.lane + 1) y);
+          next = up_node (theory.up_after_restart me.0 (x.lane + 1) y);
           step = restart_row x y (fin.keys (restart_log_of me r.log)) (map_ascends (restart_log_of me r.log)) is_down.round.1 (λ q low apart. by q low apart none read (eqb_tells q n)) (λ d. listed_is d ∙ sym (fits.has d));
           represents = λ i. up_node (record { lane = sym is_down.lane i; log = restarted_log i; floors = fits.view i; sent = 0; received = [] });
         })

@@ -20,11 +20,11 @@ use Rattle.causal_protocol.specs.MemoryQueries.{has_entry, log_knows_holder}
 use Rattle.causal_protocol.specs.Memory.{with_log}
 use Rattle.causal_node.specs.declared.node.Identity.{Identity}
 use Rattle.causal_node.specs.NodeStates.{NodeState, Recovery, RoundState, floor_of, with_memory}
-use Rattle.causal_node.specs.NodeSteps.{after_delivery}
-use Rattle.causal_node.specs.NodeRecovery.{new_round, with_recovery, map_round, with_log_of, without_awaited, after_not_up, after_number, after_stored, after_read, after_restart_at, restart_log_of, opened, processes_below}
+use Rattle.causal_node.specs.NodeSteps.{node_after_delivery}
+use Rattle.causal_node.specs.NodeRecovery.{new_round, with_recovery, map_round, with_log_of, without_awaited, after_not_up, after_number, node_after_stored, node_after_read, after_restart_at, restart_log_of, opened, processes_below}
 use Rattle.causal_node.specs.NodeAcknowledgements.{log_with_holders, after_acknowledgement}
-use Rattle.causal_node.specs.NodeForgetting.{next_slot, after_forget}
-use Rattle.causal_node.specs.NodeAnswers.{answer_fault, after_answer, after_answer_at, knows_number}
+use Rattle.causal_node.specs.NodeForgetting.{next_slot, node_after_forget}
+use Rattle.causal_node.specs.NodeAnswers.{answer_fault, node_after_answer, after_answer_at, knows_number}
 use Rattle.causal_nodes.specs.Node.{NodeLog}
 use Rattle.causal_nodes.specs.Packets.{message_packet, acknowledgement_packet}
 use Rattle.causal_calls.specs.Views.{HasHoldersBelow, IsNodeState, IsRecoveryState}
@@ -52,7 +52,7 @@ module _ (s : NodeState) (k : IsNodeState s) where
   pub with_other : (recovery : Recovery) → IsRecoveryState s.identity recovery → IsNodeState (with_recovery s recovery)
   with_other recovery is = record { process = k.process; floors = k.floors; own_floor = k.own_floor; holders = k.holders; own = k.own; received = k.received; recovery = is }
 
-  pub delivered : (lane : ℕ) (name : MsgName) (at : ℕ) (items : List Item) → NamesProcesses n (message_packet name (message_with lane me at name items)) → IsNodeState (after_delivery s name items)
+  pub delivered : (lane : ℕ) (name : MsgName) (at : ℕ) (items : List Item) → NamesProcesses n (message_packet name (message_with lane me at name items)) → IsNodeState (node_after_delivery s name items)
   delivered lane name at items names =
       let own = det_from me (length s.memory.received) name in
       record {
@@ -84,8 +84,8 @@ module _ (s : NodeState) (k : IsNodeState s) where
   mark_has : (det d : Det) → has_entry d (after_mark s.memory.log det) ≡ has_entry d s.memory.log
   mark_has det d = ap (λ (log : NodeLog). log.has d) (marked s.memory.log det)
 
-  pub marked_stable : (det : Det) → s.recovery ≡ None → IsNodeState (after_stored s det s.recovery)
-  marked_stable det up = subst (λ (o : Recovery). IsNodeState (after_stored s det o)) (sym up) (record {
+  pub marked_stable : (det : Det) → s.recovery ≡ None → IsNodeState (node_after_stored s det s.recovery)
+  marked_stable det up = subst (λ (o : Recovery). IsNodeState (node_after_stored s det o)) (sym up) (record {
     process = k.process;
     floors = k.floors;
     own_floor = k.own_floor;
@@ -111,7 +111,7 @@ module _ (s : NodeState) (k : IsNodeState s) where
       ])
       (λ d h. ap (λ (x : NodeLog). x.holder d me.0) is ∙ or_right _ _ (k.own d (sym (ap (λ (x : NodeLog). x.has d) is) ∙ h)))
 
-  pub forgot : IsNodeState (after_forget s)
+  pub forgot : IsNodeState (node_after_forget s)
   forgot =
       let log = s.memory.log in
       let next = next_slot s in
@@ -122,7 +122,7 @@ module _ (s : NodeState) (k : IsNodeState s) where
       let parts = and_parts _ _ (sym (ap (λ (x : NodeLog). x.has d) is) ∙ h) in
       ap (λ (x : NodeLog). x.holder d me.0) is ∙ and_from _ _ parts.0 (k.own d parts.1))
 
-  pub answered : (asker : Pid) (view : List ℕ) → answer_fault s asker view ≡ None → IsNodeState (after_answer s view)
+  pub answered : (asker : Pid) (view : List ℕ) → answer_fault s asker view ≡ None → IsNodeState (node_after_answer s view)
   answered asker view legal = by (knows_number s view) refl
     where
       size : length s.floors ≡ length view
@@ -192,8 +192,8 @@ module _ (s : NodeState) (k : IsNodeState s) where
         by true = changed (λ r. without_awaited r q.0) (kept.0, not_mine q.0)
         by false = number_taken q number awaited
 
-    pub stored_taken : (det : Det) → IsNodeState (after_stored s det s.recovery)
-    stored_taken det = subst (λ (o : Recovery). IsNodeState (after_stored s det o)) (sym gathers) (with_other (Some (Some (record r { log = after_learn r.log det (stable_and_held_by me) }))) (holds, kept.1))
+    pub stored_taken : (det : Det) → IsNodeState (node_after_stored s det s.recovery)
+    stored_taken det = subst (λ (o : Recovery). IsNodeState (node_after_stored s det o)) (sym gathers) (with_other (Some (Some (record r { log = after_learn r.log det (stable_and_held_by me) }))) (holds, kept.1))
       where
         holds : HasHoldersBelow n (after_learn r.log det (stable_and_held_by me))
         holds d q h = elim (or_cases _ _ (sym (one_holder r.log det (stable_and_held_by me) d q) ∙ h)) [
@@ -204,8 +204,8 @@ module _ (s : NodeState) (k : IsNodeState s) where
           ]
         ]
 
-    pub read_finished : IsNodeState (with_recovery s (map_round after_read s.recovery))
-    read_finished = changed after_read kept
+    pub read_finished : IsNodeState (with_recovery s (map_round node_after_read s.recovery))
+    read_finished = changed node_after_read kept
 
     pub restarted : (reserved : List MsgName) → IsNodeState (after_restart_at s s.recovery reserved)
     restarted reserved = subst (λ (o : Recovery). IsNodeState (after_restart_at s o reserved)) (sym gathers) (record {

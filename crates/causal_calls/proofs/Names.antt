@@ -29,7 +29,7 @@ use Rattle.causal_node.specs.NodeRefusals.{unless_up, or_else, naming_fault}
 use Rattle.causal_node.specs.NodeRecovery.{reply_fault}
 use Rattle.causal_node.specs.NodeAnswers.{raised}
 use Rattle.causal_calls.specs.Views.{numbers}
-use Rattle.causal_calls.specs.StepLaws.{HasSingleSlots}
+use Rattle.causal_calls.specs.StepLaws.{HasLogSingleSlots}
 use Rattle.causal_calls.proofs.Lemmas.Refusals.{from_not, some_none, or_else_none}
 
 -- names
@@ -73,7 +73,7 @@ inserted_name (x ∷ xs) name m = by (message_cmp name x) refl (inserted_name xs
     by Greater is rest = ap (λ b. same_message m x || b) rest ∙ later (same_message m x) (list_any (same_message m) xs) (same_message m name)
 
 -- the message that is named for the next delivery is the one that is delivered
-module _ (me : Pid) (m : Memory) (name : MsgName) (single : HasSingleSlots m.log) (d : Det) (has : has_entry d m.log ≡ true) (mine : d.dest ≡ me) (next : d.rsn ≡ length m.received) where
+module _ (me : Pid) (m : Memory) (name : MsgName) (single : HasLogSingleSlots m.log) (d : Det) (has : has_entry d m.log ≡ true) (mine : d.dest ≡ me) (next : d.rsn ≡ length m.received) where
   fits : is_of_slot me (length m.received) d ≡ true
   fits = (λ i. ((mine i).0 == me.0) && next i == length m.received) ∙ (λ i. eq-eqb me.0 me.0 refl i && eq-eqb (length m.received) (length m.received) refl i)
 

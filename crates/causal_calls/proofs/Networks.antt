@@ -8,7 +8,7 @@ use Rattle.causal_name.specs.Sets.{count_below}
 use Rattle.causal_holders.proofs.Lemmas.MemberCounts.{count_below-same}
 use Rattle.causal_trace.specs.declared.entry.Entry.{Entry}
 use Rattle.causal_trace.specs.declared.entry.Entry.TheVariants.{Crash}
-use Rattle.causal_rounds.specs.Rounds.{set_at}
+use Rattle.causal_rounds.specs.Rounds.{with_value_at}
 use Rattle.causal_protocol.specs.MemoryQueries.{has_entry}
 use Rattle.causal_world.specs.World.{Packet}
 use Rattle.causal_node.specs.declared.node.Identity.{Identity}
@@ -48,10 +48,10 @@ sent_parts (x ∷ new) old k (inl is) = inl (inl is)
 sent_parts (x ∷ new) old k (inr was) = elim (sent_parts new old k was) [ inl here ↦ inl (inr here) | inr there ↦ inr there ]
 
 -- what holds at one number, and at the others, holds after a change there
-at_each : {X : Type 0} (P : ℕ → X → Type 0) (xs : ℕ → X) (here : ℕ) (x : X) → P here x → (p : ℕ) → P p (xs p) → P p (set_at xs here x p)
+at_each : {X : Type 0} (P : ℕ → X → Type 0) (xs : ℕ → X) (here : ℕ) (x : X) → P here x → (p : ℕ) → P p (xs p) → P p (with_value_at xs here x p)
 at_each P xs here x is p other = by (eqb_tells p here)
   where
-    by : ((p == here ≡ true) × (p ≡ here)) ⊎ ((p == here ≡ false) × (p ≡ here → ⊥)) → P p (set_at xs here x p)
+    by : ((p == here ≡ true) × (p ≡ here)) ⊎ ((p == here ≡ false) × (p ≡ here → ⊥)) → P p (with_value_at xs here x p)
     by (inl same) = subst (λ (b : Bool). P p (if b then x else xs p)) (sym same.0) (subst (λ q. P q x) (sym same.1) is)
     by (inr apart) = subst (λ (b : Bool). P p (if b then x else xs p)) (sym apart.0) other
 
@@ -128,7 +128,7 @@ module _ (safe : NodesAreSafe) (single : NodesShareNoSlot) (n f : ℕ) where
       old = w.nodes me.0
 
       abbrev after : System
-      after = record { past = entries ++ w.past; nodes = set_at w.nodes me.0 new; sent = emitted ++ w.sent; stored = w.stored; floors = w.floors }
+      after = record { past = entries ++ w.past; nodes = with_value_at w.nodes me.0 new; sent = emitted ++ w.sent; stored = w.stored; floors = w.floors }
 
       processes_is : old.identity.processes ≡ n
       processes_is = ap (λ (i : Identity). i.processes) (net.identities me.0 low)
@@ -136,7 +136,7 @@ module _ (safe : NodesAreSafe) (single : NodesShareNoSlot) (n f : ℕ) where
       kept : IsNodeState new × (new.identity ≡ old.identity) × ((k : Sent) → WasSent emitted k → NamesProcesses old.identity.processes k)
       kept = calls_keep (length w.past) old new taken emitted entries call (net.states me.0 low) (subst (λ m. TakesOfProcesses m taken) (sym processes_is) (takes taken was))
 
-      after_call : (nodes : ℕ → Node) → IsReachableNetwork n f (network_of after nodes) → ((p : ℕ) → p < n → Represents (set_at w.nodes me.0 new p) (nodes p)) → IsNetworkOf n f after
+      after_call : (nodes : ℕ → Node) → IsReachableNetwork n f (network_of after nodes) → ((p : ℕ) → p < n → Represents (with_value_at w.nodes me.0 new p) (nodes p)) → IsNetworkOf n f after
       after_call nodes reached represents = record {
         nodes = nodes;
         reached = reached;
@@ -147,12 +147,12 @@ module _ (safe : NodesAreSafe) (single : NodesShareNoSlot) (n f : ℕ) where
       }
 
       by_step : IsStepOf (length w.past) old (net.nodes me.0) taken new emitted entries → IsNetworkOf n f after
-      by_step step = after_call (set_at net.nodes me.0 step.next)
-          (next_network (network_of w net.nodes) (network_of after (set_at net.nodes me.0 step.next)) net.reached
+      by_step step = after_call (with_value_at net.nodes me.0 step.next)
+          (next_network (network_of w net.nodes) (network_of after (with_value_at net.nodes me.0 step.next)) net.reached
           (step_event me taken step.next emitted entries low was (subst (λ (i : Identity). NodeStep i.processes i.faults i.me (length w.past) (net.nodes me.0) taken step.next emitted entries) (net.identities me.0 low) step.step) fresh))
           (λ p low_p. both p low_p (eqb_tells p me.0))
         where
-          both : (p : ℕ) → p < n → ((p == me.0 ≡ true) × (p ≡ me.0)) ⊎ ((p == me.0 ≡ false) × (p ≡ me.0 → ⊥)) → Represents (set_at w.nodes me.0 new p) (set_at net.nodes me.0 step.next p)
+          both : (p : ℕ) → p < n → ((p == me.0 ≡ true) × (p ≡ me.0)) ⊎ ((p == me.0 ≡ false) × (p ≡ me.0 → ⊥)) → Represents (with_value_at w.nodes me.0 new p) (with_value_at net.nodes me.0 step.next p)
           both p low_p (inl same) = subst (λ (b : Bool). Represents (if b then new else w.nodes p) (if b then step.next else net.nodes p)) (sym same.0) step.represents
           both p low_p (inr other) = subst (λ (b : Bool). Represents (if b then new else w.nodes p) (if b then step.next else net.nodes p)) (sym other.0) (net.represents p low_p)
 
@@ -165,13 +165,13 @@ module _ (safe : NodesAreSafe) (single : NodesShareNoSlot) (n f : ℕ) where
       calls = elim (calls_are_steps (length w.past) old new taken emitted entries (net.nodes me.0) call (net.states me.0 low) (λ up. share_none me.0 me.0 low low up up) (net.represents me.0 low)) [ inl step ↦ by_step step | inr none ↦ by_none none ]
 
     crashes : (who : Pid) → who.0 < n → (w.nodes who.0).recovery ≡ None → count_below n (λ q. is_recovering (w.nodes q)) < f
-        → IsNetworkOf n f (record { past = Crash who ∷ w.past; nodes = set_at w.nodes who.0 (opened (w.nodes who.0).identity ((w.nodes who.0).lane + 1)); sent = w.sent; stored = w.stored; floors = w.floors })
+        → IsNetworkOf n f (record { past = Crash who ∷ w.past; nodes = with_value_at w.nodes who.0 (opened (w.nodes who.0).identity ((w.nodes who.0).lane + 1)); sent = w.sent; stored = w.stored; floors = w.floors })
     crashes who low up few =
         let s = w.nodes who.0 in
         let is = is_up who.0 low up in
         let same = count_below-same n (λ q. is_recovering (w.nodes q)) (λ q. is_node_down (net.nodes q)) (λ q low_q. down_is (w.nodes q) (net.nodes q) (w.nodes q).recovery (net.represents q low_q)) in
         record {
-          nodes = set_at net.nodes who.0 (down_node (fallen_node s.lane));
+          nodes = with_value_at net.nodes who.0 (down_node (fallen_node s.lane));
           reached = next_network (network_of w net.nodes) _ net.reached (crash_event who (up_view s) low is (subst (λ m. m < f) same few));
           represents = λ p low_p. both p low_p (eqb_tells p who.0);
           states = λ p low_p. at_each (λ p s. IsNodeState s) w.nodes who.0 _ (opening s.identity (s.lane + 1) (net.states who.0 low).process) p (net.states p low_p);
@@ -180,7 +180,7 @@ module _ (safe : NodesAreSafe) (single : NodesShareNoSlot) (n f : ℕ) where
         }
       where
         both : (p : ℕ) → p < n → ((p == who.0 ≡ true) × (p ≡ who.0)) ⊎ ((p == who.0 ≡ false) × (p ≡ who.0 → ⊥))
-            → Represents (set_at w.nodes who.0 (opened (w.nodes who.0).identity ((w.nodes who.0).lane + 1)) p) (set_at net.nodes who.0 (down_node (fallen_node (w.nodes who.0).lane)) p)
+            → Represents (with_value_at w.nodes who.0 (opened (w.nodes who.0).identity ((w.nodes who.0).lane + 1)) p) (with_value_at net.nodes who.0 (down_node (fallen_node (w.nodes who.0).lane)) p)
         both p low_p (inl same) = subst (λ (b : Bool). Represents (if b then opened (w.nodes who.0).identity ((w.nodes who.0).lane + 1) else w.nodes p) (if b then down_node (fallen_node (w.nodes who.0).lane) else net.nodes p)) (sym same.0) (reopened (w.nodes who.0).identity (w.nodes who.0).lane)
         both p low_p (inr other) = subst (λ (b : Bool). Represents (if b then opened (w.nodes who.0).identity ((w.nodes who.0).lane + 1) else w.nodes p) (if b then down_node (fallen_node (w.nodes who.0).lane) else net.nodes p)) (sym other.0) (net.represents p low_p)
 

@@ -8,13 +8,13 @@ use Rattle.causal_trace.specs.declared.entry.Entry.{Entry}
 use Rattle.causal_protocol.specs.Naming.{message_name}
 use Rattle.causal_world.specs.World.{Packet}
 use Rattle.causal_node.specs.NodeStates.{NodeState, Recovery, RoundState, floor_of}
-use Rattle.causal_node.specs.NodeRecovery.{restart_fault, begin_fault, after_stored, after_restart_at, with_recovery, map_round, without_awaited, after_number, after_not_up}
-use Rattle.causal_node.specs.NodeAnswers.{after_answer, after_answer_at, knows_number}
-use Rattle.causal_nodes.specs.Node.{Node, DownNode, up_node, down_node, number_of}
+use Rattle.causal_node.specs.NodeRecovery.{node_restart_fault, begin_fault, node_after_stored, after_restart_at, with_recovery, map_round, without_awaited, after_number, after_not_up}
+use Rattle.causal_node.specs.NodeAnswers.{node_after_answer, after_answer_at, knows_number}
+use Rattle.causal_nodes.specs.Node.{Node, DownNode, up_node, down_node, lane_or_next}
 use Rattle.causal_nodes.specs.Packets.{Sent, WasSent, message_packet, acknowledgement_packet, write_packet, question_packet, answer_packet, not_up_packet, read_packet, number_packet}
 use Rattle.causal_nodes.specs.NodeSteps.{tell_row}
 use Rattle.causal_calls.specs.Views.{numbers, up_view, RepresentsAt, Represents, IsDownView, IsNodeState}
-use Rattle.causal_calls.specs.Parcels.{next_message, acknowledgement_of, log_packet, write_of}
+use Rattle.causal_calls.specs.Parcels.{next_message_packet, acknowledgement_of, log_packet, write_of}
 use Rattle.causal_calls.specs.Calls.{send, deliver, acknowledge, learn, forget, write, stored, answer_log, answer_not_up, answer_number, begin_round, take_log, take_not_up, take_other_number, take_number, ask_storage, take_stored, finish_read, restart, open_again}
 use Rattle.causal_calls.specs.StepLaws.{NamesProcesses, IsStepOf, IsNoStep, CallsAreSteps, CallsKeepNodeStates}
 use Rattle.causal_calls.proofs.Lemmas.LogChanges.{acknowledged_holders}
@@ -29,7 +29,7 @@ begun_or_not : (o : Recovery) → begin_fault o ≡ None → (round : Option Rou
 begun_or_not None h = absurd (some_none _ h)
 begun_or_not (Some round) h = (round, refl)
 
-has_round : (o : Recovery) → restart_fault o ≡ None → (r : RoundState) × (o ≡ Some (Some r))
+has_round : (o : Recovery) → node_restart_fault o ≡ None → (r : RoundState) × (o ≡ Some (Some r))
 has_round None h = absurd (some_none _ h)
 has_round (Some None) h = absurd (some_none _ h)
 has_round (Some (Some r)) h = (r, refl)
@@ -48,9 +48,9 @@ module _ (position : ℕ) (s : NodeState) (k : IsNodeState s) (node : Node) (rep
       subst (λ y. Goal y) (sym is.1) (each is.0 is.2)
 
 -- each process sends its number
-number_is : (s : NodeState) (node : Node) (o : Recovery) → RepresentsAt s o node → number_of node ≡ s.lane
-number_is s node None rep = ap number_of rep
-number_is s node (Some round) rep = ap number_of rep.1 ∙ sym rep.2.lane
+number_is : (s : NodeState) (node : Node) (o : Recovery) → RepresentsAt s o node → lane_or_next node ≡ s.lane
+number_is s node None rep = ap lane_or_next rep
+number_is s node (Some round) rep = ap lane_or_next rep.1 ∙ sym rep.2.lane
 
 pub calls_are_steps : CallsAreSteps
 calls_are_steps position old new taken emitted entries node (send to body legal) k single rep =
@@ -77,7 +77,7 @@ calls_are_steps position old new taken emitted entries node (answer_not_up asker
     let down = (replies_not_up (knows_number old view) old.recovery reply).1 in
     if_down position old k node rep taken new emitted entries down.0 down.1 (λ x is. inl (says_not_up position old k down.0 down.1 x is asker name view legal reply))
 calls_are_steps position old new taken emitted entries node (answer_number asker view legal reply) k single rep =
-    let same : old ≡ after_answer old view = λ i. if sym (replies_number (knows_number old view) old.recovery reply) i then after_answer_at old view old.recovery else old in
+    let same : old ≡ node_after_answer old view = λ i. if sym (replies_number (knows_number old view) old.recovery reply) i then after_answer_at old view old.recovery else old in
     subst (λ (t : NodeState). IsStepOf position old node None t (number_packet old.identity.me.0 old.lane ∷ []) [] ⊎ IsNoStep node t (number_packet old.identity.me.0 old.lane ∷ []) []) same
     (inl (subst (λ (m : ℕ). IsStepOf position old node None old (number_packet old.identity.me.0 m ∷ []) []) (number_is old node old.recovery rep) (record { next = node; step = tell_row node; represents = rep })))
 calls_are_steps position old new taken emitted entries node (begin_round name legal) k single rep =
@@ -136,7 +136,7 @@ calls_keep position old new taken emitted entries (send to body legal) k names =
     let of_log = message_of_log position old k up to in (
       record { process = k.process; floors = k.floors; own_floor = k.own_floor; holders = k.holders; own = k.own; received = k.received; recovery = k.recovery },
       refl,
-      names_one old.identity.processes (message_packet (message_name old.identity.me (length old.memory.sent)) (next_message position old to)) (λ p is. names_packet old k (next_message position old to) p is (λ d q h. k.holders d q (of_log.known_holders d q h).0)),
+      names_one old.identity.processes (message_packet (message_name old.identity.me (length old.memory.sent)) (next_message_packet position old to)) (λ p is. names_packet old k (next_message_packet position old to) p is (λ d q h. k.holders d q (of_log.known_holders d q h).0)),
     )
 calls_keep position old new taken emitted entries (deliver lane name at items ascending legal) k names = (Keeps.delivered old k lane name at items names, refl, names_nothing old.identity.processes)
 calls_keep position old new taken emitted entries (acknowledge to dets legal) k names =
@@ -145,7 +145,7 @@ calls_keep position old new taken emitted entries (learn lane from items legal) 
 calls_keep position old new taken emitted entries (forget legal) k names = (Keeps.forgot old k, refl, names_nothing old.identity.processes)
 calls_keep position old new taken emitted entries (write dets up logged) k names =
     (k, refl, names_one old.identity.processes (write_packet (write_of old dets)) (λ p is. names_packet old k (write_of old dets) p is (λ d q h. k.holders d q (and_parts _ _ h).1)))
-calls_keep position old new taken emitted entries (stored dets det up has) k names = (Keeps.marked_stable old k det up, subst (λ (o : Recovery). (after_stored old det o).identity ≡ old.identity) (sym up) refl, names_nothing old.identity.processes)
+calls_keep position old new taken emitted entries (stored dets det up has) k names = (Keeps.marked_stable old k det up, subst (λ (o : Recovery). (node_after_stored old det o).identity ≡ old.identity) (sym up) refl, names_nothing old.identity.processes)
 calls_keep position old new taken emitted entries (answer_log asker name view legal reply) k names =
     (Keeps.answered old k asker view legal, same_identity old view (knows_number old view) old.recovery, names_one old.identity.processes (answer_packet name (log_packet old.identity.me.0 old.lane asker.0 old.memory.log)) (λ p is. names_packet old k (log_packet old.identity.me.0 old.lane asker.0 old.memory.log) p is (names_log old k asker.0)))
 calls_keep position old new taken emitted entries (answer_not_up asker name view legal reply) k names =
@@ -167,7 +167,7 @@ calls_keep position old new taken emitted entries (take_number name q number leg
     (Keeps.number_taken old k r.0 r.1 q number r.3, refl, names_nothing old.identity.processes)
 calls_keep position old new taken emitted entries (ask_storage r gathers legal) k names = (k, refl, names_one old.identity.processes (read_packet old.identity.me.0 r.name (numbers old.floors)) (λ p is. absurd is))
 calls_keep position old new taken emitted entries (take_stored r dets det gathers legal has) k names =
-    (Keeps.stored_taken old k r gathers det, subst (λ (o : Recovery). (after_stored old det o).identity ≡ old.identity) (sym gathers) refl, names_nothing old.identity.processes)
+    (Keeps.stored_taken old k r gathers det, subst (λ (o : Recovery). (node_after_stored old det o).identity ≡ old.identity) (sym gathers) refl, names_nothing old.identity.processes)
 calls_keep position old new taken emitted entries (finish_read r dets gathers legal all) k names = (Keeps.read_finished old k r gathers, refl, names_nothing old.identity.processes)
 calls_keep position old new taken emitted entries (restart reserved legal) k names =
     let r = has_round old.recovery legal in

@@ -22,22 +22,22 @@ use Rattle.causal_memory.proofs.Lemmas.ListInsert.{with_ascending}
 use Rattle.causal_protocol.specs.Naming.{message_name, with_own}
 use Rattle.causal_protocol.specs.Steps.{forget_entries}
 use Rattle.causal_protocol.specs.MemoryQueries.{has_entry, log_knows_holder, log_knows_stable, has_item}
-use Rattle.causal_node.specs.declared.node_answer.Reply.{Reply}
-use Rattle.causal_node.specs.declared.node_answer.Reply.TheVariants as Replies
+use Rattle.causal_node.specs.declared.node_answer.RoundReply.{RoundReply}
+use Rattle.causal_node.specs.declared.node_answer.RoundReply.TheVariants as Replies
 use Rattle.causal_node.specs.NodeStates.{NodeState, Recovery, RoundState, floor_of}
-use Rattle.causal_node.specs.NodeRefusals.{send_fault, deliver_fault}
-use Rattle.causal_node.specs.NodeSteps.{after_send, after_delivery}
-use Rattle.causal_node.specs.NodeRecovery.{after_stored}
+use Rattle.causal_node.specs.NodeRefusals.{node_send_fault, deliver_fault}
+use Rattle.causal_node.specs.NodeSteps.{node_after_send, node_after_delivery}
+use Rattle.causal_node.specs.NodeRecovery.{node_after_stored}
 use Rattle.causal_node.specs.NodeAcknowledgements.{learn_fault, after_acknowledgement}
-use Rattle.causal_node.specs.NodeForgetting.{next_slot, after_forget}
-use Rattle.causal_node.specs.NodeAnswers.{answer_fault, after_answer, after_answer_at, knows_number, raised, with_floors, reply_of, reply_at}
+use Rattle.causal_node.specs.NodeForgetting.{next_slot, node_after_forget}
+use Rattle.causal_node.specs.NodeAnswers.{answer_fault, node_after_answer, after_answer_at, knows_number, raised, with_floors, round_reply, reply_at}
 use Rattle.causal_nodes.specs.Node.{Node, up_node}
 use Rattle.causal_nodes.specs.Packets.{message_packet, acknowledgement_packet, write_packet, written_packet, question_packet, answer_packet}
 use Rattle.causal_nodes.specs.NodeSteps.{NodeStep, send_row, deliver_row, acknowledge_row, learn_row, write_row, mark_row, forget_row, answer_row, IsOfNodeLog, with_one_sent, with_log, log_after_acknowledgement, log_after_mark, log_without}
 use Rattle.causal_nodes.specs.NodeSteps as theory
 use Rattle.causal_calls.specs.Views.{numbers, up_view, RepresentsAt, Represents, IsNodeState, log_view}
-use Rattle.causal_calls.specs.Parcels.{message_with, next_message, acknowledgement_with, acknowledged_items, acknowledgement_of, log_packet, write_of}
-use Rattle.causal_calls.specs.StepLaws.{HasSingleSlots, IsStepOf, IsNoStep}
+use Rattle.causal_calls.specs.Parcels.{message_with, next_message_packet, acknowledgement_with, acknowledged_items, acknowledgement_of, log_packet, write_of}
+use Rattle.causal_calls.specs.StepLaws.{HasLogSingleSlots, IsStepOf, IsNoStep}
 use Rattle.causal_calls.proofs.Lemmas.LogViews.{entry_of_holder, own_have, items_have, delivered, marked}
 use Rattle.causal_calls.proofs.Lemmas.LogChanges.{learned, acknowledged_dets, acknowledged_holders, forgotten, forgotten_ascends, forgotten_stable, forgotten_made}
 use Rattle.causal_calls.proofs.Lemmas.Refusals.{below_from, not_below, from_not, or_else_none, unless_up_none}
@@ -45,12 +45,12 @@ use Rattle.causal_calls.proofs.Lemmas.Numbers.{raised_numbers}
 use Rattle.causal_calls.proofs.Names.{named_only}
 
 -- which reply is given
-abbrev is_log : Reply → Bool
+abbrev is_log : RoundReply → Bool
 is_log Replies.Log = true
 is_log Replies.OwnNumber = false
 is_log Replies.NotUp = false
 
-abbrev is_not_up : Reply → Bool
+abbrev is_not_up : RoundReply → Bool
 is_not_up Replies.Log = false
 is_not_up Replies.OwnNumber = false
 is_not_up Replies.NotUp = true
@@ -65,7 +65,7 @@ replies_not_up true None h = absurd (false≢true (ap is_not_up h))
 replies_not_up true (Some r) h = (refl, (r, refl))
 replies_not_up false o h = absurd (false≢true (ap is_not_up h))
 
-abbrev is_number : Reply → Bool
+abbrev is_number : RoundReply → Bool
 is_number Replies.Log = false
 is_number Replies.OwnNumber = true
 is_number Replies.NotUp = false
@@ -102,7 +102,7 @@ module _ (position : ℕ) (s : NodeState) (k : IsNodeState s) (up : s.recovery �
     abbrev items : List Item
     items = batch_items s.identity.faults log
 
-    pub message_of_log : IsOfNodeLog me.0 (up_view s) (next_message position s to)
+    pub message_of_log : IsOfNodeLog me.0 (up_view s) (next_message_packet position s to)
     message_of_log = record {
       from = refl;
       lane = refl;
@@ -130,30 +130,30 @@ module _ (position : ℕ) (s : NodeState) (k : IsNodeState s) (up : s.recovery �
           | inr many ↦ inr (subst (λ m. s.identity.faults < m) (ap (λ (x : Known). set.len x.holders) (sym known_is) ∙ len_counted s.identity.processes (known_of log d).holders (λ q h. k.holders d q h)) many)
         ])
 
-    pub sends : (body : List ℕ) → send_fault s to ≡ None
-        → IsStepOf position s here None (after_send s to body) (message_packet (message_name me (length s.memory.sent)) (next_message position s to) ∷ []) (Send me to (length s.memory.sent) ∷ [])
+    pub sends : (body : List ℕ) → node_send_fault s to ≡ None
+        → IsStepOf position s here None (node_after_send s to body) (message_packet (message_name me (length s.memory.sent)) (next_message_packet position s to) ∷ []) (Send me to (length s.memory.sent) ∷ [])
     sends body legal =
         let low = below_from to.0 s.identity.processes (or_else_none _ _ _ (unless_up_none _ _ legal).1).0 in
         record {
           next = up_node (with_one_sent (up_view s));
-          step = send_row (up_view s) to (next_message position s to) low message_of_log refl refl (λ d has. left d has _ refl);
-          represents = as_up (after_send s to body) _ refl (λ i. up_node (record { lane = s.lane; log = log_view log; floors = numbers s.floors; sent = sym (length-append s.memory.sent (record { to = to; send = length s.memory.sent; batch = items } ∷ [])) i; received = s.memory.received }));
+          step = send_row (up_view s) to (next_message_packet position s to) low message_of_log refl refl (λ d has. left d has _ refl);
+          represents = as_up (node_after_send s to body) _ refl (λ i. up_node (record { lane = s.lane; log = log_view log; floors = numbers s.floors; sent = sym (length-append s.memory.sent (record { to = to; send = length s.memory.sent; batch = items } ∷ [])) i; received = s.memory.received }));
         }
 
-  pub delivers : (lane : ℕ) (name : MsgName) (at : ℕ) (items : List Item) → is_ascending (dets_of items) ≡ true → deliver_fault s lane name items ≡ None → HasSingleSlots log
-      → IsStepOf position s here (Some (message_packet name (message_with lane me at name items))) (after_delivery s name items) [] (Deliver me at (length s.memory.received) (with_own (det_from me (length s.memory.received) name) (dets_of items)) ∷ [])
+  pub delivers : (lane : ℕ) (name : MsgName) (at : ℕ) (items : List Item) → is_ascending (dets_of items) ≡ true → deliver_fault s lane name items ≡ None → HasLogSingleSlots log
+      → IsStepOf position s here (Some (message_packet name (message_with lane me at name items))) (node_after_delivery s name items) [] (Deliver me at (length s.memory.received) (with_own (det_from me (length s.memory.received) name) (dets_of items)) ∷ [])
   delivers lane name at items ascending legal single =
       let own = det_from me (length s.memory.received) name in
       let process = or_else_none _ _ _ (unless_up_none _ _ legal).1 in
       let floor = or_else_none _ _ _ process.1 in
       let once = or_else_none _ _ _ floor.1 in
       record {
-        next = up_node (theory.after_delivery me.0 name (with_own own (dets_of items)) (message_with lane me at name items).parcel (up_view s));
+        next = up_node (theory.up_after_delivery me.0 name (with_own own (dets_of items)) (message_with lane me at name items).parcel (up_view s));
         step = deliver_row (up_view s) name (message_with lane me at name items) at (with_own own (dets_of items)) (with_ascending own (dets_of items) ascending) refl
             (not_below lane (floor_of s.floors name.source) floor.0) refl (sym (k.received name) ∙ once.0)
             (λ d has mine slot. named_only me s.memory name single d has mine slot _ _ once.1)
             (λ d. own_have own (dets_of items) d ∙ ap (λ b. same_det d own || b) (items_have items d));
-        represents = as_up (after_delivery s name items) _ refl (λ i. up_node (record { lane = s.lane; log = sym (delivered items own log at) i; floors = numbers s.floors; sent = length s.memory.sent; received = s.memory.received ++ name ∷ [] }));
+        represents = as_up (node_after_delivery s name items) _ refl (λ i. up_node (record { lane = s.lane; log = sym (delivered items own log at) i; floors = numbers s.floors; sent = length s.memory.sent; received = s.memory.received ++ name ∷ [] }));
       }
 
   pub writes : (dets : List Det) → ((d : Det) → list_has dets d ≡ true → has_entry d log ≡ true)
@@ -172,22 +172,22 @@ module _ (position : ℕ) (s : NodeState) (k : IsNodeState s) (up : s.recovery �
   }
 
   pub marks : (dets : Det → Bool) (det : Det) → dets det ≡ true
-      → IsStepOf position s here (Some (written_packet dets)) (after_stored s det s.recovery) [] (Stable det ∷ [])
-  marks dets det has = subst (λ (o : Recovery). IsStepOf position s here (Some (written_packet dets)) (after_stored s det o) [] (Stable det ∷ [])) (sym up) (record {
+      → IsStepOf position s here (Some (written_packet dets)) (node_after_stored s det s.recovery) [] (Stable det ∷ [])
+  marks dets det has = subst (λ (o : Recovery). IsStepOf position s here (Some (written_packet dets)) (node_after_stored s det o) [] (Stable det ∷ [])) (sym up) (record {
     next = up_node (with_log (up_view s) (log_after_mark det (log_view log)));
     step = mark_row (up_view s) dets det has;
-    represents = as_up (after_stored s det None) _ refl (λ i. up_node (record { lane = s.lane; log = sym (marked log det) i; floors = numbers s.floors; sent = length s.memory.sent; received = s.memory.received }));
+    represents = as_up (node_after_stored s det None) _ refl (λ i. up_node (record { lane = s.lane; log = sym (marked log det) i; floors = numbers s.floors; sent = length s.memory.sent; received = s.memory.received }));
   })
 
   -- the whole log
   log_of_node : (to : ℕ) → IsOfNodeLog me.0 (up_view s) (log_packet me.0 s.lane to log)
   log_of_node to = record { from = refl; lane = refl; logged = λ d h. h; known_holders = λ d q h. (h, entry_of_holder log d q h); known_stable = λ d h. h; names_sender = k.own }
 
-  answered : (view : List ℕ) → knows_number s view ≡ true → after_answer s view ≡ with_floors s (raised s.floors view)
+  answered : (view : List ℕ) → knows_number s view ≡ true → node_after_answer s view ≡ with_floors s (raised s.floors view)
   answered view knows = λ i. if knows i then after_answer_at s view (up i) else s
 
-  pub answers : (asker : Pid) (name : ℕ) (view : List ℕ) → answer_fault s asker view ≡ None → reply_of s view ≡ Replies.Log
-      → IsStepOf position s here (Some (question_packet asker.0 name (numbers view))) (after_answer s view) (answer_packet name (log_packet me.0 s.lane asker.0 log) ∷ []) []
+  pub answers : (asker : Pid) (name : ℕ) (view : List ℕ) → answer_fault s asker view ≡ None → round_reply s view ≡ Replies.Log
+      → IsStepOf position s here (Some (question_packet asker.0 name (numbers view))) (node_after_answer s view) (answer_packet name (log_packet me.0 s.lane asker.0 log) ∷ []) []
   answers asker name view legal reply =
       let knows = (replies_log (knows_number s view) s.recovery reply).0 in
       let size : length view ≡ s.identity.processes = eqb-true _ _ (from_not _ (or_else_none _ _ _ (or_else_none _ _ _ legal).1).0) in
@@ -231,14 +231,14 @@ module _ (position : ℕ) (s : NodeState) (k : IsNodeState s) (up : s.recovery �
       }
 
   -- a forgetting of nothing is no step
-  pub forgets : IsStepOf position s here None (after_forget s) [] (forget_entries me (forgotten_in (next_slot s) log)) ⊎ IsNoStep here (after_forget s) [] (forget_entries me (forgotten_in (next_slot s) log))
+  pub forgets : IsStepOf position s here None (node_after_forget s) [] (forget_entries me (forgotten_in (next_slot s) log)) ⊎ IsNoStep here (node_after_forget s) [] (forget_entries me (forgotten_in (next_slot s) log))
   forgets = by (forgotten_in (next_slot s) log) refl
     where
-      represented : (listed : List Det) → forgotten_in (next_slot s) log ≡ listed → Represents (after_forget s) (up_node (with_log (up_view s) (log_without listed (log_view log))))
-      represented listed is = as_up (after_forget s) _ refl (λ i. up_node (record { lane = s.lane; log = (ap (λ ds. log_without ds (log_view log)) (sym is) ∙ sym (forgotten (next_slot s) log)) i; floors = numbers s.floors; sent = length s.memory.sent; received = s.memory.received }))
+      represented : (listed : List Det) → forgotten_in (next_slot s) log ≡ listed → Represents (node_after_forget s) (up_node (with_log (up_view s) (log_without listed (log_view log))))
+      represented listed is = as_up (node_after_forget s) _ refl (λ i. up_node (record { lane = s.lane; log = (ap (λ ds. log_without ds (log_view log)) (sym is) ∙ sym (forgotten (next_slot s) log)) i; floors = numbers s.floors; sent = length s.memory.sent; received = s.memory.received }))
 
       by : (listed : List Det) → forgotten_in (next_slot s) log ≡ listed
-          → IsStepOf position s here None (after_forget s) [] (forget_entries me listed) ⊎ IsNoStep here (after_forget s) [] (forget_entries me listed)
+          → IsStepOf position s here None (node_after_forget s) [] (forget_entries me listed) ⊎ IsNoStep here (node_after_forget s) [] (forget_entries me listed)
       by [] is = inr (record { silent = refl; unrecorded = refl; represents = represented [] is })
       by (d ∷ ds) is = inl (record {
         next = up_node (with_log (up_view s) (log_without (d ∷ ds) (log_view log)));

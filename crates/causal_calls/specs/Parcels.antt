@@ -54,5 +54,5 @@ write_of s dets = record {
 }
 
 -- the next message of a node, to this process; `position` is the number of entries so far, by all processes
-abbrev pub next_message : ℕ → NodeState → Pid → Packet
-next_message position s to = message_with s.lane to position (message_name s.identity.me (length s.memory.sent)) (batch_items s.identity.faults s.memory.log)
+abbrev pub next_message_packet : ℕ → NodeState → Pid → Packet
+next_message_packet position s to = message_with s.lane to position (message_name s.identity.me (length s.memory.sent)) (batch_items s.identity.faults s.memory.log)

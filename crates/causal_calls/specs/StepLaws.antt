@@ -14,8 +14,8 @@ use Rattle.causal_calls.specs.Views.{Represents, IsNodeState}
 use Rattle.causal_calls.specs.Calls.{NodeCall}
 
 -- no two determinants of a log share a slot
-abbrev pub HasSingleSlots : LogMap → Type 0
-HasSingleSlots log = (a b : Det) → has_entry a log ≡ true → has_entry b log ≡ true → a.dest ≡ b.dest → a.rsn ≡ b.rsn → a ≡ b
+abbrev pub HasLogSingleSlots : LogMap → Type 0
+HasLogSingleSlots log = (a b : Det) → has_entry a log ≡ true → has_entry b log ≡ true → a.dest ≡ b.dest → a.rsn ≡ b.rsn → a ≡ b
 
 -- what is sent names only processes as holders
 abbrev pub NamesProcesses : ℕ → Sent → Type 0
@@ -39,7 +39,7 @@ pub record IsNoStep (node : Node) (new : NodeState) (emitted : List Sent) (entri
 
 abbrev pub CallsAreSteps : Type 0
 CallsAreSteps = (position : ℕ) (old new : NodeState) (taken : Option Sent) (emitted : List Sent) (entries : List Entry) (node : Node) → NodeCall position old taken new emitted entries
-    → IsNodeState old → (old.recovery ≡ None → HasSingleSlots old.memory.log) → Represents old node
+    → IsNodeState old → (old.recovery ≡ None → HasLogSingleSlots old.memory.log) → Represents old node
     → IsStepOf position old node taken new emitted entries ⊎ IsNoStep node new emitted entries
 
 -- a call keeps what is true of each state of a node, and what it sends names only processes

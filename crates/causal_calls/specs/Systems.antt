@@ -6,7 +6,7 @@ use Rattle.causal_name.specs.Sets.{count_below}
 use Rattle.causal_trace.specs.declared.entry.Entry.{Entry}
 use Rattle.causal_trace.specs.declared.entry.Entry.TheVariants.{Crash}
 use Rattle.causal_trace.specs.Judgement.{IsSafeTrace}
-use Rattle.causal_rounds.specs.Rounds.{set_at}
+use Rattle.causal_rounds.specs.Rounds.{with_value_at}
 use Rattle.causal_protocol.specs.MemoryQueries.{has_entry}
 use Rattle.causal_world.specs.World.{Packet}
 use Rattle.causal_node.specs.declared.node.Identity.{Identity}
@@ -40,10 +40,10 @@ pub data SystemEvent (n f : ℕ) (w : System) : System → Type 0 where
       → WasTaken w.sent taken
       → NodeCall (length w.past) (w.nodes me.0) taken node emitted entries
       → ((new : Sent) → WasSent emitted new → HasFreshName w.sent new)
-      → SystemEvent n f w (record { past = entries ++ w.past; nodes = set_at w.nodes me.0 node; sent = emitted ++ w.sent; stored = w.stored; floors = w.floors })
+      → SystemEvent n f w (record { past = entries ++ w.past; nodes = with_value_at w.nodes me.0 node; sent = emitted ++ w.sent; stored = w.stored; floors = w.floors })
   crash_event : (who : Pid) → who.0 < n → (w.nodes who.0).recovery ≡ None
       → count_below n (λ q. is_recovering (w.nodes q)) < f
-      → SystemEvent n f w (record { past = Crash who ∷ w.past; nodes = set_at w.nodes who.0 (opened (w.nodes who.0).identity ((w.nodes who.0).lane + 1)); sent = w.sent; stored = w.stored; floors = w.floors })
+      → SystemEvent n f w (record { past = Crash who ∷ w.past; nodes = with_value_at w.nodes who.0 (opened (w.nodes who.0).identity ((w.nodes who.0).lane + 1)); sent = w.sent; stored = w.stored; floors = w.floors })
   store_event : (p : Packet) → WasSent w.sent (write_packet p) → w.floors p.parcel.from ≤ p.lane
       → SystemEvent n f w (record { past = w.past; nodes = w.nodes; sent = written_packet p.parcel.carries ∷ w.sent; stored = λ d. w.stored d || p.parcel.carries d; floors = w.floors })
   read_event : (s name : ℕ) (view : ℕ → ℕ) → WasSent w.sent (read_packet s name view)

@@ -6,8 +6,8 @@ use Rattle.std.proofs.Math.Seq.{get_or-append_seam, take-append_seam}
 use Rattle.std.proofs.lemmas.List.{take-append-le}
 use Rattle.std.proofs.lemmas.List.Sums.{sum_by-append}
 use Rattle.causal_clock.specs.declared.Event.{Event}
-use Rattle.causal_clock.specs.Timeline.{lane_of, send_of, lane_length, place_of}
-use Rattle.causal_clock.specs.Precedence.{DirectlyPrecedes, Reaches, itself, onward, FirstReach}
+use Rattle.causal_clock.specs.Timeline.{lane_of, send_of, lane_length, lane_place}
+use Rattle.causal_clock.specs.Precedence.{DirectlyPrecedes, Precedes, itself, onward, FirstReach}
 use Rattle.causal_clock.specs.Inside.EventCounts.{LastOf}
 
 -- ---- a list with one more event
@@ -35,12 +35,12 @@ length-more es e = length-append es (e ∷ [])
 -- ---- chains
 
 -- an event reaches only existing events, and none before it
-pub reaches_forward : {es : List Event} {i j : ℕ} → Reaches es i j → (i ≤ j) × (j < length es)
+pub reaches_forward : {es : List Event} {i j : ℕ} → Precedes es i j → (i ≤ j) × (j < length es)
 reaches_forward (itself h) = (omega arith, h)
 reaches_forward (onward c d) = let before = reaches_forward c in (omega (arith, d.earlier), d.within)
 
 -- reachability is transitive
-pub reaches_through : {es : List Event} {i j k : ℕ} → Reaches es i j → Reaches es j k → Reaches es i k
+pub reaches_through : {es : List Event} {i j k : ℕ} → Precedes es i j → Precedes es j k → Precedes es i k
 reaches_through c (itself h) = c
 reaches_through c (onward b d) = onward (reaches_through c b) d
 
@@ -51,18 +51,18 @@ pub precedes_back : (es : List Event) (e : Event) (i j : ℕ) → j < length es 
 precedes_back es e i j h d = grind (arith, lane_of-old, send_of-old)
 
 -- one more event keeps each chain
-pub reaches_old : {es : List Event} (e : Event) {i j : ℕ} → Reaches es i j → Reaches (es ++ e ∷ []) i j
+pub reaches_old : {es : List Event} (e : Event) {i j : ℕ} → Precedes es i j → Precedes (es ++ e ∷ []) i j
 reaches_old {es} e (itself h) = itself (omega (arith, length-more es e))
 reaches_old {es} e (onward {j = j} {k = k} c d) = onward (reaches_old e c) (precedes_old es e j k d)
 
 -- what reaches an older event reached it before the newest event was added
-pub reaches_back : (es : List Event) (e : Event) {i j : ℕ} → j < length es → Reaches (es ++ e ∷ []) i j → Reaches es i j
+pub reaches_back : (es : List Event) (e : Event) {i j : ℕ} → j < length es → Precedes (es ++ e ∷ []) i j → Precedes es i j
 reaches_back es e below (itself h) = itself below
 reaches_back es e below (onward {j = j} {k = k} c d) =
     onward (reaches_back es e (omega (arith, d.earlier)) c) (precedes_back es e j k below d)
 
 -- a chain to the newest event is that event alone, or a chain to one that directly precedes it
-pub reaches_new : (es : List Event) (e : Event) {i k : ℕ} → k ≡ length es → Reaches (es ++ e ∷ []) i k → (i ≡ k) ⊎ ((j : ℕ) × Reaches es i j × ((lane_of es j ≡ e.lane) ⊎ (e.send ≡ Some j)))
+pub reaches_new : (es : List Event) (e : Event) {i k : ℕ} → k ≡ length es → Precedes (es ++ e ∷ []) i k → (i ≡ k) ⊎ ((j : ℕ) × Precedes es i j × ((lane_of es j ≡ e.lane) ⊎ (e.send ≡ Some j)))
 reaches_new es e is (itself h) = inl refl
 reaches_new es e is (onward {j = j} {k = k} c d) = grind (arith, reaches_back, lane_of-old, lane_of-new, send_of-new)
 
@@ -73,12 +73,12 @@ pub lane_length-more : (es : List Event) (e : Event) (lane : ℕ) → lane_lengt
 lane_length-more es e lane = sum_by-append _ es (e ∷ []) ∙ omega arith
 
 -- the place of an older event in its lane is unchanged
-pub place_of-old : (es : List Event) (e : Event) (i : ℕ) → i < length es → place_of (es ++ e ∷ []) i ≡ place_of es i
-place_of-old es e i h = grind (arith, take-append-le, lane_of-old)
+pub lane_place-old : (es : List Event) (e : Event) (i : ℕ) → i < length es → lane_place (es ++ e ∷ []) i ≡ lane_place es i
+lane_place-old es e i h = grind (arith, take-append-le, lane_of-old)
 
 -- the newest event's place is the number of events that its lane had
-pub place_of-new : (es : List Event) (e : Event) (i : ℕ) → i ≡ length es → place_of (es ++ e ∷ []) i ≡ lane_length es e.lane
-place_of-new es e i is = ap (place_of (es ++ e ∷ [])) is ∙ (λ k. lane_length (take-append_seam es (e ∷ []) k) (lane_of-new es e k))
+pub lane_place-new : (es : List Event) (e : Event) (i : ℕ) → i ≡ length es → lane_place (es ++ e ∷ []) i ≡ lane_length es e.lane
+lane_place-new es e i is = ap (lane_place (es ++ e ∷ [])) is ∙ (λ k. lane_length (take-append_seam es (e ∷ []) k) (lane_of-new es e k))
 
 -- the lane at the newest index is the newest event's
 pub lane_of-at_new : (es : List Event) (e : Event) (i : ℕ) → i ≡ length es → lane_of (es ++ e ∷ []) i ≡ e.lane
@@ -105,10 +105,10 @@ first_old es e j lane n below f = record {
   first = λ i lt of_lane. elim (old_or_new es e i lt) [
     | inl old ↦
         let is = f.first i old (sym (lane_of-old es e i old) ∙ of_lane) in
-        let same = place_of-old es e i old in
+        let same = lane_place-old es e i old in
         (λ c. rw same (is.0 (reaches_back es e below c)), λ p. reaches_old e (is.1 (rw same at p)))
     | inr new ↦
-        let place : place_of (es ++ e ∷ []) i ≡ lane_length es lane = place_of-new es e i new ∙ ap (lane_length es) (sym (lane_of-at_new es e i new) ∙ of_lane) in
+        let place : lane_place (es ++ e ∷ []) i ≡ lane_length es lane = lane_place-new es e i new ∙ ap (lane_length es) (sym (lane_of-at_new es e i new) ∙ of_lane) in
         (λ c. absurd (omega (arith, (reaches_forward c).0)), λ p. absurd (omega (arith, p, f.no_more, place)))
   ];
 }
@@ -120,9 +120,9 @@ pub record FirstReachSome (es : List Event) (event : Option ℕ) (lane n : ℕ) 
   -- the lane has n events or more
   pub no_more : n ≤ lane_length es lane
   -- there is an event, and the first n reach it
-  pub back : (i : ℕ) → i < length es → lane_of es i ≡ lane → place_of es i < n → (j : ℕ) × (event ≡ Some j) × Reaches es i j
+  pub back : (i : ℕ) → i < length es → lane_of es i ≡ lane → lane_place es i < n → (j : ℕ) × (event ≡ Some j) × Precedes es i j
   -- only the first n reach it
-  pub forth : (i j : ℕ) → i < length es → lane_of es i ≡ lane → event ≡ Some j → Reaches es i j → place_of es i < n
+  pub forth : (i j : ℕ) → i < length es → lane_of es i ≡ lane → event ≡ Some j → Precedes es i j → lane_place es i < n
 
 -- an older event of the newest event's lane directly precedes it
 pub by_lane : (es : List Event) (e : Event) (p : ℕ) → p < length es → lane_of es p ≡ e.lane → DirectlyPrecedes (es ++ e ∷ []) p (length es)
@@ -133,7 +133,7 @@ pub by_send : (es : List Event) (e : Event) (s : ℕ) → s < length es → e.se
 by_send es e s lt sent = record { earlier = lt; within = omega (arith, length-more es e); because = inr (send_of-new es e ∙ sent) }
 
 module _ (es : List Event) (e : Event) (previous : Option ℕ) (last : LastOf es previous e.lane) (from_previous from_send lane : ℕ) (along : FirstReachSome es previous lane from_previous) (across : FirstReachSome es e.send lane from_send) where
-  reaches_it : (i : ℕ) → i < length es → lane_of es i ≡ lane → (place_of es i < from_previous) ⊎ (place_of es i < from_send) → Reaches (es ++ e ∷ []) i (length es)
+  reaches_it : (i : ℕ) → i < length es → lane_of es i ≡ lane → (lane_place es i < from_previous) ⊎ (lane_place es i < from_send) → Precedes (es ++ e ∷ []) i (length es)
   reaches_it i lt of_lane h =
       elim h [
         | inl p ↦
@@ -145,12 +145,12 @@ module _ (es : List Event) (e : Event) (previous : Option ℕ) (last : LastOf es
             onward (reaches_old e b.2) (by_send es e b.0 (reaches_forward b.2).1 b.1)
       ]
 
-  counted : (i : ℕ) → i < length es → lane_of es i ≡ lane → Reaches (es ++ e ∷ []) i (length es) → place_of es i < max from_previous from_send
+  counted : (i : ℕ) → i < length es → lane_of es i ≡ lane → Precedes (es ++ e ∷ []) i (length es) → lane_place es i < max from_previous from_send
   counted i lt of_lane c = grind (arith, reaches_new, reaches_forward, reaches_through)
 
   -- for another lane: the greater of the two counts
   pub first_new_other : lane ≢ e.lane → FirstReach (es ++ e ∷ []) (length es) lane (max from_previous from_send)
-  first_new_other other = grind (arith, lane_length-more es e lane, old_or_new, place_of-old, lane_of-old, counted, reaches_it, lane_of-at_new)
+  first_new_other other = grind (arith, lane_length-more es e lane, old_or_new, lane_place-old, lane_of-old, counted, reaches_it, lane_of-at_new)
 
   -- for the event's lane: one more
   pub first_new_own : lane ≡ e.lane → lane_length es lane ≤ from_previous → FirstReach (es ++ e ∷ []) (length es) lane (max from_previous from_send + 1)
@@ -158,14 +158,14 @@ module _ (es : List Event) (e : Event) (previous : Option ℕ) (last : LastOf es
     no_more = omega (arith, along.no_more, across.no_more, lane_length-more es e lane, one_at_same e.lane lane (sym own));
     first = λ i lt of_lane. elim (old_or_new es e i lt) [
       | inl old ↦
-          let same = place_of-old es e i old in
+          let same = lane_place-old es e i old in
           let lane_is = sym (lane_of-old es e i old) ∙ of_lane in
           let up = last.reached i old (lane_is ∙ own) in
           let at = last.inside up.0 up.1 in
           let place = along.forth i up.0 old lane_is up.1 up.2 in
           (λ c. rw same (omega (arith, place)), λ p. onward (reaches_old e up.2) (by_lane es e up.0 at.0 at.1))
       | inr new ↦
-          let place : place_of (es ++ e ∷ []) i ≡ lane_length es lane = place_of-new es e i new ∙ ap (lane_length es) (sym own) in
-          (λ c. omega (arith, place, full), λ p. subst (λ (x : ℕ). Reaches (es ++ e ∷ []) i x) new (itself lt))
+          let place : lane_place (es ++ e ∷ []) i ≡ lane_length es lane = lane_place-new es e i new ∙ ap (lane_length es) (sym own) in
+          (λ c. omega (arith, place, full), λ p. subst (λ (x : ℕ). Precedes (es ++ e ∷ []) i x) new (itself lt))
     ];
   }

@@ -7,26 +7,26 @@ use Rattle.std.proofs.Math.Seq.{get_or-append_seam}
 use Rattle.std.proofs.lemmas.Bool.Decides.{eqb_tells}
 use Rattle.causal_clock.specs.declared.Event.{Event}
 use Rattle.causal_clock.specs.declared.Rise.{Rise}
-use Rattle.causal_clock.specs.Timeline.{lane_of, lane_length, place_of}
+use Rattle.causal_clock.specs.Timeline.{lane_of, lane_length, lane_place}
 use Rattle.causal_clock.specs.Rises.{count_at}
 use Rattle.causal_clock.specs.Inside.Columns.{column_after, IsColumn}
 use Rattle.causal_clock.specs.Inside.EventCounts.{LastOf, count_or_none}
 use Rattle.causal_clock.specs.Inside.Fields.{counts_in, ColumnsAreRight}
-use Rattle.causal_clock.proofs.Chains.{lane_of-old, lane_of-at_new, lane_length-more, place_of-old, place_of-new, old_or_new, one_at_same, one_at_other}
+use Rattle.causal_clock.proofs.Chains.{lane_of-old, lane_of-at_new, lane_length-more, lane_place-old, lane_place-new, old_or_new, one_at_same, one_at_other}
 use Rattle.causal_clock.proofs.Columns.{count_of_none, settled, raised_before, raised_there, raised_column}
 use Rattle.causal_clock.proofs.Steps.{keeps_event}
 
 -- an event's count of its lane is its place plus one
-pub counts_own : (es : List Event) (column : ℕ → ℕ → List Rise) (j lane : ℕ) → lane_of es j ≡ lane → counts_in es column j lane ≡ place_of es j + 1
-counts_own es column j lane same = ap (λ b. if b then place_of es j + 1 else count_at (column (lane_of es j) lane) (place_of es j)) (eq-eqb (lane_of es j) lane same)
+pub counts_own : (es : List Event) (column : ℕ → ℕ → List Rise) (j lane : ℕ) → lane_of es j ≡ lane → counts_in es column j lane ≡ lane_place es j + 1
+counts_own es column j lane same = ap (λ b. if b then lane_place es j + 1 else count_at (column (lane_of es j) lane) (lane_place es j)) (eq-eqb (lane_of es j) lane same)
 
 -- an event's count of another lane is the column's count at its place
-pub counts_other : (es : List Event) (column : ℕ → ℕ → List Rise) (j lane source : ℕ) → lane_of es j ≡ lane → source ≢ lane → counts_in es column j source ≡ count_at (column lane source) (place_of es j)
+pub counts_other : (es : List Event) (column : ℕ → ℕ → List Rise) (j lane source : ℕ) → lane_of es j ≡ lane → source ≢ lane → counts_in es column j source ≡ count_at (column lane source) (lane_place es j)
 counts_other es column j lane source same other = grind arith
 
 module _ (es : List Event) (places lengths : List ℕ) (column : ℕ → ℕ → List Rise) (k : ColumnsAreRight es places lengths column) where
   -- an event's place is within its lane
-  in_lane : (j : ℕ) → j < length es → place_of es j < lane_length es (lane_of es j)
+  in_lane : (j : ℕ) → j < length es → lane_place es j < lane_length es (lane_of es j)
   in_lane j lt = omega (arith, k.keeps.own j lt, (k.keeps.reach j lt (lane_of es j)).no_more)
 
   -- the count of a lane's last event is the column's count at the next place
@@ -47,21 +47,21 @@ module _ (es : List Event) (places lengths : List ℕ) (column : ℕ → ℕ →
     old_count : (j : ℕ) → j < length es → (source : ℕ) → counts_in (es ++ e ∷ []) column' j source ≡ counts_in es column j source
     old_count j lt source =
         let lane = lane_of-old es e j lt in
-        let place = place_of-old es e j lt in
+        let place = lane_place-old es e j lt in
         elim (eqb_tells source (lane_of es j)) [
           | inl s ↦ counts_own (es ++ e ∷ []) column' j source (lane ∙ sym s.1) ∙ ap (λ n. n + 1) place ∙ sym (counts_own es column j source (sym s.1))
           | inr s ↦
               counts_other (es ++ e ∷ []) column' j (lane_of es j) source lane s.1
               ∙ ap (count_at (column' (lane_of es j) source)) place
-              ∙ at_old_place (lane_of es j) source (place_of es j) (in_lane j lt)
+              ∙ at_old_place (lane_of es j) source (lane_place es j) (in_lane j lt)
               ∙ sym (counts_other es column j (lane_of es j) source refl s.1)
         ]
 
     new_lane : lane_of (es ++ e ∷ []) (length es) ≡ e.lane
     new_lane = lane_of-at_new es e (length es) refl
 
-    new_place : place_of (es ++ e ∷ []) (length es) ≡ lane_length es e.lane
-    new_place = place_of-new es e (length es) refl
+    new_place : lane_place (es ++ e ∷ []) (length es) ≡ lane_length es e.lane
+    new_place = lane_place-new es e (length es) refl
 
     own_count : counts_in (es ++ e ∷ []) column' (length es) e.lane ≡ lane_length es e.lane + 1
     own_count = counts_own (es ++ e ∷ []) column' (length es) e.lane new_lane ∙ ap (λ n. n + 1) new_place
@@ -83,8 +83,8 @@ module _ (es : List Event) (places lengths : List ℕ) (column : ℕ → ℕ →
     next_columns : (lane source : ℕ) → IsColumn (column' lane source) (lane_length (es ++ e ∷ []) lane) (lane_length (es ++ e ∷ []) source)
     next_columns lane source = grind (arith, eqb_tells lane e.lane, risen_column source, longer lane, longer source)
 
-    next_places : length places ≡ length es → (j : ℕ) → j < length (es ++ e ∷ []) → get_or (places ++ lane_length es e.lane ∷ []) j 0 ≡ place_of (es ++ e ∷ []) j
-    next_places long j lt = grind (arith, old_or_new, get_or-append, place_of-old, get_or-append_seam places, place_of-new)
+    next_places : length places ≡ length es → (j : ℕ) → j < length (es ++ e ∷ []) → get_or (places ++ lane_length es e.lane ∷ []) j 0 ≡ lane_place (es ++ e ∷ []) j
+    next_places long j lt = grind (arith, old_or_new, get_or-append, lane_place-old, get_or-append_seam places, lane_place-new)
 
     next_lengths : (lane : ℕ) → lane < length (set lengths e.lane (lane_length es e.lane + 1)) → get_or (set lengths e.lane (lane_length es e.lane + 1)) lane 0 ≡ lane_length (es ++ e ∷ []) lane
     next_lengths lane lt =

@@ -8,7 +8,7 @@ use Rattle.std.proofs.lemmas.List.FromFn.{sum_by-map-range_with_len_more}
 use Rattle.std.proofs.lemmas.Bool.{false≢true}
 use Rattle.std.proofs.lemmas.Bool.Decides.{eqb_tells}
 use Rattle.causal_clock.specs.declared.Event.{Event}
-use Rattle.causal_clock.specs.Timeline.{lane_of, lane_length, place_of}
+use Rattle.causal_clock.specs.Timeline.{lane_of, lane_length, lane_place}
 use Rattle.causal_clock.specs.Precedence.{FirstReach, IsReachTest, count_in_lane}
 use Rattle.causal_clock.proofs.Chains.{lane_length-more}
 
@@ -30,7 +30,7 @@ other_next true t n x y e before = absurd (false≢true (sym e))
 other_next false t n x y e before = omega (arith, before)
 
 module _ (es : List Event) (j lane n : ℕ) (test : ℕ → Bool) (f : FirstReach es j lane n) (tells : IsReachTest es j test) where
-  of_lane : (m : ℕ) → m < length es → lane_of es m ≡ lane → (test m ≡ true) ↔ (place_of es m < n)
+  of_lane : (m : ℕ) → m < length es → lane_of es m ≡ lane → (test m ≡ true) ↔ (lane_place es m < n)
   of_lane m h same = (λ t. (f.first m h same).0 ((tells m h).0 t), λ lt. (tells m h).1 ((f.first m h same).1 lt))
 
   counted_below : (m : ℕ) → m ≤ length es → count_by (λ i. lane_of es i == lane && test i) (range_with_len 0 m) ≡ min n (lane_length (take m es) lane)
@@ -40,7 +40,7 @@ module _ (es : List Event) (j lane n : ℕ) (test : ℕ → Bool) (f : FirstReac
       let next = lane_length-next es m lane (omega (arith, h)) in
       count_more (λ i. lane_of es i == lane && test i) m
       ∙ elim (eqb_tells (lane_of es m) lane) [
-        | inl own ↦ own_next (lane_of es m == lane) true (test m) n (place_of es m) _ _ own.0 (of_lane m (omega (arith, h)) own.1) (ap (lane_length (take m es)) own.1) before
+        | inl own ↦ own_next (lane_of es m == lane) true (test m) n (lane_place es m) _ _ own.0 (of_lane m (omega (arith, h)) own.1) (ap (lane_length (take m es)) own.1) before
         | inr other ↦ other_next (lane_of es m == lane) (test m) n _ _ other.0 before
       ]
       ∙ ap (min n) (sym next)

@@ -4,7 +4,7 @@ use Rattle.std.proofs.Common.{arith, get_or}
 use Rattle.std.proofs.lemmas.List.Sums.{count_by-le-length}
 use Rattle.causal_clock.specs.declared.PlacedEvent.{PlacedEvent}
 use Rattle.causal_clock.specs.declared.Clocks.TheInside.{Inside}
-use Rattle.causal_clock.specs.Timeline.{lane_of, place_of}
+use Rattle.causal_clock.specs.Timeline.{lane_of, lane_place}
 use Rattle.causal_clock.specs.Inside.Fields.{events_of, IsClock}
 use Rattle.causal_clock.proofs.Fields.{lane_of_entry, place_of_entry}
 use Rattle.causal_clock.proofs.Lanes.{as_many}
@@ -16,7 +16,7 @@ pub record TellsEvent (a : Inside) (event : ℕ) (entry : PlacedEvent) : Type 0 
   -- its lane is the entry's
   pub lane : lane_of (events_of a) event ≡ entry.event.lane
   -- its place in the lane is the entry's
-  pub place : place_of (events_of a) event ≡ entry.place
+  pub place : lane_place (events_of a) event ≡ entry.place
   -- the clock has that lane
   pub there : entry.event.lane < length a.lanes.items
   -- the place is less than the number of events

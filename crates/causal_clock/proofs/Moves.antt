@@ -9,7 +9,7 @@ use Rattle.causal_clock.specs.declared.Event.{Event}
 use Rattle.causal_clock.specs.declared.PlacedEvent.{PlacedEvent}
 use Rattle.causal_clock.specs.declared.Rise.{Rise}
 use Rattle.causal_clock.specs.declared.lane.LaneColumns.{LaneColumns}
-use Rattle.causal_clock.specs.Timeline.{lane_of, lane_length, place_of}
+use Rattle.causal_clock.specs.Timeline.{lane_of, lane_length, lane_place}
 use Rattle.causal_clock.specs.Inside.Columns.{column_in, column_of, column_after, SameOrNoNews}
 use Rattle.causal_clock.specs.Inside.EventCounts.{count_or_none}
 use Rattle.causal_clock.specs.Inside.Lanes.{rises_in, SameColumns}
@@ -39,7 +39,7 @@ pub keeps_unchanged : (es : List Event) (places : List ℕ) (xs : List LaneColum
 keeps_unchanged es places xs l x y lt is events same k = grind (arith, told_same, set, columns_same)
 
 -- the count that an entry gives is the event's count
-pub told_in : (es : List Event) (column : ℕ → ℕ → List Rise) (send source : ℕ) (entry : PlacedEvent) (columns : List (List Rise)) → lane_of es send ≡ entry.event.lane → place_of es send ≡ entry.place → column entry.event.lane source ≡ column_in columns source → count_at_event columns entry source ≡ counts_in es column send source
+pub told_in : (es : List Event) (column : ℕ → ℕ → List Rise) (send source : ℕ) (entry : PlacedEvent) (columns : List (List Rise)) → lane_of es send ≡ entry.event.lane → lane_place es send ≡ entry.place → column entry.event.lane source ≡ column_in columns source → count_at_event columns entry source ≡ counts_in es column send source
 told_in es column send source entry columns lane place is = grind arith
 
 -- the counts that a receive gets for each lane; 0 for its lane

@@ -4,15 +4,15 @@ use Rattle.std.proofs.Common.{zero, suc, refl, arith, ap, sym, ◌∙◌, inl, i
 use Rattle.std.proofs.lemmas.Bool.Decides.{eqb_tells, leb_tells}
 use Rattle.std.proofs.lemmas.List.Sums.{sum_by-append}
 use Rattle.causal_clock.specs.declared.Event.{Event}
-use Rattle.causal_clock.specs.Timeline.{lane_of, lane_length, place_of}
+use Rattle.causal_clock.specs.Timeline.{lane_of, lane_length, lane_place}
 use Rattle.causal_clock.specs.Precedence.{FirstReach}
 use Rattle.causal_clock.proofs.Chains.{one_at_same, one_at_other}
 
 lane_length-first : (e : Event) (es : List Event) (lane : ℕ) → lane_length (e ∷ es) lane ≡ (if e.lane == lane then 1 else 0) + lane_length es lane
 lane_length-first e es lane = sum_by-append _ (e ∷ []) es ∙ ap (λ n. n + lane_length es lane) (omega arith)
 
-place_of-suc : (e : Event) (es : List Event) (i : ℕ) → place_of (e ∷ es) (suc i) ≡ (if e.lane == lane_of es i then 1 else 0) + place_of es i
-place_of-suc e es i = lane_length-first e (take i es) (lane_of es i)
+lane_place-suc : (e : Event) (es : List Event) (i : ℕ) → lane_place (e ∷ es) (suc i) ≡ (if e.lane == lane_of es i then 1 else 0) + lane_place es i
+lane_place-suc e es i = lane_length-first e (take i es) (lane_of es i)
 
 -- the n-th event of a lane is event i
 pub record IsAtPlace (es : List Event) (lane n i : ℕ) : Type 0 where
@@ -21,7 +21,7 @@ pub record IsAtPlace (es : List Event) (lane n i : ℕ) : Type 0 where
   -- it is in the lane
   pub of_lane : lane_of es i ≡ lane
   -- n events of the lane precede it
-  pub place : place_of es i ≡ n
+  pub place : lane_place es i ≡ n
 
 first_or_later : (e : Event) (es : List Event) (lane n : ℕ) → e.lane ≡ lane → n < lane_length (e ∷ es) lane → ((m : ℕ) → m < lane_length es lane → (i : ℕ) × IsAtPlace es lane m i) → (i : ℕ) × IsAtPlace (e ∷ es) lane n i
 first_or_later e es lane zero same h rest = (0, record { within = omega arith; of_lane = same; place = refl })
@@ -32,7 +32,7 @@ first_or_later e es lane (suc n) same h rest =
       record {
         within = omega (arith, at.within);
         of_lane = at.of_lane;
-        place = omega (arith, place_of-suc e es later.0, one_at_same e.lane (lane_of es later.0) (same ∙ sym at.of_lane), at.place);
+        place = omega (arith, lane_place-suc e es later.0, one_at_same e.lane (lane_of es later.0) (same ∙ sym at.of_lane), at.place);
       },
     )
 
@@ -49,7 +49,7 @@ event_at_place (e ∷ es) lane n h =
             record {
               within = omega (arith, at.within);
               of_lane = at.of_lane;
-              place = omega (arith, place_of-suc e es later.0, one_at_other e.lane (lane_of es later.0) (λ same. other.1 (same ∙ at.of_lane)), at.place);
+              place = omega (arith, lane_place-suc e es later.0, one_at_other e.lane (lane_of es later.0) (λ same. other.1 (same ∙ at.of_lane)), at.place);
             },
           )
     ]

@@ -4,10 +4,10 @@ use Rattle.std.specs.Prelude.{◌≡◌, ◌≢◌, ℕ, ◌+◌, ◌<◌, ◌�
 use Rattle.std.proofs.Common.{refl, arith, ap, sym, ◌∙◌, subst, inl, inr}
 use Rattle.std.proofs.lemmas.Bool.Decides.{eqb_tells}
 use Rattle.causal_clock.specs.declared.Event.{Event}
-use Rattle.causal_clock.specs.Timeline.{lane_of, lane_length, place_of}
-use Rattle.causal_clock.specs.Precedence.{Reaches, itself, onward, FirstReach}
+use Rattle.causal_clock.specs.Timeline.{lane_of, lane_length, lane_place}
+use Rattle.causal_clock.specs.Precedence.{Precedes, itself, onward, FirstReach}
 use Rattle.causal_clock.specs.Inside.EventCounts.{LastOf, count_or_none, CountsAreRight}
-use Rattle.causal_clock.proofs.Chains.{FirstReachSome, reaches_old, lane_of-old, lane_of-at_new, length-more, lane_length-more, place_of-old, place_of-new, old_or_new, one_at_same, one_at_other, first_old, first_new_other, first_new_own, by_lane}
+use Rattle.causal_clock.proofs.Chains.{FirstReachSome, reaches_old, lane_of-old, lane_of-at_new, length-more, lane_length-more, lane_place-old, lane_place-new, old_or_new, one_at_same, one_at_other, first_old, first_new_other, first_new_own, by_lane}
 
 -- equal options have equal values
 pub same_some : {a b : ℕ} → Some a ≡ Some b → a ≡ b
@@ -21,7 +21,7 @@ some_reach es counts lanes k (Some j) lane inside =
     record {
       no_more = f.no_more;
       back = λ i lt of_lane p. (j, refl, (f.first i lt of_lane).1 p);
-      forth = λ i j' lt of_lane is c. (f.first i lt of_lane).0 (subst (Reaches es i) (sym (same_some is)) c);
+      forth = λ i j' lt of_lane is c. (f.first i lt of_lane).0 (subst (Precedes es i) (sym (same_some is)) c);
     }
 
 -- the count of a lane's last event for its lane is the lane's length
@@ -29,7 +29,7 @@ full : (es : List Event) (counts : ℕ → ℕ → ℕ) (lanes : ℕ) (k : Count
 full es counts lanes k None lane l = omega (arith, l.empty refl)
 full es counts lanes k (Some p) lane l =
     let at = l.inside p refl in
-    let own : counts p lane ≡ place_of es p + 1 = ap (counts p) (sym at.1) ∙ k.own p at.0 in
+    let own : counts p lane ≡ lane_place es p + 1 = ap (counts p) (sym at.1) ∙ k.own p at.0 in
     omega (arith, own, at.2)
 
 module _ (es : List Event) (counts : ℕ → ℕ → ℕ) (lanes : ℕ) (k : CountsAreRight es counts lanes) (e : Event) (in_lane : e.lane < lanes) (sent : (s : ℕ) → e.send ≡ Some s → s < length es) (room : length es < 16777216) (after : ℕ → ℕ → ℕ) (same : (j : ℕ) → j < length es → (lane : ℕ) → after j lane ≡ counts j lane) (own : after (length es) e.lane ≡ lane_length es e.lane + 1) (each : (lane : ℕ) → lane ≢ e.lane → after (length es) lane ≡ max (count_or_none counts (k.last e.lane).0 lane) (count_or_none counts e.send lane)) where
@@ -67,9 +67,9 @@ module _ (es : List Event) (counts : ℕ → ℕ → ℕ) (lanes : ℕ) (k : Cou
           let up = last.reached i old (sym (lane_of-old es e i old) ∙ of_lane) in
           let at = last.inside up.0 up.1 in
           (length es, refl, onward (reaches_old e up.2) (by_lane es e up.0 at.0 at.1))
-      | inr new ↦ (length es, refl, subst (λ (x : ℕ). Reaches (es ++ e ∷ []) i x) new (itself lt))
+      | inr new ↦ (length es, refl, subst (λ (x : ℕ). Precedes (es ++ e ∷ []) i x) new (itself lt))
     ];
-    inside = λ p is. grind (arith, common_steps, same_some, length-more, lane_of-at_new, place_of-new, lane_length-more, one_at_same);
+    inside = λ p is. grind (arith, common_steps, same_some, length-more, lane_of-at_new, lane_place-new, lane_length-more, one_at_same);
     empty = λ is. cc;
   }
 
@@ -81,7 +81,7 @@ module _ (es : List Event) (counts : ℕ → ℕ → ℕ) (lanes : ℕ) (k : Cou
           arith,
           length-more es e,
           lane_of-old es e p (l.inside p is).0,
-          place_of-old es e p (l.inside p is).0,
+          lane_place-old es e p (l.inside p is).0,
           lane_length-more es e lane,
           one_at_other e.lane lane other,
         );
@@ -96,7 +96,7 @@ module _ (es : List Event) (counts : ℕ → ℕ → ℕ) (lanes : ℕ) (k : Cou
       | inl old ↦ rw (same j old lane) (first_old es e j lane _ old (k.reach j old lane))
       | inr new ↦ rw new (new_reach lane)
     ];
-    own = λ j lt. grind (arith, old_or_new es e j lt, lane_of-old, place_of-old, lane_of-at_new, place_of-new);
+    own = λ j lt. grind (arith, old_or_new es e j lt, lane_of-old, lane_place-old, lane_of-at_new, lane_place-new);
     last = λ lane. elim (eqb_tells lane e.lane) [
       | inl s ↦ (Some (length es), subst (LastOf (es ++ e ∷ []) (Some (length es))) (sym s.1) last_in_own)
       | inr s ↦ ((k.last lane).0, last_in_other lane _ (λ is. s.1 (sym is)) (k.last lane).1)

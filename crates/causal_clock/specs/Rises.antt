@@ -3,7 +3,7 @@ use Rattle.std.specs.Prelude.{◌≡◌, ◌≢◌, ℕ, ◌<◌, max, leb, if�
 use Rattle.causal_clock.specs.declared.Event.{Event}
 use Rattle.causal_clock.specs.declared.Rise.{Rise}
 use Rattle.causal_clock.specs.Precedence.{FirstReach}
-use Rattle.causal_clock.specs.Timeline.{lane_of, place_of, send_of}
+use Rattle.causal_clock.specs.Timeline.{lane_of, lane_place, send_of}
 
 -- the i-th rise of a list
 abbrev pub rise_at : List Rise → ℕ → Rise
@@ -24,7 +24,7 @@ pub record RisesStrictly (rises : List Rise) : Type 0 where
 pub record IsReceiveAt (events : List Event) (lane place j : ℕ) : Type 0 where
   pub within : j < length events
   pub of_lane : lane_of events j ≡ lane
-  pub placed : place_of events j ≡ place
+  pub placed : lane_place events j ≡ place
   pub receives : send_of events j ≢ None
 
 -- the rises of a lane by the source, which is another lane
@@ -33,4 +33,4 @@ pub record AreRises (events : List Event) (lane source : ℕ) (rises : List Rise
   -- each rise is at a receive
   pub received : (i : ℕ) → i < length rises → (j : ℕ) × IsReceiveAt events lane (rise_at rises i).place j
   -- the count at each event of the lane is the number of the source's events that reach it, which are its first ones
-  pub told : (j : ℕ) → j < length events → lane_of events j ≡ lane → FirstReach events j source (count_at rises (place_of events j))
+  pub told : (j : ℕ) → j < length events → lane_of events j ≡ lane → FirstReach events j source (count_at rises (lane_place events j))

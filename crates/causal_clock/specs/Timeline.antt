@@ -33,5 +33,5 @@ abbrev pub lane_length : List Event → ℕ → ℕ
 lane_length events lane = count_by (λ e. e.lane == lane) events
 
 -- the place of event i: how many events of its lane precede it
-abbrev pub place_of : List Event → ℕ → ℕ
-place_of events i = lane_length (take i events) (lane_of events i)
+abbrev pub lane_place : List Event → ℕ → ℕ
+lane_place events i = lane_length (take i events) (lane_of events i)

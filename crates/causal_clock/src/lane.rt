@@ -24,7 +24,7 @@ pub struct LaneColumns {
 }
 
 impl LaneColumns {
-    ghost use Rattle.causal_clock.specs.Inside.Lanes.{rises_in, spares_in, HasReservedRises, SameButFor, SameColumns};
+    ghost use Rattle.causal_clock.specs.Inside.Lanes.{rises_in, spare_rises, HasReservedRises, SameButFor, SameColumns};
 
     /// Returns a lane without events.
     pub fn new(alloc: Global) -> Self
@@ -156,7 +156,7 @@ impl LaneColumns {
         requires column { source < length (rises_in self.old) }
         requires counted { source < length self.old.row.items }
         requires room { slice_index self.old.row.items source < count →
-            0 < slice_index (spares_in self.old) source }
+            0 < slice_index (spare_rises self.old) source }
         ensures rest { SameButFor source self.old self.new }
         ensures raised { column_in (rises_in self.new) source
             ≡ column_after (column_in (rises_in self.old) source) self.old.events count }

@@ -1,23 +1,23 @@
 //! Laws of events in lanes, for callers and for proofs of other crates.
 ghost use Rattle.std.specs.Prelude.{◌≡◌, ℕ, ◌<◌, ◌≤◌, ◌↔◌, Bool, List, [], ◌∷◌, ◌++◌, length};
 ghost use Rattle.causal_clock.specs.declared.Event.{Event};
-ghost use Rattle.causal_clock.specs.Precedence.{Reaches, IsReachedThrough, FirstReach, IsReachTest, count_in_lane};
+ghost use Rattle.causal_clock.specs.Precedence.{Precedes, IsReachedThrough, FirstReach, IsReachTest, count_in_lane};
 
 /// "Happened before or equals" is a partial order in which no event precedes an earlier one.
 pub fn order_law()
-    ensures itself { (events : List Event) (i : ℕ) → i < length events → Reaches events i i }
-    ensures through { (events : List Event) (i j k : ℕ) → Reaches events i j → Reaches events j k →
-        Reaches events i k }
-    ensures forward { (events : List Event) (i j : ℕ) → Reaches events i j → i ≤ j }
+    ensures itself { (events : List Event) (i : ℕ) → i < length events → Precedes events i i }
+    ensures through { (events : List Event) (i j k : ℕ) → Precedes events i j → Precedes events j k →
+        Precedes events i k }
+    ensures forward { (events : List Event) (i j : ℕ) → Precedes events i j → i ≤ j }
 {}
 
 /// One more event changes nothing among the older ones. It is reached from itself, and from whatever reaches an event
 /// of its lane or its send.
 pub fn growth_law()
     ensures older { (events : List Event) (e : Event) (i j : ℕ) → j < length events →
-        Reaches (events ++ e ∷ []) i j ↔ Reaches events i j }
+        Precedes (events ++ e ∷ []) i j ↔ Precedes events i j }
     ensures newest { (events : List Event) (e : Event) (i : ℕ) →
-        Reaches (events ++ e ∷ []) i (length events) ↔ IsReachedThrough events e i }
+        Precedes (events ++ e ∷ []) i (length events) ↔ IsReachedThrough events e i }
 {}
 
 /// The number that [`crate::Clocks::reach`] returns is unique and counts events.

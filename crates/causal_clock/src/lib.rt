@@ -20,8 +20,8 @@ mod lane;
 pub mod laws;
 
 ghost use Rattle.std.specs.Prelude.{◌≡◌, ◌≢◌, ℕ, ◌+◌, ◌<◌, ◌≤◌, ◌↔◌, [], ◌∷◌, ◌++◌, length, vec_len, vec_capacity, IsTrue, IfOk, IfErr, OnOk, OnErr, Some, None, slice_index};
-ghost use Rattle.causal_clock.specs.Timeline.{lane_of, place_of, receiving, with_event, with_lane};
-ghost use Rattle.causal_clock.specs.Precedence.{Reaches, FirstReach};
+ghost use Rattle.causal_clock.specs.Timeline.{lane_of, lane_place, receiving, with_event, with_lane};
+ghost use Rattle.causal_clock.specs.Precedence.{Precedes, FirstReach};
 ghost use Rattle.causal_clock.specs.Rises.{AreRises, RisesStrictly};
 ghost use Rattle.causal_clock.specs.Inside.Columns.{column_in, SameOrNoNews};
 ghost use Rattle.causal_clock.specs.Inside.Fields.{count_at_event};
@@ -172,7 +172,7 @@ impl Clocks {
     /// Returns the place of an event, which must exist: how many events of its lane precede it.
     pub fn place(&self, event: u32) -> u32
         requires { event < length self.now.events }
-        ensures { result ≡ place_of self.now.events event }
+        ensures { result ≡ lane_place self.now.events event }
     {
         self.placed_events[event as usize].place
     }
@@ -250,7 +250,7 @@ impl Clocks {
     pub fn precedes(&self, i: u32, j: u32) -> bool
         requires earlier { i < length self.now.events }
         requires later { j < length self.now.events }
-        ensures { IsTrue result ↔ Reaches self.now.events i j }
+        ensures { IsTrue result ↔ Precedes self.now.events i j }
     {
         let first = self.placed_events[i as usize];
         first.place < self.reach(j, first.event.lane)

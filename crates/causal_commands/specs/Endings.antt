@@ -21,18 +21,18 @@ status_of NoWorker = 5
 status_of FinishFault = 5
 
 -- the message of each ending on standard error; None if the answer was written whole
-abbrev pub text_of : Ended → Option (List ℕ)
-text_of Accepted = None
-text_of Breached = None
-text_of Ranged = None
-text_of Followed = None
-text_of Strayed = None
-text_of Merged = None
-text_of Faulted = None
-text_of Ran = None
-text_of Refused = None
-text_of ReadFault = Some (codes "read fault")
-text_of WriteFault = Some (codes "write fault")
-text_of NoMemory = Some (codes "no memory")
-text_of NoWorker = Some (codes "no worker")
-text_of FinishFault = Some (codes "finish fault")
+abbrev pub ended_text : Ended → Option (List ℕ)
+ended_text Accepted = None
+ended_text Breached = None
+ended_text Ranged = None
+ended_text Followed = None
+ended_text Strayed = None
+ended_text Merged = None
+ended_text Faulted = None
+ended_text Ran = None
+ended_text Refused = None
+ended_text ReadFault = Some (codes "read fault")
+ended_text WriteFault = Some (codes "write fault")
+ended_text NoMemory = Some (codes "no memory")
+ended_text NoWorker = Some (codes "no worker")
+ended_text FinishFault = Some (codes "finish fault")

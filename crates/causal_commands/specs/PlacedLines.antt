@@ -37,9 +37,9 @@ place_by position (Some line) = place_at position line
 place_by position None = Ok []
 
 -- the fields of the place of an entry, if there is one
-abbrev pub place_of : List (List ℕ) → Option ℕ → Result (List ℕ) MapFault
-place_of map (Some position) = place_by position (slice_get map position)
-place_of map None = Ok []
+abbrev pub named_place : List (List ℕ) → Option ℕ → Result (List ℕ) MapFault
+named_place map (Some position) = place_by position (slice_get map position)
+named_place map None = Ok []
 
 -- ---- lines and texts
 
@@ -64,7 +64,7 @@ line_with fact (Err fault) = Err fault
 
 -- the line of a fact with the place of its entry
 abbrev pub placed_line : List (List ℕ) → Fact → Result (List ℕ) MapFault
-placed_line map fact = line_with fact (place_of map (entry_of fact))
+placed_line map fact = line_with fact (named_place map (entry_of fact))
 
 -- the lines of facts with the places of their entries
 abbrev pub placed_lines : List (List ℕ) → List Fact → Result (List ℕ) MapFault

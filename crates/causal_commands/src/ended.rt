@@ -35,7 +35,7 @@ pub enum Ended {
 }
 
 impl Ended {
-    ghost use Rattle.causal_commands.specs.Endings.{status_of, text_of};
+    ghost use Rattle.causal_commands.specs.Endings.{status_of, ended_text};
 
     /// Returns the program's exit status: 0, 1 or 2 after an answer that was written whole, 4 after a failed stream. It
     /// is 5 if an allocation or the start of a thread failed, or a run could not be finished.
@@ -53,7 +53,7 @@ impl Ended {
 
     /// Returns the message for standard error; None if the answer was written whole.
     pub fn text(self) -> Option<&'static str>
-        ensures { option_map (λ text. text.now) result ≡ text_of self }
+        ensures { option_map (λ text. text.now) result ≡ ended_text self }
     {
         match self {
             Ended::Accepted

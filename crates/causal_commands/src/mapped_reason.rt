@@ -8,7 +8,7 @@ ghost use Rattle.causal_commands.specs.Merges.{ReadsAtMostRecordings};
 ghost use Rattle.causal_commands.specs.MappedReasons.{WritesMappedFor};
 ghost use Rattle.causal_commands.specs.Inside.Answers.{WritesNothing, WritesWholeAnswer};
 ghost use Rattle.causal_commands.specs.PlacedLines.{placed_text, with_front};
-ghost use Rattle.causal_commands.specs.Inside.Placing.{Gives};
+ghost use Rattle.causal_commands.specs.Inside.Placing.{ReturnsPlaced};
 ghost use Rattle.causal_commands.specs.Inside.Refusals.{ExplainsStreamRefusal, IsTrueRefusal, IsTrueRefusalFor};
 ghost use Rattle.causal_commands.specs.Inside.MappedAnswers.{IsFaultAnswer, IsMappedFor, IsPlacedFor, IsPlaced};
 
@@ -202,7 +202,7 @@ fn placed_reason(
     f: u16,
     known: &Explained,
 ) -> Result<Vec<u8>, PlaceError>
-    ensures { Gives (λ out. out.items) result (with_front (verdict_line f known.now.judged)
+    ensures { ReturnsPlaced (λ out. out.items) result (with_front (verdict_line f known.now.judged)
         (placed_text limits.entries map.now known.now.judged.entries known.now.facts.items)) }
 {
     let entries = known.judged.entries;

@@ -1,7 +1,7 @@
 //! The lines of facts, with the places of their entries in recordings.
 ghost use Rattle.std.specs.Prelude.{◌≡◌, ◌++◌, map, IfOk, OnOk};
 ghost use Rattle.causal_commands.specs.PlacedLines as placed;
-ghost use Rattle.causal_commands.specs.Inside.Placing.{Gives, GivesAfter};
+ghost use Rattle.causal_commands.specs.Inside.Placing.{ReturnsPlaced, GivesAfter};
 
 use crate::map_fault::{MapFault, PlaceError};
 use causal_merge::{max_input_len, read_place};
@@ -20,7 +20,7 @@ pub(crate) fn placed_text(
     entries: u32,
     facts: &[Fact],
 ) -> Result<Vec<u8>, PlaceError>
-    ensures { Gives (λ out. out.items) result
+    ensures { ReturnsPlaced (λ out. out.items) result
         (placed.placed_text limits.entries map.now entries facts.now) }
 {
     if map.len() > max_input_len(limits) {
@@ -55,7 +55,7 @@ fn placed_by(
     entries: u32,
     facts: &[Fact],
 ) -> Result<Vec<u8>, PlaceError>
-    ensures { Gives (λ out. out.items) result
+    ensures { ReturnsPlaced (λ out. out.items) result
         (placed.placed_by (map (λ line. line.now) map_lines.now) entries facts.now) }
 {
     if map_lines.len() as u64 != u64::from(entries) {
@@ -121,8 +121,8 @@ fn push_parts(alloc: Global, out: &mut Vec<u8>, fact: &Fact, place: &[u8]) -> Re
 
 /// Returns the fields of the place of an entry; none if there is no entry, or the map has no line for it.
 fn place_of(alloc: Global, map_lines: &[&[u8]], entry: Option<u32>) -> Result<Vec<u8>, PlaceError>
-    ensures { Gives (λ place. place.items) result
-        (placed.place_of (map (λ line. line.now) map_lines.now) entry) }
+    ensures { ReturnsPlaced (λ place. place.items) result
+        (placed.named_place (map (λ line. line.now) map_lines.now) entry) }
 {
     match entry {
         Some(position) => match map_lines.get(position as usize) {
@@ -135,7 +135,7 @@ fn place_of(alloc: Global, map_lines: &[&[u8]], entry: Option<u32>) -> Result<Ve
 
 /// Returns the fields of the place of an entry, by its line of the map.
 fn place_at(alloc: Global, position: u32, line: &[u8]) -> Result<Vec<u8>, PlaceError>
-    ensures { Gives (λ place. place.items) result (placed.place_at position line.now) }
+    ensures { ReturnsPlaced (λ place. place.items) result (placed.place_at position line.now) }
 {
     match read_place(alloc, position, line) {
         Ok(place) => Ok(place),

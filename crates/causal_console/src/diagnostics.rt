@@ -1,7 +1,7 @@
 //! Messages on the input of a command, for standard error.
 ghost use Rattle.std.specs.Prelude.{◌≡◌};
 
-use crate::hints::{Content, print_hints};
+use crate::hints::{FileContent, print_hints};
 use crate::place::InputNames;
 use causal_commands::{DiagnosedFault, Ended, MapFault, Outcome, diagnostic_text};
 use causal_text::TextFault;
@@ -105,5 +105,5 @@ fn print_trace_hints<R: Eprint, S: Drop>(
     let TextFault { line, kind } = fault.fault;
     let start = input.line_start(line);
     let start = start.as_ref().map(|start| start.as_slice());
-    print_hints(rt, command, Content::Trace, kind, start);
+    print_hints(rt, command, FileContent::Trace, kind, start);
 }

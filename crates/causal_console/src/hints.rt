@@ -7,7 +7,7 @@ use std::fmt::{self, Display, Formatter, Write};
 
 /// What the lines of a text were taken for.
 #[derive(Clone, Copy)]
-pub(crate) enum Content {
+pub(crate) enum FileContent {
     Trace,
     Recordings,
 }
@@ -34,7 +34,7 @@ impl Display for Escaped<'_> {
 pub(crate) fn print_hints<R: Eprint>(
     rt: &R,
     command: &str,
-    content: Content,
+    content: FileContent,
     kind: TextKind,
     start: Option<&[u8]>,
 ) {
@@ -59,14 +59,14 @@ pub(crate) fn print_hints<R: Eprint>(
     }
 }
 
-fn print_shape_hints<R: Eprint>(rt: &R, command: &str, content: Content, start: &[u8]) {
+fn print_shape_hints<R: Eprint>(rt: &R, command: &str, content: FileContent, start: &[u8]) {
     if let Some(other) = other_text(content, start) {
         return print_error_line(rt, command, &other);
     }
     print_found(rt, command, start);
     let shapes: &[Shape] = match content {
-        Content::Trace => &TRACE_SHAPES,
-        Content::Recordings => &RECORDING_SHAPES,
+        FileContent::Trace => &TRACE_SHAPES,
+        FileContent::Recordings => &RECORDING_SHAPES,
     };
     match shapes
         .iter()
@@ -77,9 +77,9 @@ fn print_shape_hints<R: Eprint>(rt: &R, command: &str, content: Content, start: 
         }
         None => {
             let words = match content {
-                Content::Trace =>
+                FileContent::Trace =>
                     "trace (in line 1), send, deliver, stable, crash, restart, forget or end",
-                Content::Recordings =>
+                FileContent::Recordings =>
                     "recording, send, deliver, stable, crash, restart, forget or heard",
             };
             let _ = eprintln!(rt;
@@ -95,7 +95,7 @@ fn print_found<R: Eprint>(rt: &R, command: &str, start: &[u8]) {
 }
 
 /// Returns what a line is that begins with these bytes, if it is a text of another kind.
-fn other_text(content: Content, start: &[u8]) -> Option<&'static str> {
+fn other_text(content: FileContent, start: &[u8]) -> Option<&'static str> {
     match (content, start) {
         (_, [0x1f, 0x8b, ..]) => Some(
             "this is compressed by gzip: unpack it first, as by gzip -dc",
@@ -103,10 +103,10 @@ fn other_text(content: Content, start: &[u8]) -> Option<&'static str> {
         (_, [0xff, 0xfe, ..] | [0xfe, 0xff, ..]) => Some("this is UTF-16: write it as UTF-8"),
         (_, [0xef, 0xbb, 0xbf, ..]) => Some("a byte-order mark stands there: remove it"),
         (_, [b'#', ..]) => Some("a comment stands there: the format has none"),
-        (Content::Trace, _) if first_word(start) == b"recording".as_slice() => {
+        (FileContent::Trace, _) if first_word(start) == b"recording".as_slice() => {
             Some("this is a recording: merge it first, by causal_tool merge")
         }
-        (Content::Recordings, _) if first_word(start) == b"trace".as_slice() => {
+        (FileContent::Recordings, _) if first_word(start) == b"trace".as_slice() => {
             Some("this is a trace, which is not merged: give it to causal_tool audit")
         }
         _ => None,

@@ -2,7 +2,7 @@
 ghost use Rattle.std.specs.Prelude.{◌≡◌};
 
 use crate::diagnostics::{print_at_line, print_error_line};
-use crate::hints::{Content, print_hints};
+use crate::hints::{FileContent, print_hints};
 use crate::place::InputNames;
 use causal_commands::{Ended, MergeOutcome};
 use causal_merge::{MergeFault, MergeKind, sentence};
@@ -75,7 +75,7 @@ fn print_merge_fault<R: Eprint + AllocGlobal, S: Drop>(
     }
     print_missing_headers(rt, command, &fault.kind);
     if let MergeKind::Line(kind) = &fault.kind {
-        print_hints(rt, command, Content::Recordings, *kind, Some(start));
+        print_hints(rt, command, FileContent::Recordings, *kind, Some(start));
     }
     if let Some(hint) = fault.kind.hint() {
         print_error_line(rt, command, &hint);

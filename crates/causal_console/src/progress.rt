@@ -11,7 +11,7 @@ const FIRST_REPORT_SECONDS: u64 = 1;
 
 /// How much of a text was read, and when that is printed next: after a second, two, four and so on.
 #[derive(Clone, Copy)]
-struct Progress {
+struct ReadProgress {
     command: &'static str,
     started: Instant,
     due: u64,
@@ -20,10 +20,10 @@ struct Progress {
     checked_bytes: u64,
 }
 
-impl Progress {
+impl ReadProgress {
     /// Starts at the beginning of a text; None if the clock cannot be read.
-    fn new<R: Clock>(rt: &R, command: &'static str) -> Option<Progress> {
-        Some(Progress {
+    fn new<R: Clock>(rt: &R, command: &'static str) -> Option<ReadProgress> {
+        Some(ReadProgress {
             command,
             started: Instant::now(rt).ok()?,
             due: FIRST_REPORT_SECONDS,
@@ -35,7 +35,7 @@ impl Progress {
 
     /// Adds one more piece. It prints the progress if that is due. At the end, an empty piece, it prints once more if
     /// it has printed before, and returns None.
-    fn advance<R: Clock + Eprint>(self, rt: &R, piece: &[u8]) -> Option<Progress> {
+    fn advance<R: Clock + Eprint>(self, rt: &R, piece: &[u8]) -> Option<ReadProgress> {
         if piece.is_empty() {
             if self.due > FIRST_REPORT_SECONDS {
                 self.print_progress(rt, self.started.elapsed(rt).ok()?, "in all");
@@ -43,7 +43,7 @@ impl Progress {
             return None;
         }
         let lines = memchr_iter(b'\n', piece).count() as u64;
-        let now = Progress {
+        let now = ReadProgress {
             lines: self.lines.saturating_add(lines),
             bytes: self.bytes.saturating_add(piece.len() as u64),
             ..self
@@ -55,18 +55,18 @@ impl Progress {
     }
 
     /// Prints the progress, if that is due.
-    fn report_if_due<R: Clock + Eprint>(self, rt: &R) -> Option<Progress> {
+    fn report_if_due<R: Clock + Eprint>(self, rt: &R) -> Option<ReadProgress> {
         let passed = self.started.elapsed(rt).ok()?;
         let asked = self.bytes;
         if passed.as_secs() < self.due {
-            return Some(Progress {
+            return Some(ReadProgress {
                 checked_bytes: asked,
                 ..self
             });
         }
         self.print_progress(rt, passed, "so far");
         let due = passed.as_secs().saturating_mul(2);
-        Some(Progress {
+        Some(ReadProgress {
             checked_bytes: asked,
             due,
             ..self
@@ -74,7 +74,7 @@ impl Progress {
     }
 
     fn print_progress<R: Eprint>(self, rt: &R, passed: Duration, when: &str) {
-        let Progress {
+        let ReadProgress {
             command,
             lines,
             bytes,
@@ -91,14 +91,14 @@ impl Progress {
 pub struct ProgressStream<R: Drop, S: Drop> {
     rt: R,
     stream: S,
-    progress: Option<Progress>,
+    progress: Option<ReadProgress>,
 }
 
 impl<R: Clock + Drop, S: Drop> ProgressStream<R, S> {
     /// Wraps a stream that was not read yet. Progress is printed only if `is_watched`.
     pub fn new(rt: R, command: &'static str, stream: S, is_watched: bool) -> ProgressStream<R, S> {
         let progress = if is_watched {
-            Progress::new(&rt, command)
+            ReadProgress::new(&rt, command)
         } else {
             None
         };

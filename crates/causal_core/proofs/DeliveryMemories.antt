@@ -13,8 +13,8 @@ use Rattle.causal_trace.specs.Past.{is_delivered}
 use Rattle.causal_trace.specs.Rows.{are_delivered}
 use Rattle.causal_protocol.specs.Memory.{Memory, Memories, batch_of, log_after_delivery}
 use Rattle.causal_protocol.specs.Run.{Run, memories, memories_of}
-use Rattle.causal_protocol.specs.Naming.{message_name, send_of, next_rsn, own_det, listed_for}
-use Rattle.causal_protocol.specs.Steps.{delivery_of, append_all, sends_of}
+use Rattle.causal_protocol.specs.Naming.{message_name, send_of, next_rsn, next_own_det, listed_for}
+use Rattle.causal_protocol.specs.Steps.{delivery_entry, append_all, sends_of}
 use Rattle.causal_core.specs.Inside.Memories.{memory_at, log_at, keep_all}
 use Rattle.causal_core.proofs.MemoriesFit.{delivered_more, length-slice_set, at-set_same}
 use Rattle.causal_core.proofs.RuntimeSend.{memories_sends, set_twice}
@@ -24,7 +24,7 @@ use Rattle.causal_core.proofs.LegalDelivery.{MayDeliver, own, sent_name, batch_i
 module _ (r : Run) (q source : Pid) (ssn : ℕ) (d : MayDeliver r q source ssn) (count : length (memories_of r) ≡ r.recording.processes) where
   -- the receiver's log after the delivery
   abbrev pub log : LogMap
-  log = log_after_delivery (batch_of (memories_of r) (message_name source ssn)) (own_det (memories_of r) q (message_name source ssn)) (log_at (memories_of r) q.0)
+  log = log_after_delivery (batch_of (memories_of r) (message_name source ssn)) (next_own_det (memories_of r) q (message_name source ssn)) (log_at (memories_of r) q.0)
 
   -- the receiver's memory before the delivery, and after it
   pub memory_here : memory_at (memories_of r) q.0 ≡ d.memory
@@ -34,7 +34,7 @@ module _ (r : Run) (q source : Pid) (ssn : ℕ) (d : MayDeliver r q source ssn) 
   next = record { log = log; sent = (memory_at (memories_of r) q.0).sent; received = (memory_at (memories_of r) q.0).received ++ message_name source ssn ∷ [] }
 
   abbrev pub entry : Entry
-  entry = delivery_of r q (message_name source ssn)
+  entry = delivery_entry r q (message_name source ssn)
 
   one : slice_set (memories_of r) q.0 (Some next) ≡ memories r.recording.processes r.faults r.writers (entry ∷ r.recording.past)
   unfolding memories

@@ -24,7 +24,7 @@ use Rattle.causal_protocol.specs.declared.request.Request.TheVariants as Request
 use Rattle.causal_protocol.specs.declared.request.Reply.TheVariants as Replies
 use Rattle.causal_protocol.specs.Memory.{Memory, Memories, present_at, update_at, with_log}
 use Rattle.causal_protocol.specs.Run.{Run, memories, memories_of}
-use Rattle.causal_protocol.specs.Refusals.{refusal_rows, first_fault_in, fault_if, first_fault, exceeds_entries, dets_to_flush}
+use Rattle.causal_protocol.specs.Refusals.{request_refusals, first_fault_in, fault_if, request_fault, exceeds_entries, dets_to_flush}
 use Rattle.causal_protocol.specs.Steps.{LegalStep, Steps, extend_run, reason_of, flush_reason_of, reply_of_flush}
 use Rattle.causal_core.specs.Flushes.{HasUnflushed}
 use Rattle.causal_core.specs.Inside.Memories.{memory_at, log_at}
@@ -117,22 +117,22 @@ pub unwritten_logged : (r : Run) (p : Pid) → list_all (λ d. is_some (fin.get 
 unwritten_logged r p = unwritten_of (present_at (memories_of r) p.0)
 
 -- if a flush is not refused, its process is up
-pub flush_up : (r : Run) (p : Pid) → first_fault r (Requests.Flush p) ≡ None → is_some (present_at (memories_of r) p.0) ≡ true
-unfolding refusal_rows
-flush_up r p none = ap is_some (there (present_at (memories_of r) p.0) (when_false _ _ (row_none (refusal_rows r (Requests.Flush p)) none 1 _ refl))).1
+pub flush_up : (r : Run) (p : Pid) → request_fault r (Requests.Flush p) ≡ None → is_some (present_at (memories_of r) p.0) ≡ true
+unfolding request_refusals
+flush_up r p none = ap is_some (there (present_at (memories_of r) p.0) (when_false _ _ (row_none (request_refusals r (Requests.Flush p)) none 1 _ refl))).1
 
 -- its process is one of the run
-pub flush_below : (r : Run) (p : Pid) → first_fault r (Requests.Flush p) ≡ None → p.0 < r.recording.processes
-unfolding refusal_rows
+pub flush_below : (r : Run) (p : Pid) → request_fault r (Requests.Flush p) ≡ None → p.0 < r.recording.processes
+unfolding request_refusals
 flush_below r p none = grind arith
 
 -- and the trace has capacity for an entry of each determinant that it has to write
-pub flush_short : (r : Run) (p : Pid) → first_fault r (Requests.Flush p) ≡ None → length r.recording.past + length (dets_to_flush r p) ≤ 16777216
-unfolding refusal_rows
+pub flush_short : (r : Run) (p : Pid) → request_fault r (Requests.Flush p) ≡ None → length r.recording.past + length (dets_to_flush r p) ≤ 16777216
+unfolding request_refusals
 flush_short r p none = grind arith
 
 -- a flush that is not refused is a legal step
-pub flush_steps : (r mid next : Run) (p : Pid) (dets : List Det) (told : Result ℕ FlushFault) → mid ≡ r → first_fault r (Requests.Flush p) ≡ None → dets ≡ dets_to_flush r p → next ≡ extend_run mid (Requests.Flush p) (map Stable (take (written_count told) dets))
+pub flush_steps : (r mid next : Run) (p : Pid) (dets : List Det) (told : Result ℕ FlushFault) → mid ≡ r → request_fault r (Requests.Flush p) ≡ None → dets ≡ dets_to_flush r p → next ≡ extend_run mid (Requests.Flush p) (map Stable (take (written_count told) dets))
     → IfOk told (λ count. count ≡ length dets) → IfErr told (λ f. f.done < length dets) → IfErr told (λ f. flush_reason_of f.fault ≡ None) → Steps r (Requests.Flush p) (reply_of_flush told) next
 unfolding LegalStep
 flush_steps r mid next p dets told h h2 h3 h4 h5 h6 h7 = grind (arith, take_all)
@@ -141,16 +141,16 @@ flush_steps r mid next p dets told h h2 h3 h4 h5 h6 h7 = grind (arith, take_all)
 never_store : (a b c : Bool) → first_fault_in (fault_if a Faults.NoProcess ∷ fault_if b Faults.Down ∷ fault_if c Faults.Full ∷ []) ≡ Some Faults.StoreFault → ⊥
 never_store a b c h = grind arith
 
-no_store : (r : Run) (p : Pid) → first_fault r (Requests.Flush p) ≡ Some Faults.StoreFault → ⊥
-unfolding refusal_rows
+no_store : (r : Run) (p : Pid) → request_fault r (Requests.Flush p) ≡ Some Faults.StoreFault → ⊥
+unfolding request_refusals
 no_store r p h = never_store (not (nat_lt p.0 r.recording.processes)) (is_none (present_at (memories_of r) p.0)) (exceeds_entries r (length (dets_to_flush r p))) h
 
 -- a flush that is refused before it writes is not refused with a fault of the store
-pub refusal_stores : (r : Run) (p : Pid) (fault : CoreFault) → first_fault r (Requests.Flush p) ≡ reason_of fault → fault ≡ Faults.StoreFault → ⊥
+pub refusal_stores : (r : Run) (p : Pid) (fault : CoreFault) → request_fault r (Requests.Flush p) ≡ reason_of fault → fault ≡ Faults.StoreFault → ⊥
 refusal_stores r p fault h is = no_store r p (h ∙ ap reason_of is)
 
 -- a refused flush is a legal step too
-pub flush_refused : (r next : Run) (p : Pid) (fault : CoreFault) → next ≡ r → first_fault r (Requests.Flush p) ≡ reason_of fault → Steps r (Requests.Flush p) (Replies.FlushRefused (record { fault = fault; done = 0 })) next
+pub flush_refused : (r next : Run) (p : Pid) (fault : CoreFault) → next ≡ r → request_fault r (Requests.Flush p) ≡ reason_of fault → Steps r (Requests.Flush p) (Replies.FlushRefused (record { fault = fault; done = 0 })) next
 unfolding LegalStep
 flush_refused r next p fault same reason = grind (arith, refusal_stores)
 

@@ -19,7 +19,7 @@ use Rattle.causal_protocol.specs.declared.request.Reply.TheVariants as Replies
 use Rattle.causal_protocol.specs.Memory.{Memory, Memories, present_at, update_at, with_log}
 use Rattle.causal_protocol.specs.Gathering.{without_dets}
 use Rattle.causal_protocol.specs.Run.{Run, memories, memories_of}
-use Rattle.causal_protocol.specs.Refusals.{refusal_rows, first_fault, dets_to_forget}
+use Rattle.causal_protocol.specs.Refusals.{request_refusals, request_fault, dets_to_forget}
 use Rattle.causal_protocol.specs.Steps.{LegalStep, Steps, extend_run, forget_entries, reply_of_forget}
 use Rattle.causal_protocol.specs.declared.request.CoreFault.{CoreFault}
 use Rattle.causal_trace.specs.Past.{is_stable}
@@ -74,23 +74,23 @@ forgotten_held r ms p listed run_data process is next =
     )
 
 -- if the runtime does not refuse a forget, its entry is legal in the trace
-pub forget_legal : (r : Run) (p : Pid) (listed : List Det) → AllMatchEntries r.recording.processes r.recording.past (memories_of r) → first_fault r (Requests.Forget p) ≡ None → listed ≡ dets_to_forget r p → 1 ≤ length listed
+pub forget_legal : (r : Run) (p : Pid) (listed : List Det) → AllMatchEntries r.recording.processes r.recording.past (memories_of r) → request_fault r (Requests.Forget p) ≡ None → listed ≡ dets_to_forget r p → 1 ≤ length listed
     → (p.0 < r.recording.processes) × (Rows.first_fault r.recording.processes r.recording.past (Forget p listed) ≡ None)
-unfolding refusal_rows Rows.rows_within
+unfolding request_refusals Rows.rows_within
 forget_legal r p listed fit none is some = grind (arith, fits_up, there, stable_ascends, stable_all)
 
 -- the list of a forget that is not refused has at most the limit's length
-pub forget_few : (r : Run) (p : Pid) (listed : List Det) → first_fault r (Requests.Forget p) ≡ None → listed ≡ dets_to_forget r p → length listed ≤ 268435456
-unfolding refusal_rows
+pub forget_few : (r : Run) (p : Pid) (listed : List Det) → request_fault r (Requests.Forget p) ≡ None → listed ≡ dets_to_forget r p → length listed ≤ 268435456
+unfolding request_refusals
 forget_few r p listed none is = grind arith
 
 -- if there is nothing to forget, nothing is recorded
-pub forgot_nothing : (r next : Run) (p : Pid) (listed : List Det) → next ≡ r → first_fault r (Requests.Forget p) ≡ None → listed ≡ dets_to_forget r p → length listed ≡ 0 → Steps r (Requests.Forget p) (Replies.Forgotten 0) next
+pub forgot_nothing : (r next : Run) (p : Pid) (listed : List Det) → next ≡ r → request_fault r (Requests.Forget p) ≡ None → listed ≡ dets_to_forget r p → length listed ≡ 0 → Steps r (Requests.Forget p) (Replies.Forgotten 0) next
 unfolding LegalStep
 forgot_nothing r next p listed same none is empty = grind arith
 
 -- if there is something to forget, one entry that lists all of it makes a legal step
-pub forgot : (r mid next : Run) (p : Pid) (listed : List Det) (count : ℕ) → mid ≡ r → first_fault r (Requests.Forget p) ≡ None → listed ≡ dets_to_forget r p → 1 ≤ length listed → count ≡ length listed → next ≡ extend_run mid (Requests.Forget p) (Forget p listed ∷ []) → Steps r (Requests.Forget p) (Replies.Forgotten count) next
+pub forgot : (r mid next : Run) (p : Pid) (listed : List Det) (count : ℕ) → mid ≡ r → request_fault r (Requests.Forget p) ≡ None → listed ≡ dets_to_forget r p → 1 ≤ length listed → count ≡ length listed → next ≡ extend_run mid (Requests.Forget p) (Forget p listed ∷ []) → Steps r (Requests.Forget p) (Replies.Forgotten count) next
 unfolding LegalStep
 forgot r mid next p listed count same none is some number run = grind arith
 

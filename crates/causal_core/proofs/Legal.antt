@@ -15,7 +15,7 @@ use Rattle.causal_protocol.specs.declared.request.Request.{Request}
 use Rattle.causal_protocol.specs.declared.request.Request.TheVariants as Requests
 use Rattle.causal_protocol.specs.Memory.{Memory, Memories}
 use Rattle.causal_protocol.specs.Run.{Run, memories, memories_of}
-use Rattle.causal_protocol.specs.Refusals.{refusal_rows, first_fault_in, first_fault, fault_if}
+use Rattle.causal_protocol.specs.Refusals.{request_refusals, first_fault_in, request_fault, fault_if}
 use Rattle.causal_protocol.specs.Steps.{reason_of, extend_run}
 use Rattle.causal_core.specs.Inside.MemoryInvariant.{MatchesEntriesAt, AllMatchEntries, IsRunData}
 use Rattle.causal_core.proofs.MemoriesFit.{is_of, fits_other, all_fit_set}
@@ -30,12 +30,12 @@ pub when_false : (test : Bool) (fault : CoreFault) → fault_if test fault ≡ N
 when_false test fault h = grind arith
 
 -- a fault that is a refusal is not `NoMemory`
-pub tells_reason : (r : Run) (request : Request) (fault : CoreFault) → first_fault r request ≡ Some fault → first_fault r request ≡ reason_of fault
-unfolding refusal_rows
+pub tells_reason : (r : Run) (request : Request) (fault : CoreFault) → request_fault r request ≡ Some fault → request_fault r request ≡ reason_of fault
+unfolding request_refusals
 tells_reason r request fault h = grind arith
 
 -- the refusal that applies, or `NoMemory` if none does
-pub reason_or : (r : Run) (request : Request) (o : Option CoreFault) → o ≡ first_fault r request → first_fault r request ≡ reason_of (unwrap_or o Faults.NoMemory)
+pub reason_or : (r : Run) (request : Request) (o : Option CoreFault) → o ≡ request_fault r request → request_fault r request ≡ reason_of (unwrap_or o Faults.NoMemory)
 reason_or r request o h = grind (arith, tells_reason)
 
 -- the memory of an up process
@@ -52,8 +52,8 @@ pub fits_up : (past : List Entry) (p : ℕ) (m : Option Memory) → MatchesEntri
 fits_up past p m h h2 = grind arith
 
 -- if the runtime does not refuse a crash, its entry is legal in the trace
-pub crash_legal : (r : Run) (p : Pid) → AllMatchEntries r.recording.processes r.recording.past (memories_of r) → IsWellFormed r.recording → first_fault r (Requests.Crash p) ≡ None → (p.0 < r.recording.processes) × (Rows.first_fault r.recording.processes r.recording.past (Crash p) ≡ None)
-unfolding refusal_rows Rows.rows_within
+pub crash_legal : (r : Run) (p : Pid) → AllMatchEntries r.recording.processes r.recording.past (memories_of r) → IsWellFormed r.recording → request_fault r (Requests.Crash p) ≡ None → (p.0 < r.recording.processes) × (Rows.first_fault r.recording.processes r.recording.past (Crash p) ≡ None)
+unfolding request_refusals Rows.rows_within
 crash_legal r p fit formed none = grind (arith, formed_short)
 
 same_then : (n : ℕ) (b : Bool) → ((n == n) || b) ≡ true

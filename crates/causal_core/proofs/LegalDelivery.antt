@@ -16,9 +16,9 @@ use Rattle.causal_trace.specs.Rows as Rows
 use Rattle.causal_protocol.specs.declared.request.Request.TheVariants as Requests
 use Rattle.causal_protocol.specs.Memory.{SentMessage, Memory, Memories, present_at, sent_message_of, batch_of}
 use Rattle.causal_protocol.specs.Run.{Run, memories_of}
-use Rattle.causal_protocol.specs.Naming.{message_name, if_addressed_to, sent_message_for, send_of, has_received, next_rsn, own_det, with_own, listed_for}
-use Rattle.causal_protocol.specs.Refusals.{refusal_rows, first_fault, exceeds_limits}
-use Rattle.causal_protocol.specs.Steps.{delivery_of}
+use Rattle.causal_protocol.specs.Naming.{message_name, if_addressed_to, sent_message_for, send_of, has_received, next_rsn, next_own_det, with_own, listed_for}
+use Rattle.causal_protocol.specs.Refusals.{request_refusals, request_fault, exceeds_limits}
+use Rattle.causal_protocol.specs.Steps.{delivery_entry}
 use Rattle.causal_core.specs.Inside.MemoryInvariant.{IsSentAt, MatchesEntries, MatchesEntriesAt, AllMatchEntries}
 use Rattle.causal_memory.specs.declared.delivery_plan.DeliveryPlan.{DeliveryPlan}
 use Rattle.causal_core.specs.View.{RunDataState}
@@ -57,10 +57,10 @@ fits_at : (past : List Entry) (p : ℕ) (o : Option Memory) (m : Memory) → Mat
 fits_at past p o m fit is = subst (MatchesEntriesAt past p) is fit
 
 -- if a delivery is not refused, its receiver is up, and its message is kept and was not received
-pub may_deliver : (r : Run) (q source : Pid) (ssn : ℕ) → AllMatchEntries r.recording.processes r.recording.past (memories_of r) → first_fault r (Requests.Deliver q source ssn) ≡ None → MayDeliver r q source ssn
-unfolding refusal_rows
+pub may_deliver : (r : Run) (q source : Pid) (ssn : ℕ) → AllMatchEntries r.recording.processes r.recording.past (memories_of r) → request_fault r (Requests.Deliver q source ssn) ≡ None → MayDeliver r q source ssn
+unfolding request_refusals
 may_deliver r q source ssn fit none =
-    let told = refusal_rows r (Requests.Deliver q source ssn) in
+    let told = request_refusals r (Requests.Deliver q source ssn) in
     let ms = memories_of r in
     let inside : not (nat_lt q.0 r.recording.processes && nat_lt source.0 r.recording.processes) ≡ false = when_false _ _ (row_none told none 0 _ refl) in
     let process : q.0 < r.recording.processes = grind (arith, nat_tests, inside) in
@@ -85,14 +85,14 @@ may_deliver r q source ssn fit none =
     }
 
 -- if a delivery is not refused, the receiver is up
-pub receiver_up : (r : Run) (q source : Pid) (ssn : ℕ) → first_fault r (Requests.Deliver q source ssn) ≡ None → is_some (present_at (memories_of r) q.0) ≡ true
-unfolding refusal_rows
-receiver_up r q source ssn none = ap is_some (there (present_at (memories_of r) q.0) (when_false _ _ (row_none (refusal_rows r (Requests.Deliver q source ssn)) none 1 _ refl))).1
+pub receiver_up : (r : Run) (q source : Pid) (ssn : ℕ) → request_fault r (Requests.Deliver q source ssn) ≡ None → is_some (present_at (memories_of r) q.0) ≡ true
+unfolding request_refusals
+receiver_up r q source ssn none = ap is_some (there (present_at (memories_of r) q.0) (when_false _ _ (row_none (request_refusals r (Requests.Deliver q source ssn)) none 1 _ refl))).1
 
 -- and the message is kept
-pub message_there : (r : Run) (q source : Pid) (ssn : ℕ) → first_fault r (Requests.Deliver q source ssn) ≡ None → is_none (sent_message_for (memories_of r) q (message_name source ssn)) ≡ false
-unfolding refusal_rows
-message_there r q source ssn none = when_false _ _ (row_none (refusal_rows r (Requests.Deliver q source ssn)) none 3 _ refl)
+pub message_there : (r : Run) (q source : Pid) (ssn : ℕ) → request_fault r (Requests.Deliver q source ssn) ≡ None → is_none (sent_message_for (memories_of r) q (message_name source ssn)) ≡ false
+unfolding request_refusals
+message_there r q source ssn none = when_false _ _ (row_none (request_refusals r (Requests.Deliver q source ssn)) none 3 _ refl)
 
 -- a message that is kept for q is in its sender's memory
 kept_within : (q : Pid) (sent : List SentMessage) (ssn : ℕ) → is_none (if_addressed_to q (slice_get sent ssn)) ≡ false → ssn < length sent
@@ -108,13 +108,13 @@ pub sender_keeps : (ms : Memories) (q source : Pid) (ssn : ℕ) → is_none (sen
 sender_keeps ms q source ssn h = grind (arith, kept_within)
 
 -- if a delivery is not refused, the receiver is a process of the run
-pub receiver_below : (r : Run) (q source : Pid) (ssn : ℕ) → first_fault r (Requests.Deliver q source ssn) ≡ None → q.0 < r.recording.processes
-unfolding refusal_rows
+pub receiver_below : (r : Run) (q source : Pid) (ssn : ℕ) → request_fault r (Requests.Deliver q source ssn) ≡ None → q.0 < r.recording.processes
+unfolding request_refusals
 receiver_below r q source ssn none = grind arith
 
 -- the list of a delivery is within the limit
-pub listed_few : (r : Run) (q source : Pid) (ssn : ℕ) → first_fault r (Requests.Deliver q source ssn) ≡ None → length (listed_for (memories_of r) q (message_name source ssn)) ≤ 268435456
-unfolding refusal_rows
+pub listed_few : (r : Run) (q source : Pid) (ssn : ℕ) → request_fault r (Requests.Deliver q source ssn) ≡ None → length (listed_for (memories_of r) q (message_name source ssn)) ≤ 268435456
+unfolding request_refusals
 listed_few r q source ssn none = grind arith
 
 -- and contains at least as many determinants as the message's piggyback
@@ -123,7 +123,7 @@ carried_listed d q m g h = grind (arith, with_longer, length-map)
 
 module _ (r : Run) (q source : Pid) (ssn : ℕ) (d : MayDeliver r q source ssn) where
   abbrev pub own : Det
-  own = own_det (memories_of r) q (message_name source ssn)
+  own = next_own_det (memories_of r) q (message_name source ssn)
 
   abbrev pub listed : List Det
   listed = listed_for (memories_of r) q (message_name source ssn)
@@ -152,6 +152,6 @@ module _ (r : Run) (q source : Pid) (ssn : ℕ) (d : MayDeliver r q source ssn) 
   known = grind (arith, with_all, all_more)
 
   -- if the runtime does not refuse a delivery, its entry is legal in the trace
-  pub legal : Rows.first_fault r.recording.processes r.recording.past (delivery_of r q (message_name source ssn)) ≡ None
+  pub legal : Rows.first_fault r.recording.processes r.recording.past (delivery_entry r q (message_name source ssn)) ≡ None
   unfolding Rows.rows_within
   legal = grind (arith, rsn_is, sent_to, ascending, known, d.long)

@@ -12,7 +12,7 @@ use Rattle.causal_protocol.specs.declared.request.Reply.TheVariants as Replies
 use Rattle.causal_protocol.specs.declared.request.CoreFault.{CoreFault}
 use Rattle.causal_protocol.specs.declared.request.Delivered.{Delivered}
 use Rattle.causal_protocol.specs.Run.{Run}
-use Rattle.causal_protocol.specs.Refusals.{first_fault}
+use Rattle.causal_protocol.specs.Refusals.{request_fault}
 use Rattle.causal_protocol.specs.Steps.{LegalStep, Steps, reason_of}
 use Rattle.causal_core.specs.Boxes.{answers_at, prepend_answer}
 use Rattle.causal_core.specs.View.{body_at, named_message_of}
@@ -27,7 +27,7 @@ unfolding LegalStep
 told_message r next q m d s = sym (ap message_of s.legal.2)
 
 -- the fault of a refused delivery is the first refusal that applies, or `NoMemory` if none does
-pub refused_reason : (r next : Run) (q : Pid) (m : MsgName) (fault : CoreFault) → Steps r (Requests.Deliver q m.source m.ssn) (Replies.Refused fault) next → first_fault r (Requests.Deliver q m.source m.ssn) ≡ reason_of fault
+pub refused_reason : (r next : Run) (q : Pid) (m : MsgName) (fault : CoreFault) → Steps r (Requests.Deliver q m.source m.ssn) (Replies.Refused fault) next → request_fault r (Requests.Deliver q m.source m.ssn) ≡ reason_of fault
 unfolding LegalStep
 refused_reason r next q m fault s = s.legal.0
 

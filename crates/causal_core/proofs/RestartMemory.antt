@@ -10,7 +10,7 @@ use Rattle.causal_protocol.specs.declared.request.Reply.TheVariants as Replies
 use Rattle.causal_protocol.specs.Gathering.{stable_set, restart_log}
 use Rattle.causal_protocol.specs.Memory.{Memories, present_at}
 use Rattle.causal_protocol.specs.Run.{Run, memories, memories_of, stable_of, after_receive}
-use Rattle.causal_protocol.specs.Steps.{Steps, extend_run, append_all, delivery_of, sends_of}
+use Rattle.causal_protocol.specs.Steps.{Steps, extend_run, append_all, delivery_entry, sends_of}
 use Rattle.std.specs.Option.{IfSome}
 use Rattle.causal_log.specs.Logs.{LogMap}
 use Rattle.causal_core.specs.declared.gather_cache.GatherCache.{GatherCache}
@@ -56,7 +56,7 @@ restart_stored : (p : Pid) (ssn : ℕ) (tos : List Pid) (listed : List Det) (pas
 unfolding stable_set
 restart_stored p ssn tos listed past = sends_stored p ssn tos (Restart p listed ∷ past)
 
-module _ (r mid next : Run) (q source : Pid) (ssn : ℕ) (m : MsgName) (k : ℕ) (tos : List Pid) (same : mid ≡ r) (run : next ≡ extend_run mid (Requests.Deliver q source ssn) (delivery_of mid q m ∷ sends_of q k tos)) where
+module _ (r mid next : Run) (q source : Pid) (ssn : ℕ) (m : MsgName) (k : ℕ) (tos : List Pid) (same : mid ≡ r) (run : next ≡ extend_run mid (Requests.Deliver q source ssn) (delivery_entry mid q m ∷ sends_of q k tos)) where
   -- a delivery and its sends change only the receiver's memory, and store nothing
   pub delivery_alone : ChangesOnlyMemoryOf q r next
   delivery_alone = grind (arith, deliver_alone, deliver_stored)

@@ -9,8 +9,8 @@ use Rattle.causal_protocol.specs.declared.request.CoreFault.{CoreFault}
 use Rattle.causal_protocol.specs.declared.request.Request.TheVariants as Requests
 use Rattle.causal_protocol.specs.declared.request.Reply.TheVariants as Replies
 use Rattle.causal_protocol.specs.Run.{Run, memories, memories_of}
-use Rattle.causal_protocol.specs.Refusals.{refusal_rows}
-use Rattle.causal_protocol.specs.Steps.{LegalStep, Steps, extend_run, delivery_of, sends_of}
+use Rattle.causal_protocol.specs.Refusals.{request_refusals}
+use Rattle.causal_protocol.specs.Steps.{LegalStep, Steps, extend_run, delivery_entry, sends_of}
 use Rattle.causal_core.proofs.BoxLemmas.{map-set}
 use Rattle.causal_core.proofs.UpAfterStep.{delivery_up, changed_up}
 use Rattle.causal_log.specs.Logs.{after_mark}
@@ -30,7 +30,7 @@ crash_done r next p first s = s.grown ∙ ap (extend_run r (Requests.Crash p)) s
 
 -- a crashed process is a process of the run
 pub crash_below : (r next : Run) (p : Pid) (first : ℕ) → Steps r (Requests.Crash p) (Replies.Crashed first) next → p.0 < r.recording.processes
-unfolding LegalStep refusal_rows
+unfolding LegalStep request_refusals
 crash_below r next p first s = grind arith
 
 -- it is down then, and the others are unchanged
@@ -52,7 +52,7 @@ pub stable_stored : (r next : Run) (p : Pid) (det : Det) (old new : DetSet) → 
 stable_stored r next p det old new run put stored d = grind (arith, has_with)
 
 -- a delivery and its sends change neither which processes are up nor what is stable
-module _ (r mid next : Run) (q source : Pid) (ssn : ℕ) (m : MsgName) (k : ℕ) (tos : List Pid) (same : mid ≡ r) (run : next ≡ extend_run mid (Requests.Deliver q source ssn) (delivery_of mid q m ∷ sends_of q k tos)) where
+module _ (r mid next : Run) (q source : Pid) (ssn : ℕ) (m : MsgName) (k : ℕ) (tos : List Pid) (same : mid ≡ r) (run : next ≡ extend_run mid (Requests.Deliver q source ssn) (delivery_entry mid q m ∷ sends_of q k tos)) where
   pub delivery_filled : map is_some (memories_of next) ≡ map is_some (memories_of r)
   delivery_filled = grind (arith, delivery_up)
 

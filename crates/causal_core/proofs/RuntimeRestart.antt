@@ -23,7 +23,7 @@ use Rattle.causal_protocol.specs.declared.request.CoreFault.TheVariants as Fault
 use Rattle.causal_protocol.specs.Memory.{Memory, Memories, new_memory, present_at}
 use Rattle.causal_protocol.specs.Gathering.{stable_set, restart_log}
 use Rattle.causal_protocol.specs.Run.{Run, memories, memories_of, stable_of}
-use Rattle.causal_protocol.specs.Refusals.{refusal_rows, first_fault_in, first_fault, exceeds_limits, fault_if, restart_list}
+use Rattle.causal_protocol.specs.Refusals.{request_refusals, first_fault_in, request_fault, exceeds_limits, fault_if, restart_list}
 use Rattle.causal_protocol.specs.Steps.{extend_run, append_all, sends_of}
 use Rattle.causal_core.specs.Inside.MemoryInvariant.{MatchesEntries, MatchesEntriesAt, AllMatchEntries}
 use Rattle.causal_core.specs.Inside.Gathers.{is_logged, listing_fault}
@@ -85,8 +85,8 @@ pub record MayRestart (r : Run) (p : Pid) : Type 0 where
   pub lanes : restarts r.recording.past < 192
 
 -- a restart that is not refused is of a down process, and the trace has capacity for it
-pub may_restart : (r : Run) (p : Pid) → AllMatchEntries r.recording.processes r.recording.past (memories_of r) → first_fault r (Requests.Restart p) ≡ None → MayRestart r p
-unfolding refusal_rows
+pub may_restart : (r : Run) (p : Pid) → AllMatchEntries r.recording.processes r.recording.past (memories_of r) → request_fault r (Requests.Restart p) ≡ None → MayRestart r p
+unfolding request_refusals
 may_restart r p fit none = grind arith
 
 -- then its entry is legal
@@ -121,8 +121,8 @@ few_stable [] = grind (arith, fin.len-empty)
 few_stable (each ∷ others) = grind (arith, few_stable others, fin.len-insert, dets_total)
 
 -- the first refusal of a restart is that of a restart with the length of the gathered list
-pub restart_lists : (r : Run) (p : Pid) (listed : ℕ) → listed ≡ length (restart_list r p) → listing_fault r p listed ≡ first_fault r (Requests.Restart p)
-unfolding refusal_rows
+pub restart_lists : (r : Run) (p : Pid) (listed : ℕ) → listed ≡ length (restart_list r p) → listing_fault r p listed ≡ request_fault r (Requests.Restart p)
+unfolding request_refusals
 restart_lists r p listed is = ap (listing_fault r p) is
 
 -- the length of the gathered log is that of the list
@@ -136,7 +136,7 @@ stands : (a b less more : Bool) (fault : CoreFault) → (less ≡ true → more 
 stands a b less more fault h h2 = grind arith
 
 -- the refusal of a restart with an empty list is that of each restart
-pub none_listed : (r : Run) (p : Pid) (fault : CoreFault) → listing_fault r p 0 ≡ Some fault → first_fault r (Requests.Restart p) ≡ Some fault
+pub none_listed : (r : Run) (p : Pid) (fault : CoreFault) → listing_fault r p 0 ≡ Some fault → request_fault r (Requests.Restart p) ≡ Some fault
 none_listed r p fault h =
     sym (restart_lists r p (length (restart_list r p)) refl)
     ∙ stands (not (nat_lt p.0 r.recording.processes)) (is_some (present_at (memories_of r) p.0)) _ _ fault (longer r (length (restart_list r p))) h
@@ -150,8 +150,8 @@ pub gathering_told : (r : Run) (p : Pid) (listed : ℕ) (fault : CoreFault) → 
 gathering_told r p listed fault h = grind arith
 
 -- if a restart is not refused, its process is one of the run
-pub restart_below : (r : Run) (p : Pid) → first_fault r (Requests.Restart p) ≡ None → p.0 < r.recording.processes
-unfolding refusal_rows
+pub restart_below : (r : Run) (p : Pid) → request_fault r (Requests.Restart p) ≡ None → p.0 < r.recording.processes
+unfolding request_refusals
 restart_below r p none = grind arith
 
 -- which processes are up after a restart, and what is stable

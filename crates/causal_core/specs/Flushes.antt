@@ -4,7 +4,7 @@ use Rattle.causal_name.specs.declared.Pid.{Pid}
 use Rattle.causal_protocol.specs.declared.request.FlushFault.{FlushFault}
 use Rattle.causal_protocol.specs.declared.request.CoreFault.TheVariants as Faults
 use Rattle.causal_protocol.specs.declared.request.Request.TheVariants as Requests
-use Rattle.causal_protocol.specs.Refusals.{dets_to_flush, first_fault}
+use Rattle.causal_protocol.specs.Refusals.{dets_to_flush, request_fault}
 use Rattle.causal_protocol.specs.Run.{Run}
 
 -- the store's count of faults rose, or is at its maximum
@@ -17,7 +17,7 @@ FaultMeansFailure old new f = f.fault ≡ Faults.StoreFault → HasFailed old ne
 
 -- no row refuses a flush of p, and it has a determinant to write
 pub record HasUnflushed (r : Run) (p : Pid) : Type 0 where
-  pub legal : first_fault r (Requests.Flush p) ≡ None
+  pub legal : request_fault r (Requests.Flush p) ≡ None
   pub some : 0 < length (dets_to_flush r p)
 
 -- if the store can count no more faults, such a flush fails with `StoreFault` before it allocates, and writes nothing

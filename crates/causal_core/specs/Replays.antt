@@ -13,7 +13,7 @@ use Rattle.causal_protocol.specs.declared.request.Delivered.{Delivered}
 use Rattle.causal_protocol.specs.Run.{Run}
 use Rattle.causal_protocol.specs.Steps.{Steps}
 use Rattle.causal_core.specs.Boxes.{answers_at, prepend_answers, SameElsewhere}
-use Rattle.causal_core.specs.View.{body_at, named_message_of, IsReason}
+use Rattle.causal_core.specs.View.{body_at, named_message_of, IsFirstRefusal}
 use Rattle.causal_core.specs.CoreView.{CoreState, IsUnchanged, Delivers}
 
 -- one delivery of a replay: its `Delivered` value, the input of the box, and what the box sent
@@ -36,7 +36,7 @@ sends_in (x ∷ xs) = sends_in xs ++ x.sends ∷ []
 abbrev pub IsRefused : Run → Pid → CoreFault → Result (Option MsgName) CoreFault → Type 0
 IsRefused r p fault (Err delivered) = fault ≡ delivered
 IsRefused r p fault (Ok None) = ⊥
-IsRefused r p fault (Ok (Some m)) = IsReason r (Requests.Deliver p m.source m.ssn) fault
+IsRefused r p fault (Ok (Some m)) = IsFirstRefusal r (Requests.Deliver p m.source m.ssn) fault
 
 -- the delivery of the message that is named for p's next one is refused with this fault
 abbrev pub RefusesNamed : Run → Pid → CoreFault → Type 0
@@ -44,9 +44,9 @@ RefusesNamed r p fault = IsRefused r p fault (named_message_of r p)
 
 -- why a replay ended after `count` deliveries that led to this run: without a refusal, its limit is reached or no message
 -- is named for the next delivery; with a refusal, that delivery is refused so
-abbrev pub HasEnded : Pid → ℕ → ℕ → Option CoreFault → Run → Type 0
-HasEnded p limit count None r = (count ≡ limit) ⊎ (named_message_of r p ≡ Ok None)
-HasEnded p limit count (Some fault) r = (count < limit) × RefusesNamed r p fault
+abbrev pub ReplayEnds : Pid → ℕ → ℕ → Option CoreFault → Run → Type 0
+ReplayEnds p limit count None r = (count ≡ limit) ⊎ (named_message_of r p ≡ Ok None)
+ReplayEnds p limit count (Some fault) r = (count < limit) × RefusesNamed r p fault
 
 module _ {B : Type 0} (answers : B → List Input → List (List Outgoing)) where
   -- the message that is named for p's next delivery is delivered, with this `Delivered` value, input and sends

@@ -13,10 +13,10 @@ use Rattle.causal_protocol.specs.declared.request.CoreFault.TheVariants as Fault
 use Rattle.causal_protocol.specs.declared.request.Request.{Request}
 use Rattle.causal_protocol.specs.declared.request.Request.TheVariants as Requests
 use Rattle.causal_trace.specs.declared.entry.Entry.TheVariants as Entries
-use Rattle.causal_protocol.specs.Refusals.{fault_if, first_fault_in, first_fault, restart_list}
+use Rattle.causal_protocol.specs.Refusals.{fault_if, first_fault_in, request_fault, restart_list}
 use Rattle.causal_protocol.specs.Naming.{next_det, next_ssn}
 use Rattle.causal_memory.specs.ProcessMemories.{Capacity}
-use Rattle.causal_protocol.specs.Steps.{delivery_of, extend_run, reason_of, sends_of}
+use Rattle.causal_protocol.specs.Steps.{delivery_entry, extend_run, reason_of, sends_of}
 
 -- a run, the bodies of the kept messages, and the reserved capacities, which are not part of the run
 pub record RunDataState : Type 0 where
@@ -49,7 +49,7 @@ sent_in r sends = sent_bodies r.recording.processes sends
 -- the run after a delivery to q of the named message, and the sends of that step
 abbrev pub with_delivery : Run → Pid → MsgName → List Outgoing → Run
 with_delivery r q m sends =
-    extend_run r (Requests.Deliver q m.source m.ssn) (delivery_of r q m ∷ sends_of q (next_ssn (memories_of r) q) (receivers r.recording.processes sends))
+    extend_run r (Requests.Deliver q m.source m.ssn) (delivery_entry r q m ∷ sends_of q (next_ssn (memories_of r) q) (receivers r.recording.processes sends))
 
 -- the run after a restart of p, and the sends of that step
 abbrev pub with_restart : Run → Pid → List Outgoing → Run
@@ -73,8 +73,8 @@ abbrev pub named_message_of : Run → Pid → Result (Option MsgName) CoreFault
 named_message_of r q = if nat_lt q.0 r.recording.processes then named_message_if_up r q (present_at (memories_of r) q.0) else Err Faults.NoProcess
 
 -- the fault of a refused request is the first refusal that applies, or `NoMemory` if none does
-abbrev pub IsReason : Run → Request → CoreFault → Type 0
-IsReason r request fault = first_fault r request ≡ reason_of fault
+abbrev pub IsFirstRefusal : Run → Request → CoreFault → Type 0
+IsFirstRefusal r request fault = request_fault r request ≡ reason_of fault
 
 -- the first refusal that applies to a gathering for p
 abbrev pub gathering_fault : Run → Pid → Option CoreFault

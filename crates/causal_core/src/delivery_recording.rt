@@ -7,7 +7,7 @@ ghost use Rattle.causal_trace.specs.Past.{message_at};
 ghost use Rattle.causal_trace.specs.Rows.{IsWellFormed};
 ghost use Rattle.causal_protocol.specs.Memory.{present_at};
 ghost use Rattle.causal_core.specs.Inside.MemoryInvariant.{MatchesEntries, AllMatchEntries};
-ghost use Rattle.causal_core.specs.Inside.DeliveryRecords.{entry_of, next_batch, memory_after_step, memories_after_step, with_step};
+ghost use Rattle.causal_core.specs.Inside.DeliveryRecords.{planned_entry, next_batch, memory_after_step, memories_after_step, with_step};
 ghost use Rattle.causal_core.specs.Inside.DeliveryRecords.{IsBatchDelivered, IsLogDelivered, IsLegalNext, OthersStillFit};
 ghost use Rattle.causal_memory.specs.ProcessMemories.{memory_of, bodies_of, capacity_of};
 ghost use Rattle.causal_core.specs.Inside.Memories.{memories_in, memory_at, bodies_in};
@@ -34,10 +34,10 @@ pub(crate) fn record_delivery(
     sends: Vec<Outgoing>,
 ) -> u32
     requires process { q.0 < trace.old.recording.processes }
-    requires legal { IsLegalNext trace.old.recording (entry_of q grown) }
+    requires legal { IsLegalNext trace.old.recording (planned_entry q grown) }
     requires sent { message_at trace.old.recording.past grown.send ≡ Some (message_of grown.own) }
     requires fit { MatchesEntries trace.old.recording.past q.0 (memory_of process_memory.old) }
-    requires logged { IsLogDelivered trace.old.recording.past (entry_of q grown)
+    requires logged { IsLogDelivered trace.old.recording.past (planned_entry q grown)
         (log_after_plan grown (memory_of process_memory.old).log) }
     requires ascending { is_ascending (dets_of (next_batch grown)) ≡ true }
     requires delivered { IsBatchDelivered trace.old.recording.past q grown }
@@ -94,11 +94,11 @@ pub(crate) fn record_delivery_at(
 ) -> u32
     requires process { q.0 < trace.old.recording.processes }
     requires up { is_some (present_at (memories_in process_memories.old.items) q.0) ≡ true }
-    requires legal { IsLegalNext trace.old.recording (entry_of q grown) }
+    requires legal { IsLegalNext trace.old.recording (planned_entry q grown) }
     requires sent { message_at trace.old.recording.past grown.send ≡ Some (message_of grown.own) }
     requires fit { AllMatchEntries trace.old.recording.processes trace.old.recording.past
         (memories_in process_memories.old.items) }
-    requires logged { IsLogDelivered trace.old.recording.past (entry_of q grown)
+    requires logged { IsLogDelivered trace.old.recording.past (planned_entry q grown)
         (log_after_plan grown (memory_at (memories_in process_memories.old.items) q.0).log) }
     requires ascending { is_ascending (dets_of (next_batch grown)) ≡ true }
     requires delivered { IsBatchDelivered trace.old.recording.past q grown }

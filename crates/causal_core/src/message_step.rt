@@ -4,7 +4,7 @@ ghost use Rattle.causal_process.specs.declared.message.Input.TheVariants.{Messag
 ghost use Rattle.causal_protocol.specs.declared.request.Request.TheVariants as Requests;
 ghost use Rattle.causal_protocol.specs.Memory.{present_at};
 ghost use Rattle.causal_protocol.specs.Naming.{message_name};
-ghost use Rattle.causal_protocol.specs.Refusals.{first_fault};
+ghost use Rattle.causal_protocol.specs.Refusals.{request_fault};
 ghost use Rattle.causal_core.specs.Inside.Slots.{HasBox, IsStepResult};
 ghost use Rattle.causal_core.specs.View.{body_at, body_in};
 ghost use Rattle.causal_memory.specs.ProcessMemories.{memory_of, bodies_of, capacity_of};
@@ -125,7 +125,7 @@ impl RunData {
         ssn: u32,
     ) -> Result<Vec<Outgoing>, NoMemory>
         requires box_there { HasBox slots.old.items q.0 }
-        requires legal { first_fault self.old.run (Requests.Deliver q source ssn) ≡ None }
+        requires legal { request_fault self.old.run (Requests.Deliver q source ssn) ≡ None }
         ensures given { IsStepResult answers q.0
             (Given source (body_at self.old.bodies (message_name source ssn))) result
             slots.old.items slots.new.items }

@@ -2,7 +2,7 @@
 ghost use Rattle.std.specs.Prelude.{◌≡◌, ◌≤◌, ◌<◌, IfOk, IfErr, IsOk, OnOk, OnErr, Err, None};
 ghost use Rattle.causal_core.specs.CoreView.{core_run, core_state, core_replay_refusal, IsUnchanged};
 ghost use Rattle.causal_core.specs.View.{named_message_of};
-ghost use Rattle.causal_core.specs.Replays.{HasEnded, RefusesNamed, IsReplay, IsReplayStep};
+ghost use Rattle.causal_core.specs.Replays.{ReplayEnds, RefusesNamed, IsReplay, IsReplayStep};
 
 use crate::runtime::Core;
 use causal_log::Stable;
@@ -43,7 +43,7 @@ impl<S: Stable> Core<S> {
         requires { p.0 < 256 }
         ensures made { IsReplay answers p result.count (core_state self.old) (core_state self.new) }
         ensures within { result.count ≤ limit }
-        ensures ends { HasEnded p limit result.count result.refusal (core_run self.new) }
+        ensures ends { ReplayEnds p limit result.count result.refusal (core_run self.new) }
     {
         for count in 0..limit {
             match self.deliver_named(p) {
@@ -86,7 +86,7 @@ impl<S: Stable> Core<S> {
             (λ count. IsReplay answers p count (core_state self.old) (core_state self.new)) }
         ensures within { IfOk result (λ count. count ≤ limit) }
         ensures ends { IfOk result
-            (λ count. HasEnded p limit count (core_replay_refusal self.new) (core_run self.new)) }
+            (λ count. ReplayEnds p limit count (core_replay_refusal self.new) (core_run self.new)) }
         ensures first { IfOk result
             (λ count. count ≡ 0 → core_replay_refusal self.new ≡ None) }
         ensures legal { OnOk result (IsOk (named_message_of (core_run self.old) p)) }

@@ -9,7 +9,7 @@ ghost use Rattle.causal_protocol.specs.Memory.{present_at, update_at};
 ghost use Rattle.causal_protocol.specs.Gathering.{restart_log};
 ghost use Rattle.causal_protocol.specs.Run.{memories_of, stable_of};
 ghost use Rattle.causal_protocol.specs.Naming.{message_name, next_rsn};
-ghost use Rattle.causal_protocol.specs.Refusals.{first_fault, restart_list};
+ghost use Rattle.causal_protocol.specs.Refusals.{request_fault, restart_list};
 ghost use Rattle.causal_protocol.specs.Steps.{Steps, reply_of_crash};
 ghost use Rattle.causal_core.specs.Inside.Stables.{IsStored};
 ghost use Rattle.causal_core.specs.Inside.DeliveryRecords.{delivery_request_of};
@@ -22,7 +22,7 @@ ghost use Rattle.causal_core.specs.Inside.Memories.{log_at, memories_in, bodies_
 ghost use Rattle.causal_core.specs.View.{gathering_fault, named_message_of, with_delivery};
 ghost use Rattle.causal_core.specs.Inside.Memories.{stored_for};
 ghost use Rattle.causal_core.specs.View.{with_bodies};
-ghost use Rattle.causal_core.specs.View.{IsReason};
+ghost use Rattle.causal_core.specs.View.{IsFirstRefusal};
 ghost use Rattle.causal_core.specs.Inside.DeliveryPlans.{IsDeliveryPlan};
 ghost use Rattle.causal_core.specs.Inside.Memories.{HasCapacity};
 ghost use Rattle.causal_trace.specs.Limits.{max_entries};
@@ -146,9 +146,9 @@ impl RunData {
     }
 
     /// Returns the first refusal that applies to a crash of p, if there is one.
-    #[tactic(auto, unfolding(causal_protocol::specs::Refusals::refusal_rows))]
+    #[tactic(auto, unfolding(causal_protocol::specs::Refusals::request_refusals))]
     fn crash_fault(&self, p: Pid) -> Option<CoreFault>
-        ensures { result ≡ first_fault self.now.run (Requests.Crash p) }
+        ensures { result ≡ request_fault self.now.run (Requests.Crash p) }
     {
         if !is_process(p, self.trace.processes()) {
             return Some(CoreFault::NoProcess);
@@ -193,7 +193,7 @@ impl RunData {
         stored: Option<Det>,
     ) -> Option<CoreFault>
         requires { stored ≡ stored_for self.now.run q }
-        ensures { result ≡ first_fault self.now.run (Requests.Deliver q source ssn) }
+        ensures { result ≡ request_fault self.now.run (Requests.Deliver q source ssn) }
     {
         if !are_processes(q, source, self.trace.processes()) {
             return Some(CoreFault::NoProcess);
@@ -242,7 +242,7 @@ impl RunData {
         source: Pid,
         ssn: u32,
     ) -> Result<DeliveryPlan, NoMemory>
-        requires { first_fault self.now.run (Requests.Deliver q source ssn) ≡ None }
+        requires { request_fault self.now.run (Requests.Deliver q source ssn) ≡ None }
         ensures { IfOk result (λ g. IsDeliveryPlan self.now q (message_name source ssn) g) }
     {
         let process_memories = self.process_memories.as_slice();
@@ -285,9 +285,9 @@ impl RunData {
         requires { stored ≡ stored_for self.old.run q }
         ensures run { self.new.run ≡ self.old.run }
         ensures bodies { self.new.bodies ≡ self.old.bodies }
-        ensures legal { OnOk result (first_fault self.old.run (Requests.Deliver q source ssn)
+        ensures legal { OnOk result (request_fault self.old.run (Requests.Deliver q source ssn)
             ≡ None) }
-        ensures refused { IfErr result (IsReason self.old.run (Requests.Deliver q source ssn)) }
+        ensures refused { IfErr result (IsFirstRefusal self.old.run (Requests.Deliver q source ssn)) }
         ensures grown { IfOk result (λ g. IsDeliveryPlan self.new q (message_name source ssn) g) }
         ensures room { IfOk result (λ g. HasCapacity q.0 (length (piggyback_of g) + 1) self.new) }
     {
@@ -307,7 +307,7 @@ impl RunData {
 
     /// Records a delivery to q and its sends, after the box has stepped.
     pub(crate) fn finish(&mut self, q: Pid, grown: DeliveryPlan, sends: Vec<Outgoing>) -> Delivered
-        requires legal { first_fault self.old.run (delivery_request_of q grown) ≡ None }
+        requires legal { request_fault self.old.run (delivery_request_of q grown) ≡ None }
         requires grown { IsDeliveryPlan self.old q (message_of grown.own) grown }
         requires few { length sends.items ≤ 8 }
         requires room { HasCapacity q.0 (length (piggyback_of grown) + 1) self.old }

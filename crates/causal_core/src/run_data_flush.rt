@@ -4,10 +4,10 @@ ghost use Rattle.causal_log.specs.Logs.{after_drop_stable};
 ghost use Rattle.causal_trace.specs.declared.entry.Entry.TheVariants as Entries;
 ghost use Rattle.causal_protocol.specs.declared.request.Request.TheVariants as Requests;
 ghost use Rattle.causal_protocol.specs.Memory.{present_at, update_at, with_log};
-ghost use Rattle.causal_protocol.specs.Refusals.{first_fault, dets_to_flush, dets_to_forget};
+ghost use Rattle.causal_protocol.specs.Refusals.{request_fault, dets_to_flush, dets_to_forget};
 ghost use Rattle.causal_protocol.specs.Steps.{extend_run, Steps, reply_of_forget};
 ghost use Rattle.causal_core.specs.Flushes.{HasUnflushed};
-ghost use Rattle.causal_core.specs.View.{IsReason};
+ghost use Rattle.causal_core.specs.View.{IsFirstRefusal};
 ghost use Rattle.causal_core.specs.Inside.Memories.{memories_in, bodies_in};
 ghost use Rattle.causal_trace.specs.Limits.{max_entries};
 
@@ -34,9 +34,9 @@ fn drop_stable_at(process_memories: &mut Vec<Option<ProcessMemory>>, p: Pid)
 
 impl RunData {
     /// Returns the first refusal that applies to a flush of p, if there is one.
-    #[tactic(auto, unfolding(causal_protocol::specs::Refusals::refusal_rows))]
+    #[tactic(auto, unfolding(causal_protocol::specs::Refusals::request_refusals))]
     fn flush_fault(&self, p: Pid) -> Option<CoreFault>
-        ensures { result ≡ first_fault self.now.run (Requests.Flush p) }
+        ensures { result ≡ request_fault self.now.run (Requests.Flush p) }
     {
         if !is_process(p, self.trace.processes()) {
             return Some(CoreFault::NoProcess);
@@ -87,8 +87,8 @@ impl RunData {
     pub(crate) fn prepare_flush(&mut self, alloc: Global, p: Pid) -> Result<Vec<Det>, CoreFault>
         ensures run { self.new.run ≡ self.old.run }
         ensures bodies { self.new.bodies ≡ self.old.bodies }
-        ensures legal { OnOk result (first_fault self.old.run (Requests.Flush p) ≡ None) }
-        ensures refused { IfErr result (IsReason self.old.run (Requests.Flush p)) }
+        ensures legal { OnOk result (request_fault self.old.run (Requests.Flush p) ≡ None) }
+        ensures refused { IfErr result (IsFirstRefusal self.old.run (Requests.Flush p)) }
         ensures dets { IfOk result (λ dets. dets.items ≡ dets_to_flush self.old.run p) }
         ensures room { IfOk result (λ dets. length dets.items ≤ self.new.stable_capacity) }
     {
@@ -105,9 +105,9 @@ impl RunData {
     }
 
     /// Returns the first refusal that applies to a forget of p, if there is one.
-    #[tactic(auto, unfolding(causal_protocol::specs::Refusals::refusal_rows))]
+    #[tactic(auto, unfolding(causal_protocol::specs::Refusals::request_refusals))]
     fn forget_fault(&self, p: Pid) -> Option<CoreFault>
-        ensures { result ≡ first_fault self.now.run (Requests.Forget p) }
+        ensures { result ≡ request_fault self.now.run (Requests.Forget p) }
     {
         if !is_process(p, self.trace.processes()) {
             return Some(CoreFault::NoProcess);
@@ -155,7 +155,7 @@ impl RunData {
 
     /// Records that p forgets these determinants, which must be all that it knows to be stable.
     fn record_forget(&mut self, p: Pid, listed: Vec<Det>) -> u32
-        requires legal { first_fault self.old.run (Requests.Forget p) ≡ None }
+        requires legal { request_fault self.old.run (Requests.Forget p) ≡ None }
         requires listed { listed.items ≡ dets_to_forget self.old.run p }
         requires some { 1 ≤ length listed.items }
         requires spare { 1 ≤ self.old.spare }

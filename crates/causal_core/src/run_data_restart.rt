@@ -5,13 +5,13 @@ ghost use Rattle.causal_trace.specs.Past.{restarts};
 ghost use Rattle.causal_protocol.specs.declared.request.Request.TheVariants as Requests;
 ghost use Rattle.causal_protocol.specs.declared.request.Reply.TheVariants as Replies;
 ghost use Rattle.causal_protocol.specs.Gathering.{restart_log};
-ghost use Rattle.causal_protocol.specs.Refusals.{first_fault, exceeds_limits};
+ghost use Rattle.causal_protocol.specs.Refusals.{request_fault, exceeds_limits};
 ghost use Rattle.causal_protocol.specs.Run.{memories_of, stable_of};
 ghost use Rattle.causal_protocol.specs.Steps.{Steps};
 ghost use Rattle.causal_core.specs.Inside.Stables.{IsStored};
 ghost use Rattle.causal_core.specs.Inside.Gathers.{listing_fault, IsRestartPlanFor};
 ghost use Rattle.causal_memory.specs.RestartPlans.{IsRestartPlan};
-ghost use Rattle.causal_core.specs.View.{sent_in, with_restart, IsReason};
+ghost use Rattle.causal_core.specs.View.{sent_in, with_restart, IsFirstRefusal};
 ghost use Rattle.causal_core.specs.Inside.GatherCaches.{IsGatherCache};
 ghost use Rattle.causal_protocol.specs.Memory.{present_at};
 ghost use Rattle.causal_memory.specs.ProcessMemories.{memory_of, bodies_of};
@@ -84,7 +84,7 @@ impl RunData {
     /// is stable. It allocates nothing: it searches the preceding logs for each logged determinant.
     fn restart_fault<S: Stable>(&self, p: Pid, store: &S) -> Option<CoreFault>
         requires { IsStored (S.contents store.now) self.now.run.recording.past }
-        ensures { result ≡ first_fault self.now.run (Requests.Restart p) }
+        ensures { result ≡ request_fault self.now.run (Requests.Restart p) }
     {
         self.listing_fault(p, count_gathered(self.process_memories.as_slice(), store))
     }
@@ -131,7 +131,7 @@ impl RunData {
         requires cache_is_right { IsGatherCache self.now.run gather_cache.old }
         ensures ok { IfOk result
             (λ log. log.map ≡ restart_log (memories_of self.now.run) (stable_of self.now.run) p) }
-        ensures refused { IfErr result (IsReason self.now.run (Requests.Restart p)) }
+        ensures refused { IfErr result (IsFirstRefusal self.now.run (Requests.Restart p)) }
         ensures cache_is_right { IsGatherCache self.now.run gather_cache.new }
     {
         match self.reuse_or_gather(alloc, p, store, gather_cache) {
@@ -161,8 +161,8 @@ impl RunData {
         requires { log.map ≡ restart_log (memories_of self.old.run) (stable_of self.old.run) p }
         ensures run { self.new.run ≡ self.old.run }
         ensures bodies { self.new.bodies ≡ self.old.bodies }
-        ensures legal { OnOk result (first_fault self.old.run (Requests.Restart p) ≡ None) }
-        ensures refused { IfErr result (IsReason self.old.run (Requests.Restart p)) }
+        ensures legal { OnOk result (request_fault self.old.run (Requests.Restart p) ≡ None) }
+        ensures refused { IfErr result (IsFirstRefusal self.old.run (Requests.Restart p)) }
         ensures gathered { IfOk result (IsRestartPlanFor self.old.run p) }
         ensures room { OnOk result (9 ≤ self.new.spare) }
     {
@@ -188,8 +188,8 @@ impl RunData {
         requires cache_is_right { IsGatherCache self.old.run gather_cache.old }
         ensures run { self.new.run ≡ self.old.run }
         ensures bodies { self.new.bodies ≡ self.old.bodies }
-        ensures legal { OnOk result (first_fault self.old.run (Requests.Restart p) ≡ None) }
-        ensures refused { IfErr result (IsReason self.old.run (Requests.Restart p)) }
+        ensures legal { OnOk result (request_fault self.old.run (Requests.Restart p) ≡ None) }
+        ensures refused { IfErr result (IsFirstRefusal self.old.run (Requests.Restart p)) }
         ensures gathered { IfOk result (IsRestartPlanFor self.old.run p) }
         ensures room { OnOk result (9 ≤ self.new.spare) }
         ensures cache_is_right { IsGatherCache self.new.run gather_cache.new }
@@ -211,7 +211,7 @@ impl RunData {
         gathered: RestartPlan,
         sends: Vec<Outgoing>,
     ) -> Restarted
-        requires legal { first_fault self.old.run (Requests.Restart p) ≡ None }
+        requires legal { request_fault self.old.run (Requests.Restart p) ≡ None }
         requires gathered { IsRestartPlanFor self.old.run p gathered }
         requires few { length sends.items ≤ 8 }
         requires room { 9 ≤ self.old.spare }

@@ -45,8 +45,8 @@ AreCalls s word (call ∷ calls) old new =
     (chosen s word old ≡ Some call.request) × ((mid : Run) × (Steps old call.request call.reply mid × AreCalls s (next_word word) calls mid new))
 
 -- why the calls ended, after this many, at this run
-abbrev pub HasEnded : Schedule → End → ℕ → Run → Type 0
-HasEnded s Ends.Quiet count r = moves r ≡ []
-HasEnded s Ends.Steps count r = count ≡ s.steps
-HasEnded s Ends.NoSpare count r = (p : Pid) × (chosen s (word_after (first_word s) count) r ≡ Some (Requests.Restart p))
-HasEnded s Ends.NoMemory count r = Unit {0}
+abbrev pub HasScheduleEnded : Schedule → End → ℕ → Run → Type 0
+HasScheduleEnded s Ends.Quiet count r = moves r ≡ []
+HasScheduleEnded s Ends.Steps count r = count ≡ s.steps
+HasScheduleEnded s Ends.NoSpare count r = (p : Pid) × (chosen s (word_after (first_word s) count) r ≡ Some (Requests.Restart p))
+HasScheduleEnded s Ends.NoMemory count r = Unit {0}

@@ -6,7 +6,7 @@ ghost use Rattle.causal_name.specs.declared.Pid.{Pid};
 ghost use Rattle.causal_protocol.specs.declared.request.Request.TheVariants as Requests;
 ghost use Rattle.causal_protocol.specs.Steps.{Steps};
 ghost use Rattle.causal_core.specs.CoreView.{core_run};
-ghost use Rattle.causal_driver.specs.Schedules.{chosen_among, first_word, AreCalls, HasEnded};
+ghost use Rattle.causal_driver.specs.Schedules.{chosen_among, first_word, AreCalls, HasScheduleEnded};
 ghost use Rattle.causal_driver.specs.Inside.Turns.{IsTurn};
 
 use crate::options::{disturbance, moves};
@@ -152,7 +152,7 @@ pub fn drive<S: Stable>(
     ensures calls { AreCalls schedule (first_word schedule)
         result.calls.items (core_run core.old) (core_run core.new) }
     ensures few { length result.calls.items ≤ schedule.steps }
-    ensures end { HasEnded schedule result.end (length result.calls.items) (core_run core.new) }
+    ensures end { HasScheduleEnded schedule result.end (length result.calls.items) (core_run core.new) }
 {
     let mut calls = Vec::new(alloc);
     let first = next_word(schedule.seed);

@@ -16,11 +16,11 @@ use Rattle.causal_log.specs.declared.batch.Item.{Item as LogItem}
 use Rattle.causal_log.specs.declared.known.Known.{Known}
 use Rattle.causal_log.specs.Knowledge.{is_carried}
 use Rattle.causal_log.specs.Logs.{LogMap, batch_items, item_of, dets_of as log_dets_of}
-use Rattle.causal_wire.specs.declared.parcel.Item.{Item as WireItem}
+use Rattle.causal_wire.specs.declared.parcel.ParcelItem.{ParcelItem as WireItem}
 use Rattle.causal_wire.specs.declared.parcel.LogEntry.{LogEntry}
-use Rattle.causal_wire.specs.Parcels.{AreWithoutSource, AreEntriesWithoutSource, IsWritable, dets_of}
-use Rattle.causal_node.specs.declared.node_answer.Reply.{Reply}
-use Rattle.causal_node.specs.declared.node_answer.Reply.TheVariants as Replies
+use Rattle.causal_wire.specs.Parcels.{AreWithoutSource, AreEntriesWithoutSource, IsWritable, parcel_dets}
+use Rattle.causal_node.specs.declared.node_answer.RoundReply.{RoundReply}
+use Rattle.causal_node.specs.declared.node_answer.RoundReply.TheVariants as Replies
 use Rattle.causal_endpoint.specs.Endpoints.{EndpointState}
 use Rattle.causal_endpoint.specs.Items.{wire_item, log_item, wire_entry}
 use Rattle.causal_endpoint.specs.Receiving.{reply_contents}
@@ -53,14 +53,14 @@ carried_few f log source =
     )
 
 -- a reply can be written
-pub reply_written : (e : EndpointState) (round : ℕ) (reply : Reply) → fin.len e.node.memory.log < 2 ^ 32 → IsWritable e.node.identity.me.0 (reply_contents e round reply)
+pub reply_written : (e : EndpointState) (round : ℕ) (reply : RoundReply) → fin.len e.node.memory.log < 2 ^ 32 → IsWritable e.node.identity.me.0 (reply_contents e round reply)
 reply_written e round Replies.Log h =
     (omega (arith, h, length-map (fin.entries e.node.memory.log) (wire_entry e.node.identity.me), fin.len-entries e.node.memory.log), entries_without e.node.identity.me (fin.entries e.node.memory.log))
 reply_written e round Replies.OwnNumber h = tt
 reply_written e round Replies.NotUp h = tt
 
 -- the items of a parcel and of its batch name the same determinants
-pub same_dets : (source : Pid) (items : List WireItem) → log_dets_of (map (log_item source) items) ≡ dets_of items
+pub same_dets : (source : Pid) (items : List WireItem) → log_dets_of (map (log_item source) items) ≡ parcel_dets items
 same_dets source [] = refl
 same_dets source (item ∷ items) = ap (λ ds. item.det ∷ ds) (same_dets source items)
 

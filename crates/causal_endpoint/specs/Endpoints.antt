@@ -3,7 +3,7 @@ use Rattle.std.specs.Prelude.{ℕ, ◌+◌, max}
 use Rattle.std.specs.Coded.{Coded, code_by, coded×, coded_ℕ}
 use Rattle.std.proofs.Common.{refl}
 use Rattle.causal_name.specs.declared.Pid.{Pid}
-use Rattle.causal_wire.specs.declared.parcel.Run.{Run}
+use Rattle.causal_wire.specs.declared.parcel.RunId.{RunId}
 use Rattle.causal_wire.specs.declared.parcel.Head.{Head}
 use Rattle.causal_node.specs.NodeStates.{NodeState, coded_node}
 
@@ -20,7 +20,7 @@ coded_endpoint =
     (λ e. (e.node, (e.run, e.clock))) (λ p. record { node = p.0; run = p.1.0; clock = p.1.1 }) (λ _. refl)
 
 -- the run, as parcels name it
-abbrev pub run_of : EndpointState → Run
+abbrev pub run_of : EndpointState → RunId
 run_of e = record { id = e.run; processes = e.node.identity.processes; f = e.node.identity.faults }
 
 -- the head of a parcel to a process, at this clock

@@ -7,7 +7,7 @@ use Rattle.causal_name.specs.declared.Pid.{Pid}
 use Rattle.causal_log.specs.declared.batch.Item.{Item as LogItem}
 use Rattle.causal_log.specs.declared.known.Known.{Known}
 use Rattle.causal_log.specs.Logs.{LogMap, after_learn_all}
-use Rattle.causal_wire.specs.declared.parcel.Item.{Item as WireItem}
+use Rattle.causal_wire.specs.declared.parcel.ParcelItem.{ParcelItem as WireItem}
 use Rattle.causal_wire.specs.declared.parcel.LogEntry.{LogEntry}
 
 -- an item of a batch, in a parcel from this process

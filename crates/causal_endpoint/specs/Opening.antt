@@ -1,7 +1,7 @@
 -- The refusals of opening an endpoint.
 use Rattle.std.specs.Prelude.{ℕ, ◌^◌, nat_le, Option, None}
 use Rattle.causal_node.specs.declared.node.Identity.{Identity}
-use Rattle.causal_node.specs.NodeRecovery.{open_fault as node_open_fault}
+use Rattle.causal_node.specs.NodeRecovery.{node_open_fault as node_open_fault}
 use Rattle.causal_endpoint.specs.declared.fault.EndpointFault.{EndpointFault}
 use Rattle.causal_endpoint.specs.declared.fault.EndpointFault.TheVariants as Faults
 use Rattle.causal_endpoint.specs.Refusals.{or_else, node_or}

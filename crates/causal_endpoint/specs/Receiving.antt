@@ -11,16 +11,16 @@ use Rattle.causal_log.specs.declared.batch.Item.{Item as LogItem}
 use Rattle.causal_log.specs.Logs.{dets_of}
 use Rattle.causal_wire.specs.declared.fault.WireFault.{WireFault}
 use Rattle.causal_wire.specs.declared.parcel.Head.{Head}
-use Rattle.causal_wire.specs.declared.parcel.Item.{Item as WireItem}
+use Rattle.causal_wire.specs.declared.parcel.ParcelItem.{ParcelItem as WireItem}
 use Rattle.causal_wire.specs.declared.parcel.LogEntry.{LogEntry}
 use Rattle.causal_wire.specs.Parcels.{Contents, message, acknowledgement, question, answer, own_number, not_up}
 use Rattle.causal_wire.specs.Bytes.{parcel_bytes}
-use Rattle.causal_node.specs.declared.node_answer.Reply.{Reply}
-use Rattle.causal_node.specs.declared.node_answer.Reply.TheVariants as Replies
+use Rattle.causal_node.specs.declared.node_answer.RoundReply.{RoundReply}
+use Rattle.causal_node.specs.declared.node_answer.RoundReply.TheVariants as Replies
 use Rattle.causal_node.specs.NodeStates.{NodeState}
 use Rattle.causal_node.specs.NodeRefusals.{deliver_fault}
-use Rattle.causal_node.specs.NodeSteps.{after_delivery}
-use Rattle.causal_node.specs.NodeAnswers.{answer_fault, reply_of, after_answer}
+use Rattle.causal_node.specs.NodeSteps.{node_after_delivery}
+use Rattle.causal_node.specs.NodeAnswers.{answer_fault, round_reply, node_after_answer}
 use Rattle.causal_node.specs.NodeAcknowledgements.{learn_fault, after_acknowledgement}
 use Rattle.causal_node.specs.NodeRecovery.{reply_fault, with_recovery, map_round, with_log_of, after_number, after_not_up}
 use Rattle.causal_endpoint.specs.declared.fault.EndpointFault.{EndpointFault}
@@ -64,13 +64,13 @@ receive_fault e now (Ok p) = parcel_fault e now p
 receive_fault e now (Err fault) = Some (Faults.Wire fault)
 
 -- the contents of the reply to a question of this round, by a process whose log has these entries
-abbrev pub reply_contents : EndpointState → ℕ → Reply → Contents
+abbrev pub reply_contents : EndpointState → ℕ → RoundReply → Contents
 reply_contents e round Replies.Log = answer round (map (wire_entry e.node.identity.me) (fin.entries e.node.memory.log))
 reply_contents e round Replies.OwnNumber = own_number round
 reply_contents e round Replies.NotUp = not_up round
 
 -- the bytes of that reply, to the process that asks, at this clock
-abbrev pub reply_bytes : EndpointState → Pid → ℕ → ℕ → Reply → List ℕ
+abbrev pub reply_bytes : EndpointState → Pid → ℕ → ℕ → RoundReply → List ℕ
 reply_bytes e to round clock reply = parcel_bytes (run_of e) (head_to e to clock, reply_contents e round reply)
 
 -- what a process has received: a delivery (the message's name, the lane of its source, the clock, the determinant, what
@@ -98,16 +98,16 @@ delivery_at n head ssn clock own items body = delivered (name_in head ssn) head.
 abbrev pub receipt_at : EndpointState → ℕ → Head → Contents → Receipt
 receipt_at e now head (message ssn items body) = delivery_at e.node head ssn (clock_after e now head) (det_from e.node.identity.me (length e.node.memory.received) (name_in head ssn)) items body
 receipt_at e now head (acknowledgement items) = learned head.source
-receipt_at e now head (question round view) = asked head.source (reply_bytes e head.source round (clock_after e now head) (reply_of e.node view))
+receipt_at e now head (question round view) = asked head.source (reply_bytes e head.source round (clock_after e now head) (round_reply e.node view))
 receipt_at e now head (answer round entries) = took_log head.source
 receipt_at e now head (own_number round) = took_number head.source
 receipt_at e now head (not_up round) = took_not_up head.source
 
 -- the node after it has taken a parcel's contents
 abbrev pub node_after : NodeState → Head → Contents → NodeState
-node_after n head (message ssn items body) = after_delivery n (name_in head ssn) (batch_in head items)
+node_after n head (message ssn items body) = node_after_delivery n (name_in head ssn) (batch_in head items)
 node_after n head (acknowledgement items) = after_acknowledgement n (batch_in head items)
-node_after n head (question round view) = after_answer n view
+node_after n head (question round view) = node_after_answer n view
 node_after n head (answer round entries) = with_recovery n (map_round (λ r. with_log_of r head.source.0 (log_from head.source entries)) n.recovery)
 node_after n head (own_number round) = after_number n head.source head.lane
 node_after n head (not_up round) = after_not_up n head.source head.lane

@@ -6,8 +6,8 @@ use Rattle.causal_name.specs.declared.Det.{Det}
 use Rattle.causal_name.specs.declared.MsgName.{MsgName}
 use Rattle.causal_wire.specs.declared.parcel.Head.{Head}
 use Rattle.causal_wire.specs.Parcels.{Contents, question}
-use Rattle.causal_node.specs.NodeRounds.{round_name, question_fault as node_question_fault}
-use Rattle.causal_node.specs.NodeRecovery.{with_recovery, map_round, after_read as node_after_read, new_round, stored_fault as node_stored_fault, restart_fault as node_restart_fault, after_stored as node_after_stored, after_restart_at}
+use Rattle.causal_node.specs.NodeRounds.{round_name, node_question_fault as node_question_fault}
+use Rattle.causal_node.specs.NodeRecovery.{with_recovery, map_round, node_after_read as node_after_read, new_round, node_stored_fault as node_stored_fault, node_restart_fault as node_restart_fault, node_after_stored as node_after_stored, after_restart_at}
 use Rattle.causal_endpoint.specs.declared.fault.EndpointFault.{EndpointFault}
 use Rattle.causal_endpoint.specs.Endpoints.{EndpointState, head_to, next_clock, with_node}
 use Rattle.causal_endpoint.specs.Refusals.{node_or, clock_fault}

@@ -15,7 +15,7 @@ use crate::items::without;
 use causal_holders::Holders;
 use causal_log::Log;
 use causal_name::{Det, NoMemory, Pid};
-use causal_wire::{Content, Item, Parcel, write};
+use causal_wire::{Content, Parcel, ParcelItem, write};
 use std::alloc::Global;
 
 /// Returns the known holders of a determinant; none if it is not logged.
@@ -29,11 +29,11 @@ fn holders_of(log: &Log, det: Det) -> Holders
 }
 
 /// Returns what a process says of a determinant that it logs.
-fn acknowledged_item(me: Pid, log: &Log, det: Det) -> Item
+fn acknowledged_item(me: Pid, log: &Log, det: Det) -> ParcelItem
     ensures { result ≡ acknowledged_item me log.now.map det }
 {
     let others = without(holders_of(log, det), me);
-    Item { det, others }
+    ParcelItem { det, others }
 }
 
 /// Returns the items of those of these determinants that are logged.
@@ -42,7 +42,7 @@ fn acknowledged_items(
     me: Pid,
     log: &Log,
     dets: &[Det],
-) -> Result<Vec<Item>, NoMemory>
+) -> Result<Vec<ParcelItem>, NoMemory>
     ensures { IfOk result (λ items. items.items ≡ acknowledged_items me log.now.map dets.now) }
 {
     let logged = dets.iter().filter(|det| log.known(**det).is_some());

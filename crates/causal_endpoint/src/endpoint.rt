@@ -8,7 +8,7 @@ ghost use Rattle.causal_endpoint.specs.Opening.{open_fault};
 use crate::fault::EndpointFault;
 use causal_name::Pid;
 use causal_node::node::{Identity, Node};
-use causal_wire::{Head, Run};
+use causal_wire::{Head, RunId};
 use std::alloc::Global;
 use std::marker::Model;
 
@@ -115,11 +115,11 @@ impl Endpoint {
     }
 
     /// Returns the run, as parcels name it.
-    pub(crate) fn run(&self) -> Run
+    pub(crate) fn run(&self) -> RunId
         ensures { result ≡ run_of self.now }
     {
         let identity = self.node.identity();
-        Run {
+        RunId {
             id: self.run,
             processes: identity.processes,
             f: identity.faults,

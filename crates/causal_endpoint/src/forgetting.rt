@@ -1,7 +1,7 @@
 //! Forgetting of what is known to be stable.
 ghost use Rattle.std.specs.Prelude.{◌≡◌, IfOk, IfErr, OnOk, OnErr, None};
 ghost use Rattle.causal_endpoint.specs.Refusals.{reason_of};
-ghost use Rattle.causal_endpoint.specs.Forgetting.{forget_fault, after_forget, IsForgotten};
+ghost use Rattle.causal_endpoint.specs.Forgetting.{forget_fault, endpoint_after_forget, IsForgotten};
 
 use crate::endpoint::{Endpoint, clock_fault};
 use crate::fault::EndpointFault;
@@ -21,7 +21,7 @@ impl Endpoint {
     /// # Errors
     /// The first of `NotUp` and `Clock`; if neither applies, `NoMemory` if allocation failed. A refusal changes nothing.
     pub fn forget(&mut self, now: u64) -> Result<Forgotten, EndpointFault>
-        ensures ok { OnOk result (self.new ≡ after_forget self.old now) }
+        ensures ok { OnOk result (self.new ≡ endpoint_after_forget self.old now) }
         ensures listed { IfOk result (IsForgotten self.old now) }
         ensures legal { OnOk result (forget_fault self.old now ≡ None) }
         ensures refused { IfErr result (λ fault. forget_fault self.old now ≡ reason_of fault) }

@@ -7,13 +7,13 @@ ghost use Rattle.std.specs.Option.{option_map};
 ghost use Rattle.std.specs.FinMap as fin;
 ghost use Rattle.std.specs.FinSet as set;
 ghost use Rattle.causal_name.specs.Names.{is_ascending};
-ghost use Rattle.causal_wire.specs.Parcels.{dets_of};
+ghost use Rattle.causal_wire.specs.Parcels.{parcel_dets};
 ghost use Rattle.causal_endpoint.specs.Items.{wire_item, log_item, wire_entry, log_entry, log_from};
 
 use causal_holders::Holders;
 use causal_log::{Batch, Item as LogItem, Known, Log};
 use causal_name::{Det, NoMemory, Pid};
-use causal_wire::{Item as WireItem, LogEntry};
+use causal_wire::{LogEntry, ParcelItem as WireItem};
 use std::alloc::Global;
 use std::sync::Arc;
 
@@ -62,12 +62,12 @@ fn log_items(alloc: Global, source: Pid, items: &[WireItem]) -> Result<Vec<LogIt
 }
 
 /// Returns the batch of the items of a parcel from this process.
-pub(crate) fn batch_of(
+pub(crate) fn batch_of_items(
     alloc: Global,
     source: Pid,
     items: &[WireItem],
 ) -> Result<Arc<Batch>, NoMemory>
-    requires { is_ascending (dets_of items.now) ≡ true }
+    requires { is_ascending (parcel_dets items.now) ≡ true }
     ensures { IfOk result (λ batch. arc_value batch ≡ map (log_item source) items.now) }
 {
     let carried = log_items(alloc, source, items)?;

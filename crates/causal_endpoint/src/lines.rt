@@ -4,9 +4,9 @@ ghost use Rattle.std.specs.Prelude.{◌≡◌, IfOk};
 ghost use Rattle.causal_endpoint.specs.Lines.{header_line, send_line, deliver_line, stable_line, crash_line, restart_line, forget_line};
 
 use crate::forgetting::Forgotten;
-use crate::receiving::Delivered;
-use crate::recovery::Restarted;
-use crate::sending::Sent;
+use crate::receiving::DeliveryRecord;
+use crate::recovery::RestartRecord;
+use crate::sending::SendRecord;
 use causal_name::{Det, NoMemory, Pid};
 use causal_spelling::{push_det, push_listed, push_named};
 use std::alloc::Global;
@@ -29,7 +29,7 @@ pub fn header_line(alloc: Global, me: Pid, processes: u16, run: u64) -> Result<V
 ///
 /// # Errors
 /// `NoMemory`.
-pub fn send_line(alloc: Global, me: Pid, to: Pid, sent: &Sent) -> Result<Vec<u8>, NoMemory>
+pub fn send_line(alloc: Global, me: Pid, to: Pid, sent: &SendRecord) -> Result<Vec<u8>, NoMemory>
     ensures { IfOk result (λ line. line.items ≡ send_line me to sent.now) }
 {
     let mut out = String::new(alloc);
@@ -47,7 +47,7 @@ pub fn send_line(alloc: Global, me: Pid, to: Pid, sent: &Sent) -> Result<Vec<u8>
 ///
 /// # Errors
 /// `NoMemory`.
-pub fn deliver_line(alloc: Global, me: Pid, delivered: &Delivered) -> Result<Vec<u8>, NoMemory>
+pub fn deliver_line(alloc: Global, me: Pid, delivered: &DeliveryRecord) -> Result<Vec<u8>, NoMemory>
     ensures { IfOk result (λ line. line.items ≡ deliver_line me delivered.now) }
 {
     let mut out = String::new(alloc);
@@ -94,7 +94,7 @@ pub fn crash_line(alloc: Global, who: Pid, clock: u64) -> Result<Vec<u8>, NoMemo
 ///
 /// # Errors
 /// `NoMemory`.
-pub fn restart_line(alloc: Global, me: Pid, restarted: &Restarted) -> Result<Vec<u8>, NoMemory>
+pub fn restart_line(alloc: Global, me: Pid, restarted: &RestartRecord) -> Result<Vec<u8>, NoMemory>
     ensures { IfOk result (λ line. line.items ≡ restart_line me restarted.now) }
 {
     let mut out = String::new(alloc);

@@ -3,25 +3,25 @@
 
 ghost use Rattle.std.specs.Prelude.{◌≡◌, ◌<◌, ◌^◌, true, IfOk, IfErr, OnOk, OnErr, None, max};
 ghost use Rattle.causal_name.specs.Names.{is_ascending};
-ghost use Rattle.causal_wire.specs.Parcels.{IsParcel, dets_of, contents_of, value_of, message, question, answer, acknowledgement, own_number, not_up};
-ghost use Rattle.causal_wire.specs.Reading.{parcel_at};
+ghost use Rattle.causal_wire.specs.Parcels.{IsParcel, parcel_dets, contents_of, parcel_value, message, question, answer, acknowledgement, own_number, not_up};
+ghost use Rattle.causal_wire.specs.Reading.{read_parcel};
 ghost use Rattle.causal_endpoint.specs.Endpoints.{run_of, with_node};
 ghost use Rattle.causal_endpoint.specs.Refusals.{IsReason};
 ghost use Rattle.causal_endpoint.specs.Receiving.{clock_after, contents_fault, parcel_fault, receive_fault, reply_contents, reply_bytes, receipt_of, receipt_at, after_contents, after_parcel, IsReceipt};
 
 use crate::endpoint::{Endpoint, clock_fault};
 use crate::fault::EndpointFault;
-use crate::items::{batch_of, log_from, wire_entries};
+use crate::items::{batch_of_items, log_from, wire_entries};
 use causal_name::{Det, MsgName, NoMemory, Pid};
-use causal_node::node_answer::Reply;
+use causal_node::node_answer::RoundReply;
 use causal_node::node_delivery::Delivery;
 use causal_node::node_fault::NodeFault;
 use causal_trace::entry::Dets;
-use causal_wire::{Content, Head, Item, LogEntry, Parcel, ReadFault, read, write};
+use causal_wire::{Content, Head, LogEntry, Parcel, ParcelFault, ParcelItem, read, write};
 
 /// A delivery: what is recorded of it, before the process acts on the body.
 #[derive(Drop)]
-pub struct Delivered {
+pub struct DeliveryRecord {
     /// The message.
     pub name: MsgName,
     /// The lane of its source.
@@ -37,7 +37,7 @@ pub struct Delivered {
 #[derive(Drop)]
 pub enum Received {
     /// A message, which was delivered.
-    Message(Delivered),
+    Message(DeliveryRecord),
     /// A question: these bytes go to the process that asks.
     Question(Pid, Vec<u8>),
     /// An acknowledgement of this process.
@@ -65,10 +65,10 @@ impl Endpoint {
         now: u64,
         head: Head,
         ssn: u32,
-        items: &[Item],
+        items: &[ParcelItem],
         body: Vec<u8>,
     ) -> Result<Received, EndpointFault>
-        requires ascending { is_ascending (dets_of items.now) ≡ true }
+        requires ascending { is_ascending (parcel_dets items.now) ≡ true }
         requires clock { head.clock < 2 ^ 62 }
         ensures ok { OnOk result (self.new
             ≡ after_contents self.old now head (message ssn items.now body.items)) }
@@ -80,7 +80,7 @@ impl Endpoint {
             (contents_fault self.old now head (message ssn items.now body.items))) }
         ensures unchanged { OnErr result (self.new ≡ self.old) }
     {
-        let batch = batch_of(self.alloc, head.source, items)?;
+        let batch = batch_of_items(self.alloc, head.source, items)?;
         let name = MsgName {
             source: head.source,
             ssn,
@@ -94,7 +94,7 @@ impl Endpoint {
         }
         let Delivery { det, listed } = self.node.deliver(head.lane, name, &batch)?;
         self.clock = clock;
-        Ok(Received::Message(Delivered {
+        Ok(Received::Message(DeliveryRecord {
             name,
             lane: head.lane,
             clock,
@@ -105,18 +105,18 @@ impl Endpoint {
     }
 
     /// Returns what the reply to a question of this round contains.
-    fn reply_content(&self, round: u64, reply: Reply) -> Result<Content, NoMemory>
+    fn reply_content(&self, round: u64, reply: RoundReply) -> Result<Content, NoMemory>
         ensures { IfOk result (λ content. contents_of content
             ≡ reply_contents self.now round reply) }
     {
         match reply {
-            Reply::Log => {
+            RoundReply::Log => {
                 let me = self.node.identity().me;
                 let entries = wire_entries(self.alloc, me, self.node.log())?;
                 Ok(Content::Answer { round, entries })
             }
-            Reply::OwnNumber => Ok(Content::OwnNumber { round }),
-            Reply::NotUp => Ok(Content::NotUp { round }),
+            RoundReply::OwnNumber => Ok(Content::OwnNumber { round }),
+            RoundReply::NotUp => Ok(Content::NotUp { round }),
         }
     }
 
@@ -126,7 +126,7 @@ impl Endpoint {
         to: Pid,
         round: u64,
         clock: u64,
-        reply: Reply,
+        reply: RoundReply,
     ) -> Result<Vec<u8>, NoMemory>
         ensures { IfOk result (λ bytes. bytes.items ≡ reply_bytes self.now to round clock reply) }
     {
@@ -197,9 +197,9 @@ impl Endpoint {
     fn take_acknowledgement(
         &mut self,
         head: Head,
-        items: &[Item],
+        items: &[ParcelItem],
     ) -> Result<Received, EndpointFault>
-        requires ascending { is_ascending (dets_of items.now) ≡ true }
+        requires ascending { is_ascending (parcel_dets items.now) ≡ true }
         requires clock { head.clock < 2 ^ 62 }
         ensures ok { OnOk result (self.new
             ≡ after_contents self.old 0 head (acknowledgement items.now)) }
@@ -211,7 +211,7 @@ impl Endpoint {
             (contents_fault self.old 0 head (acknowledgement items.now))) }
         ensures unchanged { OnErr result (self.new ≡ self.old) }
     {
-        let batch = batch_of(self.alloc, head.source, items)?;
+        let batch = batch_of_items(self.alloc, head.source, items)?;
         self.node.learn(head.lane, head.source, &*batch)?;
         self.clock = self.clock.max(head.clock);
         Ok(Received::Acknowledgement(head.source))
@@ -289,13 +289,13 @@ impl Endpoint {
 
     /// Takes a parcel.
     fn take_parcel(&mut self, now: u64, parcel: Parcel) -> Result<Received, EndpointFault>
-        requires { IsParcel (run_of self.old) (value_of parcel) }
-        ensures ok { OnOk result (self.new ≡ after_parcel self.old now (value_of parcel)) }
+        requires { IsParcel (run_of self.old) (parcel_value parcel) }
+        ensures ok { OnOk result (self.new ≡ after_parcel self.old now (parcel_value parcel)) }
         ensures receipt { IfOk result (λ r. receipt_of r
             ≡ receipt_at self.old now parcel.head (contents_of parcel.content)) }
-        ensures legal { OnOk result (parcel_fault self.old now (value_of parcel) ≡ None) }
+        ensures legal { OnOk result (parcel_fault self.old now (parcel_value parcel) ≡ None) }
         ensures refused { IfErr result (λ fault.
-            IsReason fault (parcel_fault self.old now (value_of parcel))) }
+            IsReason fault (parcel_fault self.old now (parcel_value parcel))) }
         ensures unchanged { OnErr result (self.new ≡ self.old) }
     {
         let Parcel { head, content } = parcel;
@@ -319,17 +319,17 @@ impl Endpoint {
     /// received later, after the others never.
     pub fn receive(&mut self, now: u64, bytes: &[u8]) -> Result<Received, EndpointFault>
         ensures ok { IfOk result (λ r. IsReceipt self.old now
-            (parcel_at (run_of self.old) bytes.now) r self.new) }
+            (read_parcel (run_of self.old) bytes.now) r self.new) }
         ensures legal { OnOk result
-            (receive_fault self.old now (parcel_at (run_of self.old) bytes.now) ≡ None) }
+            (receive_fault self.old now (read_parcel (run_of self.old) bytes.now) ≡ None) }
         ensures refused { IfErr result (λ fault. IsReason fault
-            (receive_fault self.old now (parcel_at (run_of self.old) bytes.now))) }
+            (receive_fault self.old now (read_parcel (run_of self.old) bytes.now))) }
         ensures unchanged { OnErr result (self.new ≡ self.old) }
     {
         match read(self.alloc, self.run(), bytes) {
             Ok(parcel) => self.take_parcel(now, parcel),
-            Err(ReadFault::Wire(fault)) => Err(EndpointFault::Wire(fault)),
-            Err(ReadFault::NoMemory) => Err(EndpointFault::Node(NodeFault::NoMemory)),
+            Err(ParcelFault::Wire(fault)) => Err(EndpointFault::Wire(fault)),
+            Err(ParcelFault::NoMemory) => Err(EndpointFault::Node(NodeFault::NoMemory)),
         }
     }
 }

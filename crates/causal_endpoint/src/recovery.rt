@@ -16,7 +16,7 @@ use causal_wire::{Content, Parcel, write};
 
 /// A restart, for the recording.
 #[derive(Drop)]
-pub struct Restarted {
+pub struct RestartRecord {
     pub clock: u64,
     /// The determinants that the restart entry lists, ascending.
     pub listed: Vec<Det>,
@@ -146,7 +146,7 @@ impl Endpoint {
     /// The first of `Up`, `NoRound`, `Waiting`, for a process or stable storage, and `Clock`; if none applies, `NoMemory`
     /// if allocation failed. A refusal
     /// changes nothing.
-    pub fn restart(&mut self, now: u64) -> Result<Restarted, EndpointFault>
+    pub fn restart(&mut self, now: u64) -> Result<RestartRecord, EndpointFault>
         ensures ok { OnOk result
             (self.new ≡ after_restart self.old now self.new.node.reserved_names) }
         ensures clock { IfOk result (λ r. r.clock ≡ next_clock now self.old.clock) }
@@ -167,6 +167,6 @@ impl Endpoint {
         }
         let listed = self.node.restart()?;
         self.clock = clock;
-        Ok(Restarted { clock, listed })
+        Ok(RestartRecord { clock, listed })
     }
 }

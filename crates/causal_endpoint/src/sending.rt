@@ -16,7 +16,7 @@ use causal_wire::write_message;
 
 /// A message that was sent, for the recording and the network.
 #[derive(Drop)]
-pub struct Sent {
+pub struct SendRecord {
     /// Its number in the sender's lane.
     pub ssn: u32,
     pub clock: u64,
@@ -59,7 +59,7 @@ impl Endpoint {
     /// # Errors
     /// The first of `NotUp`, `NoProcess`, `Full`, `Long` and `Clock`; if none applies, `NoMemory` if allocation failed.
     /// A refusal changes nothing.
-    pub fn send(&mut self, now: u64, to: Pid, body: &[u8]) -> Result<Sent, EndpointFault>
+    pub fn send(&mut self, now: u64, to: Pid, body: &[u8]) -> Result<SendRecord, EndpointFault>
         ensures ok { OnOk result (self.new ≡ after_send self.old now to body.now) }
         ensures sent { IfOk result (IsSent self.old now to body.now) }
         ensures legal { OnOk result (send_fault self.old now to (length body.now) ≡ None) }
@@ -75,6 +75,6 @@ impl Endpoint {
         let kept = Body::of(self.alloc, body)?;
         let ssn = self.node.send(to, kept)?;
         self.clock = clock;
-        Ok(Sent { ssn, clock, bytes })
+        Ok(SendRecord { ssn, clock, bytes })
     }
 }

@@ -15,20 +15,20 @@ use Rattle.causal_protocol.specs.Memory.{SentMessage}
 use Rattle.causal_protocol.specs.Naming.{message_name}
 use Rattle.causal_wire.specs.declared.fault.WireFault.{WireFault}
 use Rattle.causal_wire.specs.declared.parcel.Head.{Head}
-use Rattle.causal_wire.specs.declared.parcel.Run.{Run}
-use Rattle.causal_wire.specs.declared.parcel.Item.{Item as WireItem}
-use Rattle.causal_wire.specs.Parcels.{Contents, message, acknowledgement, question, answer, own_number, not_up, dets_of, IsRun, IsParcel, IsHead, AreContents}
+use Rattle.causal_wire.specs.declared.parcel.RunId.{RunId}
+use Rattle.causal_wire.specs.declared.parcel.ParcelItem.{ParcelItem as WireItem}
+use Rattle.causal_wire.specs.Parcels.{Contents, message, acknowledgement, question, answer, own_number, not_up, parcel_dets, IsRun, IsParcel, IsHead, AreContents}
 use Rattle.causal_wire.specs.Bytes.{parcel_bytes}
-use Rattle.causal_wire.specs.Reading.{parcel_at}
-use Rattle.causal_node.specs.declared.node_answer.Reply.{Reply}
-use Rattle.causal_node.specs.declared.node_answer.Reply.TheVariants as Replies
+use Rattle.causal_wire.specs.Reading.{read_parcel}
+use Rattle.causal_node.specs.declared.node_answer.RoundReply.{RoundReply}
+use Rattle.causal_node.specs.declared.node_answer.RoundReply.TheVariants as Replies
 use Rattle.causal_node.specs.NodeStates.{RoundState, floor_of}
 use Rattle.causal_node.specs.NodeRounds.{round_name}
 use Rattle.causal_node.specs.NodeRecovery.{begin_fault, reply_fault, after_not_up}
-use Rattle.causal_node.specs.NodeAnswers.{reply_of}
+use Rattle.causal_node.specs.NodeAnswers.{round_reply}
 use Rattle.causal_nodes.specs.Packets.{Sent, WasSent, message_packet, acknowledgement_packet, question_packet, answer_packet, not_up_packet, number_packet}
 use Rattle.causal_calls.specs.Views.{numbers, IsRecoveryState}
-use Rattle.causal_calls.specs.Parcels.{message_with, acknowledgement_with, acknowledgement_of, next_message, log_packet}
+use Rattle.causal_calls.specs.Parcels.{message_with, acknowledgement_with, acknowledgement_of, next_message_packet, log_packet}
 use Rattle.causal_calls.specs.Calls.{NodeCall}
 use Rattle.causal_calls.specs.Calls as node
 use Rattle.causal_calls.proofs.Lemmas.Refusals.{from_not, of_round}
@@ -40,16 +40,16 @@ use Rattle.causal_endpoint.specs.Acknowledging as acknowledging
 use Rattle.causal_endpoint.specs.Recovering as recovering
 use Rattle.causal_endpoint.specs.Receiving.{name_in, batch_in, clock_after, contents_fault, reply_bytes, after_contents}
 use Rattle.causal_endpoints.specs.Packets.{packet_of, not_up_for, Says}
-use Rattle.causal_endpoints.specs.Calls.{Input, nothing, bytes, ended, no_output, one_parcel, one_request, one_name, output_at, Records, send, resend, acknowledge, forget, receive, write, stored, begin_round, ask, take_ended, ask_storage, take_stored, finish_read, restart, open_again}
+use Rattle.causal_endpoints.specs.Calls.{CallInput, nothing, bytes, ended, no_output, one_parcel, one_request, one_name, output_at, Records, send, resend, acknowledge, forget, receive, write, stored, begin_round, ask, take_ended, ask_storage, take_stored, finish_read, restart, open_again}
 use Rattle.causal_endpoints.specs.States.{IsRoundWithin, IsEndpointState, HasCountedLog}
-use Rattle.causal_endpoints.specs.CallLaws.{IsAmong, TakesPacket, IsNodeCall, IsSentAgain, question as asked_question, message as kept_message, IsNoCall, EndpointCallsAreNodeCalls}
+use Rattle.causal_endpoints.specs.CallLaws.{IsListed, TakesPacket, IsNodeCall, IsSentAgain, question as asked_question, message as kept_message, IsNoCall, EndpointCallsAreNodeCalls}
 use Rattle.causal_endpoints.proofs.Items.{message_again, acknowledged_again, log_again}
 use Rattle.causal_endpoints.proofs.Written.{carried_fit, entries_fit, acknowledged_fit}
 use Rattle.causal_endpoints.proofs.Legal.{or_else_none, node_or_none, not_at, clock_below, sent_to, said_to, asked_in}
 
 -- the law of the bytes
 abbrev pub ReadsBack : Type 0
-ReadsBack = (run : Run) (p : Head × Contents) → IsRun run → IsParcel run p → parcel_at run (parcel_bytes run p) ≡ Ok p
+ReadsBack = (run : RunId) (p : Head × Contents) → IsRun run → IsParcel run p → read_parcel run (parcel_bytes run p) ≡ Ok p
 
 -- what is read is what was written
 pub read_is : {A : Type 0} (r : Result A WireFault) (x y : A) → r ≡ Ok x → r ≡ Ok y → x ≡ y
@@ -73,7 +73,7 @@ round_of (question_packet from name view) = name
 round_of _ = 0
 
 -- one of one, or of none
-pub one_among : {X : Type 0} (P : X → Type 0) (x : X) → P x → (y : X) → IsAmong (x ∷ []) y → P y
+pub one_among : {X : Type 0} (P : X → Type 0) (x : X) → P x → (y : X) → IsListed (x ∷ []) y → P y
 one_among P x here y (inl is) = subst P is here
 one_among P x here y (inr none) = absurd none
 
@@ -84,7 +84,7 @@ module _ (back : ReadsBack) (past : List Entry) (e : EndpointState) (k : IsEndpo
   abbrev n : ℕ
   n = e.node.identity.processes
 
-  abbrev run : Run
+  abbrev run : RunId
   run = run_of e
 
   head_fits : (to : Pid) (clock : ℕ) → to.0 < n → clock < 2 ^ 62 → IsHead n (head_to e to clock)
@@ -102,7 +102,7 @@ module _ (back : ReadsBack) (past : List Entry) (e : EndpointState) (k : IsEndpo
   }
 
   -- a call that sends no bytes, and nothing to stable storage
-  quietly : (input : Input) (new : EndpointState) (entries : List Entry) (taken : Option Sent) → NodeCall (length past) e.node taken new.node [] entries → TakesPacket past e input taken
+  quietly : (input : CallInput) (new : EndpointState) (entries : List Entry) (taken : Option Sent) → NodeCall (length past) e.node taken new.node [] entries → TakesPacket past e input taken
       → IsNodeCall past e input new no_output entries
   quietly input new entries taken call takes = record {
     taken = taken;
@@ -115,7 +115,7 @@ module _ (back : ReadsBack) (past : List Entry) (e : EndpointState) (k : IsEndpo
   }
 
   -- a call that sends bytes with its packet, which is no question
-  aloud : (input : Input) (new : EndpointState) (entries : List Entry) (taken : Option Sent) (packet : Sent) (b : List ℕ) → NodeCall (length past) e.node taken new.node (packet ∷ []) entries → TakesPacket past e input taken
+  aloud : (input : CallInput) (new : EndpointState) (entries : List Entry) (taken : Option Sent) (packet : Sent) (b : List ℕ) → NodeCall (length past) e.node taken new.node (packet ∷ []) entries → TakesPacket past e input taken
       → is_question packet ≡ false → Says e (length past) b packet
       → IsNodeCall past e input new (one_parcel b) entries
   aloud input new entries taken packet b call takes other said = record {
@@ -148,10 +148,10 @@ module _ (back : ReadsBack) (past : List Entry) (e : EndpointState) (k : IsEndpo
       let count : length e.node.memory.sent ≤ 65536 = k.sent in
       let batch = batch_items e.node.identity.faults e.node.memory.log in
       let clock = next_clock now e.clock in
-      let said = says (length past) to clock (message (length e.node.memory.sent) (sending.carried_items e) body) (message_packet (message_name me (length e.node.memory.sent)) (next_message (length past) e.node to)) (sent_to e.node to first.0) (clock_below clock short.1)
+      let said = says (length past) to clock (message (length e.node.memory.sent) (sending.carried_items e) body) (message_packet (message_name me (length e.node.memory.sent)) (next_message_packet (length past) e.node to)) (sent_to e.node to first.0) (clock_below clock short.1)
       (omega (arith, count), carried_fit n me e.node.memory.log k.logged k.node.holders e.node.identity.faults few, not_at (2 ^ 32) (length body) short.0)
       (ap (message_packet (message_name me (length e.node.memory.sent))) (message_again me e.node.lane to (length past) (length e.node.memory.sent) batch)) in
-      aloud nothing (sending.after_send e now to body) (Send me to (length e.node.memory.sent) ∷ []) None (message_packet (message_name me (length e.node.memory.sent)) (next_message (length past) e.node to)) _ (node.send to body first.0) refl refl said
+      aloud nothing (sending.after_send e now to body) (Send me to (length e.node.memory.sent) ∷ []) None (message_packet (message_name me (length e.node.memory.sent)) (next_message_packet (length past) e.node to)) _ (node.send to body first.0) refl refl said
 
   resends : (ssn : ℕ) (again : List ℕ) → resend_fault e ssn (slice_get e.node.memory.sent ssn) ≡ None → resent_bytes e ssn (slice_get e.node.memory.sent ssn) ≡ Some again
       → IsNoCall e nothing e (one_parcel again) []
@@ -204,11 +204,11 @@ module _ (back : ReadsBack) (past : List Entry) (e : EndpointState) (k : IsEndpo
       by false other = node.take_other_number name q number legal other
 
   -- the reply to a question
-  module _ (now : ℕ) (b : List ℕ) (head : Head) (round : ℕ) (view : List ℕ) (read : parcel_at run b ≡ Ok (head, question round view)) (fits : IsParcel run (head, question round view)) (mine : head.dest ≡ me) (other : head.source.0 ≡ me.0 → ⊥) (legal : contents_fault e now head (question round view) ≡ None) where
+  module _ (now : ℕ) (b : List ℕ) (head : Head) (round : ℕ) (view : List ℕ) (read : read_parcel run b ≡ Ok (head, question round view)) (fits : IsParcel run (head, question round view)) (mine : head.dest ≡ me) (other : head.source.0 ≡ me.0 → ⊥) (legal : contents_fault e now head (question round view) ≡ None) where
     abbrev clock : ℕ
     clock = clock_after e now head
 
-    replies : (reply : Reply) → reply_of e.node view ≡ reply → IsNodeCall past e (bytes b) (after_contents e now head (question round view)) (one_parcel (reply_bytes e head.source round clock reply)) []
+    replies : (reply : RoundReply) → round_reply e.node view ≡ reply → IsNodeCall past e (bytes b) (after_contents e now head (question round view)) (one_parcel (reply_bytes e head.source round clock reply)) []
     replies Replies.Log is =
         let first = node_or_none _ _ legal in
         aloud (bytes b) (after_contents e now head (question round view)) [] (Some (question_packet head.source.0 round (numbers view))) (answer_packet round (log_packet me.0 e.node.lane head.source.0 e.node.memory.log)) _
@@ -226,11 +226,11 @@ module _ (back : ReadsBack) (past : List Entry) (e : EndpointState) (k : IsEndpo
         (node.answer_not_up head.source round view first.0 is) ((head, question round view), read, mine, other, inr (0, tt, refl)) refl
         (says (length past) head.source clock (not_up round) _ fits.head.source (clock_below clock first.1) fits.contents.0 refl)
 
-  same_dets : (source : Pid) (items : List WireItem) → log_dets_of (map (log_item source) items) ≡ dets_of items
+  same_dets : (source : Pid) (items : List WireItem) → log_dets_of (map (log_item source) items) ≡ parcel_dets items
   same_dets source [] = refl
   same_dets source (x ∷ xs) = ap (λ ds. x.det ∷ ds) (same_dets source xs)
 
-  receives : (now : ℕ) (b : List ℕ) (head : Head) (contents : Contents) (entries : List Entry) → parcel_at run b ≡ Ok (head, contents) → IsParcel run (head, contents) → head.dest ≡ me → (head.source.0 ≡ me.0 → ⊥)
+  receives : (now : ℕ) (b : List ℕ) (head : Head) (contents : Contents) (entries : List Entry) → read_parcel run b ≡ Ok (head, contents) → IsParcel run (head, contents) → head.dest ≡ me → (head.source.0 ≡ me.0 → ⊥)
       → contents_fault e now head contents ≡ None → Records past e head contents entries
       → IsNodeCall past e (bytes b) (after_contents e now head contents) (output_at e now head contents) entries
   receives now b head (message ssn items body) entries read fits mine other legal recorded =
@@ -248,7 +248,7 @@ module _ (back : ReadsBack) (past : List Entry) (e : EndpointState) (k : IsEndpo
       (node.learn head.lane head.source batch (node_or_none _ _ legal).0)
       ((head, acknowledgement items), read, mine, other, inr (0, tt, ap (λ to. Some (acknowledgement_packet (acknowledgement_with head.source head.lane to batch))) (sym mine))))
   receives now b head (question round view) entries read fits mine other legal recorded =
-      subst (λ es. IsNodeCall past e (bytes b) (after_contents e now head (question round view)) (output_at e now head (question round view)) es) (sym recorded) (replies now b head round view read fits mine other legal (reply_of e.node view) refl)
+      subst (λ es. IsNodeCall past e (bytes b) (after_contents e now head (question round view)) (output_at e now head (question round view)) es) (sym recorded) (replies now b head round view read fits mine other legal (round_reply e.node view) refl)
   receives now b head (answer round entries) recorded_entries read fits mine other legal recorded =
       let log = log_from head.source entries in
       subst (λ es. IsNodeCall past e (bytes b) (after_contents e now head (answer round entries)) no_output es) (sym recorded)
@@ -309,7 +309,7 @@ calls_are_node_calls back past old new input output entries (resend ssn again le
 calls_are_node_calls back past old new input output entries (acknowledge now to dets ascends legal) k few fits = inl (acknowledges back past old k few now to dets ascends legal)
 calls_are_node_calls back past old new input output entries (forget now legal) k few fits = inl (quietly back past old k few nothing _ _ None (node.forget (node_or_none _ _ legal).0) refl)
 calls_are_node_calls back past old new input output entries (receive now b p recorded read legal records) k few fits =
-    let same : p ≡ fits.0 = read_is (parcel_at (run_of old) b) p fits.0 read (ap (parcel_at (run_of old)) fits.2 ∙ back (run_of old) fits.0 k.run fits.1) in
+    let same : p ≡ fits.0 = read_is (read_parcel (run_of old) b) p fits.0 read (ap (read_parcel (run_of old)) fits.2 ∙ back (run_of old) fits.0 k.run fits.1) in
     let dest = or_else_none _ _ _ legal in
     let source = or_else_none _ _ _ dest.1 in
     let mine : p.0.dest ≡ old.node.identity.me = λ i. record { 0 = eqb-true p.0.dest.0 old.node.identity.me.0 (from_not _ dest.0) i } in

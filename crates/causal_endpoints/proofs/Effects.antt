@@ -15,11 +15,11 @@ use Rattle.causal_protocol.specs.Steps.{forget_entries}
 use Rattle.causal_world.specs.World.{Packet}
 use Rattle.causal_node.specs.NodeStates.{NodeState, Recovery, RoundState, floor_of}
 use Rattle.causal_node.specs.NodeForgetting.{next_slot}
-use Rattle.causal_node.specs.NodeRecovery.{begin_fault, reply_fault, restart_fault, with_recovery, map_round, with_log_of, without_awaited, after_not_up, after_number, after_stored, after_read, after_restart_at, opened}
-use Rattle.causal_node.specs.NodeAnswers.{after_answer, after_answer_at, knows_number}
+use Rattle.causal_node.specs.NodeRecovery.{begin_fault, reply_fault, node_restart_fault, with_recovery, map_round, with_log_of, without_awaited, after_not_up, after_number, node_after_stored, node_after_read, after_restart_at, opened}
+use Rattle.causal_node.specs.NodeAnswers.{node_after_answer, after_answer_at, knows_number}
 use Rattle.causal_nodes.specs.Packets.{Sent, WasSent, message_packet, question_packet, read_packet, is_of_round}
 use Rattle.causal_calls.specs.Views.{numbers}
-use Rattle.causal_calls.specs.Parcels.{next_message}
+use Rattle.causal_calls.specs.Parcels.{next_message_packet}
 use Rattle.causal_calls.specs.Calls.{NodeCall, send, deliver, acknowledge, learn, forget, write, stored, answer_log, answer_not_up, answer_number, begin_round, take_log, take_not_up, take_other_number, take_number, ask_storage, take_stored, finish_read, restart, open_again}
 use Rattle.causal_calls.proofs.Lemmas.Refusals.{some_none, unless_up_none, of_round}
 use Rattle.causal_endpoints.proofs.Counts.{is_uncounted}
@@ -40,7 +40,7 @@ pub data Effect (position : ℕ) (old new : NodeState) (sent : List Sent) (entri
       → Effect position old new sent entries
   sends : (to : Pid) → old.recovery ≡ None → new.recovery ≡ None → new.lane ≡ old.lane
       → new.memory.sent ≡ old.memory.sent ++ record { to = to; send = length old.memory.sent; batch = batch_items old.identity.faults old.memory.log } ∷ []
-      → sent ≡ message_packet (message_name old.identity.me (length old.memory.sent)) (next_message position old to) ∷ []
+      → sent ≡ message_packet (message_name old.identity.me (length old.memory.sent)) (next_message_packet position old to) ∷ []
       → entries ≡ Send old.identity.me to (length old.memory.sent) ∷ []
       → Effect position old new sent entries
   restarts : (listed : List Det) (round : Option RoundState) → old.recovery ≡ Some round → new.recovery ≡ None → new.lane ≡ old.lane → new.memory.sent ≡ [] → sent ≡ [] → entries ≡ Restart old.identity.me listed ∷ []
@@ -78,7 +78,7 @@ record SameCounts (old new : NodeState) : Type 0 where
   kept : new.memory.sent ≡ old.memory.sent
   up : is_some new.recovery ≡ is_some old.recovery
 
-reply_counts : (s : NodeState) (view : List ℕ) → SameCounts s (after_answer s view)
+reply_counts : (s : NodeState) (view : List ℕ) → SameCounts s (node_after_answer s view)
 reply_counts s view = by (knows_number s view) s.recovery refl
   where
     by : (b : Bool) (o : Recovery) → s.recovery ≡ o → SameCounts s (if b then after_answer_at s view o else s)
@@ -121,7 +121,7 @@ call_effect position old new taken sent entries (learn lane from items legal) la
 call_effect position old new taken sent entries (forget legal) later = still position old new sent entries refl refl refl (forgets old.identity.me (forgotten_in (next_slot old) old.memory.log)) no_message
 call_effect position old new taken sent entries (write dets up logged) later = still position old new sent entries refl refl refl nothing_recorded (one_other _ refl)
 call_effect position old new taken sent entries (stored dets det up has) later =
-    subst (λ (o : Recovery). Effect position old (after_stored old det o) [] (Stable det ∷ [])) (sym up) (still position old (after_stored old det None) [] (Stable det ∷ []) refl refl refl (one_recorded _ refl) no_message)
+    subst (λ (o : Recovery). Effect position old (node_after_stored old det o) [] (Stable det ∷ [])) (sym up) (still position old (node_after_stored old det None) [] (Stable det ∷ []) refl refl refl (one_recorded _ refl) no_message)
 call_effect position old new taken sent entries (answer_log asker name view legal reply) later = let is = reply_counts old view in still position old new sent entries is.lane is.kept is.up nothing_recorded (one_other _ refl)
 call_effect position old new taken sent entries (answer_not_up asker name view legal reply) later = let is = reply_counts old view in still position old new sent entries is.lane is.kept is.up nothing_recorded (one_other _ refl)
 call_effect position old new taken sent entries (answer_number asker view legal reply) later = let is = reply_counts old view in still position old new sent entries is.lane is.kept is.up nothing_recorded (one_other _ refl)
@@ -132,11 +132,11 @@ call_effect position old new taken sent entries (take_other_number name q number
 call_effect position old new taken sent entries (take_number name q number legal) later = let is = number_counts old q number name legal in still position old new sent entries is.lane is.kept is.up nothing_recorded no_message
 call_effect position old new taken sent entries (ask_storage r gathers legal) later = still position old new sent entries refl refl refl nothing_recorded (one_other _ refl)
 call_effect position old new taken sent entries (take_stored r dets det gathers legal has) later =
-    subst (λ (o : Recovery). Effect position old (after_stored old det o) [] (Stable det ∷ [])) (sym gathers) (still position old (after_stored old det (Some (Some r))) [] (Stable det ∷ []) refl refl (ap is_some (sym gathers)) (one_recorded _ refl) no_message)
-call_effect position old new taken sent entries (finish_read r dets gathers legal all) later = let is = round_counts old after_read in still position old new sent entries is.lane is.kept is.up nothing_recorded no_message
+    subst (λ (o : Recovery). Effect position old (node_after_stored old det o) [] (Stable det ∷ [])) (sym gathers) (still position old (node_after_stored old det (Some (Some r))) [] (Stable det ∷ []) refl refl (ap is_some (sym gathers)) (one_recorded _ refl) no_message)
+call_effect position old new taken sent entries (finish_read r dets gathers legal all) later = let is = round_counts old node_after_read in still position old new sent entries is.lane is.kept is.up nothing_recorded no_message
 call_effect position old new taken sent entries (restart reserved legal) later = by old.recovery refl legal
   where
-    by : (o : Recovery) → old.recovery ≡ o → restart_fault o ≡ None → Effect position old (after_restart_at old o reserved) [] (Restart old.identity.me (fin.keys (after_restart_at old o reserved).memory.log) ∷ [])
+    by : (o : Recovery) → old.recovery ≡ o → node_restart_fault o ≡ None → Effect position old (after_restart_at old o reserved) [] (Restart old.identity.me (fin.keys (after_restart_at old o reserved).memory.log) ∷ [])
     by None is legal = absurd (some_none _ legal)
     by (Some None) is legal = absurd (some_none _ legal)
     by (Some (Some r)) is legal = restarts _ (Some r) is refl refl refl refl refl
@@ -164,7 +164,7 @@ no_round q is = absurd (some_none _ (sym is))
 same_round : (old : NodeState) (sent : List Sent) → RoundEffect old old sent
 same_round old sent q is = inl (q, is, refl, refl)
 
-reply_rounds : (s : NodeState) (view : List ℕ) (sent : List Sent) → RoundEffect s (after_answer s view) sent
+reply_rounds : (s : NodeState) (view : List ℕ) (sent : List Sent) → RoundEffect s (node_after_answer s view) sent
 reply_rounds s view sent = by (knows_number s view) s.recovery refl
   where
     by : (b : Bool) (o : Recovery) → s.recovery ≡ o → RoundEffect s (if b then after_answer_at s view o else s) sent
@@ -194,7 +194,7 @@ call_rounds position old new taken sent entries (acknowledge to dets legal) = λ
 call_rounds position old new taken sent entries (learn lane from items legal) = λ q is. inl (q, is, refl, refl)
 call_rounds position old new taken sent entries (forget legal) = λ q is. inl (q, is, refl, refl)
 call_rounds position old new taken sent entries (write dets up logged) = λ q is. inl (q, is, refl, refl)
-call_rounds position old new taken sent entries (stored dets det up has) = subst (λ (o : Recovery). RoundEffect old (after_stored old det o) []) (sym up) (λ q is. inl (q, is, refl, refl))
+call_rounds position old new taken sent entries (stored dets det up has) = subst (λ (o : Recovery). RoundEffect old (node_after_stored old det o) []) (sym up) (λ q is. inl (q, is, refl, refl))
 call_rounds position old new taken sent entries (answer_log asker name view legal reply) = reply_rounds old view sent
 call_rounds position old new taken sent entries (answer_not_up asker name view legal reply) = reply_rounds old view sent
 call_rounds position old new taken sent entries (answer_number asker view legal reply) = reply_rounds old view sent
@@ -204,11 +204,11 @@ call_rounds position old new taken sent entries (take_not_up name p legal) = not
 call_rounds position old new taken sent entries (take_other_number name p number legal other) = not_up_rounds old p number sent
 call_rounds position old new taken sent entries (take_number name p number legal) = λ q is. absurd (inner (Some None) q is refl)
 call_rounds position old new taken sent entries (ask_storage r gathers legal) = λ q is. inl (q, is, refl, refl)
-call_rounds position old new taken sent entries (take_stored r dets det gathers legal has) = subst (λ (o : Recovery). RoundEffect old (after_stored old det o) []) (sym gathers) (λ q is. inl (r, gathers, ap (λ (o : Recovery). name_in r.name o) is, refl))
-call_rounds position old new taken sent entries (finish_read r dets gathers legal all) = changed_round old after_read (λ r. refl) sent
+call_rounds position old new taken sent entries (take_stored r dets det gathers legal has) = subst (λ (o : Recovery). RoundEffect old (node_after_stored old det o) []) (sym gathers) (λ q is. inl (r, gathers, ap (λ (o : Recovery). name_in r.name o) is, refl))
+call_rounds position old new taken sent entries (finish_read r dets gathers legal all) = changed_round old node_after_read (λ r. refl) sent
 call_rounds position old new taken sent entries (restart reserved legal) = by old.recovery refl legal
   where
-    by : (o : Recovery) → old.recovery ≡ o → restart_fault o ≡ None → RoundEffect old (after_restart_at old o reserved) []
+    by : (o : Recovery) → old.recovery ≡ o → node_restart_fault o ≡ None → RoundEffect old (after_restart_at old o reserved) []
     by None is legal = absurd (some_none _ legal)
     by (Some None) is legal = absurd (some_none _ legal)
     by (Some (Some r)) is legal = λ q none. no_round q none

@@ -14,14 +14,14 @@ use Rattle.causal_name.specs.Sets.{count_below}
 use Rattle.causal_log.specs.declared.known.Known.{Known}
 use Rattle.causal_trace.specs.declared.entry.Entry.{Entry}
 use Rattle.causal_trace.specs.declared.entry.Entry.TheVariants.{Crash}
-use Rattle.causal_rounds.specs.Rounds.{set_at}
+use Rattle.causal_rounds.specs.Rounds.{with_value_at}
 use Rattle.causal_protocol.specs.Naming.{message_name}
 use Rattle.causal_world.specs.World.{Packet}
 use Rattle.causal_wire.specs.declared.parcel.Head.{Head}
-use Rattle.causal_wire.specs.declared.parcel.Run.{Run}
+use Rattle.causal_wire.specs.declared.parcel.RunId.{RunId}
 use Rattle.causal_wire.specs.Parcels.{Contents, message, acknowledgement, question, answer, own_number, not_up, IsDet, IsRun, IsParcel}
 use Rattle.causal_wire.specs.Bytes.{parcel_bytes}
-use Rattle.causal_wire.specs.Reading.{parcel_at}
+use Rattle.causal_wire.specs.Reading.{read_parcel}
 use Rattle.causal_node.specs.declared.node.Identity.{Identity}
 use Rattle.causal_node.specs.NodeStates.{NodeState, RoundState, floor_of}
 use Rattle.causal_node.specs.NodeRecovery.{opened}
@@ -36,11 +36,11 @@ use Rattle.causal_calls.proofs.Lemmas.Openings.{opening}
 use Rattle.causal_endpoint.specs.Endpoints.{EndpointState, run_of}
 use Rattle.causal_endpoint.specs.Receiving.{name_in, batch_in}
 use Rattle.causal_endpoints.specs.Packets.{packet_of, packet_with, taken_with, not_up_for, IsSendWith, Says}
-use Rattle.causal_endpoints.specs.Calls.{Input, nothing, bytes, from_storage, ended, Output, EndpointCall}
+use Rattle.causal_endpoints.specs.Calls.{CallInput, nothing, bytes, from_storage, ended, Output, EndpointCall}
 use Rattle.causal_endpoints.specs.States.{IsEndpointState, HasCountedLog, IsOfDets, IsOfRun}
-use Rattle.causal_endpoints.specs.CallLaws.{IsAmong, TakesPacket, IsNodeCall, IsSentAgain, IsNoCall, EndpointCallsAreNodeCalls, EndpointCallsKeepStates}
+use Rattle.causal_endpoints.specs.CallLaws.{IsListed, TakesPacket, IsNodeCall, IsSentAgain, IsNoCall, EndpointCallsAreNodeCalls, EndpointCallsKeepStates}
 use Rattle.causal_endpoints.specs.CallLaws as again
-use Rattle.causal_endpoints.specs.Systems.{EndpointSystem, HasEnded, IsTakeable, opened_after, EndpointEvent, IsNewEndpointSystem, IsReachableEndpointSystem, new_system, next_system, EndpointSystemsAreSafe, EndpointSystemsShareNoSlot}
+use Rattle.causal_endpoints.specs.Systems.{EndpointSystem, HasGoneDown, IsTakeable, opened_after, EndpointEvent, IsNewEndpointSystem, IsReachableEndpointSystem, new_system, next_system, EndpointSystemsAreSafe, EndpointSystemsShareNoSlot}
 use Rattle.causal_endpoints.specs.Systems as system
 use Rattle.causal_endpoints.proofs.CallRows.{ReadsBack, read_is, is_question}
 use Rattle.causal_endpoints.proofs.Within.{opened_within}
@@ -54,25 +54,25 @@ is_message (message_packet name p) = true
 is_message _ = false
 
 -- what is among two lists
-among_older : {X : Type 0} (new old : List X) (x : X) → IsAmong old x → IsAmong (new ++ old) x
+among_older : {X : Type 0} (new old : List X) (x : X) → IsListed old x → IsListed (new ++ old) x
 among_older [] old x there = there
 among_older (y ∷ new) old x there = inr (among_older new old x there)
 
-among_newer : {X : Type 0} (new old : List X) (x : X) → IsAmong new x → IsAmong (new ++ old) x
+among_newer : {X : Type 0} (new old : List X) (x : X) → IsListed new x → IsListed (new ++ old) x
 among_newer [] old x there = absurd there
 among_newer (y ∷ new) old x (inl is) = inl is
 among_newer (y ∷ new) old x (inr there) = inr (among_newer new old x there)
 
-either_among : {X : Type 0} (new old : List X) (x : X) → IsAmong (new ++ old) x → IsAmong new x ⊎ IsAmong old x
+either_among : {X : Type 0} (new old : List X) (x : X) → IsListed (new ++ old) x → IsListed new x ⊎ IsListed old x
 either_among [] old x there = inr there
 either_among (y ∷ new) old x (inl is) = inl (inl is)
 either_among (y ∷ new) old x (inr there) = elim (either_among new old x there) [ inl here ↦ inl (inr here) | inr before ↦ inr before ]
 
 -- functions that are changed at one number
-same_at : {X : Type 0} (xs : ℕ → X) (p : ℕ) (x : X) → x ≡ xs p → set_at xs p x ≡ xs
+same_at : {X : Type 0} (xs : ℕ → X) (p : ℕ) (x : X) → x ≡ xs p → with_value_at xs p x ≡ xs
 same_at xs p x is = λ i q. by q (eqb_tells q p) i
   where
-    by : (q : ℕ) → ((q == p ≡ true) × (q ≡ p)) ⊎ ((q == p ≡ false) × (q ≡ p → ⊥)) → set_at xs p x q ≡ xs q
+    by : (q : ℕ) → ((q == p ≡ true) × (q ≡ p)) ⊎ ((q == p ≡ false) × (q ≡ p → ⊥)) → with_value_at xs p x q ≡ xs q
     by q (inl here) = ap (λ (b : Bool). if b then x else xs q) here.0 ∙ is ∙ ap xs (sym here.1)
     by q (inr other) = ap (λ (b : Bool). if b then x else xs q) other.0
 
@@ -80,14 +80,14 @@ same_at xs p x is = λ i q. by q (eqb_tells q p) i
 abbrev nodes_of : (ℕ → EndpointState) → ℕ → NodeState
 nodes_of endpoints p = (endpoints p).node
 
-nodes_at : (endpoints : ℕ → EndpointState) (p : ℕ) (e : EndpointState) → set_at (nodes_of endpoints) p e.node ≡ nodes_of (set_at endpoints p e)
+nodes_at : (endpoints : ℕ → EndpointState) (p : ℕ) (e : EndpointState) → with_value_at (nodes_of endpoints) p e.node ≡ nodes_of (with_value_at endpoints p e)
 nodes_at endpoints p e = λ i q. by q (q == p) i
   where
     by : (q : ℕ) (b : Bool) → (if b then e.node else (endpoints q).node) ≡ (if b then e else endpoints q).node
     by q true = refl
     by q false = refl
 
-abbrev run_at : ℕ → ℕ → ℕ → Run
+abbrev run_at : ℕ → ℕ → ℕ → RunId
 run_at n f run = record { id = run; processes = n; f = f }
 
 -- the system of nodes that has sent these packets
@@ -102,16 +102,16 @@ with_nodes w past nodes packets = record { past = past; nodes = nodes; sent = pa
 abbrev after_output : EndpointSystem → Pid → EndpointState → Output → List Entry → EndpointSystem
 after_output w me e output entries = record {
   past = entries ++ w.past;
-  endpoints = set_at w.endpoints me.0 e;
+  endpoints = with_value_at w.endpoints me.0 e;
   sent = output.bytes ++ w.sent;
   requests = output.to_storage ++ w.requests;
   stored = w.stored;
   floors = w.floors;
-  names = set_at w.names me.0 (output.names ++ w.names me.0);
+  names = with_value_at w.names me.0 (output.names ++ w.names me.0);
 }
 
 abbrev after_fall : EndpointSystem → Pid → ℕ → EndpointSystem
-after_fall w who clock = record { past = Crash who ∷ w.past; endpoints = set_at w.endpoints who.0 (opened_after (w.endpoints who.0) clock); sent = w.sent; requests = w.requests; stored = w.stored; floors = w.floors; names = w.names }
+after_fall w who clock = record { past = Crash who ∷ w.past; endpoints = with_value_at w.endpoints who.0 (opened_after (w.endpoints who.0) clock); sent = w.sent; requests = w.requests; stored = w.stored; floors = w.floors; names = w.names }
 
 -- the packet of a parcel was sent, and the number of its source
 record IsParcelSent (n f run : ℕ) (packets : List Sent) (b : List ℕ) : Type 0 where
@@ -130,10 +130,10 @@ record IsSystemOf (n f run : ℕ) (w : EndpointSystem) : Type 0 where
   states : (p : ℕ) → p < n → IsEndpointState (w.endpoints p)
   counted : (p : ℕ) → p < n → HasCountedLog (w.endpoints p)
   runs : (p : ℕ) → p < n → (w.endpoints p).run ≡ run
-  parcels : (b : List ℕ) → IsAmong w.sent b → IsParcelSent n f run packets b
-  requests : (k : Sent) → IsAmong w.requests k → WasSent packets k × IsOfDets n k
+  parcels : (b : List ℕ) → IsListed w.sent b → IsParcelSent n f run packets b
+  requests : (k : Sent) → IsListed w.requests k → WasSent packets k × IsOfDets n k
   stored : (d : Det) → w.stored d ≡ true → IsDet n d
-  names : (s name : ℕ) (view : ℕ → ℕ) → WasSent packets (question_packet s name view) → IsAmong (w.names s) name
+  names : (s name : ℕ) (view : ℕ → ℕ) → WasSent packets (question_packet s name view) → IsListed (w.names s) name
 
 more_sent : (n f run : ℕ) (new old : List Sent) (b : List ℕ) → IsParcelSent n f run old b → IsParcelSent n f run (new ++ old) b
 more_sent n f run new old b p = record { parcel = p.parcel; of_run = p.of_run; written = p.written; at = p.at; packet = was_older new old _ p.packet; number = λ other. was_older new old _ (p.number other) }
@@ -166,7 +166,7 @@ module _ (n f run : ℕ) (w : EndpointSystem) where
     here = system_of w sys.packets
 
     abbrev changed : System
-    changed = record { past = w.past; nodes = set_at here.nodes me.0 (here.nodes me.0); sent = sent ++ sys.packets; stored = w.stored; floors = w.floors }
+    changed = record { past = w.past; nodes = with_value_at here.nodes me.0 (here.nodes me.0); sent = sent ++ sys.packets; stored = w.stored; floors = w.floors }
 
     as_before : changed ≡ system_of w (sent ++ sys.packets)
     as_before = λ i. record { past = w.past; nodes = same_at here.nodes me.0 (here.nodes me.0) refl i; sent = sent ++ sys.packets; stored = w.stored; floors = w.floors }
@@ -245,7 +245,7 @@ module _ (n f run : ℕ) (w : EndpointSystem) where
     taken_here taken was = record { more = record { next = sys; keeps = λ k there. there }; was = was }
 
     -- a process that has ended says that it is not up, or its number
-    said_for : (me q : Pid) → me.0 < n → q.0 < n → (number : ℕ) → HasEnded (w.endpoints q.0) number → (r : RoundState) → (w.endpoints me.0).node.recovery ≡ Some (Some r) → (me.0 ≡ q.0 → ⊥)
+    said_for : (me q : Pid) → me.0 < n → q.0 < n → (number : ℕ) → HasGoneDown (w.endpoints q.0) number → (r : RoundState) → (w.endpoints me.0).node.recovery ≡ Some (Some r) → (me.0 ≡ q.0 → ⊥)
         → HasTaken (Some (not_up_for (w.endpoints me.0).node q number r.name))
     said_for me q low low_q number has_ended r gathers apart = by (floor_of (w.endpoints me.0).node.floors q == number) refl
       where
@@ -291,12 +291,12 @@ module _ (n f run : ℕ) (w : EndpointSystem) where
         by false = number
 
     -- what a node takes was sent
-    prepared : ReadsBack → (me : Pid) → me.0 < n → (input : Input) (taken : Option Sent) → IsTakeable n w input → TakesPacket w.past (w.endpoints me.0) input taken → HasTaken taken
+    prepared : ReadsBack → (me : Pid) → me.0 < n → (input : CallInput) (taken : Option Sent) → IsTakeable n w input → TakesPacket w.past (w.endpoints me.0) input taken → HasTaken taken
     prepared back me low nothing taken takeable takes = taken_here taken (subst (λ o. WasTaken sys.packets o) (sym takes) tt)
     prepared back me low (bytes b) taken takeable (p, read, mine, other, inl none) = taken_here taken (subst (λ o. WasTaken sys.packets o) (sym none) tt)
     prepared back me low (bytes b) taken takeable (p, read, mine, other, inr is) =
         let sent = sys.parcels b takeable in
-        let same : p ≡ sent.parcel = read_is (parcel_at (run_at n f run) b) p sent.parcel (ap (λ r. parcel_at r b) (sym (run_is me.0 low)) ∙ read) (ap (parcel_at (run_at n f run)) sent.written ∙ back (run_at n f run) sent.parcel sys.range sent.of_run) in
+        let same : p ≡ sent.parcel = read_is (read_parcel (run_at n f run) b) p sent.parcel (ap (λ r. read_parcel r b) (sym (run_is me.0 low)) ∙ read) (ap (read_parcel (run_at n f run)) sent.written ∙ back (run_at n f run) sent.parcel sys.range sent.of_run) in
         let apart : (sent.parcel.0.dest.0 ≡ sent.parcel.0.source.0 → ⊥) = λ e. other (ap (λ (q : Head × Contents). q.0.source.0) same ∙ sym e ∙ ap (λ (q : Head × Contents). q.0.dest.0) (sym same) ∙ ap (λ (to : Pid). to.0) mine) in
         let packet = subst (λ (q : Head × Contents). WasSent sys.packets (packet_of sent.at q)) (sym same) sent.packet in
         let number = subst (λ (q : Head × Contents). WasSent sys.packets (number_packet q.0.source.0 q.0.lane)) (sym same) (sent.number apart) in
@@ -307,7 +307,7 @@ module _ (n f run : ℕ) (w : EndpointSystem) where
         record { more = has.more; was = subst (λ o. WasTaken has.more.next.packets o) (sym is) has.was }
 
     -- what a call takes is of the run
-    taken_of_run : (me : Pid) → me.0 < n → (input : Input) → IsTakeable n w input → IsOfRun (w.endpoints me.0) input
+    taken_of_run : (me : Pid) → me.0 < n → (input : CallInput) → IsTakeable n w input → IsOfRun (w.endpoints me.0) input
     taken_of_run me low nothing takeable = tt
     taken_of_run me low (bytes b) takeable =
         let sent = sys.parcels b takeable in
@@ -316,10 +316,10 @@ module _ (n f run : ℕ) (w : EndpointSystem) where
     taken_of_run me low (ended q number) takeable = subst (λ m. m < 2 ^ 32) (ap (λ (s : NodeState). s.lane) takeable.1.fresh) (sys.states q.0 takeable.0).lane
 
   -- after a call of an endpoint
-  module _ (sys : IsSystemOf n f run w) (me : Pid) (low : me.0 < n) (input : Input) (e : EndpointState) (output : Output) (entries : List Entry)
-      (unused : (name : ℕ) → IsAmong output.names name → IsAmong (w.names me.0) name → ⊥)
+  module _ (sys : IsSystemOf n f run w) (me : Pid) (low : me.0 < n) (input : CallInput) (e : EndpointState) (output : Output) (entries : List Entry)
+      (unused : (name : ℕ) → IsListed output.names name → IsListed (w.names me.0) name → ⊥)
       (counted : HasCountedLog e) (state : IsEndpointState e) (identity : e.node.identity ≡ (w.endpoints me.0).node.identity) (same_run : e.run ≡ (w.endpoints me.0).run)
-      (dets : (k : Sent) → IsAmong output.to_storage k → IsOfDets (w.endpoints me.0).node.identity.processes k) where
+      (dets : (k : Sent) → IsListed output.to_storage k → IsOfDets (w.endpoints me.0).node.identity.processes k) where
     abbrev old : EndpointState
     old = w.endpoints me.0
 
@@ -329,10 +329,10 @@ module _ (n f run : ℕ) (w : EndpointSystem) where
     -- with more packets, of which the node's call has sent some
     module _ (sent : List Sent) (numbers_sent : 1 < n → WasSent sys.packets (number_packet me.0 old.node.lane))
         (reached : IsReachableSystem n f (system_of after (sent ++ sys.packets))) (facts : SystemFacts n f (system_of after (sent ++ sys.packets)))
-        (parcels : (b : List ℕ) → IsAmong output.bytes b → (at : ℕ) × ((k : Sent) × WasSent (sent ++ sys.packets) k × Says old at b k))
-        (requests : (k : Sent) → IsAmong output.to_storage k → WasSent sent k)
-        (questions : (from name : ℕ) (view : ℕ → ℕ) → WasSent sent (question_packet from name view) → (from ≡ me.0) × IsAmong output.names name) where
-      parcel_sent : (b : List ℕ) → IsAmong output.bytes b → IsParcelSent n f run (sent ++ sys.packets) b
+        (parcels : (b : List ℕ) → IsListed output.bytes b → (at : ℕ) × ((k : Sent) × WasSent (sent ++ sys.packets) k × Says old at b k))
+        (requests : (k : Sent) → IsListed output.to_storage k → WasSent sent k)
+        (questions : (from name : ℕ) (view : ℕ → ℕ) → WasSent sent (question_packet from name view) → (from ≡ me.0) × IsListed output.names name) where
+      parcel_sent : (b : List ℕ) → IsListed output.bytes b → IsParcelSent n f run (sent ++ sys.packets) b
       parcel_sent b there =
           let said = parcels b there in
           let says = said.1.2 in
@@ -352,12 +352,12 @@ module _ (n f run : ℕ) (w : EndpointSystem) where
           many : (m a b : ℕ) → a < m → b < m → (a ≡ b → ⊥) → 1 < m
           many m a b h k other = omega (arith, h, k, other)
 
-      names_after : (s name : ℕ) (view : ℕ → ℕ) → WasSent (sent ++ sys.packets) (question_packet s name view) → IsAmong (after.names s) name
+      names_after : (s name : ℕ) (view : ℕ → ℕ) → WasSent (sent ++ sys.packets) (question_packet s name view) → IsListed (after.names s) name
       names_after s name view there = elim (either_sent sent sys.packets _ there) [
         | inl now ↦
             let is = questions s name view now in
-            subst (λ m. IsAmong (after.names m) name) (sym is.0) (at_each (λ p names. (p ≡ me.0) → IsAmong names name) w.names me.0 (output.names ++ w.names me.0) (λ h. among_newer output.names (w.names me.0) name is.1) me.0 (λ other. absurd (other refl)) refl)
-        | inr before ↦ at_each (λ p names. (WasSent sys.packets (question_packet p name view)) → IsAmong names name) w.names me.0 (output.names ++ w.names me.0) (λ h. among_older output.names (w.names me.0) name (sys.names me.0 name view h)) s (λ other h. sys.names s name view h) before
+            subst (λ m. IsListed (after.names m) name) (sym is.0) (at_each (λ p names. (p ≡ me.0) → IsListed names name) w.names me.0 (output.names ++ w.names me.0) (λ h. among_newer output.names (w.names me.0) name is.1) me.0 (λ other. absurd (other refl)) refl)
+        | inr before ↦ at_each (λ p names. (WasSent sys.packets (question_packet p name view)) → IsListed names name) w.names me.0 (output.names ++ w.names me.0) (λ h. among_older output.names (w.names me.0) name (sys.names me.0 name view h)) s (λ other h. sys.names s name view h) before
       ]
 
       system_after : IsSystemOf n f run after
@@ -384,7 +384,7 @@ module _ (n f run : ℕ) (w : EndpointSystem) where
       fresh (question_packet from name view) there = λ j before. false_from_ne_true (is_of_round j from name) (λ of.
           let asked = sys.facts.asked j from name before of in
           let is = c.questions from name view there in
-          unused name is.1 (subst (λ m. IsAmong (w.names m) name) (is.0 ∙ me_is sys me.0 low) (sys.names from name asked.0 asked.1)))
+          unused name is.1 (subst (λ m. IsListed (w.names m) name) (is.0 ∙ me_is sys me.0 low) (sys.names from name asked.0 asked.1)))
       fresh (message_packet name p) there = tt
       fresh (acknowledgement_packet p) there = tt
       fresh (write_packet p) there = tt
@@ -395,7 +395,7 @@ module _ (n f run : ℕ) (w : EndpointSystem) where
       fresh (stored_packet to name ds) there = tt
       fresh (number_packet from number) there = tt
 
-      stepped : with_nodes w (entries ++ w.past) (set_at (nodes_of w.endpoints) me.0 e.node) (c.sent ++ sys.packets) ≡ system_of after (c.sent ++ sys.packets)
+      stepped : with_nodes w (entries ++ w.past) (with_value_at (nodes_of w.endpoints) me.0 e.node) (c.sent ++ sys.packets) ≡ system_of after (c.sent ++ sys.packets)
       stepped = λ i. with_nodes w (entries ++ w.past) (nodes_at w.endpoints me.0 e i) (c.sent ++ sys.packets)
 
       after_node_call : IsSystemOf n f run after
@@ -408,7 +408,7 @@ module _ (n f run : ℕ) (w : EndpointSystem) where
 
     -- by no call of its node
     module _ (none : IsNoCall old input e output entries) (numbers_sent : 1 < n → WasSent sys.packets (number_packet me.0 old.node.lane)) where
-      same_nodes : nodes_of w.endpoints ≡ nodes_of (set_at w.endpoints me.0 e)
+      same_nodes : nodes_of w.endpoints ≡ nodes_of (with_value_at w.endpoints me.0 e)
       same_nodes = sym (same_at (nodes_of w.endpoints) me.0 e.node none.same) ∙ nodes_at w.endpoints me.0 e
 
       as_still : system_of w sys.packets ≡ system_of after sys.packets
@@ -428,20 +428,20 @@ module _ (n f run : ℕ) (w : EndpointSystem) where
           let said = none.parcels b there in
           let was = sent_again said.0 said.1 in
           (was.0, (said.0 was.0, was.1, said.2 was.0)))
-          (λ k there. absurd (subst (λ ks. IsAmong ks k) none.no_requests there))
+          (λ k there. absurd (subst (λ ks. IsListed ks k) none.no_requests there))
           (λ from name view there. absurd there)
 
 module _ (back : ReadsBack) (calls : EndpointCallsAreNodeCalls) (keeps : EndpointCallsKeepStates) (n f run : ℕ) where
   module _ (w : EndpointSystem) (sys : IsSystemOf n f run w) where
-    after_call : (me : Pid) (input : Input) (e : EndpointState) (output : Output) (entries : List Entry) → me.0 < n → IsTakeable n w input → EndpointCall w.past (w.endpoints me.0) input e output entries → HasCountedLog e
-        → ((name : ℕ) → IsAmong output.names name → IsAmong (w.names me.0) name → ⊥)
+    after_call : (me : Pid) (input : CallInput) (e : EndpointState) (output : Output) (entries : List Entry) → me.0 < n → IsTakeable n w input → EndpointCall w.past (w.endpoints me.0) input e output entries → HasCountedLog e
+        → ((name : ℕ) → IsListed output.names name → IsListed (w.names me.0) name → ⊥)
         → IsSystemOf n f run (after_output w me e output entries)
     after_call me input e output entries low takeable call counted unused = by (calls w.past (w.endpoints me.0) e input output entries call (sys.states me.0 low) (sys.counted me.0 low) of_run)
       where
         of_run : IsOfRun (w.endpoints me.0) input
         of_run = taken_of_run n f run w sys me low input takeable
 
-        kept : IsEndpointState e × (e.node.identity ≡ (w.endpoints me.0).node.identity) × (e.run ≡ (w.endpoints me.0).run) × ((k : Sent) → IsAmong output.to_storage k → IsOfDets (w.endpoints me.0).node.identity.processes k)
+        kept : IsEndpointState e × (e.node.identity ≡ (w.endpoints me.0).node.identity) × (e.run ≡ (w.endpoints me.0).run) × ((k : Sent) → IsListed output.to_storage k → IsOfDets (w.endpoints me.0).node.identity.processes k)
         kept = keeps w.past (w.endpoints me.0) e input output entries call (sys.states me.0 low) (sys.counted me.0 low) of_run
 
         by : IsNodeCall w.past (w.endpoints me.0) input e output entries ⊎ IsNoCall (w.endpoints me.0) input e output entries → IsSystemOf n f run (after_output w me e output entries)
@@ -495,7 +495,7 @@ module _ (back : ReadsBack) (calls : EndpointCallsAreNodeCalls) (keeps : Endpoin
       names = sys.names;
     }
       where
-        fallen : with_nodes w (Crash who ∷ w.past) (set_at (nodes_of w.endpoints) who.0 (opened (w.endpoints who.0).node.identity ((w.endpoints who.0).node.lane + 1))) sys.packets ≡ system_of (after_fall w who clock) sys.packets
+        fallen : with_nodes w (Crash who ∷ w.past) (with_value_at (nodes_of w.endpoints) who.0 (opened (w.endpoints who.0).node.identity ((w.endpoints who.0).node.lane + 1))) sys.packets ≡ system_of (after_fall w who clock) sys.packets
         fallen = λ i. with_nodes w (Crash who ∷ w.past) (nodes_at w.endpoints who.0 (opened_after (w.endpoints who.0) clock) i) sys.packets
 
     -- stable storage takes a write, or sends what it has
@@ -551,8 +551,8 @@ module _ (back : ReadsBack) (calls : EndpointCallsAreNodeCalls) (keeps : Endpoin
     states = λ p low. subst (λ x. IsEndpointState x) (sym (new.endpoints p low).2) (first_state p low (new.endpoints p low).0 (new.endpoints p low).1);
     counted = λ p low. subst (λ x. HasCountedLog x) (sym (new.endpoints p low).2) (omega (arith, fin.len-empty det_cmp Known));
     runs = λ p low. ap (λ (x : EndpointState). x.run) (new.endpoints p low).2;
-    parcels = λ b there. absurd (subst (λ bs. IsAmong bs b) new.sent there);
-    requests = λ k there. absurd (subst (λ ks. IsAmong ks k) new.requests there);
+    parcels = λ b there. absurd (subst (λ bs. IsListed bs b) new.sent there);
+    requests = λ k there. absurd (subst (λ ks. IsListed ks k) new.requests there);
     stored = λ d has. absurd (false≢true (sym (new.stored d) ∙ has));
     names = λ s name view there. absurd there;
   }

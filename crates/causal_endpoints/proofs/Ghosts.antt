@@ -5,12 +5,12 @@ use Rattle.std.proofs.lemmas.Bool.{eq-eqb}
 use Rattle.std.proofs.lemmas.Bool.Decides.{eqb_tells}
 use Rattle.causal_name.specs.declared.Pid.{Pid}
 use Rattle.causal_name.specs.Names.{same_pid}
-use Rattle.causal_node.specs.declared.node_answer.Reply.TheVariants as Replies
+use Rattle.causal_node.specs.declared.node_answer.RoundReply.TheVariants as Replies
 use Rattle.causal_node.specs.declared.node_fault.NodeFault.TheVariants as Faults
 use Rattle.causal_node.specs.NodeStates.{NodeState, Recovery, floor_of}
 use Rattle.causal_node.specs.NodeRefusals.{or_else}
 use Rattle.causal_node.specs.NodeRecovery.{opened}
-use Rattle.causal_node.specs.NodeAnswers.{is_gathering, knows_number, answer_fault, reply_at, after_answer, after_answer_at}
+use Rattle.causal_node.specs.NodeAnswers.{is_gathering, knows_number, answer_fault, reply_at, node_after_answer, after_answer_at}
 use Rattle.causal_nodes.specs.Packets.{question_packet, not_up_packet, number_packet}
 use Rattle.causal_calls.specs.Views.{numbers, IsNodeState}
 use Rattle.causal_calls.specs.Calls.{NodeCall, answer_number, answer_not_up}
@@ -70,6 +70,6 @@ module _ (position : ℕ) (s : NodeState) (down : s.recovery ≡ Some None) (fre
       let knows : knows_number s view ≡ true = eq-eqb (numbers view s.identity.me.0) s.lane known in
       let waits : (is_gathering s.recovery && (knows_number s view && nat_lt s.identity.me.0 asker.0)) ≡ false = ap (λ (o : Recovery). is_gathering o && (knows_number s view && nat_lt s.identity.me.0 asker.0)) down in
       let late = not_less (numbers view asker.0) (numbers s.floors asker.0) (omega (arith, no_floor)) in
-      let same : after_answer s view ≡ s = (λ i. if knows i then after_answer_at s view (down i) else s) ∙ (λ i. record s { recovery = sym down i }) in
+      let same : node_after_answer s view ≡ s = (λ i. if knows i then after_answer_at s view (down i) else s) ∙ (λ i. record s { recovery = sym down i }) in
       subst (λ t. NodeCall position s (Some (question_packet asker.0 name (numbers view))) t (not_up_packet s.identity.me.0 asker.0 name ∷ []) []) same
       (answer_not_up asker name view (answered s asker view low other size late waits) (λ i. if knows i then reply_at (down i) else Replies.OwnNumber))

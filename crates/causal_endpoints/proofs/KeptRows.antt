@@ -16,10 +16,10 @@ use Rattle.causal_log.specs.declared.known.Known.{Known}
 use Rattle.causal_log.proofs.Lemmas.KnowledgeGrows.{logged_all, known_all, holds_either}
 use Rattle.causal_protocol.specs.MemoryQueries.{has_entry, log_knows_holder, has_item, item_holder}
 use Rattle.causal_wire.specs.declared.parcel.Head.{Head}
-use Rattle.causal_wire.specs.declared.parcel.Item.{Item as WireItem}
+use Rattle.causal_wire.specs.declared.parcel.ParcelItem.{ParcelItem as WireItem}
 use Rattle.causal_wire.specs.declared.parcel.LogEntry.{LogEntry}
 use Rattle.causal_wire.specs.Parcels.{Contents, message, acknowledgement, question, answer, own_number, not_up, IsDet, IsItem, IsRun, IsParcel}
-use Rattle.causal_wire.specs.Reading.{parcel_at}
+use Rattle.causal_wire.specs.Reading.{read_parcel}
 use Rattle.causal_world.specs.World.{Packet}
 use Rattle.causal_node.specs.declared.node.Identity.{Identity}
 use Rattle.causal_node.specs.NodeStates.{NodeState, floor_of}
@@ -33,9 +33,9 @@ use Rattle.causal_endpoint.specs.Endpoints.{EndpointState, run_of}
 use Rattle.causal_endpoint.specs.Receiving.{contents_fault, clock_with}
 use Rattle.causal_endpoint.specs.Items.{log_item, log_entry, log_from}
 use Rattle.causal_endpoints.specs.Packets.{taken_with, not_up_for}
-use Rattle.causal_endpoints.specs.Calls.{Input, nothing, bytes, from_storage, ended, Output, output_at, EndpointCall, send, resend, acknowledge, forget, receive, write, stored, begin_round, ask, take_ended, ask_storage, take_stored, finish_read, restart, open_again}
+use Rattle.causal_endpoints.specs.Calls.{CallInput, nothing, bytes, from_storage, ended, Output, output_at, EndpointCall, send, resend, acknowledge, forget, receive, write, stored, begin_round, ask, take_ended, ask_storage, take_stored, finish_read, restart, open_again}
 use Rattle.causal_endpoints.specs.States.{IsEndpointState, IsOfDets, IsOfRun}
-use Rattle.causal_endpoints.specs.CallLaws.{IsAmong, TakesPacket, IsNodeCall, IsNoCall, EndpointCallsKeepStates}
+use Rattle.causal_endpoints.specs.CallLaws.{IsListed, TakesPacket, IsNodeCall, IsNoCall, EndpointCallsKeepStates}
 use Rattle.causal_endpoints.proofs.Legal.{or_else_none, node_or_none, clock_below}
 use Rattle.causal_endpoints.proofs.CallRows.{ReadsBack, read_is, one_among, calls_are_node_calls}
 use Rattle.causal_endpoints.proofs.Within.{IsWithin, IsTakenWithin, IsWithinIfTaken, each_number, calls_within}
@@ -128,15 +128,15 @@ module _ (e : EndpointState) where
   within_of k = record { lane = k.lane; floors = k.floors; logged = k.logged; round = k.round; kept = k.kept; sent = k.sent; received = k.received }
 
   -- what comes from storage
-  abbrev IsReply : Input → Type 0
+  abbrev IsReply : CallInput → Type 0
   IsReply (from_storage k) = IsTakenWithin n k × NamesProcesses n k
   IsReply _ = Unit {0}
 
-  takes_within : ReadsBack → IsEndpointState e → (past : List Entry) (input : Input) (taken : Option Sent) → IsOfRun e input → IsReply input → TakesPacket past e input taken → IsWithinIfTaken n taken × TakesOfProcesses n taken
+  takes_within : ReadsBack → IsEndpointState e → (past : List Entry) (input : CallInput) (taken : Option Sent) → IsOfRun e input → IsReply input → TakesPacket past e input taken → IsWithinIfTaken n taken × TakesOfProcesses n taken
   takes_within back k past nothing taken fits reply takes = (subst (λ o. IsWithinIfTaken n o) (sym takes) tt, subst (λ o. TakesOfProcesses n o) (sym takes) tt)
   takes_within back k past (bytes b) taken fits reply (p, read, mine, other, inl none) = (subst (λ o. IsWithinIfTaken n o) (sym none) tt, subst (λ o. TakesOfProcesses n o) (sym none) tt)
   takes_within back k past (bytes b) taken fits reply (p, read, mine, other, inr is) =
-      let same : p ≡ fits.0 = read_is (parcel_at (run_of e) b) p fits.0 read (ap (parcel_at (run_of e)) fits.2 ∙ back (run_of e) fits.0 k.run fits.1) in
+      let same : p ≡ fits.0 = read_is (read_parcel (run_of e) b) p fits.0 read (ap (read_parcel (run_of e)) fits.2 ∙ back (run_of e) fits.0 k.run fits.1) in
       let of_run = subst (λ q. IsParcel (run_of e) q) (sym same) fits.1 in
       (subst (λ o. IsWithinIfTaken n o) (sym is.2) (parcel_within is.0 p.0 p.1 of_run), subst (λ o. TakesOfProcesses n o) (sym is.2) (parcel_names is.0 p.0 p.1 of_run))
   takes_within back k past (from_storage j) taken fits reply takes = (subst (λ o. IsWithinIfTaken n o) (sym takes) reply.0, subst (λ o. TakesOfProcesses n o) (sym takes) reply.1)
@@ -151,7 +151,7 @@ module _ (e : EndpointState) where
   clock_kept now head (own_number round) low head_low legal = omega (arith, low, head_low)
   clock_kept now head (not_up round) low head_low legal = omega (arith, low, head_low)
 
-  no_names_at : (now : ℕ) (head : Head) (contents : Contents) (name : ℕ) → IsAmong (output_at e now head contents).names name → ⊥
+  no_names_at : (now : ℕ) (head : Head) (contents : Contents) (name : ℕ) → IsListed (output_at e now head contents).names name → ⊥
   no_names_at now head (message ssn items body) name h = h
   no_names_at now head (acknowledgement items) name h = h
   no_names_at now head (question round view) name h = h
@@ -159,7 +159,7 @@ module _ (e : EndpointState) where
   no_names_at now head (own_number round) name h = h
   no_names_at now head (not_up round) name h = h
 
-  no_requests_at : (now : ℕ) (head : Head) (contents : Contents) (k : Sent) → IsAmong (output_at e now head contents).to_storage k → ⊥
+  no_requests_at : (now : ℕ) (head : Head) (contents : Contents) (k : Sent) → IsListed (output_at e now head contents).to_storage k → ⊥
   no_requests_at now head (message ssn items body) k h = h
   no_requests_at now head (acknowledgement items) k h = h
   no_requests_at now head (question round view) k h = h
@@ -168,26 +168,26 @@ module _ (e : EndpointState) where
   no_requests_at now head (not_up round) k h = h
 
 -- what is plain of each call
-record IsPlain (old : EndpointState) (input : Input) (new : EndpointState) (output : Output) : Type 0 where
+record IsPlain (old : EndpointState) (input : CallInput) (new : EndpointState) (output : Output) : Type 0 where
   run : new.run ≡ old.run
   clock : new.clock < 2 ^ 62
-  names : (name : ℕ) → IsAmong output.names name → name < 2 ^ 64
+  names : (name : ℕ) → IsListed output.names name → name < 2 ^ 64
   reply : IsReply old input
-  requests : (k : Sent) → IsAmong output.to_storage k → IsOfDets old.node.identity.processes k
+  requests : (k : Sent) → IsListed output.to_storage k → IsOfDets old.node.identity.processes k
 
-plainly : (old new : EndpointState) (output : Output) → new.run ≡ old.run → new.clock < 2 ^ 62 → ((name : ℕ) → IsAmong output.names name → ⊥) → ((k : Sent) → IsAmong output.to_storage k → ⊥) → IsPlain old nothing new output
+plainly : (old new : EndpointState) (output : Output) → new.run ≡ old.run → new.clock < 2 ^ 62 → ((name : ℕ) → IsListed output.names name → ⊥) → ((k : Sent) → IsListed output.to_storage k → ⊥) → IsPlain old nothing new output
 plainly old new output run clock unnamed unasked = record { run = run; clock = clock; names = λ name h. absurd (unnamed name h); reply = tt; requests = λ k h. absurd (unasked k h) }
 
-none_of : {X : Type 0} (x : X) → IsAmong [] x → ⊥
+none_of : {X : Type 0} (x : X) → IsListed [] x → ⊥
 none_of x h = h
 
-plain : ReadsBack → (past : List Entry) (old new : EndpointState) (input : Input) (output : Output) (entries : List Entry) → EndpointCall past old input new output entries → IsEndpointState old → IsOfRun old input → IsPlain old input new output
+plain : ReadsBack → (past : List Entry) (old new : EndpointState) (input : CallInput) (output : Output) (entries : List Entry) → EndpointCall past old input new output entries → IsEndpointState old → IsOfRun old input → IsPlain old input new output
 plain back past old new input output entries (send now to body legal) k fits = plainly old new output refl (clock_below _ (or_else_none _ _ _ (node_or_none _ _ legal).1).1) none_of none_of
 plain back past old new input output entries (resend ssn again legal is) k fits = plainly old new output refl k.clock none_of none_of
 plain back past old new input output entries (acknowledge now to dets ascends legal) k fits = plainly old new output refl (clock_below _ (or_else_none _ _ _ (node_or_none _ _ legal).1).1) none_of none_of
 plain back past old new input output entries (forget now legal) k fits = plainly old new output refl (clock_below _ (node_or_none _ _ legal).1) none_of none_of
 plain back past old new input output entries (receive now b p recorded read legal records) k fits =
-    let same : p ≡ fits.0 = read_is (parcel_at (run_of old) b) p fits.0 read (ap (parcel_at (run_of old)) fits.2 ∙ back (run_of old) fits.0 k.run fits.1) in
+    let same : p ≡ fits.0 = read_is (read_parcel (run_of old) b) p fits.0 read (ap (read_parcel (run_of old)) fits.2 ∙ back (run_of old) fits.0 k.run fits.1) in
     let of_run = subst (λ q. IsParcel (run_of old) q) (sym same) fits.1 in
     let dest = or_else_none (not (same_pid p.0.dest old.node.identity.me)) Faults.NotMine _ legal in
     let source = or_else_none (same_pid p.0.source old.node.identity.me) Faults.OwnParcel _ dest.1 in
@@ -258,7 +258,7 @@ calls_keep_states back keep past old new input output entries call k few fits = 
     facts = plain back past old new input output entries call k fits
 
     by : IsNodeCall past old input new output entries ⊎ IsNoCall old input new output entries
-        → IsEndpointState new × (new.node.identity ≡ old.node.identity) × (new.run ≡ old.run) × ((k : Sent) → IsAmong output.to_storage k → IsOfDets old.node.identity.processes k)
+        → IsEndpointState new × (new.node.identity ≡ old.node.identity) × (new.run ≡ old.run) × ((k : Sent) → IsListed output.to_storage k → IsOfDets old.node.identity.processes k)
     by (inl c) =
         let takes = takes_within old back k past input c.taken fits facts.reply c.takes in
         let kept = keep (length past) old.node new.node c.taken c.sent entries c.call k.node takes.1 in

@@ -5,9 +5,9 @@ use Rattle.std.proofs.lemmas.Bool.{false≢true}
 use Rattle.causal_name.specs.declared.Pid.{Pid}
 use Rattle.causal_node.specs.declared.node_fault.NodeFault.{NodeFault}
 use Rattle.causal_node.specs.NodeStates.{NodeState, Recovery, RoundState}
-use Rattle.causal_node.specs.NodeRefusals.{send_fault as node_send_fault}
-use Rattle.causal_node.specs.NodeAcknowledgements.{acknowledge_fault as node_acknowledge_fault}
-use Rattle.causal_node.specs.NodeRounds.{unless_gathering, question_fault as node_question_fault}
+use Rattle.causal_node.specs.NodeRefusals.{node_send_fault as node_send_fault}
+use Rattle.causal_node.specs.NodeAcknowledgements.{node_acknowledge_fault as node_acknowledge_fault}
+use Rattle.causal_node.specs.NodeRounds.{unless_gathering, node_question_fault as node_question_fault}
 use Rattle.causal_endpoint.specs.declared.fault.EndpointFault.{EndpointFault}
 use Rattle.causal_endpoint.specs.Refusals.{or_else, node_or, clock_fault}
 use Rattle.causal_calls.proofs.Lemmas.Refusals as node

@@ -18,7 +18,7 @@ use Rattle.causal_trace.specs.declared.entry.Entry.TheVariants.{Send, Deliver, S
 use Rattle.causal_trace.specs.Past.{entry_at, lane as lane_of, sends, message_sent}
 use Rattle.causal_trace.proofs.Lemmas.AtInstants.{instants_stay, last_instant}
 use Rattle.causal_steps.proofs.Lemmas.Positions.{at_newest}
-use Rattle.causal_rounds.specs.Rounds.{set_at}
+use Rattle.causal_rounds.specs.Rounds.{with_value_at}
 use Rattle.causal_log.specs.Logs.{batch_items}
 use Rattle.causal_protocol.specs.Memory.{SentMessage}
 use Rattle.causal_protocol.specs.Naming.{message_name}
@@ -28,7 +28,7 @@ use Rattle.causal_node.specs.NodeStates.{NodeState, Recovery, RoundState}
 use Rattle.causal_node.specs.NodeRecovery.{opened}
 use Rattle.causal_nodes.specs.Packets.{Sent, WasSent, WasTaken, message_packet, question_packet, is_of_round}
 use Rattle.causal_calls.specs.Views.{numbers}
-use Rattle.causal_calls.specs.Parcels.{message_with, next_message}
+use Rattle.causal_calls.specs.Parcels.{message_with, next_message_packet}
 use Rattle.causal_calls.specs.Calls.{NodeCall}
 use Rattle.causal_calls.specs.Systems.{System, identity_of}
 use Rattle.causal_endpoints.specs.Packets.{IsSendOf}
@@ -76,10 +76,10 @@ either_sent (x ∷ new) old k (inl is) = inl (inl is)
 either_sent (x ∷ new) old k (inr was) = elim (either_sent new old k was) [ inl here ↦ inl (inr here) | inr there ↦ inr there ]
 
 -- what holds at one number, and at the others, holds after a change there
-pub at_each : {X : Type 0} (P : ℕ → X → Type 0) (xs : ℕ → X) (here : ℕ) (x : X) → P here x → (p : ℕ) → ((p ≡ here → ⊥) → P p (xs p)) → P p (set_at xs here x p)
+pub at_each : {X : Type 0} (P : ℕ → X → Type 0) (xs : ℕ → X) (here : ℕ) (x : X) → P here x → (p : ℕ) → ((p ≡ here → ⊥) → P p (xs p)) → P p (with_value_at xs here x p)
 at_each P xs here x is p other = by (eqb_tells p here)
   where
-    by : ((p == here ≡ true) × (p ≡ here)) ⊎ ((p == here ≡ false) × (p ≡ here → ⊥)) → P p (set_at xs here x p)
+    by : ((p == here ≡ true) × (p ≡ here)) ⊎ ((p == here ≡ false) × (p ≡ here → ⊥)) → P p (with_value_at xs here x p)
     by (inl same) = subst (λ (b : Bool). P p (if b then x else xs p)) (sym same.0) (subst (λ q. P q x) (sym same.1) is)
     by (inr apart) = subst (λ (b : Bool). P p (if b then x else xs p)) (sym apart.0) (other apart.1)
 
@@ -160,12 +160,12 @@ module _ (n f : ℕ) (w : System) (k : SystemFacts n f w) (me : Pid) (low : me.0
 
   module _ (taken : Option Sent) (new : NodeState) (sent : List Sent) (entries : List Entry) (was : WasTaken w.sent taken) (call : NodeCall (length w.past) old taken new sent entries) (identity : new.identity ≡ old.identity) where
     abbrev after : System
-    after = record { past = entries ++ w.past; nodes = set_at w.nodes me.0 new; sent = sent ++ w.sent; stored = w.stored; floors = w.floors }
+    after = record { past = entries ++ w.past; nodes = with_value_at w.nodes me.0 new; sent = sent ++ w.sent; stored = w.stored; floors = w.floors }
 
-    identities_after : (p : ℕ) → p < n → (set_at w.nodes me.0 new p).identity ≡ identity_of n f p
+    identities_after : (p : ℕ) → p < n → (with_value_at w.nodes me.0 new p).identity ≡ identity_of n f p
     identities_after p low_p = at_each (λ p s. s.identity ≡ identity_of n f p) w.nodes me.0 new (identity ∙ k.identities me.0 low) p (λ other. k.identities p low_p)
 
-    questions_after : (p : ℕ) → p < n → (q : RoundState) → (set_at w.nodes me.0 new p).recovery ≡ Some (Some q) → WasSent (sent ++ w.sent) (question_packet p q.name (numbers (set_at w.nodes me.0 new p).floors))
+    questions_after : (p : ℕ) → p < n → (q : RoundState) → (with_value_at w.nodes me.0 new p).recovery ≡ Some (Some q) → WasSent (sent ++ w.sent) (question_packet p q.name (numbers (with_value_at w.nodes me.0 new p).floors))
     questions_after p low_p = at_each (λ p s. (q : RoundState) → s.recovery ≡ Some (Some q) → WasSent (sent ++ w.sent) (question_packet p q.name (numbers s.floors))) w.nodes me.0 new
         (λ q is. elim (call_rounds (length w.past) old new taken sent entries call q is) [
           | inl same ↦ was_older sent w.sent _ (subst (λ j. WasSent w.sent j) (λ i. question_packet me.0 (same.2 i) (numbers (sym same.3 i))) (k.questions me.0 low same.0 same.1))
@@ -189,7 +189,7 @@ module _ (n f : ℕ) (w : System) (k : SystemFacts n f w) (me : Pid) (low : me.0
     kept_others : (p : ℕ) → p < n → (ssn : ℕ) (kept : SentMessage) → slice_get (w.nodes p).memory.sent ssn ≡ Some kept → WasMessageSent (sent ++ w.sent) p (w.nodes p) ssn kept
     kept_others p low_p ssn kept at = kept_more sent w.sent p (w.nodes p) (w.nodes p) ssn kept refl (k.kept p low_p ssn kept at)
 
-    facts_from : AreSendsCounted (entries ++ w.past) → ((p : ℕ) → p < n → NodeCounts (entries ++ w.past) p (set_at w.nodes me.0 new p)) → MessagesHaveEntries (entries ++ w.past) (sent ++ w.sent)
+    facts_from : AreSendsCounted (entries ++ w.past) → ((p : ℕ) → p < n → NodeCounts (entries ++ w.past) p (with_value_at w.nodes me.0 new p)) → MessagesHaveEntries (entries ++ w.past) (sent ++ w.sent)
         → ((ssn : ℕ) (kept : SentMessage) → slice_get new.memory.sent ssn ≡ Some kept → WasMessageSent (sent ++ w.sent) me.0 new ssn kept)
         → SystemFacts n f after
     facts_from counted nodes messages kept = record {
@@ -219,12 +219,12 @@ module _ (n f : ℕ) (w : System) (k : SystemFacts n f w) (me : Pid) (low : me.0
         by : AreUncounted entries → SystemFacts n f after
         by (inl is) = facts_from
             (subst (λ (es : List Entry). AreSendsCounted (es ++ w.past)) (sym is) k.counted)
-            (subst (λ (es : List Entry). (p : ℕ) → p < n → NodeCounts (es ++ w.past) p (set_at w.nodes me.0 new p)) (sym is) (λ p low_p. at_each (λ p s. NodeCounts w.past p s) w.nodes me.0 new mine_after p (λ other. k.nodes p low_p)))
+            (subst (λ (es : List Entry). (p : ℕ) → p < n → NodeCounts (es ++ w.past) p (with_value_at w.nodes me.0 new p)) (sym is) (λ p low_p. at_each (λ p s. NodeCounts w.past p s) w.nodes me.0 new mine_after p (λ other. k.nodes p low_p)))
             (subst (λ (es : List Entry). MessagesHaveEntries (es ++ w.past) (sent ++ w.sent)) (sym is) (entries_more w.past sent w.sent none k.messages))
             kept
         by (inr (e, is, plain)) = facts_from
             (subst (λ (es : List Entry). AreSendsCounted (es ++ w.past)) (sym is) (uncounted_counts e w.past plain k.counted))
-            (subst (λ (es : List Entry). (p : ℕ) → p < n → NodeCounts (es ++ w.past) p (set_at w.nodes me.0 new p)) (sym is) (λ p low_p.
+            (subst (λ (es : List Entry). (p : ℕ) → p < n → NodeCounts (es ++ w.past) p (with_value_at w.nodes me.0 new p)) (sym is) (λ p low_p.
             at_each (λ p s. NodeCounts (e ∷ w.past) p s) w.nodes me.0 new (in_next e plain me.0 new mine_after) p (λ other. in_next e plain p (w.nodes p) (k.nodes p low_p))))
             (subst (λ (es : List Entry). MessagesHaveEntries (es ++ w.past) (sent ++ w.sent)) (sym is) (entries_more (e ∷ w.past) sent w.sent none (entries_older e w.past w.sent k.messages)))
             kept
@@ -242,11 +242,11 @@ module _ (n f : ℕ) (w : System) (k : SystemFacts n f w) (me : Pid) (low : me.0
     -- a send
     facts_if_sent : (to : Pid) → old.recovery ≡ None → new.recovery ≡ None → new.lane ≡ old.lane
         → new.memory.sent ≡ old.memory.sent ++ record { to = to; send = length old.memory.sent; batch = batch_items old.identity.faults old.memory.log } ∷ []
-        → sent ≡ message_packet (message_name old.identity.me (length old.memory.sent)) (next_message (length w.past) old to) ∷ []
+        → sent ≡ message_packet (message_name old.identity.me (length old.memory.sent)) (next_message_packet (length w.past) old to) ∷ []
         → entries ≡ Send old.identity.me to (length old.memory.sent) ∷ [] → SystemFacts n f after
     facts_if_sent to up still_up lane more sent_is recorded = facts_from
         (subst (λ (es : List Entry). AreSendsCounted (es ++ w.past)) (sym recorded) counted)
-        (subst (λ (es : List Entry). (p : ℕ) → p < n → NodeCounts (es ++ w.past) p (set_at w.nodes me.0 new p)) (sym recorded) (λ p low_p.
+        (subst (λ (es : List Entry). (p : ℕ) → p < n → NodeCounts (es ++ w.past) p (with_value_at w.nodes me.0 new p)) (sym recorded) (λ p low_p.
         at_each (λ p s. NodeCounts (Send old.identity.me to (length old.memory.sent) ∷ w.past) p s) w.nodes me.0 new mine_after p (λ other. counts_in w.past (Send old.identity.me to (length old.memory.sent) ∷ w.past) p (w.nodes p) (w.nodes p).recovery refl (others p other) (k.nodes p low_p))))
         (subst (λ (es : List Entry). MessagesHaveEntries (es ++ w.past) (sent ++ w.sent)) (sym recorded) messages)
         kept
@@ -269,7 +269,7 @@ module _ (n f : ℕ) (w : System) (k : SystemFacts n f w) (me : Pid) (low : me.0
         others : (p : ℕ) → (p ≡ me.0 → ⊥) → sends (Send old.identity.me to (length old.memory.sent) ∷ w.past) p ≡ sends w.past p
         others p other = elim (eqb_tells old.identity.me.0 p) [ inl is ↦ absurd (other (sym is.1 ∙ mine)) | inr apart ↦ cond-false (old.identity.me.0 == p) (sends w.past p + 1) (sends w.past p) apart.0 ]
 
-        entry : HasSendEntry (Send old.identity.me to (length old.memory.sent) ∷ w.past) (message_name old.identity.me (length old.memory.sent)) (next_message (length w.past) old to)
+        entry : HasSendEntry (Send old.identity.me to (length old.memory.sent) ∷ w.past) (message_name old.identity.me (length old.memory.sent)) (next_message_packet (length w.past) old to)
         entry = (
           length w.past,
           refl,
@@ -284,7 +284,7 @@ module _ (n f : ℕ) (w : System) (k : SystemFacts n f w) (me : Pid) (low : me.0
           | inl now ↦ elim (subst (λ js. WasSent js (message_packet name t)) sent_is now) [
             | inl is ↦
                 let same = same_packet _ name _ t is in
-                subst (λ (x : Packet). HasSendEntry (Send old.identity.me to (length old.memory.sent) ∷ w.past) name x) same.1 (subst (λ (x : MsgName). HasSendEntry (Send old.identity.me to (length old.memory.sent) ∷ w.past) x (next_message (length w.past) old to)) same.0 entry)
+                subst (λ (x : Packet). HasSendEntry (Send old.identity.me to (length old.memory.sent) ∷ w.past) name x) same.1 (subst (λ (x : MsgName). HasSendEntry (Send old.identity.me to (length old.memory.sent) ∷ w.past) x (next_message_packet (length w.past) old to)) same.0 entry)
             | inr none ↦ absurd none
           ]
           | inr before ↦ entries_older (Send old.identity.me to (length old.memory.sent)) w.past w.sent k.messages name t before
@@ -303,7 +303,7 @@ module _ (n f : ℕ) (w : System) (k : SystemFacts n f w) (me : Pid) (low : me.0
     facts_if_restarted : (listed : List Det) (round : Option RoundState) → old.recovery ≡ Some round → new.recovery ≡ None → new.lane ≡ old.lane → new.memory.sent ≡ [] → sent ≡ [] → entries ≡ Restart old.identity.me listed ∷ [] → SystemFacts n f after
     facts_if_restarted listed round down up lane lost sent_is recorded = facts_from
         (subst (λ (es : List Entry). AreSendsCounted (es ++ w.past)) (sym recorded) counted)
-        (subst (λ (es : List Entry). (p : ℕ) → p < n → NodeCounts (es ++ w.past) p (set_at w.nodes me.0 new p)) (sym recorded) (λ p low_p.
+        (subst (λ (es : List Entry). (p : ℕ) → p < n → NodeCounts (es ++ w.past) p (with_value_at w.nodes me.0 new p)) (sym recorded) (λ p low_p.
         at_each (λ p s. NodeCounts (Restart old.identity.me listed ∷ w.past) p s) w.nodes me.0 new mine_after p
         (λ other. counts_in w.past (Restart old.identity.me listed ∷ w.past) p (w.nodes p) (w.nodes p).recovery (cond-false (old.identity.me.0 == p) _ _ (apart p other)) (cond-false (old.identity.me.0 == p) _ _ (apart p other)) (k.nodes p low_p))))
         (subst (λ (es : List Entry). MessagesHaveEntries (es ++ w.past) (sent ++ w.sent)) (sym recorded)
@@ -358,7 +358,7 @@ first_facts n f w past nodes sent = record {
 
 -- a crash
 pub facts_after_crash : (n f : ℕ) (w : System) → SystemFacts n f w → (who : Pid) → who.0 < n → (w.nodes who.0).recovery ≡ None
-    → SystemFacts n f (record { past = Crash who ∷ w.past; nodes = set_at w.nodes who.0 (opened (w.nodes who.0).identity ((w.nodes who.0).lane + 1)); sent = w.sent; stored = w.stored; floors = w.floors })
+    → SystemFacts n f (record { past = Crash who ∷ w.past; nodes = with_value_at w.nodes who.0 (opened (w.nodes who.0).identity ((w.nodes who.0).lane + 1)); sent = w.sent; stored = w.stored; floors = w.floors })
 facts_after_crash n f w k who low up = record {
   counted = counted;
   identities = λ p low_p. at_each (λ p s. s.identity ≡ identity_of n f p) w.nodes who.0 fallen (k.identities who.0 low) p (λ other. k.identities p low_p);

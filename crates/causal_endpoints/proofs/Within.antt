@@ -26,10 +26,10 @@ use Rattle.causal_node.specs.declared.node_fault.NodeFault.TheVariants as Faults
 use Rattle.causal_memory.specs.Namings.{named_message_by}
 use Rattle.causal_node.specs.NodeAcknowledgements.{log_with_holders}
 use Rattle.causal_node.specs.NodeForgetting.{next_slot}
-use Rattle.causal_node.specs.declared.node_answer.Reply.{Reply}
-use Rattle.causal_node.specs.declared.node_answer.Reply.TheVariants as Replies
-use Rattle.causal_node.specs.NodeRecovery.{reply_fault, restart_fault, new_round, with_recovery, map_round, with_log_of, without_awaited, after_not_up, after_number, after_stored, after_read, after_restart_at, opened}
-use Rattle.causal_node.specs.NodeAnswers.{after_answer, after_answer_at, knows_number, raised, reply_of, reply_at}
+use Rattle.causal_node.specs.declared.node_answer.RoundReply.{RoundReply}
+use Rattle.causal_node.specs.declared.node_answer.RoundReply.TheVariants as Replies
+use Rattle.causal_node.specs.NodeRecovery.{reply_fault, node_restart_fault, new_round, with_recovery, map_round, with_log_of, without_awaited, after_not_up, after_number, node_after_stored, node_after_read, after_restart_at, opened}
+use Rattle.causal_node.specs.NodeAnswers.{node_after_answer, after_answer_at, knows_number, raised, round_reply, reply_at}
 use Rattle.causal_nodes.specs.Node.{NodeLog}
 use Rattle.causal_nodes.specs.Packets.{Sent, WasSent, message_packet, written_packet, question_packet, answer_packet, stored_packet, number_packet}
 use Rattle.causal_calls.specs.Views.{numbers, IsNodeState}
@@ -145,7 +145,7 @@ module _ (n me : ℕ) (s : NodeState) (k : IsWithin n me s) where
       by true = with_other_floors (slice_set s.floors q.0 (max number (floor_of s.floors q))) (Some None) (set_within s.floors q.0 _ (greater number (floor_of s.floors q) (2 ^ 32) low (each_number s.floors k.floors q.0)) k.floors) tt
       by false = with_other_floors s.floors (Some None) k.floors tt
 
-  after_reply : (view : List ℕ) → AllByRecursion (λ number. number < 2 ^ 32) view → IsWithin n me (after_answer s view)
+  after_reply : (view : List ℕ) → AllByRecursion (λ number. number < 2 ^ 32) view → IsWithin n me (node_after_answer s view)
   after_reply view low = by (knows_number s view) s.recovery refl
     where
       by : (b : Bool) (o : Recovery) → s.recovery ≡ o → IsWithin n me (if b then after_answer_at s view o else s)
@@ -159,11 +159,11 @@ room None reserved name rest h = (or_else_none reserved _ rest h).1
 room (Some other) reserved name rest h = (or_else_none _ _ rest h).1
 
 -- a reply with the own number changes nothing
-is_number : Reply → Bool
+is_number : RoundReply → Bool
 is_number Replies.OwnNumber = true
 is_number _ = false
 
-number_same : (s : NodeState) (view : List ℕ) → reply_of s view ≡ Replies.OwnNumber → s ≡ after_answer s view
+number_same : (s : NodeState) (view : List ℕ) → round_reply s view ≡ Replies.OwnNumber → s ≡ node_after_answer s view
 unfolding is_number
 number_same s view reply = by (knows_number s view) s.recovery reply
   where
@@ -179,7 +179,7 @@ not_up_within s k q number name legal low = by (floor_of s.floors q == number)
     by true = let r = of_round s.recovery name q legal in changed s.identity.processes s.identity.me.0 s k r.0 r.1 (λ r. without_awaited r q.0) (λ w. w)
     by false = after_other_number s.identity.processes s.identity.me.0 s k q number low
 
-restarted_within : (s : NodeState) → IsWithin s.identity.processes s.identity.me.0 s → (reserved : List MsgName) (o : Recovery) → s.recovery ≡ o → restart_fault o ≡ None → IsWithin s.identity.processes s.identity.me.0 (after_restart_at s o reserved)
+restarted_within : (s : NodeState) → IsWithin s.identity.processes s.identity.me.0 s → (reserved : List MsgName) (o : Recovery) → s.recovery ≡ o → node_restart_fault o ≡ None → IsWithin s.identity.processes s.identity.me.0 (after_restart_at s o reserved)
 restarted_within s k reserved None is legal = absurd (some_none _ legal)
 restarted_within s k reserved (Some None) is legal = absurd (some_none _ legal)
 restarted_within s k reserved (Some (Some r)) is legal = record {
@@ -242,7 +242,7 @@ calls_within position old new taken sent entries (forget legal) is few k fits na
     with_other_log old.identity.processes old.identity.me.0 old k (after_forget (next_slot old)) (λ d h. k.logged d (and_parts _ _ (sym (ap (λ (x : NodeLog). x.has d) (forgotten (next_slot old) old.memory.log)) ∙ h)).1)
 calls_within position old new taken sent entries (write dets up logged) is few k fits named = k
 calls_within position old new taken sent entries (stored dets det up has) is few k fits named =
-    subst (λ (o : Recovery). IsWithin old.identity.processes old.identity.me.0 (after_stored old det o)) (sym up)
+    subst (λ (o : Recovery). IsWithin old.identity.processes old.identity.me.0 (node_after_stored old det o)) (sym up)
     (with_other_log old.identity.processes old.identity.me.0 old k (λ log. after_mark log det) (λ d h. k.logged d (sym (ap (λ (x : NodeLog). x.has d) (marked old.memory.log det)) ∙ h)))
 calls_within position old new taken sent entries (answer_log asker name view legal reply) is few k fits named = after_reply old.identity.processes old.identity.me.0 old k view (numbers_each view fits)
 calls_within position old new taken sent entries (answer_not_up asker name view legal reply) is few k fits named = after_reply old.identity.processes old.identity.me.0 old k view (numbers_each view fits)
@@ -257,7 +257,7 @@ calls_within position old new taken sent entries (take_other_number name q numbe
 calls_within position old new taken sent entries (take_number name q number legal) is few k fits named = after_other_number old.identity.processes old.identity.me.0 old k q number fits
 calls_within position old new taken sent entries (ask_storage r gathers legal) is few k fits named = k
 calls_within position old new taken sent entries (take_stored r dets det gathers legal has) is few k fits named =
-    subst (λ (o : Recovery). IsWithin old.identity.processes old.identity.me.0 (after_stored old det o)) (sym gathers)
+    subst (λ (o : Recovery). IsWithin old.identity.processes old.identity.me.0 (node_after_stored old det o)) (sym gathers)
     (with_other old.identity.processes old.identity.me.0 old k (Some (Some (record r { log = after_learn r.log det (stable_and_held_by old.identity.me) }))) (
       gathered.0,
       λ d h. elim (or_cases _ _ (sym (one_entry r.log det (stable_and_held_by old.identity.me) d) ∙ h)) [
@@ -268,6 +268,6 @@ calls_within position old new taken sent entries (take_stored r dets det gathers
   where
     gathered : IsRoundWithin old.identity.processes (Some (Some r))
     gathered = subst (λ o. IsRoundWithin old.identity.processes o) gathers k.round
-calls_within position old new taken sent entries (finish_read r dets gathers legal all) is few k fits named = changed old.identity.processes old.identity.me.0 old k r gathers after_read (λ w. w)
+calls_within position old new taken sent entries (finish_read r dets gathers legal all) is few k fits named = changed old.identity.processes old.identity.me.0 old k r gathers node_after_read (λ w. w)
 calls_within position old new taken sent entries (restart reserved legal) is few k fits named = restarted_within old k reserved old.recovery refl legal
 calls_within position old new taken sent entries (open_again round down) is few k fits named = opened_within old.identity.processes old.identity.me.0 old.identity old.lane k.lane

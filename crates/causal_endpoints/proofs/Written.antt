@@ -20,7 +20,7 @@ use Rattle.causal_log.proofs.Lemmas.ChosenLemmas.{chosen_ascend}
 use Rattle.causal_log.proofs.Lemmas.LogLists.{place_shown}
 use Rattle.causal_protocol.specs.MemoryQueries.{has_entry}
 use Rattle.causal_wire.specs.declared.parcel.LogEntry.{LogEntry}
-use Rattle.causal_wire.specs.Parcels.{dets_of, entry_dets, IsItem, AreItems, AreEntries}
+use Rattle.causal_wire.specs.Parcels.{parcel_dets, entry_dets, IsItem, AreItems, AreEntries}
 use Rattle.causal_calls.specs.Views.{HasHoldersBelow}
 use Rattle.causal_endpoint.specs.Items.{wire_item, wire_entry}
 use Rattle.causal_endpoint.specs.Acknowledging.{acknowledged_item, acknowledged_items as wire_acknowledged}
@@ -59,7 +59,7 @@ all_at P (y ∷ xs) h zero x at = subst P (ap (λ o. unwrap_or o y) at) h.0
 all_at P (y ∷ xs) h (suc i) x at = all_at P xs h.1 i x at
 
 -- the determinants of what is written
-wire_dets : (source : Pid) (items : List Item) → dets_of (map (wire_item source) items) ≡ log_dets_of items
+wire_dets : (source : Pid) (items : List Item) → parcel_dets (map (wire_item source) items) ≡ log_dets_of items
 wire_dets source [] = refl
 wire_dets source (x ∷ xs) = ap (λ ds. x.det ∷ ds) (wire_dets source xs)
 
@@ -67,7 +67,7 @@ written_dets : (source : Pid) (es : List (Det × Known)) → entry_dets (map (wi
 written_dets source [] = refl
 written_dets source (x ∷ xs) = ap (λ ds. x.0 ∷ ds) (written_dets source xs)
 
-said_dets : (me : Pid) (log : LogMap) (ds : List Det) → dets_of (map (acknowledged_item me log) ds) ≡ ds
+said_dets : (me : Pid) (log : LogMap) (ds : List Det) → parcel_dets (map (acknowledged_item me log) ds) ≡ ds
 said_dets me log [] = refl
 said_dets me log (x ∷ xs) = ap (λ ds. x ∷ ds) (said_dets me log xs)
 

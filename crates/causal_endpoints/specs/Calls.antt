@@ -15,10 +15,10 @@ use Rattle.causal_protocol.specs.MemoryQueries.{has_entry}
 use Rattle.causal_wire.specs.declared.parcel.Head.{Head}
 use Rattle.causal_wire.specs.Parcels.{Contents, message, question}
 use Rattle.causal_wire.specs.Bytes.{parcel_bytes}
-use Rattle.causal_wire.specs.Reading.{parcel_at}
+use Rattle.causal_wire.specs.Reading.{read_parcel}
 use Rattle.causal_node.specs.NodeStates.{RoundState}
 use Rattle.causal_node.specs.NodeForgetting.{next_slot}
-use Rattle.causal_node.specs.NodeAnswers.{reply_of}
+use Rattle.causal_node.specs.NodeAnswers.{round_reply}
 use Rattle.causal_node.specs.NodeRecovery.{begin_fault, reply_fault, ask_fault, read_fault, after_not_up, opened}
 use Rattle.causal_nodes.specs.Packets.{Sent, write_packet, written_packet, read_packet, stored_packet}
 use Rattle.causal_calls.specs.Views.{numbers}
@@ -27,17 +27,17 @@ use Rattle.causal_endpoint.specs.Endpoints.{EndpointState, run_of, next_clock, w
 use Rattle.causal_endpoint.specs.Sending.{send_fault, next_message, after_send}
 use Rattle.causal_endpoint.specs.Resending.{resent_bytes, resend_fault}
 use Rattle.causal_endpoint.specs.Acknowledging.{acknowledge_fault, acknowledgement_to}
-use Rattle.causal_endpoint.specs.Forgetting.{forget_fault, after_forget}
+use Rattle.causal_endpoint.specs.Forgetting.{forget_fault, endpoint_after_forget}
 use Rattle.causal_endpoint.specs.Receiving.{parcel_fault, name_in, batch_in, clock_after, reply_bytes, after_parcel}
 use Rattle.causal_endpoint.specs.Recovering.{after_begin, question_fault, question_to, stored_fault, after_stored, after_read, restart_fault, after_restart}
 use Rattle.causal_endpoints.specs.Packets.{IsSendOf}
 
 -- what a call takes: bytes that were sent, what stable storage sent, or that a process has ended, and its next lane
-pub data Input : Type 0 where
-  nothing : Input
-  bytes : List ℕ → Input
-  from_storage : Sent → Input
-  ended : (process : Pid) (lane : ℕ) → Input
+pub data CallInput : Type 0 where
+  nothing : CallInput
+  bytes : List ℕ → CallInput
+  from_storage : Sent → CallInput
+  ended : (process : Pid) (lane : ℕ) → CallInput
 
 -- what is done after a call: bytes are sent, something goes to stable storage, a round was given a name
 pub record Output : Type 0 where
@@ -59,7 +59,7 @@ one_name name = record { bytes = []; to_storage = []; names = name ∷ [] }
 
 -- what is sent after a parcel was taken: the reply to a question
 abbrev pub output_at : EndpointState → ℕ → Head → Contents → Output
-output_at e now head (question round view) = one_parcel (reply_bytes e head.source round (clock_after e now head) (reply_of e.node view))
+output_at e now head (question round view) = one_parcel (reply_bytes e head.source round (clock_after e now head) (round_reply e.node view))
 output_at e now head other = no_output
 
 -- what is recorded after a parcel was taken: a message's delivery, which names the send entry of that message
@@ -72,7 +72,7 @@ Records past e head other entries = entries ≡ []
 -- One call that an endpoint does not refuse, at the machine's time `now`, with what its embedder does with it: what the
 -- call takes, the next state, which is that of the call's contract, what is sent, and what is recorded. `past` is what
 -- all processes have recorded so far.
-pub data EndpointCall (past : List Entry) (e : EndpointState) : Input → EndpointState → Output → List Entry → Type 0 where
+pub data EndpointCall (past : List Entry) (e : EndpointState) : CallInput → EndpointState → Output → List Entry → Type 0 where
   send : (now : ℕ) (to : Pid) (body : List ℕ) → send_fault e now to (length body) ≡ None
       → EndpointCall past e nothing (after_send e now to body) (one_parcel (parcel_bytes (run_of e) (next_message e to body (next_clock now e.clock)))) (Send e.node.identity.me to (length e.node.memory.sent) ∷ [])
   resend : (ssn : ℕ) (again : List ℕ) → resend_fault e ssn (slice_get e.node.memory.sent ssn) ≡ None → resent_bytes e ssn (slice_get e.node.memory.sent ssn) ≡ Some again
@@ -80,8 +80,8 @@ pub data EndpointCall (past : List Entry) (e : EndpointState) : Input → Endpoi
   acknowledge : (now : ℕ) (to : Pid) (dets : List Det) → is_ascending dets ≡ true → acknowledge_fault e now to (length dets) ≡ None
       → EndpointCall past e nothing (with_node e e.node (next_clock now e.clock)) (one_parcel (parcel_bytes (run_of e) (acknowledgement_to e to dets (next_clock now e.clock)))) []
   forget : (now : ℕ) → forget_fault e now ≡ None
-      → EndpointCall past e nothing (after_forget e now) no_output (forget_entries e.node.identity.me (forgotten_in (next_slot e.node) e.node.memory.log))
-  receive : (now : ℕ) (b : List ℕ) (p : Head × Contents) (entries : List Entry) → parcel_at (run_of e) b ≡ Ok p → parcel_fault e now p ≡ None → Records past e p.0 p.1 entries
+      → EndpointCall past e nothing (endpoint_after_forget e now) no_output (forget_entries e.node.identity.me (forgotten_in (next_slot e.node) e.node.memory.log))
+  receive : (now : ℕ) (b : List ℕ) (p : Head × Contents) (entries : List Entry) → read_parcel (run_of e) b ≡ Ok p → parcel_fault e now p ≡ None → Records past e p.0 p.1 entries
       → EndpointCall past e (bytes b) (after_parcel e now p) (output_at e now p.0 p.1) entries
   -- determinants that the log has are written to stable storage, and what it has confirmed is recorded
   write : (dets : List Det) → e.node.recovery ≡ None → ((d : Det) → list_has dets d ≡ true → has_entry d e.node.memory.log ≡ true)

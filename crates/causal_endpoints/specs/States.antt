@@ -15,7 +15,7 @@ use Rattle.causal_nodes.specs.Packets.{Sent, write_packet, written_packet, store
 use Rattle.causal_calls.specs.Views.{IsNodeState}
 use Rattle.causal_endpoint.specs.Endpoints.{EndpointState, run_of}
 use Rattle.causal_endpoint.specs.Items.{wire_item}
-use Rattle.causal_endpoints.specs.Calls.{Input, nothing, bytes, from_storage, ended}
+use Rattle.causal_endpoints.specs.Calls.{CallInput, nothing, bytes, from_storage, ended}
 
 -- the determinants of a log are of n processes
 abbrev pub HasDets : ℕ → LogMap → Type 0
@@ -57,7 +57,7 @@ IsOfDets n (stored_packet to name dets) = (d : Det) → dets d ≡ true → IsDe
 IsOfDets n _ = Unit {0}
 
 -- what a call takes is of the run: the bytes of a parcel, determinants and lanes of its processes
-abbrev pub IsOfRun : EndpointState → Input → Type 0
+abbrev pub IsOfRun : EndpointState → CallInput → Type 0
 IsOfRun e nothing = Unit {0}
 IsOfRun e (bytes b) = (p : Head × Contents) × IsParcel (run_of e) p × (b ≡ parcel_bytes (run_of e) p)
 IsOfRun e (from_storage k) = IsOfDets e.node.identity.processes k

@@ -7,7 +7,7 @@ use Rattle.causal_trace.specs.declared.entry.Entry.{Entry}
 use Rattle.causal_trace.specs.declared.entry.Entry.TheVariants.{Crash}
 use Rattle.causal_trace.specs.Limits.{max_processes}
 use Rattle.causal_trace.specs.Judgement.{IsSafeTrace}
-use Rattle.causal_rounds.specs.Rounds.{set_at}
+use Rattle.causal_rounds.specs.Rounds.{with_value_at}
 use Rattle.causal_protocol.specs.MemoryQueries.{has_entry}
 use Rattle.causal_world.specs.World.{Packet}
 use Rattle.causal_node.specs.NodeRecovery.{opened}
@@ -15,9 +15,9 @@ use Rattle.causal_nodes.specs.Packets.{Sent, write_packet, written_packet, read_
 use Rattle.causal_nodes.specs.NodeSteps.{raised}
 use Rattle.causal_calls.specs.Systems.{identity_of, is_recovering}
 use Rattle.causal_endpoint.specs.Endpoints.{EndpointState}
-use Rattle.causal_endpoints.specs.Calls.{Input, nothing, bytes, from_storage, ended, Output, EndpointCall}
+use Rattle.causal_endpoints.specs.Calls.{CallInput, nothing, bytes, from_storage, ended, Output, EndpointCall}
 use Rattle.causal_endpoints.specs.States.{HasCountedLog}
-use Rattle.causal_endpoints.specs.CallLaws.{IsAmong}
+use Rattle.causal_endpoints.specs.CallLaws.{IsListed}
 
 -- the entries so far, newest first; the state of each process's endpoint; all bytes that were sent; what went to stable
 -- storage and came from it; what that has, and from which lane on it takes writes of each process; and the names that
@@ -32,16 +32,16 @@ pub record EndpointSystem : Type 0 where
   pub names : ℕ → List ℕ
 
 -- the process has crashed, or died while it recovered, and its next endpoint, of this lane, has done nothing
-pub record HasEnded (e : EndpointState) (number : ℕ) : Type 0 where
+pub record HasGoneDown (e : EndpointState) (number : ℕ) : Type 0 where
   pub down : e.node.recovery ≡ Some None
   pub fresh : e.node ≡ opened e.node.identity number
 
 -- what a call takes was sent before; a process is said to have ended only while it has
-abbrev pub IsTakeable : ℕ → EndpointSystem → Input → Type 0
+abbrev pub IsTakeable : ℕ → EndpointSystem → CallInput → Type 0
 IsTakeable n w nothing = Unit {0}
-IsTakeable n w (bytes b) = IsAmong w.sent b
-IsTakeable n w (from_storage k) = IsAmong w.requests k
-IsTakeable n w (ended q number) = (q.0 < n) × HasEnded (w.endpoints q.0) number
+IsTakeable n w (bytes b) = IsListed w.sent b
+IsTakeable n w (from_storage k) = IsListed w.requests k
+IsTakeable n w (ended q number) = (q.0 < n) × HasGoneDown (w.endpoints q.0) number
 
 -- the endpoint that a process opens after a crash
 abbrev pub opened_after : EndpointState → ℕ → EndpointState
@@ -52,33 +52,33 @@ opened_after e clock = record { node = opened e.node.identity (e.node.lane + 1);
 -- the next lane, which has 32 bits; a process gives no name to two rounds; stable storage keeps what it has stored, and
 -- takes no write below its floors.
 pub data EndpointEvent (n f : ℕ) (w : EndpointSystem) : EndpointSystem → Type 0 where
-  call_event : (me : Pid) (input : Input) (e : EndpointState) (output : Output) (entries : List Entry) → me.0 < n
+  call_event : (me : Pid) (input : CallInput) (e : EndpointState) (output : Output) (entries : List Entry) → me.0 < n
       → IsTakeable n w input
       → EndpointCall w.past (w.endpoints me.0) input e output entries
       → HasCountedLog e
-      → ((name : ℕ) → IsAmong output.names name → IsAmong (w.names me.0) name → ⊥)
+      → ((name : ℕ) → IsListed output.names name → IsListed (w.names me.0) name → ⊥)
       → EndpointEvent n f w (record {
         past = entries ++ w.past;
-        endpoints = set_at w.endpoints me.0 e;
+        endpoints = with_value_at w.endpoints me.0 e;
         sent = output.bytes ++ w.sent;
         requests = output.to_storage ++ w.requests;
         stored = w.stored;
         floors = w.floors;
-        names = set_at w.names me.0 (output.names ++ w.names me.0);
+        names = with_value_at w.names me.0 (output.names ++ w.names me.0);
       })
   crash_event : (who : Pid) (clock : ℕ) → who.0 < n → (w.endpoints who.0).node.recovery ≡ None
       → count_below n (λ q. is_recovering (w.endpoints q).node) < f
       → (w.endpoints who.0).node.lane + 1 < 2 ^ 32 → clock < 2 ^ 62
       → EndpointEvent n f w (record {
         past = Crash who ∷ w.past;
-        endpoints = set_at w.endpoints who.0 (opened_after (w.endpoints who.0) clock);
+        endpoints = with_value_at w.endpoints who.0 (opened_after (w.endpoints who.0) clock);
         sent = w.sent;
         requests = w.requests;
         stored = w.stored;
         floors = w.floors;
         names = w.names;
       })
-  store_event : (p : Packet) → IsAmong w.requests (write_packet p) → w.floors p.parcel.from ≤ p.lane
+  store_event : (p : Packet) → IsListed w.requests (write_packet p) → w.floors p.parcel.from ≤ p.lane
       → EndpointEvent n f w (record {
         past = w.past;
         endpoints = w.endpoints;
@@ -88,7 +88,7 @@ pub data EndpointEvent (n f : ℕ) (w : EndpointSystem) : EndpointSystem → Typ
         floors = w.floors;
         names = w.names;
       })
-  read_event : (s name : ℕ) (view : ℕ → ℕ) → IsAmong w.requests (read_packet s name view)
+  read_event : (s name : ℕ) (view : ℕ → ℕ) → IsListed w.requests (read_packet s name view)
       → EndpointEvent n f w (record {
         past = w.past;
         endpoints = w.endpoints;

@@ -6,7 +6,7 @@ use Rattle.causal_trace.specs.Past.{lane}
 use Rattle.causal_trace.specs.Dependence.{IsEventOf}
 use Rattle.causal_explain.specs.declared.paths.ReachedEvent.{ReachedEvent}
 use Rattle.causal_explain.specs.Chains.{IsShortestChain, IsChain, ShortestChain}
-use Rattle.causal_explain.specs.Inside.ShortestPaths.{HasPath, at_once, onward, IsLeast, IsPathOfLength, Nearest, IsPathToNearest}
+use Rattle.causal_explain.specs.Inside.ShortestPaths.{HasPath, at_once, onward, IsLeastDistance, IsPathOfLength, Nearest, IsPathToNearest}
 use Rattle.causal_explain.proofs.ComingLemmas.{comes_along}
 
 module _ (past : List Entry) (i p : ℕ) where
@@ -26,7 +26,7 @@ module _ (past : List Entry) (i p : ℕ) where
   no_chain none chain h = none h.last (length h.rest) h.present (led chain h)
 
   -- the nearest event of the lane, if there is one, is reached by the fewest steps
-  pub all_least : (nearest : Option ReachedEvent) → Nearest past i (λ k. IsEventOf past k p (lane past p)) nearest → IfSome nearest (λ x. IsLeast past i x.position x.steps)
+  pub all_least : (nearest : Option ReachedEvent) → Nearest past i (λ k. IsEventOf past k p (lane past p)) nearest → IfSome nearest (λ x. IsLeastDistance past i x.position x.steps)
   all_least None h = tt
   all_least (Some x) h = record { comes = h.1; least = λ m c. h.2 x.position m h.0 c }
 

@@ -19,7 +19,7 @@ use Rattle.causal_trace.specs.Dependence.{AreForward, actor, DirectlyPrecedes, I
 use Rattle.causal_trace.proofs.Lemmas.DependenceSteps.{event_below, event_lane}
 use Rattle.causal_explain.specs.declared.paths.ReachedEvent.{ReachedEvent}
 use Rattle.causal_explain.specs.declared.paths.PathStep.{PathStep}
-use Rattle.causal_explain.specs.Inside.ShortestPaths.{AreNearest, ArePathSteps, HasPath, at_once, onward, IsLeast, IsPathStep, Nearest, PrecedesNext, IsPathStepOf, closer_event}
+use Rattle.causal_explain.specs.Inside.ShortestPaths.{AreNearest, ArePathSteps, HasPath, at_once, onward, IsLeastDistance, IsPathStep, Nearest, PrecedesNext, IsPathStepOf, closer_event}
 use Rattle.causal_explain.proofs.ComingLemmas.{comes_more, comes_old, comes_within, comes_few, comes_newest, next_preceded, precedes_more, ComesNewest, is_newest, through}
 
 module _ (past : List Entry) (i : ℕ) (A B C : ℕ → Type 0) (either : (k : ℕ) → C k → A k ⊎ B k) (one : (k : ℕ) → A k → C k) (other : (k : ℕ) → B k → C k) where
@@ -163,7 +163,7 @@ nearest_below past i A n None forward long h = tt
 nearest_below past i A n (Some x) forward long h = omega (arith, nearest_few past i A x forward h, long)
 
 -- the event one step back is reached by one step less
-pub step_back : (past : List Entry) (i k n : ℕ) (w : PathStep) → IsPathStep past i k w → IsLeast past i k (n + 1) → DirectlyPrecedes past w.previous k × IsLeast past i w.previous n
+pub step_back : (past : List Entry) (i k n : ℕ) (w : PathStep) → IsPathStep past i k w → IsLeastDistance past i k (n + 1) → DirectlyPrecedes past w.previous k × IsLeastDistance past i w.previous n
 step_back past i k n w h fewest =
     let same : w.steps ≡ n + 1 = omega (arith, h.fewest.least (n + 1) fewest.comes, fewest.least w.steps h.fewest.comes) in
     let before = h.last n same in (

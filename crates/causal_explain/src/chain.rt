@@ -4,7 +4,7 @@ ghost use Rattle.std.specs.Option.{option_map};
 ghost use Rattle.causal_trace.specs.declared.entry.Entry.{Entry};
 ghost use Rattle.causal_trace.specs.Past.{instant};
 ghost use Rattle.causal_explain.specs.Chains.{ShortestChain};
-ghost use Rattle.causal_explain.specs.Inside.ShortestPaths.{ArePathSteps, IsLeast, IsPathToNearest};
+ghost use Rattle.causal_explain.specs.Inside.ShortestPaths.{ArePathSteps, IsLeastDistance, IsPathToNearest};
 
 use crate::paths::{ShortestPaths, path_to, shortest_paths};
 use causal_name::NoMemory;
@@ -39,7 +39,7 @@ pub fn shortest_chain(
 fn trace_back(alloc: Global, ways: &ShortestPaths) -> Result<Option<Vec<u32>>, NoMemory>
     ensures { IfOk result (λ found. (past : List Entry) (i : ℕ) →
         ArePathSteps past i ways.now.each.items
-        → IfSome ways.now.nearest (λ x. IsLeast past i x.position x.steps)
+        → IfSome ways.now.nearest (λ x. IsLeastDistance past i x.position x.steps)
         → IsPathToNearest past i ways.now.nearest (option_map (λ chain. chain.items) found)) }
 {
     match ways.nearest {

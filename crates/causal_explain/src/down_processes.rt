@@ -7,7 +7,7 @@ ghost use Rattle.causal_explain.specs.Inside.Validities.{AreValidities, IsChange
 ghost use Rattle.causal_explain.specs.ProcessFacts.{AreDown};
 
 use crate::explanation::DownProcess;
-use crate::validity::{Change, Validity, note};
+use crate::validity::{Change, Validity, apply_change};
 use causal_name::NoMemory;
 use causal_trace::entry::Entry;
 use causal_trace::trace::Trace;
@@ -31,7 +31,7 @@ fn down_validity(entries: &[Entry]) -> [Validity; 256]
 {
     let mut standings = [Validity::Never; 256];
     for (i, entry) in entries.iter().enumerate() {
-        note(&mut standings, down_change(entry), i as u32);
+        apply_change(&mut standings, down_change(entry), i as u32);
     }
     standings
 }

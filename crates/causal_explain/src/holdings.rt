@@ -9,7 +9,7 @@ ghost use Rattle.causal_explain.specs.Inside.Validities.{AreValidities, IsChange
 ghost use Rattle.causal_explain.specs.ProcessFacts.{AreHoldings, AreLosses};
 
 use crate::explanation::{Holding, Loss, LostBy};
-use crate::validity::{Change, Validity, note};
+use crate::validity::{Change, Validity, apply_change};
 use causal_name::{Det, NoMemory};
 use causal_trace::entry::{Dets, Entry};
 use causal_trace::trace::Trace;
@@ -67,7 +67,7 @@ pub(crate) fn holder_validity(entries: &[Entry], det: Det) -> [Validity; 256]
 {
     let mut standings = [Validity::Never; 256];
     for (i, entry) in entries.iter().enumerate() {
-        note(&mut standings, holder_change(entry, det), i as u32);
+        apply_change(&mut standings, holder_change(entry, det), i as u32);
     }
     standings
 }

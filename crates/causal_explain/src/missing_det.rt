@@ -9,7 +9,7 @@ ghost use Rattle.causal_explain.specs.Inside.Lacking.{AreLacking, first_in};
 ghost use Rattle.causal_explain.specs.Inside.Validities.{AreValidities};
 
 use crate::holdings::holder_change;
-use crate::validity::{Validity, note};
+use crate::validity::{Validity, apply_change};
 use causal_name::{Det, NoMemory};
 use causal_trace::entry::Entry;
 use causal_trace::trace::Trace;
@@ -36,7 +36,7 @@ fn deliveries_without_det(alloc: Global, entries: &[Entry], det: Det) -> Result<
     let mut standings = [Validity::Never; 256];
     let mut lacking = Vec::with_capacity(alloc, entries.len())?;
     for (i, entry) in entries.iter().enumerate() {
-        note(&mut standings, holder_change(entry, det), i as u32);
+        apply_change(&mut standings, holder_change(entry, det), i as u32);
         lacking.push_reserved(lacks_det(entry, &standings));
     }
     Ok(lacking)

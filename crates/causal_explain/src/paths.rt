@@ -5,7 +5,7 @@ ghost use Rattle.causal_trace.specs.declared.entry.Entry.{Entry};
 ghost use Rattle.causal_trace.specs.Dependence.{AreForward, actor, DirectlyPrecedes, IsEventOf};
 ghost use Rattle.causal_trace.specs.Limits.{max_entries};
 ghost use Rattle.causal_trace.specs.Past.{lane};
-ghost use Rattle.causal_explain.specs.Inside.ShortestPaths.{AreNearest, ArePathSteps, IsLeast, IsPathOfLength, Nearest, PrecedesNext, IsPathStepOf, closer_event};
+ghost use Rattle.causal_explain.specs.Inside.ShortestPaths.{AreNearest, ArePathSteps, IsLeastDistance, IsPathOfLength, Nearest, PrecedesNext, IsPathStepOf, closer_event};
 
 use causal_name::NoMemory;
 use causal_trace::entry::Entry;
@@ -182,8 +182,8 @@ pub fn shortest_paths(
 /// Returns the event from which the last step to a position goes; the position itself if no step does.
 fn previous_event(ways: &[Option<PathStep>], position: u32) -> u32
     ensures { (past : List Entry) (i n : ℕ)
-        → ArePathSteps past i ways.now → IsLeast past i position (n + 1) →
-        DirectlyPrecedes past result position × IsLeast past i result n }
+        → ArePathSteps past i ways.now → IsLeastDistance past i position (n + 1) →
+        DirectlyPrecedes past result position × IsLeastDistance past i result n }
 {
     match ways.get(position as usize) {
         Some(Some(way)) => way.previous,
@@ -198,7 +198,7 @@ pub fn path_to(
     nearest: ReachedEvent,
 ) -> Result<Vec<u32>, NoMemory>
     ensures { IfOk result (λ chain. (past : List Entry) (i : ℕ) → ArePathSteps past i ways.now →
-        IsLeast past i nearest.position nearest.steps →
+        IsLeastDistance past i nearest.position nearest.steps →
         IsPathOfLength past i nearest.position nearest.steps chain.items) }
 {
     let mut chain = Vec::with_capacity(alloc, nearest.steps as usize + 1)?;

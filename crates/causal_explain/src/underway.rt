@@ -11,7 +11,7 @@ ghost use Rattle.causal_explain.specs.Inside.Transits.{AreInTransit, AreSendsByH
 ghost use Rattle.causal_explain.specs.Inside.Validities.{AreValidities};
 
 use crate::holdings::{holder_change, holder_validity, lists_det};
-use crate::validity::{Validity, note};
+use crate::validity::{Validity, apply_change};
 use causal_name::{Det, NoMemory};
 use causal_trace::entry::Entry;
 use causal_trace::trace::Trace;
@@ -39,7 +39,7 @@ fn sends_by_holders(alloc: Global, entries: &[Entry], det: Det) -> Result<Vec<bo
     let mut sends = Vec::with_capacity(alloc, entries.len())?;
     for (i, entry) in entries.iter().enumerate() {
         sends.push_reserved(is_sent_by_holder(entry, &standings));
-        note(&mut standings, holder_change(entry, det), i as u32);
+        apply_change(&mut standings, holder_change(entry, det), i as u32);
     }
     Ok(sends)
 }

@@ -85,7 +85,7 @@ impl Validity {
 }
 
 /// Applies the change by the entry at position i.
-pub fn note(standings: &mut [Validity], change: Change, i: u32)
+pub fn apply_change(standings: &mut [Validity], change: Change, i: u32)
     requires { length standings.old ≡ 256 }
     ensures { (test : ℕ → List Entry → Bool) (e : Entry) (past : List Entry) → length past ≡ i →
         IsChangeOf test e change → AreValidities past test standings.old →

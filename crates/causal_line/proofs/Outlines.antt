@@ -9,20 +9,20 @@ use Rattle.causal_trace.specs.declared.entry.Entry.TheVariants.{Restart, Forget}
 use Rattle.causal_line.specs.declared.kind.TextKind.TheVariants.{Form}
 use Rattle.causal_line.specs.declared.parsed_line.ParsedLine.TheVariants as parsed
 use Rattle.causal_line.specs.Reading.{◌>>=◌}
-use Rattle.causal_line.specs.ParsedLines.{pid_at, u32_at, det_of, dets_at, is_array_named, header_of, send_of, deliver_of, stable_of, crash_of, restart_of, forget_of, end_of, parse_value}
+use Rattle.causal_line.specs.ParsedLines.{pid_at, u32_at, parse_det, dets_at, is_array_named, parse_header, parse_send, parse_deliver, parse_stable, parse_crash, parse_restart, parse_forget, end_of, parse_value}
 use Rattle.causal_line.specs.Prescan.{levels, value_fits}
 use Rattle.causal_line.proofs.Lemmas.Unfit.{process_or, number_or, last_false, stops, number_bad, pid_bad, det_bad, dets_bad, of_line, fields, either}
 
-crash_bad : (d : Data) → value_fits levels d ≡ false → is_array_named d (codes "crash") 2 ≡ true → crash_of d ≡ Err Form
-unfolding crash_of
-crash_bad d h is = of_line 1 (codes "crash") (λ x. crash_of x ≡ Err Form) d h is (λ a b bad name.
+crash_bad : (d : Data) → value_fits levels d ≡ false → is_array_named d (codes "crash") 2 ≡ true → parse_crash d ≡ Err Form
+unfolding parse_crash
+crash_bad d h is = of_line 1 (codes "crash") (λ x. parse_crash x ≡ Err Form) d h is (λ a b bad name.
     let l : Data = array (item a (item b no_items)) in
     stops (pid_at 1 l) _ (pid_bad 2 1 l b refl (last_false (value_fits 2 b) true refl (fields (codes "crash") a _ refl bad name))))
 
-stable_bad : (d : Data) → value_fits levels d ≡ false → is_array_named d (codes "stable") 2 ≡ true → stable_of d ≡ Err Form
-unfolding stable_of
-stable_bad d h is = of_line 1 (codes "stable") (λ x. stable_of x ≡ Err Form) d h is (λ a b bad name.
-    stops (det_of b) _ (det_bad 2 b refl (last_false (value_fits 2 b) true refl (fields (codes "stable") a _ refl bad name))))
+stable_bad : (d : Data) → value_fits levels d ≡ false → is_array_named d (codes "stable") 2 ≡ true → parse_stable d ≡ Err Form
+unfolding parse_stable
+stable_bad d h is = of_line 1 (codes "stable") (λ x. parse_stable x ≡ Err Form) d h is (λ a b bad name.
+    stops (parse_det b) _ (det_bad 2 b refl (last_false (value_fits 2 b) true refl (fields (codes "stable") a _ refl bad name))))
 
 end_bad : (d : Data) → value_fits levels d ≡ false → is_array_named d (codes "end") 2 ≡ true → end_of d ≡ Err Form
 unfolding end_of
@@ -30,9 +30,9 @@ end_bad d h is = of_line 1 (codes "end") (λ x. end_of x ≡ Err Form) d h is (�
     let l : Data = array (item a (item b no_items)) in
     stops (u32_at 1 l) _ (number_bad (2 ^ 32) 2 1 l b refl (last_false (value_fits 2 b) true refl (fields (codes "end") a _ refl bad name))))
 
-header_bad : (d : Data) → value_fits levels d ≡ false → is_array_named d (codes "trace") 3 ≡ true → header_of d ≡ Err Form
-unfolding header_of
-header_bad d h is = of_line 2 (codes "trace") (λ x. header_of x ≡ Err Form) d h is (λ a b c bad name.
+header_bad : (d : Data) → value_fits levels d ≡ false → is_array_named d (codes "trace") 3 ≡ true → parse_header d ≡ Err Form
+unfolding parse_header
+header_bad d h is = of_line 2 (codes "trace") (λ x. parse_header x ≡ Err Form) d h is (λ a b c bad name.
     let l : Data = array (item a (item b (item c no_items))) in
     number_or 1 l b _ _ refl (fields (codes "trace") a _ refl bad name) (λ more version.
     stops (u32_at 2 l) _ (number_bad (2 ^ 32) 2 2 l c refl (last_false (value_fits 2 c) true refl more))))
@@ -45,23 +45,23 @@ listing_bad name say d none h is = of_line 2 name (λ x. (pid_at 1 x >>= λ who.
     process_or 1 l b _ _ refl (fields name a _ none bad begun) (λ more who.
     stops (dets_at 2 l) _ (dets_bad 2 l c refl (last_false (value_fits 2 c) true refl more))))
 
-send_bad : (d : Data) → value_fits levels d ≡ false → is_array_named d (codes "send") 4 ≡ true → send_of d ≡ Err Form
-unfolding send_of
-send_bad d h is = of_line 3 (codes "send") (λ x. send_of x ≡ Err Form) d h is (λ a b c e bad name.
+send_bad : (d : Data) → value_fits levels d ≡ false → is_array_named d (codes "send") 4 ≡ true → parse_send d ≡ Err Form
+unfolding parse_send
+send_bad d h is = of_line 3 (codes "send") (λ x. parse_send x ≡ Err Form) d h is (λ a b c e bad name.
     let l : Data = array (item a (item b (item c (item e no_items)))) in
     process_or 1 l b _ _ refl (fields (codes "send") a _ refl bad name) (λ more from.
     process_or 2 l c _ _ refl more (λ last to. stops (u32_at 3 l) _ (number_bad (2 ^ 32) 2 3 l e refl (last_false (value_fits 2 e) true refl last)))))
 
-deliver_bad : (d : Data) → value_fits levels d ≡ false → is_array_named d (codes "deliver") 5 ≡ true → deliver_of d ≡ Err Form
-unfolding deliver_of
-deliver_bad d h is = of_line 4 (codes "deliver") (λ x. deliver_of x ≡ Err Form) d h is (λ a b c e x bad name.
+deliver_bad : (d : Data) → value_fits levels d ≡ false → is_array_named d (codes "deliver") 5 ≡ true → parse_deliver d ≡ Err Form
+unfolding parse_deliver
+deliver_bad d h is = of_line 4 (codes "deliver") (λ x. parse_deliver x ≡ Err Form) d h is (λ a b c e x bad name.
     let l : Data = array (item a (item b (item c (item e (item x no_items))))) in
     process_or 1 l b _ _ refl (fields (codes "deliver") a _ refl bad name) (λ h2 to.
     number_or 2 l c _ _ refl h2 (λ h3 send. number_or 3 l e _ _ refl h3 (λ h4 rsn. stops (dets_at 4 l) _ (dets_bad 4 l x refl (last_false (value_fits 2 x) true refl h4))))))
 
 -- a value that does not fit the outline of a line is a `Form` error
 pub no_shape : (d : Data) → value_fits levels d ≡ false → parse_value d ≡ Err Form
-unfolding parse_value restart_of forget_of
+unfolding parse_value parse_restart parse_forget
 no_shape d h =
     either _ _ _ (header_bad d h) (either _ _ _ (send_bad d h) (either _ _ _ (deliver_bad d h) (either _ _ _ (stable_bad d h)
     (either _ _ _ (crash_bad d h) (either _ _ _ (listing_bad (codes "restart") Restart d refl h) (either _ _ _ (listing_bad (codes "forget") Forget d refl h) (either _ _ _ (end_bad d h) refl)))))))

@@ -52,8 +52,8 @@ pid_at i d = do
   Ok (record { 0 = p })
 
 -- the determinant `[source,ssn,dest,rsn]`
-unfoldable pub det_of : Data → Result Det TextKind
-det_of d = if array_len d == 4 then (do
+unfoldable pub parse_det : Data → Result Det TextKind
+parse_det d = if array_len d == 4 then (do
   source ← pid_at 0 d
   ssn ← u32_at 1 d
   dest ← pid_at 2 d
@@ -61,34 +61,34 @@ det_of d = if array_len d == 4 then (do
   Ok (record { source = source; ssn = ssn; dest = dest; rsn = rsn })) else Err Form
 
 -- the determinants of a list
-abbrev pub dets_of : Items → Result (List Det) TextKind
-dets_of no_items = Ok []
-dets_of (item d ds) = det_of d >>= λ det. dets_of ds >>= λ dets. Ok (det ∷ dets)
+abbrev pub parse_dets : Items → Result (List Det) TextKind
+parse_dets no_items = Ok []
+parse_dets (item d ds) = parse_det d >>= λ det. parse_dets ds >>= λ dets. Ok (det ∷ dets)
 
 -- the list of determinants at an index
 unfoldable pub dets_at : ℕ → Data → Result (List Det) TextKind
 dets_at i d = do
   items ← or_form (option_and_then as_array (at i d))
-  dets_of items
+  parse_dets items
 
 -- the header `["trace",version,processes]`
-unfoldable pub header_of : Data → Result ParsedLine TextKind
-header_of d = do
+unfoldable pub parse_header : Data → Result ParsedLine TextKind
+parse_header d = do
   version ← u32_at 1 d
   processes ← u32_at 2 d
   Ok (parsed.Header version processes)
 
 -- the entry `["send",from,to,ssn]`
-unfoldable pub send_of : Data → Result ParsedLine TextKind
-send_of d = do
+unfoldable pub parse_send : Data → Result ParsedLine TextKind
+parse_send d = do
   from ← pid_at 1 d
   to ← pid_at 2 d
   ssn ← u32_at 3 d
   Ok (parsed.Entry (Send from to ssn))
 
 -- the entry `["deliver",to,send,rsn,[dets]]`
-unfoldable pub deliver_of : Data → Result ParsedLine TextKind
-deliver_of d = do
+unfoldable pub parse_deliver : Data → Result ParsedLine TextKind
+parse_deliver d = do
   to ← pid_at 1 d
   send ← u32_at 2 d
   rsn ← u32_at 3 d
@@ -96,28 +96,28 @@ deliver_of d = do
   Ok (parsed.Entry (Deliver to send rsn listed))
 
 -- the entry `["stable",det]`
-unfoldable pub stable_of : Data → Result ParsedLine TextKind
-stable_of d = do
+unfoldable pub parse_stable : Data → Result ParsedLine TextKind
+parse_stable d = do
   named ← field 1 d
-  det ← det_of named
+  det ← parse_det named
   Ok (parsed.Entry (Stable det))
 
 -- the entry `["crash",who]`
-unfoldable pub crash_of : Data → Result ParsedLine TextKind
-crash_of d = do
+unfoldable pub parse_crash : Data → Result ParsedLine TextKind
+parse_crash d = do
   who ← pid_at 1 d
   Ok (parsed.Entry (Crash who))
 
 -- the entry `["restart",who,[dets]]`
-unfoldable pub restart_of : Data → Result ParsedLine TextKind
-restart_of d = do
+unfoldable pub parse_restart : Data → Result ParsedLine TextKind
+parse_restart d = do
   who ← pid_at 1 d
   listed ← dets_at 2 d
   Ok (parsed.Entry (Restart who listed))
 
 -- the entry `["forget",who,[dets]]`
-unfoldable pub forget_of : Data → Result ParsedLine TextKind
-forget_of d = do
+unfoldable pub parse_forget : Data → Result ParsedLine TextKind
+parse_forget d = do
   who ← pid_at 1 d
   listed ← dets_at 2 d
   Ok (parsed.Entry (Forget who listed))
@@ -135,12 +135,12 @@ is_array_named d name n = bytes_eq (unwrap_or (option_and_then as_str (at 0 d)) 
 -- the parsed line of a JSON value; a value of another form is a `Form` error
 unfoldable pub parse_value : Data → Result ParsedLine TextKind
 parse_value d =
-    if is_array_named d (codes "trace") 3 then header_of d else
-    if is_array_named d (codes "send") 4 then send_of d else
-    if is_array_named d (codes "deliver") 5 then deliver_of d else
-    if is_array_named d (codes "stable") 2 then stable_of d else
-    if is_array_named d (codes "crash") 2 then crash_of d else
-    if is_array_named d (codes "restart") 3 then restart_of d else
-    if is_array_named d (codes "forget") 3 then forget_of d else
+    if is_array_named d (codes "trace") 3 then parse_header d else
+    if is_array_named d (codes "send") 4 then parse_send d else
+    if is_array_named d (codes "deliver") 5 then parse_deliver d else
+    if is_array_named d (codes "stable") 2 then parse_stable d else
+    if is_array_named d (codes "crash") 2 then parse_crash d else
+    if is_array_named d (codes "restart") 3 then parse_restart d else
+    if is_array_named d (codes "forget") 3 then parse_forget d else
     if is_array_named d (codes "end") 2 then end_of d else
     Err Form

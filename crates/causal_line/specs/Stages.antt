@@ -12,7 +12,7 @@ use Rattle.causal_line.specs.declared.version.Version.{Version}
 use Rattle.causal_line.specs.Kinds.{text_kind_of}
 use Rattle.causal_line.specs.Reading.{◌>>=◌}
 use Rattle.causal_line.specs.Values.{parse_line}
-use Rattle.causal_line.specs.Versions.{number_of, version_of, max_processes_in, allows}
+use Rattle.causal_line.specs.Versions.{version_number, version_of, max_processes_in, allows}
 use Rattle.causal_line.specs.declared.stage.Stage.{Stage}
 use Rattle.causal_line.specs.declared.stage.Stage.TheVariants.{Opening, Within, Ended}
 
@@ -63,5 +63,5 @@ advance_stage most (Ended version r) end line = Err kind.After
 -- the parsed lines up to a stage: the header, the entries in order, and the end line
 abbrev pub lines_up_to : Stage → List ParsedLine
 lines_up_to Opening = []
-lines_up_to (Within version r) = parsed.Header (number_of version) r.processes ∷ map parsed.Entry (entries_of r)
-lines_up_to (Ended version r) = parsed.Header (number_of version) r.processes ∷ map parsed.Entry (entries_of r) ++ parsed.End (length r.past) ∷ []
+lines_up_to (Within version r) = parsed.Header (version_number version) r.processes ∷ map parsed.Entry (entries_of r)
+lines_up_to (Ended version r) = parsed.Header (version_number version) r.processes ∷ map parsed.Entry (entries_of r) ++ parsed.End (length r.past) ∷ []

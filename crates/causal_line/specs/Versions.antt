@@ -7,9 +7,9 @@ use Rattle.causal_line.specs.declared.version.Version.{Version}
 use Rattle.causal_line.specs.declared.version.Version.TheVariants.{One, Two}
 
 -- the number of a version in a header
-abbrev pub number_of : Version → ℕ
-number_of One = 1
-number_of Two = 2
+abbrev pub version_number : Version → ℕ
+version_number One = 1
+version_number Two = 2
 
 -- the version of a number
 abbrev pub version_of : ℕ → Option Version

@@ -3,7 +3,7 @@
 ghost use Rattle.std.specs.Prelude.{◌≡◌};
 ghost use Rattle.serde_json.specs.View.{view, items_view};
 ghost use Rattle.causal_line.specs.Returns.{Returns};
-ghost use Rattle.causal_line.specs.ParsedLines.{array_len, number_at, u8_at, u32_at, u64_at, pid_at, det_of, dets_of, dets_at, is_array_named};
+ghost use Rattle.causal_line.specs.ParsedLines.{array_len, number_at, u8_at, u32_at, u64_at, pid_at, parse_det, parse_dets, dets_at, is_array_named};
 
 use crate::kind::TextKind;
 use causal_name::{Det, Pid};
@@ -85,9 +85,9 @@ pub fn pid_at(value: &Value, i: usize) -> Result<Pid, TextKind>
 ///
 /// # Errors
 /// `Form` if the value is not a determinant.
-#[tactic(auto, unfolding(crate::specs::ParsedLines::det_of))]
-pub fn det_of(value: &Value) -> Result<Det, TextKind>
-    ensures { result ≡ det_of (view value.now) }
+#[tactic(auto, unfolding(crate::specs::ParsedLines::parse_det))]
+pub fn parse_det(value: &Value) -> Result<Det, TextKind>
+    ensures { result ≡ parse_det (view value.now) }
 {
     if array_len(value) != 4 {
         return Err(TextKind::Form);
@@ -100,15 +100,15 @@ pub fn det_of(value: &Value) -> Result<Det, TextKind>
     })
 }
 
-fn dets_of(alloc: Global, values: &[Value]) -> Result<Dets, TextKind>
-    ensures { Returns result (dets_of (items_view values.now)) }
+fn parse_dets(alloc: Global, values: &[Value]) -> Result<Dets, TextKind>
+    ensures { Returns result (parse_dets (items_view values.now)) }
 {
     if let [value] = values {
-        return Ok(Dets::one(det_of(value)?));
+        return Ok(Dets::one(parse_det(value)?));
     }
     let mut dets = Vec::with_capacity(alloc, values.len())?;
     for value in values {
-        dets.push(det_of(value)?)?;
+        dets.push(parse_det(value)?)?;
     }
     Ok(Dets::new(dets))
 }
@@ -122,7 +122,7 @@ pub fn dets_at(alloc: Global, value: &Value, i: usize) -> Result<Dets, TextKind>
     ensures { Returns result (dets_at i (view value.now)) }
 {
     match value.get(i).and_then(Value::as_array) {
-        Some(values) => dets_of(alloc, values.as_slice()),
+        Some(values) => parse_dets(alloc, values.as_slice()),
         None => Err(TextKind::Form),
     }
 }

@@ -1,7 +1,7 @@
 //! The versions of the format.
 ghost use Rattle.std.specs.Prelude.{◌≡◌, ◌≤◌};
 ghost use Rattle.std.specs.List.{list_all};
-ghost use Rattle.causal_line.specs.Versions.{number_of, version_of, max_processes_in, allows};
+ghost use Rattle.causal_line.specs.Versions.{version_number, version_of, max_processes_in, allows};
 
 use causal_trace::entry::Entry;
 
@@ -28,7 +28,7 @@ impl Version {
 
     /// Returns the version's number.
     pub fn number(self) -> u32
-        ensures { result ≡ number_of self }
+        ensures { result ≡ version_number self }
     {
         match self {
             Version::One => 1,

@@ -94,7 +94,7 @@ impl Batch {
         ensures after { IfSome result (λ place. AllAfter det (drop place self.now)) }
     {
         let items = self.items.as_slice();
-        let place = place_of(items, det);
+        let place = item_index(items, det);
         match next_of(items, place, det) {
             Some(_) => None,
             None => Some(place),
@@ -103,7 +103,7 @@ impl Batch {
 }
 
 /// Returns the index of the first of ascending items that does not come before a determinant.
-pub(crate) fn place_of(items: &[Item], det: Det) -> usize
+pub(crate) fn item_index(items: &[Item], det: Det) -> usize
     requires { is_ascending (dets_of items.now) ≡ true }
     ensures within { result ≤ length items.now }
     ensures before { AllBefore (take result items.now) det }
@@ -139,5 +139,5 @@ pub(crate) fn names_det(items: &[Item], det: Det) -> bool
     requires { is_ascending (dets_of items.now) ≡ true }
     ensures { result ≡ names_det det items.now }
 {
-    next_of(items, place_of(items, det), det).is_some()
+    next_of(items, item_index(items, det), det).is_some()
 }

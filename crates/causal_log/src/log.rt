@@ -13,7 +13,7 @@ use crate::batch::{Batch, Item};
 use crate::cached_batch::{CachedBatch, note_change, note_entries, note_items};
 use crate::known::Known;
 use crate::limits::MAX_LOGGED;
-use crate::next_batch_merge::{Delivery, next_batch};
+use crate::next_batch_merge::{AppliedDelivery, next_batch};
 use crate::table::{
     Table, chosen_items, det_at_rank, dets, in_order, is_forgotten, learn, learn_entries,
     learn_items, sorted_chosen_items, unstable_len,
@@ -182,7 +182,7 @@ impl Log {
         ensures { IfOk result (λ batch. arc_value batch ≡
             batch_items f (after_delivery carried.now own from me self.now.map)) }
     {
-        let delivery = Delivery {
+        let delivery = AppliedDelivery {
             entries: &self.entries,
             items: carried.as_slice(),
             own,

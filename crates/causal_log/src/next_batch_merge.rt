@@ -15,7 +15,7 @@ ghost use Rattle.causal_log.specs.Logs.{LogMap, log_of, batch_items, dets_of, Al
 ghost use Rattle.causal_log.specs.Inside.BatchCache.{held_by_both, with_carried, LearnsItem};
 ghost use Rattle.causal_log.specs.Inside.Merges.{AreDisjoint, NextIsNotBefore, are_known_to_hold, log_before, log_after_items, log_after};
 
-use crate::batch::{Batch, Item, names_det, next_of, place_of};
+use crate::batch::{Batch, Item, item_index, names_det, next_of};
 use crate::known::{Known, knowledge_from_item};
 use crate::table::Table;
 use causal_holders::Holders;
@@ -26,7 +26,7 @@ use std::sync::Arc;
 /// A delivery to be added to a log's entries: the items of its message, which process `from` sent to `me`, its own
 /// determinant, and the bound `f` by which messages carry determinants.
 #[derive(Clone, Copy)]
-pub(crate) struct Delivery<'a> {
+pub(crate) struct AppliedDelivery<'a> {
     pub entries: &'a Table,
     pub items: &'a [Item],
     pub own: Det,
@@ -35,7 +35,7 @@ pub(crate) struct Delivery<'a> {
     pub f: u16,
 }
 
-impl Delivery<'_> {
+impl AppliedDelivery<'_> {
     /// Whether messages may carry the delivery's items on. The sender and the receiver hold them all, and may already
     /// be more than f.
     fn may_carry(&self) -> bool
@@ -54,7 +54,7 @@ fn are_known_to_hold(entries: &Table, det: Det, holders: Holders) -> bool
         .is_some_and(|(_, known)| holders.is_subset(known.holders))
 }
 
-fn are_items_known(delivery: &Delivery<'_>) -> bool
+fn are_items_known(delivery: &AppliedDelivery<'_>) -> bool
     ensures { result ≡ list_all (λ item. are_known_to_hold (log_before delivery.now) item.det
         (knowledge_from_item delivery.now.from delivery.now.me item).1.holders) delivery.now.items.now }
 {
@@ -66,7 +66,7 @@ fn are_items_known(delivery: &Delivery<'_>) -> bool
 
 /// Whether messages are found to carry the same after a delivery, as in a replay where all that it brings is known.
 /// Reads the items only if messages may carry them.
-fn changes_nothing(kept: &[Item], delivery: &Delivery<'_>) -> bool
+fn changes_nothing(kept: &[Item], delivery: &AppliedDelivery<'_>) -> bool
     ensures { result ≡ true → kept.now ≡ batch_items delivery.now.f (log_before delivery.now) →
         kept.now ≡ batch_items delivery.now.f (log_after delivery.now) }
 {
@@ -142,7 +142,7 @@ fn merge_item(
     out: &mut Vec<Item>,
     kept: &[Item],
     place: usize,
-    delivery: &Delivery<'_>,
+    delivery: &AppliedDelivery<'_>,
     both: &Known,
     item: &Item,
 ) -> Result<usize, NoMemory>
@@ -186,7 +186,7 @@ fn fit_between(kept: &[Item], items: &[Item]) -> bool
     let (Some(first), Some(last)) = (items.first(), items.last()) else {
         return true;
     };
-    match kept.get(place_of(kept, first.det)) {
+    match kept.get(item_index(kept, first.det)) {
         Some(next) => last.det.comes_before(&next.det),
         None => true,
     }
@@ -196,7 +196,7 @@ fn fit_between(kept: &[Item], items: &[Item]) -> bool
 fn merge_batches(
     alloc: Global,
     kept: &[Item],
-    delivery: &Delivery<'_>,
+    delivery: &AppliedDelivery<'_>,
 ) -> Result<Vec<Item>, NoMemory>
     requires kept { kept.now ≡ batch_items delivery.now.f (log_before delivery.now) }
     requires ascending { is_ascending (dets_of delivery.now.items.now) ≡ true }
@@ -241,7 +241,7 @@ fn insert_if_carried(
 }
 
 /// Adds the delivery's own determinant, which only its receiver holds.
-fn insert_own(out: &mut Vec<Item>, delivery: &Delivery<'_>) -> Result<(), NoMemory>
+fn insert_own(out: &mut Vec<Item>, delivery: &AppliedDelivery<'_>) -> Result<(), NoMemory>
     requires news { out.old.items ≡ batch_items delivery.now.f (log_after_items delivery.now) }
     requires ascending { is_ascending (dets_of delivery.now.items.now) ≡ true }
     ensures { OnOk result (out.new.items ≡ batch_items delivery.now.f (log_after delivery.now)) }
@@ -249,7 +249,7 @@ fn insert_own(out: &mut Vec<Item>, delivery: &Delivery<'_>) -> Result<(), NoMemo
     let det = delivery.own;
     let held = Known::held_by(delivery.me);
     let items = out.as_slice();
-    let place = place_of(items, det);
+    let place = item_index(items, det);
     if let Some(item) = next_of(items, place, det) {
         out.remove(place);
         return insert_if_carried(
@@ -271,7 +271,7 @@ fn insert_own(out: &mut Vec<Item>, delivery: &Delivery<'_>) -> Result<(), NoMemo
 pub(crate) fn next_batch(
     alloc: Global,
     batch: &Arc<Batch>,
-    delivery: &Delivery<'_>,
+    delivery: &AppliedDelivery<'_>,
 ) -> Result<Arc<Batch>, NoMemory>
     requires kept { arc_value batch.now ≡ batch_items delivery.now.f (log_before delivery.now) }
     requires ascending { is_ascending (dets_of delivery.now.items.now) ≡ true }

@@ -10,7 +10,7 @@ use Rattle.causal_merge.specs.declared.event.RunHeader.{RunHeader}
 use Rattle.causal_merge.specs.declared.event.RecorderLine.{RecorderLine}
 use Rattle.causal_merge.specs.declared.parsed_files.ParsedFiles.{ParsedFiles}
 use Rattle.causal_merge.specs.ReadLines.{has_header, HasAllHeaders, LacksHeader}
-use Rattle.causal_merge.specs.ParsedFiles.{IsParsed}
+use Rattle.causal_merge.specs.ParsedFiles.{AreParsedFiles}
 
 contains_more : (s : FinSet nat_cmp) (n q : ℕ) → contains (insert s n) q ≡ (q == n || contains s q)
 contains_more s n q = contains-insert nat_cmp_total s n q ∙ ap (λ t. t || contains s q) (unsigned_tied q n)
@@ -31,10 +31,10 @@ none_in s test is = grind (arith, contains-empty)
 pub ruleset of_missing = (none_in, one_in, one_out)
 
 -- if there is no header, the processes of the run are not known
-pub no_run : (g : ParsedFiles) (said : List RecorderLine) (missing : FinSet nat_cmp) → IsParsed g said → g.run ≡ None → missing ≡ empty → LacksHeader said missing
+pub no_run : (g : ParsedFiles) (said : List RecorderLine) (missing : FinSet nat_cmp) → AreParsedFiles g said → g.run ≡ None → missing ≡ empty → LacksHeader said missing
 no_run g said missing parsed is unknown = inl (record { none = sym parsed.run ∙ is; unknown = unknown })
 
-module _ (g : ParsedFiles) (said : List RecorderLine) (run : RunHeader) (missing : FinSet nat_cmp) (parsed : IsParsed g said) (is : g.run ≡ Some run) (few : run.processes ≤ 256)
+module _ (g : ParsedFiles) (said : List RecorderLine) (run : RunHeader) (missing : FinSet nat_cmp) (parsed : AreParsedFiles g said) (is : g.run ≡ Some run) (few : run.processes ≤ 256)
     (m : HasMembers run.processes missing (λ p. not (slice_index_or g.headers_seen p false))) where
   member : (p : ℕ) → p < run.processes → contains missing p ≡ not (has_header said p)
   member p below = m.member p below ∙ ap not (parsed.headers_seen p (omega (arith, below, few)))

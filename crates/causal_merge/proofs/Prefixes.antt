@@ -36,7 +36,7 @@ merged-after most n [] before f h = h
 merged-after most n (e ∷ newer) before f h = grind (arith, merged-after most n newer before f h)
 
 -- the error of an event, after those before it, is that of all events
-pub merged-fault : (most n m : ℕ) (all before rest : List EventAtLine) (e : EventAtLine) (f : MergeFault) → m ≡ n → all ≡ reverse before ++ e ∷ rest → merger.IsFaultOf most m f (e ∷ before) → merger.IsFaultOf most n f (reverse all)
+pub merged-fault : (most n m : ℕ) (all before rest : List EventAtLine) (e : EventAtLine) (f : MergeFault) → m ≡ n → all ≡ reverse before ++ e ∷ rest → merger.IsFaultOfEvents most m f (e ∷ before) → merger.IsFaultOfEvents most n f (reverse all)
 merged-fault most n m all before rest e f same split h =
     λ other. ap (merge_events_of most n) (reverse_upto all before rest e split) ∙ merged-after most n (reverse rest) (e ∷ before) f (subst (λ (k : ℕ). merge_events_of most k (e ∷ before) ≡ Err f) same (h other))
 

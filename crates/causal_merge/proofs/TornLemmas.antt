@@ -9,7 +9,7 @@ use Rattle.std.proofs.lemmas.List.Sums.{sum_by-append, sum_by-cons}
 use Rattle.std.proofs.lemmas.List.Folds.{list_all-append}
 use Rattle.std.proofs.Math.Seq.{take-append_seam}
 use Rattle.causal_name.specs.Sets.{any_below}
-use Rattle.causal_merge.specs.TornLines.{begins_torn, is_torn_byte, count_of, has_few_quotes, are_closed, closes_within, is_torn}
+use Rattle.causal_merge.specs.TornLines.{begins_torn, is_torn_byte, byte_count, has_few_quotes, are_closed, closes_within, is_torn}
 use Rattle.causal_merge.specs.Laws.{IsWholeLine}
 
 -- ---- tests of the numbers below n
@@ -32,16 +32,16 @@ each_below (suc n) test k none below =
 -- ---- counting brackets, byte after byte
 
 -- some bracket was open after each byte, and is open after one more
-pub opens_more : (i o c : ℕ) (bytes : List ℕ) → closes_within i bytes ≡ false → o ≡ count_of 91 (take (i + 1) bytes) → c ≡ count_of 93 (take (i + 1) bytes) → c < o → closes_within (i + 1) bytes ≡ false
+pub opens_more : (i o c : ℕ) (bytes : List ℕ) → closes_within i bytes ≡ false → o ≡ byte_count 91 (take (i + 1) bytes) → c ≡ byte_count 93 (take (i + 1) bytes) → c < o → closes_within (i + 1) bytes ≡ false
 opens_more i o c bytes before opening closing more =
-    let open_now : count_of 93 (take (i + 1) bytes) < count_of 91 (take (i + 1) bytes) = omega (arith, opening, closing, more) in
+    let open_now : byte_count 93 (take (i + 1) bytes) < byte_count 91 (take (i + 1) bytes) = omega (arith, opening, closing, more) in
     subst (λ n. any_below n (λ k. are_closed (take (k + 1) bytes)) ≡ false) (sym (add-one i)) (or_from (are_closed (take (i + 1) bytes)) (closes_within i bytes) (lt-leb _ _ open_now) before)
 
 -- no bracket is open after one of the bytes
-pub closes_at : (i o c : ℕ) (bytes : List ℕ) → o ≡ count_of 91 (take (i + 1) bytes) → c ≡ count_of 93 (take (i + 1) bytes) → o ≤ c → i < length bytes → closes_within (length bytes) bytes ≡ true
+pub closes_at : (i o c : ℕ) (bytes : List ℕ) → o ≡ byte_count 91 (take (i + 1) bytes) → c ≡ byte_count 93 (take (i + 1) bytes) → o ≤ c → i < length bytes → closes_within (length bytes) bytes ≡ true
 closes_at i o c bytes opening closing few below =
     true_from_ne_false _ (λ none.
-    let more : count_of 93 (take (i + 1) bytes) < count_of 91 (take (i + 1) bytes) = leb-false _ _ (each_below (length bytes) (λ k. are_closed (take (k + 1) bytes)) i none below) in
+    let more : byte_count 93 (take (i + 1) bytes) < byte_count 91 (take (i + 1) bytes) = leb-false _ _ (each_below (length bytes) (λ k. are_closed (take (k + 1) bytes)) i none below) in
     omega (arith, more, opening, closing, few))
 
 pub ruleset closing_steps = (opens_more, closes_at)
@@ -59,10 +59,10 @@ shows_closed n k bytes some few closed = true_from_ne_false _ (λ none. false≢
 -- ---- the beginnings of a whole line
 
 -- of a part no more bytes pass than of the whole
-few_in_part : (byte k : ℕ) (bytes : List ℕ) → count_of byte (take k bytes) ≤ count_of byte bytes
+few_in_part : (byte k : ℕ) (bytes : List ℕ) → byte_count byte (take k bytes) ≤ byte_count byte bytes
 few_in_part byte k bytes =
-    let both : count_of byte (take k bytes ++ drop k bytes) ≡ count_of byte (take k bytes) + count_of byte (drop k bytes) = sum_by-append (λ x. cond (x == byte) 1 0) (take k bytes) (drop k bytes) in
-    let whole : count_of byte (take k bytes ++ drop k bytes) ≡ count_of byte bytes = ap (count_of byte) (take-append-drop k bytes) in
+    let both : byte_count byte (take k bytes ++ drop k bytes) ≡ byte_count byte (take k bytes) + byte_count byte (drop k bytes) = sum_by-append (λ x. cond (x == byte) 1 0) (take k bytes) (drop k bytes) in
+    let whole : byte_count byte (take k bytes ++ drop k bytes) ≡ byte_count byte bytes = ap (byte_count byte) (take-append-drop k bytes) in
     omega (arith, both, whole)
 
 -- the bytes of a part pass, if all do
@@ -91,7 +91,7 @@ begins_part (suc (suc k)) (x ∷ y ∷ more) begins long some =
     let is = second_byte x y more begins in
     and_from (x == 91) (length (x ∷ y ∷ take k more) == 1 || y == 34) is.0 (or_right (length (x ∷ y ∷ take k more) == 1) (y == 34) is.1)
 
-quotes_part : (k : ℕ) (bytes : List ℕ) → count_of 34 bytes ≡ 2 → has_few_quotes (take k bytes) ≡ true
+quotes_part : (k : ℕ) (bytes : List ℕ) → byte_count 34 bytes ≡ 2 → has_few_quotes (take k bytes) ≡ true
 unfolding has_few_quotes
 quotes_part k bytes two = le-leb _ _ (let few = few_in_part 34 k bytes in omega (arith, few, two))
 
@@ -125,16 +125,16 @@ two_brackets x (y ∷ z ∷ more) after begins long = false_from_ne_true _ (λ h
     omega (arith, first, second))
 
 -- two bytes with a quotation mark, and more, and a whole line have three of them
-three_quotes : (x y : ℕ) (before line after : List ℕ) → y == 34 ≡ true → count_of 34 line ≡ 2 → 2 < count_of 34 (x ∷ y ∷ (before ++ (line ++ after)))
+three_quotes : (x y : ℕ) (before line after : List ℕ) → y == 34 ≡ true → byte_count 34 line ≡ 2 → 2 < byte_count 34 (x ∷ y ∷ (before ++ (line ++ after)))
 three_quotes x y before line after is two =
-    let a : count_of 34 (x ∷ y ∷ (before ++ (line ++ after))) ≡ cond (x == 34) 1 0 + count_of 34 (y ∷ (before ++ (line ++ after))) = sum_by-cons (λ v. cond (v == 34) 1 0) x (y ∷ (before ++ (line ++ after))) in
-    let b : count_of 34 (y ∷ (before ++ (line ++ after))) ≡ cond (y == 34) 1 0 + count_of 34 (before ++ (line ++ after)) = sum_by-cons (λ v. cond (v == 34) 1 0) y (before ++ (line ++ after)) in
-    let c : count_of 34 (before ++ (line ++ after)) ≡ count_of 34 before + count_of 34 (line ++ after) = sum_by-append (λ v. cond (v == 34) 1 0) before (line ++ after) in
-    let d : count_of 34 (line ++ after) ≡ count_of 34 line + count_of 34 after = sum_by-append (λ v. cond (v == 34) 1 0) line after in
+    let a : byte_count 34 (x ∷ y ∷ (before ++ (line ++ after))) ≡ cond (x == 34) 1 0 + byte_count 34 (y ∷ (before ++ (line ++ after))) = sum_by-cons (λ v. cond (v == 34) 1 0) x (y ∷ (before ++ (line ++ after))) in
+    let b : byte_count 34 (y ∷ (before ++ (line ++ after))) ≡ cond (y == 34) 1 0 + byte_count 34 (before ++ (line ++ after)) = sum_by-cons (λ v. cond (v == 34) 1 0) y (before ++ (line ++ after)) in
+    let c : byte_count 34 (before ++ (line ++ after)) ≡ byte_count 34 before + byte_count 34 (line ++ after) = sum_by-append (λ v. cond (v == 34) 1 0) before (line ++ after) in
+    let d : byte_count 34 (line ++ after) ≡ byte_count 34 line + byte_count 34 after = sum_by-append (λ v. cond (v == 34) 1 0) line after in
     let e : ◌≡◌ {A = ℕ} (cond (y == 34) 1 0) 1 = ap (λ t. cond {A = ℕ} t 1 0) is in
     omega (arith, a, b, c, d, e, two)
 
-many_quotes : (x y : ℕ) (before line after : List ℕ) → y == 34 ≡ true → count_of 34 line ≡ 2 → has_few_quotes (x ∷ y ∷ (before ++ (line ++ after))) ≡ false
+many_quotes : (x y : ℕ) (before line after : List ℕ) → y == 34 ≡ true → byte_count 34 line ≡ 2 → has_few_quotes (x ∷ y ∷ (before ++ (line ++ after))) ≡ false
 unfolding has_few_quotes
 many_quotes x y before line after is two = lt-leb _ _ (three_quotes x y before line after is two)
 

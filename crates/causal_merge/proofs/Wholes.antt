@@ -20,14 +20,14 @@ use Rattle.causal_merge.specs.Merges.{MergesFrom, IsFirstFaultWithin}
 use Rattle.causal_merge.specs.Origins.{origin_of}
 use Rattle.causal_merge.specs.declared.merge.OrderedRun.{OrderedRun}
 use Rattle.causal_merge.specs.Inside.OrderedRuns.{IsOrderedRun}
-use Rattle.causal_merge.specs.ParsedFiles.{IsParsed, HasRead}
+use Rattle.causal_merge.specs.ParsedFiles.{AreParsedFiles, HasParsedLines}
 use Rattle.causal_merge.proofs.Prefixes.{reading-length}
 
-pub few_of : (g : ParsedFiles) (said : List RecorderLine) (run : RunHeader) → IsParsed g said → g.run ≡ Some run → IsProcessCount run.processes
+pub few_of : (g : ParsedFiles) (said : List RecorderLine) (run : RunHeader) → AreParsedFiles g said → g.run ≡ Some run → IsProcessCount run.processes
 few_of g said run h is = subst (λ (o : Option RunHeader). IfSome o (λ r. IsProcessCount r.processes)) is h.few
 
 -- the events of lines without error, of which no header is missing, in the merge order
-pub ordered : (most : ℕ) (text : List ℕ) (g : ParsedFiles) (o : OrderedRun) → HasRead most g (reverse (lines text)) → ((said : List RecorderLine) → IsParsed g said → HasAllHeaders said o.run) → ((said : List RecorderLine) → IsParsed g said → IsProcessCount o.run.processes)
+pub ordered : (most : ℕ) (text : List ℕ) (g : ParsedFiles) (o : OrderedRun) → HasParsedLines most g (reverse (lines text)) → ((said : List RecorderLine) → AreParsedFiles g said → HasAllHeaders said o.run) → ((said : List RecorderLine) → AreParsedFiles g said → IsProcessCount o.run.processes)
     → IsMergedOrder g.events.items o.events.items → o.torn.items ≡ g.torn.items → IsOrderedRun most text o
 ordered most text g o read whole few order torn = record {
   contents = read.0;
@@ -55,7 +55,7 @@ merges most text o r torn h processes same entries = record {
 }
 
 -- if a header is missing, that is the first error
-pub header_fault : (most : ℕ) (text : List ℕ) (g : ParsedFiles) (f : MergeFault) → HasRead most g (reverse (lines text)) → ((said : List RecorderLine) → IsParsed g said → (missing : FinSet nat_cmp) × LacksHeader said missing × (f ≡ missing_fault (length said + 1) missing)) → IsFirstFaultWithin most text f
+pub header_fault : (most : ℕ) (text : List ℕ) (g : ParsedFiles) (f : MergeFault) → HasParsedLines most g (reverse (lines text)) → ((said : List RecorderLine) → AreParsedFiles g said → (missing : FinSet nat_cmp) × LacksHeader said missing × (f ≡ missing_fault (length said + 1) missing)) → IsFirstFaultWithin most text f
 header_fault most text g f read lacks =
     let h = lacks read.0 read.2 in
     let count : length read.0 ≡ length (lines text) = reading-length most (reverse (lines text)) read.0 read.1 ∙ length-reverse (lines text) in

@@ -88,11 +88,11 @@ abbrev pub event_detail : MergeKind → List Entry → RecordedEvent → Option 
 event_detail k past e = detail_of k past (entry_of past e.process e.act) (name_of e.act)
 
 -- the entries with that of one more event, or the event's error
-abbrev pub with_event : List Entry → EventAtLine → Option MergeKind → Result (List Entry) MergeFault
-with_event past e None = Ok (entry_of past e.event.process e.event.act ∷ past)
-with_event past e (Some k) = Err (record { line = e.line; kind = k; detail = event_detail k past e.event })
+abbrev pub with_event_entry : List Entry → EventAtLine → Option MergeKind → Result (List Entry) MergeFault
+with_event_entry past e None = Ok (entry_of past e.event.process e.event.act ∷ past)
+with_event_entry past e (Some k) = Err (record { line = e.line; kind = k; detail = event_detail k past e.event })
 
 -- the entries of these events in a run of n processes; else the error of the oldest event that has one
 abbrev pub merge_events_of : ℕ → ℕ → List EventAtLine → Result (List Entry) MergeFault
 merge_events_of most n [] = Ok []
-merge_events_of most n (e ∷ before) = merge_events_of most n before >>= λ past. with_event past e (event_fault most n before past e.event)
+merge_events_of most n (e ∷ before) = merge_events_of most n before >>= λ past. with_event_entry past e (event_fault most n before past e.event)

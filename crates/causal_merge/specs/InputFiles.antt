@@ -5,8 +5,8 @@ use Rattle.std.specs.List.Sorted.{IsNonDecreasingBy}
 use Rattle.causal_merge.specs.declared.input_files.InputFile.{InputFile}
 
 -- no file begins before an earlier one
-abbrev pub AreInOrder : List InputFile → Type 0
-AreInOrder files = IsNonDecreasingBy (λ file. file.begun) files
+abbrev pub AreFilesInOrder : List InputFile → Type 0
+AreFilesInOrder files = IsNonDecreasingBy (λ file. file.begun) files
 
 -- the index of the file in which a line begins: of the last of those that begin before the line after it. Lines count
 -- from 1.

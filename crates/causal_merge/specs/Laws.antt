@@ -1,7 +1,7 @@
 -- Laws of torn lines: each beginning of a whole line is torn, and no line with a whole line in it is.
 use Rattle.std.specs.Prelude.{◌≡◌, ℕ, ◌-◌, ◌<◌, ◌≤◌, true, false, List, ◌++◌, length, take}
 use Rattle.std.specs.List.{list_all}
-use Rattle.causal_merge.specs.TornLines.{begins_torn, is_torn_byte, count_of, are_closed, closes_within, is_torn}
+use Rattle.causal_merge.specs.TornLines.{begins_torn, is_torn_byte, byte_count, are_closed, closes_within, is_torn}
 
 -- A line as a recorder writes it: an array of a word, numbers and arrays. It begins with `["` and has two quotation
 -- marks, and after its last byte, and no sooner, no bracket is open.
@@ -9,7 +9,7 @@ pub record IsWholeLine (line : List ℕ) : Type 0 where
   pub long : 2 ≤ length line
   pub begins : begins_torn line ≡ true
   pub bytes : list_all is_torn_byte line ≡ true
-  pub quotes : count_of 34 line ≡ 2
+  pub quotes : byte_count 34 line ≡ 2
   pub closed : are_closed line ≡ true
   pub no_sooner : closes_within (length line - 1) line ≡ false
 

@@ -45,8 +45,8 @@ abbrev pub string_at : ℕ → Data → Result (List ℕ) TextKind
 string_at i d = or_form (option_and_then as_str (at i d))
 
 -- the fields for the entry at a position, by the value of its line; a value that is not its line has the error `Form`
-unfoldable pub place_of : ℕ → Data → Result (List ℕ) TextKind
-place_of position d = if array_len d == 4 then (do
+unfoldable pub entry_place_fields : ℕ → Data → Result (List ℕ) TextKind
+entry_place_fields position d = if array_len d == 4 then (do
   given ← u32_at 0 d
   file ← string_at 1 d
   line ← u64_at 2 d
@@ -59,4 +59,4 @@ max_line = 65536
 
 -- the fields for the entry at a position, by its line
 unfoldable pub read_place : ℕ → List ℕ → Result (List ℕ) TextKind
-read_place position line = if nat_lt max_line (length line) then Err Form else parse_json line >>= place_of position
+read_place position line = if nat_lt max_line (length line) then Err Form else parse_json line >>= entry_place_fields position

@@ -11,12 +11,12 @@ use Rattle.causal_merge.specs.ReadLines.{run_in, has_header, events_in, torn_in}
 use Rattle.causal_merge.specs.Reading.{read_all_lines}
 
 -- a header has a number of processes within the limits
-abbrev pub IsSound : RecorderLine → Type 0
-IsSound (says.Header process run) = IsProcessCount run.processes
-IsSound _ = Unit {0}
+abbrev pub IsSoundLine : RecorderLine → Type 0
+IsSoundLine (says.Header process run) = IsProcessCount run.processes
+IsSoundLine _ = Unit {0}
 
 -- the fields are those of these lines
-pub record IsParsed (g : ParsedFiles) (said : List RecorderLine) : Type 0 where
+pub record AreParsedFiles (g : ParsedFiles) (said : List RecorderLine) : Type 0 where
   pub run : g.run ≡ run_in said
   pub headers_seen : (p : ℕ) → p < 256 → slice_index_or g.headers_seen p false ≡ has_header said p
   pub events : g.events.items ≡ events_in said
@@ -25,9 +25,9 @@ pub record IsParsed (g : ParsedFiles) (said : List RecorderLine) : Type 0 where
   pub few : IfSome g.run (λ run. IsProcessCount run.processes)
 
 -- the fields are those of the content of these lines, the newest first
-abbrev pub HasRead : ℕ → ParsedFiles → List (List ℕ) → Type 0
-HasRead most g before = (said : List RecorderLine) × (read_all_lines most before ≡ Ok said) × IsParsed g said
+abbrev pub HasParsedLines : ℕ → ParsedFiles → List (List ℕ) → Type 0
+HasParsedLines most g before = (said : List RecorderLine) × (read_all_lines most before ≡ Ok said) × AreParsedFiles g said
 
 -- the error is that of these lines, unless it is `NoMemory`
-abbrev pub IsFaultOf : ℕ → MergeFault → List (List ℕ) → Type 0
-IsFaultOf most fault before = fault.kind ≢ kind.Line NoMemory → read_all_lines most before ≡ Err fault
+abbrev pub IsFaultOfLines : ℕ → MergeFault → List (List ℕ) → Type 0
+IsFaultOfLines most fault before = fault.kind ≢ kind.Line NoMemory → read_all_lines most before ≡ Err fault

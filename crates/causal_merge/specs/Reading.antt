@@ -11,7 +11,7 @@ use Rattle.causal_merge.specs.declared.event.RecorderLine.{RecorderLine}
 use Rattle.causal_merge.specs.declared.event.RecorderLine.TheVariants as says
 use Rattle.causal_merge.specs.declared.fault.MergeKind.TheVariants as kind
 use Rattle.causal_merge.specs.declared.fault.MergeFault.{MergeFault}
-use Rattle.causal_merge.specs.Shapes.{line_of}
+use Rattle.causal_merge.specs.Shapes.{parse_value}
 use Rattle.causal_merge.specs.TornLines.{is_blank, is_torn}
 use Rattle.causal_merge.specs.ReadLines.{run_in}
 
@@ -25,7 +25,7 @@ max_input_len most = min (most * 1024) max_bytes
 
 -- the content of a line with this JSON value; if the bytes are not JSON, a torn line or their error
 abbrev pub parse_json_value : List ℕ → Result Data TextKind → Result RecorderLine TextKind
-parse_json_value bytes (Ok d) = line_of d
+parse_json_value bytes (Ok d) = parse_value d
 parse_json_value bytes (Err k) = if is_torn bytes then Ok says.Torn else Err k
 
 -- the content of a line, by its bytes without the line feed

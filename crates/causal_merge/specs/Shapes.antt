@@ -6,7 +6,7 @@ use Rattle.causal_trace.specs.Limits.{is_process_count}
 use Rattle.causal_line.specs.declared.kind.TextKind.{TextKind}
 use Rattle.causal_line.specs.declared.kind.TextKind.TheVariants.{Form, Version, Processes}
 use Rattle.causal_line.specs.Reading.{◌>>=◌}
-use Rattle.causal_line.specs.ParsedLines.{field, u32_at, u64_at, pid_at, det_of, dets_at, is_array_named}
+use Rattle.causal_line.specs.ParsedLines.{field, u32_at, u64_at, pid_at, parse_det, dets_at, is_array_named}
 use Rattle.causal_merge.specs.declared.event.Action.{Action}
 use Rattle.causal_merge.specs.declared.event.Action.TheVariants.{Send, Deliver, Stable, Crash, Restart, Forget}
 use Rattle.causal_merge.specs.declared.event.RecorderLine.{RecorderLine}
@@ -18,8 +18,8 @@ check_header_values process version processes number =
     if version == 1 then (if is_process_count processes then Ok (says.Header process (record { processes = processes; number = number })) else Err Processes) else Err Version
 
 -- `["recording",process,version,processes,run]`
-unfoldable pub header_of : Data → Result RecorderLine TextKind
-header_of d = do
+unfoldable pub parse_header : Data → Result RecorderLine TextKind
+parse_header d = do
   process ← pid_at 1 d
   version ← u32_at 2 d
   processes ← u32_at 3 d
@@ -34,15 +34,15 @@ parse_event d act = do
   Ok (says.Event (record { process = process; clock = clock; act = act }))
 
 -- `["send",process,clock,to,ssn]`
-unfoldable pub send_of : Data → Result RecorderLine TextKind
-send_of d = do
+unfoldable pub parse_send : Data → Result RecorderLine TextKind
+parse_send d = do
   to ← pid_at 3 d
   ssn ← u32_at 4 d
   parse_event d (Send to ssn)
 
 -- `["deliver",process,clock,source,lane,ssn,rsn,[dets]]`
-unfoldable pub deliver_of : Data → Result RecorderLine TextKind
-deliver_of d = do
+unfoldable pub parse_deliver : Data → Result RecorderLine TextKind
+parse_deliver d = do
   source ← pid_at 3 d
   lane ← u32_at 4 d
   ssn ← u32_at 5 d
@@ -51,21 +51,21 @@ deliver_of d = do
   parse_event d (Deliver source lane ssn rsn listed)
 
 -- `["stable",process,clock,det]`
-unfoldable pub stable_of : Data → Result RecorderLine TextKind
-stable_of d = do
+unfoldable pub parse_stable : Data → Result RecorderLine TextKind
+parse_stable d = do
   named ← field 3 d
-  det ← det_of named
+  det ← parse_det named
   parse_event d (Stable det)
 
 -- `["restart",process,clock,[dets]]`
-unfoldable pub restart_of : Data → Result RecorderLine TextKind
-restart_of d = do
+unfoldable pub parse_restart : Data → Result RecorderLine TextKind
+parse_restart d = do
   listed ← dets_at 3 d
   parse_event d (Restart listed)
 
 -- `["forget",process,clock,[dets]]`
-unfoldable pub forget_of : Data → Result RecorderLine TextKind
-forget_of d = do
+unfoldable pub parse_forget : Data → Result RecorderLine TextKind
+parse_forget d = do
   listed ← dets_at 3 d
   parse_event d (Forget listed)
 
@@ -79,14 +79,14 @@ heard_of d = do
   Ok says.Heard
 
 -- the shapes of a line; a value that has none of them is refused
-unfoldable pub line_of : Data → Result RecorderLine TextKind
-line_of d =
-    if is_array_named d (codes "recording") 5 then header_of d else
-    if is_array_named d (codes "send") 5 then send_of d else
-    if is_array_named d (codes "deliver") 8 then deliver_of d else
-    if is_array_named d (codes "stable") 4 then stable_of d else
+unfoldable pub parse_value : Data → Result RecorderLine TextKind
+parse_value d =
+    if is_array_named d (codes "recording") 5 then parse_header d else
+    if is_array_named d (codes "send") 5 then parse_send d else
+    if is_array_named d (codes "deliver") 8 then parse_deliver d else
+    if is_array_named d (codes "stable") 4 then parse_stable d else
     if is_array_named d (codes "crash") 3 then parse_event d Crash else
-    if is_array_named d (codes "restart") 4 then restart_of d else
-    if is_array_named d (codes "forget") 4 then forget_of d else
+    if is_array_named d (codes "restart") 4 then parse_restart d else
+    if is_array_named d (codes "forget") 4 then parse_forget d else
     if is_array_named d (codes "heard") 5 then heard_of d else
     Err Form

@@ -20,16 +20,16 @@ unfoldable pub begins_torn : List ℕ → Bool
 begins_torn bytes = slice_index bytes 0 == 91 && (length bytes == 1 || slice_index bytes 1 == 34)
 
 -- the number of occurrences of a byte in a line
-abbrev pub count_of : ℕ → List ℕ → ℕ
-count_of byte bytes = count_by (λ x. x == byte) bytes
+abbrev pub byte_count : ℕ → List ℕ → ℕ
+byte_count byte bytes = count_by (λ x. x == byte) bytes
 
 -- at most two quotation marks
 unfoldable pub has_few_quotes : List ℕ → Bool
-has_few_quotes bytes = nat_le (count_of 34 bytes) 2
+has_few_quotes bytes = nat_le (byte_count 34 bytes) 2
 
 -- at least as many closing as opening brackets: none is open
 abbrev pub are_closed : List ℕ → Bool
-are_closed bytes = nat_le (count_of 91 bytes) (count_of 93 bytes)
+are_closed bytes = nat_le (byte_count 91 bytes) (byte_count 93 bytes)
 
 -- whether no bracket is open after the first byte of a line, or the first two, and so on up to the first n
 abbrev pub closes_within : ℕ → List ℕ → Bool

@@ -16,7 +16,7 @@ pub struct InputFile {
 
 /// Returns the index of the file in which a line of the input begins; 0 if there is no file. Takes O(log files) time.
 pub(crate) fn file_index(input: &[InputFile], line: u32) -> usize
-    ensures { files.AreInOrder input.now → result ≡ files.file_index input.now line }
+    ensures { files.AreFilesInOrder input.now → result ≡ files.file_index input.now line }
 {
     let line = u64::from(line);
     input

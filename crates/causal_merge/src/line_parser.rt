@@ -2,18 +2,18 @@
 ghost use Rattle.std.specs.Prelude.{◌≡◌, ◌≤◌, IfOk, OnOk};
 ghost use Rattle.serde_json.specs.View.{view};
 ghost use Rattle.causal_line.specs.Returns.{Returns};
-ghost use Rattle.causal_merge.specs.Shapes.{check_header_values, header_of, parse_event, send_of, deliver_of, stable_of, heard_of, line_of};
+ghost use Rattle.causal_merge.specs.Shapes.{check_header_values, parse_header, parse_event, parse_send, parse_deliver, parse_stable, heard_of, parse_value};
 ghost use Rattle.causal_merge.specs.Reading.{parse_bytes, check_header, next_line, same_run, max_bytes};
 ghost use Rattle.causal_line.specs.Values.{without_line_feed};
-ghost use Rattle.causal_merge.specs.ParsedFiles.{IsSound};
+ghost use Rattle.causal_merge.specs.ParsedFiles.{IsSoundLine};
 ghost use Rattle.causal_merge.specs.Inside.RecorderChunks.{IsParsedLine};
 
 use crate::event::{Action, RecordedEvent, RecorderLine, RunHeader};
 use crate::limits::max_input_len;
-use crate::recorder_chunk::ChunkLine;
+use crate::recorder_chunk::RecorderChunkLine;
 use crate::torn_lines::{is_blank, is_torn};
 use crate::value::value_of;
-use causal_line::fields::{det_of, dets_at, is_array_named, pid_at, u32_at, u64_at};
+use causal_line::fields::{dets_at, is_array_named, parse_det, pid_at, u32_at, u64_at};
 use causal_line::kind::TextKind;
 use causal_line::line_value::without_line_feed;
 use causal_name::Pid;
@@ -28,7 +28,7 @@ fn check_header_values(
     number: u64,
 ) -> Result<RecorderLine, TextKind>
     ensures value { result ≡ check_header_values process version processes number }
-    ensures sound { IfOk result IsSound }
+    ensures sound { IfOk result IsSoundLine }
 {
     if version != 1 {
         return Err(TextKind::Version);
@@ -43,10 +43,10 @@ fn check_header_values(
     Ok(RecorderLine::Header { process, run })
 }
 
-#[tactic(auto, unfolding(crate::specs::Shapes::header_of))]
-fn header_of(value: &Value) -> Result<RecorderLine, TextKind>
-    ensures value { result ≡ header_of (view value.now) }
-    ensures sound { IfOk result IsSound }
+#[tactic(auto, unfolding(crate::specs::Shapes::parse_header))]
+fn parse_header(value: &Value) -> Result<RecorderLine, TextKind>
+    ensures value { result ≡ parse_header (view value.now) }
+    ensures sound { IfOk result IsSoundLine }
 {
     let process = pid_at(value, 1)?;
     let version = u32_at(value, 2)?;
@@ -59,7 +59,7 @@ fn header_of(value: &Value) -> Result<RecorderLine, TextKind>
 #[tactic(auto, unfolding(crate::specs::Shapes::parse_event))]
 fn parse_event(value: &Value, act: Action) -> Result<RecorderLine, TextKind>
     ensures value { result ≡ parse_event (view value.now) act }
-    ensures sound { IfOk result IsSound }
+    ensures sound { IfOk result IsSoundLine }
 {
     let process = pid_at(value, 1)?;
     let clock = u64_at(value, 2)?;
@@ -72,10 +72,10 @@ fn parse_event(value: &Value, act: Action) -> Result<RecorderLine, TextKind>
     })
 }
 
-#[tactic(auto, unfolding(crate::specs::Shapes::send_of))]
-fn send_of(value: &Value) -> Result<RecorderLine, TextKind>
-    ensures value { result ≡ send_of (view value.now) }
-    ensures sound { IfOk result IsSound }
+#[tactic(auto, unfolding(crate::specs::Shapes::parse_send))]
+fn parse_send(value: &Value) -> Result<RecorderLine, TextKind>
+    ensures value { result ≡ parse_send (view value.now) }
+    ensures sound { IfOk result IsSoundLine }
 {
     let act = Action::Send {
         to: pid_at(value, 3)?,
@@ -84,10 +84,10 @@ fn send_of(value: &Value) -> Result<RecorderLine, TextKind>
     parse_event(value, act)
 }
 
-#[tactic(auto, unfolding(crate::specs::Shapes::deliver_of))]
-fn deliver_of(alloc: Global, value: &Value) -> Result<RecorderLine, TextKind>
-    ensures value { Returns result (deliver_of (view value.now)) }
-    ensures sound { IfOk result IsSound }
+#[tactic(auto, unfolding(crate::specs::Shapes::parse_deliver))]
+fn parse_deliver(alloc: Global, value: &Value) -> Result<RecorderLine, TextKind>
+    ensures value { Returns result (parse_deliver (view value.now)) }
+    ensures sound { IfOk result IsSoundLine }
 {
     let act = Action::Deliver {
         source: pid_at(value, 3)?,
@@ -99,20 +99,20 @@ fn deliver_of(alloc: Global, value: &Value) -> Result<RecorderLine, TextKind>
     parse_event(value, act)
 }
 
-#[tactic(auto, unfolding(crate::specs::Shapes::stable_of))]
-fn stable_of(value: &Value) -> Result<RecorderLine, TextKind>
-    ensures value { result ≡ stable_of (view value.now) }
-    ensures sound { IfOk result IsSound }
+#[tactic(auto, unfolding(crate::specs::Shapes::parse_stable))]
+fn parse_stable(value: &Value) -> Result<RecorderLine, TextKind>
+    ensures value { result ≡ parse_stable (view value.now) }
+    ensures sound { IfOk result IsSoundLine }
 {
     let named = value.get(3).ok_or(TextKind::Form)?;
-    let det = det_of(named)?;
+    let det = parse_det(named)?;
     parse_event(value, Action::Stable { det })
 }
 
 #[tactic(auto, unfolding(crate::specs::Shapes::heard_of))]
 fn heard_of(value: &Value) -> Result<RecorderLine, TextKind>
     ensures value { result ≡ heard_of (view value.now) }
-    ensures sound { IfOk result IsSound }
+    ensures sound { IfOk result IsSoundLine }
 {
     pid_at(value, 1)?;
     u64_at(value, 2)?;
@@ -121,19 +121,19 @@ fn heard_of(value: &Value) -> Result<RecorderLine, TextKind>
     Ok(RecorderLine::Heard)
 }
 
-#[tactic(auto, unfolding(crate::specs::Shapes::line_of, crate::specs::Shapes::restart_of, crate::specs::Shapes::forget_of))]
-fn line_of(alloc: Global, value: &Value) -> Result<RecorderLine, TextKind>
-    ensures value { Returns result (line_of (view value.now)) }
-    ensures sound { IfOk result IsSound }
+#[tactic(auto, unfolding(crate::specs::Shapes::parse_value, crate::specs::Shapes::parse_restart, crate::specs::Shapes::parse_forget))]
+fn parse_value(alloc: Global, value: &Value) -> Result<RecorderLine, TextKind>
+    ensures value { Returns result (parse_value (view value.now)) }
+    ensures sound { IfOk result IsSoundLine }
 {
     if is_array_named(value, "recording", 5) {
-        header_of(value)
+        parse_header(value)
     } else if is_array_named(value, "send", 5) {
-        send_of(value)
+        parse_send(value)
     } else if is_array_named(value, "deliver", 8) {
-        deliver_of(alloc, value)
+        parse_deliver(alloc, value)
     } else if is_array_named(value, "stable", 4) {
-        stable_of(value)
+        parse_stable(value)
     } else if is_array_named(value, "crash", 3) {
         parse_event(value, Action::Crash)
     } else if is_array_named(value, "restart", 4) {
@@ -153,13 +153,13 @@ fn line_of(alloc: Global, value: &Value) -> Result<RecorderLine, TextKind>
 #[tactic(auto, unfolding(crate::specs::Reading::parse_bytes))]
 fn parse_bytes(alloc: Global, bytes: &[u8]) -> Result<RecorderLine, TextKind>
     ensures value { Returns result (parse_bytes bytes.now) }
-    ensures sound { IfOk result IsSound }
+    ensures sound { IfOk result IsSoundLine }
 {
     if is_blank(bytes) {
         return Ok(RecorderLine::Blank);
     }
     match value_of(alloc, bytes) {
-        Ok(Some(value)) => line_of(alloc, &value),
+        Ok(Some(value)) => parse_value(alloc, &value),
         Ok(None) => Err(TextKind::Form),
         Err(TextKind::NoMemory) => Err(TextKind::NoMemory),
         Err(kind) => {
@@ -180,9 +180,9 @@ fn same_run(a: RunHeader, b: RunHeader) -> bool
 }
 
 fn check_header(first: Option<RunHeader>, line: RecorderLine) -> Result<RecorderLine, TextKind>
-    requires { IsSound line }
+    requires { IsSoundLine line }
     ensures value { result ≡ check_header first line }
-    ensures sound { IfOk result IsSound }
+    ensures sound { IfOk result IsSoundLine }
 {
     let RecorderLine::Header { process, run } = line else {
         return Ok(line);
@@ -199,7 +199,7 @@ fn check_header(first: Option<RunHeader>, line: RecorderLine) -> Result<Recorder
 /// Parses a line, with its line feed if it has one. Needs nothing of the lines before it.
 pub(crate) fn parse_line(alloc: Global, line: &[u8]) -> Result<RecorderLine, TextKind>
     ensures value { Returns result (parse_bytes (without_line_feed line.now)) }
-    ensures sound { IfOk result IsSound }
+    ensures sound { IfOk result IsSoundLine }
 {
     parse_bytes(alloc, without_line_feed(line))
 }
@@ -214,7 +214,7 @@ pub(crate) fn next_line(
     line: &[u8],
 ) -> Result<RecorderLine, TextKind>
     ensures value { Returns result (next_line limits.entries first end line.now) }
-    ensures sound { IfOk result IsSound }
+    ensures sound { IfOk result IsSoundLine }
     ensures within { OnOk result (end ≤ max_bytes) }
 {
     if end > max_input_len(limits) {
@@ -229,11 +229,11 @@ pub(crate) fn next_parsed_line(
     limits: Limits,
     first: Option<RunHeader>,
     end: usize,
-    line: ChunkLine<'_>,
+    line: RecorderChunkLine<'_>,
 ) -> Result<RecorderLine, TextKind>
     requires { IsParsedLine line }
     ensures value { Returns result (next_line limits.entries first end line.entry.bytes.now) }
-    ensures sound { IfOk result IsSound }
+    ensures sound { IfOk result IsSoundLine }
     ensures within { OnOk result (end ≤ max_bytes) }
 {
     if end > max_input_len(limits) {

@@ -58,12 +58,12 @@ pub fn read_place(alloc: Global, position: u32, line: &[u8]) -> Result<Vec<u8>, 
         return Err(TextKind::Form);
     }
     let value = parse_json(alloc, line)?;
-    place_of(alloc, position, &value)
+    entry_place_fields(alloc, position, &value)
 }
 
-#[tactic(auto, unfolding(crate::specs::Maps::place_of))]
-fn place_of(alloc: Global, position: u32, value: &Value) -> Result<Vec<u8>, TextKind>
-    ensures { ReturnsBy (λ text. text.items) result (maps.place_of position (view value.now)) }
+#[tactic(auto, unfolding(crate::specs::Maps::entry_place_fields))]
+fn entry_place_fields(alloc: Global, position: u32, value: &Value) -> Result<Vec<u8>, TextKind>
+    ensures { ReturnsBy (λ text. text.items) result (maps.entry_place_fields position (view value.now)) }
 {
     if array_len(value) != 4 {
         return Err(TextKind::Form);

@@ -1,7 +1,7 @@
 //! The map of a merged trace: the file, the line and the clock from which each of its entries comes.
 ghost use Rattle.std.specs.Prelude.{◌≡◌, ◌++◌, IfOk, OnOk};
 ghost use Rattle.std.specs.String.{string_bytes};
-ghost use Rattle.causal_merge.specs.InputFiles.{AreInOrder};
+ghost use Rattle.causal_merge.specs.InputFiles.{AreFilesInOrder};
 ghost use Rattle.causal_merge.specs.Maps as maps;
 
 use crate::input_files::{InputFile, file_index};
@@ -20,7 +20,7 @@ const STANDARD_INPUT: &str = "\"-\"";
 /// # Errors
 /// `NoMemory` if an allocation failed.
 pub fn map_text(alloc: Global, input: &[InputFile], origins: &[Origin]) -> Result<Vec<u8>, NoMemory>
-    ensures { IfOk result (λ text. AreInOrder input.now
+    ensures { IfOk result (λ text. AreFilesInOrder input.now
         → text.items ≡ maps.map_text input.now origins.now) }
 {
     let mut text = Vec::new(alloc);
@@ -38,7 +38,7 @@ fn entry_line(
     position: usize,
     origin: Origin,
 ) -> Result<String, NoMemory>
-    ensures { IfOk result (λ text. AreInOrder input.now
+    ensures { IfOk result (λ text. AreFilesInOrder input.now
         → string_bytes text ≡ maps.entry_line input.now position origin) }
 {
     let line = u64::from(origin.line);

@@ -3,7 +3,7 @@ ghost use Rattle.std.specs.Prelude.{◌≡◌, ◌≢◌, ◌≤◌, ℕ, List, 
 ghost use Rattle.causal_trace.specs.Limits.{IsProcessCount};
 ghost use Rattle.causal_merge.specs.Merges.{Merges, MergesFrom, MergesWithin, IsFirstFault, IsFirstFaultWithin};
 ghost use Rattle.causal_merge.specs.Origins.{origin_of};
-ghost use Rattle.causal_merge.specs.ParsedFiles.{IsParsed, HasRead};
+ghost use Rattle.causal_merge.specs.ParsedFiles.{AreParsedFiles, HasParsedLines};
 ghost use Rattle.causal_merge.specs.Reading.{max_bytes};
 ghost use Rattle.causal_line.specs.Lines.{lines};
 ghost use Rattle.causal_merge.specs.declared.event.RecorderLine.{RecorderLine};
@@ -97,12 +97,12 @@ pub(crate) struct OrderedRun {
 /// Sorts the events of recorder files, of which no header is missing.
 pub(crate) fn order_run(gathered: ParsedFiles) -> Result<OrderedRun, MergeFault>
     requires few { gathered.count ≤ max_bytes }
-    requires said { (said : List RecorderLine) × IsParsed gathered said }
+    requires said { (said : List RecorderLine) × AreParsedFiles gathered said }
     ensures ok { IfOk result (λ ordered. (most : ℕ) (text : List ℕ)
-        → HasRead most gathered (reverse (lines text)) → IsOrderedRun most text ordered) }
+        → HasParsedLines most gathered (reverse (lines text)) → IsOrderedRun most text ordered) }
     ensures few { IfOk result (λ ordered. IsProcessCount ordered.run.processes) }
     ensures err { IfErr result (λ fault. (most : ℕ) (text : List ℕ)
-        → HasRead most gathered (reverse (lines text)) → IsFirstFaultWithin most text fault) }
+        → HasParsedLines most gathered (reverse (lines text)) → IsFirstFaultWithin most text fault) }
 {
     let run = gathered.whole_run()?;
     let ParsedFiles {

@@ -10,7 +10,7 @@ ghost use Rattle.causal_merge.specs.declared.event.EventAtLine.{EventAtLine};
 ghost use Rattle.causal_merge.specs.EventMerge.{has_processes, send_position, entry_of, event_fault_before_push, event_fault, event_detail, merge_events_of};
 ghost use Rattle.causal_merge.specs.FaultDetails.{name_of, detail_of};
 ghost use Rattle.causal_merge.specs.Inside.Sends.{IsSendsOf};
-ghost use Rattle.causal_merge.specs.Inside.Merger.{HasMerged, IsFaultOf, newest, is_newest};
+ghost use Rattle.causal_merge.specs.Inside.Merger.{HasMerged, IsFaultOfEvents, newest, is_newest};
 
 use crate::event::{Action, EventAtLine, RecordedEvent};
 use crate::fault::{MergeFault, MergeKind};
@@ -251,7 +251,7 @@ impl Merger {
             → HasMerged limits.entries self.new (placed ∷ before)) }
         ensures err { IfErr result (λ fault. (before : List EventAtLine)
             → HasMerged limits.entries self.old before
-            → IsFaultOf limits.entries self.old.trace.recording.processes fault (placed ∷ before)) }
+            → IsFaultOfEvents limits.entries self.old.trace.recording.processes fault (placed ∷ before)) }
         ensures processes { OnOk result
             (self.new.trace.recording.processes ≡ self.old.trace.recording.processes) }
     {
@@ -283,7 +283,7 @@ pub(crate) fn merge_events(
         ≡ Ok trace.recording.past) }
     ensures processes { IfOk result (λ trace. trace.recording.processes ≡ processes) }
     ensures err { IfErr result
-        (λ fault. IsFaultOf limits.entries processes fault (reverse events.items)) }
+        (λ fault. IsFaultOfEvents limits.entries processes fault (reverse events.items)) }
 {
     let mut merger = match Merger::new(alloc, processes) {
         Ok(merger) => merger,

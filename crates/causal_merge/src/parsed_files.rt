@@ -7,7 +7,7 @@ ghost use Rattle.causal_trace.specs.Limits.{IsProcessCount};
 ghost use Rattle.causal_merge.specs.declared.event.RecorderLine.{RecorderLine};
 ghost use Rattle.causal_merge.specs.ReadLines.{HasAllHeaders, LacksHeader, header_fault};
 ghost use Rattle.causal_merge.specs.Reading.{max_bytes};
-ghost use Rattle.causal_merge.specs.ParsedFiles.{IsParsed, HasRead, IsSound};
+ghost use Rattle.causal_merge.specs.ParsedFiles.{AreParsedFiles, HasParsedLines, IsSoundLine};
 
 use crate::event::{EventAtLine, RecorderLine, RunHeader};
 use crate::fault::{MergeFault, MergeKind};
@@ -55,7 +55,7 @@ pub(crate) struct ParsedFiles {
 impl ParsedFiles {
     /// Starts before the first line.
     pub(crate) fn new(alloc: Global) -> ParsedFiles
-        ensures read { (most : ℕ) → HasRead most result [] }
+        ensures read { (most : ℕ) → HasParsedLines most result [] }
         ensures count { result.count ≡ 0 }
     {
         ParsedFiles {
@@ -70,10 +70,10 @@ impl ParsedFiles {
     /// Adds the content of one more line.
     pub(crate) fn note(&mut self, line: RecorderLine) -> Result<(), TextKind>
         requires few { self.old.count ≤ max_bytes }
-        requires sound { IsSound line }
+        requires sound { IsSoundLine line }
         ensures ok { OnOk result
-            ((said : List RecorderLine) → IsParsed self.old said →
-            IsParsed self.new (line ∷ said)) }
+            ((said : List RecorderLine) → AreParsedFiles self.old said →
+            AreParsedFiles self.new (line ∷ said)) }
         ensures err { IfErr result (λ kind. kind ≡ TextKind.NoMemory) }
         ensures count { OnOk result (self.new.count ≡ self.old.count + 1) }
     {
@@ -98,13 +98,13 @@ impl ParsedFiles {
     /// Returns the run, if each of its processes has a header; else the error `NoHeader`.
     pub(crate) fn whole_run(&self) -> Result<RunHeader, MergeFault>
         requires few { self.now.count ≤ max_bytes }
-        requires said { (said : List RecorderLine) × IsParsed self.now said }
+        requires said { (said : List RecorderLine) × AreParsedFiles self.now said }
         ensures ok { IfOk result
-            (λ run. (said : List RecorderLine) → IsParsed self.now said → HasAllHeaders said run) }
+            (λ run. (said : List RecorderLine) → AreParsedFiles self.now said → HasAllHeaders said run) }
         ensures few { IfOk result
-            (λ run. (said : List RecorderLine) → IsParsed self.now said →
+            (λ run. (said : List RecorderLine) → AreParsedFiles self.now said →
             IsProcessCount run.processes) }
-        ensures err { IfErr result (λ fault. (said : List RecorderLine) → IsParsed self.now said
+        ensures err { IfErr result (λ fault. (said : List RecorderLine) → AreParsedFiles self.now said
             → (missing : FinSet nat_cmp) × LacksHeader said missing
             × (fault ≡ header_fault (length said + 1) missing)) }
     {

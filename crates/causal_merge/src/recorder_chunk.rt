@@ -12,7 +12,7 @@ use std::marker::Model;
 
 /// A line, with its line feed if it has one, and its content or its error.
 #[derive(Drop)]
-pub(crate) struct ChunkLine<'a> {
+pub(crate) struct RecorderChunkLine<'a> {
     pub bytes: &'a [u8],
     pub content: Result<RecorderLine, TextKind>,
 }
@@ -21,7 +21,7 @@ pub(crate) struct ChunkLine<'a> {
 /// chunk.
 #[derive(Drop)]
 pub struct RecorderChunk<'a> {
-    pub(crate) parsed: Vec<ChunkLine<'a>>,
+    pub(crate) parsed: Vec<RecorderChunkLine<'a>>,
     pub(crate) rest: &'a [u8],
 }
 
@@ -55,7 +55,7 @@ pub fn parse_recordings(alloc: Global, bytes: &[u8]) -> Result<RecorderChunk<'_>
     while let Some((line, after)) = split_line(rest) {
         let content = parse_line(alloc, line);
         let goes_on = content.is_ok() && parsed.len() < bytes.len() / SHORTEST;
-        parsed.push(ChunkLine {
+        parsed.push(RecorderChunkLine {
             bytes: line,
             content,
         })?;

@@ -3,7 +3,7 @@ ghost use Rattle.std.specs.Prelude.{◌≡◌, ◌≢◌, ◌+◌, ◌<◌, ◌�
 ghost use Rattle.causal_line.specs.Lines.{lines};
 ghost use Rattle.causal_line.specs.Returns.{Returns};
 ghost use Rattle.causal_merge.specs.Merges.{MergesFrom, MergesWithin, IsFirstFaultWithin};
-ghost use Rattle.causal_merge.specs.ParsedFiles.{IsSound};
+ghost use Rattle.causal_merge.specs.ParsedFiles.{IsSoundLine};
 ghost use Rattle.causal_merge.specs.Reading.{max_bytes, next_line, line_fault};
 ghost use Rattle.causal_merge.specs.RecordingReaders.{HasReadLines, IsReadBy};
 ghost use Rattle.causal_merge.specs.Inside.RecorderChunks.{IsParsedLine};
@@ -13,7 +13,7 @@ use crate::fault::{MergeFault, MergeKind};
 use crate::line_parser::{next_line, next_parsed_line};
 use crate::merge::{MappedTrace, MergedTrace, map_run, merge_run, order_run};
 use crate::parsed_files::ParsedFiles;
-use crate::recorder_chunk::{ChunkLine, RecorderChunk};
+use crate::recorder_chunk::{RecorderChunk, RecorderChunkLine};
 use causal_line::kind::TextKind;
 use causal_line::lines::split_line;
 use causal_trace::limits::Limits;
@@ -32,7 +32,7 @@ pub struct RecordingReader {
 impl Model for RecordingReader {
     ghost use Rattle.std.specs.Prelude.{List, ◌≤◌};
     ghost use Rattle.causal_merge.specs.declared.event.RecorderLine.{RecorderLine};
-    ghost use Rattle.causal_merge.specs.ParsedFiles.{IsParsed};
+    ghost use Rattle.causal_merge.specs.ParsedFiles.{AreParsedFiles};
     ghost use Rattle.causal_merge.specs.Reading.{max_bytes};
     ghost use Rattle.causal_merge.specs.RecordingReaders.{RecordingReaderState};
 
@@ -40,7 +40,7 @@ impl Model for RecordingReader {
 
     ghost view = { λ r. record { most = r.limits.entries; files = r.files; size = r.size } };
 
-    ghost invariant = { λ r. (said : List RecorderLine) × IsParsed r.files said × (r.files.count ≤ r.size) × (r.size ≤ max_bytes) };
+    ghost invariant = { λ r. (said : List RecorderLine) × AreParsedFiles r.files said × (r.files.count ≤ r.size) × (r.size ≤ max_bytes) };
 }
 
 impl RecordingReader {
@@ -65,7 +65,7 @@ impl RecordingReader {
         requires some { 0 < length line.now }
         requires value { Returns content
             (next_line self.most self.files.run (self.size + length line.now) line.now) }
-        requires sound { IfOk content IsSound }
+        requires sound { IfOk content IsSoundLine }
         requires within { OnOk content (self.size + length line.now ≤ max_bytes) }
         ensures { IsReadBy self (line.now ∷ []) result }
     {
@@ -102,7 +102,7 @@ impl RecordingReader {
     }
 
     // reads the next line, which was parsed before its turn
-    fn push_parsed_line(self, line: ChunkLine<'_>) -> Result<RecordingReader, MergeFault>
+    fn push_parsed_line(self, line: RecorderChunkLine<'_>) -> Result<RecordingReader, MergeFault>
         requires { IsParsedLine line }
         ensures { IsReadBy self (line.entry.bytes.now ∷ []) result }
     {

@@ -1,7 +1,7 @@
 //! Blank and torn lines, which have no content.
 ghost use Rattle.std.specs.Prelude.{◌≡◌, length};
 ghost use Rattle.std.specs.List.{list_all};
-ghost use Rattle.causal_merge.specs.TornLines.{is_blank_byte, is_blank, is_torn_byte, begins_torn, count_of, has_few_quotes, closes_within, is_torn};
+ghost use Rattle.causal_merge.specs.TornLines.{is_blank_byte, is_blank, is_torn_byte, begins_torn, byte_count, has_few_quotes, closes_within, is_torn};
 
 fn is_blank_byte(byte: u8) -> bool
     ensures { result ≡ is_blank_byte byte }
@@ -36,8 +36,8 @@ fn begins_torn(bytes: &[u8]) -> bool
     !bytes.is_empty() && bytes[0] == b'[' && (bytes.len() == 1 || bytes[1] == b'"')
 }
 
-fn count_of(byte: u8, bytes: &[u8]) -> usize
-    ensures { result ≡ count_of byte bytes.now }
+fn byte_count(byte: u8, bytes: &[u8]) -> usize
+    ensures { result ≡ byte_count byte bytes.now }
 {
     let mut count = 0;
     for other in bytes {
@@ -58,7 +58,7 @@ fn are_torn_bytes(bytes: &[u8]) -> bool
 fn has_few_quotes(bytes: &[u8]) -> bool
     ensures { result ≡ has_few_quotes bytes.now }
 {
-    count_of(b'"', bytes) <= 2
+    byte_count(b'"', bytes) <= 2
 }
 
 // whether no bracket is open after one of the bytes

@@ -33,8 +33,8 @@ learn_fault n lane from =
     None))
 
 -- the first refusal that applies to sending an acknowledgement to a process
-abbrev pub acknowledge_fault : NodeState → Pid → Option NodeFault
-acknowledge_fault n to = unless_up n.recovery (or_else (not (nat_lt to.0 n.identity.processes)) Faults.NoProcess None)
+abbrev pub node_acknowledge_fault : NodeState → Pid → Option NodeFault
+node_acknowledge_fault n to = unless_up n.recovery (or_else (not (nat_lt to.0 n.identity.processes)) Faults.NoProcess None)
 
 -- the node after an acknowledgement with these items, whose holders include its sender
 abbrev pub after_acknowledgement : NodeState → List Item → NodeState

@@ -3,8 +3,8 @@ use Rattle.std.specs.Prelude.{◌==◌, ℕ, Bool, true, false, not, ◌&&◌, �
 use Rattle.std.specs.List.{zip}
 use Rattle.causal_name.specs.declared.Pid.{Pid}
 use Rattle.causal_name.specs.Names.{same_pid}
-use Rattle.causal_node.specs.declared.node_answer.Reply.{Reply}
-use Rattle.causal_node.specs.declared.node_answer.Reply.TheVariants as Replies
+use Rattle.causal_node.specs.declared.node_answer.RoundReply.{RoundReply}
+use Rattle.causal_node.specs.declared.node_answer.RoundReply.TheVariants as Replies
 use Rattle.causal_node.specs.declared.node_fault.NodeFault.{NodeFault}
 use Rattle.causal_node.specs.declared.node_fault.NodeFault.TheVariants as Faults
 use Rattle.causal_node.specs.NodeStates.{NodeState, Recovery, floor_of}
@@ -38,18 +38,18 @@ raised floors view = map (λ p. max p.0 p.1) (zip floors view)
 abbrev pub with_floors : NodeState → List ℕ → NodeState
 with_floors n floors = record n { floors = floors }
 
-abbrev pub reply_at : Recovery → Reply
+abbrev pub reply_at : Recovery → RoundReply
 reply_at None = Replies.Log
 reply_at (Some r) = Replies.NotUp
 
 -- the reply to a question with this view
-abbrev pub reply_of : NodeState → List ℕ → Reply
-reply_of n view = if knows_number n view then reply_at n.recovery else Replies.OwnNumber
+abbrev pub round_reply : NodeState → List ℕ → RoundReply
+round_reply n view = if knows_number n view then reply_at n.recovery else Replies.OwnNumber
 
 abbrev pub after_answer_at : NodeState → List ℕ → Recovery → NodeState
 after_answer_at n view None = with_floors n (raised n.floors view)
 after_answer_at n view (Some r) = with_recovery n (Some None)
 
 -- the node after that reply
-abbrev pub after_answer : NodeState → List ℕ → NodeState
-after_answer n view = if knows_number n view then after_answer_at n view n.recovery else n
+abbrev pub node_after_answer : NodeState → List ℕ → NodeState
+node_after_answer n view = if knows_number n view then after_answer_at n view n.recovery else n

@@ -12,8 +12,8 @@ abbrev pub next_slot : NodeState → Slot
 next_slot n = record { dest = n.identity.me; rsn = length n.memory.received }
 
 -- the first refusal that applies to a forgetting, and the node after it
-abbrev pub forget_fault : NodeState → Option NodeFault
-forget_fault n = unless_up n.recovery None
+abbrev pub node_forget_fault : NodeState → Option NodeFault
+node_forget_fault n = unless_up n.recovery None
 
-abbrev pub after_forget : NodeState → NodeState
-after_forget n = with_memory n (with_log (log_after_forget (next_slot n)) n.memory) n.bodies
+abbrev pub node_after_forget : NodeState → NodeState
+node_after_forget n = with_memory n (with_log (log_after_forget (next_slot n)) n.memory) n.bodies

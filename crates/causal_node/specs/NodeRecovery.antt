@@ -39,10 +39,10 @@ abbrev pub with_stored_in : NodeState → RoundState → Det → NodeState
 with_stored_in n r det = with_recovery n (Some (Some (record r { log = after_learn r.log det (stable_and_held_by n.identity.me) })))
 
 -- the node after stable storage has confirmed a determinant, or has been read
-abbrev pub after_stored : NodeState → Det → Recovery → NodeState
-after_stored n det None = with_memory n (with_stable det n.memory) n.bodies
-after_stored n det (Some None) = n
-after_stored n det (Some (Some r)) = with_stored_in n r det
+abbrev pub node_after_stored : NodeState → Det → Recovery → NodeState
+node_after_stored n det None = with_memory n (with_stable det n.memory) n.bodies
+node_after_stored n det (Some None) = n
+node_after_stored n det (Some (Some r)) = with_stored_in n r det
 
 -- the log with which a process restarts: what its round has gathered, and that it holds all of it
 abbrev pub restart_log_of : Pid → LogMap → LogMap
@@ -53,8 +53,8 @@ abbrev pub is_named_for : Pid → List Det → MsgName → Bool
 is_named_for me dets m = list_any (λ d. same_pid d.dest me && is_at (message_cmp (message_of d)) m) dets
 
 -- the node after its restart with the log that a round has gathered, and these reserved names
-abbrev pub after_restart : NodeState → LogMap → List MsgName → NodeState
-after_restart n log reserved = record {
+abbrev pub node_after_restart : NodeState → LogMap → List MsgName → NodeState
+node_after_restart n log reserved = record {
   identity = n.identity;
   lane = n.lane;
   floors = n.floors;
@@ -66,8 +66,8 @@ after_restart n log reserved = record {
 }
 
 -- the first refusal that applies to opening a node
-abbrev pub open_fault : Identity → Option NodeFault
-open_fault who = or_else (nat_lt max_processes who.processes || nat_le who.processes who.me.0) Faults.NoProcess None
+abbrev pub node_open_fault : Identity → Option NodeFault
+node_open_fault who = or_else (nat_lt max_processes who.processes || nat_le who.processes who.me.0) Faults.NoProcess None
 
 -- a node that is opened in this lane
 abbrev pub opened : Identity → ℕ → NodeState
@@ -88,16 +88,16 @@ begin_fault None = Some Faults.Up
 begin_fault (Some r) = None
 
 -- the first refusal that applies to a determinant that storage has
-abbrev pub stored_fault : Recovery → Option NodeFault
-stored_fault None = None
-stored_fault (Some None) = Some Faults.NoRound
-stored_fault (Some (Some r)) = or_else (nat_lt 0 (set.len r.awaited)) Faults.Waiting None
+abbrev pub node_stored_fault : Recovery → Option NodeFault
+node_stored_fault None = None
+node_stored_fault (Some None) = Some Faults.NoRound
+node_stored_fault (Some (Some r)) = or_else (nat_lt 0 (set.len r.awaited)) Faults.Waiting None
 
 -- the first refusal that applies to a restart
-abbrev pub restart_fault : Recovery → Option NodeFault
-restart_fault None = Some Faults.Up
-restart_fault (Some None) = Some Faults.NoRound
-restart_fault (Some (Some r)) = or_else (nat_lt 0 (set.len r.awaited) || not r.read) Faults.Waiting None
+abbrev pub node_restart_fault : Recovery → Option NodeFault
+node_restart_fault None = Some Faults.Up
+node_restart_fault (Some None) = Some Faults.NoRound
+node_restart_fault (Some (Some r)) = or_else (nat_lt 0 (set.len r.awaited) || not r.read) Faults.Waiting None
 
 -- the first refusal that applies to the question to stable storage
 abbrev pub ask_fault : Recovery → Option NodeFault
@@ -126,8 +126,8 @@ abbrev pub without_awaited : RoundState → ℕ → RoundState
 without_awaited r q = record { name = r.name; awaited = set.remove r.awaited q; log = r.log; read = r.read }
 
 -- the round once stable storage has been read
-abbrev pub after_read : RoundState → RoundState
-after_read r = record { name = r.name; awaited = r.awaited; log = r.log; read = true }
+abbrev pub node_after_read : RoundState → RoundState
+node_after_read r = record { name = r.name; awaited = r.awaited; log = r.log; read = true }
 
 -- the stage with a changed round, if there is one
 abbrev pub map_round : (RoundState → RoundState) → Recovery → Recovery
@@ -139,7 +139,7 @@ map_round change (Some (Some r)) = Some (Some (change r))
 abbrev pub after_restart_at : NodeState → Recovery → List MsgName → NodeState
 after_restart_at n None reserved = n
 after_restart_at n (Some None) reserved = n
-after_restart_at n (Some (Some r)) reserved = after_restart n r.log reserved
+after_restart_at n (Some (Some r)) reserved = node_after_restart n r.log reserved
 
 -- the floors once a process has told its number
 abbrev pub raised_at : List ℕ → Pid → ℕ → List ℕ

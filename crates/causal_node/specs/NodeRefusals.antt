@@ -41,8 +41,8 @@ deliver_fault n lane name items =
     None))))))
 
 -- the first refusal that applies to a send
-abbrev pub send_fault : NodeState → Pid → Option NodeFault
-send_fault n to =
+abbrev pub node_send_fault : NodeState → Pid → Option NodeFault
+node_send_fault n to =
     unless_up n.recovery
     (or_else (not (nat_lt to.0 n.identity.processes)) Faults.NoProcess
     (or_else (nat_le max_entries (length n.memory.sent)) Faults.Full

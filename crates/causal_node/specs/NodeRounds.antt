@@ -25,5 +25,5 @@ unless_gathering (Some None) rest = Some Faults.NoRound
 unless_gathering (Some (Some r)) rest = rest
 
 -- the first refusal that applies to a question to a process
-abbrev pub question_fault : NodeState → Pid → Option NodeFault
-question_fault n to = unless_gathering n.recovery (or_else (nat_le n.identity.processes to.0 || same_pid to n.identity.me) Faults.NoProcess None)
+abbrev pub node_question_fault : NodeState → Pid → Option NodeFault
+node_question_fault n to = unless_gathering n.recovery (or_else (nat_le n.identity.processes to.0 || same_pid to n.identity.me) Faults.NoProcess None)

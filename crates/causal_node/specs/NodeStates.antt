@@ -23,8 +23,8 @@ use Rattle.causal_trace.specs.Limits.{max_processes}
 use Rattle.causal_node.specs.MessageNames.{coded_name}
 use Rattle.causal_node.specs.declared.node.Identity.{Identity}
 use Rattle.causal_node.specs.declared.node.Round.{Round}
-use Rattle.causal_node.specs.declared.node.Stage.{Stage}
-use Rattle.causal_node.specs.declared.node.Stage.TheVariants as Stages
+use Rattle.causal_node.specs.declared.node.NodeStage.{NodeStage}
+use Rattle.causal_node.specs.declared.node.NodeStage.TheVariants as Stages
 
 -- a round of a recovery: its name, the processes that have still to reply, the log gathered so far, and whether stable
 -- storage has been read
@@ -54,7 +54,7 @@ pub record NodeState : Type 0 where
 abbrev pub round_of : Round → RoundState
 round_of r = record { name = r.name; awaited = r.awaited; log = r.log.map; read = r.read }
 
-abbrev pub recovery_of : Stage → Recovery
+abbrev pub recovery_of : NodeStage → Recovery
 recovery_of Stages.Up = None
 recovery_of Stages.Down = Some None
 recovery_of (Stages.Gathering r) = Some (Some (round_of r))

@@ -13,8 +13,8 @@ use Rattle.causal_node.specs.declared.node_delivery.Delivery.{Delivery}
 use Rattle.causal_node.specs.NodeStates.{NodeState, with_memory}
 
 -- the node after the delivery of a message with this name and piggyback
-abbrev pub after_delivery : NodeState → MsgName → List Item → NodeState
-after_delivery n name items = record {
+abbrev pub node_after_delivery : NodeState → MsgName → List Item → NodeState
+node_after_delivery n name items = record {
   identity = n.identity;
   lane = n.lane;
   floors = n.floors;
@@ -31,5 +31,5 @@ pub record IsDelivery (n : NodeState) (name : MsgName) (items : List Item) (d : 
   pub listed : d.listed ≡ with_own d.det (dets_of items)
 
 -- the node after it has sent a message: it keeps the message with what the log chooses for f
-abbrev pub after_send : NodeState → Pid → List ℕ → NodeState
-after_send n to body = with_memory n (with_sent n.identity.faults to (length n.memory.sent) n.memory) (n.bodies ++ body ∷ [])
+abbrev pub node_after_send : NodeState → Pid → List ℕ → NodeState
+node_after_send n to body = with_memory n (with_sent n.identity.faults to (length n.memory.sent) n.memory) (n.bodies ++ body ∷ [])

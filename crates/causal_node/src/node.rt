@@ -44,7 +44,7 @@ pub struct Round {
 
 /// Whether a process is up.
 #[derive(Drop)]
-pub enum Stage {
+pub enum NodeStage {
     Up,
     /// It is not up, and has no round.
     Down,
@@ -71,7 +71,7 @@ pub struct Node {
     pub(crate) received: ReceivedNames,
     /// The names of the messages that the log of the restart has for this process.
     pub(crate) reserved: BTreeSet<MsgName, Global>,
-    pub(crate) stage: Stage,
+    pub(crate) stage: NodeStage,
 }
 
 impl Model for Node {

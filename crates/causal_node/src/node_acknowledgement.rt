@@ -1,9 +1,9 @@
 //! A node sends an acknowledgement, and learns holders from one.
 ghost use Rattle.std.specs.Prelude.{◌≡◌, IfOk, IfErr, OnOk, OnErr, None, map};
-ghost use Rattle.causal_node.specs.NodeAcknowledgements.{known_by_item, logged_items, acknowledge_fault, learn_fault, after_acknowledgement};
+ghost use Rattle.causal_node.specs.NodeAcknowledgements.{known_by_item, logged_items, node_acknowledge_fault, learn_fault, after_acknowledgement};
 ghost use Rattle.causal_node.specs.NodeRefusals.{node_reason_of};
 
-use crate::node::{Node, Stage};
+use crate::node::{Node, NodeStage};
 use crate::node_fault::NodeFault;
 use causal_log::{Batch, Item, Known, Log};
 use causal_name::{Det, NoMemory, Pid};
@@ -28,9 +28,9 @@ fn news_of(alloc: Global, log: &Log, items: &[Item]) -> Result<Vec<(Det, Known)>
 impl Node {
     /// Returns the first refusal that applies to sending an acknowledgement, if there is one: `NotUp` or `NoProcess`.
     pub fn acknowledge_fault(&self, to: Pid) -> Option<NodeFault>
-        ensures { result ≡ acknowledge_fault self.now to }
+        ensures { result ≡ node_acknowledge_fault self.now to }
     {
-        if !matches!(self.stage, Stage::Up) {
+        if !matches!(self.stage, NodeStage::Up) {
             return Some(NodeFault::NotUp);
         }
         if u16::from(to.0) >= self.identity.processes {
@@ -43,7 +43,7 @@ impl Node {
     pub fn learn_fault(&self, lane: u32, from: Pid) -> Option<NodeFault>
         ensures { result ≡ learn_fault self.now lane from }
     {
-        if !matches!(self.stage, Stage::Up) {
+        if !matches!(self.stage, NodeStage::Up) {
             return Some(NodeFault::NotUp);
         }
         if u16::from(from.0) >= self.identity.processes {

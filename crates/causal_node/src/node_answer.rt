@@ -1,17 +1,17 @@
 //! A node replies to another process's round.
 ghost use Rattle.std.specs.Prelude.{◌≡◌, IfOk, IfErr, OnOk, OnErr, None};
-ghost use Rattle.causal_node.specs.NodeAnswers.{after_answer, answer_fault, raised, reply_of};
+ghost use Rattle.causal_node.specs.NodeAnswers.{node_after_answer, answer_fault, raised, round_reply};
 ghost use Rattle.causal_node.specs.NodeRefusals.{node_reason_of};
 ghost use Rattle.causal_node.specs.NodeStates.{floor_of};
 
-use crate::node::{Node, Stage};
+use crate::node::{Node, NodeStage};
 use crate::node_fault::NodeFault;
 use causal_name::{NoMemory, Pid};
 use std::alloc::Global;
 
 /// The reply to a question.
 #[derive(Clone, Copy, Debug, PartialEq, Eq)]
-pub enum Reply {
+pub enum RoundReply {
     /// The process is up: its log goes to the asker.
     Log,
     /// The view has a wrong number for the process, whose lane is the right one.
@@ -55,21 +55,21 @@ impl Node {
         }
         let right = Node::number_in(view, self.identity.me) == self.lane;
         match self.stage {
-            Stage::Gathering(_) if right && asker > self.identity.me => Some(NodeFault::NotYet),
+            NodeStage::Gathering(_) if right && asker > self.identity.me => Some(NodeFault::NotYet),
             _ => None,
         }
     }
 
     /// Returns the reply to a question with this view.
-    pub fn reply(&self, view: &[u32]) -> Reply
-        ensures { result ≡ reply_of self.now view.now }
+    pub fn reply(&self, view: &[u32]) -> RoundReply
+        ensures { result ≡ round_reply self.now view.now }
     {
         if Node::number_in(view, self.identity.me) != self.lane {
-            return Reply::OwnNumber;
+            return RoundReply::OwnNumber;
         }
         match self.stage {
-            Stage::Up => Reply::Log,
-            _ => Reply::NotUp,
+            NodeStage::Up => RoundReply::Log,
+            _ => RoundReply::NotUp,
         }
     }
 
@@ -80,9 +80,9 @@ impl Node {
     /// # Errors
     /// The first of `NoProcess`, `View`, `OldLane`, and `NotYet`: this process gathers, and goes first, since its number
     /// is less; if none applies, `NoMemory` if allocation failed. A refusal changes nothing.
-    pub fn answer(&mut self, asker: Pid, view: &[u32]) -> Result<Reply, NodeFault>
-        ensures ok { IfOk result (λ reply. reply ≡ reply_of self.old view.now) }
-        ensures after { OnOk result (self.new ≡ after_answer self.old view.now) }
+    pub fn answer(&mut self, asker: Pid, view: &[u32]) -> Result<RoundReply, NodeFault>
+        ensures ok { IfOk result (λ reply. reply ≡ round_reply self.old view.now) }
+        ensures after { OnOk result (self.new ≡ node_after_answer self.old view.now) }
         ensures legal { OnOk result (answer_fault self.old asker view.now ≡ None) }
         ensures refused { IfErr result
             (λ fault. answer_fault self.old asker view.now ≡ node_reason_of fault) }
@@ -93,9 +93,9 @@ impl Node {
         }
         let reply = self.reply(view);
         match reply {
-            Reply::OwnNumber => (),
-            Reply::NotUp => self.stage = Stage::Down,
-            Reply::Log => match raised(self.alloc, self.floors.as_slice(), view) {
+            RoundReply::OwnNumber => (),
+            RoundReply::NotUp => self.stage = NodeStage::Down,
+            RoundReply::Log => match raised(self.alloc, self.floors.as_slice(), view) {
                 Ok(floors) => self.floors = floors,
                 Err(_) => return Err(NodeFault::NoMemory),
             },

@@ -7,9 +7,9 @@ ghost use Rattle.causal_trace.specs.Past.{det_from};
 ghost use Rattle.causal_log.specs.Logs.{dets_of};
 ghost use Rattle.causal_protocol.specs.Naming.{with_own};
 ghost use Rattle.causal_node.specs.NodeRefusals.{deliver_fault, node_reason_of};
-ghost use Rattle.causal_node.specs.NodeSteps.{after_delivery, IsDelivery};
+ghost use Rattle.causal_node.specs.NodeSteps.{node_after_delivery, IsDelivery};
 
-use crate::node::{Node, Stage};
+use crate::node::{Node, NodeStage};
 use crate::node_fault::NodeFault;
 use causal_log::Batch;
 use causal_memory::delivery_list::{listed_dets, listed_len};
@@ -43,7 +43,7 @@ impl Node {
     pub fn deliver_fault(&self, lane: u32, name: MsgName, batch: &Batch) -> Option<NodeFault>
         ensures { result ≡ deliver_fault self.now lane name batch.now }
     {
-        if !matches!(self.stage, Stage::Up) {
+        if !matches!(self.stage, NodeStage::Up) {
             return Some(NodeFault::NotUp);
         }
         if u16::from(name.source.0) >= self.identity.processes {
@@ -91,7 +91,7 @@ impl Node {
         piggyback: &Arc<Batch>,
     ) -> Result<Delivery, NodeFault>
         ensures ok { OnOk result
-            (self.new ≡ after_delivery self.old name (arc_value piggyback.now)) }
+            (self.new ≡ node_after_delivery self.old name (arc_value piggyback.now)) }
         ensures listed { IfOk result (IsDelivery self.old name (arc_value piggyback.now)) }
         ensures legal { OnOk result
             (deliver_fault self.old lane name (arc_value piggyback.now) ≡ None) }

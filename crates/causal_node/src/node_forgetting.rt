@@ -1,10 +1,10 @@
 //! A node forgets what is known to be stable.
 ghost use Rattle.std.specs.Prelude.{◌≡◌, IfOk, IfErr, OnOk, OnErr, None, length};
 ghost use Rattle.causal_log.specs.Logs.{forgotten_in};
-ghost use Rattle.causal_node.specs.NodeForgetting.{next_slot, forget_fault, after_forget};
+ghost use Rattle.causal_node.specs.NodeForgetting.{next_slot, node_forget_fault, node_after_forget};
 ghost use Rattle.causal_node.specs.NodeRefusals.{node_reason_of};
 
-use crate::node::{Node, Stage};
+use crate::node::{Node, NodeStage};
 use crate::node_fault::NodeFault;
 use causal_name::{Det, Slot};
 
@@ -21,10 +21,10 @@ impl Node {
 
     /// Returns the first refusal that applies to a forgetting, if there is one.
     pub fn forget_fault(&self) -> Option<NodeFault>
-        ensures { result ≡ forget_fault self.now }
+        ensures { result ≡ node_forget_fault self.now }
     {
         match self.stage {
-            Stage::Up => None,
+            NodeStage::Up => None,
             _ => Some(NodeFault::NotUp),
         }
     }
@@ -35,11 +35,11 @@ impl Node {
     /// # Errors
     /// `NotUp`; otherwise `NoMemory` if allocation failed. A refusal changes nothing.
     pub fn forget(&mut self) -> Result<Vec<Det>, NodeFault>
-        ensures ok { OnOk result (self.new ≡ after_forget self.old) }
+        ensures ok { OnOk result (self.new ≡ node_after_forget self.old) }
         ensures listed { IfOk result (λ dets.
             dets.items ≡ forgotten_in (next_slot self.old) self.old.memory.log) }
-        ensures legal { OnOk result (forget_fault self.old ≡ None) }
-        ensures refused { IfErr result (λ fault. forget_fault self.old ≡ node_reason_of fault) }
+        ensures legal { OnOk result (node_forget_fault self.old ≡ None) }
+        ensures refused { IfErr result (λ fault. node_forget_fault self.old ≡ node_reason_of fault) }
         ensures unchanged { OnErr result (self.new ≡ self.old) }
     {
         if let Some(fault) = self.forget_fault() {

@@ -1,10 +1,10 @@
 //! A node begins.
 ghost use Rattle.std.specs.Prelude.{◌≡◌, ◌<◌, ◌≤◌, IfOk, IfErr, OnOk, None};
 ghost use Rattle.causal_trace.specs.Limits.{max_processes};
-ghost use Rattle.causal_node.specs.NodeRecovery.{open_fault, opened, processes_below};
+ghost use Rattle.causal_node.specs.NodeRecovery.{node_open_fault, opened, processes_below};
 ghost use Rattle.causal_node.specs.NodeRefusals.{node_reason_of};
 
-use crate::node::{Identity, Node, Stage};
+use crate::node::{Identity, Node, NodeStage};
 use crate::node_fault::NodeFault;
 use crate::received_names::ReceivedNames;
 use causal_holders::Holders;
@@ -37,8 +37,8 @@ impl Node {
     /// failed.
     pub fn open(alloc: Global, identity: Identity, lane: u32, seed: u64) -> Result<Node, NodeFault>
         ensures ok { IfOk result (λ node. node ≡ opened identity lane) }
-        ensures legal { OnOk result (open_fault identity ≡ None) }
-        ensures refused { IfErr result (λ fault. open_fault identity ≡ node_reason_of fault) }
+        ensures legal { OnOk result (node_open_fault identity ≡ None) }
+        ensures refused { IfErr result (λ fault. node_open_fault identity ≡ node_reason_of fault) }
     {
         if identity.processes > 256 || u16::from(identity.me.0) >= identity.processes {
             return Err(NodeFault::NoProcess);
@@ -72,7 +72,11 @@ impl Node {
             next_batch: None,
             received: ReceivedNames::new(alloc),
             reserved: BTreeSet::new(alloc),
-            stage: if lane == 0 { Stage::Up } else { Stage::Down },
+            stage: if lane == 0 {
+                NodeStage::Up
+            } else {
+                NodeStage::Down
+            },
         })
     }
 }

@@ -3,12 +3,12 @@ ghost use Rattle.std.specs.Prelude.{◌≡◌, IfOk, IfErr, OnOk, OnErr, None, S
 ghost use Rattle.std.specs.Option.{option_and_then, option_map};
 ghost use Rattle.std.specs.FinMap as fin;
 ghost use Rattle.causal_name.specs.declared.MsgName.{MsgName as Message};
-ghost use Rattle.causal_node.specs.NodeRecovery.{after_not_up, after_number, after_read, after_restart_at, after_stored, ask_fault, begin_fault, is_named_for, map_round, new_round, read_fault, reply_fault, restart_fault, restart_log_of, stored_fault, with_log_of, with_recovery};
+ghost use Rattle.causal_node.specs.NodeRecovery.{after_not_up, after_number, node_after_read, after_restart_at, node_after_stored, ask_fault, begin_fault, is_named_for, map_round, new_round, read_fault, reply_fault, node_restart_fault, restart_log_of, node_stored_fault, with_log_of, with_recovery};
 ghost use Rattle.causal_node.specs.NodeRefusals.{node_reason_of};
 ghost use Rattle.causal_node.specs.NodeStates.{has_name, round_of};
 ghost use Rattle.causal_memory.specs.RestartPlans.{IsRestartPlan};
 
-use crate::node::{Identity, Node, Round, Stage};
+use crate::node::{Identity, Node, NodeStage, Round};
 use crate::node_fault::NodeFault;
 use crate::node_opening::processes_below;
 use crate::received_names::ReceivedNames;
@@ -71,12 +71,12 @@ impl Node {
             ≡ node_reason_of fault) }
         ensures unchanged { OnErr result (self.new ≡ self.old) }
     {
-        if matches!(self.stage, Stage::Up) {
+        if matches!(self.stage, NodeStage::Up) {
             return Err(NodeFault::Up);
         }
         let mut awaited = processes_below(self.identity.processes);
         awaited.remove(self.identity.me.0);
-        self.stage = Stage::Gathering(Round {
+        self.stage = NodeStage::Gathering(Round {
             name,
             awaited,
             log: Log::with_seed(self.alloc, self.seed),
@@ -90,8 +90,9 @@ impl Node {
         ensures { result ≡ reply_fault self.now.recovery name q }
     {
         match &self.stage {
-            Stage::Up => Some(NodeFault::Up),
-            Stage::Gathering(round) if round.name == name && round.awaited.contains(q.0) => None,
+            NodeStage::Up => Some(NodeFault::Up),
+            NodeStage::Gathering(round) if round.name == name && round.awaited.contains(q.0) =>
+                None,
             _ => Some(NodeFault::Unasked),
         }
     }
@@ -112,7 +113,7 @@ impl Node {
             return Err(fault);
         }
         match &mut self.stage {
-            Stage::Gathering(round) => match round.take_log(q, log) {
+            NodeStage::Gathering(round) => match round.take_log(q, log) {
                 Ok(()) => Ok(()),
                 Err(_) => Err(NodeFault::NoMemory),
             },
@@ -128,7 +129,7 @@ impl Node {
         if place < self.floors.len() {
             self.floors[place] = number.max(self.floors[place]);
         }
-        self.stage = Stage::Down;
+        self.stage = NodeStage::Down;
     }
 
     /// Takes the number of q, which has replied to the round of this name that the view has a wrong one for it. The
@@ -170,7 +171,7 @@ impl Node {
             self.learn_number(q, number);
             return Ok(());
         }
-        if let Stage::Gathering(round) = &mut self.stage {
+        if let NodeStage::Gathering(round) = &mut self.stage {
             round.awaited.remove(q.0);
         }
         Ok(())
@@ -178,15 +179,15 @@ impl Node {
 
     /// Returns the first refusal that applies to a restart, if there is one.
     pub fn restart_fault(&self) -> Option<NodeFault>
-        ensures { result ≡ restart_fault self.now.recovery }
+        ensures { result ≡ node_restart_fault self.now.recovery }
     {
         match &self.stage {
-            Stage::Up => Some(NodeFault::Up),
-            Stage::Down => Some(NodeFault::NoRound),
-            Stage::Gathering(round) if round.awaited.len() > 0 || !round.read => {
+            NodeStage::Up => Some(NodeFault::Up),
+            NodeStage::Down => Some(NodeFault::NoRound),
+            NodeStage::Gathering(round) if round.awaited.len() > 0 || !round.read => {
                 Some(NodeFault::Waiting)
             }
-            Stage::Gathering(_) => None,
+            NodeStage::Gathering(_) => None,
         }
     }
 
@@ -202,10 +203,10 @@ impl Node {
         ensures refused { IfErr result (λ fault. ask_fault self.now.recovery ≡ Some fault) }
     {
         match &self.stage {
-            Stage::Up => Err(NodeFault::Up),
-            Stage::Down => Err(NodeFault::NoRound),
-            Stage::Gathering(round) if round.awaited.len() > 0 => Err(NodeFault::Waiting),
-            Stage::Gathering(round) => Ok(round.name),
+            NodeStage::Up => Err(NodeFault::Up),
+            NodeStage::Down => Err(NodeFault::NoRound),
+            NodeStage::Gathering(round) if round.awaited.len() > 0 => Err(NodeFault::Waiting),
+            NodeStage::Gathering(round) => Ok(round.name),
         }
     }
 
@@ -216,14 +217,14 @@ impl Node {
     /// The first of `Up`, `Unasked` and `Waiting`. A refusal changes nothing.
     pub fn finish_read(&mut self, name: u64) -> Result<(), NodeFault>
         ensures ok { OnOk result (self.new
-            ≡ with_recovery self.old (map_round after_read self.old.recovery)) }
+            ≡ with_recovery self.old (map_round node_after_read self.old.recovery)) }
         ensures legal { OnOk result (read_fault self.old.recovery name ≡ None) }
         ensures refused { IfErr result (λ fault. read_fault self.old.recovery name ≡ Some fault) }
         ensures unchanged { OnErr result (self.new ≡ self.old) }
     {
         match &mut self.stage {
-            Stage::Up => Err(NodeFault::Up),
-            Stage::Gathering(round) if round.name == name => {
+            NodeStage::Up => Err(NodeFault::Up),
+            NodeStage::Gathering(round) if round.name == name => {
                 if round.awaited.len() > 0 {
                     return Err(NodeFault::Waiting);
                 }
@@ -236,13 +237,13 @@ impl Node {
 
     /// Returns the first refusal that applies to a determinant that storage has, if there is one.
     pub fn stored_fault(&self) -> Option<NodeFault>
-        ensures { result ≡ stored_fault self.now.recovery }
+        ensures { result ≡ node_stored_fault self.now.recovery }
     {
         match &self.stage {
-            Stage::Up => None,
-            Stage::Down => Some(NodeFault::NoRound),
-            Stage::Gathering(round) if round.awaited.len() > 0 => Some(NodeFault::Waiting),
-            Stage::Gathering(_) => None,
+            NodeStage::Up => None,
+            NodeStage::Down => Some(NodeFault::NoRound),
+            NodeStage::Gathering(round) if round.awaited.len() > 0 => Some(NodeFault::Waiting),
+            NodeStage::Gathering(_) => None,
         }
     }
 
@@ -254,23 +255,23 @@ impl Node {
     /// The first of `NoRound` and `Waiting`; if neither applies, `NoMemory` if allocation failed. A refusal changes
     /// nothing.
     pub fn stored(&mut self, det: Det) -> Result<(), NodeFault>
-        ensures ok { OnOk result (self.new ≡ after_stored self.old det self.old.recovery) }
-        ensures legal { OnOk result (stored_fault self.old.recovery ≡ None) }
+        ensures ok { OnOk result (self.new ≡ node_after_stored self.old det self.old.recovery) }
+        ensures legal { OnOk result (node_stored_fault self.old.recovery ≡ None) }
         ensures refused { IfErr result
-            (λ fault. stored_fault self.old.recovery ≡ node_reason_of fault) }
+            (λ fault. node_stored_fault self.old.recovery ≡ node_reason_of fault) }
         ensures unchanged { OnErr result (self.new ≡ self.old) }
     {
         if let Some(fault) = self.stored_fault() {
             return Err(fault);
         }
         match &mut self.stage {
-            Stage::Up => {
+            NodeStage::Up => {
                 self.memory.mark_stable(det);
                 self.next_batch = None;
                 Ok(())
             }
-            Stage::Down => unreachable!(),
-            Stage::Gathering(round) => match round.log.add_stable(det, self.identity.me) {
+            NodeStage::Down => unreachable!(),
+            NodeStage::Gathering(round) => match round.log.add_stable(det, self.identity.me) {
                 Ok(()) => Ok(()),
                 Err(_) => Err(NodeFault::NoMemory),
             },
@@ -289,15 +290,15 @@ impl Node {
         ensures reserved { IfOk result (λ dets. (m : Message) → has_name self.new.reserved_names m
             ≡ is_named_for self.old.identity.me dets.items m) }
         ensures listed { IfOk result (λ dets. dets.items ≡ fin.keys self.new.memory.log) }
-        ensures legal { OnOk result (restart_fault self.old.recovery ≡ None) }
+        ensures legal { OnOk result (node_restart_fault self.old.recovery ≡ None) }
         ensures refused { IfErr result
-            (λ fault. restart_fault self.old.recovery ≡ node_reason_of fault) }
+            (λ fault. node_restart_fault self.old.recovery ≡ node_reason_of fault) }
         ensures unchanged { OnErr result (self.new ≡ self.old) }
     {
         if let Some(fault) = self.restart_fault() {
             return Err(fault);
         }
-        let Stage::Gathering(round) = &self.stage else {
+        let NodeStage::Gathering(round) = &self.stage else {
             unreachable!()
         };
         let Identity { me, faults, .. } = self.identity;
@@ -315,7 +316,7 @@ impl Node {
         self.next_batch = None;
         self.received = ReceivedNames::new(self.alloc);
         self.reserved = reserved;
-        self.stage = Stage::Up;
+        self.stage = NodeStage::Up;
         Ok(listed)
     }
 }

@@ -1,8 +1,8 @@
 //! The round of a node that recovers.
 ghost use Rattle.std.specs.Prelude.{◌≡◌};
-ghost use Rattle.causal_node.specs.NodeRounds.{round_name, awaited_in, question_fault};
+ghost use Rattle.causal_node.specs.NodeRounds.{round_name, awaited_in, node_question_fault};
 
-use crate::node::{Node, Stage};
+use crate::node::{Node, NodeStage};
 use crate::node_fault::NodeFault;
 use causal_holders::Holders;
 use causal_name::Pid;
@@ -13,7 +13,7 @@ impl Node {
         ensures { result ≡ round_name self.now.recovery }
     {
         match &self.stage {
-            Stage::Gathering(round) => Some(round.name),
+            NodeStage::Gathering(round) => Some(round.name),
             _ => None,
         }
     }
@@ -23,7 +23,7 @@ impl Node {
         ensures { result ≡ awaited_in self.now.recovery }
     {
         match &self.stage {
-            Stage::Gathering(round) => round.awaited,
+            NodeStage::Gathering(round) => round.awaited,
             _ => Holders::none(),
         }
     }
@@ -31,16 +31,16 @@ impl Node {
     /// Returns the first refusal that applies to a question to a process, if there is one: `Up`, `NoRound`, or
     /// `NoProcess`.
     pub fn question_fault(&self, to: Pid) -> Option<NodeFault>
-        ensures { result ≡ question_fault self.now to }
+        ensures { result ≡ node_question_fault self.now to }
     {
         match &self.stage {
-            Stage::Up => Some(NodeFault::Up),
-            Stage::Down => Some(NodeFault::NoRound),
-            Stage::Gathering(_)
+            NodeStage::Up => Some(NodeFault::Up),
+            NodeStage::Down => Some(NodeFault::NoRound),
+            NodeStage::Gathering(_)
                 if u16::from(to.0) >= self.identity.processes || to == self.identity.me => {
                 Some(NodeFault::NoProcess)
             }
-            Stage::Gathering(_) => None,
+            NodeStage::Gathering(_) => None,
         }
     }
 }

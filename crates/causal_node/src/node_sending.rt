@@ -2,10 +2,10 @@
 ghost use Rattle.std.specs.Prelude.{◌≡◌, IfOk, IfErr, OnOk, OnErr, None, length};
 ghost use Rattle.std.specs.Arc.{arc_value};
 ghost use Rattle.causal_log.specs.Logs.{batch_items};
-ghost use Rattle.causal_node.specs.NodeRefusals.{node_reason_of, send_fault};
-ghost use Rattle.causal_node.specs.NodeSteps.{after_send};
+ghost use Rattle.causal_node.specs.NodeRefusals.{node_reason_of, node_send_fault};
+ghost use Rattle.causal_node.specs.NodeSteps.{node_after_send};
 
-use crate::node::{Node, Stage};
+use crate::node::{Node, NodeStage};
 use crate::node_fault::NodeFault;
 use causal_log::Batch;
 use causal_memory::restart_planning::choose_and_cache;
@@ -17,9 +17,9 @@ use std::sync::Arc;
 impl Node {
     /// Returns the first refusal that applies to a send, if there is one.
     pub fn send_fault(&self, to: Pid) -> Option<NodeFault>
-        ensures { result ≡ send_fault self.now to }
+        ensures { result ≡ node_send_fault self.now to }
     {
-        if !matches!(self.stage, Stage::Up) {
+        if !matches!(self.stage, NodeStage::Up) {
             return Some(NodeFault::NotUp);
         }
         if u16::from(to.0) >= self.identity.processes {
@@ -53,10 +53,10 @@ impl Node {
     /// The first of `NotUp`, `NoProcess` and `Full`; if none applies, `NoMemory` if allocation failed. A refusal
     /// changes nothing.
     pub fn send(&mut self, to: Pid, body: Body) -> Result<u32, NodeFault>
-        ensures ok { OnOk result (self.new ≡ after_send self.old to body) }
+        ensures ok { OnOk result (self.new ≡ node_after_send self.old to body) }
         ensures number { IfOk result (λ ssn. ssn ≡ length self.old.memory.sent) }
-        ensures legal { OnOk result (send_fault self.old to ≡ None) }
-        ensures refused { IfErr result (λ fault. send_fault self.old to ≡ node_reason_of fault) }
+        ensures legal { OnOk result (node_send_fault self.old to ≡ None) }
+        ensures refused { IfErr result (λ fault. node_send_fault self.old to ≡ node_reason_of fault) }
         ensures unchanged { OnErr result (self.new ≡ self.old) }
     {
         if let Some(fault) = self.send_fault(to) {

@@ -7,7 +7,7 @@ use Rattle.causal_name.specs.declared.Pid.{Pid}
 use Rattle.causal_name.specs.declared.Det.{Det}
 use Rattle.causal_trace.specs.Past.{logs, is_stable}
 use Rattle.causal_steps.proofs.Lemmas.Reachable.{reachable_safe}
-use Rattle.causal_rounds.specs.Rounds.{set_at, Round, number, with_reply}
+use Rattle.causal_rounds.specs.Rounds.{with_value_at, Round, number, with_reply}
 use Rattle.causal_rounds.proofs.Lemmas.RoundSteps.{set_at_cases}
 use Rattle.causal_world.specs.World.{Packet, World, carrier_of, if_carries, volatile_of}
 use Rattle.causal_world.specs.Steps as world
@@ -46,7 +46,7 @@ module _ (n f : ℕ) (net : Network) (w : World) (reach : IsReachableWorld n f w
   node = with_floors a (raised a.floors view)
 
   abbrev after_step : Network
-  after_step = record { past = net.past; nodes = set_at net.nodes me.0 (up_node node); sent = reply ∷ net.sent; stored = net.stored; floors = net.floors }
+  after_step = record { past = net.past; nodes = with_value_at net.nodes me.0 (up_node node); sent = reply ∷ net.sent; stored = net.stored; floors = net.floors }
 
   -- the number of the answer in the world
   abbrev i : ℕ
@@ -80,10 +80,10 @@ module _ (n f : ℕ) (net : Network) (w : World) (reach : IsReachableWorld n f w
   abbrev again : World
   again = record {
     past = w.past;
-    rounds = record { lane = w.rounds.lane; down = w.rounds.down; floors = set_at w.rounds.floors me.0 floor; rounds = w.rounds.rounds };
+    rounds = record { lane = w.rounds.lane; down = w.rounds.down; floors = with_value_at w.rounds.floors me.0 floor; rounds = w.rounds.rounds };
     knows_holder = w.knows_holder;
     knows_stable = w.knows_stable;
-    packets = set_at w.packets i (Some new);
+    packets = with_value_at w.packets i (Some new);
     gathered = w.gathered;
     stored = w.stored;
     landed = w.landed;
@@ -238,11 +238,11 @@ module _ (n f : ℕ) (net : Network) (w : World) (reach : IsReachableWorld n f w
       abbrev told : World
       told = record {
         past = w.past;
-        rounds = record { lane = w.rounds.lane; down = w.rounds.down; floors = set_at w.rounds.floors me.0 new_floors; rounds = set_at w.rounds.rounds s (Some (with_reply r me.0 true)) };
+        rounds = record { lane = w.rounds.lane; down = w.rounds.down; floors = with_value_at w.rounds.floors me.0 new_floors; rounds = with_value_at w.rounds.rounds s (Some (with_reply r me.0 true)) };
         knows_holder = w.knows_holder;
         knows_stable = w.knows_stable;
-        packets = set_at w.packets i (Some new);
-        gathered = set_at w.gathered s (λ d. w.gathered s d || logs w.past me.0 d);
+        packets = with_value_at w.packets i (Some new);
+        gathered = with_value_at w.gathered s (λ d. w.gathered s d || logs w.past me.0 d);
         stored = w.stored;
         landed = w.landed;
       }
@@ -278,7 +278,7 @@ module _ (n f : ℕ) (net : Network) (w : World) (reach : IsReachableWorld n f w
           (λ p e h. never (ap r.replied (sym (sym (ap (λ (q : Packet). q.parcel.from) (answers_are name nr.name new p e)) ∙ of_log.from)) ∙ (invariant n f net w reach rep).rounds.answers_are_replies s p.parcel.from r found.1 h))
           (λ d h. elim (in_either d h) [ inl old ↦ inl old | inr logged ↦ inr (inl (me.0, low, told_now d logged)) ])
           none_after_read
-          (ap (set_at r.replied me.0 true) of_log.from ∙ set_at_here r.replied me.0 true, ap (set_at r.answered me.0 true) of_log.from ∙ set_at_here r.answered me.0 true, lane_is)
+          (ap (with_value_at r.replied me.0 true) of_log.from ∙ set_at_here r.replied me.0 true, ap (with_value_at r.answered me.0 true) of_log.from ∙ set_at_here r.answered me.0 true, lane_is)
 
       same_told : (q : ℕ) → (q ≡ me.0 → ⊥) → (q ≡ s → ⊥) → IsUntouched w told q
       same_told q not_me not_s = record {

@@ -9,7 +9,7 @@ use Rattle.causal_holders.proofs.Lemmas.MemberCounts.{count_below-same}
 use Rattle.causal_trace.specs.declared.entry.Entry.{Entry}
 use Rattle.causal_trace.specs.declared.entry.Entry.TheVariants.{Send}
 use Rattle.causal_trace.specs.Past.{logs}
-use Rattle.causal_rounds.specs.Rounds.{set_at}
+use Rattle.causal_rounds.specs.Rounds.{with_value_at}
 use Rattle.causal_rounds.proofs.Lemmas.RoundSteps.{set_at_cases, none_some}
 use Rattle.causal_world.specs.World.{Packet, World}
 use Rattle.causal_world.specs.Steps.{IsSentBy}
@@ -30,7 +30,7 @@ module _ (n f : ℕ) (net : Network) (w : World) (reach : IsReachableWorld n f w
   i = rep.free.0
 
   abbrev pub with_packet : List Entry → World
-  with_packet past = record { past = past; rounds = w.rounds; knows_holder = w.knows_holder; knows_stable = w.knows_stable; packets = set_at w.packets i (Some new); gathered = w.gathered; stored = w.stored; landed = w.landed }
+  with_packet past = record { past = past; rounds = w.rounds; knows_holder = w.knows_holder; knows_stable = w.knows_stable; packets = with_value_at w.packets i (Some new); gathered = w.gathered; stored = w.stored; landed = w.landed }
 
   pub is_free : w.packets i ≡ None
   is_free = rep.free.1 i (omega arith)
@@ -50,10 +50,10 @@ module _ (n f : ℕ) (net : Network) (w : World) (reach : IsReachableWorld n f w
     };
   }
 
-  pub still : (j : ℕ) (p : Packet) → w.packets j ≡ Some p → set_at w.packets i (Some new) j ≡ Some p
+  pub still : (j : ℕ) (p : Packet) → w.packets j ≡ Some p → with_value_at w.packets i (Some new) j ≡ Some p
   still j p at = elim (set_at_cases w.packets i (Some new) j) [ inl is ↦ absurd (none_some p (sym is_free ∙ ap w.packets (sym is.0) ∙ at)) | inr other ↦ other.1 ∙ at ]
 
-  pub free_after : (j : ℕ) × ((m : ℕ) → j ≤ m → set_at w.packets i (Some new) m ≡ None)
+  pub free_after : (j : ℕ) × ((m : ℕ) → j ≤ m → with_value_at w.packets i (Some new) m ≡ None)
   free_after = (suc i, λ m above. set_at_away w.packets i (Some new) m (λ e. omega (arith, above, e)) ∙ rep.free.1 m (omega (arith, above)))
 
   pub new_packet : (past : List Entry) → IsPacket n (with_packet past) new
@@ -64,7 +64,7 @@ module _ (n f : ℕ) (net : Network) (w : World) (reach : IsReachableWorld n f w
 
   -- a packet that is not a message
   pub emits_silently : (k : Sent) → PacketFits n (with_packet w.past) k → ((q name : ℕ) → is_of_round k q name ≡ false) → new.parcel.send ≡ None
-      → IsWorldOf n f (record { past = net.past; nodes = set_at net.nodes me.0 (up_node a); sent = k ∷ net.sent; stored = net.stored; floors = net.floors })
+      → IsWorldOf n f (record { past = net.past; nodes = with_value_at net.nodes me.0 (up_node a); sent = k ∷ net.sent; stored = net.stored; floors = net.floors })
   emits_silently k k_fits no_round none = (
     with_packet w.past,
     next_world w (with_packet w.past) reach (world.acknowledge me.0 i new is_sent none),
@@ -118,7 +118,7 @@ module _ (n f : ℕ) (net : Network) (w : World) (reach : IsReachableWorld n f w
     mine : UpFits n after me.0 (with_one_sent a)
     mine = let old : UpFits n after me.0 a = node_kept n w after later me.0 (same me.0) net.sent (up_node a) fits in record { is_up = old.is_up; lane = old.lane; log = old.log; floors = old.floors; received = old.received }
 
-    pub sends : IsWorldOf n f (record { past = entry ∷ net.past; nodes = set_at net.nodes me.0 (up_node (with_one_sent a)); sent = message_packet name new ∷ net.sent; stored = net.stored; floors = net.floors })
+    pub sends : IsWorldOf n f (record { past = entry ∷ net.past; nodes = with_value_at net.nodes me.0 (up_node (with_one_sent a)); sent = message_packet name new ∷ net.sent; stored = net.stored; floors = net.floors })
     sends = (
       after,
       next_world w after reach (world.send me to a.sent i new is_sent at_length left_out_known),

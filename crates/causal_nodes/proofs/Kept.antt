@@ -5,7 +5,7 @@ use Rattle.std.proofs.lemmas.Bool.{false≢true, both_ways, and_from, eq-eqb, eq
 use Rattle.causal_name.specs.declared.MsgName.{MsgName}
 use Rattle.causal_name.specs.declared.Det.{Det}
 use Rattle.causal_trace.specs.Past.{logs, is_stable, deliveries, message_at}
-use Rattle.causal_rounds.specs.Rounds.{set_at, Round, number}
+use Rattle.causal_rounds.specs.Rounds.{with_value_at, Round, number}
 use Rattle.causal_rounds.proofs.Lemmas.RoundSteps.{set_at_cases}
 use Rattle.causal_world.specs.World.{Packet, World, GatheredFrom}
 use Rattle.causal_nodes.specs.Node.{UpNode, NodeRound, DownNode, Node, up_node, down_node}
@@ -188,7 +188,7 @@ round_in name (down_node x) h = by x.round refl h
     by (Some nr) is h = (x, nr, refl, is, eqb-true name nr.name h)
 
 -- the nodes, one of them changed
-pub nodes_and_one : (n : ℕ) (x : World) (sent : List Sent) (nodes : ℕ → Node) (me : ℕ) (node : Node) → NodeFits n x sent me node → ((q : ℕ) → q < n → (q ≡ me → ⊥) → NodeFits n x sent q (nodes q)) → (p : ℕ) → p < n → NodeFits n x sent p (set_at nodes me node p)
+pub nodes_and_one : (n : ℕ) (x : World) (sent : List Sent) (nodes : ℕ → Node) (me : ℕ) (node : Node) → NodeFits n x sent me node → ((q : ℕ) → q < n → (q ≡ me → ⊥) → NodeFits n x sent q (nodes q)) → (p : ℕ) → p < n → NodeFits n x sent p (with_value_at nodes me node p)
 nodes_and_one n x sent nodes me node mine others p low = elim (set_at_cases nodes me node p) [
   | inl is ↦ subst (λ y. NodeFits n x sent p y) (sym is.1) (subst (λ q. NodeFits n x sent q node) (sym is.0) mine)
   | inr other ↦ subst (λ y. NodeFits n x sent p y) (sym other.1) (others p low other.0)

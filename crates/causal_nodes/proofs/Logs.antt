@@ -10,7 +10,7 @@ use Rattle.causal_name.specs.Names.{same_det, message_of}
 use Rattle.causal_trace.specs.declared.entry.Entry.{Entry}
 use Rattle.causal_trace.specs.declared.entry.Entry.TheVariants.{Deliver, Stable, Forget}
 use Rattle.causal_trace.specs.Past.{list_has, logs, is_stable, deliveries, message_at, det_from}
-use Rattle.causal_rounds.specs.Rounds.{set_at}
+use Rattle.causal_rounds.specs.Rounds.{with_value_at}
 use Rattle.causal_rounds.proofs.Lemmas.RoundSteps.{set_at_cases, some_is}
 use Rattle.causal_world.specs.World.{Packet, World}
 use Rattle.causal_world.specs.Steps as world
@@ -18,7 +18,7 @@ use Rattle.causal_world.specs.Reachable.{IsReachableWorld, next_world}
 use Rattle.causal_world.proofs.Lemmas.Functions.{set_at_here, set_at_away}
 use Rattle.causal_nodes.specs.Node.{NodeLog, UpNode, Node, up_node}
 use Rattle.causal_nodes.specs.Packets.{message_packet, acknowledgement_packet, written_packet, WasSent}
-use Rattle.causal_nodes.specs.NodeSteps.{with_log, log_after_delivery, after_delivery, log_after_acknowledgement, log_after_mark, log_without}
+use Rattle.causal_nodes.specs.NodeSteps.{with_log, node_log_after_delivery, up_after_delivery, log_after_acknowledgement, log_after_mark, log_without}
 use Rattle.causal_nodes.specs.Network.{Network}
 use Rattle.causal_nodes.proofs.Represents.{UpFits, IsPacket, NodeFits, Represents}
 use Rattle.causal_nodes.proofs.Kept.{IsLater, IsUntouched, packets_later, node_kept, nodes_and_one}
@@ -31,7 +31,7 @@ module _ (n f : ℕ) (net : Network) (w : World) (reach : IsReachableWorld n f w
 
   -- the network after a step of me that sends nothing
   abbrev after_step : Node → List Entry → Network
-  after_step node past = record { past = past; nodes = set_at net.nodes me.0 node; sent = net.sent; stored = net.stored; floors = net.floors }
+  after_step node past = record { past = past; nodes = with_value_at net.nodes me.0 node; sent = net.sent; stored = net.stored; floors = net.floors }
 
   represents : (past next : List Entry) (holders : ℕ → Det → ℕ → Bool) (stables : ℕ → Det → Bool) (node : Node) → past ≡ next → IsLater w (with_knowledge past holders stables)
       → NodeFits n (with_knowledge past holders stables) net.sent me.0 node → ((q : ℕ) → (q ≡ me.0 → ⊥) → IsUntouched w (with_knowledge past holders stables) q)
@@ -49,10 +49,10 @@ module _ (n f : ℕ) (net : Network) (w : World) (reach : IsReachableWorld n f w
       (only : (d : Det) → a.log.has d ≡ true → d.dest ≡ me → d.rsn ≡ length a.received → message_of d ≡ name)
       (lists : (d : Det) → list_has listed d ≡ (same_det d (det_from me (length a.received) name) || p.parcel.carries d)) where
     abbrev log : NodeLog
-    log = log_after_delivery me.0 listed p.parcel a.log
+    log = node_log_after_delivery me.0 listed p.parcel a.log
 
     abbrev known : ℕ → Det → ℕ → Bool
-    known = set_at w.knows_holder me.0 log.holder
+    known = with_value_at w.knows_holder me.0 log.holder
 
     abbrev entry : Entry
     entry = Deliver me send (length a.received) listed
@@ -105,7 +105,7 @@ module _ (n f : ℕ) (net : Network) (w : World) (reach : IsReachableWorld n f w
       received = cond-false (me.0 == q) (deliveries w.past q + 1) (deliveries w.past q) (other_is me.0 q other);
     }
 
-    own : UpFits n after me.0 (after_delivery me.0 name listed p.parcel a)
+    own : UpFits n after me.0 (up_after_delivery me.0 name listed p.parcel a)
     own = record {
       is_up = fits.is_up;
       lane = fits.lane;
@@ -118,12 +118,12 @@ module _ (n f : ℕ) (net : Network) (w : World) (reach : IsReachableWorld n f w
       received = length-append a.received (name ∷ []) ∙ ap (λ m. m + 1) fits.received ∙ sym (cond-true (me.0 == me.0) (deliveries w.past me.0 + 1) (deliveries w.past me.0) (same_is me.0));
     }
 
-    pub delivers : IsWorldOf n f (after_step (up_node (after_delivery me.0 name listed p.parcel a)) (entry ∷ net.past))
+    pub delivers : IsWorldOf n f (after_step (up_node (up_after_delivery me.0 name listed p.parcel a)) (entry ∷ net.past))
     delivers = (
       after,
       next_world w after reach (world.deliver me send (length a.received) listed packet.0.0 p name known low fits.is_up packet.0.1 mine (subst (λ m. m ≤ p.lane) (sym (fits.floors p.parcel.from packet.0.2)) floor) at_send sent fits.received
           (λ d has. only d (fits.log.has d ∙ has)) lists new_known itself keeps),
-      represents (entry ∷ w.past) (entry ∷ net.past) known w.knows_stable (up_node (after_delivery me.0 name listed p.parcel a)) (ap (λ t. entry ∷ t) rep.past) later own same,
+      represents (entry ∷ w.past) (entry ∷ net.past) known w.knows_stable (up_node (up_after_delivery me.0 name listed p.parcel a)) (ap (λ t. entry ∷ t) rep.past) later own same,
     )
 
   module _ (p : Packet) (was : WasSent net.sent (acknowledgement_packet p)) (mine : p.to ≡ me.0) (floor : a.floors p.parcel.from ≤ p.lane) where
@@ -131,7 +131,7 @@ module _ (n f : ℕ) (net : Network) (w : World) (reach : IsReachableWorld n f w
     learned = log_after_acknowledgement p.parcel a.log
 
     abbrev knows : ℕ → Det → ℕ → Bool
-    knows = set_at w.knows_holder me.0 learned.holder
+    knows = with_value_at w.knows_holder me.0 learned.holder
 
     abbrev wiser : World
     wiser = with_knowledge w.past knows w.knows_stable
@@ -169,7 +169,7 @@ module _ (n f : ℕ) (net : Network) (w : World) (reach : IsReachableWorld n f w
     marked = log_after_mark det a.log
 
     abbrev marks : ℕ → Det → Bool
-    marks = set_at w.knows_stable me.0 marked.stable
+    marks = with_value_at w.knows_stable me.0 marked.stable
 
     abbrev recorded : World
     recorded = with_knowledge (Stable det ∷ w.past) w.knows_holder marks

@@ -5,14 +5,14 @@ use Rattle.causal_name.specs.declared.Det.{Det}
 use Rattle.causal_trace.specs.declared.entry.Entry.{Entry}
 use Rattle.causal_trace.specs.Judgement.{IsSafeTrace}
 use Rattle.causal_steps.specs.Transit.{Survives}
-use Rattle.causal_rounds.specs.Rounds.{set_at}
+use Rattle.causal_rounds.specs.Rounds.{with_value_at}
 use Rattle.causal_rounds.specs.Acceptance.{by_floor, by_sender}
 use Rattle.causal_world.specs.World.{Packet, World, carrier_of, volatile_of}
-use Rattle.causal_world.specs.Reachable.{IsOpening, IsReachableWorld, opening}
+use Rattle.causal_world.specs.Reachable.{IsInitialWorld, IsReachableWorld, opening}
 use Rattle.causal_world.proofs.Lemmas.Functions.{below_is}
 use Rattle.causal_world.proofs.Lemmas.Transit.{is_accepted, in_transit_of, landed_in_transit}
 use Rattle.causal_world.proofs.Lemmas.ReachableWorlds.{worlds_are_safe, worlds_share_no_slot}
-use Rattle.causal_nodes.specs.Node.{Node, number_of}
+use Rattle.causal_nodes.specs.Node.{Node, lane_or_next}
 use Rattle.causal_nodes.specs.Packets.{Sent, message_packet, acknowledgement_packet, write_packet, written_packet, question_packet, answer_packet, not_up_packet, read_packet, stored_packet, number_packet, WasSent, WasTaken}
 use Rattle.causal_nodes.specs.NodeSteps.{NodeStep, send_row, deliver_row, acknowledge_row, learn_row, write_row, mark_row, forget_row, answer_row, tell_row, hear_number_row, begin_row, not_up_row, give_up_row, hear_answer_row, hear_not_up_row, read_row, take_stored_row, hear_stored_row, restart_row}
 use Rattle.causal_nodes.specs.Network.{Network, HasFreshName, NetworkEvent, step_event, crash_event, store_event, read_event, IsNewNetwork, IsReachableNetwork, new_network, next_network, IsCarrying, SurvivesIn, in_storage, in_log, in_transit, in_transit_to_down, in_write, NodesAreSafe, NodesShareNoSlot}
@@ -28,7 +28,7 @@ use Rattle.causal_nodes.proofs.Storing.{stores, tells_stored}
 
 module _ (n f : ℕ) (net : Network) (w : World) (reach : IsReachableWorld n f w) (rep : Represents n net w) (me : Pid) (low : me.0 < n) where
   abbrev after_step : Node → List Sent → List Entry → Network
-  after_step node emitted entries = record { past = entries ++ net.past; nodes = set_at net.nodes me.0 node; sent = emitted ++ net.sent; stored = net.stored; floors = net.floors }
+  after_step node emitted entries = record { past = entries ++ net.past; nodes = with_value_at net.nodes me.0 node; sent = emitted ++ net.sent; stored = net.stored; floors = net.floors }
 
   -- each row of a node's step is a step of the world, or two, or none
   node_step : (old : Node) (taken : Option Sent) (node : Node) (emitted : List Sent) (entries : List Entry) → NodeStep n f me (length net.past) old taken node emitted entries → net.nodes me.0 ≡ old → WasTaken net.sent taken
@@ -47,7 +47,7 @@ module _ (n f : ℕ) (net : Network) (w : World) (reach : IsReachableWorld n f w
   node_step old taken node emitted entries (forget_row a listed ascending known repeated) is was fresh = forgets n f net w reach rep me low a (up_of n f net w reach rep me.0 a low is) listed known repeated
   node_step old taken node emitted entries (answer_row a s name view new own of_log to none whole) is was fresh = answers n f net w reach rep me low a is new of_log s name view was own to none whole
   node_step old taken node emitted entries (tell_row same) is was fresh =
-      subst (λ (y : Node). IsWorldOf n f (after_step y (number_packet me.0 (number_of y) ∷ []) [])) is (tells n f net w reach rep me.0 low)
+      subst (λ (y : Node). IsWorldOf n f (after_step y (number_packet me.0 (lane_or_next y) ∷ []) [])) is (tells n f net w reach rep me.0 low)
   node_step old taken node emitted entries (hear_number_row x q number) is was fresh = hears_number n f net w reach rep me.0 low x is q number was
   node_step old taken node emitted entries (begin_row x name view own heard) is was fresh = begins n f net w reach rep me.0 low x is name view own heard (fresh (question_packet me.0 name view) (inl refl))
   node_step old taken node emitted entries (not_up_row x s name view apart own) is was fresh = says_not_up n f net w reach rep me.0 low x is s name view was apart own
@@ -103,7 +103,7 @@ opens n f net o = (
     above : (q m : ℕ) → m ≤ q → nat_lt q m ≡ false
     above q m high = grind (arith, high)
 
-    first : IsOpening n (first_world n)
+    first : IsInitialWorld n (first_world n)
     first = record {
       past = refl;
       up = λ p low. begun p (omega (arith, low));

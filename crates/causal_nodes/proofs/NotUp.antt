@@ -2,7 +2,7 @@
 use Rattle.std.proofs.Common.{ℕ, ◌+◌, ◌≡◌, ◌<◌, inl, inr, Bool, true, false, ◌∷◌, Some, None, refl, sym, ap, subst, ◌∙◌, arith}
 use Rattle.std.specs.Prelude.{◌==◌}
 use Rattle.std.proofs.lemmas.Bool.{and_left, and_right, and_from, eq-eqb, cases_eq}
-use Rattle.causal_rounds.specs.Rounds.{set_at, Round, number, with_reply}
+use Rattle.causal_rounds.specs.Rounds.{with_value_at, Round, number, with_reply}
 use Rattle.causal_rounds.proofs.Lemmas.RoundSteps.{set_at_cases}
 use Rattle.causal_world.specs.World.{World}
 use Rattle.causal_world.specs.Steps as world
@@ -31,7 +31,7 @@ module _ (n f : ℕ) (net : Network) (w : World) (reach : IsReachableWorld n f w
   new = not_up_packet me s name
 
   abbrev after_step : Network
-  after_step = record { past = net.past; nodes = set_at net.nodes me (down_node (with_round x None)); sent = new ∷ net.sent; stored = net.stored; floors = net.floors }
+  after_step = record { past = net.past; nodes = with_value_at net.nodes me (down_node (with_round x None)); sent = new ∷ net.sent; stored = net.stored; floors = net.floors }
 
   -- the reply is of a round of s
   not_of : (q : ℕ) → (q ≡ s → ⊥) → IsOutOf new q (net.nodes q)
@@ -80,7 +80,7 @@ module _ (n f : ℕ) (net : Network) (w : World) (reach : IsReachableWorld n f w
     abbrev heard : World
     heard = record {
       past = w.past;
-      rounds = record { lane = w.rounds.lane; down = w.rounds.down; floors = w.rounds.floors; rounds = set_at (set_at w.rounds.rounds s (Some (with_reply r me false))) me None };
+      rounds = record { lane = w.rounds.lane; down = w.rounds.down; floors = w.rounds.floors; rounds = with_value_at (with_value_at w.rounds.rounds s (Some (with_reply r me false))) me None };
       knows_holder = w.knows_holder;
       knows_stable = w.knows_stable;
       packets = w.packets;
@@ -111,7 +111,7 @@ module _ (n f : ℕ) (net : Network) (w : World) (reach : IsReachableWorld n f w
         (set_at_here r.replied me true, set_at_here r.answered me false)
 
     round_of_s : heard.rounds.rounds s ≡ Some (with_reply r me false)
-    round_of_s = set_at_away (set_at w.rounds.rounds s (Some (with_reply r me false))) me None s apart ∙ set_at_here w.rounds.rounds s (Some (with_reply r me false))
+    round_of_s = set_at_away (with_value_at w.rounds.rounds s (Some (with_reply r me false))) me None s apart ∙ set_at_here w.rounds.rounds s (Some (with_reply r me false))
 
     of_s : NodeFits n heard (new ∷ net.sent) s (net.nodes s)
     of_s = subst (λ node. NodeFits n heard (new ∷ net.sent) s node) (sym at_s) (record {
@@ -126,7 +126,7 @@ module _ (n f : ℕ) (net : Network) (w : World) (reach : IsReachableWorld n f w
       is_down = refl;
       lane = refl;
       floors = λ z. refl;
-      round = set_at_away (set_at w.rounds.rounds s (Some (with_reply r me false))) me None q not_me ∙ set_at_away w.rounds.rounds s (Some (with_reply r me false)) q not_s;
+      round = set_at_away (with_value_at w.rounds.rounds s (Some (with_reply r me false))) me None q not_me ∙ set_at_away w.rounds.rounds s (Some (with_reply r me false)) q not_s;
       gathered = λ d. refl;
       holders = λ d h. refl;
       stables = λ d. refl;
@@ -147,7 +147,7 @@ module _ (n f : ℕ) (net : Network) (w : World) (reach : IsReachableWorld n f w
       record {
         past = rep.past;
         nodes = nodes_and_one n heard (new ∷ net.sent) net.nodes me (down_node (with_round x None))
-            (record { is_down = before.is_down; lane = before.lane; told = told_later n w heard later_heard x.told before.told; round = set_at_here (set_at w.rounds.rounds s (Some (with_reply r me false))) me None })
+            (record { is_down = before.is_down; lane = before.lane; told = told_later n w heard later_heard x.told before.told; round = set_at_here (with_value_at w.rounds.rounds s (Some (with_reply r me false))) me None })
             others;
         packets = packets_and_one n w heard later_heard net.sent new rep.packets low;
         stored = rep.stored;

@@ -6,28 +6,28 @@ use Rattle.causal_name.specs.declared.Det.{Det}
 use Rattle.causal_name.specs.Names.{same_det}
 use Rattle.causal_trace.specs.declared.entry.Entry.TheVariants.{Stable}
 use Rattle.causal_trace.specs.Past.{is_stable}
-use Rattle.causal_rounds.specs.Rounds.{set_at, Round, RoundState, number}
+use Rattle.causal_rounds.specs.Rounds.{with_value_at, Round, RecoveryState, number}
 use Rattle.causal_rounds.proofs.Lemmas.RoundSteps.{set_at_cases}
 use Rattle.causal_world.specs.World.{Packet, World}
 use Rattle.causal_world.specs.Steps as world
 use Rattle.causal_world.specs.Reachable.{IsReachableWorld, next_world}
-use Rattle.causal_nodes.specs.Node.{NodeRound, DownNode, Node, up_node, down_node, number_of}
+use Rattle.causal_nodes.specs.Node.{NodeRound, DownNode, Node, up_node, down_node, lane_or_next}
 use Rattle.causal_nodes.specs.Packets.{Sent, answer_packet, not_up_packet, read_packet, stored_packet, number_packet, WasSent, is_of_round}
-use Rattle.causal_nodes.specs.NodeSteps.{with_round, after_answer, with_heard, with_stored}
+use Rattle.causal_nodes.specs.NodeSteps.{with_round, after_answer, with_heard, round_with_stored}
 use Rattle.causal_nodes.specs.Network.{Network}
 use Rattle.causal_nodes.proofs.Represents.{PacketFits, ReplyFits, IsToldBy, GatheringFits, RoundFits, DownFits, NodeFits, Represents}
 use Rattle.causal_nodes.proofs.Kept.{IsLater, IsUntouched, told_later, packets_and_one, packets_later, gathering_later, node_kept, node_and_one, nodes_and_one}
 use Rattle.causal_nodes.proofs.Context.{IsWorldOf, later_same, message_older, other_is, invariant, down_of}
 use Rattle.causal_nodes.proofs.Replies.{answer_taken, not_up_taken, det_taken, stored_taken}
 
-pub number_up : (w : RoundState) (q : ℕ) → w.down q ≡ false → number w q ≡ w.lane q
+pub number_up : (w : RecoveryState) (q : ℕ) → w.down q ≡ false → number w q ≡ w.lane q
 number_up w q up = cond-false (w.down q) (w.lane q + 1) (w.lane q) up
 
-pub number_down : (w : RoundState) (q : ℕ) → w.down q ≡ true → number w q ≡ w.lane q + 1
+pub number_down : (w : RecoveryState) (q : ℕ) → w.down q ≡ true → number w q ≡ w.lane q + 1
 number_down w q down = cond-true (w.down q) (w.lane q + 1) (w.lane q) down
 
 -- a node's number is the world's
-pub number_fits : (n : ℕ) (w : World) (sent : List Sent) (p : ℕ) (node : Node) → NodeFits n w sent p node → number_of node ≡ number w.rounds p
+pub number_fits : (n : ℕ) (w : World) (sent : List Sent) (p : ℕ) (node : Node) → NodeFits n w sent p node → lane_or_next node ≡ number w.rounds p
 number_fits n w sent p (up_node a) h = sym h.lane ∙ sym (number_up w.rounds p h.is_up)
 number_fits n w sent p (down_node x) h = ap (λ m. m + 1) (sym h.lane) ∙ sym (number_down w.rounds p h.is_down)
 
@@ -50,7 +50,7 @@ gathering_and_reply n w sent s nr r new no_answer fits g = record {
 module _ (n f : ℕ) (net : Network) (w : World) (reach : IsReachableWorld n f w) (rep : Represents n net w) (me : ℕ) (low : me < n) where
   -- the network after a step of me without an entry
   abbrev after_step : Node → List Sent → Network
-  after_step node sent = record { past = net.past; nodes = set_at net.nodes me node; sent = sent; stored = net.stored; floors = net.floors }
+  after_step node sent = record { past = net.past; nodes = with_value_at net.nodes me node; sent = sent; stored = net.stored; floors = net.floors }
 
   quiet : (node : Node) → NodeFits n w net.sent me node → IsWorldOf n f (after_step node net.sent)
   quiet node mine = (w, reach, record { past = rep.past; nodes = nodes_and_one n w net.sent net.nodes me node mine (λ q low_q other. rep.nodes q low_q); packets = rep.packets; stored = rep.stored; floors = rep.floors; free = rep.free })
@@ -69,17 +69,17 @@ module _ (n f : ℕ) (net : Network) (w : World) (reach : IsReachableWorld n f w
     },
   )
 
-  pub tells : IsWorldOf n f (after_step (net.nodes me) (number_packet me (number_of (net.nodes me)) ∷ net.sent))
-  tells = quiet_and_one (net.nodes me) (number_packet me (number_of (net.nodes me)))
-      (node_and_one n w net.sent (number_packet me (number_of (net.nodes me))) me (λ name. refl) (net.nodes me) (rep.nodes me low))
+  pub tells : IsWorldOf n f (after_step (net.nodes me) (number_packet me (lane_or_next (net.nodes me)) ∷ net.sent))
+  tells = quiet_and_one (net.nodes me) (number_packet me (lane_or_next (net.nodes me)))
+      (node_and_one n w net.sent (number_packet me (lane_or_next (net.nodes me))) me (λ name. refl) (net.nodes me) (rep.nodes me low))
       (λ q other name. refl) (let e = number_fits n w net.sent me (net.nodes me) (rep.nodes me low) in omega (arith, e))
 
   module _ (x : DownNode) (is : net.nodes me ≡ down_node x) where
     mine_before : DownFits n w net.sent me x
     mine_before = down_of n f net w reach rep me x low is
 
-    pub hears_number : (q m : ℕ) → WasSent net.sent (number_packet q m) → IsWorldOf n f (after_step (down_node (record { lane = x.lane; told = set_at x.told q m; round = x.round })) net.sent)
-    hears_number q m was = quiet (down_node (record { lane = x.lane; told = set_at x.told q m; round = x.round })) (record {
+    pub hears_number : (q m : ℕ) → WasSent net.sent (number_packet q m) → IsWorldOf n f (after_step (down_node (record { lane = x.lane; told = with_value_at x.told q m; round = x.round })) net.sent)
+    hears_number q m was = quiet (down_node (record { lane = x.lane; told = with_value_at x.told q m; round = x.round })) (record {
       is_down = mine_before.is_down;
       lane = mine_before.lane;
       told = λ z low_z. elim (set_at_cases x.told q m z) [
@@ -133,7 +133,7 @@ module _ (n f : ℕ) (net : Network) (w : World) (reach : IsReachableWorld n f w
         same : (q : ℕ) → IsUntouched w recorded q
         same q = record { is_down = refl; lane = refl; floors = λ z. refl; round = refl; gathered = λ d. refl; holders = λ d h. refl; stables = λ d. refl; logged = λ d. refl; received = refl }
 
-        mine : DownFits n recorded net.sent me (with_round x (Some (with_stored det nr)))
+        mine : DownFits n recorded net.sent me (with_round x (Some (round_with_stored det nr)))
         mine = record {
           is_down = mine_before.is_down;
           lane = mine_before.lane;
@@ -145,13 +145,13 @@ module _ (n f : ℕ) (net : Network) (w : World) (reach : IsReachableWorld n f w
           );
         }
 
-        pub takes_stored : IsWorldOf n f (record { past = Stable det ∷ net.past; nodes = set_at net.nodes me (down_node (with_round x (Some (with_stored det nr)))); sent = net.sent; stored = net.stored; floors = net.floors })
+        pub takes_stored : IsWorldOf n f (record { past = Stable det ∷ net.past; nodes = with_value_at net.nodes me (down_node (with_round x (Some (round_with_stored det nr)))); sent = net.sent; stored = net.stored; floors = net.floors })
         takes_stored = (
           recorded,
           next_world w recorded reach (world.write_entry det w.knows_stable ((rep.packets (stored_packet me nr.name dets) was) det has_det) (λ y d h. inl h)),
           record {
             past = ap (λ t. Stable det ∷ t) rep.past;
-            nodes = nodes_and_one n recorded net.sent net.nodes me (down_node (with_round x (Some (with_stored det nr)))) mine (λ q low_q other. node_kept n w recorded later q (same q) net.sent (net.nodes q) (rep.nodes q low_q));
+            nodes = nodes_and_one n recorded net.sent net.nodes me (down_node (with_round x (Some (round_with_stored det nr)))) mine (λ q low_q other. node_kept n w recorded later q (same q) net.sent (net.nodes q) (rep.nodes q low_q));
             packets = packets_later n w recorded later net.sent rep.packets;
             stored = rep.stored;
             floors = rep.floors;

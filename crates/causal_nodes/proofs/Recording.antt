@@ -14,13 +14,13 @@ use Rattle.causal_trace.specs.Past.{list_has, is_down, sends, deliveries, messag
 use Rattle.causal_steps.proofs.Lemmas.Positions.{at_newest, at_older}
 use Rattle.causal_steps.proofs.Lemmas.Reachable.{reachable_safe}
 use Rattle.causal_steps.specs.Transit.{Survives}
-use Rattle.causal_rounds.specs.Rounds.{set_at}
+use Rattle.causal_rounds.specs.Rounds.{with_value_at}
 use Rattle.causal_rounds.proofs.Lemmas.RoundSteps.{set_at_cases, some_is}
 use Rattle.causal_world.specs.World.{Packet, volatile_of}
 use Rattle.causal_world.proofs.Lemmas.Functions.{set_at_here}
-use Rattle.causal_nodes.specs.Node.{NodeLog, UpNode, NodeRound, DownNode, Node, up_node, down_node, number_of}
+use Rattle.causal_nodes.specs.Node.{NodeLog, UpNode, NodeRound, DownNode, Node, up_node, down_node, lane_or_next}
 use Rattle.causal_nodes.specs.Packets.{Sent, message_packet, acknowledgement_packet, write_packet, written_packet, question_packet, answer_packet, not_up_packet, read_packet, stored_packet, number_packet, WasSent, WasTaken}
-use Rattle.causal_nodes.specs.NodeSteps.{raised, with_log, with_floors, with_one_sent, after_delivery, log_after_acknowledgement, log_after_mark, log_without, with_round, fallen_node, new_node_round, after_answer, with_heard, with_stored, after_restart, NodeStep, send_row, deliver_row, acknowledge_row, learn_row, write_row, mark_row, forget_row, answer_row, tell_row, hear_number_row, begin_row, not_up_row, give_up_row, hear_answer_row, hear_not_up_row, read_row, take_stored_row, hear_stored_row, restart_row}
+use Rattle.causal_nodes.specs.NodeSteps.{raised, with_log, with_floors, with_one_sent, up_after_delivery, log_after_acknowledgement, log_after_mark, log_without, with_round, fallen_node, new_node_round, after_answer, with_heard, round_with_stored, up_after_restart, NodeStep, send_row, deliver_row, acknowledge_row, learn_row, write_row, mark_row, forget_row, answer_row, tell_row, hear_number_row, begin_row, not_up_row, give_up_row, hear_answer_row, hear_not_up_row, read_row, take_stored_row, hear_stored_row, restart_row}
 use Rattle.causal_nodes.specs.Network.{Network, NetworkEvent, step_event, crash_event, store_event, read_event, IsNewNetwork, IsReachableNetwork, new_network, next_network, in_storage, in_log}
 use Rattle.causal_nodes.specs.Recordings.{NodesRecordTraces}
 use Rattle.causal_nodes.proofs.Context.{IsWorldOf, same_is, other_is, away_or, invariant, up_of, down_of, up_in_past}
@@ -88,9 +88,9 @@ any_last test (x ∷ xs) y h = or_right (test x) (list_any test (xs ++ y ∷ [])
 
 module _ (n : ℕ) (net : Network) (c : Counts n net) (me : ℕ) where
   abbrev after_step : Node → List Sent → List Entry → Network
-  after_step node emitted entries = record { past = entries ++ net.past; nodes = set_at net.nodes me node; sent = emitted ++ net.sent; stored = net.stored; floors = net.floors }
+  after_step node emitted entries = record { past = entries ++ net.past; nodes = with_value_at net.nodes me node; sent = emitted ++ net.sent; stored = net.stored; floors = net.floors }
 
-  nodes_after : (past : List Entry) (node : Node) → NodeCounts past me node → ((q : ℕ) → q < n → (q ≡ me → ⊥) → NodeCounts past q (net.nodes q)) → (p : ℕ) → p < n → NodeCounts past p (set_at net.nodes me node p)
+  nodes_after : (past : List Entry) (node : Node) → NodeCounts past me node → ((q : ℕ) → q < n → (q ≡ me → ⊥) → NodeCounts past q (net.nodes q)) → (p : ℕ) → p < n → NodeCounts past p (with_value_at net.nodes me node p)
   nodes_after past node mine others p low = elim (set_at_cases net.nodes me node p) [
     | inl is ↦ subst (λ y. NodeCounts past p y) (sym is.1) (subst (λ q. NodeCounts past q node) (sym is.0) mine)
     | inr other ↦ subst (λ y. NodeCounts past p y) (sym other.1) (others p low other.0)
@@ -119,7 +119,7 @@ module _ (n : ℕ) (net : Network) (c : Counts n net) (me : ℕ) where
 
 module _ (n f : ℕ) (net : Network) (c : Counts n net) (h : IsWorldOf n f net) (me : Pid) (low : me.0 < n) where
   abbrev next_of : Node → List Sent → List Entry → Network
-  next_of node emitted entries = record { past = entries ++ net.past; nodes = set_at net.nodes me.0 node; sent = emitted ++ net.sent; stored = net.stored; floors = net.floors }
+  next_of node emitted entries = record { past = entries ++ net.past; nodes = with_value_at net.nodes me.0 node; sent = emitted ++ net.sent; stored = net.stored; floors = net.floors }
 
   module _ (a : UpNode) (is : net.nodes me.0 ≡ up_node a) where
     mine : NodeCounts net.past me.0 (up_node a)
@@ -154,7 +154,7 @@ module _ (n f : ℕ) (net : Network) (c : Counts n net) (h : IsWorldOf n f net) 
       delivery = Deliver me send (length a.received) listed
 
       abbrev receiver : UpNode
-      receiver = after_delivery me.0 name listed p.parcel a
+      receiver = up_after_delivery me.0 name listed p.parcel a
 
       count : length a.received ≡ deliveries net.past me.0
       count = (up_of n f net h.0 h.1 h.2 me.0 a low is).received ∙ ap (λ t. deliveries t me.0) h.2.past
@@ -202,12 +202,12 @@ module _ (n f : ℕ) (net : Network) (c : Counts n net) (h : IsWorldOf n f net) 
   untouched b y hb = grind (arith, hb)
 
   restart_counts : (x : DownNode) (r : NodeRound) (listed : List Det) → net.nodes me.0 ≡ down_node x → is_ascending listed ≡ true → ((d : Det) → list_has listed d ≡ r.gathered.has d)
-      → IsWorldOf n f (next_of (up_node (after_restart me.0 (x.lane + 1) r)) [] (Restart me listed ∷ [])) → Counts n (next_of (up_node (after_restart me.0 (x.lane + 1) r)) [] (Restart me listed ∷ []))
-  restart_counts x r listed is ascending lists next = recorded n net c me.0 (Restart me listed) (up_node (after_restart me.0 (x.lane + 1) r)) [] (
+      → IsWorldOf n f (next_of (up_node (up_after_restart me.0 (x.lane + 1) r)) [] (Restart me listed ∷ [])) → Counts n (next_of (up_node (up_after_restart me.0 (x.lane + 1) r)) [] (Restart me listed ∷ []))
+  restart_counts x r listed is ascending lists next = recorded n net c me.0 (Restart me listed) (up_node (up_after_restart me.0 (x.lane + 1) r)) [] (
     low,
     down_here n f net h me.0 x low is,
     ascending,
-    all_from listed (is_delivered net.past) (λ d has. logged_delivered n f (next_of (up_node (after_restart me.0 (x.lane + 1) r)) [] (Restart me listed ∷ [])) next me.0 (after_restart me.0 (x.lane + 1) r) low (set_at_here net.nodes me.0 (up_node (after_restart me.0 (x.lane + 1) r))) d (sym (lists d) ∙ has)),
+    all_from listed (is_delivered net.past) (λ d has. logged_delivered n f (next_of (up_node (up_after_restart me.0 (x.lane + 1) r)) [] (Restart me listed ∷ [])) next me.0 (up_after_restart me.0 (x.lane + 1) r) low (set_at_here net.nodes me.0 (up_node (up_after_restart me.0 (x.lane + 1) r))) d (sym (lists d) ∙ has)),
   )
       (sym (cond-true (me.0 == me.0) 0 (sends net.past me.0) (same_is me.0)), λ m had. absurd (both_ways (not (me.0 == me.0) && has_delivered net.past me.0 m) (cleared (me.0 == me.0) (has_delivered net.past me.0 m) (same_is me.0)) had))
       (λ q other. (cond-false (me.0 == q) 0 (sends net.past q) (other_is me.0 q other), λ m. untouched (me.0 == q) (has_delivered net.past q m) (other_is me.0 q other)))
@@ -236,8 +236,8 @@ module _ (n f : ℕ) (net : Network) (c : Counts n net) (h : IsWorldOf n f net) 
   row_counts old taken node emitted entries (answer_row a s name view new own of_log to none whole) is was next =
       one_more (up_node (with_floors a (raised a.floors view))) (answer_packet name new) (quiet_up a is (with_floors a (raised a.floors view)) refl refl) (λ nm t e. absurd (let x : answer_packet name new ≡ message_packet nm t = e in cc))
   row_counts old taken node emitted entries (tell_row same) is was next =
-      one_more same (number_packet me.0 (number_of same)) (mine_of n net c me.0 same low is) (λ name t e. absurd (let x : number_packet me.0 (number_of same) ≡ message_packet name t = e in cc))
-  row_counts old taken node emitted entries (hear_number_row x q number) is was next = no_more (down_node (record { lane = x.lane; told = set_at x.told q number; round = x.round })) tt
+      one_more same (number_packet me.0 (lane_or_next same)) (mine_of n net c me.0 same low is) (λ name t e. absurd (let x : number_packet me.0 (lane_or_next same) ≡ message_packet name t = e in cc))
+  row_counts old taken node emitted entries (hear_number_row x q number) is was next = no_more (down_node (record { lane = x.lane; told = with_value_at x.told q number; round = x.round })) tt
   row_counts old taken node emitted entries (begin_row x name view own heard) is was next =
       one_more (down_node (with_round x (Some (new_node_round name view)))) (question_packet me.0 name view) tt (λ nm t e. absurd (let y : question_packet me.0 name view ≡ message_packet nm t = e in cc))
   row_counts old taken node emitted entries (not_up_row x s name view apart own) is was next = one_more (down_node (with_round x None)) (not_up_packet me.0 s name) tt (λ nm t e. absurd (let y : not_up_packet me.0 s name ≡ message_packet nm t = e in cc))
@@ -246,7 +246,7 @@ module _ (n f : ℕ) (net : Network) (c : Counts n net) (h : IsWorldOf n f net) 
   row_counts old taken node emitted entries (hear_not_up_row x r q has) is was next = no_more (down_node (with_round x (Some (with_heard q r)))) tt
   row_counts old taken node emitted entries (read_row x r has all) is was next = one_more (down_node x) (read_packet me.0 r.name r.view) tt (λ nm t e. absurd (let y : read_packet me.0 r.name r.view ≡ message_packet nm t = e in cc))
   row_counts old taken node emitted entries (take_stored_row x r dets det has has_det) is was next =
-      recorded n net c me.0 (Stable det) (down_node (with_round x (Some (with_stored det r)))) [] (stored_is_delivered det ((h.2.packets (stored_packet me.0 r.name dets) was) det has_det)) tt (λ q other. (refl, λ m. refl)) (messages_older (Stable det) net.past net.sent c.messages)
+      recorded n net c me.0 (Stable det) (down_node (with_round x (Some (round_with_stored det r)))) [] (stored_is_delivered det ((h.2.packets (stored_packet me.0 r.name dets) was) det has_det)) tt (λ q other. (refl, λ m. refl)) (messages_older (Stable det) net.past net.sent c.messages)
   row_counts old taken node emitted entries (hear_stored_row x r dets has all) is was next = no_more (down_node (with_round x (Some (with_heard n r)))) tt
   row_counts old taken node emitted entries (restart_row x r listed ascending has all lists) is was next = restart_counts x r listed is ascending lists next
 

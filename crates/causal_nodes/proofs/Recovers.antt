@@ -10,16 +10,16 @@ use Rattle.causal_name.specs.Names.{same_det}
 use Rattle.causal_trace.specs.declared.entry.Entry.{Entry}
 use Rattle.causal_trace.specs.declared.entry.Entry.TheVariants.{Send, Deliver, Crash, Restart}
 use Rattle.causal_trace.specs.Past.{list_has, det_from}
-use Rattle.causal_rounds.specs.Rounds.{set_at}
+use Rattle.causal_rounds.specs.Rounds.{with_value_at}
 use Rattle.causal_world.specs.World.{Packet}
 use Rattle.causal_world.proofs.Lemmas.Functions.{set_at_away}
 use Rattle.causal_nodes.specs.Node.{UpNode, NodeRound, DownNode, Node, up_node, down_node}
 use Rattle.causal_nodes.specs.Packets.{Sent, message_packet, question_packet, answer_packet, read_packet, stored_packet, WasSent, WasTaken, is_of_round}
-use Rattle.causal_nodes.specs.NodeSteps.{NodeStep, IsOfNodeLog, empty_log, with_one_sent, with_floors, raised, after_delivery, with_round, fallen_node, new_node_round, after_answer, with_heard, after_restart, send_row, deliver_row, answer_row, begin_row, hear_answer_row, read_row, hear_stored_row, restart_row}
+use Rattle.causal_nodes.specs.NodeSteps.{NodeStep, IsOfNodeLog, empty_log, with_one_sent, with_floors, raised, up_after_delivery, with_round, fallen_node, new_node_round, after_answer, with_heard, up_after_restart, send_row, deliver_row, answer_row, begin_row, hear_answer_row, read_row, hear_stored_row, restart_row}
 use Rattle.causal_nodes.specs.Network.{Network, HasFreshName, step_event, crash_event, read_event, IsReachableNetwork, new_network, next_network, NodesRecover}
 
 abbrev after_step : Network → ℕ → Node → List Sent → List Entry → Network
-after_step net p node emitted entries = record { past = entries ++ net.past; nodes = set_at net.nodes p node; sent = emitted ++ net.sent; stored = net.stored; floors = net.floors }
+after_step net p node emitted entries = record { past = entries ++ net.past; nodes = with_value_at net.nodes p node; sent = emitted ++ net.sent; stored = net.stored; floors = net.floors }
 
 steps : (net : Network) (me : Pid) (taken : Option Sent) (node : Node) (emitted : List Sent) (entries : List Entry) → me.0 < 2 → IsReachableNetwork 2 1 net → WasTaken net.sent taken → NodeStep 2 1 me (length net.past) (net.nodes me.0) taken node emitted entries
     → ((new : Sent) → WasSent emitted new → HasFreshName net.sent new) → IsReachableNetwork 2 1 (after_step net me.0 node emitted entries)
@@ -84,7 +84,7 @@ abbrev listed : List Det
 listed = own ∷ []
 
 abbrev receiver : UpNode
-receiver = after_delivery 1 name listed message.parcel new_node
+receiver = up_after_delivery 1 name listed message.parcel new_node
 
 abbrev delivered : Network
 delivered = after_step sent 1 (up_node receiver) [] (Deliver second 0 0 listed ∷ [])
@@ -128,7 +128,7 @@ abbrev both : List Det
 both = own ∷ other ∷ []
 
 abbrev holder : UpNode
-holder = after_delivery 0 reply_name both reply.parcel (with_one_sent new_node)
+holder = up_after_delivery 0 reply_name both reply.parcel (with_one_sent new_node)
 
 abbrev spread : Network
 spread = after_step replied 0 (up_node holder) [] (Deliver first 2 0 both ∷ [])
@@ -139,13 +139,13 @@ spreads = steps replied first (Some (message_packet reply_name reply)) (up_node 
 
 -- the second one crashes, and begins a round
 abbrev crashed : Network
-crashed = record { past = Crash second ∷ spread.past; nodes = set_at spread.nodes 1 (down_node (fallen_node 0)); sent = spread.sent; stored = spread.stored; floors = spread.floors }
+crashed = record { past = Crash second ∷ spread.past; nodes = with_value_at spread.nodes 1 (down_node (fallen_node 0)); sent = spread.sent; stored = spread.stored; floors = spread.floors }
 
 crashes : IsReachableNetwork 2 1 crashed
 crashes = next_network spread crashed spreads (crash_event second (with_one_sent receiver) (omega arith) refl (omega arith))
 
 abbrev view : ℕ → ℕ
-view = set_at (λ q. 0) 1 1
+view = with_value_at (λ q. 0) 1 1
 
 abbrev begun_round : NodeRound
 begun_round = new_node_round 0 view
@@ -224,10 +224,10 @@ readies : IsReachableNetwork 2 1 ready
 readies = steps was_read second (Some (stored_packet 1 0 asked.stored)) (down_node (down_with read_round)) [] [] (omega arith) reads (inl refl) (hear_stored_row (down_with heard_round) heard_round asked.stored refl (λ d h. absurd (false≢true h))) (λ new was. absurd was)
 
 abbrev recovered : Network
-recovered = after_step ready 1 (up_node (after_restart 1 1 read_round)) [] (Restart second both ∷ [])
+recovered = after_step ready 1 (up_node (up_after_restart 1 1 read_round)) [] (Restart second both ∷ [])
 
 restarts : IsReachableNetwork 2 1 recovered
-restarts = steps ready second None (up_node (after_restart 1 1 read_round)) [] (Restart second both ∷ []) (omega arith) readies tt (restart_row (down_with read_round) read_round both refl refl all (λ d. sym (or_false (list_has both d)))) (λ new was. absurd was)
+restarts = steps ready second None (up_node (up_after_restart 1 1 read_round)) [] (Restart second both ∷ []) (omega arith) readies tt (restart_row (down_with read_round) read_round both refl refl all (λ d. sym (or_false (list_has both d)))) (λ new was. absurd was)
   where
     all : (q : ℕ) → q < 3 → (q ≡ 1 → ⊥) → read_round.heard q ≡ true
     all zero low apart = refl
@@ -236,4 +236,4 @@ restarts = steps ready second None (up_node (after_restart 1 1 read_round)) [] (
     all (suc (suc (suc q))) low apart = absurd (omega (arith, low))
 
 pub nodes_recover : NodesRecover
-nodes_recover = (recovered, restarts, after_restart 1 1 read_round, refl, refl, own, refl, refl)
+nodes_recover = (recovered, restarts, up_after_restart 1 1 read_round, refl, refl, own, refl, refl)

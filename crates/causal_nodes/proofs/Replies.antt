@@ -5,16 +5,16 @@ use Rattle.std.proofs.lemmas.Bool.{both_ways, or_cases, or_left, or_right, and_f
 use Rattle.causal_name.specs.declared.Det.{Det}
 use Rattle.causal_name.specs.Names.{same_det}
 use Rattle.causal_trace.specs.Past.{is_stable}
-use Rattle.causal_rounds.specs.Rounds.{set_at, Round}
+use Rattle.causal_rounds.specs.Rounds.{with_value_at, Round}
 use Rattle.causal_rounds.proofs.Lemmas.RoundSteps.{set_at_cases}
 use Rattle.causal_world.specs.World.{Packet, World}
 use Rattle.causal_nodes.specs.Node.{NodeRound}
 use Rattle.causal_nodes.specs.Packets.{Sent, message_packet, acknowledgement_packet, write_packet, written_packet, question_packet, answer_packet, not_up_packet, read_packet, stored_packet, number_packet, WasSent}
-use Rattle.causal_nodes.specs.NodeSteps.{after_answer, with_heard, with_stored}
+use Rattle.causal_nodes.specs.NodeSteps.{after_answer, with_heard, round_with_stored}
 use Rattle.causal_nodes.proofs.Represents.{IsPacket, ReplyFits, IsToldBy, GatheringFits}
 
 -- a test that holds still holds after another number was added
-pub still_true : (f : ℕ → Bool) (y q : ℕ) → f q ≡ true → set_at f y true q ≡ true
+pub still_true : (f : ℕ → Bool) (y q : ℕ) → f q ≡ true → with_value_at f y true q ≡ true
 still_true f y q h = elim (set_at_cases f y true q) [ inl is ↦ is.1 | inr other ↦ other.1 ∙ h ]
 
 module _ (n : ℕ) (w : World) (sent : List Sent) (s : ℕ) (nr : NodeRound) (r : Round) (g : GatheringFits n w sent s nr r) where
@@ -111,7 +111,7 @@ module _ (n : ℕ) (w : World) (sent : List Sent) (s : ℕ) (nr : NodeRound) (r 
   -- a determinant that stable storage has, and whose entry is recorded
   module _ (det : Det) (stable : (d : Det) → same_det d det ≡ true → is_stable w.past d ≡ true) where
     abbrev fuller_round : NodeRound
-    fuller_round = with_stored det nr
+    fuller_round = round_with_stored det nr
 
     fuller_has : (d : Det) → nr.gathered.has d ≡ true → fuller_round.gathered.has d ≡ true
     fuller_has d h = or_left (nr.gathered.has d) (same_det d det) h

@@ -9,7 +9,7 @@ use Rattle.causal_holders.proofs.Lemmas.MemberCounts.{count_below-same}
 use Rattle.causal_trace.specs.declared.entry.Entry.TheVariants.{Crash, Restart}
 use Rattle.causal_trace.specs.Past.{list_has, is_down, logs, is_stable, deliveries}
 use Rattle.causal_steps.proofs.Lemmas.Reachable.{reachable_safe}
-use Rattle.causal_rounds.specs.Rounds.{set_at, Round, number, new_round}
+use Rattle.causal_rounds.specs.Rounds.{with_value_at, Round, number, new_round}
 use Rattle.causal_rounds.proofs.Lemmas.RoundSteps.{set_at_cases}
 use Rattle.causal_world.specs.World.{Packet, World, GatheredFrom, volatile_of}
 use Rattle.causal_world.specs.Steps as world
@@ -17,7 +17,7 @@ use Rattle.causal_world.specs.Reachable.{IsReachableWorld, next_world}
 use Rattle.causal_world.proofs.Lemmas.Functions.{set_at_here, set_at_away, below_is}
 use Rattle.causal_nodes.specs.Node.{UpNode, NodeRound, DownNode, Node, up_node, down_node, is_node_down}
 use Rattle.causal_nodes.specs.Packets.{Sent, question_packet, WasSent, is_of_round}
-use Rattle.causal_nodes.specs.NodeSteps.{with_round, fallen_node, new_node_round, after_restart}
+use Rattle.causal_nodes.specs.NodeSteps.{with_round, fallen_node, new_node_round, up_after_restart}
 use Rattle.causal_nodes.specs.Network.{Network}
 use Rattle.causal_nodes.proofs.Represents.{ReplyFits, GatheringFits, UpFits, DownFits, NodeFits, Represents}
 use Rattle.causal_nodes.proofs.Kept.{IsLater, IsUntouched, told_later, packets_and_one, packets_later, node_kept, node_and_one, nodes_and_one}
@@ -56,7 +56,7 @@ module _ (n f : ℕ) (net : Network) (w : World) (reach : IsReachableWorld n f w
     abbrev fallen : World
     fallen = record {
       past = Crash who ∷ w.past;
-      rounds = record { lane = w.rounds.lane; down = set_at w.rounds.down who.0 true; floors = w.rounds.floors; rounds = w.rounds.rounds };
+      rounds = record { lane = w.rounds.lane; down = with_value_at w.rounds.down who.0 true; floors = w.rounds.floors; rounds = w.rounds.rounds };
       knows_holder = λ p d q. not (who.0 == p) && w.knows_holder p d q;
       knows_stable = λ p d. not (who.0 == p) && w.knows_stable p d;
       packets = w.packets;
@@ -70,14 +70,14 @@ module _ (n f : ℕ) (net : Network) (w : World) (reach : IsReachableWorld n f w
 
     numbers : (q : ℕ) → number w.rounds q ≤ number fallen.rounds q
     numbers q = elim (set_at_cases w.rounds.down who.0 true q) [
-      | inl is ↦ subst (λ m. number w.rounds q ≤ m) (sym (cond-true (set_at w.rounds.down who.0 true q) (w.rounds.lane q + 1) (w.rounds.lane q) is.1)) (greatest_number (w.rounds.down q) (w.rounds.lane q))
+      | inl is ↦ subst (λ m. number w.rounds q ≤ m) (sym (cond-true (with_value_at w.rounds.down who.0 true q) (w.rounds.lane q + 1) (w.rounds.lane q) is.1)) (greatest_number (w.rounds.down q) (w.rounds.lane q))
       | inr other ↦ subst (λ (b : Bool). number w.rounds q ≤ cond b (w.rounds.lane q + 1) (w.rounds.lane q)) (sym other.1) (le_self (number w.rounds q))
     ]
 
     later_fallen : IsLater w fallen
     later_fallen = record { numbers = numbers; packets = λ i t at. at; stable = λ d h. h; stored = λ d h. h; messages = message_older (Crash who) w.past }
 
-    pub crashes : IsWorldOf n f (record { past = Crash who ∷ net.past; nodes = set_at net.nodes who.0 (down_node (fallen_node a.lane)); sent = net.sent; stored = net.stored; floors = net.floors })
+    pub crashes : IsWorldOf n f (record { past = Crash who ∷ net.past; nodes = with_value_at net.nodes who.0 (down_node (fallen_node a.lane)); sent = net.sent; stored = net.stored; floors = net.floors })
     crashes = (
       fallen,
       next_world w fallen reach (world.crash who low (up_in_past n f net w reach rep who.0 low fits.is_up) few_down),
@@ -111,7 +111,7 @@ module _ (n f : ℕ) (net : Network) (w : World) (reach : IsReachableWorld n f w
     abbrev pub with_own_round : Option Round → (ℕ → Det → Bool) → World
     with_own_round o gathered = record {
       past = w.past;
-      rounds = record { lane = w.rounds.lane; down = w.rounds.down; floors = w.rounds.floors; rounds = set_at w.rounds.rounds me o };
+      rounds = record { lane = w.rounds.lane; down = w.rounds.down; floors = w.rounds.floors; rounds = with_value_at w.rounds.rounds me o };
       knows_holder = w.knows_holder;
       knows_stable = w.knows_stable;
       packets = w.packets;
@@ -126,7 +126,7 @@ module _ (n f : ℕ) (net : Network) (w : World) (reach : IsReachableWorld n f w
     pub untouched_round : (o : Option Round) (gathered : ℕ → Det → Bool) (q : ℕ) → (q ≡ me → ⊥) → ((d : Det) → gathered q d ≡ w.gathered q d) → IsUntouched w (with_own_round o gathered) q
     untouched_round o gathered q other same = record { is_down = refl; lane = refl; floors = λ z. refl; round = set_at_away w.rounds.rounds me o q other; gathered = same; holders = λ d h. refl; stables = λ d. refl; logged = λ d. refl; received = refl }
 
-    pub gives_up : IsWorldOf n f (record { past = net.past; nodes = set_at net.nodes me (down_node (fallen_node x.lane)); sent = net.sent; stored = net.stored; floors = net.floors })
+    pub gives_up : IsWorldOf n f (record { past = net.past; nodes = with_value_at net.nodes me (down_node (fallen_node x.lane)); sent = net.sent; stored = net.stored; floors = net.floors })
     gives_up = (
       with_own_round None w.gathered,
       next_world w (with_own_round None w.gathered) reach (world.give_up me),
@@ -178,7 +178,7 @@ module _ (n f : ℕ) (net : Network) (w : World) (reach : IsReachableWorld n f w
       gone q high = (ap not (above_is q (suc n) high), out_view q (omega (arith, high)) ∙ number_down w.rounds q ((invariant n f net w reach rep).absent.down q high))
 
       abbrev empty : ℕ → Det → Bool
-      empty = set_at w.gathered me (λ d. false)
+      empty = with_value_at w.gathered me (λ d. false)
 
       abbrev begun : World
       begun = with_own_round (Some (new_round full_view absent)) empty
@@ -201,7 +201,7 @@ module _ (n f : ℕ) (net : Network) (w : World) (reach : IsReachableWorld n f w
         ];
       }
 
-      pub begins : IsWorldOf n f (record { past = net.past; nodes = set_at net.nodes me (down_node (with_round x (Some (new_node_round name view)))); sent = question_packet me name view ∷ net.sent; stored = net.stored; floors = net.floors })
+      pub begins : IsWorldOf n f (record { past = net.past; nodes = with_value_at net.nodes me (down_node (with_round x (Some (new_node_round name view)))); sent = question_packet me name view ∷ net.sent; stored = net.stored; floors = net.floors })
       begins = (
         begun,
         next_world w begun reach (world.begin me full_view absent low before.is_down (in_view me low ∙ own ∙ ap (λ m. m + 1) (sym before.lane)) all_told (λ q low_q. ap not (below_is q (suc n) low_q)) gone),
@@ -229,22 +229,22 @@ module _ (n f : ℕ) (net : Network) (w : World) (reach : IsReachableWorld n f w
     r = found.0
 
     abbrev node : UpNode
-    node = after_restart me.0 (x.lane + 1) nr
+    node = up_after_restart me.0 (x.lane + 1) nr
 
     abbrev known : ℕ → Det → ℕ → Bool
-    known = set_at w.knows_holder me.0 node.log.holder
+    known = with_value_at w.knows_holder me.0 node.log.holder
 
     abbrev marked : ℕ → Det → Bool
-    marked = set_at w.knows_stable me.0 node.log.stable
+    marked = with_value_at w.knows_stable me.0 node.log.stable
 
     abbrev risen : World
     risen = record {
       past = Restart me listed ∷ w.past;
       rounds = record {
-        lane = set_at w.rounds.lane me.0 (w.rounds.lane me.0 + 1);
-        down = set_at w.rounds.down me.0 false;
-        floors = set_at w.rounds.floors me.0 r.view;
-        rounds = set_at w.rounds.rounds me.0 None;
+        lane = with_value_at w.rounds.lane me.0 (w.rounds.lane me.0 + 1);
+        down = with_value_at w.rounds.down me.0 false;
+        floors = with_value_at w.rounds.floors me.0 r.view;
+        rounds = with_value_at w.rounds.rounds me.0 None;
       };
       knows_holder = known;
       knows_stable = marked;
@@ -336,7 +336,7 @@ module _ (n f : ℕ) (net : Network) (w : World) (reach : IsReachableWorld n f w
       received = sym (cond-true (me.0 == me.0) 0 (deliveries w.past me.0) (same_is me.0));
     }
 
-    pub restarts : IsWorldOf n f (record { past = Restart me listed ∷ net.past; nodes = set_at net.nodes me.0 (up_node node); sent = net.sent; stored = net.stored; floors = net.floors })
+    pub restarts : IsWorldOf n f (record { past = Restart me listed ∷ net.past; nodes = with_value_at net.nodes me.0 (up_node node); sent = net.sent; stored = net.stored; floors = net.floors })
     restarts = (
       risen,
       next_world w risen reach (world.restart me listed r known marked low found.1 all_replied (λ d h. inl (lists d ∙ storage.1 d h)) (λ d h dest. lists d ∙ storage.1 d h) from new_known itself keeps marks),

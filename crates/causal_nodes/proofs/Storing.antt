@@ -5,7 +5,7 @@ use Rattle.std.proofs.Math.Nat.{le-max_left, le-max_right, max-le}
 use Rattle.std.proofs.lemmas.Bool.{both_ways, or_cases, or_left, or_right, and_left, and_right, and_from, eq-eqb, cases_lt, cases_eq, cond-true, cond-false}
 use Rattle.causal_name.specs.declared.Det.{Det}
 use Rattle.causal_trace.specs.Past.{is_stable}
-use Rattle.causal_rounds.specs.Rounds.{set_at, Round, number, with_reply}
+use Rattle.causal_rounds.specs.Rounds.{with_value_at, Round, number, with_reply}
 use Rattle.causal_rounds.proofs.Lemmas.RoundSteps.{set_at_cases}
 use Rattle.causal_world.specs.World.{Packet, World}
 use Rattle.causal_world.specs.Steps as world
@@ -45,7 +45,7 @@ module _ (n f : ℕ) (net : Network) (w : World) (reach : IsReachableWorld n f w
     written = rep.packets (write_packet p) was
 
     abbrev after : World
-    after = record { past = w.past; rounds = w.rounds; knows_holder = w.knows_holder; knows_stable = w.knows_stable; packets = w.packets; gathered = w.gathered; stored = λ d. w.stored d || p.parcel.carries d; landed = set_at w.landed written.0.0 true }
+    after = record { past = w.past; rounds = w.rounds; knows_holder = w.knows_holder; knows_stable = w.knows_stable; packets = w.packets; gathered = w.gathered; stored = λ d. w.stored d || p.parcel.carries d; landed = with_value_at w.landed written.0.0 true }
 
     later : IsLater w after
     later = record { numbers = λ q. omega arith; packets = λ i t at. at; stable = λ d h. h; stored = λ d h. or_left (w.stored d) (p.parcel.carries d) h; messages = λ send m h. h }
@@ -85,7 +85,7 @@ module _ (n f : ℕ) (net : Network) (w : World) (reach : IsReachableWorld n f w
     abbrev fenced : World
     fenced = record {
       past = w.past;
-      rounds = record { lane = w.rounds.lane; down = w.rounds.down; floors = set_at w.rounds.floors n fence; rounds = w.rounds.rounds };
+      rounds = record { lane = w.rounds.lane; down = w.rounds.down; floors = with_value_at w.rounds.floors n fence; rounds = w.rounds.rounds };
       knows_holder = w.knows_holder;
       knows_stable = w.knows_stable;
       packets = w.packets;
@@ -182,11 +182,11 @@ module _ (n f : ℕ) (net : Network) (w : World) (reach : IsReachableWorld n f w
         abbrev after_reply : World
         after_reply = record {
           past = w.past;
-          rounds = record { lane = w.rounds.lane; down = w.rounds.down; floors = set_at w.rounds.floors n raised_fence; rounds = set_at w.rounds.rounds s (Some (with_reply r n true)) };
+          rounds = record { lane = w.rounds.lane; down = w.rounds.down; floors = with_value_at w.rounds.floors n raised_fence; rounds = with_value_at w.rounds.rounds s (Some (with_reply r n true)) };
           knows_holder = w.knows_holder;
           knows_stable = w.knows_stable;
           packets = w.packets;
-          gathered = set_at w.gathered s (λ d. w.gathered s d || w.stored d);
+          gathered = with_value_at w.gathered s (λ d. w.gathered s d || w.stored d);
           stored = w.stored;
           landed = w.landed;
         }

@@ -6,7 +6,7 @@ use Rattle.causal_name.specs.Sets.{count_below}
 use Rattle.causal_trace.specs.declared.entry.Entry.{Entry}
 use Rattle.causal_trace.specs.declared.entry.Entry.TheVariants.{Crash}
 use Rattle.causal_trace.specs.Judgement.{IsSafeTrace}
-use Rattle.causal_rounds.specs.Rounds.{set_at}
+use Rattle.causal_rounds.specs.Rounds.{with_value_at}
 use Rattle.causal_world.specs.World.{Packet}
 use Rattle.causal_nodes.specs.Node.{UpNode, DownNode, Node, up_node, down_node, is_node_down}
 use Rattle.causal_nodes.specs.Packets.{Sent, message_packet, acknowledgement_packet, write_packet, written_packet, question_packet, answer_packet, read_packet, stored_packet, WasSent, WasTaken, is_of_round}
@@ -34,10 +34,10 @@ pub data NetworkEvent (n f : ℕ) (net : Network) : Network → Type 0 where
       → WasTaken net.sent taken
       → NodeStep n f me (length net.past) (net.nodes me.0) taken node emitted entries
       → ((new : Sent) → WasSent emitted new → HasFreshName net.sent new)
-      → NetworkEvent n f net (record { past = entries ++ net.past; nodes = set_at net.nodes me.0 node; sent = emitted ++ net.sent; stored = net.stored; floors = net.floors })
+      → NetworkEvent n f net (record { past = entries ++ net.past; nodes = with_value_at net.nodes me.0 node; sent = emitted ++ net.sent; stored = net.stored; floors = net.floors })
   crash_event : (who : Pid) (a : UpNode) → who.0 < n → net.nodes who.0 ≡ up_node a
       → count_below n (λ q. is_node_down (net.nodes q)) < f
-      → NetworkEvent n f net (record { past = Crash who ∷ net.past; nodes = set_at net.nodes who.0 (down_node (fallen_node a.lane)); sent = net.sent; stored = net.stored; floors = net.floors })
+      → NetworkEvent n f net (record { past = Crash who ∷ net.past; nodes = with_value_at net.nodes who.0 (down_node (fallen_node a.lane)); sent = net.sent; stored = net.stored; floors = net.floors })
   -- stable storage takes a write of no refused lane, and confirms it
   store_event : (p : Packet) → WasSent net.sent (write_packet p) → net.floors p.parcel.from ≤ p.lane
       → NetworkEvent n f net (record { past = net.past; nodes = net.nodes; sent = written_packet p.parcel.carries ∷ net.sent; stored = λ d. net.stored d || p.parcel.carries d; floors = net.floors })

@@ -38,9 +38,9 @@ pub data Node : Type 0 where
   down_node : DownNode → Node
 
 -- its lane, or its next one while it is down
-abbrev pub number_of : Node → ℕ
-number_of (up_node a) = a.lane
-number_of (down_node x) = x.lane + 1
+abbrev pub lane_or_next : Node → ℕ
+lane_or_next (up_node a) = a.lane
+lane_or_next (down_node x) = x.lane + 1
 
 abbrev pub is_node_down : Node → Bool
 is_node_down (up_node a) = false

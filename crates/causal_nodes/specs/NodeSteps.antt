@@ -9,10 +9,10 @@ use Rattle.causal_name.specs.Sets.{count_below}
 use Rattle.causal_trace.specs.declared.entry.Entry.{Entry}
 use Rattle.causal_trace.specs.declared.entry.Entry.TheVariants.{Send, Deliver, Stable, Restart, Forget}
 use Rattle.causal_trace.specs.Past.{list_has, det_from}
-use Rattle.causal_steps.specs.Transit.{Parcel}
-use Rattle.causal_rounds.specs.Rounds.{set_at}
+use Rattle.causal_steps.specs.Transit.{TransitParcel}
+use Rattle.causal_rounds.specs.Rounds.{with_value_at}
 use Rattle.causal_world.specs.World.{Packet}
-use Rattle.causal_nodes.specs.Node.{NodeLog, UpNode, NodeRound, DownNode, Node, up_node, down_node, number_of}
+use Rattle.causal_nodes.specs.Node.{NodeLog, UpNode, NodeRound, DownNode, Node, up_node, down_node, lane_or_next}
 use Rattle.causal_nodes.specs.Packets.{Sent, message_packet, acknowledgement_packet, write_packet, written_packet, question_packet, answer_packet, not_up_packet, read_packet, stored_packet, number_packet}
 
 -- floors raised to a view
@@ -33,24 +33,24 @@ abbrev pub with_one_sent : UpNode → UpNode
 with_one_sent a = record { lane = a.lane; log = a.log; floors = a.floors; sent = a.sent + 1; received = a.received }
 
 -- the log of p after a delivery that lists these: it knows the holders that the message names, and that p is one
-abbrev pub log_after_delivery : ℕ → List Det → Parcel → NodeLog → NodeLog
-log_after_delivery p listed t log = record {
+abbrev pub node_log_after_delivery : ℕ → List Det → TransitParcel → NodeLog → NodeLog
+node_log_after_delivery p listed t log = record {
   has = λ d. list_has listed d || log.has d;
   holder = λ d q. (list_has listed d && (t.names_holder d q || q == p)) || log.holder d q;
   stable = log.stable;
 }
 
-abbrev pub after_delivery : ℕ → MsgName → List Det → Parcel → UpNode → UpNode
-after_delivery p name listed t a = record {
+abbrev pub up_after_delivery : ℕ → MsgName → List Det → TransitParcel → UpNode → UpNode
+up_after_delivery p name listed t a = record {
   lane = a.lane;
-  log = log_after_delivery p listed t a.log;
+  log = node_log_after_delivery p listed t a.log;
   floors = a.floors;
   sent = a.sent;
   received = a.received ++ name ∷ [];
 }
 
 -- the log after an acknowledgement: of what is logged it knows the holders that the acknowledgement names
-abbrev pub log_after_acknowledgement : Parcel → NodeLog → NodeLog
+abbrev pub log_after_acknowledgement : TransitParcel → NodeLog → NodeLog
 log_after_acknowledgement t log = record { has = log.has; holder = λ d q. (log.has d && t.names_holder d q) || log.holder d q; stable = log.stable }
 
 -- the log after a determinant is known to be stable
@@ -75,11 +75,11 @@ abbrev pub new_node_round : ℕ → (ℕ → ℕ) → NodeRound
 new_node_round name view = record { name = name; view = view; heard = λ q. false; gathered = empty_log }
 
 -- a round after a reply: an answer, one that brings nothing, and one of stable storage, whole or in part
-abbrev pub after_answer : ℕ → Parcel → NodeRound → NodeRound
+abbrev pub after_answer : ℕ → TransitParcel → NodeRound → NodeRound
 after_answer from t r = record {
   name = r.name;
   view = r.view;
-  heard = set_at r.heard from true;
+  heard = with_value_at r.heard from true;
   gathered = record {
     has = λ d. r.gathered.has d || t.carries d;
     holder = λ d q. r.gathered.holder d q || t.names_holder d q;
@@ -88,10 +88,10 @@ after_answer from t r = record {
 }
 
 abbrev pub with_heard : ℕ → NodeRound → NodeRound
-with_heard from r = record { name = r.name; view = r.view; heard = set_at r.heard from true; gathered = r.gathered }
+with_heard from r = record { name = r.name; view = r.view; heard = with_value_at r.heard from true; gathered = r.gathered }
 
-abbrev pub with_stored : Det → NodeRound → NodeRound
-with_stored det r = record {
+abbrev pub round_with_stored : Det → NodeRound → NodeRound
+round_with_stored det r = record {
   name = r.name;
   view = r.view;
   heard = r.heard;
@@ -103,8 +103,8 @@ with_stored det r = record {
 }
 
 -- the memory of p after a restart with this round
-abbrev pub after_restart : ℕ → ℕ → NodeRound → UpNode
-after_restart p lane r = record {
+abbrev pub up_after_restart : ℕ → ℕ → NodeRound → UpNode
+up_after_restart p lane r = record {
   lane = lane;
   log = record { has = r.gathered.has; holder = λ d q. (r.gathered.has d && q == p) || r.gathered.holder d q; stable = r.gathered.stable };
   floors = r.view;
@@ -137,7 +137,7 @@ pub data NodeStep (n f : ℕ) (me : Pid) (position : ℕ) : Node → Option Sent
       → a.floors p.parcel.from ≤ p.lane → p.parcel.send ≡ Some send → list_any (same_message name) a.received ≡ false
       → ((d : Det) → a.log.has d ≡ true → d.dest ≡ me → d.rsn ≡ length a.received → message_of d ≡ name)
       → ((d : Det) → list_has listed d ≡ (same_det d (det_from me (length a.received) name) || p.parcel.carries d))
-      → NodeStep n f me position (up_node a) (Some (message_packet name p)) (up_node (after_delivery me.0 name listed p.parcel a)) [] (Deliver me send (length a.received) listed ∷ [])
+      → NodeStep n f me position (up_node a) (Some (message_packet name p)) (up_node (up_after_delivery me.0 name listed p.parcel a)) [] (Deliver me send (length a.received) listed ∷ [])
   acknowledge_row : (a : UpNode) (new : Packet) → IsOfNodeLog me.0 a new → new.parcel.send ≡ None
       → NodeStep n f me position (up_node a) None (up_node a) (acknowledgement_packet new ∷ []) []
   learn_row : (a : UpNode) (p : Packet) → p.to ≡ me.0 → a.floors p.parcel.from ≤ p.lane
@@ -158,10 +158,10 @@ pub data NodeStep (n f : ℕ) (me : Pid) (position : ℕ) : Node → Option Sent
       → new.to ≡ s → new.parcel.send ≡ None → ((d : Det) → new.parcel.carries d ≡ a.log.has d)
       → NodeStep n f me position (up_node a) (Some (question_packet s name view)) (up_node (with_floors a (raised a.floors view))) (answer_packet name new ∷ []) []
   -- any process sends its number
-  tell_row : (old : Node) → NodeStep n f me position old None old (number_packet me.0 (number_of old) ∷ []) []
+  tell_row : (old : Node) → NodeStep n f me position old None old (number_packet me.0 (lane_or_next old) ∷ []) []
   -- a process that is down hears a number
   hear_number_row : (x : DownNode) (q number : ℕ)
-      → NodeStep n f me position (down_node x) (Some (number_packet q number)) (down_node (record { lane = x.lane; told = set_at x.told q number; round = x.round })) [] []
+      → NodeStep n f me position (down_node x) (Some (number_packet q number)) (down_node (record { lane = x.lane; told = with_value_at x.told q number; round = x.round })) [] []
   -- a round begins, with its next lane, and numbers not above those that others have sent
   begin_row : (x : DownNode) (name : ℕ) (view : ℕ → ℕ) → view me.0 ≡ x.lane + 1
       → ((q : ℕ) → (q ≡ me.0 → ⊥) → view q ≤ x.told q)
@@ -182,11 +182,11 @@ pub data NodeStep (n f : ℕ) (me : Pid) (position : ℕ) : Node → Option Sent
   -- what it has stored is recorded, one determinant after the other, and then the reply counts
   take_stored_row : (x : DownNode) (r : NodeRound) (dets : Det → Bool) (det : Det) → x.round ≡ Some r
       → dets det ≡ true
-      → NodeStep n f me position (down_node x) (Some (stored_packet me.0 r.name dets)) (down_node (with_round x (Some (with_stored det r)))) [] (Stable det ∷ [])
+      → NodeStep n f me position (down_node x) (Some (stored_packet me.0 r.name dets)) (down_node (with_round x (Some (round_with_stored det r)))) [] (Stable det ∷ [])
   hear_stored_row : (x : DownNode) (r : NodeRound) (dets : Det → Bool) → x.round ≡ Some r
       → ((d : Det) → dets d ≡ true → r.gathered.has d ≡ true)
       → NodeStep n f me position (down_node x) (Some (stored_packet me.0 r.name dets)) (down_node (with_round x (Some (with_heard n r)))) [] []
   -- after all replies the process comes up in its next lane with what it has gathered
   restart_row : (x : DownNode) (r : NodeRound) (listed : List Det) → is_ascending listed ≡ true → x.round ≡ Some r
       → ((q : ℕ) → q < suc n → (q ≡ me.0 → ⊥) → r.heard q ≡ true) → ((d : Det) → list_has listed d ≡ r.gathered.has d)
-      → NodeStep n f me position (down_node x) None (up_node (after_restart me.0 (x.lane + 1) r)) [] (Restart me listed ∷ [])
+      → NodeStep n f me position (down_node x) None (up_node (up_after_restart me.0 (x.lane + 1) r)) [] (Restart me listed ∷ [])

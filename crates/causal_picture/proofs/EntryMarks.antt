@@ -15,7 +15,7 @@ use Rattle.causal_picture.specs.declared.marks.MarkEvent.{MarkEvent}
 use Rattle.causal_picture.specs.declared.marks.MarkEvent.TheVariants as shown
 use Rattle.causal_picture.specs.declared.marks.Mark.{Mark}
 use Rattle.causal_picture.specs.declared.entry_range.EntryRange.{EntryRange}
-use Rattle.causal_picture.specs.Marks.{event_of, mark_at, marks_of, HasAllMarks}
+use Rattle.causal_picture.specs.Marks.{mark_event_of, mark_at, marks_of, HasAllMarks}
 
 -- the delivered message was sent
 abbrev IsSupplied : List Entry → Entry → Type 0
@@ -66,7 +66,7 @@ delivery_told to send rsn (Crash who) h = absurd (false≢true h)
 delivery_told to send rsn (Restart who listed) h = absurd (false≢true h)
 delivery_told to send rsn (Forget who listed) h = absurd (false≢true h)
 
-event_told : (past : List Entry) (x : Entry) → IsSupplied past x → (what : MarkEvent) × (event_of past x ≡ Some what)
+event_told : (past : List Entry) (x : Entry) → IsSupplied past x → (what : MarkEvent) × (mark_event_of past x ≡ Some what)
 event_told past (Send from to ssn) h = (shown.Send from to ssn, refl)
 event_told past (Deliver to send rsn listed) h =
     elim (entry_at past send) as (λ o. option_map_or (is_send_to to.0) o false ≡ true
@@ -86,8 +86,8 @@ mark_there : (n : ℕ) (past : List Entry) → AreLegalEntries n past → (k : �
 mark_there n past all k h =
     let at = supplied_at n past all k h in
     let what = event_told past at.0 at.2 in
-    let told : option_and_then (event_of past) (entry_at past k) ≡ Some what.0 =
-    ap (option_and_then (event_of past)) at.1 ∙ what.1 in
+    let told : option_and_then (mark_event_of past) (entry_at past k) ≡ Some what.0 =
+    ap (option_and_then (mark_event_of past)) at.1 ∙ what.1 in
     let mark : MarkEvent → Mark = λ e. record { position = k; event = e } in
     (record { position = k; event = what.0 }, ap (option_map mark) told, refl)
 

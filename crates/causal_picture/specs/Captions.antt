@@ -2,22 +2,22 @@
 use Rattle.std.specs.Prelude.{ℕ, List, ◌++◌, codes, decimal, Option, Some, None}
 use Rattle.causal_picture.specs.declared.focus.Focus.{Focus}
 use Rattle.causal_picture.specs.declared.focus.Orphan.{Orphan}
-use Rattle.causal_picture.specs.Titles.{line_of}
+use Rattle.causal_picture.specs.Titles.{line_at}
 
 -- `orphan f=1: process 2 depends on the delivery of line 3`
 abbrev pub orphan_text : ℕ → Orphan → List ℕ
 orphan_text faults o =
     codes "orphan f=" ++ (decimal faults ++ (codes ": process " ++ (decimal o.process ++ (codes " depends on the delivery of line "
-    ++ decimal (line_of o.delivery)))))
+    ++ decimal (line_at o.delivery)))))
 
 -- the caption of an orphan, or of too many down processes
-abbrev pub breach_of : ℕ → Option Orphan → List ℕ
-breach_of faults (Some o) = orphan_text faults o
-breach_of faults None = codes "exceeded f=" ++ (decimal faults ++ codes ": the shaded processes are down")
+abbrev pub breach_caption : ℕ → Option Orphan → List ℕ
+breach_caption faults (Some o) = orphan_text faults o
+breach_caption faults None = codes "exceeded f=" ++ (decimal faults ++ codes ": the shaded processes are down")
 
 -- the caption of a breach: an orphan, or too many down processes
 abbrev pub breach_text : ℕ → Focus → List ℕ
-breach_text faults f = breach_of faults f.orphan
+breach_text faults f = breach_caption faults f.orphan
 
 -- the caption of a focus; without a focus the run is safe
 unfoldable pub verdict_text : ℕ → Option Focus → List ℕ

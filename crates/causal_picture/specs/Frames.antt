@@ -1,9 +1,9 @@
 -- The SVG text around the events: head, rows of the processes, and marks of hidden entries.
 use Rattle.std.specs.Prelude.{ℕ, ◌+◌, ◌-◌, Bool, if◌then◌else◌, ◌==◌, nat_lt, List, [], ◌++◌, codes, decimal}
 use Rattle.causal_picture.specs.declared.entry_range.Grid.{Grid}
-use Rattle.causal_picture.specs.Layout.{width_of, height_of, columns_of, right_of, row_of, bottom_of, x_of_instant, y_of}
+use Rattle.causal_picture.specs.Layout.{width_of, height_of, column_count, right_of, row_height, bottom_of, x_of_instant, y_of}
 use Rattle.causal_picture.specs.Rows.{rows_of, hidden_of}
-use Rattle.causal_picture.specs.Titles.{line_of}
+use Rattle.causal_picture.specs.Titles.{line_at}
 use Rattle.causal_picture.specs.Glyphs.{level_text, upright_text}
 use Rattle.causal_picture.specs.declared.glyphs.Label.TheVariants.{Name, NameAgain}
 use Rattle.causal_picture.specs.Labels.{label_text}
@@ -15,8 +15,8 @@ root_text width height =
     ++ (codes "' viewBox='0 0 " ++ (decimal width ++ (codes " " ++ (decimal height ++ codes "' font-family='sans-serif' font-size='12'>\n<title>Space-time diagram of a recorded run</title>\n")))))))
 
 -- the picture's description begins with the number of shown processes
-unfoldable pub count_text : Grid → List ℕ
-count_text g =
+unfoldable pub shown_count_text : Grid → List ℕ
+shown_count_text g =
     if hidden_of g == 0
     then codes "<desc>All " ++ decimal g.processes
     else codes "<desc>" ++ (decimal (rows_of g) ++ (codes " of " ++ decimal g.processes))
@@ -31,7 +31,7 @@ description_text count entries line =
 unfoldable pub head_text : Grid → ℕ → List ℕ
 head_text g entries =
     root_text (width_of g) (height_of (rows_of g))
-    ++ (count_text g ++ (description_text (columns_of g) entries (line_of g.early.first)
+    ++ (shown_count_text g ++ (description_text (column_count g) entries (line_at g.early.first)
     ++ codes "<defs><marker id='arrowhead' viewBox='0 0 10 10' refX='16' refY='5' markerWidth='8' markerHeight='8' markerUnits='userSpaceOnUse' orient='auto'><path d='M0 0L10 5L0 10z' fill='#555'/></marker></defs>\n<rect width='100%' height='100%' fill='white'/>\n"))
 
 -- the shade behind the line of a process in the crash set
@@ -39,7 +39,7 @@ abbrev pub shade_text : Grid → ℕ → Bool → List ℕ
 shade_text g p is_shaded =
     if is_shaded
     then codes "<path d='M0 " ++ (decimal (y_of g p) ++ (codes "H" ++ (decimal (width_of g) ++ (codes "' fill='none' stroke='#ffe3b3' stroke-width='"
-    ++ (decimal (row_of (rows_of g) - 6) ++ codes "'/>\n")))))
+    ++ (decimal (row_height (rows_of g) - 6) ++ codes "'/>\n")))))
     else []
 
 -- the start of a process's group, with its title

@@ -15,24 +15,24 @@ abbrev pub columns_before : Grid → ℕ → ℕ
 columns_before g position = count_before g.early position + count_before g.late position
 
 -- the number of shown entries
-abbrev pub columns_of : Grid → ℕ
-columns_of g = g.early.count + g.late.count
+abbrev pub column_count : Grid → ℕ
+column_count g = g.early.count + g.late.count
 
 -- the distance between entries: 30, or less if all columns would be wider than 2,200
-abbrev pub column_of : Grid → ℕ
-column_of g = min 30 (2200 / (columns_of g + 1))
+abbrev pub column_width : Grid → ℕ
+column_width g = min 30 (2200 / (column_count g + 1))
 
 -- the x of an instant: halfway between the entries before and after it
 abbrev pub x_of_instant : Grid → ℕ → ℕ
-x_of_instant g t = 80 + column_of g / 2 + column_of g * columns_before g t
+x_of_instant g t = 80 + column_width g / 2 + column_width g * columns_before g t
 
 -- the x of an entry: its column; for a hidden entry, the x of the cut
 abbrev pub x_of : Grid → ℕ → ℕ
-x_of g position = if is_shown g position then 80 + column_of g * (columns_before g position + 1) else x_of_instant g position
+x_of g position = if is_shown g position then 80 + column_width g * (columns_before g position + 1) else x_of_instant g position
 
 -- the right end of the processes' lines
 abbrev pub right_of : Grid → ℕ
-right_of g = 80 + column_of g * (columns_of g + 1)
+right_of g = 80 + column_width g * (column_count g + 1)
 
 -- the width of a picture: as its lines or its words require
 abbrev pub width_of : Grid → ℕ
@@ -51,16 +51,16 @@ abbrev pub late_panel : Grid → Panel
 late_panel g = record { range = g.late; left = x_of_instant g g.late.first; right = right_of g }
 
 -- the distance between processes' lines: 40, or less if all rows would be higher than 560, but at least 16
-abbrev pub row_of : ℕ → ℕ
-row_of rows = max 16 (min 40 (560 / (rows + 1)))
+abbrev pub row_height : ℕ → ℕ
+row_height rows = max 16 (min 40 (560 / (rows + 1)))
 
 -- the y of a process's row; of a hidden process, that of the next shown one
 abbrev pub y_of : Grid → ℕ → ℕ
-y_of g process = 92 + row_of (rows_of g) * rank_of g.shown process
+y_of g process = 92 + row_height (rows_of g) * rank_of g.shown process
 
 -- the y at which the legend begins
 abbrev pub bottom_of : ℕ → ℕ
-bottom_of rows = 92 + row_of rows * rows
+bottom_of rows = 92 + row_height rows * rows
 
 -- the height of a picture, with the legend below the rows
 abbrev pub height_of : ℕ → ℕ

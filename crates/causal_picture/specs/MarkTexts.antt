@@ -13,11 +13,11 @@ use Rattle.causal_picture.specs.declared.marks.Mark.{Mark}
 use Rattle.causal_picture.specs.declared.entry_range.Grid.{Grid}
 use Rattle.causal_picture.specs.declared.glyphs.Label.TheVariants.{LineNumber}
 use Rattle.causal_picture.specs.Labels.{label_text}
-use Rattle.causal_picture.specs.Layout.{column_of, x_of, y_of}
-use Rattle.causal_picture.specs.Marks.{process_of}
+use Rattle.causal_picture.specs.Layout.{column_width, x_of, y_of}
+use Rattle.causal_picture.specs.Marks.{mark_process}
 use Rattle.causal_picture.specs.Resent.{is_resent}
 use Rattle.causal_picture.specs.Glyphs.{glyph_of, glyph_text, level_text, straight_text, bent_text}
-use Rattle.causal_picture.specs.Titles.{line_of, title_text}
+use Rattle.causal_picture.specs.Titles.{line_at, title_text}
 
 -- the event at `position` ends p's solid line from `from` on: it is p's crash
 abbrev pub ends_by : ℕ → ℕ → ℕ → MarkEvent → Bool
@@ -67,11 +67,11 @@ upright_number x line =
     codes "<text transform='translate(" ++ (decimal x ++ (codes ",66)rotate(-90)' dy='3' font-size='9' fill='#777'>" ++ (decimal line ++ codes "</text>\n")))
 
 -- the line number of an entry above its column: horizontal if the columns are wide, otherwise vertical
-abbrev pub number_text : Grid → ℕ → List ℕ
-number_text g position =
-    if nat_lt (column_of g) 28
-    then upright_number (x_of g position) (line_of position)
-    else label_text (x_of g position) 62 LineNumber (line_of position)
+abbrev pub line_number_text : Grid → ℕ → List ℕ
+line_number_text g position =
+    if nat_lt (column_width g) 28
+    then upright_number (x_of g position) (line_at position)
+    else label_text (x_of g position) 62 LineNumber (line_at position)
 
 -- the start of an event's group
 abbrev pub group_text : Bool → List ℕ
@@ -79,17 +79,17 @@ group_text is_faint = if is_faint then codes "<g opacity='0.4'>" else codes "<g>
 
 -- the glyph of an event, on the line of its process
 unfoldable pub sign_text : Grid → Mark → List ℕ
-sign_text g m = glyph_text (x_of g m.position) (y_of g (process_of m.event).0) (glyph_of m.event)
+sign_text g m = glyph_text (x_of g m.position) (y_of g (mark_process m.event).0) (glyph_of m.event)
 
 -- an event, faint if its message is sent again: its title, its line number, its arrow or line, and its glyph
 unfoldable pub mark_text : Recording → Grid → Panel → List Mark → Mark → List ℕ
 mark_text r g panel marks m =
-    group_text (is_resent (entries_of r) m) ++ (title_text r.past m ++ (number_text g m.position ++ (link_text g panel marks m
+    group_text (is_resent (entries_of r) m) ++ (title_text r.past m ++ (line_number_text g m.position ++ (link_text g panel marks m
     ++ (sign_text g m ++ codes "</g>\n"))))
 
 -- an event, if its process is shown
 abbrev pub shown_mark_text : Recording → Grid → Panel → List Mark → Mark → List ℕ
-shown_mark_text r g panel marks m = if contains g.shown (process_of m.event).0 then mark_text r g panel marks m else []
+shown_mark_text r g panel marks m = if contains g.shown (mark_process m.event).0 then mark_text r g panel marks m else []
 
 -- the events of a panel on the lines of shown processes, in order
 abbrev pub marks_text : Recording → Grid → Panel → List Mark → List ℕ

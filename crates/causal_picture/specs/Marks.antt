@@ -12,30 +12,30 @@ use Rattle.causal_picture.specs.declared.marks.Mark.{Mark}
 use Rattle.causal_picture.specs.declared.entry_range.EntryRange.{EntryRange}
 
 -- the process on whose line an event is shown; for a stable determinant, its receiver
-abbrev pub process_of : MarkEvent → Pid
-process_of (shown.Send from to ssn) = from
-process_of (shown.Delivery det send) = det.dest
-process_of (shown.Stable det) = det.dest
-process_of (shown.Crash who) = who
-process_of (shown.Restart who) = who
-process_of (shown.Forget who count) = who
+abbrev pub mark_process : MarkEvent → Pid
+mark_process (shown.Send from to ssn) = from
+mark_process (shown.Delivery det send) = det.dest
+mark_process (shown.Stable det) = det.dest
+mark_process (shown.Crash who) = who
+mark_process (shown.Restart who) = who
+mark_process (shown.Forget who count) = who
 
 -- a delivery, with its determinant
-abbrev pub delivery_of : List Entry → Pid → ℕ → ℕ → Option MarkEvent
-delivery_of past to send rsn = option_map (λ m. shown.Delivery (det_from to rsn m) send) (message_at past send)
+abbrev pub delivery_mark : List Entry → Pid → ℕ → ℕ → Option MarkEvent
+delivery_mark past to send rsn = option_map (λ m. shown.Delivery (det_from to rsn m) send) (message_at past send)
 
 -- the event of an entry; none for a delivery whose send does not exist
-abbrev pub event_of : List Entry → Entry → Option MarkEvent
-event_of past (Send from to ssn) = Some (shown.Send from to ssn)
-event_of past (Deliver to send rsn listed) = delivery_of past to send rsn
-event_of past (Stable det) = Some (shown.Stable det)
-event_of past (Crash who) = Some (shown.Crash who)
-event_of past (Restart who listed) = Some (shown.Restart who)
-event_of past (Forget who listed) = Some (shown.Forget who (length listed))
+abbrev pub mark_event_of : List Entry → Entry → Option MarkEvent
+mark_event_of past (Send from to ssn) = Some (shown.Send from to ssn)
+mark_event_of past (Deliver to send rsn listed) = delivery_mark past to send rsn
+mark_event_of past (Stable det) = Some (shown.Stable det)
+mark_event_of past (Crash who) = Some (shown.Crash who)
+mark_event_of past (Restart who listed) = Some (shown.Restart who)
+mark_event_of past (Forget who listed) = Some (shown.Forget who (length listed))
 
 -- the event of the entry at a position
 abbrev pub mark_at : List Entry → ℕ → Option Mark
-mark_at past position = option_map (λ what. record { position = position; event = what }) (option_and_then (event_of past) (entry_at past position))
+mark_at past position = option_map (λ what. record { position = position; event = what }) (option_and_then (mark_event_of past) (entry_at past position))
 
 -- the events of a range's entries, in order
 abbrev pub marks_of : List Entry → EntryRange → List Mark

@@ -15,17 +15,17 @@ use Rattle.causal_picture.specs.Layout.{x_of, x_of_instant, y_of, bottom_of}
 use Rattle.causal_picture.specs.Roles.{processes_text}
 use Rattle.causal_picture.specs.Rows.{rows_of}
 use Rattle.causal_picture.specs.EntryRanges.{is_shown}
-use Rattle.causal_picture.specs.Marks.{mark_at, process_of}
+use Rattle.causal_picture.specs.Marks.{mark_at, mark_process}
 use Rattle.causal_picture.specs.declared.glyphs.Glyph.TheVariants.{Halo}
 use Rattle.causal_picture.specs.Glyphs.{glyph_text, level_text, upright_text}
 
 -- the point of an event
 unfoldable pub point_of : Grid → Mark → Point
-point_of g m = record { x = x_of g m.position; y = y_of g (process_of m.event).0 }
+point_of g m = record { x = x_of g m.position; y = y_of g (mark_process m.event).0 }
 
 -- the point of an event, if its process is shown
 abbrev pub shown_point : Grid → Mark → Option Point
-shown_point g m = if contains g.shown (process_of m.event).0 then Some (point_of g m) else None
+shown_point g m = if contains g.shown (mark_process m.event).0 then Some (point_of g m) else None
 
 -- the point of the entry at a position, if it is shown, and its process
 unfoldable pub point_at : List Entry → Grid → ℕ → Option Point
@@ -52,8 +52,8 @@ abbrev pub rings_text : List Point → List ℕ
 rings_text points = flat_map ring_text points
 
 -- the chain: a thick line from entry to entry, and a ring around each
-unfoldable pub chain_text : List Point → List ℕ
-chain_text points =
+unfoldable pub chain_overlay : List Point → List ℕ
+chain_overlay points =
     codes "<g pointer-events='none'><title>chain</title>\n<polyline points='" ++ (corners_text points
     ++ (codes "' fill='none' stroke='#d55e00' stroke-width='4' stroke-opacity='0.75'/>\n" ++ (rings_text points ++ codes "</g>\n")))
 
@@ -64,7 +64,7 @@ instant_title instant = codes "<g><title>instant " ++ (decimal instant ++ codes 
 -- the chain, if some of it is shown
 abbrev pub shown_chain : List Point → List ℕ
 shown_chain [] = []
-shown_chain (p ∷ ps) = chain_text (p ∷ ps)
+shown_chain (p ∷ ps) = chain_overlay (p ∷ ps)
 
 -- the right end of a band: at the entry that ends it, or at the instant
 abbrev pub band_end : Grid → ℕ → Option ℕ → ℕ

@@ -13,12 +13,12 @@ use Rattle.causal_picture.specs.Layout.{early_panel, late_panel, y_of}
 use Rattle.causal_picture.specs.Marks.{marks_of}
 
 -- the line of a process that is up, with its title
-unfoldable pub line_text : ℕ → ℕ → ℕ → ℕ → List ℕ
-line_text p from to y = process_title p ++ (up_text from to y ++ codes "</g>\n")
+unfoldable pub process_line_text : ℕ → ℕ → ℕ → ℕ → List ℕ
+process_line_text p from to y = process_title p ++ (up_text from to y ++ codes "</g>\n")
 
 -- the line of a process that is up at the panel's left end, to its crash or the right end
 abbrev pub first_up_text : Grid → Panel → List Mark → ℕ → Bool → List ℕ
-first_up_text g panel marks p is_up = if is_up then line_text p panel.left (line_end_x g panel marks p 0) (y_of g p) else []
+first_up_text g panel marks p is_up = if is_up then process_line_text p panel.left (line_end_x g panel marks p 0) (y_of g p) else []
 
 -- the line of a process at the panel's left end, unless the process is down there
 abbrev pub line_unless_down : Grid → Panel → List Mark → (ℕ → Bool) → ℕ → List ℕ

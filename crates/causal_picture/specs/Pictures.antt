@@ -25,9 +25,9 @@ unfoldable pub rows_text : Grid → FinSet nat_cmp → List ℕ
 rows_text g crash = flat_map (shaded_row g crash) (ascending g.shown)
 
 -- the crash set of a focus
-abbrev pub crash_of : Option Focus → FinSet nat_cmp
-crash_of None = empty
-crash_of (Some f) = f.crash
+abbrev pub focus_crash : Option Focus → FinSet nat_cmp
+focus_crash None = empty
+focus_crash (Some f) = f.crash
 
 -- the bands, the chain and the instant of a focus
 unfoldable pub focus_text : Recording → Grid → Focus → List ℕ
@@ -53,7 +53,7 @@ close_text g entries faults focus =
 -- the picture of a recorded run on this grid
 abbrev pub picture_at : Recording → ℕ → Option Focus → Grid → List ℕ
 picture_at r faults focus g =
-    head_text g (length r.past) ++ (run_text r g (crash_of focus) ++ (any_focus_text r g focus ++ close_text g (length r.past) faults focus))
+    head_text g (length r.past) ++ (run_text r g (focus_crash focus) ++ (any_focus_text r g focus ++ close_text g (length r.past) faults focus))
 
 -- the picture of a recorded run: the head, the run, the focus over it, and the caption and legend
 unfoldable pub picture : Recording → ℕ → Option Focus → Selection → List ℕ

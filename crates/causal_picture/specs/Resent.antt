@@ -9,13 +9,13 @@ use Rattle.causal_picture.specs.declared.marks.MarkEvent.TheVariants as shown
 use Rattle.causal_picture.specs.declared.marks.Mark.{Mark}
 
 -- whether an entry sends the message with this sender and ssn
-abbrev pub sends : Pid → ℕ → Entry → Bool
-sends from ssn (Send other to number) = (other.0 == from.0) && (number == ssn)
-sends from ssn _ = false
+abbrev pub sends_message : Pid → ℕ → Entry → Bool
+sends_message from ssn (Send other to number) = (other.0 == from.0) && (number == ssn)
+sends_message from ssn _ = false
 
 -- whether an entry before a position sends the message with this sender and ssn
 abbrev pub was_sent : List Entry → ℕ → Pid → ℕ → Bool
-was_sent entries position from ssn = list_any (sends from ssn) (take position entries)
+was_sent entries position from ssn = list_any (sends_message from ssn) (take position entries)
 
 -- whether the event at a position sends a message again, or delivers one that was sent again. Within a lane
 -- (incarnation) no message is sent twice, so the sender has restarted in between.

@@ -11,10 +11,10 @@ use Rattle.causal_picture.specs.Layout.{right_of, y_of}
 use Rattle.causal_picture.specs.Glyphs.{glyph_text}
 
 -- the words after a process's name
-abbrev pub words_of : Role → List ℕ
-words_of role.Orphan = codes ": orphan"
-words_of role.Holder = codes ": holder"
-words_of role.Other = codes ""
+abbrev pub role_words : Role → List ℕ
+role_words role.Orphan = codes ": orphan"
+role_words role.Holder = codes ": holder"
+role_words role.Other = codes ""
 
 -- the role of a process for an orphan: the orphan, a holder of the determinant, or neither
 abbrev pub role_beside : Orphan → ℕ → Role
@@ -35,7 +35,7 @@ sign_text x y role.Other = []
 unfoldable pub process_text : Grid → ℕ → Option Orphan → ℕ → List ℕ
 process_text g x o p =
     sign_text x (y_of g p) (role_of o p) ++ (codes "<text x='" ++ (decimal (right_of g) ++ (codes "' y='" ++ (decimal (y_of g p)
-    ++ (codes "' dx='9' dy='4' font-size='10' fill='#0072b2'>process " ++ (decimal p ++ (words_of (role_of o p) ++ codes "</text>\n")))))))
+    ++ (codes "' dx='9' dy='4' font-size='10' fill='#0072b2'>process " ++ (decimal p ++ (role_words (role_of o p) ++ codes "</text>\n")))))))
 
 -- the shown processes at the instant
 unfoldable pub processes_text : Grid → ℕ → Option Orphan → List ℕ

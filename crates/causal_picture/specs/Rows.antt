@@ -14,7 +14,7 @@ use Rattle.causal_picture.specs.declared.focus.Orphan.{Orphan}
 use Rattle.causal_picture.specs.declared.marks.Mark.{Mark}
 use Rattle.causal_picture.specs.declared.entry_range.Grid.{Grid}
 use Rattle.causal_picture.specs.declared.selection.Selection.{Selection}
-use Rattle.causal_picture.specs.Marks.{mark_at, process_of}
+use Rattle.causal_picture.specs.Marks.{mark_at, mark_process}
 
 -- whether p is the orphan or a holder of the determinant
 abbrev pub has_role : Option Orphan → ℕ → Bool
@@ -27,7 +27,7 @@ is_band_of p b = b.process == p
 
 -- whether the entry at a position is shown on p's line
 abbrev pub is_mark_of : List Entry → ℕ → ℕ → Bool
-is_mark_of past p position = option_map_or (λ (m : Mark). (process_of m.event).0 == p) (mark_at past position) false
+is_mark_of past p position = option_map_or (λ (m : Mark). (mark_process m.event).0 == p) (mark_at past position) false
 
 -- whether p is a process of the focus: in the crash set, the orphan, a holder, with a band, or with an entry of the chain
 abbrev pub is_of_focus : List Entry → Focus → ℕ → Bool

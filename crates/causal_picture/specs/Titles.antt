@@ -41,8 +41,8 @@ event_title (Restart who) = codes "process " ++ (decimal who.0 ++ codes " restar
 event_title (Forget who count) = forget_title who count
 
 -- the line of the trace's text for the entry at a position; lines count from 1, and line 1 is the header
-abbrev pub line_of : ℕ → ℕ
-line_of position = position + 2
+abbrev pub line_at : ℕ → ℕ
+line_at position = position + 2
 
 -- ` [0,0,1,0]`: source, ssn, receiver and rsn
 abbrev pub det_title : Det → List ℕ
@@ -81,4 +81,4 @@ list_title_at past position = option_map_or list_title (entry_at past position) 
 -- `line 6: process 1 delivers message 0 of process 0, and logs [0,0,1,0]`, as an SVG title
 unfoldable pub title_text : List Entry → Mark → List ℕ
 title_text past m =
-    codes "<title>line " ++ (decimal (line_of m.position) ++ (codes ": " ++ (event_title m.event ++ (list_title_at past m.position ++ codes "</title>\n"))))
+    codes "<title>line " ++ (decimal (line_at m.position) ++ (codes ": " ++ (event_title m.event ++ (list_title_at past m.position ++ codes "</title>\n"))))

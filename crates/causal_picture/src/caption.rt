@@ -4,7 +4,7 @@ ghost use Rattle.causal_picture.specs.Appends.{Appends};
 ghost use Rattle.causal_picture.specs.Captions as captions;
 
 use crate::focus::Focus;
-use crate::titles::line_of;
+use crate::titles::line_at;
 use crate::words::push_words;
 use std::alloc::AllocError;
 
@@ -18,7 +18,7 @@ fn push_verdict(out: &mut String, faults: u16, focus: Option<&Focus<'_>>) -> Res
     match focus {
         Some(focus) => match &focus.orphan {
             Some(orphan) => {
-                let (process, line) = (orphan.process, line_of(orphan.delivery));
+                let (process, line) = (orphan.process, line_at(orphan.delivery));
                 write!(
                     out,
                     "orphan f={faults}: process {process} depends on the delivery of line {line}"

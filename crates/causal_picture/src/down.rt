@@ -28,7 +28,7 @@ fn down_after_entry(mut down: Holders, entry: &Entry) -> Holders
 }
 
 /// The down processes after these entries. O(entries) time.
-pub fn down_after(entries: &[Entry]) -> Holders
+pub fn down_processes(entries: &[Entry]) -> Holders
     ensures { ShowsDown (past_at entries.now (length entries.now)) result }
 {
     let mut down = Holders::none();

@@ -4,24 +4,24 @@ ghost use Rattle.std.specs.FinSet.{contains};
 ghost use Rattle.causal_picture.specs.Appends.{Appends};
 ghost use Rattle.causal_picture.specs.Frames as frames;
 ghost use Rattle.causal_picture.specs.EntryRanges as stretches;
-ghost use Rattle.causal_picture.specs.Layout.{columns_of};
-ghost use Rattle.causal_picture.specs.Titles.{line_of};
+ghost use Rattle.causal_picture.specs.Layout.{column_count};
+ghost use Rattle.causal_picture.specs.Titles.{line_at};
 
 use crate::entry_range::Grid;
 use crate::glyphs::{Label, push_label, push_level, push_upright};
 use crate::layout::{
-    bottom_of, columns_of, height_of, right_of, row_of, width_of, x_of_instant, y_of,
+    bottom_of, column_count, height_of, right_of, row_height, width_of, x_of_instant, y_of,
 };
 use crate::rows::{hidden_of, rows_of};
-use crate::titles::line_of;
+use crate::titles::line_at;
 use crate::words::push_words;
 use causal_holders::Holders;
 use std::alloc::AllocError;
 
 /// Appends the number of shown processes: `All 3`, `2 of 3`.
-#[tactic(auto, unfolding(crate::specs::Frames::count_text))]
+#[tactic(auto, unfolding(crate::specs::Frames::shown_count_text))]
 fn push_count(out: &mut String, grid: &Grid) -> Result<(), AllocError>
-    ensures { Appends result out.old out.new (frames.count_text grid.now) }
+    ensures { Appends result out.old out.new (frames.shown_count_text grid.now) }
 {
     let (rows, processes) = (rows_of(grid), grid.processes);
     if hidden_of(grid) == 0 {
@@ -34,10 +34,10 @@ fn push_count(out: &mut String, grid: &Grid) -> Result<(), AllocError>
 /// Appends the numbers of shown entries and of all.
 #[tactic(auto, unfolding(crate::specs::Frames::description_text))]
 fn push_description(out: &mut String, grid: &Grid, entries: u32) -> Result<(), AllocError>
-    ensures { Appends result out.old out.new (frames.description_text (columns_of grid.now) entries
-        (line_of grid.now.early.first)) }
+    ensures { Appends result out.old out.new (frames.description_text (column_count grid.now) entries
+        (line_at grid.now.early.first)) }
 {
-    let (count, line) = (columns_of(grid), line_of(grid.early.first));
+    let (count, line) = (column_count(grid), line_at(grid.early.first));
     write!(
         out,
         " processes; {count} of {entries} entries, from line {line} of the trace's text on.</desc>\n"
@@ -75,7 +75,7 @@ fn push_shade(out: &mut String, grid: &Grid, process: u8, is_shaded: bool) -> Re
     let (width, y, height) = (
         width_of(grid),
         y_of(grid, process),
-        row_of(rows_of(grid)) - 6,
+        row_height(rows_of(grid)) - 6,
     );
     write!(
         out,

@@ -147,7 +147,7 @@ pub enum Label {
 impl Label {
     /// The style of the label, and its words before the number.
     fn opening(self) -> &'static str
-        ensures { result.now ≡ labels.opening_of self }
+        ensures { result.now ≡ labels.label_opening self }
     {
         match self {
             Label::Name => "dy='4' text-anchor='end' fill='#222'>process ",

@@ -65,19 +65,19 @@ fn columns_before(grid: &Grid, position: u32) -> u64
 }
 
 /// The number of shown entries.
-pub fn columns_of(grid: &Grid) -> u64
-    ensures value { result ≡ layout.columns_of grid.now }
+pub fn column_count(grid: &Grid) -> u64
+    ensures value { result ≡ layout.column_count grid.now }
     ensures small { result < 2 ^ 33 }
 {
     u64::from(grid.early.count) + u64::from(grid.late.count)
 }
 
 /// The distance between entries: 30, or less if all columns would be wider than 2,200.
-pub fn column_of(grid: &Grid) -> u64
-    ensures value { result ≡ layout.column_of grid.now }
+pub fn column_width(grid: &Grid) -> u64
+    ensures value { result ≡ layout.column_width grid.now }
     ensures narrow { result ≤ 30 }
 {
-    WIDEST_COLUMN.min(ALL_COLUMNS / (columns_of(grid) + 1))
+    WIDEST_COLUMN.min(ALL_COLUMNS / (column_count(grid) + 1))
 }
 
 /// The x of an instant: halfway between the entries before and after it.
@@ -86,7 +86,7 @@ pub fn x_of_instant(grid: &Grid, instant: u32) -> u64
     ensures value { result ≡ layout.x_of_instant grid.now instant }
     ensures small { result < 2 ^ 39 }
 {
-    let column = column_of(grid);
+    let column = column_width(grid);
     LEFT + column / 2 + column * columns_before(grid, instant)
 }
 
@@ -97,7 +97,7 @@ pub fn x_of(grid: &Grid, position: u32) -> u64
     ensures small { result < 2 ^ 39 }
 {
     if is_shown(grid, position) {
-        LEFT + column_of(grid) * (columns_before(grid, position) + 1)
+        LEFT + column_width(grid) * (columns_before(grid, position) + 1)
     } else {
         x_of_instant(grid, position)
     }
@@ -109,7 +109,7 @@ pub fn right_of(grid: &Grid) -> u64
     ensures value { result ≡ layout.right_of grid.now }
     ensures narrow { result ≤ 2280 }
 {
-    LEFT + column_of(grid) * (columns_of(grid) + 1)
+    LEFT + column_width(grid) * (column_count(grid) + 1)
 }
 
 /// The width of the picture: as its lines or its words require.
@@ -148,8 +148,8 @@ pub fn late_panel(grid: &Grid) -> Panel
 }
 
 /// The distance between processes' lines: 40, or less if all rows would be higher than 560, but at least 16.
-pub fn row_of(rows: u16) -> u32
-    ensures value { result ≡ layout.row_of rows }
+pub fn row_height(rows: u16) -> u32
+    ensures value { result ≡ layout.row_height rows }
     ensures low { result ≤ 40 }
     ensures high { 16 ≤ result }
 {
@@ -162,7 +162,7 @@ pub fn y_of(grid: &Grid, process: u8) -> u32
     ensures value { result ≡ layout.y_of grid.now process }
     ensures below { 92 ≤ result }
 {
-    TOP + row_of(rows_of(grid)) * u32::from(rank_of(grid.shown, process))
+    TOP + row_height(rows_of(grid)) * u32::from(rank_of(grid.shown, process))
 }
 
 /// The y at which the legend begins.
@@ -171,7 +171,7 @@ pub fn bottom_of(rows: u16) -> u32
     ensures value { result ≡ layout.bottom_of rows }
     ensures low { result < 2 ^ 22 }
 {
-    TOP + row_of(rows) * u32::from(rows)
+    TOP + row_height(rows) * u32::from(rows)
 }
 
 /// The height of the picture; at most 740 for up to 20 rows.

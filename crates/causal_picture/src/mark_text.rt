@@ -9,10 +9,10 @@ use crate::entry_range::Grid;
 use crate::glyphs::{
     Label, glyph_of, push_bent, push_glyph, push_label, push_level, push_straight,
 };
-use crate::layout::{Panel, column_of, x_of, y_of};
+use crate::layout::{Panel, column_width, x_of, y_of};
 use crate::marks::{Mark, MarkEvent};
 use crate::resent::is_resent;
-use crate::titles::{line_of, push_title};
+use crate::titles::{line_at, push_title};
 use crate::words::push_words;
 use causal_name::{Det, Pid};
 use causal_trace::Trace;
@@ -120,13 +120,13 @@ fn push_upright_number(out: &mut String, x: u64, line: u64) -> Result<(), AllocE
 
 /// Appends the line number of an entry above its column: horizontal if the columns are wide, otherwise vertical.
 fn push_number(out: &mut String, grid: &Grid, position: u32) -> Result<(), AllocError>
-    ensures { Appends result out.old out.new (drawn.number_text grid.now position) }
+    ensures { Appends result out.old out.new (drawn.line_number_text grid.now position) }
 {
     let x = x_of(grid, position);
-    if column_of(grid) < 28 {
-        push_upright_number(out, x, line_of(position))
+    if column_width(grid) < 28 {
+        push_upright_number(out, x, line_at(position))
     } else {
-        push_label(out, x, 62, Label::LineNumber, line_of(position))
+        push_label(out, x, 62, Label::LineNumber, line_at(position))
     }
 }
 

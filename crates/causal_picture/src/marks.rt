@@ -33,7 +33,7 @@ pub struct Mark {
 impl MarkEvent {
     /// The process on whose line it is shown; for a stable determinant, its receiver.
     pub fn process(&self) -> Pid
-        ensures { result ≡ marks.process_of self.now }
+        ensures { result ≡ marks.mark_process self.now }
     {
         match self {
             MarkEvent::Send { from, .. } => *from,
@@ -79,12 +79,12 @@ fn end_of(trace: &Trace, range: EntryRange) -> u32
 pub fn mark_at(trace: &Trace, position: u32) -> Option<Mark>
     ensures { result ≡ marks.mark_at trace.now.recording.past position }
 {
-    let event = event_of(trace, trace.entry(position)?)?;
+    let event = mark_event_of(trace, trace.entry(position)?)?;
     Some(Mark { position, event })
 }
 
-fn event_of(trace: &Trace, entry: &Entry) -> Option<MarkEvent>
-    ensures { result ≡ marks.event_of trace.now.recording.past entry.now }
+fn mark_event_of(trace: &Trace, entry: &Entry) -> Option<MarkEvent>
+    ensures { result ≡ marks.mark_event_of trace.now.recording.past entry.now }
 {
     match entry {
         Entry::Send { from, to, ssn } => Some(MarkEvent::Send {
@@ -92,7 +92,7 @@ fn event_of(trace: &Trace, entry: &Entry) -> Option<MarkEvent>
             to: *to,
             ssn: *ssn,
         }),
-        Entry::Deliver { to, send, rsn, .. } => delivery_of(trace, *to, *send, *rsn),
+        Entry::Deliver { to, send, rsn, .. } => delivery_mark(trace, *to, *send, *rsn),
         Entry::Stable { det } => Some(MarkEvent::Stable { det: *det }),
         Entry::Crash { who } => Some(MarkEvent::Crash { who: *who }),
         Entry::Restart { who, .. } => Some(MarkEvent::Restart { who: *who }),
@@ -103,8 +103,8 @@ fn event_of(trace: &Trace, entry: &Entry) -> Option<MarkEvent>
     }
 }
 
-fn delivery_of(trace: &Trace, to: Pid, send: u32, rsn: u32) -> Option<MarkEvent>
-    ensures { result ≡ marks.delivery_of trace.now.recording.past to send rsn }
+fn delivery_mark(trace: &Trace, to: Pid, send: u32, rsn: u32) -> Option<MarkEvent>
+    ensures { result ≡ marks.delivery_mark trace.now.recording.past to send rsn }
 {
     match trace.entry(send)? {
         Entry::Send { from, ssn, .. } => {

@@ -103,9 +103,9 @@ fn push_rings(out: &mut String, points: &[Point]) -> Result<(), AllocError>
 
 /// Appends the chain: a thick line from entry to entry, and a ring around each. It receives no pointer events, so the
 /// titles of the events below it stay readable.
-#[tactic(auto, unfolding(crate::specs::Overlays::chain_text))]
+#[tactic(auto, unfolding(crate::specs::Overlays::chain_overlay))]
 fn push_chain(out: &mut String, points: &[Point]) -> Result<(), AllocError>
-    ensures { Appends result out.old out.new (overlays.chain_text points.now) }
+    ensures { Appends result out.old out.new (overlays.chain_overlay points.now) }
 {
     push_words(
         out,

@@ -7,7 +7,7 @@ ghost use Rattle.causal_picture.specs.Inside.Downs.{ShowsDown};
 ghost use Rattle.causal_picture.specs.Panels as panels;
 ghost use Rattle.causal_picture.specs.EntryRanges as stretches;
 
-use crate::down::down_after;
+use crate::down::down_processes;
 use crate::entry_range::{EntryRange, Grid};
 use crate::frame::push_process_title;
 use crate::layout::{Panel, late_panel, y_of};
@@ -20,9 +20,9 @@ use causal_trace::Trace;
 use std::alloc::{AllocError, Global};
 
 /// Appends the line of a process that is up, with its title.
-#[tactic(auto, unfolding(crate::specs::Panels::line_text))]
+#[tactic(auto, unfolding(crate::specs::Panels::process_line_text))]
 fn push_line(out: &mut String, process: u8, from: u64, to: u64, y: u32) -> Result<(), AllocError>
-    ensures { Appends result out.old out.new (panels.line_text process from to y) }
+    ensures { Appends result out.old out.new (panels.process_line_text process from to y) }
 {
     push_process_title(out, process)?;
     push_up(out, from, to, y)?;
@@ -53,7 +53,7 @@ fn down_before(trace: &Trace, range: EntryRange) -> Holders
     requires { range.first + range.count ≤ length trace.now.recording.past }
     ensures { ShowsDown (past_at (entries_of trace.now.recording) range.first) result }
 {
-    down_after(&trace.entries()[..range.first as usize])
+    down_processes(&trace.entries()[..range.first as usize])
 }
 
 /// Appends the lines of the shown processes that are up at the panel's left end.

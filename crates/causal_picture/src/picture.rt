@@ -33,8 +33,8 @@ fn push_rows(out: &mut String, grid: &Grid, crash: Holders) -> Result<(), AllocE
 }
 
 /// The crash set of a focus.
-fn crash_of(focus: Option<&Focus<'_>>) -> Holders
-    ensures { result ≡ pictures.crash_of (option_copied focus.entry) }
+fn focus_crash(focus: Option<&Focus<'_>>) -> Holders
+    ensures { result ≡ pictures.focus_crash (option_copied focus.entry) }
 {
     match focus {
         Some(focus) => focus.crash,
@@ -119,7 +119,7 @@ fn push_picture(
     let entries = trace.len();
     let grid = grid_around(trace, focus, selection);
     push_head(out, &grid, entries)?;
-    push_run(alloc, out, trace, &grid, crash_of(focus))?;
+    push_run(alloc, out, trace, &grid, focus_crash(focus))?;
     push_focus(alloc, out, trace, &grid, focus)?;
     push_close(out, &grid, entries, faults, focus)?;
     Ok(())

@@ -8,8 +8,8 @@ use causal_name::Pid;
 use causal_trace::{Entry, Trace};
 
 /// Returns whether an entry sends the message with this sender and ssn.
-fn sends(from: Pid, ssn: u32, entry: &Entry) -> bool
-    ensures { result ≡ resent.sends from ssn entry.now }
+fn sends_message(from: Pid, ssn: u32, entry: &Entry) -> bool
+    ensures { result ≡ resent.sends_message from ssn entry.now }
 {
     match entry {
         Entry::Send {
@@ -29,7 +29,7 @@ fn was_sent(trace: &Trace, position: u32, from: Pid, ssn: u32) -> bool
         .entries()
         .iter()
         .take(position as usize)
-        .any(|entry| sends(from, ssn, entry))
+        .any(|entry| sends_message(from, ssn, entry))
 }
 
 /// Returns whether an event sends a message again, or delivers one that was sent again. Then the sender has sent a

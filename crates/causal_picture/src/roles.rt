@@ -20,8 +20,8 @@ pub enum Role {
 }
 
 /// The words after the name of a process in that role.
-fn words_of(role: Role) -> &'static str
-    ensures { result.now ≡ roles.words_of role }
+fn role_words(role: Role) -> &'static str
+    ensures { result.now ≡ roles.role_words role }
 {
     match role {
         Role::Orphan => ": orphan",
@@ -66,7 +66,7 @@ fn push_process(
 {
     let (right, y) = (right_of(grid), y_of(grid, process));
     let role = role_of(focus, process);
-    let words = words_of(role);
+    let words = role_words(role);
     push_sign(out, x, y, role)?;
     write!(
         out,

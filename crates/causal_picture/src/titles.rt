@@ -128,7 +128,7 @@ fn push_list(out: &mut String, trace: &Trace, position: u32) -> Result<(), Alloc
 pub fn push_title(out: &mut String, trace: &Trace, mark: &Mark) -> Result<(), AllocError>
     ensures { Appends result out.old out.new (titles.title_text trace.now.recording.past mark.now) }
 {
-    let line = line_of(mark.position);
+    let line = line_at(mark.position);
     write!(out, "<title>line {line}: ")?;
     push_event(out, mark.event)?;
     push_list(out, trace, mark.position)?;
@@ -136,8 +136,8 @@ pub fn push_title(out: &mut String, trace: &Trace, mark: &Mark) -> Result<(), Al
 }
 
 /// The line of the trace's text for the entry at a position. Lines count from 1; line 1 is the header.
-pub fn line_of(position: u32) -> u64
-    ensures { result ≡ titles.line_of position }
+pub fn line_at(position: u32) -> u64
+    ensures { result ≡ titles.line_at position }
 {
     u64::from(position) + 2
 }

@@ -31,13 +31,13 @@ abbrev pub count_less_one : Pid → ℕ → List Outgoing
 count_less_one to count = if nat_lt 0 count then one_message to ((count - 1) ∷ []) else []
 
 -- the next process of a ring of n; a ring of more than 256 closes at 256, since a process number is a byte
-abbrev pub next_of : Member → Pid
-next_of p = process ((p.me + 1) % min p.n (2 ^ 8))
+abbrev pub next_in_ring : Member → Pid
+next_in_ring p = process ((p.me + 1) % min p.n (2 ^ 8))
 
 -- process 0 begins by sending its count to the next process; a process that receives a count sends it on, less 1
 abbrev pub ring_reaction : Member → Input → List Outgoing
-ring_reaction p Begin = if p.me == 0 then one_message (next_of p) (p.start ∷ []) else []
-ring_reaction p (Message from body) = count_less_one (next_of p) (first_byte body)
+ring_reaction p Begin = if p.me == 0 then one_message (next_in_ring p) (p.start ∷ []) else []
+ring_reaction p (Message from body) = count_less_one (next_in_ring p) (first_byte body)
 
 -- the partner of an even number is the next number; of an odd number, the previous one
 abbrev pub partner_of : ℕ → ℕ

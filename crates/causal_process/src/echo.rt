@@ -2,7 +2,7 @@
 use crate::body::first_or_zero;
 use crate::message::{Input, Outgoing};
 use crate::process::Process;
-use crate::sending::{count_down, send_one};
+use crate::sending::{send_countdown, send_one};
 use causal_name::{NoMemory, Pid};
 use std::alloc::Global;
 use std::marker::Model;
@@ -68,7 +68,7 @@ impl Process for Echo {
                     Ok(Vec::new(alloc))
                 }
             }
-            Input::Message { from, body } => count_down(alloc, *from, first_or_zero(body)),
+            Input::Message { from, body } => send_countdown(alloc, *from, first_or_zero(body)),
         }
     }
 

@@ -2,7 +2,7 @@
 use crate::body::first_or_zero;
 use crate::message::{Input, Outgoing};
 use crate::process::Process;
-use crate::sending::{count_down, send_one};
+use crate::sending::{send_countdown, send_one};
 use causal_name::{NoMemory, Pid};
 use std::alloc::Global;
 use std::marker::Model;
@@ -31,7 +31,7 @@ impl Model for Ring {
 }
 
 impl Ring {
-    ghost use Rattle.causal_process.specs.Kinds.{next_of};
+    ghost use Rattle.causal_process.specs.Kinds.{next_in_ring};
     ghost use Rattle.std.specs.Prelude.{◌≡◌, ◌<◌};
 
     /// Returns process `me`, 0 to n - 1, of a ring of n. Process 0 starts the count at `hops`; the others start none.
@@ -44,7 +44,7 @@ impl Ring {
 
     // Returns the next process of the ring.
     fn next(&self) -> Pid
-        ensures { result ≡ next_of self.now }
+        ensures { result ≡ next_in_ring self.now }
     {
         let next = (u16::from(self.me) + 1) % self.n.min(256);
         Pid(next as u8)
@@ -64,7 +64,7 @@ impl Process for Ring {
             Input::Begin if self.me == 0 => send_one(alloc, self.next(), &[self.hops]),
             Input::Begin => Ok(Vec::new(alloc)),
             Input::Message { from: _, body } => {
-                count_down(alloc, self.next(), first_or_zero(body))
+                send_countdown(alloc, self.next(), first_or_zero(body))
             }
         }
     }

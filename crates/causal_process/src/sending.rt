@@ -16,7 +16,7 @@ pub(crate) fn send_one(alloc: Global, to: Pid, bytes: &[u8]) -> Result<Vec<Outgo
 }
 
 // Returns the sends of one message with the count less 1, or no sends if the count is 0.
-pub(crate) fn count_down(alloc: Global, to: Pid, count: u8) -> Result<Vec<Outgoing>, NoMemory>
+pub(crate) fn send_countdown(alloc: Global, to: Pid, count: u8) -> Result<Vec<Outgoing>, NoMemory>
     ensures { IfOk result (λ sends. sends.items ≡ count_less_one to count) }
 {
     match count.checked_sub(1) {

@@ -9,7 +9,7 @@ use Rattle.causal_trace.specs.Past.{is_down, logs}
 use Rattle.causal_trace.specs.Dependence.{AreForward}
 use Rattle.causal_trace.specs.Judgement.{IsSafeTrace}
 use Rattle.causal_steps.specs.Recovery.{must_recover, counts_as_holder, IsRecoverable, HasOrRecovers}
-use Rattle.causal_steps.specs.Transit.{Parcel, IsInTransit, Survives}
+use Rattle.causal_steps.specs.Transit.{TransitParcel, IsInTransit, Survives}
 use Rattle.causal_steps.specs.Invariant.{StepInvariant}
 use Rattle.causal_steps.proofs.Lemmas.Reachable.{reachable_safe}
 use Rattle.causal_protocol.specs.Memory.{SentMessage, Memory, Memories, present_at}
@@ -20,7 +20,7 @@ use Rattle.causal_protocol.proofs.Places.{at_within}
 use Rattle.causal_protocol.proofs.Sets.{survives_found}
 
 -- a parcel in transit is a message in a memory
-pub message_of_parcel : (ms : Memories) (t : Parcel) → IsInTransit (volatile_of ms) t → (p ssn : ℕ) × (k : SentMessage) × (slice_get (messages ms p) ssn ≡ Some k) × (t ≡ parcel_of p k)
+pub message_of_parcel : (ms : Memories) (t : TransitParcel) → IsInTransit (volatile_of ms) t → (p ssn : ℕ) × (k : SentMessage) × (slice_get (messages ms p) ssn ≡ Some k) × (t ≡ parcel_of p k)
 message_of_parcel ms t (p, ssn, at_it) = by (slice_get (messages ms p) ssn) refl at_it
   where
     by : (o : Option SentMessage) → slice_get (messages ms p) ssn ≡ o → option_map (parcel_of p) o ≡ Some t → (p ssn : ℕ) × (k : SentMessage) × (slice_get (messages ms p) ssn ≡ Some k) × (t ≡ parcel_of p k)

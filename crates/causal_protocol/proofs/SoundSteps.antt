@@ -17,7 +17,7 @@ use Rattle.causal_trace.specs.declared.entry.Entry.TheVariants.{Send, Deliver, S
 use Rattle.causal_trace.specs.Past.{list_has, is_down, entry_at, message_sent, message_at, det_from, logs, is_stable}
 use Rattle.causal_holders.proofs.Lemmas.MemberCounts.{len_counted}
 use Rattle.causal_log.specs.Logs.{LogMap, known_of, batch_items, after_mark}
-use Rattle.causal_steps.specs.Transit.{Parcel, IsInTransit, IsCarried, Survives}
+use Rattle.causal_steps.specs.Transit.{TransitParcel, IsInTransit, IsCarried, Survives}
 use Rattle.causal_steps.specs.Steps.{IsSendStep, IsDeliverStep, IsCrashStep, IsRestartStep, IsStableStep, IsForgetStep, IsStep, sends, delivers, crashes, restarts, writes, forgets}
 use Rattle.causal_steps.specs.Reachable.{next_state}
 use Rattle.causal_steps.proofs.Lemmas.Positions.{at_newest, at_older, message_below}
@@ -38,7 +38,7 @@ next_sound : (n f : ℕ) (e : Entry) (past : List Entry) (ms next : Memories) �
 next_sound n f e past ms next s step fit = record { fit = fit; reached = next_state past (e ∷ past) (volatile_of ms) (volatile_of next) s.reached step }
 
 -- if all messages in memories were there before, nothing new is in transit
-none_new : (ms next : Memories) → ((p ssn : ℕ) (k : SentMessage) → slice_get (messages next p) ssn ≡ Some k → slice_get (messages ms p) ssn ≡ Some k) → (t : Parcel) → IsInTransit (volatile_of next) t → IsInTransit (volatile_of ms) t
+none_new : (ms next : Memories) → ((p ssn : ℕ) (k : SentMessage) → slice_get (messages next p) ssn ≡ Some k → slice_get (messages ms p) ssn ≡ Some k) → (t : TransitParcel) → IsInTransit (volatile_of next) t → IsInTransit (volatile_of ms) t
 none_new ms next old t there =
     let found = message_of_parcel next t there in
     (found.0, found.1, ap (option_map (parcel_of found.0)) (old found.0 found.1 found.2 found.3) ∙ ap Some (sym found.4))
@@ -87,7 +87,7 @@ module _ (n f : ℕ) (past : List Entry) (ms : Memories) (from to : Pid) (m : Me
         (subst (λ x. knows_holder ms from.0 d x ≡ true) (sym (eqb-true q from.0 parts.1)) ((invariant n f past ms s).knows_itself from.0 d low (sender_logs d parts.0)), parts.0)
   ]
 
-  one_new : (t : Parcel) → IsInTransit (volatile_of sent_memories) t → IsInTransit (volatile_of ms) t ⊎ (t ≡ parcel_of from.0 new_message)
+  one_new : (t : TransitParcel) → IsInTransit (volatile_of sent_memories) t → IsInTransit (volatile_of ms) t ⊎ (t ≡ parcel_of from.0 new_message)
   one_new t in_transit =
       let found = message_of_parcel sent_memories t in_transit in
       elim (sent_kept found.0 found.1 found.2 found.3) [
@@ -353,7 +353,7 @@ module _ (n f : ℕ) (past : List Entry) (ms : Memories) (who : Pid) (listed : L
   carried_listed d (t, there, has_d) =
       let found = message_of_parcel ms t (none_new ms restarted restarted_kept t there) in
       let small : found.0 < n = under n f past ms who s found.0 (keeps_within ms found.0 found.1 found.2 found.3) in
-      let goes : has_item d found.2.batch ≡ true = ap (λ (x : Parcel). x.carries d) (sym found.4) ∙ has_d in
+      let goes : has_item d found.2.batch ≡ true = ap (λ (x : TransitParcel). x.carries d) (sym found.4) ∙ has_d in
       elim (or_cases (logs past found.0 d) (is_stable past d) (senders_have_carried n f past ms s found.0 found.2 d small (found.1, found.3) goes)) [
         | inl logs_d ↦ inl (lists_survivors d ∙ survives_log n past found.0 d small logs_d)
         | inr stable ↦ inr stable

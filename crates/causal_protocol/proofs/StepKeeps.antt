@@ -23,9 +23,9 @@ use Rattle.causal_protocol.specs.declared.request.Reply.TheVariants as Replies
 use Rattle.causal_protocol.specs.Memory.{SentMessage, Memory, Memories, present_at, update_at, new_memory, with_sent, with_received, with_log, sent_message_of, batch_of}
 use Rattle.causal_protocol.specs.Gathering.{stable_set, restart_log}
 use Rattle.causal_protocol.specs.Run.{Run, after_receive, memories, memories_of, stable_of}
-use Rattle.causal_protocol.specs.Naming.{message_name, named_for, sent_message_for, send_of, next_rsn, next_ssn, own_det, listed_for}
-use Rattle.causal_protocol.specs.Refusals.{fault_if, fault_unless_named, refusal_rows, first_fault, restart_list, dets_to_flush, dets_to_forget}
-use Rattle.causal_protocol.specs.Steps.{append_all, extend_run, receiver_of, sends_of, AreSends, delivery_of, forget_entries, LegalStep, flush_reason_of, IsPartialFlush}
+use Rattle.causal_protocol.specs.Naming.{message_name, named_for, sent_message_for, send_of, next_rsn, next_ssn, next_own_det, listed_for}
+use Rattle.causal_protocol.specs.Refusals.{fault_if, fault_unless_named, request_refusals, request_fault, restart_list, dets_to_flush, dets_to_forget}
+use Rattle.causal_protocol.specs.Steps.{append_all, extend_run, receiver_of, sends_of, AreSends, delivery_entry, forget_entries, LegalStep, flush_reason_of, IsPartialFlush}
 use Rattle.causal_protocol.specs.MemoryQueries.{memory_logs, knows_stable, has_item}
 use Rattle.causal_protocol.specs.Invariant.{logs_or_stable}
 use Rattle.causal_protocol.specs.Runs.{IsInvariantState, SatisfiesInvariant, StepsPreserveInvariant, RefusalsChangeNothing, HoldsInState, StepsEstablish}
@@ -102,8 +102,8 @@ module _ (r : Run) (s : SatisfiesInvariant r) where
   abbrev ms : Memories
   ms = memories_of r
 
-  delivers : (q source : Pid) (ssn first : ℕ) (det : Det) (number : ℕ) (appended : List Entry) → first_fault r (Requests.Deliver q source ssn) ≡ None → appended ≡ delivery_of r q (message_name source ssn) ∷ drop 1 appended → AreSends n q (next_ssn ms q) number (drop 1 appended) → SatisfiesInvariant (extend_run r (Requests.Deliver q source ssn) appended)
-  unfolding refusal_rows memories
+  delivers : (q source : Pid) (ssn first : ℕ) (det : Det) (number : ℕ) (appended : List Entry) → request_fault r (Requests.Deliver q source ssn) ≡ None → appended ≡ delivery_entry r q (message_name source ssn) ∷ drop 1 appended → AreSends n q (next_ssn ms q) number (drop 1 appended) → SatisfiesInvariant (extend_run r (Requests.Deliver q source ssn) appended)
+  unfolding request_refusals memories
   delivers q source ssn first det number appended none is sends =
       let asked : MsgName = message_name source ssn in
       let row1 = first_none (fault_if (not (nat_lt q.0 n && nat_lt source.0 n)) Faults.NoProcess) _ none in
@@ -116,32 +116,32 @@ module _ (r : Run) (s : SatisfiesInvariant r) where
       let by = kept_for-is ms q asked kept.0 kept.1 in
       subst (λ es. IsKept n r.faults r.writers (append_all es past)) (sym is) (then_sends up.0 kept.0 (ltb-true q.0 n low.0) (ltb-true source.0 n low.1) up.1 by row3.0)
     where
-      then_sends : (m : Memory) (k : SentMessage) → q.0 < n → source.0 < n → present_at ms q.0 ≡ Some m → sent_message_of ms (message_name source ssn) ≡ Some k → fault_unless_named (message_name source ssn) (named_for ms (stable_of r) q) ≡ None → IsKept n r.faults r.writers (append_all (drop 1 appended) (delivery_of r q (message_name source ssn) ∷ past))
+      then_sends : (m : Memory) (k : SentMessage) → q.0 < n → source.0 < n → present_at ms q.0 ≡ Some m → sent_message_of ms (message_name source ssn) ≡ Some k → fault_unless_named (message_name source ssn) (named_for ms (stable_of r) q) ≡ None → IsKept n r.faults r.writers (append_all (drop 1 appended) (delivery_entry r q (message_name source ssn) ∷ past))
       then_sends m k low from here by only =
           let asked : MsgName = message_name source ssn in
           let found = kept_message ms asked k by in
           let place : next_rsn ms q ≡ length m.received = ap (λ o. option_map_or (λ m. length m.received) o 0) here in
           let named : (d : Det) → logs_or_stable past q.0 d ≡ true → d.dest ≡ q → d.rsn ≡ next_rsn ms q → message_of d ≡ asked = λ d found dest rsn. only_named n r.faults past ms q m here low s asked only d found dest (rsn ∙ place) in
-          let lists : (d : Det) → list_has (listed_for ms q asked) d ≡ (same_det d (own_det ms q asked) || has_item d k.batch) = λ d.
-          grind (arith, own_have (own_det ms q asked) (dets_of (batch_of ms asked)) d, items_have (batch_of ms asked) d) in
+          let lists : (d : Det) → list_has (listed_for ms q asked) d ≡ (same_det d (next_own_det ms q asked) || has_item d k.batch) = λ d.
+          grind (arith, own_have (next_own_det ms q asked) (dets_of (batch_of ms asked)) d, items_have (batch_of ms asked) d) in
           let sound = delivery_sound n r.faults past ms q (next_rsn ms q) asked m k (listed_for ms q asked) here low from found named lists s in
           let sent = was_sent n r.faults past ms q (next_rsn ms q) asked m k (listed_for ms q asked) here low from found named lists s in
-          let given : after_receive ms q (next_rsn ms q) (message_at past (send_of ms asked)) ≡ update_at (with_received k.batch (own_det ms q asked)) ms q.0 =
+          let given : after_receive ms q (next_rsn ms q) (message_at past (send_of ms asked)) ≡ update_at (with_received k.batch (next_own_det ms q asked)) ms q.0 =
           grind (arith, sent) in
-          let next : IsKept n r.faults r.writers (delivery_of r q asked ∷ past) =
-          subst (λ x. IsInvariantState n r.faults (delivery_of r q asked ∷ past) x) (sym given)
-          (subst (λ x. IsInvariantState n r.faults (Deliver q x (next_rsn ms q) (listed_for ms q asked) ∷ past) (update_at (with_received k.batch (own_det ms q asked)) ms q.0)) (ap (λ o. option_map_or (λ k. k.send) o 0) (sym by)) sound) in
+          let next : IsKept n r.faults r.writers (delivery_entry r q asked ∷ past) =
+          subst (λ x. IsInvariantState n r.faults (delivery_entry r q asked ∷ past) x) (sym given)
+          (subst (λ x. IsInvariantState n r.faults (Deliver q x (next_rsn ms q) (listed_for ms q asked) ∷ past) (update_at (with_received k.batch (next_own_det ms q asked)) ms q.0)) (ap (λ o. option_map_or (λ k. k.send) o 0) (sym by)) sound) in
           let bound : q.0 < length ms = at_within ms q.0 m here in
-          let there : present_at (memories n r.faults r.writers (delivery_of r q asked ∷ past)) q.0 ≡ Some (with_received k.batch (own_det ms q asked) m) =
-          grind (arith, given, set_here ms q.0 (option_map (with_received k.batch (own_det ms q asked)) (present_at ms q.0)) bound) in
-          (are_sends_kept n r.faults r.writers (delivery_of r q asked ∷ past) q (next_ssn ms q) number (drop 1 appended) (with_received k.batch (own_det ms q asked) m) sends there low (ap (λ o. option_map_or (λ m. length m.sent) o 0) here) next).0
+          let there : present_at (memories n r.faults r.writers (delivery_entry r q asked ∷ past)) q.0 ≡ Some (with_received k.batch (next_own_det ms q asked) m) =
+          grind (arith, given, set_here ms q.0 (option_map (with_received k.batch (next_own_det ms q asked)) (present_at ms q.0)) bound) in
+          (are_sends_kept n r.faults r.writers (delivery_entry r q asked ∷ past) q (next_ssn ms q) number (drop 1 appended) (with_received k.batch (next_own_det ms q asked) m) sends there low (ap (λ o. option_map_or (λ m. length m.sent) o 0) here) next).0
 
-  crashes : (p : Pid) (appended : List Entry) → first_fault r (Requests.Crash p) ≡ None → appended ≡ Crash p ∷ [] → SatisfiesInvariant (extend_run r (Requests.Crash p) appended)
-  unfolding refusal_rows memories
+  crashes : (p : Pid) (appended : List Entry) → request_fault r (Requests.Crash p) ≡ None → appended ≡ Crash p ∷ [] → SatisfiesInvariant (extend_run r (Requests.Crash p) appended)
+  unfolding request_refusals memories
   crashes p appended none is = grind (arith, crash_sound n r.faults past ms p, down_counted n past ms s.fit.count s.fit.state)
 
-  restarts_kept : (p : Pid) (number : ℕ) (appended : List Entry) → first_fault r (Requests.Restart p) ≡ None → appended ≡ Restart p (restart_list r p) ∷ drop 1 appended → AreSends n p 0 number (drop 1 appended) → SatisfiesInvariant (extend_run r (Requests.Restart p) appended)
-  unfolding refusal_rows memories
+  restarts_kept : (p : Pid) (number : ℕ) (appended : List Entry) → request_fault r (Requests.Restart p) ≡ None → appended ≡ Restart p (restart_list r p) ∷ drop 1 appended → AreSends n p 0 number (drop 1 appended) → SatisfiesInvariant (extend_run r (Requests.Restart p) appended)
+  unfolding request_refusals memories
   restarts_kept p number appended none is sends =
       let low : p.0 < n = grind arith in
       let down : present_at ms p.0 ≡ None = grind arith in
@@ -150,8 +150,8 @@ module _ (r : Run) (s : SatisfiesInvariant r) where
       let there : present_at (memories n r.faults r.writers (Restart p (restart_list r p) ∷ past)) p.0 ≡ Some (new_memory (restart_log ms (stable_set past) p)) = set_here ms p.0 (Some (new_memory (restart_log ms (stable_set past) p))) bound in
       subst (λ es. IsKept n r.faults r.writers (append_all es past)) (sym is) (are_sends_kept n r.faults r.writers (Restart p (restart_list r p) ∷ past) p 0 number (drop 1 appended) (new_memory (restart_log ms (stable_set past) p)) sends there low refl next).0
 
-  flushes : (p : Pid) (ds : List Det) (appended : List Entry) → first_fault r (Requests.Flush p) ≡ None → ((d : Det) → list_has ds d ≡ true → list_has (dets_to_flush r p) d ≡ true) → appended ≡ map Stable ds → SatisfiesInvariant (extend_run r (Requests.Flush p) appended)
-  unfolding refusal_rows
+  flushes : (p : Pid) (ds : List Det) (appended : List Entry) → request_fault r (Requests.Flush p) ≡ None → ((d : Det) → list_has ds d ≡ true → list_has (dets_to_flush r p) d ≡ true) → appended ≡ map Stable ds → SatisfiesInvariant (extend_run r (Requests.Flush p) appended)
+  unfolding request_refusals
   flushes p ds appended none within is =
       let low : p.0 < n = grind arith in
       let up = is_there (present_at ms p.0) (grind arith) in
@@ -159,8 +159,8 @@ module _ (r : Run) (s : SatisfiesInvariant r) where
       grind (arith, within d h, log_here ms p.0 up.0 up.1, unstable_logged up.0.log d) in
       subst (λ es. IsKept n r.faults (replicate (length es) p ++ r.writers) (append_all es past)) (sym is) (flush_kept n r.faults r.writers past p ds up.0 up.1 low logged s)
 
-  forgets : (p : Pid) (appended : List Entry) → first_fault r (Requests.Forget p) ≡ None → appended ≡ forget_entries p (dets_to_forget r p) → SatisfiesInvariant (extend_run r (Requests.Forget p) appended)
-  unfolding refusal_rows memories
+  forgets : (p : Pid) (appended : List Entry) → request_fault r (Requests.Forget p) ≡ None → appended ≡ forget_entries p (dets_to_forget r p) → SatisfiesInvariant (extend_run r (Requests.Forget p) appended)
+  unfolding request_refusals memories
   forgets p appended none is =
       let low : p.0 < n = grind arith in
       let up = is_there (present_at ms p.0) (grind arith) in

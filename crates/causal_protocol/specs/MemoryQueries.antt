@@ -8,7 +8,7 @@ use Rattle.causal_name.specs.declared.Det.{Det}
 use Rattle.causal_name.specs.Names.{same_det}
 use Rattle.causal_log.specs.declared.batch.Item.{Item}
 use Rattle.causal_log.specs.Logs.{LogMap, known_of}
-use Rattle.causal_steps.specs.Transit.{Parcel, VolatileState}
+use Rattle.causal_steps.specs.Transit.{TransitParcel, VolatileState}
 use Rattle.causal_protocol.specs.Memory.{SentMessage, Memories, present_at}
 
 -- p's log; empty if p is down
@@ -51,7 +51,7 @@ abbrev pub item_holder : Det → ℕ → List Item → Bool
 item_holder d q items = list_any (λ item. same_det d item.det && set.contains item.holders q) items
 
 -- a message that p has sent, as a parcel in transit: it names p and the holders of its items
-abbrev pub parcel_of : ℕ → SentMessage → Parcel
+abbrev pub parcel_of : ℕ → SentMessage → TransitParcel
 parcel_of p k = record {
   from = p;
   send = Some k.send;

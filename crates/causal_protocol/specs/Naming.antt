@@ -69,8 +69,8 @@ with_own own [] = own ∷ []
 with_own own (d ∷ ds) = match_ordering (det_cmp own d) (own ∷ d ∷ ds) (d ∷ ds) (d ∷ with_own own ds)
 
 -- the determinant of q's next delivery of a message; what that delivery lists: it and what the message carries
-abbrev pub own_det : Memories → Pid → MsgName → Det
-own_det ms q message_name = det_from q (next_rsn ms q) message_name
+abbrev pub next_own_det : Memories → Pid → MsgName → Det
+next_own_det ms q message_name = det_from q (next_rsn ms q) message_name
 
 abbrev pub listed_for : Memories → Pid → MsgName → List Det
-listed_for ms q message_name = with_own (own_det ms q message_name) (dets_of (batch_of ms message_name))
+listed_for ms q message_name = with_own (next_own_det ms q message_name) (dets_of (batch_of ms message_name))

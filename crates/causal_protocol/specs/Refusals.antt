@@ -52,8 +52,8 @@ abbrev pub count_down : Run → ℕ
 count_down r = count_by is_none (memories_of r)
 
 -- The rows of a request, in the order in which they are checked: each is a fault if it holds, else `None`.
-unfoldable pub refusal_rows : Run → Request → List (Option CoreFault)
-refusal_rows r (Requests.Deliver q source ssn) =
+unfoldable pub request_refusals : Run → Request → List (Option CoreFault)
+request_refusals r (Requests.Deliver q source ssn) =
     fault_if (not (nat_lt q.0 r.recording.processes && nat_lt source.0 r.recording.processes)) Faults.NoProcess
     ∷ fault_if (is_none (present_at (memories_of r) q.0)) Faults.Down
     ∷ fault_unless_named (message_name source ssn) (named_for (memories_of r) (stable_of r) q)
@@ -61,23 +61,23 @@ refusal_rows r (Requests.Deliver q source ssn) =
     ∷ fault_if (has_received (memories_of r) q (message_name source ssn)) Faults.AlreadyDelivered
     ∷ fault_if (exceeds_limits r 9 (length (listed_for (memories_of r) q (message_name source ssn)))) Faults.Full
     ∷ []
-refusal_rows r (Requests.Crash p) =
+request_refusals r (Requests.Crash p) =
     fault_if (not (nat_lt p.0 r.recording.processes)) Faults.NoProcess
     ∷ fault_if (is_none (present_at (memories_of r) p.0)) Faults.Down
     ∷ fault_if (nat_le r.faults (count_down r)) Faults.OverFaults
     ∷ fault_if (exceeds_entries r 1) Faults.Full
     ∷ []
-refusal_rows r (Requests.Restart p) =
+request_refusals r (Requests.Restart p) =
     fault_if (not (nat_lt p.0 r.recording.processes)) Faults.NoProcess
     ∷ fault_if (is_some (present_at (memories_of r) p.0)) Faults.NotDown
     ∷ fault_if (exceeds_limits r 9 (length (restart_list r p)) || nat_le default_restarts (restarts r.recording.past)) Faults.Full
     ∷ []
-refusal_rows r (Requests.Flush p) =
+request_refusals r (Requests.Flush p) =
     fault_if (not (nat_lt p.0 r.recording.processes)) Faults.NoProcess
     ∷ fault_if (is_none (present_at (memories_of r) p.0)) Faults.Down
     ∷ fault_if (exceeds_entries r (length (dets_to_flush r p))) Faults.Full
     ∷ []
-refusal_rows r (Requests.Forget p) =
+request_refusals r (Requests.Forget p) =
     fault_if (not (nat_lt p.0 r.recording.processes)) Faults.NoProcess
     ∷ fault_if (is_none (present_at (memories_of r) p.0)) Faults.Down
     ∷ fault_if (nat_lt 0 (length (dets_to_forget r p)) && exceeds_limits r 1 (length (dets_to_forget r p))) Faults.Full
@@ -90,5 +90,5 @@ first_fault_in (Some fault ∷ rest) = Some fault
 first_fault_in (None ∷ rest) = first_fault_in rest
 
 -- the first fault of a request; `None` if it is not refused
-abbrev pub first_fault : Run → Request → Option CoreFault
-first_fault r request = first_fault_in (refusal_rows r request)
+abbrev pub request_fault : Run → Request → Option CoreFault
+request_fault r request = first_fault_in (request_refusals r request)

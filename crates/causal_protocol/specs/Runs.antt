@@ -96,14 +96,14 @@ HoldsInState Fact r = Fact r.recording.processes r.faults r.recording.past (memo
 abbrev pub StepsEstablish : (Request → Type 0) → (ℕ → ℕ → List Entry → Memories → Type 0) → Type 0
 StepsEstablish IsAsked Fact = (old new : Run) (request : Request) (reply : Reply) → IsAsked request → Steps old request reply new → SatisfiesInvariant old → HoldsInState Fact new
 
-abbrev pub IsDelivery : Request → Type 0
-IsDelivery request = (q source : Pid) × (ssn : ℕ) × (request ≡ Requests.Deliver q source ssn)
+abbrev pub IsDeliveryRequest : Request → Type 0
+IsDeliveryRequest request = (q source : Pid) × (ssn : ℕ) × (request ≡ Requests.Deliver q source ssn)
 
 abbrev pub IsCrash : Request → Type 0
 IsCrash request = (p : Pid) × (request ≡ Requests.Crash p)
 
-abbrev pub IsRestart : Request → Type 0
-IsRestart request = (p : Pid) × (request ≡ Requests.Restart p)
+abbrev pub IsRestartRequest : Request → Type 0
+IsRestartRequest request = (p : Pid) × (request ≡ Requests.Restart p)
 
 abbrev pub IsFlush : Request → Type 0
 IsFlush request = (p : Pid) × (request ≡ Requests.Flush p)

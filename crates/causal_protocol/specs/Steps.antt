@@ -17,8 +17,8 @@ use Rattle.causal_protocol.specs.declared.request.FlushFault.{FlushFault}
 use Rattle.causal_protocol.specs.declared.request.CoreFault.{CoreFault}
 use Rattle.causal_protocol.specs.declared.request.CoreFault.TheVariants as Faults
 use Rattle.causal_protocol.specs.Run.{Run, memories_of}
-use Rattle.causal_protocol.specs.Naming.{message_name, next_ssn, next_rsn, send_of, own_det, listed_for}
-use Rattle.causal_protocol.specs.Refusals.{first_fault, restart_list, dets_to_flush, dets_to_forget}
+use Rattle.causal_protocol.specs.Naming.{message_name, next_ssn, next_rsn, send_of, next_own_det, listed_for}
+use Rattle.causal_protocol.specs.Refusals.{request_fault, restart_list, dets_to_flush, dets_to_forget}
 
 -- a past with these entries appended, one after the other
 abbrev pub append_all : List Entry → List Entry → List Entry
@@ -56,8 +56,8 @@ pub record AreSends (n : ℕ) (q : Pid) (ssn number : ℕ) (entries : List Entry
   pub few : number ≤ 8
 
 -- the entry of q's delivery of a message
-abbrev pub delivery_of : Run → Pid → MsgName → Entry
-delivery_of r q message_name = Deliver q (send_of (memories_of r) message_name) (next_rsn (memories_of r) q) (listed_for (memories_of r) q message_name)
+abbrev pub delivery_entry : Run → Pid → MsgName → Entry
+delivery_entry r q message_name = Deliver q (send_of (memories_of r) message_name) (next_rsn (memories_of r) q) (listed_for (memories_of r) q message_name)
 
 -- the entry of forgetting these determinants; none for an empty list
 abbrev pub forget_entries : Pid → List Det → List Entry
@@ -85,29 +85,29 @@ IsPartialFlush fault done all = done ≡ 0
 -- A call with this request and this reply appends these entries, in this order.
 unfoldable pub LegalStep : Run → Request → Reply → List Entry → Type 0
 LegalStep r (Requests.Deliver q source ssn) (Replies.Delivered d) appended =
-    (first_fault r (Requests.Deliver q source ssn) ≡ None)
+    (request_fault r (Requests.Deliver q source ssn) ≡ None)
     × (d.first ≡ length r.recording.past)
-    × (d.det ≡ own_det (memories_of r) q (message_name source ssn))
-    × (appended ≡ delivery_of r q (message_name source ssn) ∷ drop 1 appended)
+    × (d.det ≡ next_own_det (memories_of r) q (message_name source ssn))
+    × (appended ≡ delivery_entry r q (message_name source ssn) ∷ drop 1 appended)
     × AreSends r.recording.processes q (next_ssn (memories_of r) q) d.sends (drop 1 appended)
 LegalStep r (Requests.Crash p) (Replies.Crashed first) appended =
-    (first_fault r (Requests.Crash p) ≡ None) × (first ≡ length r.recording.past) × (appended ≡ Crash p ∷ [])
+    (request_fault r (Requests.Crash p) ≡ None) × (first ≡ length r.recording.past) × (appended ≡ Crash p ∷ [])
 LegalStep r (Requests.Restart p) (Replies.Restarted d) appended =
-    (first_fault r (Requests.Restart p) ≡ None)
+    (request_fault r (Requests.Restart p) ≡ None)
     × (d.first ≡ length r.recording.past)
     × (d.listed ≡ length (restart_list r p))
     × (appended ≡ Restart p (restart_list r p) ∷ drop 1 appended)
     × AreSends r.recording.processes p 0 d.sends (drop 1 appended)
 LegalStep r (Requests.Flush p) (Replies.Flushed count) appended =
-    (first_fault r (Requests.Flush p) ≡ None) × (count ≡ length (dets_to_flush r p)) × (appended ≡ map Stable (dets_to_flush r p))
+    (request_fault r (Requests.Flush p) ≡ None) × (count ≡ length (dets_to_flush r p)) × (appended ≡ map Stable (dets_to_flush r p))
 LegalStep r (Requests.Flush p) (Replies.FlushRefused f) appended =
-    (first_fault r (Requests.Flush p) ≡ flush_reason_of f.fault)
+    (request_fault r (Requests.Flush p) ≡ flush_reason_of f.fault)
     × IsPartialFlush f.fault f.done (length (dets_to_flush r p))
     × (appended ≡ map Stable (take f.done (dets_to_flush r p)))
 LegalStep r (Requests.Flush p) reply appended = ⊥
 LegalStep r (Requests.Forget p) (Replies.Forgotten count) appended =
-    (first_fault r (Requests.Forget p) ≡ None) × (count ≡ length (dets_to_forget r p)) × (appended ≡ forget_entries p (dets_to_forget r p))
-LegalStep r request (Replies.Refused fault) appended = (first_fault r request ≡ reason_of fault) × (appended ≡ [])
+    (request_fault r (Requests.Forget p) ≡ None) × (count ≡ length (dets_to_forget r p)) × (appended ≡ forget_entries p (dets_to_forget r p))
+LegalStep r request (Replies.Refused fault) appended = (request_fault r request ≡ reason_of fault) × (appended ≡ [])
 LegalStep r request reply appended = ⊥
 
 -- a legal step leads from one run to the other

@@ -1,7 +1,7 @@
 //! Laws over the definitions. Each function has an empty body: its contract is the law.
 ghost use Rattle.causal_protocol.specs.Runs.{StartSatisfiesInvariant, StepsPreserveInvariant, RefusalsChangeNothing, RepliesMatchEntries, OfInvariantRuns, OfReachableRuns};
 ghost use Rattle.causal_protocol.specs.Runs.{IsSafeRun, IsFollowedRun, HasSingleSlots, HasDeliveredSurvivors, StepsEstablish};
-ghost use Rattle.causal_protocol.specs.Runs.{IsDelivery, IsCrash, IsRestart, IsFlush, IsForgetting};
+ghost use Rattle.causal_protocol.specs.Runs.{IsDeliveryRequest, IsCrash, IsRestartRequest, IsFlush, IsForgetting};
 ghost use Rattle.causal_protocol.specs.Contributions.{HoldersAreContributed, MarksAreContributed};
 ghost use Rattle.causal_protocol.specs.EntryLists.{DeliveryListsAreExact, RestartListsAreExact};
 ghost use Rattle.causal_protocol.specs.Invariant.{FewAreDown, KnownHoldersAreTrue, CarriedHoldersAreTrue, MarksAreTrue, DependentsLog, MessagesCarry, ReceiversHaveSurvivors, SendersHaveCarried};
@@ -57,14 +57,14 @@ pub fn knowledge_is_contributed()
 
 /// Each delivery, refused or not, preserves each of the eight facts of the invariant.
 pub fn deliveries_preserve_invariant()
-    ensures few { StepsEstablish IsDelivery FewAreDown }
-    ensures holders { StepsEstablish IsDelivery KnownHoldersAreTrue }
-    ensures named { StepsEstablish IsDelivery CarriedHoldersAreTrue }
-    ensures marks { StepsEstablish IsDelivery MarksAreTrue }
-    ensures dependents { StepsEstablish IsDelivery DependentsLog }
-    ensures messages { StepsEstablish IsDelivery MessagesCarry }
-    ensures receivers { StepsEstablish IsDelivery ReceiversHaveSurvivors }
-    ensures senders { StepsEstablish IsDelivery SendersHaveCarried }
+    ensures few { StepsEstablish IsDeliveryRequest FewAreDown }
+    ensures holders { StepsEstablish IsDeliveryRequest KnownHoldersAreTrue }
+    ensures named { StepsEstablish IsDeliveryRequest CarriedHoldersAreTrue }
+    ensures marks { StepsEstablish IsDeliveryRequest MarksAreTrue }
+    ensures dependents { StepsEstablish IsDeliveryRequest DependentsLog }
+    ensures messages { StepsEstablish IsDeliveryRequest MessagesCarry }
+    ensures receivers { StepsEstablish IsDeliveryRequest ReceiversHaveSurvivors }
+    ensures senders { StepsEstablish IsDeliveryRequest SendersHaveCarried }
 {}
 
 /// Each crash, refused or not, preserves each of the eight facts of the invariant.
@@ -81,14 +81,14 @@ pub fn crashes_preserve_invariant()
 
 /// Each restart, refused or not, preserves each of the eight facts of the invariant.
 pub fn restarts_preserve_invariant()
-    ensures few { StepsEstablish IsRestart FewAreDown }
-    ensures holders { StepsEstablish IsRestart KnownHoldersAreTrue }
-    ensures named { StepsEstablish IsRestart CarriedHoldersAreTrue }
-    ensures marks { StepsEstablish IsRestart MarksAreTrue }
-    ensures dependents { StepsEstablish IsRestart DependentsLog }
-    ensures messages { StepsEstablish IsRestart MessagesCarry }
-    ensures receivers { StepsEstablish IsRestart ReceiversHaveSurvivors }
-    ensures senders { StepsEstablish IsRestart SendersHaveCarried }
+    ensures few { StepsEstablish IsRestartRequest FewAreDown }
+    ensures holders { StepsEstablish IsRestartRequest KnownHoldersAreTrue }
+    ensures named { StepsEstablish IsRestartRequest CarriedHoldersAreTrue }
+    ensures marks { StepsEstablish IsRestartRequest MarksAreTrue }
+    ensures dependents { StepsEstablish IsRestartRequest DependentsLog }
+    ensures messages { StepsEstablish IsRestartRequest MessagesCarry }
+    ensures receivers { StepsEstablish IsRestartRequest ReceiversHaveSurvivors }
+    ensures senders { StepsEstablish IsRestartRequest SendersHaveCarried }
 {}
 
 /// Each flush, complete, partial or refused, preserves each of the eight facts of the invariant.

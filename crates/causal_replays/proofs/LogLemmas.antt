@@ -8,21 +8,21 @@ use Rattle.std.proofs.lemmas.Bool.Decides.{eqb_tells}
 use Rattle.std.proofs.lemmas.Bool.{or_cases, and_parts, eqb-true, cases_lt, cond-true, cond-false, both_ways, false_from_ne_true}
 use Rattle.std.proofs.lemmas.List.{get_or-set_same, get_or-set_other, get_or-map, map-set, length-map, get_or_append_left, get_or_push, length_push, get_or-replicate, get_or_past, length-replicate}
 use Rattle.std.proofs.Math.ListN.{replicate}
-use Rattle.causal_replays.specs.Inside.Holdings.{holds, lists_in, log_of, IsIn, AreLogged}
+use Rattle.causal_replays.specs.Inside.Holdings.{holds, lists_in, logged_numbers, IsIn, AreLogged}
 
 -- the logs after one is replaced
-pub log_set : (logs : List (Vec ℕ)) (q : ℕ) (v : Vec ℕ) (p : ℕ) → q < length logs → log_of (set logs q v) p ≡ cond (p == q) v.items (log_of logs p)
+pub log_set : (logs : List (Vec ℕ)) (q : ℕ) (v : Vec ℕ) (p : ℕ) → q < length logs → logged_numbers (set logs q v) p ≡ cond (p == q) v.items (logged_numbers logs p)
 log_set logs q v p there =
     let mapped : lists_in (set logs q v) ≡ set (lists_in logs) q v.items = map-set (λ (l : Vec ℕ). l.items) logs q v in
     let inside : q < length (lists_in logs) = omega (arith, there, length-map logs (λ (l : Vec ℕ). l.items)) in
     ap (λ x. get_or x p []) mapped
     ∙ elim (eqb_tells p q) [
-      | inl is ↦ ap (λ k. get_or (set (lists_in logs) q v.items) k []) is.1 ∙ get_or-set_same (lists_in logs) q v.items [] inside ∙ sym (cond-true (p == q) v.items (log_of logs p) is.0)
-      | inr other ↦ get_or-set_other (lists_in logs) q p v.items [] other.1 ∙ sym (cond-false (p == q) v.items (log_of logs p) other.0)
+      | inl is ↦ ap (λ k. get_or (set (lists_in logs) q v.items) k []) is.1 ∙ get_or-set_same (lists_in logs) q v.items [] inside ∙ sym (cond-true (p == q) v.items (logged_numbers logs p) is.0)
+      | inr other ↦ get_or-set_other (lists_in logs) q p v.items [] other.1 ∙ sym (cond-false (p == q) v.items (logged_numbers logs p) other.0)
     ]
 
 -- the log of a process is the list at its number
-pub log_read : (logs : List (Vec ℕ)) (q : ℕ) (v : Vec ℕ) → q < length logs → v ≡ get_or logs q v → log_of logs q ≡ v.items
+pub log_read : (logs : List (Vec ℕ)) (q : ℕ) (v : Vec ℕ) → q < length logs → v ≡ get_or logs q v → logged_numbers logs q ≡ v.items
 log_read logs q v there read = get_or-map (λ (l : Vec ℕ). l.items) logs q v [] there ∙ ap (λ (l : Vec ℕ). l.items) (sym read)
 
 -- a list with one more number
@@ -47,14 +47,14 @@ logged_more holders new logs v w number who small same there read pushed held ar
   below = λ p k h. below_by p k (eqb_tells p who) h;
 }
   where
-    own : log_of logs who ≡ v.items
+    own : logged_numbers logs who ≡ v.items
     own = log_read logs who v there read
 
-    at_own : (p : ℕ) → (p == who) ≡ true → log_of (set logs who w) p ≡ log_of logs who ++ number ∷ []
-    at_own p is = log_set logs who w p there ∙ cond-true (p == who) w.items (log_of logs p) is ∙ pushed ∙ ap (λ x. x ++ number ∷ []) (sym own)
+    at_own : (p : ℕ) → (p == who) ≡ true → logged_numbers (set logs who w) p ≡ logged_numbers logs who ++ number ∷ []
+    at_own p is = log_set logs who w p there ∙ cond-true (p == who) w.items (logged_numbers logs p) is ∙ pushed ∙ ap (λ x. x ++ number ∷ []) (sym own)
 
-    at_other : (p : ℕ) → (p == who) ≡ false → log_of (set logs who w) p ≡ log_of logs p
-    at_other p is = log_set logs who w p there ∙ cond-false (p == who) w.items (log_of logs p) is
+    at_other : (p : ℕ) → (p == who) ≡ false → logged_numbers (set logs who w) p ≡ logged_numbers logs p
+    at_other p is = log_set logs who w p there ∙ cond-false (p == who) w.items (logged_numbers logs p) is
 
     held_before : (i p : ℕ) → holds new i p ≡ true → ((i ≡ number) × (p ≡ who)) ⊎ (holds holders i p ≡ true)
     held_before i p h = elim (or_cases (i == number && who == p) (holds holders i p) (sym (held i p) ∙ h)) [
@@ -62,24 +62,24 @@ logged_more holders new logs v w number who small same there read pushed held ar
       | inr old ↦ inr old
     ]
 
-    by_process : (i p : ℕ) → holds new i p ≡ true → (((p == who) ≡ true) × (p ≡ who)) ⊎ (((p == who) ≡ false) × (p ≡ who → ⊥)) → IsIn (log_of (set logs who w) p) i
+    by_process : (i p : ℕ) → holds new i p ≡ true → (((p == who) ≡ true) × (p ≡ who)) ⊎ (((p == who) ≡ false) × (p ≡ who → ⊥)) → IsIn (logged_numbers (set logs who w) p) i
     by_process i p h (inl is) = subst (λ x. IsIn x i) (sym (at_own p is.0)) (elim (held_before i p h) [
-      | inl new_one ↦ subst (λ x. IsIn (log_of logs who ++ number ∷ []) x) (sym new_one.0) (in_new (log_of logs who) number)
-      | inr old ↦ in_old (log_of logs who) number i (subst (λ q. IsIn (log_of logs q) i) is.1 (are.logged i p old))
+      | inl new_one ↦ subst (λ x. IsIn (logged_numbers logs who ++ number ∷ []) x) (sym new_one.0) (in_new (logged_numbers logs who) number)
+      | inr old ↦ in_old (logged_numbers logs who) number i (subst (λ q. IsIn (logged_numbers logs q) i) is.1 (are.logged i p old))
     ])
     by_process i p h (inr other) = subst (λ x. IsIn x i) (sym (at_other p other.0)) (elim (held_before i p h) [
       | inl new_one ↦ absurd (other.1 new_one.1)
       | inr old ↦ are.logged i p old
     ])
 
-    below_by : (p k : ℕ) → (((p == who) ≡ true) × (p ≡ who)) ⊎ (((p == who) ≡ false) × (p ≡ who → ⊥)) → k < length (log_of (set logs who w) p) → get_or (log_of (set logs who w) p) k 0 < length new
+    below_by : (p k : ℕ) → (((p == who) ≡ true) × (p ≡ who)) ⊎ (((p == who) ≡ false) × (p ≡ who → ⊥)) → k < length (logged_numbers (set logs who w) p) → get_or (logged_numbers (set logs who w) p) k 0 < length new
     below_by p k (inl is) h =
         let e = at_own p is.0 in
-        let less : get_or (log_of logs who ++ number ∷ []) k 0 < length holders = below_push (log_of logs who) number (length holders) small (are.below who) k (subst (λ x. k < length x) e h) in
+        let less : get_or (logged_numbers logs who ++ number ∷ []) k 0 < length holders = below_push (logged_numbers logs who) number (length holders) small (are.below who) k (subst (λ x. k < length x) e h) in
         omega (arith, less, same, ap (λ x. get_or x k 0) e)
     below_by p k (inr other) h =
         let e = at_other p other.0 in
-        let less : get_or (log_of logs p) k 0 < length holders = are.below p k (subst (λ x. k < length x) e h) in
+        let less : get_or (logged_numbers logs p) k 0 < length holders = are.below p k (subst (λ x. k < length x) e h) in
         omega (arith, less, same, ap (λ x. get_or x k 0) e)
 
 -- a process's log is emptied, and the process is removed from the holders of each number
@@ -90,24 +90,24 @@ logged_less holders new logs w who same there emptied held are = record {
   below = λ p k h. below_by p k (eqb_tells p who) h;
 }
   where
-    at_own : (p : ℕ) → (p == who) ≡ true → log_of (set logs who w) p ≡ []
-    at_own p is = log_set logs who w p there ∙ cond-true (p == who) w.items (log_of logs p) is ∙ emptied
+    at_own : (p : ℕ) → (p == who) ≡ true → logged_numbers (set logs who w) p ≡ []
+    at_own p is = log_set logs who w p there ∙ cond-true (p == who) w.items (logged_numbers logs p) is ∙ emptied
 
-    at_other : (p : ℕ) → (p == who) ≡ false → log_of (set logs who w) p ≡ log_of logs p
-    at_other p is = log_set logs who w p there ∙ cond-false (p == who) w.items (log_of logs p) is
+    at_other : (p : ℕ) → (p == who) ≡ false → logged_numbers (set logs who w) p ≡ logged_numbers logs p
+    at_other p is = log_set logs who w p there ∙ cond-false (p == who) w.items (logged_numbers logs p) is
 
     not_itself : (p : ℕ) → p ≡ who → not (who == p) ≡ true → ⊥
     not_itself p is h = grind arith
 
-    by_process : (i p : ℕ) → (not (who == p) ≡ true) × (holds holders i p ≡ true) → (((p == who) ≡ true) × (p ≡ who)) ⊎ (((p == who) ≡ false) × (p ≡ who → ⊥)) → IsIn (log_of (set logs who w) p) i
+    by_process : (i p : ℕ) → (not (who == p) ≡ true) × (holds holders i p ≡ true) → (((p == who) ≡ true) × (p ≡ who)) ⊎ (((p == who) ≡ false) × (p ≡ who → ⊥)) → IsIn (logged_numbers (set logs who w) p) i
     by_process i p h (inl is) = absurd (not_itself p is.1 h.0)
     by_process i p h (inr other) = subst (λ x. IsIn x i) (sym (at_other p other.0)) (are.logged i p h.1)
 
-    below_by : (p k : ℕ) → (((p == who) ≡ true) × (p ≡ who)) ⊎ (((p == who) ≡ false) × (p ≡ who → ⊥)) → k < length (log_of (set logs who w) p) → get_or (log_of (set logs who w) p) k 0 < length new
+    below_by : (p k : ℕ) → (((p == who) ≡ true) × (p ≡ who)) ⊎ (((p == who) ≡ false) × (p ≡ who → ⊥)) → k < length (logged_numbers (set logs who w) p) → get_or (logged_numbers (set logs who w) p) k 0 < length new
     below_by p k (inl is) h = absurd (omega (arith, subst (λ x. k < length x) (at_own p is.0) h))
     below_by p k (inr other) h =
         let e = at_other p other.0 in
-        let less : get_or (log_of logs p) k 0 < length holders = are.below p k (subst (λ x. k < length x) e h) in
+        let less : get_or (logged_numbers logs p) k 0 < length holders = are.below p k (subst (λ x. k < length x) e h) in
         omega (arith, less, same, ap (λ x. get_or x k 0) e)
 
 -- the holders after a process is removed from those of each number that it has logged

@@ -20,11 +20,11 @@ use Rattle.causal_trace.proofs.Lemmas.AtInstants.{accepted_then, instant_length,
 use Rattle.causal_trace.proofs.Lemmas.Instants.{past_more}
 use Rattle.causal_trace.proofs.Lemmas.DeliveryNumbers.{delivered_numbered, listed_once}
 use Rattle.causal_replays.specs.Strays.{IsLower, FillsSlot, FirstTwo, LowerAreSingle}
-use Rattle.causal_replays.specs.declared.copies.Copies.{Copies}
-use Rattle.causal_replays.specs.Inside.Copies.{number_in, is_stored, AreCopies, HasNumber, copied_by, named_by}
+use Rattle.causal_replays.specs.declared.copies.CopyTable.{CopyTable}
+use Rattle.causal_replays.specs.Inside.Copies.{number_in, is_stored, IsCopyTable, HasNumber, copied_by, mentioned_dets}
 use Rattle.causal_replays.specs.Inside.Holdings.{holds}
 use Rattle.causal_replays.specs.Inside.Rivals.{IsCopied, IsInSlot, HasRivals, AreNoted, IsCopiedAt, AreFirstTwo, HaveTwo}
-use Rattle.causal_replays.specs.Inside.Slots.{number_at}
+use Rattle.causal_replays.specs.Inside.Slots.{slot_number}
 use Rattle.causal_replays.proofs.NumberLemmas.{one_det, is_same, same_is}
 use Rattle.causal_replays.proofs.SurvivorLemmas.{logs_inside, named_delivered, survivor_delivered, logged_survives, stable_survives, survives_step, copied_survives_entry, none_survive}
 
@@ -82,7 +82,7 @@ some_value (Some i) h = (i, refl)
 pub delivered_number : (whole : List Entry) (d : Det) (k : ℕ) → det_at whole k ≡ Some d → (i : ℕ) × (number_in whole d ≡ Some i)
 delivered_number whole d k at = some_value (number_in whole d) (sym (delivered_numbered (deliveries_in whole) whole d (listed_once whole)) ∙ told_det whole d k at)
 
-module _ (r : Recording) (formed : IsWellFormed r) (t : ℕ) (within : t ≤ length r.past) (c : Copies) (are : AreCopies r.past (instant r.past t) c) where
+module _ (r : Recording) (formed : IsWellFormed r) (t : ℕ) (within : t ≤ length r.past) (c : CopyTable) (are : IsCopyTable r.past (instant r.past t) c) where
   legal : AreLegalEntries r.processes (instant r.past t)
   legal = accepted_then r.processes r.past t formed.accepted
 
@@ -117,7 +117,7 @@ module _ (r : Recording) (formed : IsWellFormed r) (t : ℕ) (within : t ≤ len
   -- two in one slot are the same
   one_in_slot : (slots : List (Vec (Option ℕ))) (a b : Det) → IsCopied r.past c a → IsCopied r.past c b → IsInSlot r.past slots a → IsInSlot r.past slots b → a.dest.0 ≡ b.dest.0 → a.rsn ≡ b.rsn → a ≡ b
   one_in_slot slots a b one other in_a in_b dest rsn =
-      let same : Some one.0 ≡ Some other.0 = sym (in_a one.0 one.1) ∙ ap (λ p. number_at slots p a.rsn) dest ∙ ap (λ x. number_at slots b.dest.0 x) rsn ∙ in_b other.0 other.1 in
+      let same : Some one.0 ≡ Some other.0 = sym (in_a one.0 one.1) ∙ ap (λ p. slot_number slots p a.rsn) dest ∙ ap (λ x. slot_number slots b.dest.0 x) rsn ∙ in_b other.0 other.1 in
       one_det r.past a b other.0 (one.1 ∙ same) other.1
 
   module _ (slots : List (Vec (Option ℕ))) (test : Det → Bool) (tested : (d : Det) → survives r.processes (instant r.past t) d ≡ true → test d ≡ true) where
@@ -217,8 +217,8 @@ module _ (r : Recording) (formed : IsWellFormed r) (t : ℕ) (e : Entry) (inside
       (survives_step r.processes (instant r.past t) d e (subst (λ p. survives r.processes p d ≡ true) next h))
 
   -- what the entry names has a number
-  pub named_numbered : All (HasNumber r.past) (named_by e)
-  named_numbered = All-weaker (λ d. is_delivered (e ∷ instant r.past t) d ≡ true) (HasNumber r.past) numbered (named_by e) (named_delivered r.processes (instant r.past t) e legal_entry)
+  pub named_numbered : All (HasNumber r.past) (mentioned_dets e)
+  named_numbered = All-weaker (λ d. is_delivered (e ∷ instant r.past t) d ≡ true) (HasNumber r.past) numbered (mentioned_dets e) (named_delivered r.processes (instant r.past t) e legal_entry)
     where
       numbered : (d : Det) → is_delivered (e ∷ instant r.past t) d ≡ true → HasNumber r.past d
       numbered d h =
@@ -226,7 +226,7 @@ module _ (r : Recording) (formed : IsWellFormed r) (t : ℕ) (e : Entry) (inside
           let low : at.0 < t + 1 = omega (arith, det_within (instant r.past (t + 1)) at.0 d at.1, instant_length r.past (t + 1) inside) in
           ap is_some (delivered_number r.past d at.0 (sym (det_then r.past (t + 1) at.0 low inside) ∙ at.1)).1
 
-  module _ (c now : Copies) (copied : AreCopies r.past (instant r.past t) c) (copied_now : AreCopies r.past (instant r.past (t + 1)) now) where
+  module _ (c now : CopyTable) (copied : IsCopyTable r.past (instant r.past t) c) (copied_now : IsCopyTable r.past (instant r.past (t + 1)) now) where
     -- what the entry makes a copy of has one
     pub listed_copied : (dets : List Det) → dets ≡ copied_by e → (d : Det) → list_has dets d ≡ true → IsCopied r.past now d
     listed_copied dets are d h =
@@ -247,10 +247,10 @@ module _ (r : Recording) where
   none_yet : (d : Det) → survives r.processes (instant r.past 0) d ≡ true → ⊥
   none_yet d h = none_survive r.processes d (subst (λ p. survives r.processes p d ≡ true) (no_entry r.past) h)
 
-  pub copied_first : (c : Copies) → ((i p : ℕ) → holds c.holders.items i p ≡ false) → ((i : ℕ) → is_stored c.stable.items i ≡ false) → AreCopies r.past (instant r.past 0) c
-  copied_first c unheld unstored = subst (λ p. AreCopies r.past p c) (sym (no_entry r.past)) (record { held = λ d i p at. unheld i p; stored = λ d i at. unstored i })
+  pub copied_first : (c : CopyTable) → ((i p : ℕ) → holds c.holders.items i p ≡ false) → ((i : ℕ) → is_stored c.stable.items i ≡ false) → IsCopyTable r.past (instant r.past 0) c
+  copied_first c unheld unstored = subst (λ p. IsCopyTable r.past p c) (sym (no_entry r.past)) (record { held = λ d i p at. unheld i p; stored = λ d i at. unstored i })
 
-  pub noted_first : (c : Copies) (slots : List (Vec (Option ℕ))) → ((p s : ℕ) → number_at slots p s ≡ None) → AreNoted r.past c slots None (survives r.processes (instant r.past 0))
+  pub noted_first : (c : CopyTable) (slots : List (Vec (Option ℕ))) → ((p s : ℕ) → slot_number slots p s ≡ None) → AreNoted r.past c slots None (survives r.processes (instant r.past 0))
   noted_first c slots none = record {
     of_slots = λ p s j h. absurd (let x : None ≡ Some j = sym (none p s) ∙ h in cc);
     in_slots = λ d h has below. absurd (none_yet d h);

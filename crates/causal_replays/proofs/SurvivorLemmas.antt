@@ -16,7 +16,7 @@ use Rattle.causal_trace.specs.Past.{logs, is_stable, is_delivered, is_det, det_o
 use Rattle.causal_trace.specs.Rows.{AreLegalEntries, first_fault, rows_within, refusal_rows, are_delivered, are_delivered_with}
 use Rattle.causal_trace.specs.Survivors.{survives}
 use Rattle.causal_trace.proofs.Lemmas.EntryFacts.{row_fails, not_false}
-use Rattle.causal_replays.specs.Inside.Copies.{copied_by, named_by}
+use Rattle.causal_replays.specs.Inside.Copies.{copied_by, mentioned_dets}
 use Rattle.causal_replays.proofs.NumberLemmas.{same_is}
 
 -- ---- only processes of the run log
@@ -75,14 +75,14 @@ all_true test [] h = All-nil (λ d. test d ≡ true)
 all_true test (x ∷ dets) h = let each = and_parts (test x) (list_all test dets) h in All-cons (λ d. test d ≡ true) x dets each.0 (all_true test dets each.1)
 
 -- what a legal entry names is that of a delivery
-pub named_delivered : (n : ℕ) (past : List Entry) (e : Entry) → first_fault n past e ≡ None → All (λ d. is_delivered (e ∷ past) d ≡ true) (named_by e)
+pub named_delivered : (n : ℕ) (past : List Entry) (e : Entry) → first_fault n past e ≡ None → All (λ d. is_delivered (e ∷ past) d ≡ true) (mentioned_dets e)
 unfolding rows_within
 named_delivered n past e legal = named e legal
   where
     still : (e : Entry) (dets : List Det) → list_all (is_delivered past) dets ≡ true → All (λ d. is_delivered (e ∷ past) d ≡ true) dets
     still e dets all = All-weaker (λ d. is_delivered past d ≡ true) (λ d. is_delivered (e ∷ past) d ≡ true) (λ d h. or_right (is_det (det_of past e) d) (is_delivered past d) h) dets (all_true (is_delivered past) dets all)
 
-    named : (e : Entry) → first_fault n past e ≡ None → All (λ d. is_delivered (e ∷ past) d ≡ true) (named_by e)
+    named : (e : Entry) → first_fault n past e ≡ None → All (λ d. is_delivered (e ∷ past) d ≡ true) (mentioned_dets e)
     named (Send from to ssn) legal = All-nil (λ d. is_delivered (Send from to ssn ∷ past) d ≡ true)
     named (Deliver to send rsn listed) legal =
         let e : Entry = Deliver to send rsn listed in

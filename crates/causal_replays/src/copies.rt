@@ -5,10 +5,10 @@ ghost use Rattle.causal_name.specs.Names.{same_det};
 ghost use Rattle.causal_trace.specs.declared.entry.Entry.{Entry};
 ghost use Rattle.causal_trace.specs.Past.{deliveries_in, list_has};
 ghost use Rattle.causal_replays.specs.Inside.Holdings.{holds};
-ghost use Rattle.causal_replays.specs.Inside.Copies.{copied_by, named_by, is_stored, number_in, AreCopies, AreSized, HasCopy, HasNumber};
+ghost use Rattle.causal_replays.specs.Inside.Copies.{copied_by, mentioned_dets, is_stored, number_in, IsCopyTable, AreSized, HasCopy, HasNumber};
 
-use crate::holdings::{add_holder, empty_log, has_holder, remove_holder};
-use crate::slots::empty_lists;
+use crate::holdings::{add_holder, clear_log, has_holder, remove_holder};
+use crate::slots::empty_process_lists;
 use causal_holders::Holders;
 use causal_name::{Det, NoMemory};
 use causal_trace::entry::Entry;
@@ -19,7 +19,7 @@ use std::slice;
 /// The copies of each determinant after some entries, by number. `logs` contains for each process the numbers in its
 /// log, and perhaps others.
 #[derive(Drop)]
-pub struct Copies {
+pub struct CopyTable {
     pub holders: Vec<Holders>,
     pub stable: Vec<bool>,
     pub logs: Vec<Vec<u32>>,
@@ -38,20 +38,20 @@ pub fn number_of(trace: &Trace, det: Det) -> u32
 }
 
 /// Returns the value for `count` determinants without copies.
-pub fn no_copies(alloc: Global, count: usize) -> Result<Copies, NoMemory>
+pub fn empty_copy_table(alloc: Global, count: usize) -> Result<CopyTable, NoMemory>
     ensures sized { IfOk result (AreSized count) }
     ensures unheld { IfOk result (λ c. (i p : ℕ) → holds c.holders.items i p ≡ false) }
     ensures unstored { IfOk result (λ c. (i : ℕ) → is_stored c.stable.items i ≡ false) }
 {
-    Ok(Copies {
+    Ok(CopyTable {
         holders: vec![in alloc; Holders::none(); count]?,
         stable: vec![in alloc; false; count]?,
-        logs: empty_lists(alloc)?,
+        logs: empty_process_lists(alloc)?,
     })
 }
 
 /// Returns whether the determinant with this number has a copy.
-pub fn has_copy(copies: &Copies, number: u32) -> bool
+pub fn has_copy(copies: &CopyTable, number: u32) -> bool
     requires { (count : ℕ) × AreSized count copies.now × (number < count) }
     ensures { (result ≡ true) ↔ HasCopy copies.now number }
 {
@@ -59,7 +59,7 @@ pub fn has_copy(copies: &Copies, number: u32) -> bool
 }
 
 /// Adds the determinant to the log of a process.
-fn log_det(copies: &mut Copies, trace: &Trace, who: u8, det: Det) -> Result<(), NoMemory>
+fn log_det(copies: &mut CopyTable, trace: &Trace, who: u8, det: Det) -> Result<(), NoMemory>
     requires sized { AreSized (deliveries_in trace.now.recording.past) copies.old }
     requires number { HasNumber trace.now.recording.past det }
     ensures held { OnOk result ((d : Det) (i p : ℕ) →
@@ -74,7 +74,7 @@ fn log_det(copies: &mut Copies, trace: &Trace, who: u8, det: Det) -> Result<(), 
 }
 
 /// Adds the determinants to the log of a process.
-fn log_dets(copies: &mut Copies, trace: &Trace, who: u8, listed: &[Det]) -> Result<(), NoMemory>
+fn log_dets(copies: &mut CopyTable, trace: &Trace, who: u8, listed: &[Det]) -> Result<(), NoMemory>
     requires sized { AreSized (deliveries_in trace.now.recording.past) copies.old }
     requires numbers { All (HasNumber trace.now.recording.past) listed.now }
     ensures held { OnOk result ((d : Det) (i p : ℕ) →
@@ -91,7 +91,7 @@ fn log_dets(copies: &mut Copies, trace: &Trace, who: u8, listed: &[Det]) -> Resu
 }
 
 /// Removes the determinant from the log of a process.
-fn forget_det(copies: &mut Copies, trace: &Trace, who: u8, det: Det)
+fn forget_det(copies: &mut CopyTable, trace: &Trace, who: u8, det: Det)
     requires sized { AreSized (deliveries_in trace.now.recording.past) copies.old }
     requires number { HasNumber trace.now.recording.past det }
     ensures held { (d : Det) (i p : ℕ) →
@@ -105,7 +105,7 @@ fn forget_det(copies: &mut Copies, trace: &Trace, who: u8, det: Det)
 }
 
 /// Removes the determinants from the log of a process.
-fn forget_dets(copies: &mut Copies, trace: &Trace, who: u8, listed: &[Det])
+fn forget_dets(copies: &mut CopyTable, trace: &Trace, who: u8, listed: &[Det])
     requires sized { AreSized (deliveries_in trace.now.recording.past) copies.old }
     requires numbers { All (HasNumber trace.now.recording.past) listed.now }
     ensures held { (d : Det) (i p : ℕ) →
@@ -120,7 +120,7 @@ fn forget_dets(copies: &mut Copies, trace: &Trace, who: u8, listed: &[Det])
 }
 
 /// Writes the determinant to stable storage.
-fn store_det(copies: &mut Copies, trace: &Trace, det: Det)
+fn store_det(copies: &mut CopyTable, trace: &Trace, det: Det)
     requires sized { AreSized (deliveries_in trace.now.recording.past) copies.old }
     requires number { HasNumber trace.now.recording.past det }
     ensures stored { (d : Det) (i : ℕ) →
@@ -134,12 +134,12 @@ fn store_det(copies: &mut Copies, trace: &Trace, det: Det)
 }
 
 /// Updates the copies by one more entry of the trace.
-pub fn apply_entry(copies: &mut Copies, trace: &Trace, entry: &Entry) -> Result<(), NoMemory>
+pub fn apply_entry(copies: &mut CopyTable, trace: &Trace, entry: &Entry) -> Result<(), NoMemory>
     requires sized { AreSized (deliveries_in trace.now.recording.past) copies.old }
-    requires numbers { All (HasNumber trace.now.recording.past) (named_by entry.now) }
+    requires numbers { All (HasNumber trace.now.recording.past) (mentioned_dets entry.now) }
     ensures copies { OnOk result ((past : List Entry) →
-        AreCopies trace.now.recording.past past copies.old →
-        AreCopies trace.now.recording.past (entry.now ∷ past) copies.new) }
+        IsCopyTable trace.now.recording.past past copies.old →
+        IsCopyTable trace.now.recording.past (entry.now ∷ past) copies.new) }
     ensures sized { OnOk result
         (AreSized (deliveries_in trace.now.recording.past) copies.new) }
 {
@@ -151,7 +151,7 @@ pub fn apply_entry(copies: &mut Copies, trace: &Trace, entry: &Entry) -> Result<
             Ok(())
         }
         Entry::Crash { who } => {
-            empty_log(&mut copies.holders, &mut copies.logs, who.0);
+            clear_log(&mut copies.holders, &mut copies.logs, who.0);
             Ok(())
         }
         Entry::Forget { who, listed } => {

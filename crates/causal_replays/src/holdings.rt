@@ -56,7 +56,7 @@ pub fn remove_from_each(holders: &mut Vec<Holders>, numbers: &[u32], who: u8)
 }
 
 /// Removes a holder of all determinants, and the numbers from its list.
-pub fn empty_log(holders: &mut Vec<Holders>, logs: &mut Vec<Vec<u32>>, who: u8)
+pub fn clear_log(holders: &mut Vec<Holders>, logs: &mut Vec<Vec<u32>>, who: u8)
     requires logs { vec_len logs.old ≡ 256 }
     requires logged { AreLogged holders.old.items logs.old.items }
     ensures held { (i p : ℕ) → holds holders.new.items i p ≡

@@ -3,10 +3,10 @@ ghost use Rattle.std.specs.Prelude.{IfOk, MatchOption};
 ghost use Rattle.causal_trace.specs.Survivors.{IsFollowed};
 ghost use Rattle.causal_replays.specs.Strays.{IsFirstStray};
 
-use crate::copies::{apply_entry, copied_by, no_copies};
+use crate::copies::{apply_entry, copied_by, empty_copy_table};
 use crate::rivals::note_dets;
 use crate::search::first_two;
-use crate::slots::empty_lists;
+use crate::slots::empty_process_lists;
 use crate::stray::Stray;
 use causal_name::NoMemory;
 use causal_trace::trace::Trace;
@@ -26,8 +26,8 @@ pub fn first_stray(alloc: Global, trace: &Trace) -> Result<Option<Stray>, NoMemo
         (IsFollowed trace.now.recording) (IsFirstStray trace.now.recording)) }
 {
     let recorded = trace.entries();
-    let mut copies = no_copies(alloc, trace.deliveries() as usize)?;
-    let mut slots = empty_lists(alloc)?;
+    let mut copies = empty_copy_table(alloc, trace.deliveries() as usize)?;
+    let mut slots = empty_process_lists(alloc)?;
     for (t, entry) in recorded.iter().enumerate() {
         apply_entry(&mut copies, trace, entry)?;
         if let Some(slot) = note_dets(&mut slots, &copies, trace, copied_by(entry))? {

@@ -4,11 +4,11 @@ ghost use Rattle.causal_name.specs.declared.Det.{Det as Determinant};
 ghost use Rattle.causal_name.specs.Names.{same_det};
 ghost use Rattle.causal_trace.specs.Past.{deliveries_in, list_has};
 ghost use Rattle.causal_replays.specs.Inside.Copies.{AreSized, HasCopy};
-ghost use Rattle.causal_replays.specs.Inside.Slots.{number_at};
+ghost use Rattle.causal_replays.specs.Inside.Slots.{slot_number};
 ghost use Rattle.causal_replays.specs.Inside.Rivals.{AreNoted, AreOfSlots, IsCopied, IsLesser};
 
-use crate::copies::{Copies, has_copy, number_of};
-use crate::slots::{number_at, set_number};
+use crate::copies::{CopyTable, has_copy, number_of};
+use crate::slots::{set_number, slot_number};
 use causal_name::{Det, NoMemory, Slot};
 use causal_trace::trace::Trace;
 
@@ -25,7 +25,7 @@ fn lower_slot(least: Option<Slot>, slot: Slot) -> Slot
 /// Returns whether the slot has the number of another determinant with a copy.
 fn has_rival(
     slots: &Vec<Vec<Option<u32>>>,
-    copies: &Copies,
+    copies: &CopyTable,
     trace: &Trace,
     slot: Slot,
     number: u32,
@@ -34,12 +34,12 @@ fn has_rival(
     requires of_slots { AreOfSlots trace.now.recording.past slots.now.items }
     requires sized { AreSized (deliveries_in trace.now.recording.past) copies.now }
     ensures { MatchBool result
-        ((j : ℕ) × (number_at slots.now.items slot.dest.0 slot.rsn ≡ Some j) ×
+        ((j : ℕ) × (slot_number slots.now.items slot.dest.0 slot.rsn ≡ Some j) ×
         (j ≡ number → ⊥) × HasCopy copies.now j)
-        ((j : ℕ) → number_at slots.now.items slot.dest.0 slot.rsn ≡ Some j →
+        ((j : ℕ) → slot_number slots.now.items slot.dest.0 slot.rsn ≡ Some j →
         HasCopy copies.now j → j ≡ number) }
 {
-    match number_at(slots, slot) {
+    match slot_number(slots, slot) {
         Some(other) => other != number && has_copy(copies, other),
         None => false,
     }
@@ -49,7 +49,7 @@ fn has_rival(
 /// such rivals so far.
 fn note_det(
     slots: &mut Vec<Vec<Option<u32>>>,
-    copies: &Copies,
+    copies: &CopyTable,
     trace: &Trace,
     det: Det,
     least: Option<Slot>,
@@ -77,7 +77,7 @@ fn note_det(
 /// Notes determinants with copies in their slots. Returns the least slot with another one with a copy, if there is one.
 pub fn note_dets(
     slots: &mut Vec<Vec<Option<u32>>>,
-    copies: &Copies,
+    copies: &CopyTable,
     trace: &Trace,
     dets: &[Det],
 ) -> Result<Option<Slot>, NoMemory>

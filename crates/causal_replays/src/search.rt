@@ -5,12 +5,12 @@ ghost use Rattle.causal_trace.specs.Past.{deliveries_in};
 ghost use Rattle.causal_replays.specs.Inside.Copies.{AreSized};
 ghost use Rattle.causal_replays.specs.Inside.Rivals.{AreAllOf, AreFirstTwo, HaveTwo, IsCopiedAt, IsFirstOther};
 
-use crate::copies::{Copies, has_copy, number_of};
+use crate::copies::{CopyTable, has_copy, number_of};
 use causal_name::{Det, Slot};
 use causal_trace::trace::Trace;
 
 /// Returns the determinant of the delivery at position k if it has a copy and fills the slot.
-fn copied_at(trace: &Trace, copies: &Copies, slot: Slot, k: u32) -> Option<Det>
+fn copied_at(trace: &Trace, copies: &CopyTable, slot: Slot, k: u32) -> Option<Det>
     requires { AreSized (deliveries_in trace.now.recording.past) copies.now }
     ensures { MatchOption result
         ((d : Determinant) → IsCopiedAt trace.now.recording.past copies.now slot k d → ⊥)
@@ -42,7 +42,7 @@ fn is_other(known: Option<Det>, det: Det) -> bool
 /// this slot, other than the known one.
 fn first_other(
     trace: &Trace,
-    copies: &Copies,
+    copies: &CopyTable,
     slot: Slot,
     end: u32,
     known: Option<Det>,
@@ -64,7 +64,7 @@ fn first_other(
 
 /// Returns the position of the first delivery before `end` that has a determinant with a copy in this slot, and of the
 /// first that has a different one.
-pub fn first_two(trace: &Trace, copies: &Copies, slot: Slot, end: u32) -> (u32, u32)
+pub fn first_two(trace: &Trace, copies: &CopyTable, slot: Slot, end: u32) -> (u32, u32)
     requires sized { AreSized (deliveries_in trace.now.recording.past) copies.now }
     requires two { HaveTwo trace.now.recording.past copies.now slot end }
     ensures { AreFirstTwo trace.now.recording.past copies.now slot end result.0 result.1 }

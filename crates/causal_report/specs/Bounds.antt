@@ -4,7 +4,7 @@ use Rattle.causal_report.specs.declared.bounds.Bounds.{Bounds}
 use Rattle.causal_report.specs.declared.bounds.Bounds.TheVariants as bounds
 use Rattle.causal_report.specs.declared.form.Form.{Form}
 use Rattle.causal_report.specs.declared.form.Form.TheVariants.{Lines, Json}
-use Rattle.causal_report.specs.Fields.{number, opened}
+use Rattle.causal_report.specs.Fields.{json_number, opened}
 
 -- the word for the verdict
 abbrev pub bounds_word : Bounds → List ℕ
@@ -15,10 +15,10 @@ bounds_word (bounds.Orphan first) = codes "orphan"
 
 -- the first and the last bound, both included
 abbrev pub bounds_fields : Form → Bounds → List ℕ
-bounds_fields form (bounds.Exceeded last) = number form (codes "to") last
-bounds_fields form (bounds.AcceptFrom first) = number form (codes "from") first
-bounds_fields form (bounds.Accept first last) = number form (codes "from") first ++ number form (codes "to") last
-bounds_fields form (bounds.Orphan first) = number form (codes "from") first
+bounds_fields form (bounds.Exceeded last) = json_number form (codes "to") last
+bounds_fields form (bounds.AcceptFrom first) = json_number form (codes "from") first
+bounds_fields form (bounds.Accept first last) = json_number form (codes "from") first ++ json_number form (codes "to") last
+bounds_fields form (bounds.Orphan first) = json_number form (codes "from") first
 
 -- the sentence, after a colon and with a line feed
 abbrev pub bounds_sentence : Bounds → List ℕ

@@ -23,7 +23,7 @@ use Rattle.causal_report.specs.declared.event.ChainEvent.TheVariants.{Delivery}
 use Rattle.causal_report.specs.declared.fact.Fact.{Fact}
 use Rattle.causal_report.specs.declared.fact.Fact.TheVariants as fact
 use Rattle.causal_report.specs.Events.{event_at}
-use Rattle.causal_report.specs.Survivors.{AreCopies}
+use Rattle.causal_report.specs.Survivors.{AreSurvivorCopies}
 
 -- ---- lists of facts
 
@@ -99,7 +99,7 @@ AreVerdictFacts r f (Orphan t k crash orphan) facts =
 pub record AreCopyFacts (r : Recording) (t k : ℕ) (facts : List Fact) : Type 0 where
   pub holdings : List Holding
   pub stored : Bool
-  pub copies : AreCopies r t k holdings stored
+  pub copies : AreSurvivorCopies r t k holdings stored
   pub listed : facts ≡ map (fact.Logged k) holdings ++ stable_facts k stored
 
 -- who has which of the two determinants of a stray

@@ -17,9 +17,9 @@ use Rattle.causal_report.specs.Places.{line_at, line_before}
 -- ---- fields
 
 -- a field with a number
-unfoldable pub number : Form → List ℕ → ℕ → List ℕ
-number Lines name n = codes " " ++ (name ++ (codes "=" ++ decimal n))
-number Json name n = codes ",\"" ++ (name ++ (codes "\":" ++ decimal n))
+unfoldable pub json_number : Form → List ℕ → ℕ → List ℕ
+json_number Lines name n = codes " " ++ (name ++ (codes "=" ++ decimal n))
+json_number Json name n = codes ",\"" ++ (name ++ (codes "\":" ++ decimal n))
 
 -- a field with a word
 unfoldable pub word : Form → List ℕ → List ℕ → List ℕ
@@ -37,11 +37,11 @@ opened name text = codes "{\"" ++ (name ++ (codes "\":\"" ++ (text ++ codes "\""
 
 -- the field of a line of the trace's text
 abbrev pub line : Form → ℕ → List ℕ
-line form n = number form (codes "line") n
+line form n = json_number form (codes "line") n
 
 -- the field of a process
 abbrev pub process : Form → ℕ → List ℕ
-process form p = number form (codes "process") p
+process form p = json_number form (codes "process") p
 
 -- ---- fields of values
 
@@ -51,7 +51,7 @@ process_at form p position = process form p ++ line form (line_at position)
 
 -- the message of a determinant, and the receive sequence number
 abbrev pub det_fields : Form → Det → List ℕ
-det_fields form det = number form (codes "source") det.source.0 ++ (number form (codes "ssn") det.ssn ++ number form (codes "rsn") det.rsn)
+det_fields form det = json_number form (codes "source") det.source.0 ++ (json_number form (codes "ssn") det.ssn ++ json_number form (codes "rsn") det.rsn)
 
 -- the process of the entry by which an instant fails
 abbrev pub actor_of : Cause → ℕ
@@ -80,7 +80,7 @@ event_process form Other = []
 
 -- the line of the send and the process of a delivery
 abbrev pub arrival_fields : Form → ChainEvent → List ℕ
-arrival_fields form (Delivery to send) = number form (codes "send") (line_at send) ++ process form to
+arrival_fields form (Delivery to send) = json_number form (codes "send") (line_at send) ++ process form to
 arrival_fields form _ = []
 
 -- an event of a chain, by its position
@@ -93,12 +93,12 @@ unlisted_fields form position event = line form (line_at position) ++ arrival_fi
 
 -- the two deliveries of a stray
 abbrev pub stray_deliveries : Form → Stray → List ℕ
-stray_deliveries form stray = number form (codes "first") stray.first ++ number form (codes "second") stray.second
+stray_deliveries form stray = json_number form (codes "first") stray.first ++ json_number form (codes "second") stray.second
 
 -- a stray: the instant, the slot, and the two deliveries
 abbrev pub stray_fields : Form → Stray → List ℕ
 stray_fields form stray =
-    number form (codes "instant") stray.instant ++ (process form stray.slot.dest.0 ++ (number form (codes "rsn") stray.slot.rsn ++ stray_deliveries form stray))
+    json_number form (codes "instant") stray.instant ++ (process form stray.slot.dest.0 ++ (json_number form (codes "rsn") stray.slot.rsn ++ stray_deliveries form stray))
 
 -- ---- fields of facts
 
@@ -115,12 +115,12 @@ fields_of form (fact.Crash p) = process form p
 fields_of form (fact.Chain position event) = event_fields form position event
 fields_of form (fact.Unlisted position event is_own) = unlisted_fields form position event
 fields_of form fact.Listed = []
-fields_of form (fact.Underway position send to) = number form (codes "send") (line_at send) ++ (line form (line_at position) ++ process form to)
+fields_of form (fact.Underway position send to) = json_number form (codes "send") (line_at send) ++ (line form (line_at position) ++ process form to)
 fields_of form (fact.Orphan p) = process form p
 fields_of form (fact.Closest closest) =
-    number form (codes "faults") closest.faults ++ (line form (line_at closest.delivery)
-    ++ (number form (codes "until") (line_before closest.instant) ++ number form (codes "orphan") closest.orphan))
+    json_number form (codes "faults") closest.faults ++ (line form (line_at closest.delivery)
+    ++ (json_number form (codes "until") (line_before closest.instant) ++ json_number form (codes "orphan") closest.orphan))
 fields_of form fact.Never = nothing form (codes "faults")
 fields_of form (fact.Strayed stray) = stray_fields form stray
-fields_of form (fact.Logged delivery holding) = number form (codes "delivery") delivery ++ process_at form holding.process holding.since
-fields_of form (fact.Stable delivery) = number form (codes "delivery") delivery
+fields_of form (fact.Logged delivery holding) = json_number form (codes "delivery") delivery ++ process_at form holding.process holding.since
+fields_of form (fact.Stable delivery) = json_number form (codes "delivery") delivery

@@ -14,7 +14,7 @@ use Rattle.causal_report.specs.declared.finding.Finding.{Finding}
 use Rattle.causal_report.specs.declared.finding.Finding.TheVariants as finding
 use Rattle.causal_report.specs.declared.form.Form.{Form}
 use Rattle.causal_report.specs.declared.form.Form.TheVariants.{Lines, Json}
-use Rattle.causal_report.specs.Fields.{number, word, line, stray_fields}
+use Rattle.causal_report.specs.Fields.{json_number, word, line, stray_fields}
 
 -- ---- words
 
@@ -36,7 +36,7 @@ finding_word (finding.Strayed stray) = codes "strayed"
 
 -- the numbers of entries and deliveries
 abbrev pub counts : Form → ℕ → ℕ → List ℕ
-counts form entries deliveries = number form (codes "entries") entries ++ number form (codes "deliveries") deliveries
+counts form entries deliveries = json_number form (codes "entries") entries ++ json_number form (codes "deliveries") deliveries
 
 -- a comma, and a process
 unfoldable pub next_process : ℕ → List ℕ
@@ -53,12 +53,12 @@ set_member name set = codes ",\"" ++ (name ++ (codes "\":[" ++ (processes (ascen
 
 -- the members of an excess
 abbrev pub excess_members : ℕ → FinSet nat_cmp → List ℕ
-excess_members instant down = number Json (codes "instant") instant ++ set_member (codes "down") down
+excess_members instant down = json_number Json (codes "instant") instant ++ set_member (codes "down") down
 
 -- the members of an orphan
 abbrev pub orphan_members : ℕ → ℕ → FinSet nat_cmp → ℕ → List ℕ
 orphan_members instant delivery crash orphan =
-    number Json (codes "instant") instant ++ (number Json (codes "delivery") delivery ++ (set_member (codes "crash") crash ++ number Json (codes "orphan") orphan))
+    json_number Json (codes "instant") instant ++ (json_number Json (codes "delivery") delivery ++ (set_member (codes "crash") crash ++ json_number Json (codes "orphan") orphan))
 
 -- the members of a verdict on a trace with these numbers of entries and deliveries
 abbrev pub verdict_members : ℕ → ℕ → Verdict → List ℕ
@@ -68,12 +68,12 @@ verdict_members entries deliveries (Orphan instant delivery crash orphan) = orph
 
 -- the bound f and the members of a verdict
 abbrev pub judged_members : ℕ → Judged → List ℕ
-judged_members f judged = number Json (codes "f") f ++ verdict_members judged.entries judged.deliveries judged.verdict
+judged_members f judged = json_number Json (codes "f") f ++ verdict_members judged.entries judged.deliveries judged.verdict
 
 -- the members of a finding
 abbrev pub finding_members : Finding → List ℕ
 finding_members (finding.Verdict f judged) = judged_members f judged
-finding_members (finding.EarlyBreach f judged) = judged_members f judged ++ number Json (codes "read") judged.entries
+finding_members (finding.EarlyBreach f judged) = judged_members f judged ++ json_number Json (codes "read") judged.entries
 finding_members (finding.Fault fault) = line Json fault.line ++ word Json (codes "kind") (kind_name fault.kind)
 finding_members (finding.Followed entries deliveries) = counts Json entries deliveries
 finding_members (finding.Strayed stray) = stray_fields Json stray
@@ -82,7 +82,7 @@ finding_members (finding.Strayed stray) = stray_fields Json stray
 
 -- the line of a breach that an early audit found, with the number of entries read
 abbrev pub early_line : ℕ → Judged → List ℕ
-early_line f judged = without_line_feed (verdict_line f judged) ++ (number Lines (codes "read") judged.entries ++ codes "\n")
+early_line f judged = without_line_feed (verdict_line f judged) ++ (json_number Lines (codes "read") judged.entries ++ codes "\n")
 
 -- the line of a run whose recoveries follow what survives, with its numbers of entries and deliveries
 abbrev pub followed_line : ℕ → ℕ → List ℕ

@@ -7,5 +7,5 @@ use Rattle.causal_report.specs.Facts.{AreFacts}
 use Rattle.causal_report.specs.Lines.{facts_text}
 
 -- the lines of the facts that explain the verdict, and then of the first stray, if there is one
-abbrev pub IsReason : Recording → ℕ → Verdict → List ℕ → Type 0
-IsReason r f verdict text = (facts : List Fact) × AreFacts r f verdict facts × (text ≡ facts_text facts)
+abbrev pub IsReasonText : Recording → ℕ → Verdict → List ℕ → Type 0
+IsReasonText r f verdict text = (facts : List Fact) × AreFacts r f verdict facts × (text ≡ facts_text facts)

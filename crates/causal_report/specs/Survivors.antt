@@ -8,7 +8,7 @@ use Rattle.causal_explain.specs.ProcessFacts.{AreHoldings}
 
 -- who has the determinant of the delivery at position k at instant t: these processes, ascending, in their logs; and
 -- whether stable storage has it
-pub record AreCopies (r : Recording) (t k : ℕ) (holdings : List Holding) (stable : Bool) : Type 0 where
+pub record AreSurvivorCopies (r : Recording) (t k : ℕ) (holdings : List Holding) (stable : Bool) : Type 0 where
   pub det : Det
   pub delivered : det_at r.past k ≡ Some det
   pub logged : AreHoldings r.processes (instant r.past t) det holdings

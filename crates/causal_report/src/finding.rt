@@ -90,7 +90,7 @@ fn early_line(alloc: Global, f: u16, judged: &Judged) -> Result<Vec<u8>, NoMemor
 
 fn read_field(alloc: Global, entries: u32) -> Result<String, AllocError>
     ensures { IfOk result (λ field. string_bytes field ≡
-        fields.number Form.Lines (codes "read") entries ++ codes "\n") }
+        fields.json_number Form.Lines (codes "read") entries ++ codes "\n") }
 {
     let mut out = String::new(alloc);
     push_number(&mut out, Form::Lines, "read", u64::from(entries))?;

@@ -23,14 +23,14 @@ pub(crate) fn push_text(out: &mut String, text: &str) -> Result<(), AllocError>
 }
 
 /// Appends a field with a number.
-#[tactic(auto, unfolding(crate::specs::Fields::number))]
+#[tactic(auto, unfolding(crate::specs::Fields::json_number))]
 pub(crate) fn push_number(
     out: &mut String,
     form: Form,
     name: &str,
     number: u64,
 ) -> Result<(), AllocError>
-    ensures { OnOk result (Appends out.old out.new (fields.number form name.now number)) }
+    ensures { OnOk result (Appends out.old out.new (fields.json_number form name.now number)) }
 {
     match form {
         Form::Lines => write!(out, " {name}={number}"),

@@ -1,7 +1,7 @@
 //! The text that explains a verdict on a trace.
 ghost use Rattle.std.specs.Prelude.{◌≡◌, ◌++◌, ℕ, List, IfOk};
 ghost use Rattle.causal_audit.specs.Verdicts.{IsVerdict};
-ghost use Rattle.causal_report.specs.Reasons.{IsReason};
+ghost use Rattle.causal_report.specs.Reasons.{IsReasonText};
 
 use crate::facts::facts_of;
 use crate::lines::facts_text;
@@ -23,7 +23,7 @@ pub fn line_with_reason(
 ) -> Result<Vec<u8>, NoMemory>
     requires { IsVerdict trace.now.recording f verdict }
     ensures { IfOk result (λ text. (reason : List ℕ)
-        × IsReason trace.now.recording f verdict reason × (text.items ≡ line.items ++ reason)) }
+        × IsReasonText trace.now.recording f verdict reason × (text.items ≡ line.items ++ reason)) }
 {
     let facts = facts_of(alloc, trace, f, verdict)?;
     let reason = facts_text(alloc, facts.as_slice())?;

@@ -4,7 +4,7 @@ ghost use Rattle.std.specs.List.{list_any};
 ghost use Rattle.causal_name.specs.declared.Det.{Det as Determinant};
 ghost use Rattle.causal_trace.specs.Past.{det_at, instant, is_stable};
 ghost use Rattle.causal_report.specs.Inside.Storing.{stores};
-ghost use Rattle.causal_report.specs.Survivors.{AreCopies};
+ghost use Rattle.causal_report.specs.Survivors.{AreSurvivorCopies};
 
 use causal_explain::{Holding, holder_history};
 use causal_name::{Det, NoMemory};
@@ -14,7 +14,7 @@ use std::alloc::Global;
 
 /// Who has the determinant of a delivery at an instant.
 #[derive(Drop)]
-pub(crate) struct Copies {
+pub(crate) struct SurvivorCopies {
     /// The processes with it in their logs, ascending.
     pub holders: Vec<Holding>,
     /// Whether stable storage has it.
@@ -32,18 +32,18 @@ pub(crate) fn copies_of(
     trace: &Trace,
     end: u32,
     delivery: u32,
-) -> Result<Copies, NoMemory>
+) -> Result<SurvivorCopies, NoMemory>
     requires within { end ≤ length trace.now.recording.past }
     requires delivered { (d : Determinant) ×
         (det_at (instant trace.now.recording.past end) delivery ≡ Some d) }
     ensures { IfOk result
-        (λ copies. AreCopies trace.now.recording end delivery copies.holders.items copies.is_stable) }
+        (λ copies. AreSurvivorCopies trace.now.recording end delivery copies.holders.items copies.is_stable) }
 {
     let Some(det) = trace.det_at(delivery) else {
         unreachable!();
     };
     let history = holder_history(alloc, trace, end, det)?;
-    Ok(Copies {
+    Ok(SurvivorCopies {
         holders: history.holders,
         is_stable: is_stable_at(trace, end, det),
     })

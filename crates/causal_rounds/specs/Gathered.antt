@@ -1,6 +1,6 @@
 -- What becomes of one determinant while several processes gather at once.
 use Rattle.std.specs.Prelude.{◌≡◌, ℕ, ◌+◌, ◌≤◌, Bool, true, false, ◌||◌, Option, None, Some, ◌⊎◌}
-use Rattle.causal_rounds.specs.Rounds.{set_at, Round, RoundState, number, new_round, with_reply, RoundInvariant}
+use Rattle.causal_rounds.specs.Rounds.{with_value_at, Round, RecoveryState, number, new_round, with_reply, RoundInvariant}
 
 -- something in transit that carries the determinant: who sent it, from which lane, and to whom; a write goes to
 -- stable storage
@@ -12,7 +12,7 @@ pub record Carrier : Type 0 where
 -- who logs the determinant, who is down and has to recover it, whether a stable entry names it, what carries it, and
 -- whose round has gathered it; stable storage logs what it has stored
 pub record DetState : Type 0 where
-  pub state : RoundState
+  pub state : RecoveryState
   pub logs : ℕ → Bool
   pub must_recover : ℕ → Bool
   pub stable : Bool
@@ -20,8 +20,8 @@ pub record DetState : Type 0 where
   pub gathered : ℕ → Bool
 
 -- those that have not replied are as the view has them, so the round may still complete
-abbrev pub IsOpen : RoundState → ℕ → Round → Type 0
-IsOpen w s r = (q : ℕ) → (q ≡ s → ⊥) → r.replied q ≡ false → number w q ≡ r.view q
+abbrev pub MayComplete : RecoveryState → ℕ → Round → Type 0
+MayComplete w s r = (q : ℕ) → (q ≡ s → ⊥) → r.replied q ≡ false → number w q ≡ r.view q
 
 -- q logs it, or something that it sent from this lane carries it
 abbrev pub HasFromLane : DetState → ℕ → ℕ → Type 0
@@ -31,33 +31,33 @@ HasFromLane a q lane = (a.logs q ≡ true) ⊎ ((i : ℕ) × (t : Carrier) × (a
 pub data DetStep (a : DetState) : DetState → Type 0 where
   -- p sends something that carries it
   emit : (p to i : ℕ) → a.state.down p ≡ false → a.logs p ≡ true → a.carriers i ≡ None
-      → DetStep a (record { state = a.state; logs = a.logs; must_recover = a.must_recover; stable = a.stable; carriers = set_at a.carriers i (Some (record { from = p; lane = a.state.lane p; to = to })); gathered = a.gathered })
+      → DetStep a (record { state = a.state; logs = a.logs; must_recover = a.must_recover; stable = a.stable; carriers = with_value_at a.carriers i (Some (record { from = p; lane = a.state.lane p; to = to })); gathered = a.gathered })
   -- y takes what carries it, from a lane that it does not refuse
   take : (y i : ℕ) (t : Carrier) → a.state.down y ≡ false → a.carriers i ≡ Some t → a.state.floors y t.from ≤ t.lane
-      → DetStep a (record { state = a.state; logs = set_at a.logs y true; must_recover = a.must_recover; stable = a.stable; carriers = a.carriers; gathered = a.gathered })
+      → DetStep a (record { state = a.state; logs = with_value_at a.logs y true; must_recover = a.must_recover; stable = a.stable; carriers = a.carriers; gathered = a.gathered })
   -- y delivers it: it logged it, or it was stable; or y delivers it as new, and then nobody has to recover it any
   -- more
   deliver_again : (y : ℕ) → a.state.down y ≡ false → (a.logs y ≡ true) ⊎ (a.stable ≡ true)
-      → DetStep a (record { state = a.state; logs = set_at a.logs y true; must_recover = a.must_recover; stable = a.stable; carriers = a.carriers; gathered = a.gathered })
+      → DetStep a (record { state = a.state; logs = with_value_at a.logs y true; must_recover = a.must_recover; stable = a.stable; carriers = a.carriers; gathered = a.gathered })
   deliver_as_new : (y : ℕ) → a.state.down y ≡ false
-      → DetStep a (record { state = a.state; logs = set_at a.logs y true; must_recover = λ p. false; stable = a.stable; carriers = a.carriers; gathered = a.gathered })
+      → DetStep a (record { state = a.state; logs = with_value_at a.logs y true; must_recover = λ p. false; stable = a.stable; carriers = a.carriers; gathered = a.gathered })
   forget : (y : ℕ) → a.stable ≡ true
-      → DetStep a (record { state = a.state; logs = set_at a.logs y false; must_recover = a.must_recover; stable = a.stable; carriers = a.carriers; gathered = a.gathered })
+      → DetStep a (record { state = a.state; logs = with_value_at a.logs y false; must_recover = a.must_recover; stable = a.stable; carriers = a.carriers; gathered = a.gathered })
   record_stable : DetStep a (record { state = a.state; logs = a.logs; must_recover = a.must_recover; stable = true; carriers = a.carriers; gathered = a.gathered })
   crash : (p : ℕ) → a.state.down p ≡ false
-      → DetStep a (record { state = record { lane = a.state.lane; down = set_at a.state.down p true; floors = a.state.floors; rounds = a.state.rounds }; logs = set_at a.logs p false; must_recover = set_at a.must_recover p (a.logs p); stable = a.stable; carriers = a.carriers; gathered = a.gathered })
+      → DetStep a (record { state = record { lane = a.state.lane; down = with_value_at a.state.down p true; floors = a.state.floors; rounds = a.state.rounds }; logs = with_value_at a.logs p false; must_recover = with_value_at a.must_recover p (a.logs p); stable = a.stable; carriers = a.carriers; gathered = a.gathered })
   begin : (s : ℕ) (view : ℕ → ℕ) (absent : ℕ → Bool) → ((q : ℕ) → absent q ≡ true → (a.state.down q ≡ true) × (view q ≡ a.state.lane q + 1))
-      → DetStep a (record { state = record { lane = a.state.lane; down = a.state.down; floors = a.state.floors; rounds = set_at a.state.rounds s (Some (new_round view absent)) }; logs = a.logs; must_recover = a.must_recover; stable = a.stable; carriers = a.carriers; gathered = set_at a.gathered s false })
+      → DetStep a (record { state = record { lane = a.state.lane; down = a.state.down; floors = a.state.floors; rounds = with_value_at a.state.rounds s (Some (new_round view absent)) }; logs = a.logs; must_recover = a.must_recover; stable = a.stable; carriers = a.carriers; gathered = with_value_at a.gathered s false })
   give_up : (s : ℕ)
-      → DetStep a (record { state = record { lane = a.state.lane; down = a.state.down; floors = a.state.floors; rounds = set_at a.state.rounds s None }; logs = a.logs; must_recover = a.must_recover; stable = a.stable; carriers = a.carriers; gathered = a.gathered })
+      → DetStep a (record { state = record { lane = a.state.lane; down = a.state.down; floors = a.state.floors; rounds = with_value_at a.state.rounds s None }; logs = a.logs; must_recover = a.must_recover; stable = a.stable; carriers = a.carriers; gathered = a.gathered })
   answer : (y s : ℕ) (r : Round) (floors : ℕ → ℕ) → a.state.down y ≡ false → a.state.rounds s ≡ Some r → r.view y ≡ a.state.lane y
-      → DetStep a (record { state = record { lane = a.state.lane; down = a.state.down; floors = set_at a.state.floors y floors; rounds = set_at a.state.rounds s (Some (with_reply r y true)) }; logs = a.logs; must_recover = a.must_recover; stable = a.stable; carriers = a.carriers; gathered = set_at a.gathered s (a.gathered s || a.logs y) })
+      → DetStep a (record { state = record { lane = a.state.lane; down = a.state.down; floors = with_value_at a.state.floors y floors; rounds = with_value_at a.state.rounds s (Some (with_reply r y true)) }; logs = a.logs; must_recover = a.must_recover; stable = a.stable; carriers = a.carriers; gathered = with_value_at a.gathered s (a.gathered s || a.logs y) })
   refuse : (y : ℕ) (floors : ℕ → ℕ)
-      → DetStep a (record { state = record { lane = a.state.lane; down = a.state.down; floors = set_at a.state.floors y floors; rounds = a.state.rounds }; logs = a.logs; must_recover = a.must_recover; stable = a.stable; carriers = a.carriers; gathered = a.gathered })
+      → DetStep a (record { state = record { lane = a.state.lane; down = a.state.down; floors = with_value_at a.state.floors y floors; rounds = a.state.rounds }; logs = a.logs; must_recover = a.must_recover; stable = a.stable; carriers = a.carriers; gathered = a.gathered })
   not_up : (q s : ℕ) (r : Round) → a.state.down q ≡ true → (q ≡ s → ⊥) → a.state.rounds s ≡ Some r → r.view q ≡ a.state.lane q + 1
-      → DetStep a (record { state = record { lane = a.state.lane; down = a.state.down; floors = a.state.floors; rounds = set_at (set_at a.state.rounds s (Some (with_reply r q false))) q None }; logs = a.logs; must_recover = a.must_recover; stable = a.stable; carriers = a.carriers; gathered = a.gathered })
+      → DetStep a (record { state = record { lane = a.state.lane; down = a.state.down; floors = a.state.floors; rounds = with_value_at (with_value_at a.state.rounds s (Some (with_reply r q false))) q None }; logs = a.logs; must_recover = a.must_recover; stable = a.stable; carriers = a.carriers; gathered = a.gathered })
   restart : (s : ℕ) (r : Round) → a.state.rounds s ≡ Some r → ((q : ℕ) → (q ≡ s → ⊥) → r.replied q ≡ true)
-      → DetStep a (record { state = record { lane = set_at a.state.lane s (a.state.lane s + 1); down = set_at a.state.down s false; floors = set_at a.state.floors s r.view; rounds = set_at a.state.rounds s None }; logs = set_at a.logs s (a.gathered s); must_recover = set_at a.must_recover s false; stable = a.stable; carriers = a.carriers; gathered = a.gathered })
+      → DetStep a (record { state = record { lane = with_value_at a.state.lane s (a.state.lane s + 1); down = with_value_at a.state.down s false; floors = with_value_at a.state.floors s r.view; rounds = with_value_at a.state.rounds s None }; logs = with_value_at a.logs s (a.gathered s); must_recover = with_value_at a.must_recover s false; stable = a.stable; carriers = a.carriers; gathered = a.gathered })
 
 -- the invariant of one determinant
 pub record DetInvariant (a : DetState) : Type 0 where
@@ -69,7 +69,7 @@ pub record DetInvariant (a : DetState) : Type 0 where
   -- if the round may still complete, and its process has to recover the determinant, which is not stable: what a
   -- process that has replied logs, or sent from the lane of the view, is gathered, or a process that has not replied
   -- logs it
-  pub gathers : (s q : ℕ) (r : Round) → a.state.rounds s ≡ Some r → IsOpen a.state s r → a.must_recover s ≡ true → a.stable ≡ false → r.replied q ≡ true → HasFromLane a q (r.view q)
+  pub gathers : (s q : ℕ) (r : Round) → a.state.rounds s ≡ Some r → MayComplete a.state s r → a.must_recover s ≡ true → a.stable ≡ false → r.replied q ≡ true → HasFromLane a q (r.view q)
       → (a.gathered s ≡ true) ⊎ ((z : ℕ) × (r.replied z ≡ false) × (a.logs z ≡ true))
 
 -- each step preserves the invariant of one determinant

@@ -13,7 +13,7 @@ use Rattle.causal_shared.specs.declared.fault.SharedFault.TheVariants as Call
 use Rattle.causal_shared.specs.Seat.{SeatView, IsSeatCall, SeatCall, seat_fault_reply, next_item}
 use Rattle.causal_script.specs.declared.script.Command.{Command}
 use Rattle.causal_run.specs.Runs.{fault_in_reply, spares_for, spares_in}
-use Rattle.causal_run.specs.Inside.IssuedRequests.{RecordsRequest, ArePerformed, IsPerformed, IsRefusedRun, IsRefusedRunAt, refusal_at, fault_at}
+use Rattle.causal_run.specs.Inside.IssuedRequests.{RecordsRequest, ArePerformed, IsPerformed, IsRefusedRun, IsRefusedRunAt, refusal_at, run_fault_at}
 
 AllZip-snoc : {A B : Type 0} (R : A → B → Type 0) (xs : List A) (ys : List B) (x : A) (y : B) → AllZip R xs ys → R x y → AllZip R (xs ++ x ∷ []) (ys ++ y ∷ [])
 AllZip-snoc R [] [] x y all r = (r, tt)
@@ -75,7 +75,7 @@ stopped_core commands i d command old new reply Faults.NoMemory lt is done call 
 
 -- the next command fails
 pub stopped : (commands : List Command) (i : ℕ) (d command : Command) (old new : SeatView) (fault : SharedFault) → i < length commands → get_or commands i d ≡ command
-    → ArePerformed (take i commands) old.items → SeatCall old new command.request (seat_fault_reply fault) → IsRefusedRun commands new.items (fault_at command.line fault)
+    → ArePerformed (take i commands) old.items → SeatCall old new command.request (seat_fault_reply fault) → IsRefusedRun commands new.items (run_fault_at command.line fault)
 stopped commands i d command old new Call.WrongSeat lt is done call = tt
 stopped commands i d command old new Call.HistoryFull lt is done call = tt
 stopped commands i d command old new Call.NoRecord lt is done call = tt

@@ -10,7 +10,7 @@ use Rattle.causal_protocol.specs.declared.request.FlushFault.{FlushFault}
 use Rattle.causal_protocol.specs.declared.request.CoreFault.{CoreFault}
 use Rattle.causal_protocol.specs.declared.request.CoreFault.TheVariants as Faults
 use Rattle.causal_protocol.specs.Run.{Run}
-use Rattle.causal_protocol.specs.Refusals.{first_fault}
+use Rattle.causal_protocol.specs.Refusals.{request_fault}
 use Rattle.causal_protocol.specs.Steps.{LegalStep, flush_reason_of}
 use Rattle.causal_protocol.proofs.Lemmas.Reasons.{reason_known}
 use Rattle.causal_shared.specs.declared.item.Item.{Item}
@@ -18,7 +18,7 @@ use Rattle.causal_shared.specs.History.{run_length, entries_since, IsCallStep}
 use Rattle.causal_script.specs.declared.script.Command.{Command}
 use Rattle.causal_run.specs.Runs.{fault_in_reply, IsRefusedWith}
 
-flush_stands : (r : Run) (p : Pid) (fault : CoreFault) → first_fault r (Requests.Flush p) ≡ flush_reason_of fault → fault ≢ Faults.NoMemory → IsRefusedWith r (Requests.Flush p) fault
+flush_stands : (r : Run) (p : Pid) (fault : CoreFault) → request_fault r (Requests.Flush p) ≡ flush_reason_of fault → fault ≢ Faults.NoMemory → IsRefusedWith r (Requests.Flush p) fault
 flush_stands r p Faults.NoProcess is known = is
 flush_stands r p Faults.Down is known = is
 flush_stands r p Faults.NotDown is known = is

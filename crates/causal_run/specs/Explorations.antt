@@ -5,7 +5,7 @@ use Rattle.causal_driver.specs.declared.schedule.Schedule.{Schedule}
 use Rattle.causal_driver.specs.declared.schedule.Call.{Call}
 use Rattle.causal_driver.specs.declared.schedule.End.{End}
 use Rattle.causal_driver.specs.declared.schedule.End.TheVariants as Ends
-use Rattle.causal_driver.specs.Schedules.{first_word, AreCalls, HasEnded}
+use Rattle.causal_driver.specs.Schedules.{first_word, AreCalls, HasScheduleEnded}
 use Rattle.causal_script.specs.declared.script.Exploration.{Exploration}
 
 -- the schedule of an exploration; once 64 restarts have been made, no process crashes
@@ -20,7 +20,7 @@ pub record IsDriven (s : Schedule) (old new : Run) : Type 0 where
   pub few : length calls ≤ s.steps
   pub end : End
   pub known : end ≢ Ends.NoMemory
-  pub ended : HasEnded s end (length calls) new
+  pub ended : HasScheduleEnded s end (length calls) new
 
 -- the run is driven by the schedule of the exploration, or stays as it is
 abbrev pub IsExplored : Option Exploration → Run → Run → Type 0

@@ -9,7 +9,7 @@ use Rattle.causal_script.specs.declared.script.Command.{Command}
 use Rattle.causal_run.specs.Runs.{IsRunTo}
 
 -- the command with this index is on the line, and delivers to q
-pub record IsDeliveryAt (commands : List Command) (place line : ℕ) (q : Pid) : Type 0 where
+pub record IsDeliverCommandAt (commands : List Command) (place line : ℕ) (q : Pid) : Type 0 where
   pub command : Command
   pub source : Pid
   pub ssn : ℕ
@@ -22,7 +22,7 @@ pub record IsDeliveryAt (commands : List Command) (place line : ℕ) (q : Pid) :
 pub record IsPendingBefore (IsStart : Run → Type 0) (commands : List Command) (line : ℕ) (names : List MsgName) : Type 0 where
   pub place : ℕ
   pub receiver : Pid
-  pub delivery : IsDeliveryAt commands place line receiver
+  pub delivery : IsDeliverCommandAt commands place line receiver
   pub end : Run
   pub run : IsRunTo IsStart (take place commands) end
   pub pending : names ≡ pending_in (memories_of end) receiver

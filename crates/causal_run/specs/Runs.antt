@@ -12,7 +12,7 @@ use Rattle.causal_protocol.specs.declared.request.CoreFault.{CoreFault}
 use Rattle.causal_protocol.specs.declared.request.CoreFault.TheVariants as Faults
 use Rattle.causal_protocol.specs.Run.{Run}
 use Rattle.causal_protocol.specs.Steps.{Steps}
-use Rattle.causal_protocol.specs.Refusals.{first_fault}
+use Rattle.causal_protocol.specs.Refusals.{request_fault}
 use Rattle.causal_core.specs.CoreView.{CoreState}
 use Rattle.causal_core.specs.Starts.{Starts}
 use Rattle.causal_script.specs.declared.script.Command.{Command}
@@ -47,8 +47,8 @@ Performs start commands end = FoldsTo PerformsOne start commands end
 
 -- the request is refused with this fault, the first that applies; if none does, a flush may end with `StoreFault`
 abbrev pub IsRefusedWith : Run → Request → CoreFault → Type 0
-IsRefusedWith r (Requests.Flush p) Faults.StoreFault = first_fault r (Requests.Flush p) ≡ None
-IsRefusedWith r request fault = first_fault r request ≡ Some fault
+IsRefusedWith r (Requests.Flush p) Faults.StoreFault = request_fault r (Requests.Flush p) ≡ None
+IsRefusedWith r request fault = request_fault r request ≡ Some fault
 
 -- a run of all the commands, from such a start, that leads to this run
 pub record IsRunTo (IsStart : Run → Type 0) (commands : List Command) (end : Run) : Type 0 where

@@ -1,6 +1,6 @@
 //! The run's error for a call that failed.
 ghost use Rattle.std.specs.Prelude.{◌≡◌};
-ghost use Rattle.causal_run.specs.Inside.IssuedRequests.{refusal_at, fault_at};
+ghost use Rattle.causal_run.specs.Inside.IssuedRequests.{refusal_at, run_fault_at};
 
 use crate::fault::RunFault;
 use causal_protocol::request::CoreFault;
@@ -17,8 +17,8 @@ fn refusal_at(line: u32, fault: CoreFault) -> RunFault
 }
 
 /// Returns the run's error for a fault of the shared call at this line.
-pub(crate) fn fault_at(line: u32, fault: SharedFault) -> RunFault
-    ensures { result ≡ fault_at line fault }
+pub(crate) fn run_fault_at(line: u32, fault: SharedFault) -> RunFault
+    ensures { result ≡ run_fault_at line fault }
 {
     match fault {
         SharedFault::WrongSeat | SharedFault::HistoryFull => RunFault::Lock,

@@ -7,7 +7,7 @@ ghost use Rattle.causal_run.specs.Runs.{spares_for, spares_in, IsRunOf, IsRunTo,
 ghost use Rattle.causal_run.specs.Inside.IssuedRequests.{RecordsRequest, ArePerformed, IsRefusedRun};
 
 use crate::fault::RunFault;
-use crate::run_refusals::fault_at;
+use crate::run_refusals::run_fault_at;
 use causal_core::Core;
 use causal_log::MemStable;
 use causal_process::Process;
@@ -79,7 +79,7 @@ fn issue_all<R: Wait>(
     let mut spares = spares.into_iter();
     for command in commands {
         if let Err(fault) = issue(rt, shared, seat, command.request, &mut spares) {
-            return Err(fault_at(command.line, fault));
+            return Err(run_fault_at(command.line, fault));
         }
     }
     Ok(())

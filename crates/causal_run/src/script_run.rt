@@ -1,7 +1,7 @@
 //! A script, run by processes of its kind.
 ghost use Rattle.std.specs.Prelude.{◌≡◌, ◌≤◌, ◌<◌, IfOk, IfErr, IfSome};
 ghost use Rattle.causal_trace.specs.Judgement.{IsSafeTrace};
-ghost use Rattle.causal_run.specs.Pending.{IsDeliveryAt, IsPendingBefore};
+ghost use Rattle.causal_run.specs.Pending.{IsDeliverCommandAt, IsPendingBefore};
 ghost use Rattle.causal_run.specs.Runs.{IsRunFrom, ExplainsRunFault};
 ghost use Rattle.causal_run.specs.ScriptProcesses.{IsStartOf};
 
@@ -113,7 +113,7 @@ pub fn pending_before<R: Wait>(
 
 /// Returns the index of the command on this line, and its receiver, if it is a delivery.
 fn receiver_at(commands: &[Command], line: u32) -> Option<(usize, Pid)>
-    ensures { IfSome result (λ found. IsDeliveryAt commands.now found.0 line found.1) }
+    ensures { IfSome result (λ found. IsDeliverCommandAt commands.now found.0 line found.1) }
 {
     let place = commands.iter().position(|command| command.line == line)?;
     match commands[place].request {

@@ -17,19 +17,19 @@ use Rattle.causal_runtime_commands.specs.declared.script.Reason.TheVariants as W
 
 -- the text is not a valid script, and this is its first error; or a refusal is that of the script's run, by its own
 -- processes
-abbrev pub IsReason : List ℕ → Reason → Type 0
-IsReason text (Why.Script fault) = IsFirstFault text fault
-IsReason text (Why.Run fault) = (script : Script) × Spells text (script_content script) × ExplainsRunFault (IsStartOf script) script.commands fault
+abbrev pub IsScriptReason : List ℕ → Reason → Type 0
+IsScriptReason text (Why.Script fault) = IsFirstFault text fault
+IsScriptReason text (Why.Run fault) = (script : Script) × Spells text (script_content script) × ExplainsRunFault (IsStartOf script) script.commands fault
 
 -- the returned reason, if any, is true of the bytes read from a reader, if its bytes are known
 abbrev pub IsReasonFor : Option (List ℕ) → Option Reason → Type 0
-IsReasonFor given told = IfSome given (λ text. IfSome told (IsReason (script_bytes_read text)))
+IsReasonFor given told = IfSome given (λ text. IfSome told (IsScriptReason (script_bytes_read text)))
 
 -- the number of the line with the error or the refused command; None if the run failed for another reason
-abbrev pub line_of : Reason → Option ℕ
-line_of (Why.Script fault) = Some fault.line
-line_of (Why.Run (run_fault.Refused line fault)) = Some line
-line_of (Why.Run _) = None
+abbrev pub reason_line : Reason → Option ℕ
+reason_line (Why.Script fault) = Some fault.line
+reason_line (Why.Run (run_fault.Refused line fault)) = Some line
+reason_line (Why.Run _) = None
 
 -- the messages are pending for the receiver of the delivery that was refused as `NotAvailable`
 abbrev pub IsPendingAt : Script → RunFault → List MsgName → Type 0

@@ -1,7 +1,7 @@
 //! The command `run`, over any reader and writer.
 ghost use Rattle.std.specs.Prelude.{◌≡◌, ◌≤◌, Ok, Some, None, IfOk, IfErr, IfSome};
 ghost use Rattle.causal_runtime_commands.specs.Runs.{IsScriptAnswer, WritesScriptFor, ReadsAtMostScript};
-ghost use Rattle.causal_runtime_commands.specs.Reasons.{IsReason, IsReasonFor, IsPendingAt, ArePendingIn, ArePendingFor};
+ghost use Rattle.causal_runtime_commands.specs.Reasons.{IsScriptReason, IsReasonFor, IsPendingAt, ArePendingIn, ArePendingFor};
 ghost use Rattle.causal_runtime_commands.specs.declared.script.Reason.TheVariants as Why;
 ghost use Rattle.causal_runtime_commands.specs.Inside.ScriptAnswers.{IsScriptFaultAnswer, IsRefusalAnswer, IsPrintedFor, PendingIsTrue, RunWritesNothing};
 ghost use Rattle.causal_runtime_commands.specs.Inside.ReasonsForScripts.{IsFaultReason, IsRefusalReason};
@@ -32,11 +32,11 @@ pub enum Reason {
 }
 
 impl Reason {
-    ghost use Rattle.causal_runtime_commands.specs.Reasons.{line_of};
+    ghost use Rattle.causal_runtime_commands.specs.Reasons.{reason_line};
 
     /// Returns the number of the line with the error or the refused command; None if the run failed for another reason.
     pub fn line(self) -> Option<u32>
-        ensures { result ≡ line_of self }
+        ensures { result ≡ reason_line self }
     {
         match self {
             Reason::Script(fault) => Some(fault.line),
@@ -143,7 +143,7 @@ fn answer_from<R: Wait, I: Read>(
 
 fn answer_to<R: Wait>(rt: &R, alloc: Global, text: &[u8], seed: u64) -> Result<ScriptAnswer, Ended>
     ensures ok { IfOk result (λ answer. IsScriptAnswer text.now answer.ended answer.text.items) }
-    ensures reason { IfOk result (λ answer. IfSome answer.reason (IsReason text.now)) }
+    ensures reason { IfOk result (λ answer. IfSome answer.reason (IsScriptReason text.now)) }
     ensures pending { IfOk result (λ answer. IfSome answer.pending
         (λ names. ArePendingIn text.now answer.reason names.items)) }
     ensures err { IfErr result RunWritesNothing }

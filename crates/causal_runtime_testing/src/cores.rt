@@ -156,7 +156,7 @@ fn restart(core: &mut Runtime, p: u8, spare: Boxed) -> Reply {
 
 /// Restarts p with a new process of a kind.
 fn restarted_by(alloc: Global, core: &mut Runtime, p: u8, kind: Kind) -> Option<Reply> {
-    match process(alloc, kind, core.trace().processes(), p) {
+    match test_process(alloc, kind, core.trace().processes(), p) {
         Ok(spare) => Some(restart(core, p, spare)),
         Err(NoMemory) => None,
     }

@@ -4,7 +4,7 @@ use causal_endpoint::endpoint::Endpoint;
 use causal_endpoint::fault::EndpointFault;
 use causal_endpoint::lines::{deliver_line, header_line, send_line};
 use causal_endpoint::receiving::Received;
-use causal_endpoint::sending::Sent;
+use causal_endpoint::sending::SendRecord;
 use causal_name::Pid;
 use causal_node::node::Identity;
 use causal_node::node_fault::NodeFault;
@@ -158,7 +158,7 @@ fn writes_headers(alloc: Global) -> Result<bool, EndpointFault> {
 }
 
 /// The message.
-fn sent_first(alloc: Global) -> Result<Sent, EndpointFault> {
+fn sent_first(alloc: Global) -> Result<SendRecord, EndpointFault> {
     let mut zero = recorded(alloc, 0)?;
     zero.send(1764118000000001, Pid(1), &[])
 }

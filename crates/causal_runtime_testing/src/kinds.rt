@@ -1,6 +1,6 @@
 //! The outputs of the process kinds and of the documented process, on hand-computed values. Drops of a counted process
 //! are tested on a core (`cores`).
-use crate::runtime::{Kind, process};
+use crate::runtime::{Kind, test_process};
 use causal_name::{NoMemory, Pid};
 use causal_process::{Body, Input, Outgoing, Process};
 use std::alloc::Global;
@@ -113,7 +113,7 @@ fn are_expected(sends: &[Outgoing], expected: Told) -> bool {
 /// Returns whether a process gives the expected output for each input in turn. After `NoMemory` the same input is given
 /// again and must have the output of a single step.
 fn answers(alloc: Global, (kind, n, me, rows): Case) -> Result<bool, NoMemory> {
-    let mut process = process(alloc, kind, n, me)?;
+    let mut process = test_process(alloc, kind, n, me)?;
     for (given, expected) in rows {
         let input = input(alloc, *given)?;
         let sends = match process.step(alloc, &input) {
@@ -129,7 +129,7 @@ fn answers(alloc: Global, (kind, n, me, rows): Case) -> Result<bool, NoMemory> {
 
 /// Returns whether a process begins with a message to itself that has this many bytes, all of value 7.
 fn begins_with(alloc: Global, length: usize) -> Result<bool, NoMemory> {
-    let mut process = process(alloc, Kind::Long(length), 1, 0)?;
+    let mut process = test_process(alloc, Kind::Long(length), 1, 0)?;
     let sends = process.step(alloc, &Input::Begin)?;
     Ok(match sends.as_slice() {
         [send] => {

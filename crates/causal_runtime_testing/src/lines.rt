@@ -2,7 +2,7 @@
 use crate::runtime::det;
 use causal_endpoint::forgetting::Forgotten;
 use causal_endpoint::lines::{crash_line, forget_line, restart_line, stable_line};
-use causal_endpoint::recovery::Restarted;
+use causal_endpoint::recovery::RestartRecord;
 use causal_name::{NoMemory, Pid};
 use std::alloc::Global;
 
@@ -23,7 +23,7 @@ fn short_lines(alloc: Global) -> Result<bool, NoMemory> {
 
 /// The lines of a restart with nothing, and of a forgetting of two determinants.
 fn listing_lines(alloc: Global) -> Result<bool, NoMemory> {
-    let restarted = Restarted {
+    let restarted = RestartRecord {
         clock: 12,
         listed: Vec::new(alloc),
     };

@@ -2,7 +2,7 @@
 use crate::runtime::det;
 use causal_name::{Det, MsgName, Pid};
 use causal_node::node::{Identity, Node};
-use causal_node::node_answer::Reply;
+use causal_node::node_answer::RoundReply;
 use causal_node::node_fault::NodeFault;
 use causal_process::Body;
 use std::alloc::Global;
@@ -51,8 +51,8 @@ fn recovers(alloc: Global) -> Result<bool, NodeFault> {
     again.begin_round(7)?;
     let view = [0, 1, 0];
     let asked = again.floors() == view.as_slice()
-        && zero.answer(Pid(1), again.floors())? == Reply::Log
-        && two.answer(Pid(1), again.floors())? == Reply::Log;
+        && zero.answer(Pid(1), again.floors())? == RoundReply::Log
+        && two.answer(Pid(1), again.floors())? == RoundReply::Log;
     again.take_log(7, Pid(0), zero.log())?;
     let waits = matches!(again.restart(), Err(NodeFault::Waiting));
     again.take_log(7, Pid(2), two.log())?;

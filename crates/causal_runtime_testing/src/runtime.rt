@@ -41,7 +41,7 @@ pub(crate) fn det((source, ssn, dest, rsn): Fields) -> Det {
 }
 
 /// Process `me` of n; n is raised to `me` + 1 if it is smaller.
-pub(crate) fn process(alloc: Global, kind: Kind, n: u16, me: u8) -> Result<Boxed, NoMemory> {
+pub(crate) fn test_process(alloc: Global, kind: Kind, n: u16, me: u8) -> Result<Boxed, NoMemory> {
     let n = n.max(u16::from(me) + 1);
     let boxed: Boxed = match kind {
         Kind::Ring(hops) => Box::new(alloc, Ring::new(n, me, hops))?,
@@ -71,7 +71,7 @@ pub(crate) fn process(alloc: Global, kind: Kind, n: u16, me: u8) -> Result<Boxed
 pub(crate) fn processes(alloc: Global, kind: Kind, n: u8) -> Result<Vec<Boxed>, NoMemory> {
     let mut boxes = Vec::new(alloc);
     for me in 0..n {
-        boxes.push(process(alloc, kind, u16::from(n), me)?)?;
+        boxes.push(test_process(alloc, kind, u16::from(n), me)?)?;
     }
     Ok(boxes)
 }

@@ -1,5 +1,5 @@
 //! Seats on their own threads, hand-computed calls, random calls, and a full history.
-use crate::runtime::{Kind, process, processes};
+use crate::runtime::{Kind, processes, test_process};
 use causal_audit::{Verdict, verdict_of};
 use causal_core::{Core, CoreFault, Reply};
 use causal_log::MemStable;

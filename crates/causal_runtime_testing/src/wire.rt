@@ -1,10 +1,10 @@
 //! Parcels and their bytes, worked by hand.
 use causal_name::Pid;
-use causal_wire::{Content, Head, Parcel, ReadFault, Run, WireFault, read, write};
+use causal_wire::{Content, Head, Parcel, ParcelFault, RunId, WireFault, read, write};
 use std::test::*;
 
 /// The run of all parcels here.
-const RUN: Run = Run {
+const RUN: RunId = RunId {
     id: 0x0102_0304_0506_0708,
     processes: 3,
     f: 1,
@@ -142,7 +142,7 @@ fn refuses_changed_bytes(rt: HostRuntime) {
             bytes[place] = byte;
         }
         let refused = read(rt.alloc(), RUN, &bytes).err();
-        assert_eq!(rt; refused, Some(ReadFault::Wire(fault)));
+        assert_eq!(rt; refused, Some(ParcelFault::Wire(fault)));
     }
 }
 
@@ -150,16 +150,16 @@ fn refuses_changed_bytes(rt: HostRuntime) {
 fn refuses_what_is_too_short(rt: HostRuntime) {
     for len in 0..MESSAGE.len() {
         let refused = read(rt.alloc(), RUN, &MESSAGE[..len]).err();
-        assert_eq!(rt; refused, Some(ReadFault::Wire(WireFault::Short)));
+        assert_eq!(rt; refused, Some(ParcelFault::Wire(WireFault::Short)));
     }
 }
 
 #[test]
 fn refuses_lists_out_of_order(rt: HostRuntime) {
     let twice = read(rt.alloc(), RUN, &TWICE).err();
-    assert_eq!(rt; twice, Some(ReadFault::Wire(WireFault::Unsorted)));
+    assert_eq!(rt; twice, Some(ParcelFault::Wire(WireFault::Unsorted)));
     let mut flagged = ANSWER;
     flagged[51] = 2;
     let refused = read(rt.alloc(), RUN, &flagged).err();
-    assert_eq!(rt; refused, Some(ReadFault::Wire(WireFault::Flag)));
+    assert_eq!(rt; refused, Some(ParcelFault::Wire(WireFault::Flag)));
 }

@@ -7,9 +7,9 @@ use Rattle.causal_protocol.specs.declared.request.Request.{Request}
 use Rattle.causal_protocol.specs.declared.request.Request.TheVariants.{Deliver}
 use Rattle.causal_script.specs.Spelling.{command_line, IsRequest}
 use Rattle.causal_script.specs.Faults.{IsCommandLine}
-use Rattle.causal_script.specs.Inside.Reading.{◌>>=◌, split_at_byte, number_of, process_of, delivery_of, parse_process_command, named_request, request_of}
+use Rattle.causal_script.specs.Inside.Reading.{◌>>=◌, split_at_byte, parse_number, parse_process, parse_delivery, parse_process_command, named_request, parse_request}
 use Rattle.causal_script.proofs.Cuts.{IsCut, cut_whole}
-use Rattle.causal_script.proofs.Numbers.{number_of-decimal, decimal-number_of, process_of-decimal, decimal-process_of, cut_number}
+use Rattle.causal_script.proofs.Numbers.{parse_number-decimal, decimal-number_of, parse_process-decimal, decimal-process_of, cut_number}
 
 -- if two chained parsing steps return a value, each of them does
 pub bind_some : {A B : Type 0} (r : Option A) (f : A → Option B) (y : B) → (r >>= f) ≡ Some y → (x : A) × (r ≡ Some x) × (f x ≡ Some y)
@@ -34,14 +34,14 @@ record IsDelivery (words : List ℕ) (r : Request) : Type 0 where
   fits : (q.0 < 2 ^ 8) × (source.0 < 2 ^ 8) × (ssn < 2 ^ 32)
   spelled : words ≡ decimal q.0 ++ (32 ∷ (decimal source.0 ++ (32 ∷ decimal ssn)))
 
-delivered : (words : List ℕ) (r : Request) → delivery_of words ≡ Some r → IsDelivery words r
-unfolding delivery_of
+delivered : (words : List ℕ) (r : Request) → parse_delivery words ≡ Some r → IsDelivery words r
+unfolding parse_delivery
 delivered words r e =
     let a = bind_some (split_at_byte 32 words) _ r e in
     let b = bind_some (split_at_byte 32 a.0.1) _ r a.2 in
-    let q = bind_some (process_of a.0.0) _ r b.2 in
-    let source = bind_some (process_of b.0.0) _ r q.2 in
-    let ssn = bind_some (number_of 4294967295 b.0.1) _ r source.2 in
+    let q = bind_some (parse_process a.0.0) _ r b.2 in
+    let source = bind_some (parse_process b.0.0) _ r q.2 in
+    let ssn = bind_some (parse_number 4294967295 b.0.1) _ r source.2 in
     let first : IsCut 32 words a.0 = cut_whole 32 words a.0 a.1 in
     let second : IsCut 32 a.0.1 b.0 = cut_whole 32 a.0.1 b.0 b.1 in
     let to = decimal-process_of q.0 a.0.0 q.1 in
@@ -61,7 +61,7 @@ delivered words r e =
 abbrev pub Says : List ℕ → Request → Type 0
 Says line r = IsRequest r × (line ≡ command_line r)
 
-says_delivery : (name words line : List ℕ) (r : Request) → line ≡ name ++ 32 ∷ words → name ≡ codes "deliver" → delivery_of words ≡ Some r → Says line r
+says_delivery : (name words line : List ℕ) (r : Request) → line ≡ name ++ 32 ∷ words → name ≡ codes "deliver" → parse_delivery words ≡ Some r → Says line r
 says_delivery name words line r whole named e = grind (arith, delivered words r e)
 
 says_of_process : (name words line : List ℕ) (p : Pid) (r : Request) → line ≡ name ++ 32 ∷ words → words ≡ decimal p.0 → p.0 < 2 ^ 8 → parse_process_command name p ≡ Some r → Says line r
@@ -72,32 +72,32 @@ says_named : (name words line : List ℕ) (r : Request) → line ≡ name ++ 32 
 unfolding named_request
 says_named name words line r whole e =
     chosen name (codes "deliver") _ _ r (λ named is. says_delivery name words line r whole named is) behind e where
-      behind : (process_of words >>= λ p. parse_process_command name p) ≡ Some r → Says line r
+      behind : (parse_process words >>= λ p. parse_process_command name p) ≡ Some r → Says line r
       behind is =
-          let p = bind_some (process_of words) _ r is in
+          let p = bind_some (parse_process words) _ r is in
           let number = decimal-process_of p.0 words p.1 in
           says_of_process name words line p.0 r whole number.0 number.1 p.2
 
 -- if a line is parsed as a request, it spells that request
-pub says_request : (line : List ℕ) (r : Request) → request_of line ≡ Some r → Says line r
-unfolding request_of
+pub says_request : (line : List ℕ) (r : Request) → parse_request line ≡ Some r → Says line r
+unfolding parse_request
 says_request line r e = behind_cut line _ r e (λ parts whole is. says_named parts.0 parts.1 line r whole is)
 
 -- ---- from the request to the line
 
-delivery_back : (q source : Pid) (ssn : ℕ) → q.0 < 2 ^ 8 → source.0 < 2 ^ 8 → ssn < 2 ^ 32 → delivery_of (decimal q.0 ++ (32 ∷ (decimal source.0 ++ (32 ∷ decimal ssn)))) ≡ Some (Deliver q source ssn)
-unfolding delivery_of
-delivery_back q source ssn a b s = grind (arith, cut_number, process_of-decimal q a, process_of-decimal source b, number_of-decimal)
+delivery_back : (q source : Pid) (ssn : ℕ) → q.0 < 2 ^ 8 → source.0 < 2 ^ 8 → ssn < 2 ^ 32 → parse_delivery (decimal q.0 ++ (32 ∷ (decimal source.0 ++ (32 ∷ decimal ssn)))) ≡ Some (Deliver q source ssn)
+unfolding parse_delivery
+delivery_back q source ssn a b s = grind (arith, cut_number, parse_process-decimal q a, parse_process-decimal source b, parse_number-decimal)
 
 -- the line of a request is parsed as that request
-pub request_back : (r : Request) → IsRequest r → request_of (command_line r) ≡ Some r
-unfolding request_of named_request parse_process_command
-request_back r h = grind (arith, delivery_back, process_of-decimal)
+pub request_back : (r : Request) → IsRequest r → parse_request (command_line r) ≡ Some r
+unfolding parse_request named_request parse_process_command
+request_back r h = grind (arith, delivery_back, parse_process-decimal)
 
 -- ---- valid and invalid lines
 
 -- a line that is parsed as a request is a command line
-pub commanded : (line : List ℕ) (r : Request) → request_of line ≡ Some r → IsCommandLine line
+pub commanded : (line : List ℕ) (r : Request) → parse_request line ≡ Some r → IsCommandLine line
 commanded line r e = let says = says_request line r e in (r, says.0, says.1)
 
 -- if the spelling of each value is parsed again, a line that is not parsed spells no value
@@ -105,5 +105,5 @@ pub none_spelled : {A : Type 0} (read : List ℕ → Option A) (spell : A → Li
 none_spelled read spell line x none back is = none-some x (sym none ∙ ap read is ∙ back)
 
 -- a line that is not parsed as a request is not a command line
-pub not_commanded : (line : List ℕ) → request_of line ≡ None → IsCommandLine line → ⊥
-not_commanded line e h = none_spelled request_of command_line line h.0 e (request_back h.0 h.1) h.2
+pub not_commanded : (line : List ℕ) → parse_request line ≡ None → IsCommandLine line → ⊥
+not_commanded line e h = none_spelled parse_request command_line line h.0 e (request_back h.0 h.1) h.2

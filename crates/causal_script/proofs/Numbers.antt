@@ -11,7 +11,7 @@ use Rattle.std.proofs.lemmas.Str.{IsUtf8-from_ascii}
 use Rattle.std.proofs.lemmas.Fmt.{IsAscii-decimal, digits_decimal, digits_value-decimal, decimal-digits_value, decimal_nonempty, first_decimal, decimal_digit}
 use Rattle.std.proofs.lemmas.Option.{none-some, same_Some}
 use Rattle.causal_name.specs.declared.Pid.{Pid}
-use Rattle.causal_script.specs.Inside.Reading.{split_at_byte, is_plain, number_of, process_of, count_of}
+use Rattle.causal_script.specs.Inside.Reading.{split_at_byte, is_plain_number, parse_number, parse_process, parse_count}
 use Rattle.causal_script.proofs.Cuts.{Lacks, cut_front}
 
 -- digits spell the number that is their value
@@ -28,27 +28,27 @@ pub record IsPlain (word : List ℕ) : Type 0 where
   pub some : 0 < length word
   pub lone : get_or word 0 0 ≡ 48 → length word ≡ 1
 
-pub plain_is : (word : List ℕ) → is_plain word ≡ true → IsPlain word
+pub plain_is : (word : List ℕ) → is_plain_number word ≡ true → IsPlain word
 plain_is word e = grind (arith, eq-eqb)
 
-pub is_plain-from : (word : List ℕ) → IsPlain word → is_plain word ≡ true
-is_plain-from word h = grind (arith, eqb-true)
+pub is_plain_number-from : (word : List ℕ) → IsPlain word → is_plain_number word ≡ true
+is_plain_number-from word h = grind (arith, eqb-true)
 
 pub decimal_plain : (n : ℕ) → n < 2 ^ 64 → IsPlain (decimal n)
 decimal_plain n small = grind (arith, digits_decimal own n small, own, decimal_nonempty n small, decimal_digit, first_decimal)
 
 -- the decimal spelling of a number is parsed as that number
-pub number_of-decimal : (limit n : ℕ) → n ≤ limit → n < 2 ^ 64 → number_of limit (decimal n) ≡ Some n
-unfolding number_of
-number_of-decimal limit n within small = grind (arith, is_plain-from, decimal_plain, digits_value-decimal, own, nat_tests)
+pub parse_number-decimal : (limit n : ℕ) → n ≤ limit → n < 2 ^ 64 → parse_number limit (decimal n) ≡ Some n
+unfolding parse_number
+parse_number-decimal limit n within small = grind (arith, is_plain_number-from, decimal_plain, digits_value-decimal, own, nat_tests)
 
 -- a token that is parsed as a number is its decimal spelling
-pub decimal-number_of : (limit n : ℕ) (word : List ℕ) → limit < 2 ^ 64 → number_of limit word ≡ Some n → (word ≡ decimal n) × (n ≤ limit)
-unfolding number_of
-decimal-number_of limit n word small e = by_test (is_plain word && leb (digits_value 10 word) limit) refl e where
-  by_test : (b : Bool) → (is_plain word && leb (digits_value 10 word) limit) ≡ b → cond b (Some (digits_value 10 word)) None ≡ Some n → (word ≡ decimal n) × (n ≤ limit)
+pub decimal-number_of : (limit n : ℕ) (word : List ℕ) → limit < 2 ^ 64 → parse_number limit word ≡ Some n → (word ≡ decimal n) × (n ≤ limit)
+unfolding parse_number
+decimal-number_of limit n word small e = by_test (is_plain_number word && leb (digits_value 10 word) limit) refl e where
+  by_test : (b : Bool) → (is_plain_number word && leb (digits_value 10 word) limit) ≡ b → cond b (Some (digits_value 10 word)) None ≡ Some n → (word ≡ decimal n) × (n ≤ limit)
   by_test true t e =
-      let parts = both (is_plain word) (leb (digits_value 10 word) limit) t in
+      let parts = both (is_plain_number word) (leb (digits_value 10 word) limit) t in
       let value : digits_value 10 word ≡ n = same_Some _ _ e in
       let plain = plain_is word parts.0 in
       let within : digits_value 10 word ≤ limit = let fits : leb (digits_value 10 word) limit ≡ true = parts.1 in grind (arith, nat_tests) in
@@ -70,23 +70,23 @@ cut_number n rest small = cut_front 32 (decimal n) rest (decimal_lacks n small)
 -- ---- process numbers and process counts
 
 -- the decimal number of a process is parsed as that process
-pub process_of-decimal : (p : Pid) → p.0 < 2 ^ 8 → process_of (decimal p.0) ≡ Some p
-unfolding process_of
-process_of-decimal p small = rw (number_of-decimal 255 p.0 (omega arith) (omega arith)) refl
+pub parse_process-decimal : (p : Pid) → p.0 < 2 ^ 8 → parse_process (decimal p.0) ≡ Some p
+unfolding parse_process
+parse_process-decimal p small = rw (parse_number-decimal 255 p.0 (omega arith) (omega arith)) refl
 
 -- a token that is parsed as a process is its decimal number
-pub decimal-process_of : (p : Pid) (word : List ℕ) → process_of word ≡ Some p → (word ≡ decimal p.0) × (p.0 < 2 ^ 8)
-unfolding process_of
+pub decimal-process_of : (p : Pid) (word : List ℕ) → parse_process word ≡ Some p → (word ≡ decimal p.0) × (p.0 < 2 ^ 8)
+unfolding parse_process
 decimal-process_of p word e = grind (arith, decimal-number_of 255 p.0 word)
 
 -- a process count up to 256, in decimal, is parsed as that count
-pub count_of-decimal : (n : ℕ) → 1 ≤ n → n ≤ 256 → count_of (decimal n) ≡ Some n
-unfolding count_of
-count_of-decimal n some few = grind (arith, nat_tests, number_of-decimal)
+pub parse_count-decimal : (n : ℕ) → 1 ≤ n → n ≤ 256 → parse_count (decimal n) ≡ Some n
+unfolding parse_count
+parse_count-decimal n some few = grind (arith, nat_tests, parse_number-decimal)
 
 -- a token that is parsed as a process count is its decimal spelling
-pub decimal-count_of : (n : ℕ) (word : List ℕ) → count_of word ≡ Some n → (word ≡ decimal n) × (1 ≤ n) × (n ≤ 256)
-unfolding count_of
+pub decimal-count_of : (n : ℕ) (word : List ℕ) → parse_count word ≡ Some n → (word ≡ decimal n) × (1 ≤ n) × (n ≤ 256)
+unfolding parse_count
 decimal-count_of n word e = grind (arith, decimal-number_of 256 n word, nat_tests)
 
 -- ---- results of `parse`
@@ -96,25 +96,25 @@ abbrev pub within : {E : Type 0} → ℕ → Result ℕ E → Option ℕ
 within limit (Ok n) = if nat_le n limit then Some n else None
 within limit (Err e) = None
 
-unspelled : (limit : ℕ) (word : List ℕ) → ((n : ℕ) → number_of limit word ≡ Some n → ⊥) → number_of limit word ≡ None
+unspelled : (limit : ℕ) (word : List ℕ) → ((n : ℕ) → parse_number limit word ≡ Some n → ⊥) → parse_number limit word ≡ None
 unspelled limit word never = grind arith
 
 parsed : {E : Type 0} (limit : ℕ) (word : List ℕ) (r : Result ℕ E) → limit < 2 ^ 32 → 0 < length word → get_or word 0 0 ≢ 43 → (get_or word 0 0 ≡ 48 → length word ≤ 1)
-    → ParsesUnsigned 32 10 word r → number_of limit word ≡ within limit r
-unfolding number_of
+    → ParsesUnsigned 32 10 word r → parse_number limit word ≡ within limit r
+unfolding parse_number
 parsed {E} limit word r small some sign lone parses = by_cases r (parse_plain own 32 word r parses sign) where
-  spelled : (n : ℕ) → number_of limit word ≡ Some n → (all_ascii_digits word ≡ true) × (0 < length word) × (digits_value 10 word < 2 ^ 32) × (digits_value 10 word ≡ n) × (n ≤ limit)
+  spelled : (n : ℕ) → parse_number limit word ≡ Some n → (all_ascii_digits word ≡ true) × (0 < length word) × (digits_value 10 word < 2 ^ 32) × (digits_value 10 word ≡ n) × (n ≤ limit)
   spelled n e = grind (arith, decimal-number_of limit n word, digits_value-decimal own n, digits_decimal own n)
 
-  by_limit : (n : ℕ) → n ≡ digits_value 10 word → all_ascii_digits word ≡ true → (b : Bool) → leb n limit ≡ b → number_of limit word ≡ cond b (Some n) None
-  by_limit n value digits b t = grind (arith, is_plain-from word)
+  by_limit : (n : ℕ) → n ≡ digits_value 10 word → all_ascii_digits word ≡ true → (b : Bool) → leb n limit ≡ b → parse_number limit word ≡ cond b (Some n) None
+  by_limit n value digits b t = grind (arith, is_plain_number-from word)
 
-  by_cases : (o : Result ℕ E) → OkIff o ((all_ascii_digits word ≡ true) × (0 < length word) × (digits_value 10 word < 2 ^ 32)) (digits_value 10 word) → number_of limit word ≡ within limit o
+  by_cases : (o : Result ℕ E) → OkIff o ((all_ascii_digits word ≡ true) × (0 < length word) × (digits_value 10 word < 2 ^ 32)) (digits_value 10 word) → parse_number limit word ≡ within limit o
   by_cases (Ok n) h = by_limit n h.1 h.0.0 (leb n limit) refl
   by_cases (Err e) h = unspelled limit word (λ n is. let s = spelled n is in h (s.0, s.1, s.2))
 
 -- bytes that are not UTF-8 spell no number
-pub no_text : (limit : ℕ) (word : List ℕ) → limit < 2 ^ 32 → (IsUtf8 word → ⊥) → number_of limit word ≡ None
+pub no_text : (limit : ℕ) (word : List ℕ) → limit < 2 ^ 32 → (IsUtf8 word → ⊥) → parse_number limit word ≡ None
 no_text limit word small none = unspelled limit word (λ n e.
     let d = decimal-number_of limit n word (omega arith) e in
     none (subst (λ (w : List ℕ). IsUtf8 w) (sym d.0) (IsUtf8-from_ascii (decimal n) (IsAscii-decimal n (omega (arith, d.1))))))
@@ -130,5 +130,5 @@ lone_from x n h e = grind arith
 
 -- a token without a plus sign or a leading zero has the value that `parse` returns
 pub parsed_word : {E : Type 0} (limit first : ℕ) (word text : List ℕ) (r : Result ℕ E) → limit < 2 ^ 32 → Some first ≡ slice_get word 0 → first ≢ 43 → ((first ≡ 48) × (length word ≤ 1)) ⊎ (first ≢ 48)
-    → text ≡ word → ParsesUnsigned 32 10 text r → number_of limit word ≡ within limit r
+    → text ≡ word → ParsesUnsigned 32 10 text r → parse_number limit word ≡ within limit r
 parsed_word limit first word text r small begins sign lone same parses = grind (arith, first_is word first begins, parsed, lone_from)

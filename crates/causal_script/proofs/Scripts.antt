@@ -4,7 +4,7 @@ use Rattle.std.proofs.lemmas.List.{append-nil}
 use Rattle.causal_script.specs.declared.script.Command.{Command}
 use Rattle.causal_script.specs.declared.script.ScriptFaultKind.TheVariants.{Script}
 use Rattle.causal_script.specs.declared.start.Start.{Start}
-use Rattle.causal_script.specs.Lines.{lines}
+use Rattle.causal_script.specs.Lines.{script_lines}
 use Rattle.causal_script.specs.Spelling.{IsStart, Spells, start_line}
 use Rattle.causal_script.specs.Faults.{IsFirstFault}
 use Rattle.causal_script.specs.Inside.Place.{AreCommands, AreOnLines}
@@ -16,7 +16,7 @@ length_map f [] = refl
 length_map f (x ∷ xs) = ap suc (length_map f xs)
 
 -- a text that was parsed to its end spells the parsed start and commands
-pub spelled : (text first rest : List ℕ) (s : Start) (commands : List Command) (line : ℕ) → lines text ≡ first ∷ lines rest → IsStart s → first ≡ start_line s
+pub spelled : (text first rest : List ℕ) (s : Start) (commands : List Command) (line : ℕ) → script_lines text ≡ first ∷ script_lines rest → IsStart s → first ≡ start_line s
     → AreCommands rest commands [] → AreOnLines text commands line [] → Spells text (record { start = s; commands = commands })
 spelled text first rest s commands line split start is read r = grind (arith, append-nil, whole_within, length_map, length_lines)
 

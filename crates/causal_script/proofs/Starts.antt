@@ -7,11 +7,11 @@ use Rattle.causal_script.specs.declared.script.Exploration.{Exploration}
 use Rattle.causal_script.specs.declared.script.Kind.{Kind}
 use Rattle.causal_script.specs.declared.script.Kind.TheVariants.{Ring, Echo, Tally}
 use Rattle.causal_script.specs.declared.start.Start.{Start}
-use Rattle.causal_script.specs.Spelling.{first_word, exploration_numbers, start_line, IsStart, IsExploration}
+use Rattle.causal_script.specs.Spelling.{exploration_word, exploration_numbers, start_line, IsStart, IsExploration}
 use Rattle.causal_script.specs.Faults.{IsStartLine}
-use Rattle.causal_script.specs.Inside.Reading.{◌>>=◌, split_at_byte, number_of, count_of, split_last, numbered_start, parse_start_numbers, tally_of, start_of_kind, named_start, start_of}
+use Rattle.causal_script.specs.Inside.Reading.{◌>>=◌, split_at_byte, parse_number, parse_count, split_last, numbered_start, parse_start_numbers, tally_of, start_of_kind, named_start, start_of}
 use Rattle.causal_script.proofs.Cuts.{IsCut, cut_whole}
-use Rattle.causal_script.proofs.Numbers.{number_of-decimal, decimal-number_of, count_of-decimal, decimal-count_of, cut_number}
+use Rattle.causal_script.proofs.Numbers.{parse_number-decimal, decimal-number_of, parse_count-decimal, decimal-count_of, cut_number}
 use Rattle.causal_script.proofs.CommandLines.{bind_some, behind_cut, chosen, none_spelled}
 
 -- ---- from the line to the start
@@ -25,7 +25,7 @@ word_for true = codes "explore "
 record IsSplit (explores : Bool) (words : List ℕ) (parts : List ℕ × Option Exploration) : Type 0 where
   whole : words ≡ parts.0 ++ exploration_numbers parts.1
   fits : IfSome parts.1 IsExploration
-  word : word_for explores ≡ first_word parts.1
+  word : word_for explores ≡ exploration_word parts.1
 
 split_last_is : (explores : Bool) (words : List ℕ) (parts : List ℕ × Option Exploration) → split_last explores words ≡ Some parts → IsSplit explores words parts
 unfolding split_last
@@ -33,8 +33,8 @@ split_last_is false words parts e = subst (IsSplit false words) (same_Some _ _ e
 split_last_is true words parts e =
     let a = bind_some (split_at_byte 32 words) _ parts e in
     let b = bind_some (split_at_byte 32 a.0.1) _ parts a.2 in
-    let seed = bind_some (number_of 4294967295 b.0.0) _ parts b.2 in
-    let steps = bind_some (number_of 1000 b.0.1) _ parts seed.2 in
+    let seed = bind_some (parse_number 4294967295 b.0.0) _ parts b.2 in
+    let steps = bind_some (parse_number 1000 b.0.1) _ parts seed.2 in
     let first : IsCut 32 words a.0 = cut_whole 32 words a.0 a.1 in
     let second : IsCut 32 a.0.1 b.0 = cut_whole 32 a.0.1 b.0 b.1 in
     let from = decimal-number_of 4294967295 seed.0 b.0.0 (omega arith) seed.1 in
@@ -54,14 +54,14 @@ record IsNumbers (explores : Bool) (kind : Kind) (words : List ℕ) (s : Start) 
   faults : f < 2 ^ 16
   small : param < 2 ^ 8
   fits : IfSome exploration IsExploration
-  word : word_for explores ≡ first_word exploration
+  word : word_for explores ≡ exploration_word exploration
 
-numbered_is : (explores : Bool) (kind : Kind) (words front back : List ℕ) (param : ℕ) (exploration : Option Exploration) (s : Start) → param < 2 ^ 8 → IfSome exploration IsExploration → word_for explores ≡ first_word exploration
+numbered_is : (explores : Bool) (kind : Kind) (words front back : List ℕ) (param : ℕ) (exploration : Option Exploration) (s : Start) → param < 2 ^ 8 → IfSome exploration IsExploration → word_for explores ≡ exploration_word exploration
     → numbered_start kind front back param exploration ≡ Some s → (w : IsNumbers explores kind words s) × (front ≡ decimal w.n) × (back ≡ decimal w.f) × (w.param ≡ param) × (w.exploration ≡ exploration)
 unfolding numbered_start
 numbered_is explores kind words front back param exploration s small fits word e =
-    let n = bind_some (count_of front) _ s e in
-    let f = bind_some (number_of 65535 back) _ s n.2 in
+    let n = bind_some (parse_count front) _ s e in
+    let f = bind_some (parse_number 65535 back) _ s n.2 in
     let count = decimal-count_of n.0 front n.1 in
     let faults = decimal-number_of 65535 f.0 back (omega arith) f.1 in (
       record {
@@ -90,7 +90,7 @@ with_param_is explores kind words s e =
     let a = bind_some (split_at_byte 32 words) _ s e in
     let b = bind_some (split_at_byte 32 a.0.1) _ s a.2 in
     let c = bind_some (split_last explores b.0.1) _ s b.2 in
-    let param = bind_some (number_of 255 c.0.0) _ s c.2 in
+    let param = bind_some (parse_number 255 c.0.0) _ s c.2 in
     let first : IsCut 32 words a.0 = cut_whole 32 words a.0 a.1 in
     let second : IsCut 32 a.0.1 b.0 = cut_whole 32 a.0.1 b.0 b.1 in
     let split = split_last_is explores b.0.1 c.0 c.1 in
@@ -117,7 +117,7 @@ abbrev pub SaysStart : List ℕ → Start → Type 0
 SaysStart line s = IsStart s × (line ≡ start_line s)
 
 says_with_param : (explores : Bool) (kind : Kind) (word name words line : List ℕ) (s : Start) → (kind ≡ Tally → ⊥)
-    → ((n f param : ℕ) (e : Option Exploration) → first_word e ++ (word ++ (32 ∷ (decimal n ++ (32 ∷ (decimal f ++ (32 ∷ (decimal param ++ exploration_numbers e))))))) ≡ start_line (record { kind = kind; n = n; f = f; param = param; exploration = e }))
+    → ((n f param : ℕ) (e : Option Exploration) → exploration_word e ++ (word ++ (32 ∷ (decimal n ++ (32 ∷ (decimal f ++ (32 ∷ (decimal param ++ exploration_numbers e))))))) ≡ start_line (record { kind = kind; n = n; f = f; param = param; exploration = e }))
     → line ≡ word_for explores ++ (name ++ 32 ∷ words) → name ≡ word → parse_start_numbers explores kind words ≡ Some s → SaysStart line s
 says_with_param explores kind word name words line s other spells whole named e = grind (arith, with_param_is explores kind words s e)
 
@@ -153,18 +153,18 @@ says_start line s e = behind_cut line _ s e (λ parts whole is. says_named_start
 split_last_back : (k : ℕ) (e : Option Exploration) → k < 2 ^ 64 → IfSome e IsExploration → split_last (is_some e) (decimal k ++ exploration_numbers e) ≡ Some (decimal k, e)
 unfolding split_last
 split_last_back k None small fits = ap (λ xs. Some (xs, None)) (append-nil (decimal k))
-split_last_back k (Some e) small fits = grind (arith, cut_number, number_of-decimal)
+split_last_back k (Some e) small fits = grind (arith, cut_number, parse_number-decimal)
 
 with_param_back : (kind : Kind) (n f param : ℕ) (e : Option Exploration) → 1 ≤ n → n ≤ 256 → f < 2 ^ 16 → param < 2 ^ 8 → IfSome e IsExploration
     → parse_start_numbers (is_some e) kind (decimal n ++ (32 ∷ (decimal f ++ (32 ∷ (decimal param ++ exploration_numbers e))))) ≡ Some (record { kind = kind; n = n; f = f; param = param; exploration = e })
 unfolding parse_start_numbers numbered_start
-with_param_back kind n f param e some few faults small fits = grind (arith, cut_number, number_of-decimal, count_of-decimal n some few, split_last_back param e)
+with_param_back kind n f param e some few faults small fits = grind (arith, cut_number, parse_number-decimal, parse_count-decimal n some few, split_last_back param e)
 
 tally_back : (n f : ℕ) (e : Option Exploration) → 1 ≤ n → n ≤ 256 → f < 2 ^ 16 → IfSome e IsExploration
     → tally_of (is_some e) (decimal n ++ (32 ∷ (decimal f ++ exploration_numbers e))) ≡ Some (record { kind = Tally; n = n; f = f; param = 0; exploration = e })
 unfolding tally_of numbered_start
 tally_back n f e some few faults fits =
-    rw (cut_number n (decimal f ++ exploration_numbers e) (omega arith)) (rw (split_last_back f e (omega arith) fits) (rw (count_of-decimal n some few) (rw (number_of-decimal 65535 f (omega arith) (omega arith)) refl)))
+    rw (cut_number n (decimal f ++ exploration_numbers e) (omega arith)) (rw (split_last_back f e (omega arith) fits) (rw (parse_count-decimal n some few) (rw (parse_number-decimal 65535 f (omega arith) (omega arith)) refl)))
 
 start_back_of : (kind : Kind) (n f param : ℕ) (e : Option Exploration) → IsStart (record { kind = kind; n = n; f = f; param = param; exploration = e })
     → start_of (start_line (record { kind = kind; n = n; f = f; param = param; exploration = e })) ≡ Some (record { kind = kind; n = n; f = f; param = param; exploration = e })

@@ -11,9 +11,9 @@ use Rattle.causal_script.specs.declared.script.Command.{Command}
 use Rattle.causal_script.specs.declared.script.ScriptFault.{ScriptFault}
 use Rattle.causal_script.specs.declared.script.ScriptFaultKind.{ScriptFaultKind}
 use Rattle.causal_script.specs.declared.script.ScriptFaultKind.TheVariants.{Big, Script, NoMemory}
-use Rattle.causal_script.specs.Lines.{is_feed, lines, count_line_feeds}
+use Rattle.causal_script.specs.Lines.{is_feed, script_lines, count_line_feeds}
 use Rattle.causal_script.specs.Spelling.{max_script, command_line, IsRequest}
-use Rattle.causal_script.specs.Faults.{IsCommandLine, IsInPlace, IsFaultAfter, AreSound, IsFirstFault, IsReadUpTo}
+use Rattle.causal_script.specs.Faults.{IsCommandLine, IsInPlace, IsFaultAfterLines, AreSound, IsFirstFault, IsReadUpTo}
 use Rattle.causal_script.specs.Inside.Reading.{split_at_byte}
 use Rattle.causal_script.specs.Inside.Place.{IsBigLine, is_line, line_or_fault, IsAfter, AreCommands, AreOnLines}
 
@@ -27,19 +27,19 @@ drop_all zero (k ∷ ls) h = absurd (omega arith)
 drop_all (suc count) (k ∷ ls) h = drop_all count ls (omega arith)
 
 -- the bytes before the first line feed are the first line; the rest has the other lines
-pub lines_cut : (xs : List ℕ) (parts : List ℕ × List ℕ) → split_at_byte 10 xs ≡ Some parts → lines xs ≡ parts.0 ∷ lines parts.1
+pub lines_cut : (xs : List ℕ) (parts : List ℕ × List ℕ) → split_at_byte 10 xs ≡ Some parts → script_lines xs ≡ parts.0 ∷ script_lines parts.1
 lines_cut [] parts e = absurd (none-some parts e)
 lines_cut (x ∷ xs) parts e = grind (arith, lines_cut xs)
 
 no_feed : (x : ℕ) (xs : List ℕ) → split_at_byte 10 (x ∷ xs) ≡ None → (eqb x 10 ≡ false) × (split_at_byte 10 xs ≡ None)
 no_feed x xs e = grind arith
 
-lines_uncut : (x : ℕ) (xs : List ℕ) → split_at_byte 10 (x ∷ xs) ≡ None → lines (x ∷ xs) ≡ (x ∷ xs) ∷ []
+lines_uncut : (x : ℕ) (xs : List ℕ) → split_at_byte 10 (x ∷ xs) ≡ None → script_lines (x ∷ xs) ≡ (x ∷ xs) ∷ []
 lines_uncut x [] e = let h = no_feed x [] e in rw h.0 refl
 lines_uncut x (y ∷ ys) e = let h = no_feed x (y ∷ ys) e in rw (h.0, lines_uncut y ys h.1) refl
 
 -- a text without a line feed is one line
-pub lines_last : (xs front back : List ℕ) → 0 < length xs → None ≡ split_at_byte 10 xs → front ≡ take (length xs) xs → back ≡ drop (length xs) xs → lines xs ≡ front ∷ lines back
+pub lines_last : (xs front back : List ℕ) → 0 < length xs → None ≡ split_at_byte 10 xs → front ≡ take (length xs) xs → back ≡ drop (length xs) xs → script_lines xs ≡ front ∷ script_lines back
 lines_last xs front back some e f b = grind (arith, lines_uncut, take-length, drop_all)
 
 -- ---- the number of lines
@@ -51,7 +51,7 @@ feeds_cons : (x : ℕ) (xs : List ℕ) (b : Bool) → eqb x 10 ≡ b → count_l
 feeds_cons x xs b t = sum_by-cons (λ y. cond (is_feed y) 1 0) x xs ∙ ap (λ c. cond c 1 0 + count_line_feeds xs) t
 
 -- each byte is in one of the lines
-pub feeds_below : (n : ℕ) (xs : List ℕ) → n < length xs → count_line_feeds (take n xs) < length (lines xs)
+pub feeds_below : (n : ℕ) (xs : List ℕ) → n < length xs → count_line_feeds (take n xs) < length (script_lines xs)
 feeds_below n [] h = absurd (omega arith)
 feeds_below zero (x ∷ xs) h = grind arith
 feeds_below (suc n) (x ∷ xs) h = grind (arith, feeds_below n xs, feeds_cons, length_onto)
@@ -62,7 +62,7 @@ feeds_take (suc n) [] = omega arith
 feeds_take (suc n) (x ∷ xs) = grind (arith, feeds_take n xs, feeds_cons)
 
 -- a text has at most as many lines as bytes
-pub length_lines : (xs : List ℕ) → length (lines xs) ≤ length xs
+pub length_lines : (xs : List ℕ) → length (script_lines xs) ≤ length xs
 length_lines [] = omega arith
 length_lines (x ∷ xs) = grind (arith, length_lines xs)
 
@@ -82,9 +82,9 @@ line_past zero (k ∷ ls) e = absurd (let no : k ∷ ls ≡ [] = e in cc)
 line_past (suc count) (k ∷ ls) e = let h : length ls ≤ count = line_past count ls e in omega arith
 
 -- only an empty text has no lines
-pub no_lines : (xs : List ℕ) → lines xs ≡ [] → xs ≡ []
+pub no_lines : (xs : List ℕ) → script_lines xs ≡ [] → xs ≡ []
 no_lines [] e = refl
-no_lines (x ∷ xs) e = absurd (let some : count_line_feeds (take 0 (x ∷ xs)) < length (lines (x ∷ xs)) = feeds_below 0 (x ∷ xs) (omega arith) in let none : length (lines (x ∷ xs)) ≡ 0 = ap length e in omega arith)
+no_lines (x ∷ xs) e = absurd (let some : count_line_feeds (take 0 (x ∷ xs)) < length (script_lines (x ∷ xs)) = feeds_below 0 (x ∷ xs) (omega arith) in let none : length (script_lines (x ∷ xs)) ≡ 0 = ap length e in omega arith)
 
 -- ---- errors of a line
 
@@ -99,12 +99,12 @@ pub judged_err : {A : Type 0} (big : Option ℕ) (line : ℕ) (said : Option A) 
     → ((is_line line big ≡ true) × (f ≡ Fault line Big)) ⊎ ((is_line line big ≡ false) × (said ≡ None) × (f ≡ Fault line Script))
 judged_err {A} big line said f e = grind arith
 
-pub is_big : (text : List ℕ) (big : Option ℕ) (before : ℕ) → IsBigLine text big → is_line (before + 1) big ≡ true → IsFaultAfter text before Big
+pub is_big : (text : List ℕ) (big : Option ℕ) (before : ℕ) → IsBigLine text big → is_line (before + 1) big ≡ true → IsFaultAfterLines text before Big
 is_big text None before h t = absurd (let no : false ≡ true = t in cc)
 is_big text (Some line) before h t = let same : line ≡ before + 1 = eqb-true line (before + 1) t in (h.0, omega (arith, h.1))
 
 -- if the first byte past the limit is in another line, this line is not too long
-pub not_big : (text : List ℕ) (big : Option ℕ) (before : ℕ) → IsBigLine text big → is_line (before + 1) big ≡ false → IsFaultAfter text before Big → ⊥
+pub not_big : (text : List ℕ) (big : Option ℕ) (before : ℕ) → IsBigLine text big → is_line (before + 1) big ≡ false → IsFaultAfterLines text before Big → ⊥
 not_big text big before h t bad = grind (arith, eq-eqb)
 
 -- zero lines contain no error
@@ -112,23 +112,23 @@ pub sound_none : (text : List ℕ) → AreSound text 0
 sound_none text before kind below bad = omega arith
 
 -- one more line that is in place and within the limit adds no error
-pub sound_more : (text : List ℕ) (count next : ℕ) → next ≡ count + 1 → AreSound text count → (IsFaultAfter text count Big → ⊥) → IsInPlace count (slice_get (lines text) count) → AreSound text next
+pub sound_more : (text : List ℕ) (count next : ℕ) → next ≡ count + 1 → AreSound text count → (IsFaultAfterLines text count Big → ⊥) → IsInPlace count (slice_get (script_lines text) count) → AreSound text next
 sound_more text count next is sound small place before kind below bad = by_place (cases_lt before count) where
-  here : (k : ScriptFaultKind) → IsFaultAfter text count k → ⊥
+  here : (k : ScriptFaultKind) → IsFaultAfterLines text count k → ⊥
   here Big b = small b
   here Script b = b place
   here NoMemory b = b
 
   by_place : (before < count) ⊎ (count ≤ before) → ⊥
   by_place (inl lower) = sound before kind lower bad
-  by_place (inr upper) = let same : before ≡ count = omega arith in here kind (subst (λ (n : ℕ). IsFaultAfter text n kind) same bad)
+  by_place (inr upper) = let same : before ≡ count = omega arith in here kind (subst (λ (n : ℕ). IsFaultAfterLines text n kind) same bad)
 
 -- the error of the next line is the first error of the text
 pub first_fault : {A : Type 0} (text l : List ℕ) (before : ℕ) (big : Option ℕ) (said : Option A) (f : ScriptFault)
-    → IsBigLine text big → AreSound text before → slice_get (lines text) before ≡ Some l → (said ≡ None → IsInPlace before (Some l) → ⊥)
+    → IsBigLine text big → AreSound text before → slice_get (script_lines text) before ≡ Some l → (said ≡ None → IsInPlace before (Some l) → ⊥)
     → line_or_fault big (before + 1) said ≡ Err f → IsFirstFault text f
 first_fault text l before big said f bigs sound here misplaced e = by_cases (judged_err big (before + 1) said f e) where
-  told : (kind : ScriptFaultKind) → f ≡ Fault (before + 1) kind → IsFaultAfter text before kind → (kind ≡ Script → IsFaultAfter text before Big → ⊥) → IsFirstFault text f
+  told : (kind : ScriptFaultKind) → f ≡ Fault (before + 1) kind → IsFaultAfterLines text before kind → (kind ≡ Script → IsFaultAfterLines text before Big → ⊥) → IsFirstFault text f
   told kind is faulty first = subst (λ (g : ScriptFault). IsFirstFault text g) (sym is) (record { before = before; number = refl; sound = sound; faulty = faulty; big_first = first })
 
   by_cases : ((is_line (before + 1) big ≡ true) × (f ≡ Fault (before + 1) Big)) ⊎ ((is_line (before + 1) big ≡ false) × (said ≡ None) × (f ≡ Fault (before + 1) Script)) → IsFirstFault text f
@@ -143,15 +143,15 @@ after_none text = record { rest = refl; within = omega arith; sound = sound_none
 
 -- after one more line without an error, the bytes after it remain
 pub after_more : {A : Type 0} (text left l after : List ℕ) (count next : ℕ) (big : Option ℕ) (said : Option A) (x : A) → next ≡ count + 1
-    → IsAfter text count left → lines left ≡ l ∷ lines after → IsBigLine text big → line_or_fault big (count + 1) said ≡ Ok x → (said ≡ Some x → IsInPlace count (Some l)) → IsAfter text next after
+    → IsAfter text count left → script_lines left ≡ l ∷ script_lines after → IsBigLine text big → line_or_fault big (count + 1) said ≡ Ok x → (said ≡ Some x → IsInPlace count (Some l)) → IsAfter text next after
 after_more text left l after count next big said x is a split bigs e place =
-    let here = line_here count (lines text) l (lines after) (a.rest ∙ split) in
+    let here = line_here count (script_lines text) l (script_lines after) (a.rest ∙ split) in
     let ok = judged_ok big (count + 1) said x e in
-    let inside : count < length (lines text) = slice_get_within (lines text) count l here.0 in
-    let stands : IsInPlace count (slice_get (lines text) count) = subst (λ (o : Option (List ℕ)). IsInPlace count o) (sym here.0) (place ok.1) in
+    let inside : count < length (script_lines text) = slice_get_within (script_lines text) count l here.0 in
+    let stands : IsInPlace count (slice_get (script_lines text) count) = subst (λ (o : Option (List ℕ)). IsInPlace count o) (sym here.0) (place ok.1) in
     let step : next ≡ suc count = omega arith in
     record {
-      rest = ap (λ n. drop n (lines text)) step ∙ here.1;
+      rest = ap (λ n. drop n (script_lines text)) step ∙ here.1;
       within = omega arith;
       sound = sound_more text count next is a.sound (not_big text big count bigs ok.0) stands;
     }
@@ -164,7 +164,7 @@ count_small text left count a = grind (arith, feeds_take max_script text, length
 pub whole_within : (text : List ℕ) (count : ℕ) → IsAfter text count [] → length text ≤ max_script
 whole_within text count a = grind (
   arith,
-  line_past count (lines text) a.rest,
+  line_past count (script_lines text) a.rest,
   feeds_below max_script text,
   a.sound (count_line_feeds (take max_script text)) Big,
 )
@@ -180,7 +180,7 @@ range_more a zero next is = let same : next ≡ a = omega arith in ap (λ x. x �
 range_more a (suc n) next is = ap (λ xs. a ∷ xs) (range_more (a + 1) n next (omega arith))
 
 -- one more command line adds its command
-pub commands_more : (rest left l after : List ℕ) (commands : List Command) (c : Command) → AreCommands rest commands left → lines left ≡ l ∷ lines after
+pub commands_more : (rest left l after : List ℕ) (commands : List Command) (c : Command) → AreCommands rest commands left → script_lines left ≡ l ∷ script_lines after
     → l ≡ command_line c.request → IsRequest c.request → AreCommands rest (commands ++ c ∷ []) after
 commands_more rest left l after commands c h split is fits = grind (arith, map-append, append_assoc, all_push)
 
@@ -190,7 +190,7 @@ length_push (y ∷ xs) x = ap suc (length_push xs x)
 
 -- the commands are on the lines up to the line read last
 pub reaches_more : {A : Type 0} (text left l after : List ℕ) (commands : List Command) (line next : ℕ) (big : Option ℕ) (said : Option A) (x : A) (c : Command)
-    → next ≡ line + 1 → c.line ≡ next → AreOnLines text commands line left → lines left ≡ l ∷ lines after → IsBigLine text big → line_or_fault big next said ≡ Ok x → (said ≡ Some x → IsCommandLine l)
+    → next ≡ line + 1 → c.line ≡ next → AreOnLines text commands line left → script_lines left ≡ l ∷ script_lines after → IsBigLine text big → line_or_fault big next said ≡ Ok x → (said ≡ Some x → IsCommandLine l)
     → AreOnLines text (commands ++ c ∷ []) next after
 reaches_more text left l after commands line next big said x c is here r split bigs e command =
     let place : IsCommandLine l → IsInPlace line (Some l) = λ w. subst (λ (n : ℕ). IsInPlace n (Some l)) (let count : line ≡ suc (length commands) = omega (arith, r.count) in sym count) w in
@@ -205,10 +205,10 @@ reaches_more text left l after commands line next big said x c is here r split b
 
 -- an error on a command's line is the first error of the text
 pub command_fault : {A : Type 0} (text left l after : List ℕ) (commands : List Command) (line next : ℕ) (big : Option ℕ) (said : Option A) (f : ScriptFault)
-    → next ≡ line + 1 → AreOnLines text commands line left → lines left ≡ l ∷ lines after → IsBigLine text big → line_or_fault big next said ≡ Err f → (said ≡ None → IsCommandLine l → ⊥) → IsFirstFault text f
+    → next ≡ line + 1 → AreOnLines text commands line left → script_lines left ≡ l ∷ script_lines after → IsBigLine text big → line_or_fault big next said ≡ Err f → (said ≡ None → IsCommandLine l → ⊥) → IsFirstFault text f
 command_fault text left l after commands line next big said f is r split bigs e none =
     let misplaced : IsInPlace line (Some l) → IsCommandLine l = λ w. subst (λ (n : ℕ). IsInPlace n (Some l)) (let count : line ≡ suc (length commands) = omega (arith, r.count) in count) w in
-    let here = line_here line (lines text) l (lines after) (r.after.rest ∙ split) in
+    let here = line_here line (script_lines text) l (script_lines after) (r.after.rest ∙ split) in
     first_fault text l line big said f bigs r.after.sound here.0 (λ no place. none no (misplaced place)) (subst (λ (n : ℕ). line_or_fault big n said ≡ Err f) is e)
 
 -- no line before the next one has an error

@@ -8,9 +8,9 @@ is_feed x = x == 10
 
 -- A line ends with a line feed, which does not belong to it, or at the end of the text. No line follows a final line
 -- feed.
-abbrev pub lines : List ℕ → List (List ℕ)
-lines [] = []
-lines (x ∷ xs) = if is_feed x then [] ∷ lines xs else onto_first x (lines xs)
+abbrev pub script_lines : List ℕ → List (List ℕ)
+script_lines [] = []
+script_lines (x ∷ xs) = if is_feed x then [] ∷ script_lines xs else onto_first x (script_lines xs)
 
 -- the number of line feeds
 abbrev pub count_line_feeds : List ℕ → ℕ

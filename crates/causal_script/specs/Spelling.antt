@@ -9,7 +9,7 @@ use Rattle.causal_script.specs.declared.script.Command.{Command}
 use Rattle.causal_script.specs.declared.script.Exploration.{Exploration}
 use Rattle.causal_script.specs.declared.script.Script.{Script}
 use Rattle.causal_script.specs.declared.start.Start.{Start}
-use Rattle.causal_script.specs.Lines.{lines}
+use Rattle.causal_script.specs.Lines.{script_lines}
 
 -- the maximum size of a script in bytes
 abbrev pub max_script : ℕ
@@ -31,9 +31,9 @@ script_content s = record { start = record { kind = s.kind; n = s.n; f = s.f; pa
 -- ---- the lines
 
 -- the first word, with the space after it
-abbrev pub first_word : Option Exploration → List ℕ
-first_word None = codes "start "
-first_word (Some e) = codes "explore "
+abbrev pub exploration_word : Option Exploration → List ℕ
+exploration_word None = codes "start "
+exploration_word (Some e) = codes "explore "
 
 -- ` SEED STEPS`, where the run is explored
 abbrev pub exploration_numbers : Option Exploration → List ℕ
@@ -46,10 +46,10 @@ start_numbers s = decimal s.n ++ (codes " " ++ (decimal s.f ++ (codes " " ++ (de
 
 -- the first line, for a given kind
 abbrev pub start_line_at : Kind → Start → List ℕ
-start_line_at Ring s = first_word s.exploration ++ (codes "ring " ++ start_numbers s)
-start_line_at Echo s = first_word s.exploration ++ (codes "echo " ++ start_numbers s)
+start_line_at Ring s = exploration_word s.exploration ++ (codes "ring " ++ start_numbers s)
+start_line_at Echo s = exploration_word s.exploration ++ (codes "echo " ++ start_numbers s)
 start_line_at Tally s =
-    first_word s.exploration ++ (codes "tally " ++ (decimal s.n ++ (codes " " ++ (decimal s.f ++ exploration_numbers s.exploration))))
+    exploration_word s.exploration ++ (codes "tally " ++ (decimal s.n ++ (codes " " ++ (decimal s.f ++ exploration_numbers s.exploration))))
 
 -- the first line
 abbrev pub start_line : Start → List ℕ
@@ -98,5 +98,5 @@ pub record IsScriptContent (p : ScriptContent) : Type 0 where
 -- the text consists of the script's lines and is within the size limit
 pub record Spells (text : List ℕ) (p : ScriptContent) : Type 0 where
   pub content : IsScriptContent p
-  pub said : lines text ≡ start_line p.start ∷ map (λ c. command_line c.request) p.commands
+  pub said : script_lines text ≡ start_line p.start ∷ map (λ c. command_line c.request) p.commands
   pub within : length text ≤ max_script

@@ -1,15 +1,15 @@
 //! Parsing of a script's commands.
 ghost use Rattle.std.specs.Prelude.{◌≡◌};
-ghost use Rattle.causal_script.specs.Inside.Reading.{delivery_of, parse_process_command, named_request, request_of};
+ghost use Rattle.causal_script.specs.Inside.Reading.{parse_delivery, parse_process_command, named_request, parse_request};
 
 use crate::tokens::{parse_number, parse_process, split_at_byte};
 use causal_name::Pid;
 use causal_protocol::request::Request;
 
 /// Parses `Q SOURCE SSN`.
-#[tactic(auto, unfolding(crate::specs::Inside::Reading::delivery_of))]
+#[tactic(auto, unfolding(crate::specs::Inside::Reading::parse_delivery))]
 fn parse_delivery(words: &[u8]) -> Option<Request>
-    ensures { result ≡ delivery_of words.now }
+    ensures { result ≡ parse_delivery words.now }
 {
     let (q, words) = split_at_byte(words, b' ')?;
     let (source, ssn) = split_at_byte(words, b' ')?;
@@ -50,9 +50,9 @@ fn parse_command(name: &[u8], words: &[u8]) -> Option<Request>
 }
 
 /// Parses a line after the first.
-#[tactic(auto, unfolding(crate::specs::Inside::Reading::request_of))]
+#[tactic(auto, unfolding(crate::specs::Inside::Reading::parse_request))]
 pub(crate) fn parse_request(line: &[u8]) -> Option<Request>
-    ensures { result ≡ request_of line.now }
+    ensures { result ≡ parse_request line.now }
 {
     let (name, words) = split_at_byte(line, b' ')?;
     parse_command(name, words)

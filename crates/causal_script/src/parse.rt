@@ -1,6 +1,6 @@
 //! Parsing of a script.
 ghost use Rattle.std.specs.Prelude.{◌≡◌, ◌≢◌, ◌<◌, ◌≤◌, ℕ, List, [], ◌∷◌, length, IfOk, IfErr, IfSome, MatchOption};
-ghost use Rattle.causal_script.specs.Lines.{lines, count_line_feeds};
+ghost use Rattle.causal_script.specs.Lines.{script_lines, count_line_feeds};
 ghost use Rattle.causal_script.specs.Spelling.{Spells, IsScriptContent, script_content};
 ghost use Rattle.causal_script.specs.Faults.{IsFirstFault, IsReadUpTo};
 ghost use Rattle.causal_script.specs.Inside.Place.{IsBigLine, IsAfter, AreCommands, AreOnLines, line_or_fault};
@@ -17,7 +17,7 @@ const MAX_SCRIPT: usize = 1_048_576;
 /// Returns the first line, without its line feed, and the bytes after it; None if the text is empty.
 fn split_line(text: &[u8]) -> Option<(&[u8], &[u8])>
     ensures parts { MatchOption result (text.now ≡ [])
-        (λ parts. lines text.now ≡ parts.0.now ∷ lines parts.1.now) }
+        (λ parts. script_lines text.now ≡ parts.0.now ∷ script_lines parts.1.now) }
     ensures shorter { IfSome result (λ parts. length parts.1.now < length text.now) }
 {
     if text.is_empty() {

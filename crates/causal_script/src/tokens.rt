@@ -1,6 +1,6 @@
 //! Splitting of a line, and parsing of its numbers.
 ghost use Rattle.std.specs.Prelude.{◌≡◌, ◌≤◌, IfSome, option_map};
-ghost use Rattle.causal_script.specs.Inside.Reading.{split_at_byte, number_of, process_of, count_of};
+ghost use Rattle.causal_script.specs.Inside.Reading.{split_at_byte, parse_number, parse_process, parse_count};
 
 use causal_name::Pid;
 use std::str;
@@ -16,9 +16,9 @@ pub(crate) fn split_at_byte(text: &[u8], byte: u8) -> Option<(&[u8], &[u8])>
 }
 
 /// Parses a plain decimal number up to a limit.
-#[tactic(auto, unfolding(crate::specs::Inside::Reading::number_of))]
+#[tactic(auto, unfolding(crate::specs::Inside::Reading::parse_number))]
 pub(crate) fn parse_number(word: &[u8], limit: u32) -> Option<u32>
-    ensures value { result ≡ number_of limit word.now }
+    ensures value { result ≡ parse_number limit word.now }
     ensures bound { IfSome result (λ n. n ≤ limit) }
 {
     let first = *word.first()?;
@@ -36,17 +36,17 @@ pub(crate) fn parse_number(word: &[u8], limit: u32) -> Option<u32>
 }
 
 /// Parses the number of a process.
-#[tactic(auto, unfolding(crate::specs::Inside::Reading::process_of))]
+#[tactic(auto, unfolding(crate::specs::Inside::Reading::parse_process))]
 pub(crate) fn parse_process(word: &[u8]) -> Option<Pid>
-    ensures { result ≡ process_of word.now }
+    ensures { result ≡ parse_process word.now }
 {
     Some(Pid(parse_number(word, 255)? as u8))
 }
 
 /// Parses a process count, 1 to 256.
-#[tactic(auto, unfolding(crate::specs::Inside::Reading::count_of))]
+#[tactic(auto, unfolding(crate::specs::Inside::Reading::parse_count))]
 pub(crate) fn parse_process_count(word: &[u8]) -> Option<u16>
-    ensures { result ≡ count_of word.now }
+    ensures { result ≡ parse_count word.now }
 {
     let n = parse_number(word, 256)?;
     if n > 0 { Some(n as u16) } else { None }

@@ -17,7 +17,7 @@ use Rattle.causal_shared.specs.declared.fault.LockedFault.{LockedFault}
 use Rattle.causal_shared.specs.declared.fault.LockedFault.TheVariants as Fault
 use Rattle.causal_shared.specs.declared.refused.LockedRefused.{LockedRefused}
 use Rattle.causal_protocol.specs.Run.{Run}
-use Rattle.causal_shared.specs.History.{run_length, count_at, LockedState, HasDeliveryOf, item_of, with_record}
+use Rattle.causal_shared.specs.History.{run_length, item_count, LockedState, HasDeliveryOf, history_item, with_record}
 use Rattle.causal_shared.specs.LockInvariant.{LockInvariant}
 use Rattle.causal_shared.specs.Inside.ItemAppends.{PreservesInvariant}
 use Rattle.causal_shared.specs.Locked.{item_reply as item_told, restart_item_reply as again, ItemCall}
@@ -60,13 +60,13 @@ tells_restart (Err e) told is = rw is refl
 -- a protocol step whose item is appended with the step's reply is an item call
 pub is_recorded : (old new : LockedState) (seat call first : ℕ) (items : List Item) (count : ℕ) (request : Request) (reply says : Reply) (tells : Option Reply)
     → tells ≡ Some says → reply ≡ says → Steps old.run request says new.run → first ≡ run_length old.run → items ≡ old.history
-    → new.history ≡ items ++ item_of seat call request reply first ∷ []
-    → new.seats ≡ with_record old.seats (item_of seat call request reply first) (run_length new.run) count
+    → new.history ≡ items ++ history_item seat call request reply first ∷ []
+    → new.seats ≡ with_record old.seats (history_item seat call request reply first) (run_length new.run) count
     → count ≡ length items → ItemCall old new seat call request tells
 is_recorded old new seat call first items count request reply says tells tell replies step at same history seats counted = grind arith
 
 -- appending the item of a step preserves the lock's invariant
 pub keeps_on : (old new : Run) (item : Item) (says : Reply) (before items items' : List Item) (seats seats' : List SeatRecord)
     → PreservesInvariant new item items seats items' seats' → items ≡ before → LockInvariant old before seats → item.reply ≡ says → Steps old item.request says new
-    → item.first ≡ run_length old → item.call ≡ count_at seats item.seat → HasDeliveryOf new.recording.past item → LockInvariant new items' seats'
+    → item.first ≡ run_length old → item.call ≡ item_count seats item.seat → HasDeliveryOf new.recording.past item → LockInvariant new items' seats'
 keeps_on old new item says before items items' seats seats' on same keeps replies step at is_call shows = on old (rw same keeps) (rw replies step) at is_call shows

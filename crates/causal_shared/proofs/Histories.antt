@@ -11,7 +11,7 @@ use Rattle.causal_protocol.specs.Steps.{Steps}
 use Rattle.causal_shared.specs.declared.item.Item.{Item}
 use Rattle.causal_shared.specs.declared.item.SeatRecord.{SeatRecord}
 use Rattle.causal_shared.specs.Limits.{max_items}
-use Rattle.causal_shared.specs.History.{run_length, IsCallStep, next_first, AllLegal, items_of, last_of, IsHistory, HasDeliveryOf, record_after, count_at, new_record, LockedState, Holds, UpdatesSeen}
+use Rattle.causal_shared.specs.History.{run_length, IsCallStep, next_first, AllLegal, items_of, last_item, IsHistory, HasDeliveryOf, record_after, item_count, new_record, LockedState, Holds, UpdatesSeen}
 use Rattle.causal_shared.specs.LockInvariant.{item_at, FitsHistory, AllRecordsFit, LockInvariant}
 use Rattle.causal_core.proofs.Lemmas.Slices.{slice_get-set_same, slice_get-set_other}
 use Rattle.causal_shared.proofs.Lists.{slice_get-append, slice_get-append_seam, slice_get-snoc, slice_get-last}
@@ -66,15 +66,15 @@ IsHistory-snoc run new items item history step at call = record {
 }
 
 -- a seat's record contains the number of its items
-pub count_at-is : (run : Run) (items : List Item) (seats : List SeatRecord) (seat : ℕ) → AllRecordsFit run items seats → seat < length seats → count_at seats seat ≡ length (items_of seat items)
-count_at-is run items seats seat kept inside = by_get (slice_get seats seat) refl
+pub item_count-is : (run : Run) (items : List Item) (seats : List SeatRecord) (seat : ℕ) → AllRecordsFit run items seats → seat < length seats → item_count seats seat ≡ length (items_of seat items)
+item_count-is run items seats seat kept inside = by_get (slice_get seats seat) refl
   where
-    by_get : (o : Option SeatRecord) → slice_get seats seat ≡ o → count_at seats seat ≡ length (items_of seat items)
+    by_get : (o : Option SeatRecord) → slice_get seats seat ≡ o → item_count seats seat ≡ length (items_of seat items)
     by_get None is = absurd (grind (arith, slice_get_cases seats seat))
     by_get (Some k) is = ap (λ (o : Option SeatRecord). unwrap_or (option_map (λ (k : SeatRecord). k.count) o) 0) is ∙ (kept seat k is).count
 
-pub count_at-le : (run : Run) (items : List Item) (seats : List SeatRecord) (seat : ℕ) → AllRecordsFit run items seats → seat < length seats → count_at seats seat ≤ length items
-count_at-le run items seats seat kept inside = grind (arith, count_at-is run items seats seat kept inside, length-filter, count_by-le-length)
+pub item_count-le : (run : Run) (items : List Item) (seats : List SeatRecord) (seat : ℕ) → AllRecordsFit run items seats → seat < length seats → item_count seats seat ≤ length items
+item_count-le run items seats seat kept inside = grind (arith, item_count-is run items seats seat kept inside, length-filter, count_by-le-length)
 
 -- the record of another seat fits the longer history
 FitsHistory-snoc_other : (run new : Run) (items : List Item) (item : Item) (seat : ℕ) (kept : SeatRecord) → item.seat ≢ seat → run_length run ≤ run_length new → FitsHistory run items seat kept → FitsHistory new (items ++ item ∷ []) seat kept
@@ -126,11 +126,11 @@ Shows-step old new request reply item step was d told = grind (arith, det_at-pus
 
 -- an item that records the step to the new run preserves the lock's invariant
 pub Keeps-note : (old new : Run) (items : List Item) (seats : List SeatRecord) (item : Item) (place seen : ℕ) (items' : List Item) (seats' : List SeatRecord)
-    → LockInvariant old items seats → Steps old item.request item.reply new → item.seat < length seats → item.first ≡ run_length old → item.call ≡ count_at seats item.seat
+    → LockInvariant old items seats → Steps old item.request item.reply new → item.seat < length seats → item.first ≡ run_length old → item.call ≡ item_count seats item.seat
     → place ≡ length items → seen ≡ run_length new → items' ≡ items ++ item ∷ [] → seats' ≡ slice_set seats item.seat (record_after item seen place)
     → HasDeliveryOf new.recording.past item → LockInvariant new items' seats'
 Keeps-note old new items seats item place seen items' seats' keeps step inside first is_call at sees items_are seats_are shows =
-    let counted : item.call ≡ length (items_of item.seat items) = is_call ∙ count_at-is old items seats item.seat keeps.kept inside in
+    let counted : item.call ≡ length (items_of item.seat items) = is_call ∙ item_count-is old items seats item.seat keeps.kept inside in
     rw (items_are, seats_are, sees) record {
       legal = IsHistory-snoc old new items item keeps.legal step first counted;
       kept = AllKept-snoc old new items seats item place keeps.kept (Longer-step old new item.request item.reply step).later at inside counted;
@@ -141,8 +141,8 @@ Keeps-note old new items seats item place seen items' seats' keeps step inside f
     }
 
 -- each call's number is below the maximum number of items
-pub count_below : (r : Run) (items : List Item) (seats : List SeatRecord) (seat call : ℕ) → LockInvariant r items seats → seat < length seats → call ≡ count_at seats seat → length items < max_items → call < max_items
-count_below r items seats seat call keeps inside is room = let few = count_at-le r items seats seat keeps.kept inside in omega (arith, few, is, room)
+pub count_below : (r : Run) (items : List Item) (seats : List SeatRecord) (seat call : ℕ) → LockInvariant r items seats → seat < length seats → call ≡ item_count seats seat → length items < max_items → call < max_items
+count_below r items seats seat call keeps inside is room = let few = item_count-le r items seats seat keeps.kept inside in omega (arith, few, is, room)
 
 slice_get-replicate : (k seat : ℕ) (x kept : SeatRecord) → slice_get (replicate k x) seat ≡ Some kept → x ≡ kept
 slice_get-replicate zero seat x kept is = absurd cc
@@ -157,7 +157,7 @@ Keeps-new r k seen items seats none seats_are sees = grind (arith, slice_get-rep
 pub Holds-is : (held : LockedState) (seat count seen : ℕ) (kept : SeatRecord) (mine last : Option Item) → AllRecordsFit held.run held.history held.seats → slice_get held.seats seat ≡ Some kept → kept.count ≡ count → kept.seen ≡ seen → mine ≡ item_at held.history kept.last
     → (mine ≡ last → Holds held seat count seen last) × (Holds held seat count seen last → mine ≡ last)
 Holds-is held seat count seen kept mine last all is counts sees mine_is =
-    let ends : mine ≡ last_of (items_of seat held.history) = mine_is ∙ (all seat kept is).last in (
+    let ends : mine ≡ last_item (items_of seat held.history) = mine_is ∙ (all seat kept is).last in (
       λ same. record { kept = (kept, is, counts, sees); ends = sym same ∙ ends },
       λ holds. ends ∙ sym holds.ends,
     )

@@ -8,7 +8,7 @@ use Rattle.causal_protocol.specs.declared.request.Reply.{Reply}
 use Rattle.causal_shared.specs.declared.item.Item.{Item}
 use Rattle.causal_shared.specs.Limits.{max_items}
 use Rattle.causal_trace.specs.declared.entry.Entry.{Entry}
-use Rattle.causal_shared.specs.History.{run_length, HasDeliveryOf, LockedState, Holds, count_at}
+use Rattle.causal_shared.specs.History.{run_length, HasDeliveryOf, LockedState, Holds, item_count}
 use Rattle.causal_shared.specs.LockInvariant.{item_at, LockInvariant}
 use Rattle.causal_protocol.specs.declared.request.Restarted.{Restarted}
 use Rattle.causal_shared.specs.declared.refused.LockedRefused.{LockedRefused}
@@ -26,8 +26,8 @@ use Rattle.causal_protocol.proofs.Lemmas.StepAppends.{replies_tell_entries}
 
 -- a seat that can call satisfies the precondition of the locked value's calls
 pub called : (held : LockedState) (seat : SeatMemory) (first number count : ℕ) → CanCall held seat first → number ≡ seat.view.number → count ≡ length seat.view.items
-    → (number < length held.seats) × (count ≡ count_at held.seats number) × (length held.history < max_items)
-called held seat first number count may own counted = (subst (λ n. n < length held.seats) (sym own) may.inside, counted ∙ may.counted ∙ ap (count_at held.seats) (sym own), may.room)
+    → (number < length held.seats) × (count ≡ item_count held.seats number) × (length held.history < max_items)
+called held seat first number count may own counted = (subst (λ n. n < length held.seats) (sym own) may.inside, counted ∙ may.counted ∙ ap (item_count held.seats) (sym own), may.room)
 
 -- a matching seat's `seen` count is at most the run's length
 pub Holds-seen : (held : LockedState) (seat count seen : ℕ) (last : Option Item) → LockInvariant held.run held.history held.seats → Holds held seat count seen last → seen ≤ run_length held.run
@@ -47,7 +47,7 @@ Holds-count held seat count seen last keeps holds =
 Holds-inside : (held : LockedState) (seat count seen : ℕ) (last : Option Item) → Holds held seat count seen last → seat < length held.seats
 Holds-inside held seat count seen last holds = let is = holds.kept.1 in grind (arith, is, slice_get_cases held.seats seat)
 
-Holds-counted : (held : LockedState) (seat count seen : ℕ) (last : Option Item) → Holds held seat count seen last → count ≡ count_at held.seats seat
+Holds-counted : (held : LockedState) (seat count seen : ℕ) (last : Option Item) → Holds held seat count seen last → count ≡ item_count held.seats seat
 Holds-counted held seat count seen last holds = grind arith
 
 -- the trace contains the delivery of a matching seat's last item

@@ -12,14 +12,14 @@ abbrev pub IsOwnOf : ℕ → ℕ → SeatMemory → Type 0
 IsOwnOf tag k seat = (seat.view.tag ≡ tag) × (seat.view.number < k)
 
 -- the list contains each seat of the runtime exactly once
-pub record IsComplete (tag k : ℕ) (seats : List SeatMemory) : Type 0 where
+pub record AreAllSeats (tag k : ℕ) (seats : List SeatMemory) : Type 0 where
   pub count : length seats ≡ k
   pub own : All (IsOwnOf tag k) seats
   pub once : AllPairs (λ (a : SeatMemory) (b : SeatMemory). a.view.number ≢ b.view.number) seats
 
 -- the list contains each seat of this shared runtime exactly once
 abbrev pub AreSeatsOf : {S B : Type 0} {Has : _} → Shared S B Has → List SeatMemory → Type 0
-AreSeatsOf shared seats = IsComplete (tag_of shared) (seats_of_shared shared) seats
+AreSeatsOf shared seats = AreAllSeats (tag_of shared) (seats_of_shared shared) seats
 
 -- the seat's own list equals the history's items of that seat
 abbrev pub HasSeatHistory : List Item → SeatMemory → Type 0

@@ -62,8 +62,8 @@ abbrev pub items_of : ℕ → List Item → List Item
 items_of seat items = filter (λ item. item.seat == seat) items
 
 -- the last item, if any
-abbrev pub last_of : List Item → Option Item
-last_of items = slice_get items (length items - 1)
+abbrev pub last_item : List Item → Option Item
+last_item items = slice_get items (length items - 1)
 
 -- the history is legal over the run, and each seat's calls are numbered from 0
 pub record IsHistory (r : Run) (items : List Item) : Type 0 where
@@ -83,8 +83,8 @@ abbrev pub with_record : List SeatRecord → Item → ℕ → ℕ → List SeatR
 with_record seats item seen place = slice_set seats item.seat (record_after item seen place)
 
 -- a history item from its fields
-abbrev pub item_of : ℕ → ℕ → Request → Reply → ℕ → Item
-item_of seat call request reply first =
+abbrev pub history_item : ℕ → ℕ → Request → Reply → ℕ → Item
+history_item seat call request reply first =
     record { seat = seat; call = call; request = request; reply = reply; first = first }
 
 -- the plain data under the lock
@@ -96,10 +96,10 @@ pub record LockedState : Type 0 where
 -- one item call: the core's step, the appended item, and the seat's new record
 pub record AddsItem (old new : LockedState) (seat call : ℕ) (request : Request) (reply : Reply) : Type 0 where
   pub step : Steps old.run request reply new.run
-  pub history : new.history ≡ old.history ++ item_of seat call request reply (run_length old.run) ∷ []
+  pub history : new.history ≡ old.history ++ history_item seat call request reply (run_length old.run) ∷ []
   pub seats :
       new.seats
-      ≡ with_record old.seats (item_of seat call request reply (run_length old.run)) (run_length new.run) (length old.history)
+      ≡ with_record old.seats (history_item seat call request reply (run_length old.run)) (run_length new.run) (length old.history)
 
 -- the record of a seat without items
 abbrev pub new_record : ℕ → SeatRecord
@@ -108,11 +108,11 @@ new_record seen = record { count = 0; seen = seen; last = None }
 -- the seat's record and its last item in the history equal these values
 pub record Holds (held : LockedState) (seat count seen : ℕ) (last : Option Item) : Type 0 where
   pub kept : (k : SeatRecord) × (slice_get held.seats seat ≡ Some k) × (k.count ≡ count) × (k.seen ≡ seen)
-  pub ends : last ≡ last_of (items_of seat held.history)
+  pub ends : last ≡ last_item (items_of seat held.history)
 
 -- the number of items in a seat's record, or 0 if there is no such seat
-abbrev pub count_at : List SeatRecord → ℕ → ℕ
-count_at seats seat = unwrap_or (option_map (λ (kept : SeatRecord). kept.count) (slice_get seats seat)) 0
+abbrev pub item_count : List SeatRecord → ℕ → ℕ
+item_count seats seat = unwrap_or (option_map (λ (kept : SeatRecord). kept.count) (slice_get seats seat)) 0
 
 -- only this seat's `seen` count changes; it becomes the run's length
 pub record UpdatesSeen (old new : LockedState) (seat : ℕ) : Type 0 where

@@ -3,7 +3,7 @@ use Rattle.std.specs.Prelude.{◌≡◌, ℕ, ◌≤◌, ◌<◌, List, length, 
 use Rattle.causal_protocol.specs.Run.{Run}
 use Rattle.causal_shared.specs.declared.item.Item.{Item}
 use Rattle.causal_shared.specs.declared.item.SeatRecord.{SeatRecord}
-use Rattle.causal_shared.specs.History.{run_length, items_of, last_of, IsHistory, HasDeliveryOf}
+use Rattle.causal_shared.specs.History.{run_length, items_of, last_item, IsHistory, HasDeliveryOf}
 
 -- the item at the index, if there is one
 abbrev pub item_at : List Item → Option ℕ → Option Item
@@ -15,7 +15,7 @@ pub record FitsHistory (r : Run) (items : List Item) (seat : ℕ) (kept : SeatRe
   pub count : kept.count ≡ length (items_of seat items)
   pub seen : kept.seen ≤ run_length r
   pub placed : IfSome kept.last (λ place. place < length items)
-  pub last : item_at items kept.last ≡ last_of (items_of seat items)
+  pub last : item_at items kept.last ≡ last_item (items_of seat items)
 
 -- each seat's record fits the history
 abbrev pub AllRecordsFit : Run → List Item → List SeatRecord → Type 0

@@ -14,7 +14,7 @@ use Rattle.causal_shared.specs.declared.locked.Locked.{Locked}
 use Rattle.causal_shared.specs.declared.refused.LockedRefused.{LockedRefused}
 use Rattle.causal_shared.specs.declared.fault.LockedFault.{LockedFault}
 use Rattle.causal_shared.specs.declared.fault.LockedFault.TheVariants.{NoRecord, Core, Flush}
-use Rattle.causal_shared.specs.History.{run_length, count_at, new_record, LockedState, AddsItem}
+use Rattle.causal_shared.specs.History.{run_length, item_count, new_record, LockedState, AddsItem}
 use Rattle.causal_shared.specs.Limits.{max_items}
 use Rattle.causal_shared.specs.declared.item.Snapshot.{Snapshot}
 
@@ -24,7 +24,7 @@ locked_state l = record { run = core_run l.core; history = l.history.items; seat
 
 -- `call` is the number of the seat's next call, and the history is not full
 abbrev pub IsNextCall : LockedState → ℕ → ℕ → Type 0
-IsNextCall held seat call = (seat < length held.seats) × (call ≡ count_at held.seats seat) × (length held.history < max_items)
+IsNextCall held seat call = (seat < length held.seats) × (call ≡ item_count held.seats seat) × (length held.history < max_items)
 
 -- the state of its core: the run, the bodies of the kept messages, and the boxes
 abbrev pub core_state_of : {S B : Type 0} {Has : _} → Locked S B Has → CoreState B

@@ -12,7 +12,7 @@ use Rattle.causal_shared.specs.declared.fault.SharedFault.{SharedFault}
 use Rattle.causal_shared.specs.declared.fault.SharedFault.TheVariants.{WrongSeat, Core, Flush, NoRecord}
 use Rattle.causal_shared.specs.declared.fault.LockedFault.{LockedFault}
 use Rattle.causal_shared.specs.declared.fault.LockedFault.TheVariants as Refusal
-use Rattle.causal_shared.specs.History.{item_of, last_of, HasDeliveryOf}
+use Rattle.causal_shared.specs.History.{history_item, last_item, HasDeliveryOf}
 use Rattle.causal_protocol.specs.ReplyEntries.{reply_entries}
 use Rattle.causal_shared.specs.Locked.{item_reply_by}
 
@@ -41,7 +41,7 @@ AreNewSeats tag seen k seats =
 
 -- the seat's next item
 abbrev pub next_item : SeatView → Request → Reply → ℕ → Item
-next_item seat request reply first = item_of seat.number (length seat.items) request reply first
+next_item seat request reply first = history_item seat.number (length seat.items) request reply first
 
 -- the view after the next item, with this `seen` count
 abbrev pub with_item : SeatView → Request → Reply → ℕ → ℕ → SeatView
@@ -92,4 +92,4 @@ shared_fault_of Refusal.NoRecord = NoRecord
 pub record SnapshotSeen (old new : SeatView) (past : List Entry) : Type 0 where
   pub later : old.seen ≤ length past
   pub change : new ≡ record old { seen = length past }
-  pub shows : (item : Item) → last_of old.items ≡ Some item → HasDeliveryOf past item
+  pub shows : (item : Item) → last_item old.items ≡ Some item → HasDeliveryOf past item

@@ -2,7 +2,7 @@
 ghost use Rattle.std.specs.Prelude.{◌≡◌, ◌≢◌, ◌<◌, ◌↔◌, All, AllPairs, Any, IsTrue, IfSome, IfNone};
 ghost use Rattle.causal_shared.specs.History.{items_of, AllLegal};
 ghost use Rattle.causal_core.specs.CoreView.{core_run};
-ghost use Rattle.causal_shared.specs.Finish.{HasSeatHistory, IsComplete, IsOwnOf, HasSeat, AllHaveSeats};
+ghost use Rattle.causal_shared.specs.Finish.{HasSeatHistory, AreAllSeats, IsOwnOf, HasSeat, AllHaveSeats};
 ghost use Rattle.causal_shared.specs.Inside.FinishChecks.{IsLeastMismatch};
 ghost use Rattle.causal_shared.specs.Inside.FinishChecks.{HasOpening, entries_before};
 
@@ -90,7 +90,7 @@ pub(crate) fn first_mismatch(history: &[Item], seats: &[Seat]) -> Option<u32>
 
 /// Returns whether the list contains each of the runtime's k seats exactly once.
 pub(crate) fn is_complete(seats: &[Seat], tag: u64, k: u32) -> bool
-    ensures { IsTrue result ↔ IsComplete tag k seats.now }
+    ensures { IsTrue result ↔ AreAllSeats tag k seats.now }
 {
     if seats.len() != k as usize {
         return false;

@@ -3,7 +3,7 @@ ghost use Rattle.std.specs.Prelude.{◌≡◌, ◌+◌, ◌<◌, ◌≤◌, ◌�
 ghost use Rattle.std.specs.Prelude.{vec_len, vec_capacity, IfOk, IfErr, OnOk, OnErr, IsTrue, None};
 ghost use Rattle.std.specs.Option.{option_copied};
 ghost use Rattle.causal_core.specs.CoreView.{core_run};
-ghost use Rattle.causal_shared.specs.History.{IsHistory, Holds, UpdatesSeen, new_record, run_length, item_of, with_record};
+ghost use Rattle.causal_shared.specs.History.{IsHistory, Holds, UpdatesSeen, new_record, run_length, history_item, with_record};
 ghost use Rattle.causal_shared.specs.LockInvariant.{LockInvariant, item_at};
 ghost use Rattle.causal_shared.specs.Inside.ItemAppends.{PreservesInvariant};
 ghost use Rattle.causal_shared.specs.Limits.{max_items, max_seats};
@@ -95,14 +95,14 @@ fn append_item<S: Stable>(
     requires place { vec_len history.old < max_items }
     requires room { vec_len history.old < vec_capacity history.old }
     ensures history { history.new.items
-        ≡ history.old.items ++ item_of turn.seat turn.call told.0 told.1 turn.first ∷ [] }
+        ≡ history.old.items ++ history_item turn.seat turn.call told.0 told.1 turn.first ∷ [] }
     ensures len { vec_len history.new ≡ vec_len history.old + 1 }
     ensures seats { seats.new.items
-        ≡ with_record seats.old.items (item_of turn.seat turn.call told.0 told.1 turn.first)
+        ≡ with_record seats.old.items (history_item turn.seat turn.call told.0 told.1 turn.first)
         (run_length (core_run core.now)) (vec_len history.old) }
     ensures same { vec_len seats.new ≡ vec_len seats.old }
     ensures is_consistent { PreservesInvariant (core_run core.now)
-        (item_of turn.seat turn.call told.0 told.1 turn.first)
+        (history_item turn.seat turn.call told.0 told.1 turn.first)
         history.old.items seats.old.items history.new.items seats.new.items }
 {
     let place = history.len() as u32;

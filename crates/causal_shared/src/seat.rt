@@ -60,7 +60,7 @@ impl Model for Seat {
 }
 
 impl Seat {
-    ghost use Rattle.causal_shared.specs.History.{last_of};
+    ghost use Rattle.causal_shared.specs.History.{last_item};
     ghost use Rattle.causal_shared.specs.Seat.{new_seat_view};
 
     pub(crate) fn new(alloc: Global, number: u32, tag: u64, seen: u32) -> Seat
@@ -101,7 +101,7 @@ impl Seat {
 
     /// Its last item.
     pub fn last(&self) -> Option<&Item>
-        ensures { option_copied result ≡ last_of self.now.view.items }
+        ensures { option_copied result ≡ last_item self.now.view.items }
     {
         self.items.as_slice().last()
     }

@@ -8,7 +8,7 @@ ghost use Rattle.causal_protocol.specs.declared.request.Reply.TheVariants as Rep
 ghost use Rattle.causal_shared.specs.History.{run_length, IsHistory};
 ghost use Rattle.causal_shared.specs.Limits.{max_seats};
 ghost use Rattle.causal_shared.specs.Locked.{locked_state, new_locked_state, AnswersAs, IsSafeSnapshot};
-ghost use Rattle.causal_shared.specs.Finish.{HasSeatHistory, IsComplete, IsNoneOrSeat, AllHaveSeats, AreSeatsOf};
+ghost use Rattle.causal_shared.specs.Finish.{HasSeatHistory, AreAllSeats, IsNoneOrSeat, AllHaveSeats, AreSeatsOf};
 ghost use Rattle.causal_shared.specs.Inside.FinishChecks.{IsMismatch, HasOpening};
 ghost use Rattle.causal_shared.specs.Finish.{items_together, before_items};
 ghost use Rattle.causal_shared.specs.Inside.FinishChecks.{HasOtherOpening, CanFinish};
@@ -301,7 +301,7 @@ fn finish_fault<S: Stable>(
 ) -> Option<FinishFault>
     ensures settled { IfNone result
         (CanFinish (locked_state locked.now) tag k seats.now opening.now.recording faults) }
-    ensures missing { result ≡ Some FinishFault.Missing ↔ ¬ IsComplete tag k seats.now }
+    ensures missing { result ≡ Some FinishFault.Missing ↔ ¬ AreAllSeats tag k seats.now }
     ensures mismatch { (n : ℕ) → result ≡ Some (FinishFault.Mismatch n)
         → IsMismatch (locked_state locked.now).history seats.now n }
     ensures opened { result ≡ Some FinishFault.Opening
@@ -342,7 +342,7 @@ pub(crate) fn finish_core<S: Stable>(
     ensures seats { IfOk result (λ f. All (HasSeatHistory f.history) seats.now) }
     ensures others { IfOk result (λ f. AllHaveSeats seats.now f.history) }
     ensures total { IfOk result (λ f. length f.history ≡ items_together seats.now) }
-    ensures missing { result ≡ Err FinishFault.Missing ↔ ¬ IsComplete tag k seats.now }
+    ensures missing { result ≡ Err FinishFault.Missing ↔ ¬ AreAllSeats tag k seats.now }
     ensures mismatch { (n : ℕ) → result ≡ Err (FinishFault.Mismatch n)
         → IsMismatch (locked_state locked).history seats.now n }
     ensures opened { result ≡ Err FinishFault.Opening

@@ -4,7 +4,7 @@ use std::alloc::Global;
 
 /// What a process has delivered.
 #[derive(Clone, Copy)]
-struct Kept {
+struct KeptBodies {
     name: MsgName,
     value: u64,
 }
@@ -12,7 +12,7 @@ struct Kept {
 /// What each process has delivered in its present lane.
 #[derive(Drop)]
 pub struct Books {
-    kept: Vec<Vec<Kept>>,
+    kept: Vec<Vec<KeptBodies>>,
 }
 
 impl Books {
@@ -35,7 +35,7 @@ impl Books {
     /// A process has delivered a message.
     pub fn add(&mut self, me: u8, name: MsgName, value: u64) -> Result<(), NoMemory> {
         if let Some(book) = self.kept.get_mut(usize::from(me)) {
-            book.push(Kept { name, value })?;
+            book.push(KeptBodies { name, value })?;
         }
         Ok(())
     }
@@ -52,7 +52,7 @@ impl Books {
 }
 
 /// Returns whether one process has delivered a message of this name only if it is this one, and for that process.
-fn is_permitted(book: &[Kept], is_dest: bool, name: MsgName, value: u64) -> bool {
+fn is_permitted(book: &[KeptBodies], is_dest: bool, name: MsgName, value: u64) -> bool {
     for kept in book {
         if kept.name == name && !(is_dest && kept.value == value) {
             return false;

@@ -3,23 +3,25 @@ use crate::settings::{Rule, Settings};
 use crate::stop::{Stop, Wrong};
 use causal_endpoint::fault::EndpointFault;
 use causal_name::NoMemory;
-use causal_wire::{Content, Parcel, ReadFault, Run, read, write, write_message};
+use causal_wire::{Content, Parcel, ParcelFault, RunId, read, write, write_message};
 use std::alloc::Global;
 
 /// Where a parcel has its clock.
 const CLOCK: usize = 20;
 
 /// Returns the parcel of these bytes.
-fn parcel_of(alloc: Global, run: Run, bytes: &[u8]) -> Result<Parcel, Stop> {
+fn parcel_of(alloc: Global, run: RunId, bytes: &[u8]) -> Result<Parcel, Stop> {
     match read(alloc, run, bytes) {
         Ok(parcel) => Ok(parcel),
-        Err(ReadFault::NoMemory) => Err(Stop::NoMemory),
-        Err(ReadFault::Wire(fault)) => Err(Stop::Wrong(Wrong::Refused(EndpointFault::Wire(fault)))),
+        Err(ParcelFault::NoMemory) => Err(Stop::NoMemory),
+        Err(ParcelFault::Wire(fault)) => Err(Stop::Wrong(Wrong::Refused(EndpointFault::Wire(
+            fault,
+        )))),
     }
 }
 
 /// Returns the bytes of a message that carries nothing; `None` if the parcel is not a message.
-fn without_items(alloc: Global, run: Run, parcel: &Parcel) -> Result<Option<Vec<u8>>, NoMemory> {
+fn without_items(alloc: Global, run: RunId, parcel: &Parcel) -> Result<Option<Vec<u8>>, NoMemory> {
     let Content::Message { ssn, body, .. } = &parcel.content else {
         return Ok(None);
     };
@@ -31,7 +33,7 @@ fn without_items(alloc: Global, run: Run, parcel: &Parcel) -> Result<Option<Vec<
 }
 
 /// Returns the bytes of an empty log; `None` if the parcel is not a log.
-fn without_log(alloc: Global, run: Run, parcel: &Parcel) -> Result<Option<Vec<u8>>, NoMemory> {
+fn without_log(alloc: Global, run: RunId, parcel: &Parcel) -> Result<Option<Vec<u8>>, NoMemory> {
     let Content::Answer { round, .. } = &parcel.content else {
         return Ok(None);
     };
@@ -51,7 +53,7 @@ fn without_log(alloc: Global, run: Run, parcel: &Parcel) -> Result<Option<Vec<u8
 }
 
 /// Returns the bytes of a question whose view has an earlier lane of the asker; `None` if the parcel is not a question.
-fn without_floor(alloc: Global, run: Run, parcel: &Parcel) -> Result<Option<Vec<u8>>, NoMemory> {
+fn without_floor(alloc: Global, run: RunId, parcel: &Parcel) -> Result<Option<Vec<u8>>, NoMemory> {
     let Content::Question { round, view } = &parcel.content else {
         return Ok(None);
     };

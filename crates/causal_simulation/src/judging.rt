@@ -23,7 +23,7 @@ fn judge_trace(alloc: Global, trace: &Trace, faults: u8) -> Result<Option<Wrong>
 }
 
 /// Returns what is wrong with recordings that have so many events.
-pub fn judge(
+pub fn judge_recordings(
     alloc: Global,
     text: &[u8],
     events: u32,

@@ -1,9 +1,9 @@
 //! A process: its endpoint while it runs, and what its embedder knows.
-use crate::network::End;
+use crate::network::ProcessEnd;
 use crate::random::mix;
 use crate::settings::{RUN, Rule};
 use crate::stop::Stop;
-use crate::world::World;
+use crate::world::SimulatedWorld;
 use causal_endpoint::endpoint::Endpoint;
 use causal_endpoint::lines::{crash_line, header_line, send_line};
 use causal_name::{MsgName, Pid};
@@ -26,7 +26,7 @@ pub struct Life {
 
 /// A process of a run.
 #[derive(Drop)]
-pub struct Process {
+pub struct SimulatedProcess {
     /// While it runs.
     pub endpoint: Option<Endpoint>,
     pub life: Life,
@@ -37,14 +37,19 @@ const ENOUGH: u32 = 9;
 
 impl Life {
     /// Writes the line of an event with this clock.
-    pub fn record(&mut self, world: &mut World, clock: u64, line: &[u8]) -> Result<(), Stop> {
+    pub fn record(
+        &mut self,
+        world: &mut SimulatedWorld,
+        clock: u64,
+        line: &[u8],
+    ) -> Result<(), Stop> {
         world.recording.write(line)?;
         self.clock = self.clock.max(clock);
         Ok(())
     }
 
     /// Returns the process that is so many after this one.
-    fn other(&self, world: &World, by: u64) -> u8 {
+    fn other(&self, world: &SimulatedWorld, by: u64) -> u8 {
         let n = u64::from(world.settings.processes).max(2);
         let step = (by % (n - 1)).saturating_add(1);
         let to = u64::from(self.me).wrapping_add(step) % n;
@@ -55,7 +60,7 @@ impl Life {
     fn send(
         &mut self,
         endpoint: &mut Endpoint,
-        world: &mut World,
+        world: &mut SimulatedWorld,
         to: u8,
         value: u64,
     ) -> Result<(), Stop> {
@@ -78,7 +83,7 @@ impl Life {
     fn send_some(
         &mut self,
         endpoint: &mut Endpoint,
-        world: &mut World,
+        world: &mut SimulatedWorld,
         count: u64,
     ) -> Result<(), Stop> {
         for i in 0..count {
@@ -90,7 +95,11 @@ impl Life {
     }
 
     /// The application begins.
-    pub fn open(&mut self, endpoint: &mut Endpoint, world: &mut World) -> Result<(), Stop> {
+    pub fn open(
+        &mut self,
+        endpoint: &mut Endpoint,
+        world: &mut SimulatedWorld,
+    ) -> Result<(), Stop> {
         self.value = mix(u64::from(self.me));
         self.received = 0;
         self.send_some(endpoint, world, 2)
@@ -100,7 +109,7 @@ impl Life {
     pub fn act(
         &mut self,
         endpoint: &mut Endpoint,
-        world: &mut World,
+        world: &mut SimulatedWorld,
         source: Pid,
         value: u64,
     ) -> Result<(), Stop> {
@@ -124,10 +133,10 @@ pub fn is_up(endpoint: &Endpoint) -> bool {
     matches!(endpoint.node().restart_fault(), Some(NodeFault::Up))
 }
 
-impl Process {
+impl SimulatedProcess {
     /// Returns a process that has not been started.
-    pub fn new(me: u8) -> Process {
-        Process {
+    pub fn new(me: u8) -> SimulatedProcess {
+        SimulatedProcess {
             endpoint: None,
             life: Life {
                 me,
@@ -149,7 +158,7 @@ impl Process {
     }
 
     /// Returns the lane that begins.
-    fn next_lane(&self, world: &World) -> u32 {
+    fn next_lane(&self, world: &SimulatedWorld) -> u32 {
         if !self.life.is_down {
             return 0;
         }
@@ -162,7 +171,7 @@ impl Process {
     }
 
     /// Starts the process: in its first life it is up, later it has to recover.
-    pub fn start(&mut self, world: &mut World) -> Result<(), Stop> {
+    pub fn start(&mut self, world: &mut SimulatedWorld) -> Result<(), Stop> {
         let Life { me, clock, .. } = self.life;
         let lane = self.next_lane(world);
         let identity = world.settings.identity(me);
@@ -179,7 +188,7 @@ impl Process {
     }
 
     /// Returns the clock with which the crash is written: above that of the recording and of all that have come up.
-    fn crash_clock(&self, world: &World) -> u64 {
+    fn crash_clock(&self, world: &SimulatedWorld) -> u64 {
         let known = if world.settings.breaks(Rule::CrashClock) {
             0
         } else {
@@ -190,7 +199,7 @@ impl Process {
     }
 
     /// The process ends, and who has seen that records it.
-    pub fn crash(&mut self, world: &mut World) -> Result<(), Stop> {
+    pub fn crash(&mut self, world: &mut SimulatedWorld) -> Result<(), Stop> {
         self.endpoint = None;
         let me = self.life.me;
         if !self.life.is_down {
@@ -201,7 +210,7 @@ impl Process {
             world.counts.crashes = world.counts.crashes.saturating_add(1);
         }
         world.books.clear(me);
-        let end = End {
+        let end = ProcessEnd {
             who: me,
             number: self.next_lane(world),
             clock: self.life.clock,

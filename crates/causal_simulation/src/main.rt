@@ -36,11 +36,11 @@ mod storage;
 /// What surrounds the processes.
 mod world;
 
-use crate::judging::{conclude, judge};
+use crate::judging::{conclude, judge_recordings};
 use crate::running::Simulation;
 use crate::settings::Rule;
 use crate::stop::{Stop, Wrong};
-use crate::world::Counts;
+use crate::world::RunCounts;
 use causal_name::NoMemory;
 use std::alloc::Global;
 use std::env;
@@ -49,21 +49,21 @@ use std::rt::Env;
 
 /// The arguments.
 #[derive(Clone, Copy)]
-struct Request {
+struct Arguments {
     from: u64,
     count: u64,
     broken: Option<Rule>,
 }
 
 /// Reads the arguments, of which the first is the program's name.
-fn parse(words: &[String]) -> Option<Request> {
+fn parse(words: &[String]) -> Option<Arguments> {
     let from = words.get(1)?.as_str().parse::<u64>().ok()?;
     let count = words.get(2)?.as_str().parse::<u64>().ok()?;
     let broken = match words.get(3) {
         Some(name) => Some(Rule::of_name(name.as_str())?),
         None => None,
     };
-    Some(Request {
+    Some(Arguments {
         from,
         count,
         broken,
@@ -71,13 +71,13 @@ fn parse(words: &[String]) -> Option<Request> {
 }
 
 /// Returns the arguments.
-fn read_request<R: Env + AllocGlobal>(rt: &R) -> Option<Request> {
+fn read_request<R: Env + AllocGlobal>(rt: &R) -> Option<Arguments> {
     let words = env::args(rt).ok()?.collect::<Vec<String>>(rt.alloc()).ok()?;
     parse(words.as_slice())
 }
 
 /// Adds the counts of one run.
-fn add(total: &mut Counts, run: &Counts) {
+fn add(total: &mut RunCounts, run: &RunCounts) {
     total.deliveries = total.deliveries.saturating_add(run.deliveries);
     total.crashes = total.crashes.saturating_add(run.crashes);
     total.restarts = total.restarts.saturating_add(run.restarts);
@@ -90,7 +90,7 @@ fn run_seed<R: Print>(
     alloc: Global,
     seed: u64,
     broken: Option<Rule>,
-    total: &mut Counts,
+    total: &mut RunCounts,
 ) -> Result<Option<Wrong>, NoMemory> {
     let mut simulation = Simulation::new(alloc, seed, broken)?;
     let outcome = simulation.run();
@@ -101,7 +101,7 @@ fn run_seed<R: Print>(
     add(total, &world.counts);
     let text = world.recording.text.as_slice();
     let faults = world.settings.faults;
-    let found = judge(alloc, text, world.recording.events, faults)?;
+    let found = judge_recordings(alloc, text, world.recording.events, faults)?;
     let found = conclude(broken, outcome, found);
     if let Some(wrong) = found {
         print_wrong(rt, alloc, seed, faults, wrong, text)?;
@@ -126,8 +126,8 @@ fn print_wrong<R: Print>(
 }
 
 /// Makes the runs, and prints how many; counts of what happened are on standard error.
-fn run_all<R: Print + Eprint>(rt: &R, alloc: Global, request: Request) -> Result<bool, NoMemory> {
-    let mut total = Counts {
+fn run_all<R: Print + Eprint>(rt: &R, alloc: Global, request: Arguments) -> Result<bool, NoMemory> {
+    let mut total = RunCounts {
         deliveries: 0,
         crashes: 0,
         restarts: 0,
@@ -143,7 +143,7 @@ fn run_all<R: Print + Eprint>(rt: &R, alloc: Global, request: Request) -> Result
             break;
         }
     }
-    let Counts {
+    let RunCounts {
         deliveries,
         crashes,
         restarts,

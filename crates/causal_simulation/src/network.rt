@@ -8,7 +8,7 @@ const MOST: usize = 80;
 
 /// One thing that is under way.
 #[derive(Drop)]
-pub enum Packet {
+pub enum SimulatedPacket {
     /// The bytes of a parcel for a process.
     Parcel {
         to: u8,
@@ -23,7 +23,7 @@ pub enum Packet {
     Ended {
         to: u8,
         round: u64,
-        end: End,
+        end: ProcessEnd,
     },
     /// A process writes to storage.
     Write {
@@ -55,7 +55,7 @@ pub enum Packet {
 
 /// The end of a process, as who has seen it reports it.
 #[derive(Clone, Copy)]
-pub struct End {
+pub struct ProcessEnd {
     pub who: u8,
     /// The next lane.
     pub number: u32,
@@ -65,14 +65,14 @@ pub struct End {
 
 /// The packets that are under way.
 #[derive(Drop)]
-pub struct Network {
-    packets: Vec<Packet>,
+pub struct SimulatedNetwork {
+    packets: Vec<SimulatedPacket>,
 }
 
-impl Network {
+impl SimulatedNetwork {
     /// Returns an empty network.
-    pub fn new(alloc: Global) -> Network {
-        Network {
+    pub fn new(alloc: Global) -> SimulatedNetwork {
+        SimulatedNetwork {
             packets: Vec::new(alloc),
         }
     }
@@ -83,7 +83,7 @@ impl Network {
     }
 
     /// Adds a packet, unless too many are under way.
-    pub fn add(&mut self, packet: Packet) -> Result<(), NoMemory> {
+    pub fn add(&mut self, packet: SimulatedPacket) -> Result<(), NoMemory> {
         if self.packets.len() < MOST {
             self.packets.push(packet)?;
         }
@@ -91,7 +91,7 @@ impl Network {
     }
 
     /// Adds a packet as if it were as old as another one, unless too many are under way.
-    pub fn delay(&mut self, random: &mut Random, packet: Packet) -> Result<(), NoMemory> {
+    pub fn delay(&mut self, random: &mut Random, packet: SimulatedPacket) -> Result<(), NoMemory> {
         let last = self.packets.len();
         if last < MOST {
             let at = random.index(last);
@@ -104,7 +104,7 @@ impl Network {
     }
 
     /// Removes a packet, if there is one: the newest half of the time, else one by chance.
-    pub fn take(&mut self, random: &mut Random) -> Option<Packet> {
+    pub fn take(&mut self, random: &mut Random) -> Option<SimulatedPacket> {
         if random.is_one_in(2) {
             return self.packets.pop();
         }
@@ -116,7 +116,7 @@ impl Network {
     }
 
     /// Removes all packets.
-    pub fn take_all(&mut self, alloc: Global) -> Vec<Packet> {
+    pub fn take_all(&mut self, alloc: Global) -> Vec<SimulatedPacket> {
         std::mem::replace(&mut self.packets, Vec::new(alloc))
     }
 }

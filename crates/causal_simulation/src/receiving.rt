@@ -1,13 +1,13 @@
 //! A process receives what comes to it.
 use crate::life::{Life, is_up};
-use crate::network::{End, Packet};
+use crate::network::{ProcessEnd, SimulatedPacket};
 use crate::settings::Rule;
 use crate::stop::Stop;
-use crate::world::World;
+use crate::world::SimulatedWorld;
 use causal_endpoint::endpoint::Endpoint;
 use causal_endpoint::fault::EndpointFault;
 use causal_endpoint::lines::{deliver_line, forget_line};
-use causal_endpoint::receiving::{Delivered, Received};
+use causal_endpoint::receiving::{DeliveryRecord, Received};
 use causal_name::{Det, Pid};
 use causal_node::node_fault::NodeFault;
 
@@ -48,8 +48,8 @@ impl Life {
     fn deliver(
         &mut self,
         endpoint: &mut Endpoint,
-        world: &mut World,
-        delivered: &Delivered,
+        world: &mut SimulatedWorld,
+        delivered: &DeliveryRecord,
     ) -> Result<(), Stop> {
         let line = deliver_line(world.alloc, Pid(self.me), delivered)?;
         self.record(world, delivered.clock, line.as_slice())?;
@@ -70,7 +70,7 @@ impl Life {
     fn receive(
         &mut self,
         endpoint: &mut Endpoint,
-        world: &mut World,
+        world: &mut SimulatedWorld,
         bytes: &[u8],
     ) -> Result<Fate, Stop> {
         match endpoint.receive(world.now(self.me), bytes) {
@@ -88,7 +88,12 @@ impl Life {
     }
 
     /// Sends again what a process may have lost.
-    fn resend(&mut self, endpoint: &Endpoint, world: &mut World, to: u8) -> Result<(), Stop> {
+    fn resend(
+        &mut self,
+        endpoint: &Endpoint,
+        world: &mut SimulatedWorld,
+        to: u8,
+    ) -> Result<(), Stop> {
         if world.settings.breaks(Rule::NoResend) || !is_up(endpoint) {
             return Ok(());
         }
@@ -108,9 +113,9 @@ impl Life {
     fn take_end(
         &mut self,
         endpoint: &mut Endpoint,
-        world: &World,
+        world: &SimulatedWorld,
         round: u64,
-        end: End,
+        end: ProcessEnd,
     ) -> Result<(), Stop> {
         let mut name = round;
         if world.settings.breaks(Rule::OldReport) {
@@ -130,7 +135,7 @@ impl Life {
     pub fn take_committed(
         &mut self,
         endpoint: &mut Endpoint,
-        world: &mut World,
+        world: &mut SimulatedWorld,
         dets: &[Det],
     ) -> Result<(), Stop> {
         for det in dets {
@@ -148,12 +153,16 @@ impl Life {
     }
 
     /// Writes to storage what the process logs.
-    pub fn store(&mut self, endpoint: &mut Endpoint, world: &mut World) -> Result<(), Stop> {
+    pub fn store(
+        &mut self,
+        endpoint: &mut Endpoint,
+        world: &mut SimulatedWorld,
+    ) -> Result<(), Stop> {
         let dets = endpoint.node().unstored()?;
         if world.settings.breaks(Rule::EarlyStored) {
             self.take_committed(endpoint, world, dets.as_slice())?;
         }
-        world.network.add(Packet::Write {
+        world.network.add(SimulatedPacket::Write {
             from: self.me,
             lane: endpoint.node().lane(),
             clock: endpoint.clock(),
@@ -166,19 +175,25 @@ impl Life {
     pub fn take(
         &mut self,
         endpoint: &mut Endpoint,
-        world: &mut World,
-        packet: &Packet,
+        world: &mut SimulatedWorld,
+        packet: &SimulatedPacket,
     ) -> Result<Fate, Stop> {
         match packet {
-            Packet::Parcel { bytes, .. } => return self.receive(endpoint, world, bytes.as_slice()),
-            Packet::Hello { from, .. } => self.resend(endpoint, world, *from)?,
-            Packet::Ended { round, end, .. } => self.take_end(endpoint, world, *round, *end)?,
-            Packet::Committed { lane, dets, .. } => {
+            SimulatedPacket::Parcel { bytes, .. } => return self.receive(
+                endpoint,
+                world,
+                bytes.as_slice(),
+            ),
+            SimulatedPacket::Hello { from, .. } => self.resend(endpoint, world, *from)?,
+            SimulatedPacket::Ended { round, end, .. } => self.take_end(
+                endpoint, world, *round, *end,
+            )?,
+            SimulatedPacket::Committed { lane, dets, .. } => {
                 if is_up(endpoint) && endpoint.node().lane() == *lane {
                     self.take_committed(endpoint, world, dets.as_slice())?;
                 }
             }
-            Packet::Has {
+            SimulatedPacket::Has {
                 round,
                 clock,
                 dets,
@@ -189,7 +204,7 @@ impl Life {
                 }
                 self.take_stored(endpoint, world, *round, *clock, dets.as_slice())?;
             }
-            Packet::Write { .. } | Packet::Read { .. } => {}
+            SimulatedPacket::Write { .. } | SimulatedPacket::Read { .. } => {}
         }
         Ok(Fate::Taken)
     }

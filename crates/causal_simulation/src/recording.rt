@@ -5,7 +5,7 @@ use std::alloc::Global;
 
 /// The recordings.
 #[derive(Drop)]
-pub struct Recording {
+pub struct RunRecordings {
     pub text: Vec<u8>,
     /// The number of events that are recorded.
     pub events: u32,
@@ -13,10 +13,10 @@ pub struct Recording {
     fuse: u32,
 }
 
-impl Recording {
+impl RunRecordings {
     /// Returns empty recordings.
-    pub fn new(alloc: Global) -> Recording {
-        Recording {
+    pub fn new(alloc: Global) -> RunRecordings {
+        RunRecordings {
             text: Vec::new(alloc),
             events: 0,
             fuse: 0,

@@ -1,9 +1,9 @@
 //! A process recovers: rounds of questions, the read of storage, the restart.
 use crate::life::Life;
-use crate::network::{End, Packet};
+use crate::network::{ProcessEnd, SimulatedPacket};
 use crate::settings::Rule;
 use crate::stop::Stop;
-use crate::world::World;
+use crate::world::SimulatedWorld;
 use causal_endpoint::endpoint::Endpoint;
 use causal_endpoint::lines::{restart_line, stable_line};
 use causal_name::{Det, Pid};
@@ -11,11 +11,16 @@ use causal_node::node_fault::NodeFault;
 
 impl Life {
     /// Asks a process that has not replied; if that has ended, a report of the end is under way instead.
-    fn ask(&mut self, endpoint: &mut Endpoint, world: &mut World, who: u8) -> Result<(), Stop> {
+    fn ask(
+        &mut self,
+        endpoint: &mut Endpoint,
+        world: &mut SimulatedWorld,
+        who: u8,
+    ) -> Result<(), Stop> {
         let mut end = world.end_of(who);
         if world.settings.breaks(Rule::EarlyEnded) && end.is_none() {
             let number = endpoint.node().floor(Pid(who));
-            end = Some(End {
+            end = Some(ProcessEnd {
                 who,
                 number,
                 clock: 0,
@@ -24,7 +29,9 @@ impl Life {
         match (end, endpoint.node().round_name()) {
             (Some(end), Some(round)) => {
                 let to = self.me;
-                world.network.add(Packet::Ended { to, round, end })?;
+                world
+                    .network
+                    .add(SimulatedPacket::Ended { to, round, end })?;
                 Ok(())
             }
             _ => {
@@ -35,7 +42,7 @@ impl Life {
     }
 
     /// Asks all processes that have not replied.
-    fn ask_all(&mut self, endpoint: &mut Endpoint, world: &mut World) -> Result<(), Stop> {
+    fn ask_all(&mut self, endpoint: &mut Endpoint, world: &mut SimulatedWorld) -> Result<(), Stop> {
         for who in 0..world.settings.processes {
             if endpoint.node().awaited().contains(who) {
                 self.ask(endpoint, world, who)?;
@@ -45,7 +52,7 @@ impl Life {
     }
 
     /// Begins a round.
-    fn begin(&mut self, endpoint: &mut Endpoint, world: &mut World) -> Result<(), Stop> {
+    fn begin(&mut self, endpoint: &mut Endpoint, world: &mut SimulatedWorld) -> Result<(), Stop> {
         let name = world.round_name();
         endpoint.begin_round(name)?;
         self.ask_all(endpoint, world)?;
@@ -59,11 +66,11 @@ impl Life {
     fn ask_storage(
         &mut self,
         endpoint: &mut Endpoint,
-        world: &mut World,
+        world: &mut SimulatedWorld,
         round: u64,
     ) -> Result<(), Stop> {
         let view = Vec::from_slice(world.alloc, endpoint.node().floors())?;
-        world.network.add(Packet::Read {
+        world.network.add(SimulatedPacket::Read {
             from: self.me,
             round,
             view,
@@ -72,7 +79,11 @@ impl Life {
     }
 
     /// Goes on with the recovery, or does what one that waits does.
-    pub fn recover(&mut self, endpoint: &mut Endpoint, world: &mut World) -> Result<(), Stop> {
+    pub fn recover(
+        &mut self,
+        endpoint: &mut Endpoint,
+        world: &mut SimulatedWorld,
+    ) -> Result<(), Stop> {
         match (
             endpoint.node().restart_fault(),
             endpoint.node().round_name(),
@@ -100,7 +111,7 @@ impl Life {
     pub fn take_stored(
         &mut self,
         endpoint: &mut Endpoint,
-        world: &mut World,
+        world: &mut SimulatedWorld,
         round: u64,
         clock: u64,
         dets: &[Det],
@@ -123,7 +134,7 @@ impl Life {
     pub fn mark(
         &mut self,
         endpoint: &mut Endpoint,
-        world: &mut World,
+        world: &mut SimulatedWorld,
         det: Det,
     ) -> Result<(), Stop> {
         let clock = endpoint.stored(world.now(self.me), det)?;
@@ -132,7 +143,7 @@ impl Life {
     }
 
     /// Restarts: the process is up, and its application begins again.
-    fn come_up(&mut self, endpoint: &mut Endpoint, world: &mut World) -> Result<(), Stop> {
+    fn come_up(&mut self, endpoint: &mut Endpoint, world: &mut SimulatedWorld) -> Result<(), Stop> {
         let restarted = endpoint.restart(world.now(self.me))?;
         let line = restart_line(world.alloc, Pid(self.me), &restarted)?;
         self.record(world, restarted.clock, line.as_slice())?;

@@ -1,11 +1,11 @@
 //! A run: steps that a seed chooses, and then steps without harm until all is well.
-use crate::life::{Process, is_up};
-use crate::network::Packet;
+use crate::life::{SimulatedProcess, is_up};
+use crate::network::SimulatedPacket;
 use crate::random::Random;
 use crate::receiving::Fate;
 use crate::settings::{Rule, Settings};
 use crate::stop::{Stop, Wrong};
-use crate::world::World;
+use crate::world::SimulatedWorld;
 use causal_name::{Det, NoMemory};
 use std::alloc::Global;
 
@@ -15,24 +15,30 @@ const PATIENCE: u32 = 60;
 /// A run.
 #[derive(Drop)]
 pub struct Simulation {
-    pub world: World,
-    processes: Vec<Process>,
+    pub world: SimulatedWorld,
+    processes: Vec<SimulatedProcess>,
 }
 
 /// Returns the process that a packet is for; `None` if it is for storage.
-fn destination(packet: &Packet) -> Option<u8> {
+fn destination(packet: &SimulatedPacket) -> Option<u8> {
     match packet {
-        Packet::Parcel { to, .. } => Some(*to),
-        Packet::Hello { to, .. } => Some(*to),
-        Packet::Ended { to, .. } => Some(*to),
-        Packet::Committed { to, .. } => Some(*to),
-        Packet::Has { to, .. } => Some(*to),
-        Packet::Write { .. } | Packet::Read { .. } => None,
+        SimulatedPacket::Parcel { to, .. } => Some(*to),
+        SimulatedPacket::Hello { to, .. } => Some(*to),
+        SimulatedPacket::Ended { to, .. } => Some(*to),
+        SimulatedPacket::Committed { to, .. } => Some(*to),
+        SimulatedPacket::Has { to, .. } => Some(*to),
+        SimulatedPacket::Write { .. } | SimulatedPacket::Read { .. } => None,
     }
 }
 
 /// Storage takes a write.
-fn commit(world: &mut World, from: u8, lane: u32, clock: u64, dets: &[Det]) -> Result<(), Stop> {
+fn commit(
+    world: &mut SimulatedWorld,
+    from: u8,
+    lane: u32,
+    clock: u64,
+    dets: &[Det],
+) -> Result<(), Stop> {
     if !world.storage.accepts(from, lane) && !world.settings.breaks(Rule::Fence) {
         return Ok(());
     }
@@ -42,7 +48,7 @@ fn commit(world: &mut World, from: u8, lane: u32, clock: u64, dets: &[Det]) -> R
     }
     world.counts.stored = world.counts.stored.saturating_add(1);
     let dets = Vec::from_slice(world.alloc, dets)?;
-    world.network.add(Packet::Committed {
+    world.network.add(SimulatedPacket::Committed {
         to: from,
         lane,
         dets,
@@ -51,18 +57,18 @@ fn commit(world: &mut World, from: u8, lane: u32, clock: u64, dets: &[Det]) -> R
 }
 
 /// Storage takes a packet.
-fn take_by_storage(world: &mut World, packet: &Packet) -> Result<(), Stop> {
+fn take_by_storage(world: &mut SimulatedWorld, packet: &SimulatedPacket) -> Result<(), Stop> {
     match packet {
-        Packet::Write {
+        SimulatedPacket::Write {
             from,
             lane,
             clock,
             dets,
         } => { commit(world, *from, *lane, *clock, dets.as_slice()) }
-        Packet::Read { from, round, view } => {
+        SimulatedPacket::Read { from, round, view } => {
             world.storage.refuse_below(view.as_slice());
             let dets = Vec::from_slice(world.alloc, world.storage.dets.as_slice())?;
-            world.network.add(Packet::Has {
+            world.network.add(SimulatedPacket::Has {
                 to: *from,
                 round: *round,
                 clock: world.storage.clock,
@@ -74,9 +80,9 @@ fn take_by_storage(world: &mut World, packet: &Packet) -> Result<(), Stop> {
     }
 }
 
-impl Process {
+impl SimulatedProcess {
     /// Takes a packet, if it runs; else the packet is lost.
-    fn take(&mut self, world: &mut World, packet: &Packet) -> Result<Fate, Stop> {
+    fn take(&mut self, world: &mut SimulatedWorld, packet: &SimulatedPacket) -> Result<Fate, Stop> {
         match &mut self.endpoint {
             Some(endpoint) => self.life.take(endpoint, world, packet),
             None => Ok(Fate::Taken),
@@ -84,7 +90,7 @@ impl Process {
     }
 
     /// Does what a process does without being asked: it starts, recovers, stores or says hello.
-    fn act_alone(&mut self, world: &mut World) -> Result<(), Stop> {
+    fn act_alone(&mut self, world: &mut SimulatedWorld) -> Result<(), Stop> {
         let is_up = self.is_up();
         match &mut self.endpoint {
             None => self.start(world),
@@ -107,7 +113,7 @@ impl Process {
     /// Ends the process if it was killed.
     fn end_if_killed<T: Drop>(
         &mut self,
-        world: &mut World,
+        world: &mut SimulatedWorld,
         outcome: Result<T, Stop>,
     ) -> Result<Option<T>, Stop> {
         world.recording.set_fuse(0);
@@ -127,10 +133,10 @@ impl Simulation {
     pub fn new(alloc: Global, seed: u64, broken: Option<Rule>) -> Result<Simulation, NoMemory> {
         let mut random = Random::of_seed(seed);
         let settings = Settings::by_chance(&mut random, broken);
-        let world = World::new(alloc, settings, random)?;
+        let world = SimulatedWorld::new(alloc, settings, random)?;
         let mut processes = Vec::new(alloc);
         for me in 0..settings.processes {
-            processes.push(Process::new(me))?;
+            processes.push(SimulatedProcess::new(me))?;
         }
         Ok(Simulation { world, processes })
     }
@@ -170,7 +176,7 @@ impl Simulation {
     }
 
     /// Lets a process, or storage, take a packet, which may come again.
-    fn deliver(&mut self, packet: Packet, is_harmful: bool) -> Result<(), Stop> {
+    fn deliver(&mut self, packet: SimulatedPacket, is_harmful: bool) -> Result<(), Stop> {
         let mut fate = Fate::Taken;
         match destination(&packet) {
             None => take_by_storage(&mut self.world, &packet)?,
@@ -187,7 +193,7 @@ impl Simulation {
             }
         }
         // who has seen an end reports it again and again
-        let times = if matches!(&packet, Packet::Ended { .. }) {
+        let times = if matches!(&packet, SimulatedPacket::Ended { .. }) {
             2
         } else {
             6
@@ -252,8 +258,11 @@ impl Simulation {
 
     /// Lets a process or storage take a packet, or leaves it under way: a write is committed late, and the report of an end
     /// comes late.
-    fn deliver_or_delay(&mut self, packet: Packet) -> Result<(), Stop> {
-        let is_slow = matches!(&packet, Packet::Write { .. } | Packet::Ended { .. });
+    fn deliver_or_delay(&mut self, packet: SimulatedPacket) -> Result<(), Stop> {
+        let is_slow = matches!(
+            &packet,
+            SimulatedPacket::Write { .. } | SimulatedPacket::Ended { .. }
+        );
         if is_slow && !self.world.random.is_one_in(4) {
             self.world.delay(packet)?;
             return Ok(());

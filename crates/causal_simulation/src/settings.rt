@@ -2,7 +2,7 @@
 use crate::random::Random;
 use causal_name::Pid;
 use causal_node::node::Identity;
-use causal_wire::Run;
+use causal_wire::RunId;
 
 /// A rule of the protocol or of an embedder that a run breaks.
 #[derive(Clone, Copy, Debug, PartialEq, Eq)]
@@ -135,8 +135,8 @@ impl Settings {
     }
 
     /// Returns the run, as parcels name it.
-    pub fn run(&self) -> Run {
-        Run {
+    pub fn run(&self) -> RunId {
+        RunId {
             id: RUN,
             processes: u16::from(self.processes),
             f: self.believed_faults(),

@@ -1,9 +1,9 @@
 //! What surrounds the processes.
 use crate::books::Books;
 use crate::broken::alter;
-use crate::network::{End, Network, Packet};
+use crate::network::{ProcessEnd, SimulatedNetwork, SimulatedPacket};
 use crate::random::Random;
-use crate::recording::Recording;
+use crate::recording::RunRecordings;
 use crate::settings::{Rule, Settings};
 use crate::stop::{Stop, Wrong};
 use crate::storage::Storage;
@@ -12,7 +12,7 @@ use std::alloc::Global;
 
 /// What was done to the runs.
 #[derive(Clone, Copy)]
-pub struct Counts {
+pub struct RunCounts {
     pub deliveries: u64,
     pub crashes: u64,
     pub restarts: u64,
@@ -21,17 +21,17 @@ pub struct Counts {
 
 /// What surrounds the processes.
 #[derive(Drop)]
-pub struct World {
+pub struct SimulatedWorld {
     pub alloc: Global,
     pub settings: Settings,
     pub random: Random,
-    pub network: Network,
+    pub network: SimulatedNetwork,
     pub storage: Storage,
-    pub recording: Recording,
+    pub recording: RunRecordings,
     pub books: Books,
-    pub counts: Counts,
+    pub counts: RunCounts,
     /// By process: its end, until it is started again.
-    ends: Vec<Option<End>>,
+    ends: Vec<Option<ProcessEnd>>,
     /// The greatest clock at which a process has come up.
     pub risen: u64,
     time: u64,
@@ -45,9 +45,13 @@ pub struct World {
     pub thrift: u32,
 }
 
-impl World {
+impl SimulatedWorld {
     /// Returns the world of a run.
-    pub fn new(alloc: Global, settings: Settings, random: Random) -> Result<World, NoMemory> {
+    pub fn new(
+        alloc: Global,
+        settings: Settings,
+        random: Random,
+    ) -> Result<SimulatedWorld, NoMemory> {
         let mut random = random;
         let mut ends = Vec::new(alloc);
         for _ in 0..settings.processes {
@@ -58,15 +62,15 @@ impl World {
         let lazy = random.below(4);
         let calm = if random.is_one_in(2) { 6 } else { 1 };
         let thrift = if random.is_one_in(2) { 60 } else { 2 };
-        Ok(World {
+        Ok(SimulatedWorld {
             alloc,
             settings,
             random,
-            network: Network::new(alloc),
+            network: SimulatedNetwork::new(alloc),
             storage: Storage::new(alloc, settings.processes)?,
-            recording: Recording::new(alloc),
+            recording: RunRecordings::new(alloc),
             books: Books::new(alloc, settings.processes)?,
-            counts: Counts {
+            counts: RunCounts {
                 deliveries: 0,
                 crashes: 0,
                 restarts: 0,
@@ -96,7 +100,7 @@ impl World {
     /// Sends the bytes of a parcel.
     pub fn send(&mut self, to: u8, bytes: Vec<u8>) -> Result<(), Stop> {
         let bytes = alter(self.alloc, &self.settings, bytes)?;
-        self.network.add(Packet::Parcel { to, bytes })?;
+        self.network.add(SimulatedPacket::Parcel { to, bytes })?;
         Ok(())
     }
 
@@ -106,7 +110,7 @@ impl World {
     }
 
     /// Leaves a packet under way, behind newer ones.
-    pub fn delay(&mut self, packet: Packet) -> Result<(), NoMemory> {
+    pub fn delay(&mut self, packet: SimulatedPacket) -> Result<(), NoMemory> {
         self.network.delay(&mut self.random, packet)
     }
 
@@ -114,7 +118,7 @@ impl World {
     pub fn greet(&mut self, from: u8) -> Result<(), Stop> {
         for to in 0..self.settings.processes {
             if to != from {
-                self.network.add(Packet::Hello { to, from })?;
+                self.network.add(SimulatedPacket::Hello { to, from })?;
             }
         }
         Ok(())
@@ -125,7 +129,7 @@ impl World {
         let to = self.random.below(u32::from(self.settings.processes));
         if to != u32::from(from) {
             let to = (to % 256) as u8;
-            self.network.add(Packet::Hello { to, from })?;
+            self.network.add(SimulatedPacket::Hello { to, from })?;
         }
         Ok(())
     }
@@ -139,14 +143,14 @@ impl World {
     }
 
     /// Sets or removes the end of a process.
-    pub fn set_end(&mut self, who: u8, end: Option<End>) {
+    pub fn set_end(&mut self, who: u8, end: Option<ProcessEnd>) {
         if let Some(place) = self.ends.get_mut(usize::from(who)) {
             *place = end;
         }
     }
 
     /// Returns the end of a process that has not been started again.
-    pub fn end_of(&self, who: u8) -> Option<End> {
+    pub fn end_of(&self, who: u8) -> Option<ProcessEnd> {
         match self.ends.get(usize::from(who)) {
             Some(end) => *end,
             None => None,

@@ -11,7 +11,7 @@ use Rattle.causal_trace.specs.Past.{list_has, is_down, logs, is_stable, det_at}
 use Rattle.causal_trace.specs.Dependence.{AreForward, Depends}
 use Rattle.causal_trace.proofs.Lemmas.DependenceSteps.{reaches_old, depends_old, depends_restarted}
 use Rattle.causal_steps.specs.Recovery.{must_recover, counts_as_holder, IsRecoverable, HasOrRecovers}
-use Rattle.causal_steps.specs.Transit.{VolatileState, IsLogged, IsCarried, Survives}
+use Rattle.causal_steps.specs.Transit.{VolatileState, IsLoggedBySome, IsCarried, Survives}
 use Rattle.causal_steps.specs.Invariant.{StepInvariant}
 use Rattle.causal_steps.specs.Steps.{IsRestartStep}
 use Rattle.causal_steps.proofs.Sets.{Stays, recoverable_stays, has_or_recovers_stays, recoverable_survives}
@@ -22,7 +22,7 @@ module _ (n f : ℕ) (past : List Entry) (v w : VolatileState) (who : Pid) (list
   e = Restart who listed
 
   -- what is logged or still in transit keeps its holders: the process lists all of it that it has to recover
-  stays : (d : Det) → IsLogged n past d ⊎ IsCarried w d → Stays past (e ∷ past) d
+  stays : (d : Det) → IsLoggedBySome n past d ⊎ IsCarried w d → Stays past (e ∷ past) d
   stays d there = record { stable = λ h. h; within = λ unstable p h. by unstable p (who.0 == p) refl (or_cases (logs past p d) (must_recover past p d) h) }
     where
       by : is_stable past d ≡ false → (p : ℕ) (b : Bool) → (who.0 == p) ≡ b → (logs past p d ≡ true) ⊎ (must_recover past p d ≡ true) → counts_as_holder (e ∷ past) d p ≡ true
@@ -33,7 +33,7 @@ module _ (n f : ℕ) (past : List Entry) (v w : VolatileState) (who : Pid) (list
         | inr stable ↦ absurd (both_ways (is_stable past d) unstable stable)
       ]
 
-  still : (d : Det) (q : ℕ) → IsLogged n past d ⊎ IsCarried w d → HasOrRecovers past d q → HasOrRecovers (e ∷ past) d q
+  still : (d : Det) (q : ℕ) → IsLoggedBySome n past d ⊎ IsCarried w d → HasOrRecovers past d q → HasOrRecovers (e ∷ past) d q
   still d q there h = has_or_recovers_stays past (e ∷ past) d q (stays d there) h
 
   stays_recoverable : (d : Det) → IsRecoverable n f past d → IsRecoverable n f (e ∷ past) d

@@ -12,19 +12,19 @@ use Rattle.causal_trace.specs.Past.{is_down, logs, is_stable, det_at}
 use Rattle.causal_trace.specs.Dependence.{AreForward, Reaches}
 use Rattle.causal_trace.proofs.Lemmas.DependenceSteps.{reaches_old, ReachesNewest, is_newest, in_lane, through_message, reaches_newest, depends_old}
 use Rattle.causal_steps.specs.Recovery.{counts_as_holder, IsRecoverable, HasOrRecovers}
-use Rattle.causal_steps.specs.Transit.{Parcel, VolatileState, IsInTransit, IsLogged, IsCarried, Survives}
+use Rattle.causal_steps.specs.Transit.{TransitParcel, VolatileState, IsInTransit, IsLoggedBySome, IsCarried, Survives}
 use Rattle.causal_steps.specs.Invariant.{StepInvariant}
 use Rattle.causal_steps.specs.Steps.{IsSendStep}
 use Rattle.causal_steps.proofs.Lemmas.Positions.{det_earlier, det_below}
 
-module _ (n f : ℕ) (past : List Entry) (v w : VolatileState) (from to : Pid) (ssn : ℕ) (new : Parcel) (s : IsSendStep n f past from.0 v w new) (forward : AreForward (Send from to ssn ∷ past)) (k : StepInvariant n f past v) where
+module _ (n f : ℕ) (past : List Entry) (v w : VolatileState) (from to : Pid) (ssn : ℕ) (new : TransitParcel) (s : IsSendStep n f past from.0 v w new) (forward : AreForward (Send from to ssn ∷ past)) (k : StepInvariant n f past v) where
   abbrev pub e : Entry
   e = Send from to ssn
 
-  carried : (d : Det) → IsCarried w d → IsLogged n past d ⊎ IsCarried v d
+  carried : (d : Det) → IsCarried w d → IsLoggedBySome n past d ⊎ IsCarried v d
   carried d (t, under, has_d) = elim (s.one_new t under) [
     | inl old ↦ inr (t, old, has_d)
-    | inr is ↦ inl (from.0, s.of_log.process, s.of_log.logged d (sym (ap (λ (x : Parcel). x.carries d) is) ∙ has_d))
+    | inr is ↦ inl (from.0, s.of_log.process, s.of_log.logged d (sym (ap (λ (x : TransitParcel). x.carries d) is) ∙ has_d))
   ]
 
   left : (d : Det) → Survives n (e ∷ past) w d → Survives n past v d
@@ -49,21 +49,21 @@ module _ (n f : ℕ) (past : List Entry) (v w : VolatileState) (from to : Pid) (
   sent_depends i p d small at up (in_lane j event r) = k.dependents_log i p d small at (record { up = up; event = j; present = event; reached = r })
   sent_depends i p d small at up (through_message j is r) = absurd (let x : false ≡ true = is in cc)
 
-  named : (t : Parcel) (d : Det) (q : ℕ) → IsInTransit w t → t.names_holder d q ≡ true → HasOrRecovers past d q × ((q < n) × (t.carries d ≡ true))
+  named : (t : TransitParcel) (d : Det) (q : ℕ) → IsInTransit w t → t.names_holder d q ≡ true → HasOrRecovers past d q × ((q < n) × (t.carries d ≡ true))
   named t d q under h = elim (s.one_new t under) [
     | inl old ↦ (k.carried_holders_true t d q old h, k.named_is_carried t d q old h)
     | inr is ↦
-        let fact = s.of_log.known_holders d q (sym (ap (λ (x : Parcel). x.names_holder d q) is) ∙ h) in
-        (k.known_holders_true from.0 d q s.of_log.process fact.0, ((k.known_logged from.0 d q s.of_log.process fact.0).0, ap (λ (x : Parcel). x.carries d) is ∙ fact.1))
+        let fact = s.of_log.known_holders d q (sym (ap (λ (x : TransitParcel). x.names_holder d q) is) ∙ h) in
+        (k.known_holders_true from.0 d q s.of_log.process fact.0, ((k.known_logged from.0 d q s.of_log.process fact.0).0, ap (λ (x : TransitParcel). x.carries d) is ∙ fact.1))
   ]
 
-  covered : (i m : ℕ) (t : Parcel) (d : Det) → det_at past i ≡ Some d → (IsInTransit v t ⊎ (t ≡ new)) → t.send ≡ Some m → Reaches (e ∷ past) i m → (t.carries d ≡ true) ⊎ IsRecoverable n f past d
+  covered : (i m : ℕ) (t : TransitParcel) (d : Det) → det_at past i ≡ Some d → (IsInTransit v t ⊎ (t ≡ new)) → t.send ≡ Some m → Reaches (e ∷ past) i m → (t.carries d ≡ true) ⊎ IsRecoverable n f past d
   covered i m t d at (inl old) sent r = k.messages_carry i m t d at old sent (reaches_old e past i forward m (k.sent_before m t old sent) r)
   covered i m t d at (inr is) sent r =
-      let place : Some m ≡ Some (length past) = sym sent ∙ ap (λ (x : Parcel). x.send) is ∙ s.position in
+      let place : Some m ≡ Some (length past) = sym sent ∙ ap (λ (x : TransitParcel). x.send) is ∙ s.position in
       let here : m ≡ length past = cc in
       elim (sent_depends i from.0 d s.of_log.process at s.of_log.up (reaches_newest e past i from.0 m forward here refl r)) [
-        | inl has_d ↦ elim (chosen d has_d) [ inl goes ↦ inl (ap (λ (x : Parcel). x.carries d) is ∙ goes) | inr recoverable ↦ inr recoverable ]
+        | inl has_d ↦ elim (chosen d has_d) [ inl goes ↦ inl (ap (λ (x : TransitParcel). x.carries d) is ∙ goes) | inr recoverable ↦ inr recoverable ]
         | inr recoverable ↦ inr recoverable
       ]
 
@@ -74,7 +74,7 @@ module _ (n f : ℕ) (past : List Entry) (v w : VolatileState) (from to : Pid) (
     carried_holders_true = λ t d q under h. (named t d q under h).0;
     receivers_have_survivors = λ d alive. k.receivers_have_survivors d (left d alive);
     known_stable_true = λ p d small h. k.known_stable_true p d small (s.same_knowledge.stable p d h);
-    carried_stable_true = λ t d under h. elim (s.one_new t under) [ inl old ↦ k.carried_stable_true t d old h | inr is ↦ k.known_stable_true from.0 d s.of_log.process (s.of_log.known_stable d (sym (ap (λ (x : Parcel). x.names_stable d) is) ∙ h)) ];
+    carried_stable_true = λ t d under h. elim (s.one_new t under) [ inl old ↦ k.carried_stable_true t d old h | inr is ↦ k.known_stable_true from.0 d s.of_log.process (s.of_log.known_stable d (sym (ap (λ (x : TransitParcel). x.names_stable d) is) ∙ h)) ];
     dependents_log = λ i p d small at dep. elim (depends_old e past i p forward dep.up refl dep) [
       | inl old ↦ k.dependents_log i p d small (det_earlier e past i d refl at) old
       | inr new ↦ sent_depends i p d small (det_earlier e past i d refl at) dep.up new.1
@@ -85,7 +85,7 @@ module _ (n f : ℕ) (past : List Entry) (v w : VolatileState) (from to : Pid) (
     known_logged = λ p d q small h. k.known_logged p d q small (sym (s.same_knowledge.holders p d q) ∙ h);
     named_is_carried = λ t d q under h. (named t d q under h).1;
     knows_itself = λ p d small h. s.same_knowledge.holders p d p ∙ k.knows_itself p d small h;
-    names_sender = λ t d under h. elim (s.one_new t under) [ inl old ↦ k.names_sender t d old h | inr is ↦ subst (λ (x : Parcel). x.names_holder d x.from ≡ true) (sym is) (subst (λ q. new.names_holder d q ≡ true) (sym s.of_log.from) (s.of_log.names_sender d (sym (ap (λ (x : Parcel). x.carries d) is) ∙ h))) ];
-    sent_before = λ m t under sent. elim (s.one_new t under) [ inl old ↦ omega (arith, k.sent_before m t old sent) | inr is ↦ (let place : Some m ≡ Some (length past) = sym sent ∙ ap (λ (x : Parcel). x.send) is ∙ s.position in let here : m ≡ length past = cc in omega (arith, here)) ];
+    names_sender = λ t d under h. elim (s.one_new t under) [ inl old ↦ k.names_sender t d old h | inr is ↦ subst (λ (x : TransitParcel). x.names_holder d x.from ≡ true) (sym is) (subst (λ q. new.names_holder d q ≡ true) (sym s.of_log.from) (s.of_log.names_sender d (sym (ap (λ (x : TransitParcel). x.carries d) is) ∙ h))) ];
+    sent_before = λ m t under sent. elim (s.one_new t under) [ inl old ↦ omega (arith, k.sent_before m t old sent) | inr is ↦ (let place : Some m ≡ Some (length past) = sym sent ∙ ap (λ (x : TransitParcel). x.send) is ∙ s.position in let here : m ≡ length past = cc in omega (arith, here)) ];
     recovering_are_down = λ p d h. k.recovering_are_down p d h;
   }

@@ -7,7 +7,7 @@ use Rattle.causal_trace.specs.Past.{logs, is_stable}
 -- what may still come to a log, as a message, an answer to a question, an acknowledgement or a write to stable
 -- storage: who sent it, of a message at which position, which determinants it carries, whom it names as their
 -- holders, and which it calls stable
-pub record Parcel : Type 0 where
+pub record TransitParcel : Type 0 where
   -- the process that sent it
   pub from : ℕ
   -- of a message the position of its send entry
@@ -27,20 +27,20 @@ pub record VolatileState : Type 0 where
   -- whether the process knows the determinant to be stable
   pub knows_stable : ℕ → Det → Bool
   -- the parcel at these numbers
-  pub parcels : ℕ → ℕ → Option Parcel
+  pub parcels : ℕ → ℕ → Option TransitParcel
 
 -- the parcel is in transit
-abbrev pub IsInTransit : VolatileState → Parcel → Type 0
+abbrev pub IsInTransit : VolatileState → TransitParcel → Type 0
 IsInTransit v t = (i j : ℕ) × (v.parcels i j ≡ Some t)
 
 -- some process logs d
-abbrev pub IsLogged : ℕ → List Entry → Det → Type 0
-IsLogged n past d = (p : ℕ) × (p < n) × (logs past p d ≡ true)
+abbrev pub IsLoggedBySome : ℕ → List Entry → Det → Type 0
+IsLoggedBySome n past d = (p : ℕ) × (p < n) × (logs past p d ≡ true)
 
 -- something in transit carries d
 abbrev pub IsCarried : VolatileState → Det → Type 0
-IsCarried v d = (t : Parcel) × IsInTransit v t × (t.carries d ≡ true)
+IsCarried v d = (t : TransitParcel) × IsInTransit v t × (t.carries d ≡ true)
 
 -- d survives: it is stable, logged or in transit
 abbrev pub Survives : ℕ → List Entry → VolatileState → Det → Type 0
-Survives n past v d = (is_stable past d ≡ true) ⊎ (IsLogged n past d ⊎ IsCarried v d)
+Survives n past v d = (is_stable past d ≡ true) ⊎ (IsLoggedBySome n past d ⊎ IsCarried v d)

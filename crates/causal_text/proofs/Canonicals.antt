@@ -18,7 +18,7 @@ use Rattle.causal_trace.specs.Rows.{Recording}
 use Rattle.causal_trace.specs.Sizes.{EntriesAreBounded, NumbersAreBounded, LimitsAreKept}
 use Rattle.causal_line.specs.declared.version.Version.{Version}
 use Rattle.causal_line.specs.declared.version.Version.TheVariants.{One, Two}
-use Rattle.causal_line.specs.Versions.{number_of, allows, AllowsAll, FitsVersion}
+use Rattle.causal_line.specs.Versions.{version_number, allows, AllowsAll, FitsVersion}
 use Rattle.causal_text.specs.Laws.{CanonicalTextReadsBack}
 use Rattle.causal_text.proofs.Sizes.{length-canonical}
 use Rattle.causal_text.proofs.ReadsBack.{read-compact_text}
@@ -56,7 +56,7 @@ shapes_fit : (es : List Entry) (count : ℕ) → EntriesAreBounded 256 es → co
 shapes_fit [] count h few = (few, tt)
 shapes_fit (e ∷ es) count h few = (h.0, shapes_fit es count h.1 few)
 
-number_fits : (version : Version) → number_of version < 2 ^ 32
+number_fits : (version : Version) → version_number version < 2 ^ 32
 number_fits One = omega arith
 number_fits Two = omega arith
 

@@ -22,7 +22,7 @@ use Rattle.causal_line.specs.Reading.{◌>>=◌}
 use Rattle.causal_text.specs.Inside.LineByLine.{after_lines, read_text}
 use Rattle.causal_line.specs.Stages.{empty_recording, max_text_len, advance_stage, lines_up_to}
 use Rattle.causal_line.specs.Values.{parse_line}
-use Rattle.causal_line.specs.Versions.{number_of, max_processes_in, AllowsAll}
+use Rattle.causal_line.specs.Versions.{version_number, max_processes_in, AllowsAll}
 use Rattle.causal_text.specs.Spelling.{LeadsTo, SpellsWithin}
 use Rattle.causal_line.proofs.Lemmas.LineBytes.{sum_by-lines}
 use Rattle.causal_text.proofs.Steps.{said_entries}
@@ -87,7 +87,7 @@ last_of (l ∷ ls) (y ∷ ys) x h =
 same_place : (p q : ReadPosition) → p.stage ≡ q.stage → p.count ≡ q.count → p.size ≡ q.size → p ≡ q
 same_place p q stage count size = λ i. record { stage = stage i; count = count i; size = size i }
 
-takes_header : (most : ℕ) (version : Version) (n end : ℕ) (l : List ℕ) → 1 ≤ n → n ≤ max_processes_in version → end ≤ max_text_len most → parse_line l ≡ Ok (parsed.Header (number_of version) n) → advance_stage most Opening end l ≡ Ok (Within version (empty_recording n))
+takes_header : (most : ℕ) (version : Version) (n end : ℕ) (l : List ℕ) → 1 ≤ n → n ≤ max_processes_in version → end ≤ max_text_len most → parse_line l ≡ Ok (parsed.Header (version_number version) n) → advance_stage most Opening end l ≡ Ok (Within version (empty_recording n))
 takes_header most One n end l some few h is = in_limit most end _ h ∙ rw (is, le-leb 1 n some, le-leb n 64 few) refl
 takes_header most Two n end l some few h is = in_limit most end _ h ∙ rw (is, le-leb 1 n some, le-leb n 256 few) refl
 
@@ -109,11 +109,11 @@ Leads-last most ls s t x h few led takes =
 Leads-within : (most : ℕ) (version : Version) (n : ℕ) (past : List Entry) (ls : List (List ℕ)) → 1 ≤ n → n ≤ max_processes_in version → AllowsAll version past → AreLegalEntries n past → FitsLimits most (record { processes = n; past = past }) →
     map parse_line ls ≡ map Ok (lines_up_to (Within version (record { processes = n; past = past }))) → sum_by length ls ≤ max_text_len most → Leads most ls (Within version (record { processes = n; past = past }))
 Leads-within most version n [] ls some few lined ok kept h size =
-    Leads-last most ls Opening (Within version (empty_recording n)) (parsed.Header (number_of version) n) h size (λ front is small. Leads-opening most front is)
+    Leads-last most ls Opening (Within version (empty_recording n)) (parsed.Header (version_number version) n) h size (λ front is small. Leads-opening most front is)
     (λ end l small is. takes_header most version n end l some few small is)
 Leads-within most version n (e ∷ past) ls some few lined ok kept h size =
     let r : Recording = record { processes = n; past = past } in
-    let said_last : map parse_line ls ≡ map Ok (lines_up_to (Within version r) ++ parsed.Entry e ∷ []) = h ∙ ap (λ xs. map Ok (parsed.Header (number_of version) n ∷ xs)) (said_entries e past) in
+    let said_last : map parse_line ls ≡ map Ok (lines_up_to (Within version r) ++ parsed.Entry e ∷ []) = h ∙ ap (λ xs. map Ok (parsed.Header (version_number version) n ∷ xs)) (said_entries e past) in
     Leads-last most ls (Within version r) (Within version (with_entry r e)) (parsed.Entry e) said_last size
     (λ front is small. Leads-within most version n past front some few lined.0 ok.0 (within_before most r e kept) is small)
     (λ end l small is. in_limit most end _ small ∙ rw (is, lined.1, next_within most r e kept ok.1) refl)

@@ -9,7 +9,7 @@ use Rattle.causal_trace.specs.declared.entry.Entry.{Entry}
 use Rattle.causal_trace.specs.declared.entry.Entry.TheVariants.{Send, Deliver, Stable, Crash, Restart, Forget}
 use Rattle.causal_line.specs.declared.parsed_line.ParsedLine.{ParsedLine}
 use Rattle.causal_line.specs.declared.parsed_line.ParsedLine.TheVariants as parsed
-use Rattle.causal_line.specs.ParsedLines.{pid_at, det_of, dets_of, dets_at, header_of, send_of, deliver_of, stable_of, crash_of, restart_of, forget_of, end_of, parse_value}
+use Rattle.causal_line.specs.ParsedLines.{pid_at, parse_det, parse_dets, dets_at, parse_header, parse_send, parse_deliver, parse_stable, parse_crash, parse_restart, parse_forget, end_of, parse_value}
 use Rattle.causal_spelling.specs.Spelling.{det_text, more_dets_text, dets_text}
 use Rattle.causal_lines.specs.Canonical.{entry_text, parsed_line_text}
 use Rattle.causal_trace.specs.Sizes.{DetIsBounded, DetsAreBounded, EntryIsBounded}
@@ -77,16 +77,16 @@ ShapeFits (parsed.Header version n) = (version < 2 ^ 32) × (n < 2 ^ 32)
 ShapeFits (parsed.Entry e) = EntryIsBounded 256 e
 ShapeFits (parsed.End count) = count < 2 ^ 32
 
-det_back : (d : Det) → DetIsBounded 256 d → det_of (det_data d) ≡ Ok d
-unfolding det_of pid_at
+det_back : (d : Det) → DetIsBounded 256 d → parse_det (det_data d) ≡ Ok d
+unfolding parse_det pid_at
 det_back d h = rw (below d.source.0 (2 ^ 8) h.source, wide d.ssn h.ssn, below d.dest.0 (2 ^ 8) h.dest, wide d.rsn h.rsn) refl
 
-dets_back : (ds : List Det) → DetsAreBounded 256 ds → dets_of (dets_items ds) ≡ Ok ds
+dets_back : (ds : List Det) → DetsAreBounded 256 ds → parse_dets (dets_items ds) ≡ Ok ds
 dets_back [] h = refl
 dets_back (d ∷ ds) h = rw (det_back d h.0, dets_back ds h.1) refl
 
 entry_back : (e : Entry) → EntryIsBounded 256 e → parse_value (entry_data e) ≡ Ok (parsed.Entry e)
-unfolding parse_value send_of deliver_of stable_of crash_of restart_of forget_of pid_at dets_at
+unfolding parse_value parse_send parse_deliver parse_stable parse_crash parse_restart parse_forget pid_at dets_at
 entry_back (Send from to ssn) h = rw (below from.0 (2 ^ 8) h.0, below to.0 (2 ^ 8) h.1, wide ssn h.2) refl
 entry_back (Deliver to send rsn listed) h = rw (below to.0 (2 ^ 8) h.0, wide send h.1, wide rsn h.2, dets_back listed h.3) refl
 entry_back (Stable det) h = rw (det_back det h) refl
@@ -96,7 +96,7 @@ entry_back (Forget who listed) h = rw (below who.0 (2 ^ 8) h.0, dets_back listed
 
 -- the value parses as the parsed line
 pub shape_back : (s : ParsedLine) → ShapeFits s → parse_value (data_of s) ≡ Ok s
-unfolding parse_value data_of header_of end_of
+unfolding parse_value data_of parse_header end_of
 shape_back (parsed.Header version n) h = rw (below version (2 ^ 32) h.0, below n (2 ^ 32) h.1) refl
 shape_back (parsed.Entry e) h = entry_back e h
 shape_back (parsed.End count) h = rw (below count (2 ^ 32) h) refl

@@ -19,7 +19,7 @@ use Rattle.causal_line.specs.declared.version.Version.TheVariants.{One, Two}
 use Rattle.causal_spelling.specs.Spelling.{det_text, more_dets_text, dets_text}
 use Rattle.causal_lines.specs.Canonical.{entry_text, entries_text, line_text, canonical_text}
 use Rattle.causal_line.specs.Stages.{max_text_len}
-use Rattle.causal_line.specs.Versions.{number_of}
+use Rattle.causal_line.specs.Versions.{version_number}
 use Rattle.causal_lines.proofs.Lemmas.CanonicalParts.{canonical_parts}
 
 digits_at_most : (k n : ℕ) (rest : List ℕ) (m : ℕ) → length (decimal n) ≤ k → length rest ≤ m → length (decimal n ++ rest) ≤ k + m
@@ -83,11 +83,11 @@ length-entries (e ∷ past) h =
       entries_text-last e past,
     )
 
-one_digit : (version : Version) → length (decimal (number_of version)) ≤ 1
+one_digit : (version : Version) → length (decimal (version_number version)) ≤ 1
 one_digit One = length-decimal-le 1 1 (omega arith) (omega arith) (omega arith)
 one_digit Two = length-decimal-le 1 2 (omega arith) (omega arith) (omega arith)
 
-header_short : (version : Version) (n : ℕ) → n ≤ 256 → length (line_text (parsed.Header (number_of version) n)) ≤ 20
+header_short : (version : Version) (n : ℕ) → n ≤ 256 → length (line_text (parsed.Header (version_number version) n)) ≤ 20
 header_short version n h = grind (arith, three, one_digit, length-append)
 
 end_short : (count : ℕ) → count ≤ 16777216 → length (line_text (parsed.End count)) ≤ 20

@@ -19,7 +19,7 @@ use Rattle.causal_line.specs.Reading.{◌>>=◌}
 use Rattle.causal_line.specs.Stages.{max_text_len, open_text, push_entry, apply_line, check_limit, advance_stage, lines_up_to}
 use Rattle.causal_line.specs.Kinds.{text_kind_of}
 use Rattle.causal_line.specs.Values.{parse_line}
-use Rattle.causal_line.specs.Versions.{number_of, allows}
+use Rattle.causal_line.specs.Versions.{version_number, allows}
 use Rattle.causal_text.specs.Spelling.{IsSound}
 use Rattle.causal_trace.proofs.Lemmas.WellFormed.{rows_next, within_next}
 
@@ -34,7 +34,7 @@ pub record Adds (most : ℕ) (s : Stage) (x : ParsedLine) (t : Stage) : Type 0 w
 pub said_entries : (e : Entry) (past : List Entry) → map parsed.Entry (reverse (e ∷ past)) ≡ map parsed.Entry (reverse past) ++ parsed.Entry e ∷ []
 said_entries e past = ap (map parsed.Entry) (reverse-append (e ∷ []) past) ∙ map-append parsed.Entry (reverse past) (e ∷ [])
 
-Adds-version : (most : ℕ) (version : Version) (n : ℕ) (t : Stage) → open_text (Some version) n ≡ Ok t → Adds most Opening (parsed.Header (number_of version) n) t
+Adds-version : (most : ℕ) (version : Version) (n : ℕ) (t : Stage) → open_text (Some version) n ≡ Ok t → Adds most Opening (parsed.Header (version_number version) n) t
 Adds-version most version n t h = grind arith
 
 Adds-begun : (most : ℕ) (number n : ℕ) (one two : Bool) (t : Stage) → (number == 1) ≡ one → (number == 2) ≡ two → open_text (cond one (Some One) (cond two (Some Two) None)) n ≡ Ok t → Adds most Opening (parsed.Header number n) t

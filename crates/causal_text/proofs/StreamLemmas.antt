@@ -16,7 +16,7 @@ use Rattle.causal_line.specs.Stages.{max_text_len}
 use Rattle.causal_text.specs.Spelling.{SpellsWithin, IsFirstFaultWithin, IsReadUpTo, IsReadAt}
 use Rattle.causal_text.specs.Pieces.{concat_lines, PieceState, RepresentsBytes}
 use Rattle.causal_text.specs.Inside.PartialLines.{FitsLimit}
-use Rattle.causal_text.specs.Streams.{HasReadWithin, StopsOnceDecided, max_piece, IsReading, Follows, PieceEndsAt, ExplainsFault, ExplainsFaultOf, IsNoMemoryLine, IsNoMemoryLineOf, IsFaultAfter}
+use Rattle.causal_text.specs.Streams.{HasReadWithin, StopsOnceDecided, max_piece, IsReading, IsProgressOf, PieceEndsAt, ExplainsFault, ExplainsFaultOf, IsNoMemoryLine, IsNoMemoryLineOf, IsFaultAfter}
 
 -- consuming one part of a source and then another is consuming both
 pub Consumes-then : (a m n : Option (List ℕ)) (xs ys : List ℕ) → Consumes a m xs → Consumes m n ys → Consumes a n (xs ++ ys)
@@ -26,7 +26,7 @@ Consumes-then (Some a) (Some m) None xs ys p q = absurd q
 Consumes-then (Some a) (Some m) (Some n) xs ys p q = p ∙ ap (λ z. xs ++ z) q ∙ sym (append_assoc xs ys n)
 
 -- if more bytes may follow, the text has not ended
-pub IsReading-more : (s : State) → Follows progress.More s → IsReading s
+pub IsReading-more : (s : State) → IsProgressOf progress.More s → IsReading s
 IsReading-more (state.Reading h) f = f
 IsReading-more (state.Ended r) f = absurd f
 IsReading-more state.Failed f = absurd f

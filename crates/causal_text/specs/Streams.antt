@@ -68,10 +68,10 @@ HasPiece progress.More piece = (0 < length piece) × (length piece ≤ max_piece
 HasPiece progress.Ended piece = piece ≡ []
 
 -- after `More` the text has not ended, after `Ended` it has
-abbrev pub Follows : Progress → State → Type 0
-Follows progress.More (state.Reading held) = Unit {0}
-Follows progress.Ended (state.Ended r) = Unit {0}
-Follows p s = ⊥
+abbrev pub IsProgressOf : Progress → State → Type 0
+IsProgressOf progress.More (state.Reading held) = Unit {0}
+IsProgressOf progress.Ended (state.Ended r) = Unit {0}
+IsProgressOf p s = ⊥
 
 -- `Ended` means that the source has no byte left
 abbrev pub EndMeansEmpty : Progress → Option (List ℕ) → Type 0

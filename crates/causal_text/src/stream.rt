@@ -4,7 +4,7 @@ ghost use Rattle.std.specs.Io.KnownBytes.{Consumes};
 ghost use Rattle.causal_trace.specs.Rows.{Recording};
 ghost use Rattle.causal_text.specs.Inside.Contexts.{HasTrueContextAfter};
 ghost use Rattle.causal_text.specs.Spelling.{Spells, IsReadAt};
-ghost use Rattle.causal_text.specs.Streams.{HasRead, HasReadWithin, IsReading, HasPiece, Follows, FoundEnd, IsFaultAfter, HasExplainedFault, HasNoMemoryLine, ExplainsFaultOf, IsNoMemoryLineOf, trace_of_state, IsTraceOfState};
+ghost use Rattle.causal_text.specs.Streams.{HasRead, HasReadWithin, IsReading, HasPiece, IsProgressOf, FoundEnd, IsFaultAfter, HasExplainedFault, HasNoMemoryLine, ExplainsFaultOf, IsNoMemoryLineOf, trace_of_state, IsTraceOfState};
 
 use crate::reader::PieceReader;
 use causal_line::kind::{TextFault, TextKind};
@@ -74,8 +74,8 @@ pub(crate) fn push_piece(
     ensures before { IfErr result
         (λ rejected. (b : List ℕ) → HasReadWithin limits.entries (State.Reading pieces) b
         → HasTrueContextAfter limits.entries piece.now (b ++ piece.now) rejected) }
-    ensures more { 0 < length piece.now → IfOk result (Follows Progress.More) }
-    ensures ended { length piece.now ≡ 0 → IfOk result (Follows Progress.Ended) }
+    ensures more { 0 < length piece.now → IfOk result (IsProgressOf Progress.More) }
+    ensures ended { length piece.now ≡ 0 → IfOk result (IsProgressOf Progress.Ended) }
 {
     if piece.is_empty() {
         Ok(State::Ended(pieces.end(alloc, limits)?))
@@ -124,7 +124,7 @@ impl<R: Read + Drop> TraceReader<R> {
             × HasPiece progress piece
             × ((b : List ℕ) → HasRead (State.Reading pieces) b →
             HasRead self.new.state (b ++ piece))) }
-        ensures follows { IfOk result (λ progress. Follows progress self.new.state) }
+        ensures follows { IfOk result (λ progress. IsProgressOf progress self.new.state) }
         ensures end { FoundEnd result (R.remaining self.new.source) }
         ensures text { HasExplainedFault result
             (R.remaining self.old.source) (R.remaining self.new.source) (State.Reading pieces) }
@@ -162,7 +162,7 @@ impl<R: Read + Drop> TraceReader<R> {
             × Consumes (R.remaining self.old.source) (R.remaining self.new.source) piece
             × HasPiece progress piece
             × ((b : List ℕ) → HasRead self.old.state b → HasRead self.new.state (b ++ piece))) }
-        ensures follows { IfOk result (λ progress. Follows progress self.new.state) }
+        ensures follows { IfOk result (λ progress. IsProgressOf progress self.new.state) }
         ensures end { IsReading self.old.state → FoundEnd result (R.remaining self.new.source) }
         ensures text { HasExplainedFault result (R.remaining self.old.source)
             (R.remaining self.new.source) self.old.state }

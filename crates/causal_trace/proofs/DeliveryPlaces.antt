@@ -8,38 +8,38 @@ use Rattle.std.proofs.lemmas.Bool.Decides.{eqb_tells}
 use Rattle.causal_name.specs.declared.MsgName.{MsgName}
 use Rattle.causal_name.specs.declared.Det.{Det}
 use Rattle.causal_name.specs.Names.{same_message, message_of}
-use Rattle.causal_trace.specs.declared.chains.Receipt.{Receipt}
-use Rattle.causal_trace.specs.declared.chains.Node.{Node}
-use Rattle.causal_trace.specs.Inside.Chains.{Heads, HasHead, IsPlaceBelow, LeadDown, AreLinked, head_of, is_of, place_of, with_head}
+use Rattle.causal_trace.specs.declared.chains.MessageReceipt.{MessageReceipt}
+use Rattle.causal_trace.specs.declared.chains.ReceiptNode.{ReceiptNode}
+use Rattle.causal_trace.specs.Inside.Chains.{Heads, HasHead, IsPlaceBelow, LeadDown, AreLinked, head_of, is_receipt_of, receipt_index, with_head}
 use Rattle.causal_trace.proofs.ReceiptChains.{below_higher, head_leads, leads_on, node_newest, node_older, one_head}
 
 -- a newer node is in no chain of older nodes
-place_skips : (n : ℕ) (d : Det) (node : Node) (older : List Node) (at : Option ℕ) → IsPlaceBelow at (length older) → place_of n d (node ∷ older) at ≡ place_of n d older at
+place_skips : (n : ℕ) (d : Det) (node : ReceiptNode) (older : List ReceiptNode) (at : Option ℕ) → IsPlaceBelow at (length older) → receipt_index n d (node ∷ older) at ≡ receipt_index n d older at
 place_skips n d node older None h = refl
 place_skips n d node older (Some k) h = cond-false (k == length older) _ _ (ne_eqb k (length older) (λ is. omega (arith, h, is)))
 
 -- the newest node begins the chain from its index
-place_begins : (n : ℕ) (d : Det) (node : Node) (older : List Node) → place_of n d (node ∷ older) (Some (length older)) ≡ cond (nat_lt (length older) n && is_of d node.receipt) (Some (length older)) (place_of n d older node.next)
+place_begins : (n : ℕ) (d : Det) (node : ReceiptNode) (older : List ReceiptNode) → receipt_index n d (node ∷ older) (Some (length older)) ≡ cond (nat_lt (length older) n && is_receipt_of d node.receipt) (Some (length older)) (receipt_index n d older node.next)
 place_begins n d node older = cond-true (length older == length older) _ _ (eq-eqb (length older) (length older) refl)
 
 -- a search from a node finds the node's own index, or continues at the linked node
-abbrev GoesOn : ℕ → Det → List Node → Node → ℕ → Type 0
-GoesOn n d nodes node k = place_of n d nodes (Some k) ≡ cond (nat_lt k n && is_of d node.receipt) (Some k) (place_of n d nodes node.next)
+abbrev GoesOn : ℕ → Det → List ReceiptNode → ReceiptNode → ℕ → Type 0
+GoesOn n d nodes node k = receipt_index n d nodes (Some k) ≡ cond (nat_lt k n && is_receipt_of d node.receipt) (Some k) (receipt_index n d nodes node.next)
 
-pub place_on : (n : ℕ) (d : Det) (nodes : List Node) (k : ℕ) (x : Node) → LeadDown nodes → k < length nodes → GoesOn n d nodes (get_or (reverse nodes) k x) k
+pub place_on : (n : ℕ) (d : Det) (nodes : List ReceiptNode) (k : ℕ) (x : ReceiptNode) → LeadDown nodes → k < length nodes → GoesOn n d nodes (get_or (reverse nodes) k x) k
 place_on n d [] k x down h = absurd (omega (arith, h))
 place_on n d (node ∷ older) k x down h =
     grind (arith, eqb_tells, node_newest, place_skips, node_older, place_on n d older k x down.1, below_higher, leads_on)
 
 -- an empty chain has no such receipt
-pub place_none : (n : ℕ) (d : Det) (nodes : List Node) (at : Option ℕ) → ((k : ℕ) → at ≡ Some k → ⊥) → place_of n d nodes at ≡ None
+pub place_none : (n : ℕ) (d : Det) (nodes : List ReceiptNode) (at : Option ℕ) → ((k : ℕ) → at ≡ Some k → ⊥) → receipt_index n d nodes at ≡ None
 place_none n d [] at h = refl
 place_none n d (node ∷ older) None h = place_none n d older None h
 place_none n d (node ∷ older) (Some k) h = absurd (h k refl)
 
 -- after one more receipt, a search finds it if it matches, and otherwise what it found before
-pub receipt_placed : (heads : Heads) (nodes : List Node) (m : MsgName) (n : ℕ) (d : Det) (receipt : Receipt) → HasHead heads m → AreLinked heads nodes
-    → place_of n d (record { receipt = receipt; next = head_of heads m } ∷ nodes) (head_of (with_head heads m (Some (length nodes))) (message_of d)) ≡ cond (same_message m (message_of d) && (nat_lt (length nodes) n && is_of d receipt)) (Some (length nodes)) (place_of n d nodes (head_of heads (message_of d)))
+pub receipt_placed : (heads : Heads) (nodes : List ReceiptNode) (m : MsgName) (n : ℕ) (d : Det) (receipt : MessageReceipt) → HasHead heads m → AreLinked heads nodes
+    → receipt_index n d (record { receipt = receipt; next = head_of heads m } ∷ nodes) (head_of (with_head heads m (Some (length nodes))) (message_of d)) ≡ cond (same_message m (message_of d) && (nat_lt (length nodes) n && is_receipt_of d receipt)) (Some (length nodes)) (receipt_index n d nodes (head_of heads (message_of d)))
 receipt_placed heads nodes m n d receipt has linked =
     grind (
       arith,
@@ -57,7 +57,7 @@ begins_at None n h = absurd (false≢true h)
 begins_at (Some k) n h = ap (λ i. Some i) (eqb-true k n h)
 
 -- an index that is found is that of a node
-pub place_within : (n : ℕ) (d : Det) (nodes : List Node) (at : Option ℕ) (m : ℕ) → place_of n d nodes at ≡ Some m → m < length nodes
+pub place_within : (n : ℕ) (d : Det) (nodes : List ReceiptNode) (at : Option ℕ) (m : ℕ) → receipt_index n d nodes at ≡ Some m → m < length nodes
 place_within n d [] at m is = absurd (let x : None ≡ Some m = is in cc)
 place_within n d (node ∷ older) at m is = grind (arith, cond-true, place_within n d older node.next m, cond-false, place_within n d older at m)
 
@@ -66,7 +66,7 @@ too_late : (k m : ℕ) (b : Bool) → m < k → (nat_lt k m && b) ≡ false
 too_late k m b later = ap (λ c. c && b) (le-ltb k m (omega (arith, later)))
 
 -- if the newest receipt among the first m + 1 has index m, the search from there finds the newest among the first m
-pub place_before : (d : Det) (nodes : List Node) (at : Option ℕ) (m : ℕ) → place_of (m + 1) d nodes at ≡ Some m → place_of m d nodes at ≡ place_of m d nodes (Some m)
+pub place_before : (d : Det) (nodes : List ReceiptNode) (at : Option ℕ) (m : ℕ) → receipt_index (m + 1) d nodes at ≡ Some m → receipt_index m d nodes at ≡ receipt_index m d nodes (Some m)
 place_before d [] at m is = refl
 place_before d (node ∷ older) at m is =
     grind (arith, cases_Bool, cond-true, begins_at, cond-false, place_within, too_late, place_before d older node.next m, place_before d older at m)

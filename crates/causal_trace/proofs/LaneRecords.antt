@@ -11,7 +11,7 @@ use Rattle.causal_trace.specs.declared.fault.TraceFault.TheVariants.{NoProcess}
 use Rattle.causal_trace.specs.declared.lanes.LaneState.{LaneState}
 use Rattle.causal_trace.specs.Past.{is_down, lane, sends, deliveries}
 use Rattle.causal_trace.specs.Rows.{rows_within, refusal_rows, first_fault}
-use Rattle.causal_trace.specs.Inside.Index.{lane_of, first_lane, lane_after, subject, lanes_after, lanes_after_of, ArePresentLanes, CountersFit}
+use Rattle.causal_trace.specs.Inside.Index.{lane_state, first_lane, lane_after, subject, lanes_after, lanes_after_of, ArePresentLanes, CountersFit}
 use Rattle.causal_trace.proofs.Lemmas.EntryFacts.{row_fails}
 use Rattle.causal_trace.proofs.Lemmas.CountBounds.{sends_few, deliveries_few}
 
@@ -19,15 +19,15 @@ abbrev is_of : ℕ → Entry → Bool
 is_of p e = option_map_or (λ q. q.0 == p) (subject e) false
 
 -- only the lane of the entry's process changes
-pub lane_of_next : (e : Entry) (past : List Entry) (p : ℕ) → lane_of (e ∷ past) p ≡ cond (is_of p e) (lane_after e (lane_of past p)) (lane_of past p)
-lane_of_next (Send from to ssn) past p = elim (from.0 == p) as (λ b. record { down = is_down past p; restarts = lane past p; sends = cond b (sends past p + 1) (sends past p); deliveries = deliveries past p } ≡ cond b (lane_after (Send from to ssn) (lane_of past p)) (lane_of past p)) [ true ↦ refl | false ↦ refl ]
-lane_of_next (Deliver to send rsn listed) past p = elim (to.0 == p) as (λ b. record { down = is_down past p; restarts = lane past p; sends = sends past p; deliveries = cond b (deliveries past p + 1) (deliveries past p) } ≡ cond b (lane_after (Deliver to send rsn listed) (lane_of past p)) (lane_of past p)) [ true ↦ refl | false ↦ refl ]
+pub lane_of_next : (e : Entry) (past : List Entry) (p : ℕ) → lane_state (e ∷ past) p ≡ cond (is_of p e) (lane_after e (lane_state past p)) (lane_state past p)
+lane_of_next (Send from to ssn) past p = elim (from.0 == p) as (λ b. record { down = is_down past p; restarts = lane past p; sends = cond b (sends past p + 1) (sends past p); deliveries = deliveries past p } ≡ cond b (lane_after (Send from to ssn) (lane_state past p)) (lane_state past p)) [ true ↦ refl | false ↦ refl ]
+lane_of_next (Deliver to send rsn listed) past p = elim (to.0 == p) as (λ b. record { down = is_down past p; restarts = lane past p; sends = sends past p; deliveries = cond b (deliveries past p + 1) (deliveries past p) } ≡ cond b (lane_after (Deliver to send rsn listed) (lane_state past p)) (lane_state past p)) [ true ↦ refl | false ↦ refl ]
 lane_of_next (Stable det) past p = refl
-lane_of_next (Crash who) past p = elim (who.0 == p) as (λ b. record { down = b || is_down past p; restarts = lane past p; sends = sends past p; deliveries = deliveries past p } ≡ cond b (lane_after (Crash who) (lane_of past p)) (lane_of past p)) [ true ↦ refl | false ↦ refl ]
-lane_of_next (Restart who listed) past p = elim (who.0 == p) as (λ b. record { down = not b && is_down past p; restarts = cond b (lane past p + 1) (lane past p); sends = cond b 0 (sends past p); deliveries = cond b 0 (deliveries past p) } ≡ cond b (lane_after (Restart who listed) (lane_of past p)) (lane_of past p)) [ true ↦ refl | false ↦ refl ]
-lane_of_next (Forget who listed) past p = elim (who.0 == p) as (λ b. lane_of past p ≡ cond b (lane_of past p) (lane_of past p)) [ true ↦ refl | false ↦ refl ]
+lane_of_next (Crash who) past p = elim (who.0 == p) as (λ b. record { down = b || is_down past p; restarts = lane past p; sends = sends past p; deliveries = deliveries past p } ≡ cond b (lane_after (Crash who) (lane_state past p)) (lane_state past p)) [ true ↦ refl | false ↦ refl ]
+lane_of_next (Restart who listed) past p = elim (who.0 == p) as (λ b. record { down = not b && is_down past p; restarts = cond b (lane past p + 1) (lane past p); sends = cond b 0 (sends past p); deliveries = cond b 0 (deliveries past p) } ≡ cond b (lane_after (Restart who listed) (lane_state past p)) (lane_state past p)) [ true ↦ refl | false ↦ refl ]
+lane_of_next (Forget who listed) past p = elim (who.0 == p) as (λ b. lane_state past p ≡ cond b (lane_state past p) (lane_state past p)) [ true ↦ refl | false ↦ refl ]
 
-lanes_at : (subj : Option Pid) (n : ℕ) (e : Entry) (past : List Entry) (lanes : List LaneState) → ArePresentLanes n past lanes → (p : ℕ) (d : LaneState) → p < n → get_or (lanes_after_of subj e lanes) p d ≡ cond (option_map_or (λ q. q.0 == p) subj false) (lane_after e (lane_of past p)) (lane_of past p)
+lanes_at : (subj : Option Pid) (n : ℕ) (e : Entry) (past : List Entry) (lanes : List LaneState) → ArePresentLanes n past lanes → (p : ℕ) (d : LaneState) → p < n → get_or (lanes_after_of subj e lanes) p d ≡ cond (option_map_or (λ q. q.0 == p) subj false) (lane_after e (lane_state past p)) (lane_state past p)
 lanes_at None n e past lanes are p d h = are.each p d h
 lanes_at (Some q) n e past lanes are p d h = grind (arith, get_or-set_same, get_or-set_other)
 
@@ -50,7 +50,7 @@ lane_few (Crash who ∷ past) p = omega (arith, lane_few past p)
 lane_few (Forget who listed ∷ past) p = omega (arith, lane_few past p)
 
 -- no count exceeds the number of entries
-lane_has_room : (past : List Entry) (p : ℕ) → length past < 16777216 → CountersFit (lane_of past p)
+lane_has_room : (past : List Entry) (p : ℕ) → length past < 16777216 → CountersFit (lane_state past p)
 lane_has_room past p h = grind (arith, lane_few, sends_few, deliveries_few)
 
 -- while a run has fewer entries than the limit, each lane's counters can count one more

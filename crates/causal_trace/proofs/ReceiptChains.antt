@@ -7,8 +7,8 @@ use Rattle.std.proofs.lemmas.List.{get_or-set_same, get_or-set_other, length-set
 use Rattle.std.proofs.Math.Seq.{get_or-append_seam}
 use Rattle.causal_name.specs.declared.MsgName.{MsgName}
 use Rattle.causal_name.specs.Names.{same_message}
-use Rattle.causal_trace.specs.declared.chains.Receipt.{Receipt}
-use Rattle.causal_trace.specs.declared.chains.Node.{Node}
+use Rattle.causal_trace.specs.declared.chains.MessageReceipt.{MessageReceipt}
+use Rattle.causal_trace.specs.declared.chains.ReceiptNode.{ReceiptNode}
 use Rattle.causal_trace.specs.Inside.Chains.{Heads, heads_of, head_of, HasHead, IsPlaceBelow, LeadDown, chain, AreLinked, with_next_head, with_message, with_head}
 
 -- an index below a bound is below a higher bound
@@ -17,30 +17,30 @@ below_higher None a b h k = tt
 below_higher (Some v) a b h k = omega (arith, h, k)
 
 -- a newer node is in no chain of older nodes
-pub chain_skips : (node : Node) (older : List Node) (at : Option ℕ) → IsPlaceBelow at (length older) → chain (node ∷ older) at ≡ chain older at
+pub chain_skips : (node : ReceiptNode) (older : List ReceiptNode) (at : Option ℕ) → IsPlaceBelow at (length older) → chain (node ∷ older) at ≡ chain older at
 chain_skips node older None h = refl
 chain_skips node older (Some k) h = cond-false (k == length older) _ _ (ne_eqb k (length older) (λ is. omega (arith, h, is)))
 
 -- the links of a node
-pub record Leads (nodes : List Node) (node : Node) (k : ℕ) : Type 0 where
+pub record Leads (nodes : List ReceiptNode) (node : ReceiptNode) (k : ℕ) : Type 0 where
   -- the receipts from k on are the node's own and those of the linked node
   pub onward : chain nodes (Some k) ≡ node.receipt ∷ chain nodes node.next
   -- the node links to a lower index, or to none
   pub down : IsPlaceBelow node.next k
 
 -- the index of the newest node is the number of older nodes
-pub node_newest : (node : Node) (older : List Node) (k : ℕ) (d : Node) → k ≡ length older → get_or (reverse (node ∷ older)) k d ≡ node
+pub node_newest : (node : ReceiptNode) (older : List ReceiptNode) (k : ℕ) (d : ReceiptNode) → k ≡ length older → get_or (reverse (node ∷ older)) k d ≡ node
 node_newest node older k d is = grind (arith, reverse-append (node ∷ []) older, length-reverse older, get_or-append_seam)
 
 -- older nodes keep their indices
-pub node_older : (node : Node) (older : List Node) (k : ℕ) (d : Node) → k < length older → get_or (reverse (node ∷ older)) k d ≡ get_or (reverse older) k d
+pub node_older : (node : ReceiptNode) (older : List ReceiptNode) (k : ℕ) (d : ReceiptNode) → k < length older → get_or (reverse (node ∷ older)) k d ≡ get_or (reverse older) k d
 node_older node older k d h = grind (arith, reverse-append (node ∷ []) older, get_or_append_left, length-reverse)
 
-leads_older : (node : Node) (older : List Node) (found : Node) (k : ℕ) → k < length older → Leads older found k → Leads (node ∷ older) found k
+leads_older : (node : ReceiptNode) (older : List ReceiptNode) (found : ReceiptNode) (k : ℕ) → k < length older → Leads older found k → Leads (node ∷ older) found k
 leads_older node older found k h leads = grind arith
 
 -- each node links to an older one, and its chain continues there
-pub leads_on : (nodes : List Node) (k : ℕ) (d : Node) → LeadDown nodes → k < length nodes → Leads nodes (get_or (reverse nodes) k d) k
+pub leads_on : (nodes : List ReceiptNode) (k : ℕ) (d : ReceiptNode) → LeadDown nodes → k < length nodes → Leads nodes (get_or (reverse nodes) k d) k
 leads_on [] k d down h = absurd (omega (arith, h))
 leads_on (node ∷ older) k d down h = grind (arith, eqb_tells, node_newest, node_older, leads_older, leads_on older k d down.1)
 
@@ -92,11 +92,11 @@ pub head_keeps : (heads : Heads) (m q : MsgName) (at : Option ℕ) → m.source.
 head_keeps heads m q at h has = grind (arith, length-set, head_lengths)
 
 -- after one more message, heads and nodes link to existing nodes
-pub linked_message : (heads : Heads) (nodes : List Node) (m : MsgName) → m.source.0 < length heads → AreLinked heads nodes → AreLinked (with_message heads m) nodes
+pub linked_message : (heads : Heads) (nodes : List ReceiptNode) (m : MsgName) → m.source.0 < length heads → AreLinked heads nodes → AreLinked (with_message heads m) nodes
 linked_message heads nodes m h linked = grind (arith, message_leads)
 
 -- after one more receipt, heads and nodes link to existing nodes
-pub linked_receipt : (heads : Heads) (nodes : List Node) (m : MsgName) (receipt : Receipt) → HasHead heads m → AreLinked heads nodes → AreLinked (with_head heads m (Some (length nodes))) (record { receipt = receipt; next = head_of heads m } ∷ nodes)
+pub linked_receipt : (heads : Heads) (nodes : List ReceiptNode) (m : MsgName) (receipt : MessageReceipt) → HasHead heads m → AreLinked heads nodes → AreLinked (with_head heads m (Some (length nodes))) (record { receipt = receipt; next = head_of heads m } ∷ nodes)
 linked_receipt heads nodes m receipt has linked = grind (arith, head_leads)
 
 -- equal message names have the same head
@@ -104,11 +104,11 @@ pub one_head : (heads : Heads) (m q : MsgName) → same_message m q ≡ true →
 one_head heads m q same = grind arith
 
 -- the chain of each message, after one more receipt
-pub receipt_leads : (heads : Heads) (nodes : List Node) (m q : MsgName) (receipt : Receipt) → HasHead heads m → AreLinked heads nodes → chain (record { receipt = receipt; next = head_of heads m } ∷ nodes) (head_of (with_head heads m (Some (length nodes))) q) ≡ cond (same_message m q) (receipt ∷ chain nodes (head_of heads q)) (chain nodes (head_of heads q))
+pub receipt_leads : (heads : Heads) (nodes : List ReceiptNode) (m q : MsgName) (receipt : MessageReceipt) → HasHead heads m → AreLinked heads nodes → chain (record { receipt = receipt; next = head_of heads m } ∷ nodes) (head_of (with_head heads m (Some (length nodes))) q) ≡ cond (same_message m q) (receipt ∷ chain nodes (head_of heads q)) (chain nodes (head_of heads q))
 receipt_leads heads nodes m q receipt has linked = grind (arith, head_leads, one_head, chain_skips)
 
 -- an empty head begins an empty chain
-chain_none : (nodes : List Node) → chain nodes None ≡ []
+chain_none : (nodes : List ReceiptNode) → chain nodes None ≡ []
 chain_none [] = refl
 chain_none (node ∷ older) = chain_none older
 
@@ -118,6 +118,6 @@ walk_falls None k h = omega arith
 walk_falls (Some i) k h = omega (arith, h)
 
 -- an empty head has no receipts
-pub chain_ends : (nodes : List Node) (at : Option ℕ) → ((k : ℕ) → at ≡ Some k → ⊥) → chain nodes at ≡ []
+pub chain_ends : (nodes : List ReceiptNode) (at : Option ℕ) → ((k : ℕ) → at ≡ Some k → ⊥) → chain nodes at ≡ []
 chain_ends nodes None h = chain_none nodes
 chain_ends nodes (Some k) h = absurd (h k refl)

@@ -21,7 +21,7 @@ use Rattle.causal_trace.specs.Numbers.{delivered_dets, number_of}
 use Rattle.causal_trace.specs.Rows.{Recording, rows_within, refusal_rows, first_fault}
 use Rattle.causal_trace.specs.State.{with_entry}
 use Rattle.causal_trace.specs.Inside.Index.{AreChains, HasHeads, first_lane, lanes_after, IsIndexed, is_restart}
-use Rattle.causal_trace.specs.Inside.Chains.{Heads, HasHead, ChainsState, head_of, heads_of, heads_after, is_of, nodes_after, with_next_head, with_head, with_message}
+use Rattle.causal_trace.specs.Inside.Chains.{Heads, HasHead, ChainsState, head_of, heads_of, heads_after, is_receipt_of, nodes_after, with_next_head, with_head, with_message}
 use Rattle.causal_trace.proofs.ReceiptChains.{head_keeps, head_lengths, linked_message, linked_receipt, message_keeps, message_leads, message_longer, message_there, receipt_leads}
 use Rattle.causal_trace.proofs.DeliveryPlaces.{receipt_placed}
 use Rattle.causal_trace.proofs.Lemmas.EntryFacts.{delivers_sent, not_false, row_fails}
@@ -130,7 +130,7 @@ module _ (n : ℕ) (past : List Entry) (c : ChainsState) (are : AreChains n past
             let low = nat_lt (length c.nodes) k in
             let older = number_of k (delivered_dets past) d in
             receipt_placed c.heads c.nodes m k d (record { dest = to; lane = l; rsn = rsn }) has are.linked
-            ∙ ap (cond (same_message m (message_of d) && (low && is_of d (record { dest = to; lane = l; rsn = rsn }))) (Some (length c.nodes))) (are.placed k d)
+            ∙ ap (cond (same_message m (message_of d) && (low && is_receipt_of d (record { dest = to; lane = l; rsn = rsn }))) (Some (length c.nodes))) (are.placed k d)
             ∙ ap (λ b. cond b (Some (length c.nodes)) older) (and_swap (same_message m (message_of d)) low (to.0 == d.dest.0 && rsn == d.rsn))
             ∙ ap (λ b. cond (low && b) (Some (length c.nodes)) older) (and_and (m.source.0 == d.source.0) (m.ssn == d.ssn) (to.0 == d.dest.0 && rsn == d.rsn))
             ∙ ap (λ n. cond (nat_lt n k && same_det (det_from to rsn m) d) (Some n) older) are.numbered

@@ -2,7 +2,7 @@
 ghost use Rattle.std.specs.Prelude.{◌≡◌, ◌<◌, ◌≤◌, ◌+◌, ◌&&◌, ℕ, nat_lt, [], length, map, replicate, Some, IfOk, OnOk, OnErr, vec_len};
 ghost use Rattle.causal_trace.specs.Limits.{max_entries};
 ghost use Rattle.causal_name.specs.Names.{message_of};
-ghost use Rattle.causal_trace.specs.Inside.Chains.{chain_of, head_of, is_newest_in, is_of, least_room, place_of, with_head, with_message, with_receipt, AreLinked, HasHead, IfFinished, IsPlaceBelow};
+ghost use Rattle.causal_trace.specs.Inside.Chains.{chain_of, head_of, is_newest_in, is_receipt_of, least_room, receipt_index, with_head, with_message, with_receipt, AreLinked, HasHead, IfFinished, IsPlaceBelow};
 
 use causal_name::{Det, MsgName, NoMemory, Pid};
 use std::alloc::Global;
@@ -14,7 +14,7 @@ const RESERVE_STEP: usize = 128;
 
 /// A delivery of a message: the receiver, its lane (incarnation), and the delivery's number in that lane.
 #[derive(Clone, Copy)]
-pub(crate) struct Receipt {
+pub(crate) struct MessageReceipt {
     pub dest: Pid,
     pub lane: u32,
     pub rsn: u32,
@@ -22,8 +22,8 @@ pub(crate) struct Receipt {
 
 /// A receipt, and the index of the next older receipt of the same message.
 #[derive(Clone, Copy)]
-pub(crate) struct Node {
-    pub receipt: Receipt,
+pub(crate) struct ReceiptNode {
+    pub receipt: MessageReceipt,
     pub next: Option<u32>,
 }
 
@@ -45,7 +45,7 @@ pub(crate) enum Search {
 #[derive(Drop)]
 pub(crate) struct Chains {
     heads: Vec<Vec<Option<u32>>>,
-    nodes: Vec<Node>,
+    nodes: Vec<ReceiptNode>,
     /// A lower bound on how many more messages and receipts fit in reserved capacity.
     reserved: usize,
 }
@@ -100,7 +100,11 @@ impl Chains {
     }
 
     /// Adds a receipt at the front of its message's chain.
-    pub(crate) fn add_receipt(&mut self, message: MsgName, receipt: Receipt) -> Result<(), NoMemory>
+    pub(crate) fn add_receipt(
+        &mut self,
+        message: MsgName,
+        receipt: MessageReceipt,
+    ) -> Result<(), NoMemory>
         requires head { HasHead self.old.heads message }
         requires few { length self.old.nodes < max_entries }
         ensures heads { OnOk result (self.new.heads ≡
@@ -114,7 +118,7 @@ impl Chains {
         self.reserved = self.reserved.saturating_sub(1);
         let place = self.nodes.len() as u32;
         let next = self.head(message);
-        self.nodes.push(Node { receipt, next })?;
+        self.nodes.push(ReceiptNode { receipt, next })?;
         self.heads[message.source.0 as usize][message.ssn as usize] = Some(place);
         Ok(())
     }
@@ -139,7 +143,7 @@ impl Chains {
     /// Returns the index of the newest receipt with this determinant among the first `among`. O(lanes) time.
     pub(crate) fn find(&self, det: Det, among: usize) -> Option<u32>
         requires { AreLinked self.now.heads self.now.nodes }
-        ensures { result ≡ place_of among det self.now.nodes
+        ensures { result ≡ receipt_index among det self.now.nodes
             (head_of self.now.heads (message_of det)) }
     {
         self.find_from(self.head(det.message()), det, among)
@@ -149,7 +153,7 @@ impl Chains {
     pub(crate) fn find_from(&self, begin: Option<u32>, det: Det, among: usize) -> Option<u32>
         requires linked { AreLinked self.now.heads self.now.nodes }
         requires begin { IsPlaceBelow begin (length self.now.nodes) }
-        ensures { result ≡ place_of among det self.now.nodes begin }
+        ensures { result ≡ receipt_index among det self.now.nodes begin }
     {
         let mut place = begin;
         while let Some(k) = place {
@@ -166,7 +170,7 @@ impl Chains {
     pub(crate) fn find_near(&self, begin: Option<u32>, det: Det, among: usize) -> Search
         requires linked { AreLinked self.now.heads self.now.nodes }
         requires begin { IsPlaceBelow begin (length self.now.nodes) }
-        ensures { IfFinished result (λ found. found ≡ place_of among det self.now.nodes begin) }
+        ensures { IfFinished result (λ found. found ≡ receipt_index among det self.now.nodes begin) }
     {
         let mut place = begin;
         for _ in 0..FEW_STEPS {
@@ -238,8 +242,8 @@ impl Chains {
 }
 
 /// Checks whether a receipt of the determinant's message is a delivery with it, and its index is below `among`.
-fn is_of_first(among: usize, det: Det, place: u32, receipt: Receipt) -> bool
-    ensures { result ≡ (nat_lt place among && is_of det receipt) }
+fn is_of_first(among: usize, det: Det, place: u32, receipt: MessageReceipt) -> bool
+    ensures { result ≡ (nat_lt place among && is_receipt_of det receipt) }
 {
     (place as usize) < among && receipt.dest == det.dest && receipt.rsn == det.rsn
 }

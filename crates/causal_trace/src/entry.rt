@@ -26,9 +26,9 @@ impl Model for Dets {
 
     ghost Value = { List Det };
 
-    ghost use Rattle.causal_trace.specs.Inside.Lists.{dets_in};
+    ghost use Rattle.causal_trace.specs.Inside.Lists.{dets_in_repr};
 
-    ghost view = { λ a. dets_in a.listed };
+    ghost view = { λ a. dets_in_repr a.listed };
 }
 
 impl Clone for Dets {

@@ -9,7 +9,7 @@ ghost use Rattle.causal_trace.specs.State.{past_at};
 ghost use Rattle.causal_trace.specs.Inside.Chains.{HasHead, heads_after, nodes_after};
 ghost use Rattle.causal_trace.specs.Inside.SortedDeliveries.{AreDeliveries};
 
-use crate::chains::{Chains, Receipt, Search};
+use crate::chains::{Chains, MessageReceipt, Search};
 use crate::entry::{Dets, Entry};
 use crate::fault::{RefusedEntry, TraceFault};
 use crate::lanes::{LaneState, clone_entries, clone_lanes, count_entry, new_lanes, restarts_in};
@@ -81,7 +81,7 @@ impl Trace {
     ghost use Rattle.causal_trace.specs.Past.{lane, entry_at, listed_in, restarts, deliveries_in, det_at, is_delivered, has_delivered};
     ghost use Rattle.causal_trace.specs.Numbers.{delivered_dets, number_of};
     ghost use Rattle.causal_trace.specs.Rows.{fault_by_refusal_rows, fault_by_rows_within, fault_within, fault_next, refusal_within, refusal_next, returned_entry, IsNewRefusal, exceeds, exceeds_any_limit, are_delivered_with, first_refusal, IsWellFormed};
-    ghost use Rattle.causal_trace.specs.Inside.Index.{lane_of};
+    ghost use Rattle.causal_trace.specs.Inside.Index.{lane_state};
     ghost use Rattle.causal_trace.specs.State.{entries_of, with_entry, is_up_at, lane_at};
 
     /// Returns a trace of n processes with no entries.
@@ -214,7 +214,7 @@ impl Trace {
     }
 
     /// Returns the present lane of a determinant's receiver, 0 without a determinant.
-    #[tactic(auto, unfolding(crate::specs::Inside::Index::lane_of))]
+    #[tactic(auto, unfolding(crate::specs::Inside::Index::lane_state))]
     fn receipt_lane(&self, own: Option<Det>) -> u32
         requires { IfSome own (λ d. d.dest.0 < self.now.recording.processes) }
         ensures { (d : Det) → own ≡ Some d → result ≡ lane self.now.recording.past d.dest.0 }
@@ -434,7 +434,7 @@ impl Trace {
     /// Returns the present lane of a process.
     fn present_lane(&self, p: Pid) -> LaneState
         requires { p.0 < self.now.recording.processes }
-        ensures { result ≡ lane_of self.now.recording.past p.0 }
+        ensures { result ≡ lane_state self.now.recording.past p.0 }
     {
         self.lanes[p.0 as usize]
     }
@@ -683,7 +683,7 @@ fn add_to_chains(
     }
     match own {
         Some(det) => {
-            let receipt = Receipt {
+            let receipt = MessageReceipt {
                 dest: det.dest,
                 lane,
                 rsn: det.rsn,

@@ -8,7 +8,7 @@ use Rattle.causal_name.specs.declared.Det.{Det}
 use Rattle.causal_name.specs.Names.{is_before, is_ascending}
 use Rattle.causal_wire.specs.declared.fault.WireFault.{WireFault}
 use Rattle.causal_wire.specs.Bytes.{number_bytes, list_bytes}
-use Rattle.causal_wire.specs.Reading.{◌>>=◌, number_at, follows, list_at}
+use Rattle.causal_wire.specs.Reading.{◌>>=◌, read_number, follows, read_list}
 use Rattle.causal_wire.proofs.FieldLaws.{IsBytes, bind_ok, ok_is, Takes, Takes-then, wide32, number_takes, number_again}
 
 -- each element fits after the one before it
@@ -24,13 +24,13 @@ module _ {A S : Type 0} (next : A → S) (read : S → List ℕ → Result (A ×
     pub chain : Chain next Fits s x.0
 
   pub list_takes : ((s : S) (bytes : List ℕ) (x : A × List ℕ) → IsBytes bytes → read s bytes ≡ Ok x → Takes bytes (text x.0) x.1 × Fits s x.0)
-      → (s : S) (n : ℕ) (bytes : List ℕ) (x : List A × List ℕ) → IsBytes bytes → list_at next read s n bytes ≡ Ok x → IsListRead s n bytes x
-  unfolding list_at
+      → (s : S) (n : ℕ) (bytes : List ℕ) (x : List A × List ℕ) → IsBytes bytes → read_list next read s n bytes ≡ Ok x → IsListRead s n bytes x
+  unfolding read_list
   list_takes takes s zero bytes x fits e =
       subst (IsListRead s 0 bytes) (ok_is ([], bytes) x e) (record { takes = record { parts = refl; rest_fits = fits }; count = refl; chain = tt })
   list_takes takes s (suc n) bytes x fits e =
-      let a = bind_ok (read s bytes) (λ first. list_at next read (next first.0) n first.1 >>= λ others. Ok (first.0 ∷ others.0, others.1)) x e in
-      let b = bind_ok (list_at next read (next a.0.0) n a.0.1) (λ others. Ok (a.0.0 ∷ others.0, others.1)) x a.2 in
+      let a = bind_ok (read s bytes) (λ first. read_list next read (next first.0) n first.1 >>= λ others. Ok (first.0 ∷ others.0, others.1)) x e in
+      let b = bind_ok (read_list next read (next a.0.0) n a.0.1) (λ others. Ok (a.0.0 ∷ others.0, others.1)) x a.2 in
       let first = takes s bytes a.0 fits a.1 in
       let second = list_takes takes (next a.0.0) n a.0.1 b.0 first.0.rest_fits b.1 in
       let both = Takes-then bytes (text a.0.0) a.0.1 (flat_map text b.0.0) b.0.1 first.0 second.takes in
@@ -39,27 +39,27 @@ module _ {A S : Type 0} (next : A → S) (read : S → List ℕ → Result (A ×
       (record { takes = rw flat_map-cons both; count = ap suc second.count; chain = (first.1, second.chain) })
 
   pub list_again : ((s : S) (x : A) (rest : List ℕ) → Fits s x → read s (text x ++ rest) ≡ Ok (x, rest))
-      → (s : S) (xs : List A) (rest : List ℕ) → Chain next Fits s xs → list_at next read s (length xs) (flat_map text xs ++ rest) ≡ Ok (xs, rest)
-  unfolding list_at
+      → (s : S) (xs : List A) (rest : List ℕ) → Chain next Fits s xs → read_list next read s (length xs) (flat_map text xs ++ rest) ≡ Ok (xs, rest)
+  unfolding read_list
   list_again again s [] rest chain = refl
   list_again again s (x ∷ xs) rest chain =
       let regrouped : flat_map text (x ∷ xs) ++ rest ≡ text x ++ (flat_map text xs ++ rest) = ap (λ (t : List ℕ). t ++ rest) (flat_map-cons text x xs) ∙ append_assoc (text x) (flat_map text xs) rest in
-      ap (list_at next read s (suc (length xs))) regrouped ∙ rw (again s x (flat_map text xs ++ rest) chain.0, list_again again (next x) xs rest chain.1) refl
+      ap (read_list next read s (suc (length xs))) regrouped ∙ rw (again s x (flat_map text xs ++ rest) chain.0, list_again again (next x) xs rest chain.1) refl
 
   -- the count, then the list
   pub counted_takes : ((s : S) (bytes : List ℕ) (x : A × List ℕ) → IsBytes bytes → read s bytes ≡ Ok x → Takes bytes (text x.0) x.1 × Fits s x.0)
-      → (s : S) (bytes : List ℕ) (x : List A × List ℕ) → IsBytes bytes → (number_at w32 bytes >>= λ count. list_at next read s count.0 count.1) ≡ Ok x → Takes bytes (list_bytes text x.0) x.1 × (length x.0 < 2 ^ 32) × Chain next Fits s x.0
+      → (s : S) (bytes : List ℕ) (x : List A × List ℕ) → IsBytes bytes → (read_number w32 bytes >>= λ count. read_list next read s count.0 count.1) ≡ Ok x → Takes bytes (list_bytes text x.0) x.1 × (length x.0 < 2 ^ 32) × Chain next Fits s x.0
   counted_takes takes s bytes x fits e =
-      let a = bind_ok (number_at w32 bytes) (λ count. list_at next read s count.0 count.1) x e in
+      let a = bind_ok (read_number w32 bytes) (λ count. read_list next read s count.0 count.1) x e in
       let t = number_takes w32 (2 ^ 32) wide32 bytes a.0 fits a.1 in
       let u = list_takes takes s a.0.0 a.0.1 x t.0.rest_fits a.2 in
       let both = Takes-then bytes (number_bytes w32 a.0.0) a.0.1 (flat_map text x.0) x.1 t.0 u.takes in
       (subst (λ (k : ℕ). Takes bytes (number_bytes w32 k ++ flat_map text x.0) x.1) (sym u.count) both, omega (arith, t.1, u.count), u.chain)
 
   pub counted_again : ((s : S) (x : A) (rest : List ℕ) → Fits s x → read s (text x ++ rest) ≡ Ok (x, rest))
-      → (s : S) (xs : List A) (rest : List ℕ) → length xs < 2 ^ 32 → Chain next Fits s xs → (number_at w32 (list_bytes text xs ++ rest) >>= λ count. list_at next read s count.0 count.1) ≡ Ok (xs, rest)
+      → (s : S) (xs : List A) (rest : List ℕ) → length xs < 2 ^ 32 → Chain next Fits s xs → (read_number w32 (list_bytes text xs ++ rest) >>= λ count. read_list next read s count.0 count.1) ≡ Ok (xs, rest)
   counted_again again s xs rest few chain =
-      ap (λ (t : List ℕ). number_at w32 t >>= λ count. list_at next read s count.0 count.1) (append_assoc (number_bytes w32 (length xs)) (flat_map text xs) rest)
+      ap (λ (t : List ℕ). read_number w32 t >>= λ count. read_list next read s count.0 count.1) (append_assoc (number_bytes w32 (length xs)) (flat_map text xs) rest)
       ∙ rw (number_again w32 (2 ^ 32) wide32 (length xs) (flat_map text xs ++ rest) few) (list_again again s xs rest chain)
 
 -- ---- lists by ascending determinant

@@ -6,9 +6,9 @@ use Rattle.std.specs.Ordering.{nat_cmp}
 use Rattle.std.specs.FinSet as set
 use Rattle.causal_holders.specs.Members.{ascending}
 use Rattle.causal_name.specs.declared.Det.{Det}
-use Rattle.causal_wire.specs.declared.parcel.Run.{Run}
+use Rattle.causal_wire.specs.declared.parcel.RunId.{RunId}
 use Rattle.causal_wire.specs.declared.parcel.Head.{Head}
-use Rattle.causal_wire.specs.declared.parcel.Item.{Item}
+use Rattle.causal_wire.specs.declared.parcel.ParcelItem.{ParcelItem}
 use Rattle.causal_wire.specs.declared.parcel.LogEntry.{LogEntry}
 use Rattle.causal_wire.specs.Parcels.{Contents, message, acknowledgement, question, answer, own_number, not_up}
 
@@ -21,7 +21,7 @@ unfoldable pub number_bytes : Width → ℕ → List ℕ
 number_bytes w n = to_be_bytes w n
 
 -- the run: its number, the number of processes, and the bound on failures
-abbrev pub run_bytes : Run → List ℕ
+abbrev pub run_bytes : RunId → List ℕ
 run_bytes run = number_bytes w64 run.id ++ (number_bytes w16 run.processes ++ number_bytes w16 run.f)
 
 -- source, ssn, dest, rsn
@@ -32,7 +32,7 @@ det_bytes d = byte d.source.0 ++ (number_bytes w32 d.ssn ++ (byte d.dest.0 ++ nu
 abbrev pub others_bytes : set.FinSet nat_cmp → List ℕ
 others_bytes s = byte (length (ascending s)) ++ ascending s
 
-abbrev pub item_bytes : Item → List ℕ
+abbrev pub item_bytes : ParcelItem → List ℕ
 item_bytes item = det_bytes item.det ++ others_bytes item.others
 
 abbrev pub flag_byte : Bool → ℕ
@@ -76,9 +76,9 @@ abbrev pub route_bytes : Head → List ℕ
 route_bytes head = byte head.source.0 ++ (byte head.dest.0 ++ (number_bytes w32 head.lane ++ number_bytes w64 head.clock))
 
 -- the version of the format, the kind, the run and the route
-abbrev pub head_bytes : Run → ℕ → Head → List ℕ
+abbrev pub head_bytes : RunId → ℕ → Head → List ℕ
 head_bytes run kind head = byte 1 ++ (byte kind ++ (run_bytes run ++ route_bytes head))
 
 -- the bytes of a parcel of a run
-abbrev pub parcel_bytes : Run → Head × Contents → List ℕ
+abbrev pub parcel_bytes : RunId → Head × Contents → List ℕ
 parcel_bytes run parcel = head_bytes run (kind_byte parcel.1) parcel.0 ++ contents_bytes parcel.1

@@ -5,9 +5,9 @@ use Rattle.std.specs.Ordering.{nat_cmp}
 use Rattle.std.specs.FinSet as set
 use Rattle.causal_name.specs.declared.Det.{Det}
 use Rattle.causal_name.specs.Names.{is_ascending}
-use Rattle.causal_wire.specs.declared.parcel.Run.{Run}
+use Rattle.causal_wire.specs.declared.parcel.RunId.{RunId}
 use Rattle.causal_wire.specs.declared.parcel.Head.{Head}
-use Rattle.causal_wire.specs.declared.parcel.Item.{Item}
+use Rattle.causal_wire.specs.declared.parcel.ParcelItem.{ParcelItem}
 use Rattle.causal_wire.specs.declared.parcel.LogEntry.{LogEntry}
 use Rattle.causal_wire.specs.declared.parcel.Content.{Content}
 use Rattle.causal_wire.specs.declared.parcel.Content.TheVariants as contents
@@ -15,8 +15,8 @@ use Rattle.causal_wire.specs.declared.parcel.Parcel.{Parcel}
 
 -- what a parcel contains besides its head, without its place in memory
 pub data Contents : Type 0 where
-  message : ℕ → List Item → List ℕ → Contents
-  acknowledgement : List Item → Contents
+  message : ℕ → List ParcelItem → List ℕ → Contents
+  acknowledgement : List ParcelItem → Contents
   question : ℕ → List ℕ → Contents
   answer : ℕ → List LogEntry → Contents
   own_number : ℕ → Contents
@@ -31,12 +31,12 @@ contents_of (contents.OwnNumber round) = own_number round
 contents_of (contents.NotUp round) = not_up round
 
 -- a parcel as its head and its contents
-abbrev pub value_of : Parcel → Head × Contents
-value_of p = (p.head, contents_of p.content)
+abbrev pub parcel_value : Parcel → Head × Contents
+parcel_value p = (p.head, contents_of p.content)
 
 -- the determinants that items, or log entries, name
-abbrev pub dets_of : List Item → List Det
-dets_of items = map (λ item. item.det) items
+abbrev pub parcel_dets : List ParcelItem → List Det
+parcel_dets items = map (λ item. item.det) items
 
 abbrev pub entry_dets : List LogEntry → List Det
 entry_dets entries = map (λ entry. entry.item.det) entries
@@ -54,14 +54,14 @@ pub record AreOthers (n source : ℕ) (s : set.FinSet nat_cmp) : Type 0 where
   pub others : set.contains s source ≡ false
 
 -- a determinant that the source holds, with other holders
-pub record IsItem (n source : ℕ) (item : Item) : Type 0 where
+pub record IsItem (n source : ℕ) (item : ParcelItem) : Type 0 where
   pub det : IsDet n item.det
   pub others : AreOthers n source item.others
 
 -- items by ascending determinant
-pub record AreItems (n source : ℕ) (items : List Item) : Type 0 where
+pub record AreItems (n source : ℕ) (items : List ParcelItem) : Type 0 where
   pub each : AllByRecursion (IsItem n source) items
-  pub ascending : is_ascending (dets_of items) ≡ true
+  pub ascending : is_ascending (parcel_dets items) ≡ true
   pub count : length items < 2 ^ 32
 
 -- log entries by ascending determinant
@@ -92,19 +92,19 @@ pub record IsHead (n : ℕ) (head : Head) : Type 0 where
   pub clock : head.clock < 2 ^ 62
 
 -- a run of at most 256 processes
-pub record IsRun (run : Run) : Type 0 where
+pub record IsRun (run : RunId) : Type 0 where
   pub id : run.id < 2 ^ 64
   pub processes : run.processes ≤ 256
   pub f : run.f < 2 ^ 16
 
 -- a parcel of a run
-pub record IsParcel (run : Run) (parcel : Head × Contents) : Type 0 where
+pub record IsParcel (run : RunId) (parcel : Head × Contents) : Type 0 where
   pub head : IsHead run.processes parcel.0
   pub contents : AreContents run.processes parcel.0.source.0 parcel.1
 
 -- no item, or no log entry, has the source among its other holders
-abbrev pub AreWithoutSource : ℕ → List Item → Type 0
-AreWithoutSource source items = All (λ (item : Item). set.contains item.others source ≡ false) items
+abbrev pub AreWithoutSource : ℕ → List ParcelItem → Type 0
+AreWithoutSource source items = All (λ (item : ParcelItem). set.contains item.others source ≡ false) items
 
 abbrev pub AreEntriesWithoutSource : ℕ → List LogEntry → Type 0
 AreEntriesWithoutSource source entries = All (λ (entry : LogEntry). set.contains entry.item.others source ≡ false) entries

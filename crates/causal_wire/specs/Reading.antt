@@ -8,13 +8,13 @@ use Rattle.causal_name.specs.declared.Det.{Det}
 use Rattle.causal_name.specs.Names.{is_before}
 use Rattle.causal_wire.specs.declared.fault.WireFault.{WireFault}
 use Rattle.causal_wire.specs.declared.fault.WireFault.TheVariants as faults
-use Rattle.causal_wire.specs.declared.fault.ReadFault.{ReadFault}
-use Rattle.causal_wire.specs.declared.fault.ReadFault.TheVariants as errors
-use Rattle.causal_wire.specs.declared.fields.Kind.{Kind}
-use Rattle.causal_wire.specs.declared.fields.Kind.TheVariants as kinds
-use Rattle.causal_wire.specs.declared.parcel.Run.{Run}
+use Rattle.causal_wire.specs.declared.fault.ParcelFault.{ParcelFault}
+use Rattle.causal_wire.specs.declared.fault.ParcelFault.TheVariants as errors
+use Rattle.causal_wire.specs.declared.fields.ParcelKind.{ParcelKind}
+use Rattle.causal_wire.specs.declared.fields.ParcelKind.TheVariants as kinds
+use Rattle.causal_wire.specs.declared.parcel.RunId.{RunId}
 use Rattle.causal_wire.specs.declared.parcel.Head.{Head}
-use Rattle.causal_wire.specs.declared.parcel.Item.{Item}
+use Rattle.causal_wire.specs.declared.parcel.ParcelItem.{ParcelItem}
 use Rattle.causal_wire.specs.declared.parcel.LogEntry.{LogEntry}
 use Rattle.causal_wire.specs.Parcels.{Contents, message, acknowledgement, question, answer, own_number, not_up}
 
@@ -24,107 +24,107 @@ abbrev pub ◌>>=◌ : {A B : Type 0} → Result A WireFault → (A → Result B
 (Err e) >>= f = Err e
 
 -- a call that fails returns this error of the bytes, unless it is out of memory
-abbrev pub Fails : {Y : Type 0} → ReadFault → Result Y WireFault → Type 0
+abbrev pub Fails : {Y : Type 0} → ParcelFault → Result Y WireFault → Type 0
 Fails errors.NoMemory read = Unit {0}
 Fails (errors.Wire f) read = read ≡ Err f
 
 -- a call returns what reading gives, unless it is out of memory
-abbrev pub Gives : {X Y : Type 0} → (X → Y) → Result X ReadFault → Result Y WireFault → Type 0
-Gives view (Ok x) read = read ≡ Ok (view x)
-Gives view (Err e) read = Fails e read
+abbrev pub ReturnsRead : {X Y : Type 0} → (X → Y) → Result X ParcelFault → Result Y WireFault → Type 0
+ReturnsRead view (Ok x) read = read ≡ Ok (view x)
+ReturnsRead view (Err e) read = Fails e read
 
-abbrev pub byte_at : List ℕ → Result (ℕ × List ℕ) WireFault
-byte_at [] = Err faults.Short
-byte_at (b ∷ rest) = Ok (b, rest)
+abbrev pub read_byte : List ℕ → Result (ℕ × List ℕ) WireFault
+read_byte [] = Err faults.Short
+read_byte (b ∷ rest) = Ok (b, rest)
 
 -- a number, the most significant byte first
-abbrev pub number_at : Width → List ℕ → Result (ℕ × List ℕ) WireFault
-number_at w bytes = if nat_lt (length bytes) (byte_len w) then Err faults.Short else Ok (from_be_bytes w (take (byte_len w) bytes), drop (byte_len w) bytes)
+abbrev pub read_number : Width → List ℕ → Result (ℕ × List ℕ) WireFault
+read_number w bytes = if nat_lt (length bytes) (byte_len w) then Err faults.Short else Ok (from_be_bytes w (take (byte_len w) bytes), drop (byte_len w) bytes)
 
 -- this many bytes
-abbrev pub bytes_at : ℕ → List ℕ → Result (List ℕ × List ℕ) WireFault
-bytes_at count bytes = if nat_lt (length bytes) count then Err faults.Short else Ok (take count bytes, drop count bytes)
+abbrev pub read_bytes : ℕ → List ℕ → Result (List ℕ × List ℕ) WireFault
+read_bytes count bytes = if nat_lt (length bytes) count then Err faults.Short else Ok (take count bytes, drop count bytes)
 
-unfoldable pub version_at : List ℕ → Result (List ℕ) WireFault
-version_at bytes = do
-  version ← byte_at bytes
+unfoldable pub read_version : List ℕ → Result (List ℕ) WireFault
+read_version bytes = do
+  version ← read_byte bytes
   if version.0 == 1 then Ok version.1 else Err faults.Version
 
-abbrev pub kind_of : ℕ → Result Kind WireFault
-kind_of zero = Ok kinds.Message
-kind_of (suc zero) = Ok kinds.Acknowledgement
-kind_of (suc (suc zero)) = Ok kinds.Question
-kind_of (suc (suc (suc zero))) = Ok kinds.Answer
-kind_of (suc (suc (suc (suc zero)))) = Ok kinds.OwnNumber
-kind_of (suc (suc (suc (suc (suc zero))))) = Ok kinds.NotUp
-kind_of (suc (suc (suc (suc (suc (suc b)))))) = Err faults.Kind
+abbrev pub parcel_kind : ℕ → Result ParcelKind WireFault
+parcel_kind zero = Ok kinds.Message
+parcel_kind (suc zero) = Ok kinds.Acknowledgement
+parcel_kind (suc (suc zero)) = Ok kinds.Question
+parcel_kind (suc (suc (suc zero))) = Ok kinds.Answer
+parcel_kind (suc (suc (suc (suc zero)))) = Ok kinds.OwnNumber
+parcel_kind (suc (suc (suc (suc (suc zero))))) = Ok kinds.NotUp
+parcel_kind (suc (suc (suc (suc (suc (suc b)))))) = Err faults.Kind
 
-unfoldable pub kind_at : List ℕ → Result (Kind × List ℕ) WireFault
-kind_at bytes = do
-  number ← byte_at bytes
-  kind ← kind_of number.0
+unfoldable pub read_kind : List ℕ → Result (ParcelKind × List ℕ) WireFault
+read_kind bytes = do
+  number ← read_byte bytes
+  kind ← parcel_kind number.0
   Ok (kind, number.1)
 
 -- the run, which must be this one
-unfoldable pub run_at : Run → List ℕ → Result (List ℕ) WireFault
-run_at run bytes = do
-  id ← number_at w64 bytes
-  processes ← number_at w16 id.1
-  f ← number_at w16 processes.1
+unfoldable pub read_run : RunId → List ℕ → Result (List ℕ) WireFault
+read_run run bytes = do
+  id ← read_number w64 bytes
+  processes ← read_number w16 id.1
+  f ← read_number w16 processes.1
   if id.0 == run.id && (processes.0 == run.processes && f.0 == run.f) then Ok f.1 else Err faults.Run
 
 -- a process below n
-unfoldable pub process_at : ℕ → List ℕ → Result (Pid × List ℕ) WireFault
-process_at n bytes = do
-  number ← byte_at bytes
+unfoldable pub read_process : ℕ → List ℕ → Result (Pid × List ℕ) WireFault
+read_process n bytes = do
+  number ← read_byte bytes
   if nat_lt number.0 n then Ok (record { 0 = number.0 }, number.1) else Err faults.Process
 
-unfoldable pub clock_at : List ℕ → Result (ℕ × List ℕ) WireFault
-clock_at bytes = do
-  clock ← number_at w64 bytes
+unfoldable pub read_clock : List ℕ → Result (ℕ × List ℕ) WireFault
+read_clock bytes = do
+  clock ← read_number w64 bytes
   if nat_lt clock.0 (2 ^ 62) then Ok clock else Err faults.Clock
 
-unfoldable pub flag_at : List ℕ → Result (Bool × List ℕ) WireFault
-flag_at [] = Err faults.Short
-flag_at (zero ∷ rest) = Ok (false, rest)
-flag_at (suc zero ∷ rest) = Ok (true, rest)
-flag_at (suc (suc b) ∷ rest) = Err faults.Flag
+unfoldable pub read_flag : List ℕ → Result (Bool × List ℕ) WireFault
+read_flag [] = Err faults.Short
+read_flag (zero ∷ rest) = Ok (false, rest)
+read_flag (suc zero ∷ rest) = Ok (true, rest)
+read_flag (suc (suc b) ∷ rest) = Err faults.Flag
 
 -- source, destination, lane and clock
-unfoldable pub route_at : ℕ → List ℕ → Result (Head × List ℕ) WireFault
-route_at n bytes = do
-  source ← process_at n bytes
-  dest ← process_at n source.1
-  lane ← number_at w32 dest.1
-  clock ← clock_at lane.1
+unfoldable pub read_route : ℕ → List ℕ → Result (Head × List ℕ) WireFault
+read_route n bytes = do
+  source ← read_process n bytes
+  dest ← read_process n source.1
+  lane ← read_number w32 dest.1
+  clock ← read_clock lane.1
   Ok (record { source = source.0; dest = dest.0; lane = lane.0; clock = clock.0 }, clock.1)
 
-unfoldable pub head_at : Run → List ℕ → Result (Kind × Head × List ℕ) WireFault
-head_at run bytes = do
-  version ← version_at bytes
-  kind ← kind_at version
-  same ← run_at run kind.1
-  head ← route_at run.processes same
+unfoldable pub read_head : RunId → List ℕ → Result (ParcelKind × Head × List ℕ) WireFault
+read_head run bytes = do
+  version ← read_version bytes
+  kind ← read_kind version
+  same ← read_run run kind.1
+  head ← read_route run.processes same
   Ok (kind.0, head.0, head.1)
 
-unfoldable pub det_at : ℕ → List ℕ → Result (Det × List ℕ) WireFault
-det_at n bytes = do
-  source ← process_at n bytes
-  ssn ← number_at w32 source.1
-  dest ← process_at n ssn.1
-  rsn ← number_at w32 dest.1
+unfoldable pub read_det : ℕ → List ℕ → Result (Det × List ℕ) WireFault
+read_det n bytes = do
+  source ← read_process n bytes
+  ssn ← read_number w32 source.1
+  dest ← read_process n ssn.1
+  rsn ← read_number w32 dest.1
   Ok (record { source = source.0; ssn = ssn.0; dest = dest.0; rsn = rsn.0 }, rsn.1)
 
 -- how many bytes there are, then these
-unfoldable pub short_list_at : List ℕ → Result (List ℕ × List ℕ) WireFault
-short_list_at bytes = do
-  count ← byte_at bytes
-  bytes_at count.0 count.1
+unfoldable pub read_short_list : List ℕ → Result (List ℕ × List ℕ) WireFault
+read_short_list bytes = do
+  count ← read_byte bytes
+  read_bytes count.0 count.1
 
-unfoldable pub body_at : List ℕ → Result (List ℕ × List ℕ) WireFault
-body_at bytes = do
-  count ← number_at w32 bytes
-  bytes_at count.0 count.1
+unfoldable pub read_body : List ℕ → Result (List ℕ × List ℕ) WireFault
+read_body bytes = do
+  count ← read_number w32 bytes
+  read_bytes count.0 count.1
 
 -- the first error in holders from this least number on: below n, ascending, without the source
 abbrev pub others_fault : ℕ → ℕ → ℕ → List ℕ → Option WireFault
@@ -146,91 +146,91 @@ abbrev pub follows : Option Det → Det → Bool
 follows None d = true
 follows (Some last) d = is_before last d
 
-unfoldable pub item_of : ℕ → ℕ → Option Det → Det → List ℕ → Result Item WireFault
-item_of n source last d listed =
+unfoldable pub parcel_item : ℕ → ℕ → Option Det → Det → List ℕ → Result ParcelItem WireFault
+parcel_item n source last d listed =
     if follows last d then (others_of n source listed >>= λ others. Ok (record { det = d; others = others })) else Err faults.Unsorted
 
-unfoldable pub det_and_listed_at : ℕ → List ℕ → Result (Det × List ℕ × List ℕ) WireFault
-det_and_listed_at n bytes = do
-  det ← det_at n bytes
-  listed ← short_list_at det.1
+unfoldable pub read_det_and_listed : ℕ → List ℕ → Result (Det × List ℕ × List ℕ) WireFault
+read_det_and_listed n bytes = do
+  det ← read_det n bytes
+  listed ← read_short_list det.1
   Ok (det.0, listed.0, listed.1)
 
 -- an item that follows the determinant before it
-unfoldable pub item_at : ℕ → ℕ → Option Det → List ℕ → Result (Item × List ℕ) WireFault
-item_at n source last bytes = do
-  det ← det_and_listed_at n bytes
-  item ← item_of n source last det.0 det.1
+unfoldable pub read_item : ℕ → ℕ → Option Det → List ℕ → Result (ParcelItem × List ℕ) WireFault
+read_item n source last bytes = do
+  det ← read_det_and_listed n bytes
+  item ← parcel_item n source last det.0 det.1
   Ok (item, det.2)
 
-unfoldable pub entry_at : ℕ → ℕ → Option Det → List ℕ → Result (LogEntry × List ℕ) WireFault
-entry_at n source last bytes = do
-  item ← item_at n source last bytes
-  stable ← flag_at item.1
+unfoldable pub read_entry : ℕ → ℕ → Option Det → List ℕ → Result (LogEntry × List ℕ) WireFault
+read_entry n source last bytes = do
+  item ← read_item n source last bytes
+  stable ← read_flag item.1
   Ok (record { item = item.0; stable = stable.0 }, stable.1)
 
 -- this many, each read after the one before it
-unfoldable pub list_at : {A S : Type 0} → (A → S) → (S → List ℕ → Result (A × List ℕ) WireFault) → S → ℕ → List ℕ → Result (List A × List ℕ) WireFault
-list_at next read s zero bytes = Ok ([], bytes)
-list_at next read s (suc n) bytes = do
+unfoldable pub read_list : {A S : Type 0} → (A → S) → (S → List ℕ → Result (A × List ℕ) WireFault) → S → ℕ → List ℕ → Result (List A × List ℕ) WireFault
+read_list next read s zero bytes = Ok ([], bytes)
+read_list next read s (suc n) bytes = do
   first ← read s bytes
-  others ← list_at next read (next first.0) n first.1
+  others ← read_list next read (next first.0) n first.1
   Ok (first.0 ∷ others.0, others.1)
 
-abbrev pub item_det : Item → Option Det
+abbrev pub item_det : ParcelItem → Option Det
 item_det item = Some item.det
 
 abbrev pub entry_det : LogEntry → Option Det
 entry_det entry = Some entry.item.det
 
-unfoldable pub items_at : ℕ → ℕ → List ℕ → Result (List Item × List ℕ) WireFault
-items_at n source bytes = do
-  count ← number_at w32 bytes
-  list_at item_det (item_at n source) None count.0 count.1
+unfoldable pub read_items : ℕ → ℕ → List ℕ → Result (List ParcelItem × List ℕ) WireFault
+read_items n source bytes = do
+  count ← read_number w32 bytes
+  read_list item_det (read_item n source) None count.0 count.1
 
-unfoldable pub entries_at : ℕ → ℕ → List ℕ → Result (List LogEntry × List ℕ) WireFault
-entries_at n source bytes = do
-  count ← number_at w32 bytes
-  list_at entry_det (entry_at n source) None count.0 count.1
+unfoldable pub read_entries : ℕ → ℕ → List ℕ → Result (List LogEntry × List ℕ) WireFault
+read_entries n source bytes = do
+  count ← read_number w32 bytes
+  read_list entry_det (read_entry n source) None count.0 count.1
 
 -- a number of each process
 abbrev pub nothing : ℕ → Unit {0}
 nothing number = tt
 
-abbrev pub next_number_at : Unit {0} → List ℕ → Result (ℕ × List ℕ) WireFault
-next_number_at _ bytes = number_at w32 bytes
+abbrev pub read_next_number : Unit {0} → List ℕ → Result (ℕ × List ℕ) WireFault
+read_next_number _ bytes = read_number w32 bytes
 
-abbrev pub view_at : ℕ → List ℕ → Result (List ℕ × List ℕ) WireFault
-view_at n bytes = list_at nothing next_number_at tt n bytes
+abbrev pub read_view : ℕ → List ℕ → Result (List ℕ × List ℕ) WireFault
+read_view n bytes = read_list nothing read_next_number tt n bytes
 
 -- the contents of a parcel of this kind, from this source
-unfoldable pub contents_at : ℕ → ℕ → Kind → List ℕ → Result (Contents × List ℕ) WireFault
-contents_at n source kinds.Message bytes = do
-  ssn ← number_at w32 bytes
-  items ← items_at n source ssn.1
-  body ← body_at items.1
+unfoldable pub read_contents : ℕ → ℕ → ParcelKind → List ℕ → Result (Contents × List ℕ) WireFault
+read_contents n source kinds.Message bytes = do
+  ssn ← read_number w32 bytes
+  items ← read_items n source ssn.1
+  body ← read_body items.1
   Ok (message ssn.0 items.0 body.0, body.1)
-contents_at n source kinds.Acknowledgement bytes = do
-  items ← items_at n source bytes
+read_contents n source kinds.Acknowledgement bytes = do
+  items ← read_items n source bytes
   Ok (acknowledgement items.0, items.1)
-contents_at n source kinds.Question bytes = do
-  round ← number_at w64 bytes
-  view ← view_at n round.1
+read_contents n source kinds.Question bytes = do
+  round ← read_number w64 bytes
+  view ← read_view n round.1
   Ok (question round.0 view.0, view.1)
-contents_at n source kinds.Answer bytes = do
-  round ← number_at w64 bytes
-  entries ← entries_at n source round.1
+read_contents n source kinds.Answer bytes = do
+  round ← read_number w64 bytes
+  entries ← read_entries n source round.1
   Ok (answer round.0 entries.0, entries.1)
-contents_at n source kinds.OwnNumber bytes = do
-  round ← number_at w64 bytes
+read_contents n source kinds.OwnNumber bytes = do
+  round ← read_number w64 bytes
   Ok (own_number round.0, round.1)
-contents_at n source kinds.NotUp bytes = do
-  round ← number_at w64 bytes
+read_contents n source kinds.NotUp bytes = do
+  round ← read_number w64 bytes
   Ok (not_up round.0, round.1)
 
 -- a parcel of the run, which is all of the bytes
-unfoldable pub parcel_at : Run → List ℕ → Result (Head × Contents) WireFault
-parcel_at run bytes = do
-  head ← head_at run bytes
-  contents ← contents_at run.processes head.1.source.0 head.0 head.2
+unfoldable pub read_parcel : RunId → List ℕ → Result (Head × Contents) WireFault
+read_parcel run bytes = do
+  head ← read_head run bytes
+  contents ← read_contents run.processes head.1.source.0 head.0 head.2
   if length contents.1 == 0 then Ok (head.1, contents.0) else Err faults.Trailing

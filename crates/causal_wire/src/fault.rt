@@ -1,6 +1,6 @@
 //! Why bytes are refused.
 ghost use Rattle.std.specs.Prelude.{◌≡◌};
-ghost use Rattle.causal_wire.specs.declared.fault.ReadFault.TheVariants.{NoMemory};
+ghost use Rattle.causal_wire.specs.declared.fault.ParcelFault.TheVariants.{NoMemory};
 
 use std::alloc::{AllocError, AllocFailed};
 use thiserror::Error;
@@ -42,7 +42,7 @@ pub enum WireFault {
 
 /// Why a parcel was not read.
 #[derive(Clone, Copy, Debug, PartialEq, Eq, Error)]
-pub enum ReadFault {
+pub enum ParcelFault {
     /// The bytes are not those of a parcel of the run.
     #[error("{0}")]
     Wire(WireFault),
@@ -51,18 +51,18 @@ pub enum ReadFault {
     NoMemory,
 }
 
-impl From<AllocError> for ReadFault {
+impl From<AllocError> for ParcelFault {
     ghost from_gives = { λ _ e. e ≡ NoMemory };
 
-    fn from(_refused: AllocError) -> ReadFault {
-        ReadFault::NoMemory
+    fn from(_refused: AllocError) -> ParcelFault {
+        ParcelFault::NoMemory
     }
 }
 
-impl<T: Drop> From<AllocFailed<T>> for ReadFault {
+impl<T: Drop> From<AllocFailed<T>> for ParcelFault {
     ghost from_gives = { λ _ e. e ≡ NoMemory };
 
-    fn from(_refused: AllocFailed<T>) -> ReadFault {
-        ReadFault::NoMemory
+    fn from(_refused: AllocFailed<T>) -> ParcelFault {
+        ParcelFault::NoMemory
     }
 }

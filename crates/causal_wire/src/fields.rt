@@ -1,10 +1,10 @@
 //! Reading of single fields from the front of a slice. Each function returns the value and the bytes after it.
 ghost use Rattle.std.specs.Prelude.{◌≡◌};
 ghost use Rattle.std.specs.Int.{w16, w32, w64};
-ghost use Rattle.causal_wire.specs.Reading.{Gives, byte_at, number_at, bytes_at, version_at, kind_of, kind_at, run_at, process_at, clock_at, flag_at, route_at, head_at, det_at, short_list_at, body_at};
+ghost use Rattle.causal_wire.specs.Reading.{ReturnsRead, read_byte, read_number, read_bytes, read_version, parcel_kind, read_kind, read_run, read_process, read_clock, read_flag, read_route, read_head, read_det, read_short_list, read_body};
 
-use crate::fault::{ReadFault, WireFault};
-use crate::parcel::{Head, Run};
+use crate::fault::{ParcelFault, WireFault};
+use crate::parcel::{Head, RunId};
 use causal_name::{Det, Pid};
 use std::alloc::Global;
 
@@ -16,7 +16,7 @@ const CLOCK_END: u64 = 1 << 62;
 
 /// The kinds of parcels.
 #[derive(Clone, Copy, PartialEq, Eq)]
-pub(crate) enum Kind {
+pub(crate) enum ParcelKind {
     Message,
     Acknowledgement,
     Question,
@@ -25,42 +25,42 @@ pub(crate) enum Kind {
     NotUp,
 }
 
-pub(crate) fn u8_at(bytes: &[u8]) -> Result<(u8, &[u8]), ReadFault>
-    ensures { Gives (λ x. (x.0, x.1.now)) result (byte_at bytes.now) }
+pub(crate) fn read_u8(bytes: &[u8]) -> Result<(u8, &[u8]), ParcelFault>
+    ensures { ReturnsRead (λ x. (x.0, x.1.now)) result (read_byte bytes.now) }
 {
     match bytes {
-        [] => Err(ReadFault::Wire(WireFault::Short)),
+        [] => Err(ParcelFault::Wire(WireFault::Short)),
         [first, rest @ ..] => Ok((*first, rest)),
     }
 }
 
-pub(crate) fn u16_at(bytes: &[u8]) -> Result<(u16, &[u8]), ReadFault>
-    ensures { Gives (λ x. (x.0, x.1.now)) result (number_at w16 bytes.now) }
+pub(crate) fn read_u16(bytes: &[u8]) -> Result<(u16, &[u8]), ParcelFault>
+    ensures { ReturnsRead (λ x. (x.0, x.1.now)) result (read_number w16 bytes.now) }
 {
     if bytes.len() < 2 {
-        return Err(ReadFault::Wire(WireFault::Short));
+        return Err(ParcelFault::Wire(WireFault::Short));
     }
     let (front, rest) = bytes.split_at(2);
     let number = u16::from_be_bytes([front[0], front[1]]);
     Ok((number, rest))
 }
 
-pub(crate) fn u32_at(bytes: &[u8]) -> Result<(u32, &[u8]), ReadFault>
-    ensures { Gives (λ x. (x.0, x.1.now)) result (number_at w32 bytes.now) }
+pub(crate) fn read_u32(bytes: &[u8]) -> Result<(u32, &[u8]), ParcelFault>
+    ensures { ReturnsRead (λ x. (x.0, x.1.now)) result (read_number w32 bytes.now) }
 {
     if bytes.len() < 4 {
-        return Err(ReadFault::Wire(WireFault::Short));
+        return Err(ParcelFault::Wire(WireFault::Short));
     }
     let (front, rest) = bytes.split_at(4);
     let number = u32::from_be_bytes([front[0], front[1], front[2], front[3]]);
     Ok((number, rest))
 }
 
-pub(crate) fn u64_at(bytes: &[u8]) -> Result<(u64, &[u8]), ReadFault>
-    ensures { Gives (λ x. (x.0, x.1.now)) result (number_at w64 bytes.now) }
+pub(crate) fn read_u64(bytes: &[u8]) -> Result<(u64, &[u8]), ParcelFault>
+    ensures { ReturnsRead (λ x. (x.0, x.1.now)) result (read_number w64 bytes.now) }
 {
     if bytes.len() < 8 {
-        return Err(ReadFault::Wire(WireFault::Short));
+        return Err(ParcelFault::Wire(WireFault::Short));
     }
     let (front, rest) = bytes.split_at(8);
     let number = u64::from_be_bytes([
@@ -70,110 +70,110 @@ pub(crate) fn u64_at(bytes: &[u8]) -> Result<(u64, &[u8]), ReadFault>
 }
 
 /// Returns the next `count` bytes and those after them.
-fn bytes_at(count: usize, bytes: &[u8]) -> Result<(&[u8], &[u8]), ReadFault>
-    ensures { Gives (λ x. (x.0.now, x.1.now)) result (bytes_at count bytes.now) }
+fn read_bytes(count: usize, bytes: &[u8]) -> Result<(&[u8], &[u8]), ParcelFault>
+    ensures { ReturnsRead (λ x. (x.0.now, x.1.now)) result (read_bytes count bytes.now) }
 {
     if bytes.len() < count {
-        return Err(ReadFault::Wire(WireFault::Short));
+        return Err(ParcelFault::Wire(WireFault::Short));
     }
     Ok(bytes.split_at(count))
 }
 
 /// Checks the version, and returns the bytes after it.
-#[tactic(auto, unfolding(crate::specs::Reading::version_at))]
-fn version_at(bytes: &[u8]) -> Result<&[u8], ReadFault>
-    ensures { Gives (λ x. x.now) result (version_at bytes.now) }
+#[tactic(auto, unfolding(crate::specs::Reading::read_version))]
+fn read_version(bytes: &[u8]) -> Result<&[u8], ParcelFault>
+    ensures { ReturnsRead (λ x. x.now) result (read_version bytes.now) }
 {
-    let (version, rest) = u8_at(bytes)?;
+    let (version, rest) = read_u8(bytes)?;
     if version != VERSION {
-        return Err(ReadFault::Wire(WireFault::Version));
+        return Err(ParcelFault::Wire(WireFault::Version));
     }
     Ok(rest)
 }
 
-fn kind_of(number: u8) -> Result<Kind, ReadFault>
-    ensures { Gives (λ x. x) result (kind_of number) }
+fn parcel_kind(number: u8) -> Result<ParcelKind, ParcelFault>
+    ensures { ReturnsRead (λ x. x) result (parcel_kind number) }
 {
     match number {
-        0 => Ok(Kind::Message),
-        1 => Ok(Kind::Acknowledgement),
-        2 => Ok(Kind::Question),
-        3 => Ok(Kind::Answer),
-        4 => Ok(Kind::OwnNumber),
-        5 => Ok(Kind::NotUp),
-        _ => Err(ReadFault::Wire(WireFault::Kind)),
+        0 => Ok(ParcelKind::Message),
+        1 => Ok(ParcelKind::Acknowledgement),
+        2 => Ok(ParcelKind::Question),
+        3 => Ok(ParcelKind::Answer),
+        4 => Ok(ParcelKind::OwnNumber),
+        5 => Ok(ParcelKind::NotUp),
+        _ => Err(ParcelFault::Wire(WireFault::Kind)),
     }
 }
 
-#[tactic(auto, unfolding(crate::specs::Reading::kind_at))]
-fn kind_at(bytes: &[u8]) -> Result<(Kind, &[u8]), ReadFault>
-    ensures { Gives (λ x. (x.0, x.1.now)) result (kind_at bytes.now) }
+#[tactic(auto, unfolding(crate::specs::Reading::read_kind))]
+fn read_kind(bytes: &[u8]) -> Result<(ParcelKind, &[u8]), ParcelFault>
+    ensures { ReturnsRead (λ x. (x.0, x.1.now)) result (read_kind bytes.now) }
 {
-    let (number, rest) = u8_at(bytes)?;
-    Ok((kind_of(number)?, rest))
+    let (number, rest) = read_u8(bytes)?;
+    Ok((parcel_kind(number)?, rest))
 }
 
 /// Checks that the parcel is of the run, and returns the bytes after that.
-#[tactic(auto, unfolding(crate::specs::Reading::run_at))]
-fn run_at(run: Run, bytes: &[u8]) -> Result<&[u8], ReadFault>
-    ensures { Gives (λ x. x.now) result (run_at run bytes.now) }
+#[tactic(auto, unfolding(crate::specs::Reading::read_run))]
+fn read_run(run: RunId, bytes: &[u8]) -> Result<&[u8], ParcelFault>
+    ensures { ReturnsRead (λ x. x.now) result (read_run run bytes.now) }
 {
-    let (id, rest) = u64_at(bytes)?;
-    let (processes, rest) = u16_at(rest)?;
-    let (f, rest) = u16_at(rest)?;
+    let (id, rest) = read_u64(bytes)?;
+    let (processes, rest) = read_u16(rest)?;
+    let (f, rest) = read_u16(rest)?;
     if id == run.id && processes == run.processes && f == run.f {
         Ok(rest)
     } else {
-        Err(ReadFault::Wire(WireFault::Run))
+        Err(ParcelFault::Wire(WireFault::Run))
     }
 }
 
 /// Returns a process below n.
-#[tactic(auto, unfolding(crate::specs::Reading::process_at))]
-fn process_at(n: u16, bytes: &[u8]) -> Result<(Pid, &[u8]), ReadFault>
-    ensures { Gives (λ x. (x.0, x.1.now)) result (process_at n bytes.now) }
+#[tactic(auto, unfolding(crate::specs::Reading::read_process))]
+fn read_process(n: u16, bytes: &[u8]) -> Result<(Pid, &[u8]), ParcelFault>
+    ensures { ReturnsRead (λ x. (x.0, x.1.now)) result (read_process n bytes.now) }
 {
-    let (number, rest) = u8_at(bytes)?;
+    let (number, rest) = read_u8(bytes)?;
     if u16::from(number) < n {
         Ok((Pid(number), rest))
     } else {
-        Err(ReadFault::Wire(WireFault::Process))
+        Err(ParcelFault::Wire(WireFault::Process))
     }
 }
 
-#[tactic(auto, unfolding(crate::specs::Reading::clock_at))]
-fn clock_at(bytes: &[u8]) -> Result<(u64, &[u8]), ReadFault>
-    ensures { Gives (λ x. (x.0, x.1.now)) result (clock_at bytes.now) }
+#[tactic(auto, unfolding(crate::specs::Reading::read_clock))]
+fn read_clock(bytes: &[u8]) -> Result<(u64, &[u8]), ParcelFault>
+    ensures { ReturnsRead (λ x. (x.0, x.1.now)) result (read_clock bytes.now) }
 {
-    let (clock, rest) = u64_at(bytes)?;
+    let (clock, rest) = read_u64(bytes)?;
     if clock < CLOCK_END {
         Ok((clock, rest))
     } else {
-        Err(ReadFault::Wire(WireFault::Clock))
+        Err(ParcelFault::Wire(WireFault::Clock))
     }
 }
 
-#[tactic(auto, unfolding(crate::specs::Reading::flag_at))]
-pub(crate) fn flag_at(bytes: &[u8]) -> Result<(bool, &[u8]), ReadFault>
-    ensures { Gives (λ x. (x.0, x.1.now)) result (flag_at bytes.now) }
+#[tactic(auto, unfolding(crate::specs::Reading::read_flag))]
+pub(crate) fn read_flag(bytes: &[u8]) -> Result<(bool, &[u8]), ParcelFault>
+    ensures { ReturnsRead (λ x. (x.0, x.1.now)) result (read_flag bytes.now) }
 {
     match bytes {
-        [] => Err(ReadFault::Wire(WireFault::Short)),
+        [] => Err(ParcelFault::Wire(WireFault::Short)),
         [0, rest @ ..] => Ok((false, rest)),
         [1, rest @ ..] => Ok((true, rest)),
-        [_, ..] => Err(ReadFault::Wire(WireFault::Flag)),
+        [_, ..] => Err(ParcelFault::Wire(WireFault::Flag)),
     }
 }
 
 /// Returns the source, the destination, the lane and the clock.
-#[tactic(auto, unfolding(crate::specs::Reading::route_at))]
-fn route_at(n: u16, bytes: &[u8]) -> Result<(Head, &[u8]), ReadFault>
-    ensures { Gives (λ x. (x.0, x.1.now)) result (route_at n bytes.now) }
+#[tactic(auto, unfolding(crate::specs::Reading::read_route))]
+fn read_route(n: u16, bytes: &[u8]) -> Result<(Head, &[u8]), ParcelFault>
+    ensures { ReturnsRead (λ x. (x.0, x.1.now)) result (read_route n bytes.now) }
 {
-    let (source, rest) = process_at(n, bytes)?;
-    let (dest, rest) = process_at(n, rest)?;
-    let (lane, rest) = u32_at(rest)?;
-    let (clock, rest) = clock_at(rest)?;
+    let (source, rest) = read_process(n, bytes)?;
+    let (dest, rest) = read_process(n, rest)?;
+    let (lane, rest) = read_u32(rest)?;
+    let (clock, rest) = read_clock(rest)?;
     let head = Head {
         source,
         dest,
@@ -184,25 +184,25 @@ fn route_at(n: u16, bytes: &[u8]) -> Result<(Head, &[u8]), ReadFault>
 }
 
 /// Returns the kind of the parcel and its head.
-#[tactic(auto, unfolding(crate::specs::Reading::head_at))]
-pub(crate) fn head_at(run: Run, bytes: &[u8]) -> Result<(Kind, Head, &[u8]), ReadFault>
-    ensures { Gives (λ x. (x.0, x.1, x.2.now)) result (head_at run bytes.now) }
+#[tactic(auto, unfolding(crate::specs::Reading::read_head))]
+pub(crate) fn read_head(run: RunId, bytes: &[u8]) -> Result<(ParcelKind, Head, &[u8]), ParcelFault>
+    ensures { ReturnsRead (λ x. (x.0, x.1, x.2.now)) result (read_head run bytes.now) }
 {
-    let rest = version_at(bytes)?;
-    let (kind, rest) = kind_at(rest)?;
-    let rest = run_at(run, rest)?;
-    let (head, rest) = route_at(run.processes, rest)?;
+    let rest = read_version(bytes)?;
+    let (kind, rest) = read_kind(rest)?;
+    let rest = read_run(run, rest)?;
+    let (head, rest) = read_route(run.processes, rest)?;
     Ok((kind, head, rest))
 }
 
-#[tactic(auto, unfolding(crate::specs::Reading::det_at))]
-pub(crate) fn det_at(n: u16, bytes: &[u8]) -> Result<(Det, &[u8]), ReadFault>
-    ensures { Gives (λ x. (x.0, x.1.now)) result (det_at n bytes.now) }
+#[tactic(auto, unfolding(crate::specs::Reading::read_det))]
+pub(crate) fn read_det(n: u16, bytes: &[u8]) -> Result<(Det, &[u8]), ParcelFault>
+    ensures { ReturnsRead (λ x. (x.0, x.1.now)) result (read_det n bytes.now) }
 {
-    let (source, rest) = process_at(n, bytes)?;
-    let (ssn, rest) = u32_at(rest)?;
-    let (dest, rest) = process_at(n, rest)?;
-    let (rsn, rest) = u32_at(rest)?;
+    let (source, rest) = read_process(n, bytes)?;
+    let (ssn, rest) = read_u32(rest)?;
+    let (dest, rest) = read_process(n, rest)?;
+    let (rsn, rest) = read_u32(rest)?;
     let det = Det {
         source,
         ssn,
@@ -213,19 +213,19 @@ pub(crate) fn det_at(n: u16, bytes: &[u8]) -> Result<(Det, &[u8]), ReadFault>
 }
 
 /// Returns at most 255 bytes whose number is in the byte before them.
-#[tactic(auto, unfolding(crate::specs::Reading::short_list_at))]
-pub(crate) fn short_list_at(bytes: &[u8]) -> Result<(&[u8], &[u8]), ReadFault>
-    ensures { Gives (λ x. (x.0.now, x.1.now)) result (short_list_at bytes.now) }
+#[tactic(auto, unfolding(crate::specs::Reading::read_short_list))]
+pub(crate) fn read_short_list(bytes: &[u8]) -> Result<(&[u8], &[u8]), ParcelFault>
+    ensures { ReturnsRead (λ x. (x.0.now, x.1.now)) result (read_short_list bytes.now) }
 {
-    let (count, rest) = u8_at(bytes)?;
-    bytes_at(usize::from(count), rest)
+    let (count, rest) = read_u8(bytes)?;
+    read_bytes(usize::from(count), rest)
 }
 
-#[tactic(auto, unfolding(crate::specs::Reading::body_at))]
-pub(crate) fn body_at(alloc: Global, bytes: &[u8]) -> Result<(Vec<u8>, &[u8]), ReadFault>
-    ensures { Gives (λ x. (x.0.items, x.1.now)) result (body_at bytes.now) }
+#[tactic(auto, unfolding(crate::specs::Reading::read_body))]
+pub(crate) fn read_body(alloc: Global, bytes: &[u8]) -> Result<(Vec<u8>, &[u8]), ParcelFault>
+    ensures { ReturnsRead (λ x. (x.0.items, x.1.now)) result (read_body bytes.now) }
 {
-    let (count, rest) = u32_at(bytes)?;
-    let (body, rest) = bytes_at(count as usize, rest)?;
+    let (count, rest) = read_u32(bytes)?;
+    let (body, rest) = read_bytes(count as usize, rest)?;
     Ok((Vec::from_slice(alloc, body)?, rest))
 }

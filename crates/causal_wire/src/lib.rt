@@ -21,7 +21,7 @@ mod reading;
 /// Writing of parcels.
 mod writing;
 
-pub use fault::{ReadFault, WireFault};
-pub use parcel::{Content, Head, Item, LogEntry, Parcel, Run};
+pub use fault::{ParcelFault, WireFault};
+pub use parcel::{Content, Head, LogEntry, Parcel, ParcelItem, RunId};
 pub use reading::read;
 pub use writing::{write, write_message};

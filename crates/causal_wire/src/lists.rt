@@ -1,28 +1,28 @@
 //! Reading of holders, items and lists.
 ghost use Rattle.std.specs.Prelude.{◌≡◌, None};
-ghost use Rattle.causal_wire.specs.Reading.{Gives, others_of, item_of, det_and_listed_at, item_at, entry_at, items_at, entries_at, view_at, follows, list_at, item_det, entry_det};
+ghost use Rattle.causal_wire.specs.Reading.{ReturnsRead, others_of, parcel_item, read_det_and_listed, read_item, read_entry, read_items, read_entries, read_view, follows, read_list, item_det, entry_det};
 
-use crate::fault::{ReadFault, WireFault};
-use crate::fields::{det_at, flag_at, short_list_at, u32_at};
-use crate::parcel::{Item, LogEntry};
+use crate::fault::{ParcelFault, WireFault};
+use crate::fields::{read_det, read_flag, read_short_list, read_u32};
+use crate::parcel::{LogEntry, ParcelItem};
 use causal_holders::Holders;
 use causal_name::{Det, Pid};
 use std::alloc::Global;
 
 /// Returns the set of the listed holders.
 #[tactic(auto, unfolding(crate::specs::Reading::others_of))]
-fn others_of(n: u16, source: Pid, listed: &[u8]) -> Result<Holders, ReadFault>
-    ensures { Gives (λ x. x) result (others_of n source.0 listed.now) }
+fn others_of(n: u16, source: Pid, listed: &[u8]) -> Result<Holders, ParcelFault>
+    ensures { ReturnsRead (λ x. x) result (others_of n source.0 listed.now) }
 {
     let mut others = Holders::none();
     let mut least: u16 = 0;
     for number in listed {
         let number = *number;
         if n <= u16::from(number) {
-            return Err(ReadFault::Wire(WireFault::Process));
+            return Err(ParcelFault::Wire(WireFault::Process));
         }
         if u16::from(number) < least || number == source.0 {
-            return Err(ReadFault::Wire(WireFault::Holder));
+            return Err(ParcelFault::Wire(WireFault::Holder));
         }
         others.insert(number);
         least = u16::from(number) + 1;
@@ -39,30 +39,30 @@ fn follows(last: Option<Det>, det: Det) -> bool
     }
 }
 
-#[tactic(auto, unfolding(crate::specs::Reading::item_of))]
-fn item_of(
+#[tactic(auto, unfolding(crate::specs::Reading::parcel_item))]
+fn parcel_item(
     n: u16,
     source: Pid,
     last: Option<Det>,
     det: Det,
     listed: &[u8],
-) -> Result<Item, ReadFault>
-    ensures { Gives (λ x. x) result (item_of n source.0 last det listed.now) }
+) -> Result<ParcelItem, ParcelFault>
+    ensures { ReturnsRead (λ x. x) result (parcel_item n source.0 last det listed.now) }
 {
     if !follows(last, det) {
-        return Err(ReadFault::Wire(WireFault::Unsorted));
+        return Err(ParcelFault::Wire(WireFault::Unsorted));
     }
     let others = others_of(n, source, listed)?;
-    Ok(Item { det, others })
+    Ok(ParcelItem { det, others })
 }
 
 /// Returns a determinant and the bytes of its listed holders.
-#[tactic(auto, unfolding(crate::specs::Reading::det_and_listed_at))]
-fn det_and_listed_at(n: u16, bytes: &[u8]) -> Result<(Det, &[u8], &[u8]), ReadFault>
-    ensures { Gives (λ x. (x.0, x.1.now, x.2.now)) result (det_and_listed_at n bytes.now) }
+#[tactic(auto, unfolding(crate::specs::Reading::read_det_and_listed))]
+fn read_det_and_listed(n: u16, bytes: &[u8]) -> Result<(Det, &[u8], &[u8]), ParcelFault>
+    ensures { ReturnsRead (λ x. (x.0, x.1.now, x.2.now)) result (read_det_and_listed n bytes.now) }
 {
-    let (det, rest) = det_at(n, bytes)?;
-    let (listed, rest) = short_list_at(rest)?;
+    let (det, rest) = read_det(n, bytes)?;
+    let (listed, rest) = read_short_list(rest)?;
     Ok((det, listed, rest))
 }
 
@@ -73,16 +73,16 @@ fn next_items(
     source: Pid,
     count: u32,
     bytes: &[u8],
-) -> Result<(Vec<Item>, &[u8]), ReadFault>
-    ensures { Gives (λ x. (x.0.items, x.1.now)) result
-        (list_at item_det (item_at n source.0) None count bytes.now) }
+) -> Result<(Vec<ParcelItem>, &[u8]), ParcelFault>
+    ensures { ReturnsRead (λ x. (x.0.items, x.1.now)) result
+        (read_list item_det (read_item n source.0) None count bytes.now) }
 {
     let mut items = Vec::new(alloc);
     let mut last = None;
     let mut rest = bytes;
     for _ in 0..count {
-        let (det, listed, after) = det_and_listed_at(n, rest)?;
-        let item = item_of(n, source, last, det, listed)?;
+        let (det, listed, after) = read_det_and_listed(n, rest)?;
+        let item = parcel_item(n, source, last, det, listed)?;
         items.push(item)?;
         last = Some(det);
         rest = after;
@@ -90,16 +90,16 @@ fn next_items(
     Ok((items, rest))
 }
 
-#[tactic(auto, unfolding(crate::specs::Reading::items_at))]
-pub(crate) fn items_at(
+#[tactic(auto, unfolding(crate::specs::Reading::read_items))]
+pub(crate) fn read_items(
     alloc: Global,
     n: u16,
     source: Pid,
     bytes: &[u8],
-) -> Result<(Vec<Item>, &[u8]), ReadFault>
-    ensures { Gives (λ x. (x.0.items, x.1.now)) result (items_at n source.0 bytes.now) }
+) -> Result<(Vec<ParcelItem>, &[u8]), ParcelFault>
+    ensures { ReturnsRead (λ x. (x.0.items, x.1.now)) result (read_items n source.0 bytes.now) }
 {
-    let (count, rest) = u32_at(bytes)?;
+    let (count, rest) = read_u32(bytes)?;
     next_items(alloc, n, source, count, rest)
 }
 
@@ -110,17 +110,17 @@ fn next_entries(
     source: Pid,
     count: u32,
     bytes: &[u8],
-) -> Result<(Vec<LogEntry>, &[u8]), ReadFault>
-    ensures { Gives (λ x. (x.0.items, x.1.now)) result
-        (list_at entry_det (entry_at n source.0) None count bytes.now) }
+) -> Result<(Vec<LogEntry>, &[u8]), ParcelFault>
+    ensures { ReturnsRead (λ x. (x.0.items, x.1.now)) result
+        (read_list entry_det (read_entry n source.0) None count bytes.now) }
 {
     let mut entries = Vec::new(alloc);
     let mut last = None;
     let mut rest = bytes;
     for _ in 0..count {
-        let (det, listed, after) = det_and_listed_at(n, rest)?;
-        let item = item_of(n, source, last, det, listed)?;
-        let (stable, after) = flag_at(after)?;
+        let (det, listed, after) = read_det_and_listed(n, rest)?;
+        let item = parcel_item(n, source, last, det, listed)?;
+        let (stable, after) = read_flag(after)?;
         entries.push(LogEntry { item, stable })?;
         last = Some(det);
         rest = after;
@@ -128,27 +128,31 @@ fn next_entries(
     Ok((entries, rest))
 }
 
-#[tactic(auto, unfolding(crate::specs::Reading::entries_at))]
-pub(crate) fn entries_at(
+#[tactic(auto, unfolding(crate::specs::Reading::read_entries))]
+pub(crate) fn read_entries(
     alloc: Global,
     n: u16,
     source: Pid,
     bytes: &[u8],
-) -> Result<(Vec<LogEntry>, &[u8]), ReadFault>
-    ensures { Gives (λ x. (x.0.items, x.1.now)) result (entries_at n source.0 bytes.now) }
+) -> Result<(Vec<LogEntry>, &[u8]), ParcelFault>
+    ensures { ReturnsRead (λ x. (x.0.items, x.1.now)) result (read_entries n source.0 bytes.now) }
 {
-    let (count, rest) = u32_at(bytes)?;
+    let (count, rest) = read_u32(bytes)?;
     next_entries(alloc, n, source, count, rest)
 }
 
 /// Returns the numbers of n processes.
-pub(crate) fn view_at(alloc: Global, n: u16, bytes: &[u8]) -> Result<(Vec<u32>, &[u8]), ReadFault>
-    ensures { Gives (λ x. (x.0.items, x.1.now)) result (view_at n bytes.now) }
+pub(crate) fn read_view(
+    alloc: Global,
+    n: u16,
+    bytes: &[u8],
+) -> Result<(Vec<u32>, &[u8]), ParcelFault>
+    ensures { ReturnsRead (λ x. (x.0.items, x.1.now)) result (read_view n bytes.now) }
 {
     let mut view = Vec::new(alloc);
     let mut rest = bytes;
     for _ in 0..n {
-        let (number, after) = u32_at(rest)?;
+        let (number, after) = read_u32(rest)?;
         view.push(number)?;
         rest = after;
     }

@@ -4,7 +4,7 @@ use causal_name::{Det, Pid};
 
 /// The run that a parcel belongs to. All processes of a run have the same value of this type.
 #[derive(Clone, Copy, Debug, PartialEq, Eq)]
-pub struct Run {
+pub struct RunId {
     /// A number that no other run has.
     pub id: u64,
     /// The number of processes.
@@ -26,7 +26,7 @@ pub struct Head {
 
 /// A determinant that the source of a parcel holds, with the other processes that the source knows to hold it.
 #[derive(Clone, Copy)]
-pub struct Item {
+pub struct ParcelItem {
     pub det: Det,
     /// The known holders besides the source.
     pub others: Holders,
@@ -35,7 +35,7 @@ pub struct Item {
 /// A log entry: what the source of a parcel knows of a determinant that it holds.
 #[derive(Clone, Copy)]
 pub struct LogEntry {
-    pub item: Item,
+    pub item: ParcelItem,
     /// Whether the source knows the determinant to be in stable storage.
     pub stable: bool,
 }
@@ -46,12 +46,12 @@ pub enum Content {
     /// The source's lane sends its message number `ssn`; the items are its piggyback, by ascending determinant.
     Message {
         ssn: u32,
-        items: Vec<Item>,
+        items: Vec<ParcelItem>,
         body: Vec<u8>,
     },
     /// The source holds these determinants, in ascending order.
     Acknowledgement {
-        items: Vec<Item>,
+        items: Vec<ParcelItem>,
     },
     /// The source, which is not up, begins this round. The view has the number of each process, in their order: its
     /// lane, or its next lane if the source knows that it is not up.

@@ -1,102 +1,102 @@
 //! Reading of whole parcels.
 ghost use Rattle.std.specs.Prelude.{◌≡◌, IfOk, Ok};
-ghost use Rattle.causal_wire.specs.Parcels.{Contents, IsRun, IsParcel, contents_of, value_of};
+ghost use Rattle.causal_wire.specs.Parcels.{Contents, IsRun, IsParcel, contents_of, parcel_value};
 ghost use Rattle.causal_wire.specs.Bytes.{parcel_bytes};
-ghost use Rattle.causal_wire.specs.Reading.{Gives, contents_at, parcel_at};
+ghost use Rattle.causal_wire.specs.Reading.{ReturnsRead, read_contents, read_parcel};
 ghost use Rattle.causal_wire.specs.declared.parcel.Head.{Head};
 
-use crate::fault::{ReadFault, WireFault};
-use crate::fields::{Kind, body_at, head_at, u32_at, u64_at};
-use crate::lists::{entries_at, items_at, view_at};
-use crate::parcel::{Content, Parcel, Run};
+use crate::fault::{ParcelFault, WireFault};
+use crate::fields::{ParcelKind, read_body, read_head, read_u32, read_u64};
+use crate::lists::{read_entries, read_items, read_view};
+use crate::parcel::{Content, Parcel, RunId};
 use causal_name::Pid;
 use std::alloc::Global;
 
-#[tactic(auto, unfolding(crate::specs::Reading::contents_at))]
-fn message_at(
+#[tactic(auto, unfolding(crate::specs::Reading::read_contents))]
+fn read_message(
     alloc: Global,
     n: u16,
     source: Pid,
     bytes: &[u8],
-) -> Result<(Content, &[u8]), ReadFault>
-    ensures { Gives (λ x. (contents_of x.0, x.1.now)) result
-        (contents_at n source.0 Kind.Message bytes.now) }
+) -> Result<(Content, &[u8]), ParcelFault>
+    ensures { ReturnsRead (λ x. (contents_of x.0, x.1.now)) result
+        (read_contents n source.0 ParcelKind.Message bytes.now) }
 {
-    let (ssn, rest) = u32_at(bytes)?;
-    let (items, rest) = items_at(alloc, n, source, rest)?;
-    let (body, rest) = body_at(alloc, rest)?;
+    let (ssn, rest) = read_u32(bytes)?;
+    let (items, rest) = read_items(alloc, n, source, rest)?;
+    let (body, rest) = read_body(alloc, rest)?;
     Ok((Content::Message { ssn, items, body }, rest))
 }
 
-#[tactic(auto, unfolding(crate::specs::Reading::contents_at))]
-fn question_at(
+#[tactic(auto, unfolding(crate::specs::Reading::read_contents))]
+fn read_question(
     alloc: Global,
     n: u16,
     source: Pid,
     bytes: &[u8],
-) -> Result<(Content, &[u8]), ReadFault>
-    ensures { Gives (λ x. (contents_of x.0, x.1.now)) result
-        (contents_at n source.0 Kind.Question bytes.now) }
+) -> Result<(Content, &[u8]), ParcelFault>
+    ensures { ReturnsRead (λ x. (contents_of x.0, x.1.now)) result
+        (read_contents n source.0 ParcelKind.Question bytes.now) }
 {
-    let (round, rest) = u64_at(bytes)?;
-    let (view, rest) = view_at(alloc, n, rest)?;
+    let (round, rest) = read_u64(bytes)?;
+    let (view, rest) = read_view(alloc, n, rest)?;
     Ok((Content::Question { round, view }, rest))
 }
 
-#[tactic(auto, unfolding(crate::specs::Reading::contents_at))]
-fn answer_at(
+#[tactic(auto, unfolding(crate::specs::Reading::read_contents))]
+fn read_answer(
     alloc: Global,
     n: u16,
     source: Pid,
     bytes: &[u8],
-) -> Result<(Content, &[u8]), ReadFault>
-    ensures { Gives (λ x. (contents_of x.0, x.1.now)) result
-        (contents_at n source.0 Kind.Answer bytes.now) }
+) -> Result<(Content, &[u8]), ParcelFault>
+    ensures { ReturnsRead (λ x. (contents_of x.0, x.1.now)) result
+        (read_contents n source.0 ParcelKind.Answer bytes.now) }
 {
-    let (round, rest) = u64_at(bytes)?;
-    let (entries, rest) = entries_at(alloc, n, source, rest)?;
+    let (round, rest) = read_u64(bytes)?;
+    let (entries, rest) = read_entries(alloc, n, source, rest)?;
     Ok((Content::Answer { round, entries }, rest))
 }
 
 /// Returns the contents of a parcel of this kind, from this source.
-#[tactic(auto, unfolding(crate::specs::Reading::contents_at))]
-fn contents_at(
+#[tactic(auto, unfolding(crate::specs::Reading::read_contents))]
+fn read_contents(
     alloc: Global,
     n: u16,
     source: Pid,
-    kind: Kind,
+    kind: ParcelKind,
     bytes: &[u8],
-) -> Result<(Content, &[u8]), ReadFault>
-    ensures { Gives (λ x. (contents_of x.0, x.1.now)) result
-        (contents_at n source.0 kind bytes.now) }
+) -> Result<(Content, &[u8]), ParcelFault>
+    ensures { ReturnsRead (λ x. (contents_of x.0, x.1.now)) result
+        (read_contents n source.0 kind bytes.now) }
 {
     match kind {
-        Kind::Message => message_at(alloc, n, source, bytes),
-        Kind::Acknowledgement => {
-            let (items, rest) = items_at(alloc, n, source, bytes)?;
+        ParcelKind::Message => read_message(alloc, n, source, bytes),
+        ParcelKind::Acknowledgement => {
+            let (items, rest) = read_items(alloc, n, source, bytes)?;
             Ok((Content::Acknowledgement { items }, rest))
         }
-        Kind::Question => question_at(alloc, n, source, bytes),
-        Kind::Answer => answer_at(alloc, n, source, bytes),
-        Kind::OwnNumber => {
-            let (round, rest) = u64_at(bytes)?;
+        ParcelKind::Question => read_question(alloc, n, source, bytes),
+        ParcelKind::Answer => read_answer(alloc, n, source, bytes),
+        ParcelKind::OwnNumber => {
+            let (round, rest) = read_u64(bytes)?;
             Ok((Content::OwnNumber { round }, rest))
         }
-        Kind::NotUp => {
-            let (round, rest) = u64_at(bytes)?;
+        ParcelKind::NotUp => {
+            let (round, rest) = read_u64(bytes)?;
             Ok((Content::NotUp { round }, rest))
         }
     }
 }
 
-#[tactic(auto, unfolding(crate::specs::Reading::parcel_at))]
-fn parcel_at(alloc: Global, run: Run, bytes: &[u8]) -> Result<Parcel, ReadFault>
-    ensures { Gives (λ p. value_of p) result (parcel_at run bytes.now) }
+#[tactic(auto, unfolding(crate::specs::Reading::read_parcel))]
+fn read_parcel(alloc: Global, run: RunId, bytes: &[u8]) -> Result<Parcel, ParcelFault>
+    ensures { ReturnsRead (λ p. parcel_value p) result (read_parcel run bytes.now) }
 {
-    let (kind, head, rest) = head_at(run, bytes)?;
-    let (content, rest) = contents_at(alloc, run.processes, head.source, kind, rest)?;
+    let (kind, head, rest) = read_head(run, bytes)?;
+    let (content, rest) = read_contents(alloc, run.processes, head.source, kind, rest)?;
     if !rest.is_empty() {
-        return Err(ReadFault::Wire(WireFault::Trailing));
+        return Err(ParcelFault::Wire(WireFault::Trailing));
     }
     Ok(Parcel { head, content })
 }
@@ -109,15 +109,15 @@ fn parcel_at(alloc: Global, run: Run, bytes: &[u8]) -> Result<Parcel, ReadFault>
 /// # Errors
 ///
 /// `Wire` with the first error from left to right; `NoMemory`.
-pub fn read(alloc: Global, run: Run, bytes: &[u8]) -> Result<Parcel, ReadFault>
+pub fn read(alloc: Global, run: RunId, bytes: &[u8]) -> Result<Parcel, ParcelFault>
     // What is read is a parcel of the run, and has these bytes and no others.
     ensures canonical { IfOk result (λ p.
-        IsParcel run (value_of p) × (bytes.now ≡ parcel_bytes run (value_of p))) }
+        IsParcel run (parcel_value p) × (bytes.now ≡ parcel_bytes run (parcel_value p))) }
     // What is written is read back.
     ensures written { (parcel : Head × Contents) → IsRun run → IsParcel run parcel →
-        bytes.now ≡ parcel_bytes run parcel → Gives (λ p. value_of p) result (Ok parcel) }
+        bytes.now ≡ parcel_bytes run parcel → ReturnsRead (λ p. parcel_value p) result (Ok parcel) }
     // Which error is returned.
-    ensures exact { Gives (λ p. value_of p) result (parcel_at run bytes.now) }
+    ensures exact { ReturnsRead (λ p. parcel_value p) result (read_parcel run bytes.now) }
 {
-    parcel_at(alloc, run, bytes)
+    read_parcel(alloc, run, bytes)
 }

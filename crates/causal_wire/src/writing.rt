@@ -3,11 +3,11 @@ ghost use Rattle.std.specs.Prelude.{◌≡◌, ◌<◌, ◌^◌, ◌++◌, false
 ghost use Rattle.std.specs.List.{flat_map};
 ghost use Rattle.std.specs.Int.{w16, w32, w64};
 ghost use Rattle.std.specs.FinSet as set;
-ghost use Rattle.causal_wire.specs.Parcels.{IsWritable, AreWithoutSource, AreEntriesWithoutSource, message, contents_of, value_of};
+ghost use Rattle.causal_wire.specs.Parcels.{IsWritable, AreWithoutSource, AreEntriesWithoutSource, message, contents_of, parcel_value};
 ghost use Rattle.causal_wire.specs.Bytes.{number_bytes, run_bytes, head_bytes, det_bytes, others_bytes, item_bytes, entry_bytes, list_bytes, body_bytes, view_bytes, kind_byte, contents_bytes, parcel_bytes};
 
 use crate::fields::VERSION;
-use crate::parcel::{Content, Head, Item, LogEntry, Parcel, Run};
+use crate::parcel::{Content, Head, LogEntry, Parcel, ParcelItem, RunId};
 use causal_holders::{Holders, laws};
 use causal_name::{Det, NoMemory, Pid};
 use std::alloc::Global;
@@ -36,7 +36,7 @@ fn put_u64(out: &mut Vec<u8>, number: u64) -> Result<(), NoMemory>
     Ok(())
 }
 
-fn put_run(out: &mut Vec<u8>, run: Run) -> Result<(), NoMemory>
+fn put_run(out: &mut Vec<u8>, run: RunId) -> Result<(), NoMemory>
     ensures { OnOk result (out.new.items ≡ out.old.items ++ run_bytes run) }
 {
     put_u64(out, run.id)?;
@@ -45,7 +45,7 @@ fn put_run(out: &mut Vec<u8>, run: Run) -> Result<(), NoMemory>
     Ok(())
 }
 
-fn put_head(out: &mut Vec<u8>, run: Run, kind: u8, head: Head) -> Result<(), NoMemory>
+fn put_head(out: &mut Vec<u8>, run: RunId, kind: u8, head: Head) -> Result<(), NoMemory>
     ensures { OnOk result (out.new.items ≡ out.old.items ++ head_bytes run kind head) }
 {
     out.extend_from_slice(&[VERSION, kind])?;
@@ -79,7 +79,7 @@ fn put_others(out: &mut Vec<u8>, source: u8, others: Holders) -> Result<(), NoMe
     Ok(())
 }
 
-fn put_item(out: &mut Vec<u8>, source: Pid, item: Item) -> Result<(), NoMemory>
+fn put_item(out: &mut Vec<u8>, source: Pid, item: ParcelItem) -> Result<(), NoMemory>
     requires { set.contains item.others source.0 ≡ false }
     ensures { OnOk result (out.new.items ≡ out.old.items ++ item_bytes item) }
 {
@@ -87,7 +87,7 @@ fn put_item(out: &mut Vec<u8>, source: Pid, item: Item) -> Result<(), NoMemory>
     put_others(out, source.0, item.others)
 }
 
-fn put_each_item(out: &mut Vec<u8>, source: Pid, items: &[Item]) -> Result<(), NoMemory>
+fn put_each_item(out: &mut Vec<u8>, source: Pid, items: &[ParcelItem]) -> Result<(), NoMemory>
     requires { AreWithoutSource source.0 items.now }
     ensures { OnOk result (out.new.items ≡ out.old.items ++ flat_map item_bytes items.now) }
 {
@@ -97,7 +97,7 @@ fn put_each_item(out: &mut Vec<u8>, source: Pid, items: &[Item]) -> Result<(), N
     Ok(())
 }
 
-fn put_items(out: &mut Vec<u8>, source: Pid, items: &[Item]) -> Result<(), NoMemory>
+fn put_items(out: &mut Vec<u8>, source: Pid, items: &[ParcelItem]) -> Result<(), NoMemory>
     requires count { length items.now < 2 ^ 32 }
     requires others { AreWithoutSource source.0 items.now }
     ensures { OnOk result (out.new.items ≡ out.old.items ++ list_bytes item_bytes items.now) }
@@ -170,7 +170,7 @@ fn put_message(
     out: &mut Vec<u8>,
     source: Pid,
     ssn: u32,
-    items: &[Item],
+    items: &[ParcelItem],
     body: &[u8],
 ) -> Result<(), NoMemory>
     requires { IsWritable source.0 (message ssn items.now body.now) }
@@ -224,10 +224,10 @@ fn message_capacity(items: usize, body: usize) -> usize {
 /// `NoMemory`.
 pub fn write_message(
     alloc: Global,
-    run: Run,
+    run: RunId,
     head: Head,
     ssn: u32,
-    items: &[Item],
+    items: &[ParcelItem],
     body: &[u8],
 ) -> Result<Vec<u8>, NoMemory>
     requires { IsWritable head.source.0 (message ssn items.now body.now) }
@@ -260,9 +260,9 @@ fn capacity(content: &Content) -> usize {
 /// # Errors
 ///
 /// `NoMemory`.
-pub fn write(alloc: Global, run: Run, parcel: &Parcel) -> Result<Vec<u8>, NoMemory>
+pub fn write(alloc: Global, run: RunId, parcel: &Parcel) -> Result<Vec<u8>, NoMemory>
     requires { IsWritable parcel.now.head.source.0 (contents_of parcel.now.content) }
-    ensures { IfOk result (λ bytes. bytes.items ≡ parcel_bytes run (value_of parcel.now)) }
+    ensures { IfOk result (λ bytes. bytes.items ≡ parcel_bytes run (parcel_value parcel.now)) }
 {
     let mut out = Vec::with_capacity(alloc, capacity(&parcel.content))?;
     put_head(&mut out, run, kind_byte(&parcel.content), parcel.head)?;

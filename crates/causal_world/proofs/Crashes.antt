@@ -10,7 +10,7 @@ use Rattle.causal_trace.specs.Past.{is_down, logs, is_stable}
 use Rattle.causal_steps.specs.Recovery.{must_recover}
 use Rattle.causal_steps.specs.Steps.{crashes, silent, learns}
 use Rattle.causal_steps.specs.Reachable.{next_state}
-use Rattle.causal_rounds.specs.Rounds.{set_at, RoundState, RoundStep, crash}
+use Rattle.causal_rounds.specs.Rounds.{with_value_at, RecoveryState, RoundStep, crash}
 use Rattle.causal_rounds.specs.Gathered.{DetState, DetInvariant}
 use Rattle.causal_rounds.specs.Gathered as det
 use Rattle.causal_rounds.specs.Acceptance.{by_floor}
@@ -33,8 +33,8 @@ module _ (n f : ℕ) (w : World) (k : WorldInvariant n f w) where
           absurd (both_ways (w.rounds.down p) up ((k.dets d).recovering_are_down p (and_from _ _ small is)))
 
   module _ (who : Pid) (low : who.0 < n) (up : is_down w.past who.0 ≡ false) (few : count_below n (is_down w.past) < f) where
-    abbrev fallen : RoundState
-    fallen = record { lane = w.rounds.lane; down = set_at w.rounds.down who.0 true; floors = w.rounds.floors; rounds = w.rounds.rounds }
+    abbrev fallen : RecoveryState
+    fallen = record { lane = w.rounds.lane; down = with_value_at w.rounds.down who.0 true; floors = w.rounds.floors; rounds = w.rounds.rounds }
 
     abbrev after : World
     after = record {
@@ -61,7 +61,7 @@ module _ (n f : ℕ) (w : World) (k : WorldInvariant n f w) where
       replied = k.absent.replied;
     }
 
-    logs_after : (d : Det) (p : ℕ) → set_at (λ q. (nat_lt q n && logs w.past q d) || (q == n && w.stored d)) who.0 false p ≡ ((nat_lt p n && (not (who.0 == p) && logs w.past p d)) || (p == n && w.stored d))
+    logs_after : (d : Det) (p : ℕ) → with_value_at (λ q. (nat_lt q n && logs w.past q d) || (q == n && w.stored d)) who.0 false p ≡ ((nat_lt p n && (not (who.0 == p) && logs w.past p d)) || (p == n && w.stored d))
     logs_after d p = elim (set_at_cases (λ q. (nat_lt q n && logs w.past q d) || (q == n && w.stored d)) who.0 false p) [
       | inl is ↦
           let same : (who.0 == p) ≡ true = eq-eqb who.0 p (sym is.0) in
@@ -76,7 +76,7 @@ module _ (n f : ℕ) (w : World) (k : WorldInvariant n f w) where
         elsewhere : (a b c d : Bool) → b ≡ false → ((a && (not b && c)) || d) ≡ ((a && c) || d)
         elsewhere a b c d hb = grind (arith, hb)
 
-    recover_after : (d : Det) (p : ℕ) → set_at (λ q. nat_lt q n && must_recover w.past q d) who.0 ((nat_lt who.0 n && logs w.past who.0 d) || (who.0 == n && w.stored d)) p ≡ (nat_lt p n && ((who.0 == p && logs w.past p d) || must_recover w.past p d))
+    recover_after : (d : Det) (p : ℕ) → with_value_at (λ q. nat_lt q n && must_recover w.past q d) who.0 ((nat_lt who.0 n && logs w.past who.0 d) || (who.0 == n && w.stored d)) p ≡ (nat_lt p n && ((who.0 == p && logs w.past p d) || must_recover w.past p d))
     recover_after d p = elim (set_at_cases (λ q. nat_lt q n && must_recover w.past q d) who.0 ((nat_lt who.0 n && logs w.past who.0 d) || (who.0 == n && w.stored d)) p) [
       | inl is ↦
           let same : (who.0 == p) ≡ true = eq-eqb who.0 p (sym is.0) in
@@ -101,7 +101,7 @@ module _ (n f : ℕ) (w : World) (k : WorldInvariant n f w) where
 
     pub crash_preserves : WorldInvariant n f (record {
       past = Crash who ∷ w.past;
-      rounds = record { lane = w.rounds.lane; down = set_at w.rounds.down who.0 true; floors = w.rounds.floors; rounds = w.rounds.rounds };
+      rounds = record { lane = w.rounds.lane; down = with_value_at w.rounds.down who.0 true; floors = w.rounds.floors; rounds = w.rounds.rounds };
       knows_holder = λ p d q. not (who.0 == p) && w.knows_holder p d q;
       knows_stable = λ p d. not (who.0 == p) && w.knows_stable p d;
       packets = w.packets;
@@ -129,7 +129,7 @@ module _ (n f : ℕ) (w : World) (k : WorldInvariant n f w) where
       stores = record { stored_from = k.stores.stored_from; landed_stored = k.stores.landed_stored; stable_stored = k.stores.stable_stored };
       reads = record { last = k.reads.last; own_gathered = k.reads.own_gathered };
       own_logged = λ p d small still dest next stored. elim (set_at_cases w.rounds.down who.0 true p) [
-        | inl is ↦ absurd (both_ways (set_at w.rounds.down who.0 true p) still is.1)
+        | inl is ↦ absurd (both_ways (with_value_at w.rounds.down who.0 true p) still is.1)
         | inr other ↦ and_from _ _ (not_from_false (who.0 == p) (ne_eqb who.0 p (λ e. other.0 (sym e)))) (k.own_logged p d small (sym other.1 ∙ still) dest next stored)
       ];
     }

@@ -14,7 +14,7 @@ use Rattle.causal_trace.specs.Past.{list_has, is_down, logs, is_stable, deliveri
 use Rattle.causal_steps.specs.Recovery.{must_recover, delivers_as_new, HasOrRecovers}
 use Rattle.causal_steps.specs.Steps.{delivers}
 use Rattle.causal_steps.specs.Reachable.{next_state}
-use Rattle.causal_rounds.specs.Rounds.{set_at}
+use Rattle.causal_rounds.specs.Rounds.{with_value_at}
 use Rattle.causal_rounds.specs.Gathered.{DetState, DetInvariant, take, deliver_again, deliver_as_new}
 use Rattle.causal_rounds.specs.Acceptance.{by_floor}
 use Rattle.causal_rounds.proofs.Lemmas.RoundSteps.{set_at_cases}
@@ -68,7 +68,7 @@ module _ (n f : ℕ) (w : World) (k : WorldInvariant n f w) (to : Pid) (send rsn
   recover_before d q = nat_lt q n && must_recover w.past q d
 
   -- what the receiver logs afterwards, and what is still to be recovered
-  logs_listed : (d : Det) → list_has listed d ≡ true → (q : ℕ) → set_at (logs_before d) to.0 true q ≡ ((nat_lt q n && ((to.0 == q && list_has listed d) || logs w.past q d)) || (q == n && w.stored d))
+  logs_listed : (d : Det) → list_has listed d ≡ true → (q : ℕ) → with_value_at (logs_before d) to.0 true q ≡ ((nat_lt q n && ((to.0 == q && list_has listed d) || logs w.past q d)) || (q == n && w.stored d))
   logs_listed d h q = elim (set_at_cases (logs_before d) to.0 true q) [
     | inl is ↦
         let same : (to.0 == q) ≡ true = eq-eqb to.0 q (sym is.0) in
@@ -109,19 +109,19 @@ module _ (n f : ℕ) (w : World) (k : WorldInvariant n f w) (to : Pid) (send rsn
           logged : (b : Bool) → logs w.past to.0 d ≡ b → DetInvariant (det_state_of n after d)
           logged true has_d =
               let small : nat_lt to.0 n ≡ true = below_is to.0 n low in
-              reach (set_at (logs_before d) to.0 true) (recover_before d) (logs_listed d listed_d) (recover_old d (logged_not_new d has_d)) (det_step_preserves (det_state_of n w d) _ (deliver_again to.0 up (inl (or_left _ _ (and_from _ _ small has_d)))) k.rounds (k.dets d))
+              reach (with_value_at (logs_before d) to.0 true) (recover_before d) (logs_listed d listed_d) (recover_old d (logged_not_new d has_d)) (det_step_preserves (det_state_of n w d) _ (deliver_again to.0 up (inl (or_left _ _ (and_from _ _ small has_d)))) k.rounds (k.dets d))
           logged false lacks = stable (is_stable w.past d) refl
             where
               stable : (b : Bool) → is_stable w.past d ≡ b → DetInvariant (det_state_of n after d)
-              stable true is = reach (set_at (logs_before d) to.0 true) (recover_before d) (logs_listed d listed_d) (recover_old d (stable_not_new d is)) (det_step_preserves (det_state_of n w d) _ (deliver_again to.0 up (inr is)) k.rounds (k.dets d))
-              stable false is = reach (set_at (logs_before d) to.0 true) (λ q. false) (logs_listed d listed_d) (recover_new d (is_new d same lacks is)) (det_step_preserves (det_state_of n w d) _ (deliver_as_new to.0 up) k.rounds (k.dets d))
+              stable true is = reach (with_value_at (logs_before d) to.0 true) (recover_before d) (logs_listed d listed_d) (recover_old d (stable_not_new d is)) (det_step_preserves (det_state_of n w d) _ (deliver_again to.0 up (inr is)) k.rounds (k.dets d))
+              stable false is = reach (with_value_at (logs_before d) to.0 true) (λ q. false) (logs_listed d listed_d) (recover_new d (is_new d same lacks is)) (det_step_preserves (det_state_of n w d) _ (deliver_as_new to.0 up) k.rounds (k.dets d))
       mine_or_carried false differ listed_d =
           let carries : p.parcel.carries d ≡ true = elim (or_cases (same_det d own) (p.parcel.carries d) (sym (lists d) ∙ listed_d)) [
             | inl is ↦ absurd (both_ways (same_det own d) differ (subst (λ x. same_det own x ≡ true) (sym (same_is d own is)) (same_itself own)))
             | inr goes ↦ goes
           ] in
           let there : if_carries d (w.packets i) ≡ Some (carrier_of p) = ap (if_carries d) at ∙ cond-true (p.parcel.carries d) (Some (carrier_of p)) None carries in
-          reach (set_at (logs_before d) to.0 true) (recover_before d) (logs_listed d listed_d) (recover_old d (other_not_new d differ)) (det_step_preserves (det_state_of n w d) _ (take to.0 i (carrier_of p) up there floor) k.rounds (k.dets d))
+          reach (with_value_at (logs_before d) to.0 true) (recover_before d) (logs_listed d listed_d) (recover_old d (other_not_new d differ)) (det_step_preserves (det_state_of n w d) _ (take to.0 i (carrier_of p) up there floor) k.rounds (k.dets d))
 
       by : (b : Bool) → list_has listed d ≡ b → DetInvariant (det_state_of n after d)
       by true is = mine_or_carried (same_det own d) refl is

@@ -6,7 +6,7 @@ use Rattle.std.proofs.lemmas.Bool.{false≢true, cond-true}
 use Rattle.causal_name.specs.declared.Pid.{Pid}
 use Rattle.causal_trace.specs.declared.entry.Entry.TheVariants.{Crash}
 use Rattle.causal_trace.specs.Past.{logs}
-use Rattle.causal_rounds.specs.Rounds.{set_at, Round, number, new_round, with_reply}
+use Rattle.causal_rounds.specs.Rounds.{with_value_at, Round, number, new_round, with_reply}
 use Rattle.causal_rounds.proofs.Lemmas.RoundSteps.{set_at_cases}
 use Rattle.causal_world.specs.World.{Packet, World}
 use Rattle.causal_world.specs.Steps.{crash, begin, answer, read, restart}
@@ -33,7 +33,7 @@ first_world = record {
 abbrev crashed : World
 crashed = record {
   past = Crash second ∷ [];
-  rounds = record { lane = λ p. 0; down = set_at absent 1 true; floors = λ p q. 0; rounds = λ p. None };
+  rounds = record { lane = λ p. 0; down = with_value_at absent 1 true; floors = λ p q. 0; rounds = λ p. None };
   knows_holder = λ p d q. not (1 == p) && false;
   knows_stable = λ p d. not (1 == p) && false;
   packets = λ i. None;
@@ -48,11 +48,11 @@ view q = number crashed.rounds q
 abbrev begun : World
 begun = record {
   past = crashed.past;
-  rounds = record { lane = crashed.rounds.lane; down = crashed.rounds.down; floors = crashed.rounds.floors; rounds = set_at crashed.rounds.rounds 1 (Some (new_round view absent)) };
+  rounds = record { lane = crashed.rounds.lane; down = crashed.rounds.down; floors = crashed.rounds.floors; rounds = with_value_at crashed.rounds.rounds 1 (Some (new_round view absent)) };
   knows_holder = crashed.knows_holder;
   knows_stable = crashed.knows_stable;
   packets = crashed.packets;
-  gathered = set_at crashed.gathered 1 (λ d. false);
+  gathered = with_value_at crashed.gathered 1 (λ d. false);
   stored = crashed.stored;
   landed = crashed.landed;
 }
@@ -66,11 +66,11 @@ empty_answer = record { parcel = record { from = 0; send = None; carries = λ d.
 abbrev answered : World
 answered = record {
   past = begun.past;
-  rounds = record { lane = begun.rounds.lane; down = begun.rounds.down; floors = set_at begun.rounds.floors 0 view; rounds = set_at begun.rounds.rounds 1 (Some (with_reply round 0 true)) };
+  rounds = record { lane = begun.rounds.lane; down = begun.rounds.down; floors = with_value_at begun.rounds.floors 0 view; rounds = with_value_at begun.rounds.rounds 1 (Some (with_reply round 0 true)) };
   knows_holder = begun.knows_holder;
   knows_stable = begun.knows_stable;
-  packets = set_at begun.packets 0 (Some empty_answer);
-  gathered = set_at begun.gathered 1 (λ d. begun.gathered 1 d || logs begun.past 0 d);
+  packets = with_value_at begun.packets 0 (Some empty_answer);
+  gathered = with_value_at begun.gathered 1 (λ d. begun.gathered 1 d || logs begun.past 0 d);
   stored = begun.stored;
   landed = begun.landed;
 }
@@ -78,11 +78,11 @@ answered = record {
 abbrev was_read : World
 was_read = record {
   past = answered.past;
-  rounds = record { lane = answered.rounds.lane; down = answered.rounds.down; floors = set_at answered.rounds.floors 2 view; rounds = set_at answered.rounds.rounds 1 (Some (with_reply (with_reply round 0 true) 2 true)) };
+  rounds = record { lane = answered.rounds.lane; down = answered.rounds.down; floors = with_value_at answered.rounds.floors 2 view; rounds = with_value_at answered.rounds.rounds 1 (Some (with_reply (with_reply round 0 true) 2 true)) };
   knows_holder = answered.knows_holder;
   knows_stable = answered.knows_stable;
   packets = answered.packets;
-  gathered = set_at answered.gathered 1 (λ d. answered.gathered 1 d || answered.stored d);
+  gathered = with_value_at answered.gathered 1 (λ d. answered.gathered 1 d || answered.stored d);
   stored = answered.stored;
   landed = answered.landed;
 }
@@ -110,8 +110,8 @@ gone : (q : ℕ) → suc 2 ≤ q → (absent q ≡ true) × (view q ≡ 1)
 gone q high =
     let big : nat_lt q 3 ≡ false = grind (arith, high) in
     let is_absent : absent q ≡ true = ap not big in
-    let down : set_at absent 1 true q ≡ true = elim (set_at_cases absent 1 true q) [ inl is ↦ is.1 | inr other ↦ other.1 ∙ is_absent ] in
-    (is_absent, cond-true (set_at absent 1 true q) 1 0 down)
+    let down : with_value_at absent 1 true q ≡ true = elim (set_at_cases absent 1 true q) [ inl is ↦ is.1 | inr other ↦ other.1 ∙ is_absent ] in
+    (is_absent, cond-true (with_value_at absent 1 true q) 1 0 down)
 
 here : (q : ℕ) → q < suc 2 → absent q ≡ false
 here zero low = refl

@@ -8,11 +8,11 @@ use Rattle.causal_name.specs.declared.Det.{Det}
 use Rattle.causal_trace.specs.declared.entry.Entry.TheVariants.{Restart}
 use Rattle.causal_trace.specs.Past.{list_has, is_down, logs, is_stable, deliveries}
 use Rattle.causal_steps.specs.Recovery.{must_recover}
-use Rattle.causal_steps.specs.Transit.{Parcel, IsInTransit, IsLogged, IsCarried, Survives}
+use Rattle.causal_steps.specs.Transit.{TransitParcel, IsInTransit, IsLoggedBySome, IsCarried, Survives}
 use Rattle.causal_steps.specs.Steps.{restarts}
 use Rattle.causal_steps.specs.Reachable.{next_state}
-use Rattle.causal_rounds.specs.Rounds.{set_at, Round, RoundState, RoundStep, RoundInvariant, restart}
-use Rattle.causal_rounds.specs.Gathered.{Carrier, DetState, DetInvariant, IsOpen}
+use Rattle.causal_rounds.specs.Rounds.{with_value_at, Round, RecoveryState, RoundStep, RoundInvariant, restart}
+use Rattle.causal_rounds.specs.Gathered.{Carrier, DetState, DetInvariant, MayComplete}
 use Rattle.causal_rounds.specs.Gathered as det
 use Rattle.causal_rounds.specs.Acceptance.{IsAcceptable, by_round}
 use Rattle.causal_rounds.proofs.Lemmas.RoundSteps.{set_at_cases, some_is, none_some, round_step_preserves}
@@ -26,8 +26,8 @@ use Rattle.causal_world.proofs.Lemmas.Transit.{packet_of, in_transit_of, landed_
 module _ (n f : ℕ) (w : World) (k : WorldInvariant n f w) (who : Pid) (listed : List Det) (r : Round) (known : ℕ → Det → ℕ → Bool) (marked : ℕ → Det → Bool) (low : who.0 < n) (at : w.rounds.rounds who.0 ≡ Some r)
     (all_low : (q : ℕ) → q < suc n → (q ≡ who.0 → ⊥) → r.replied q ≡ true) (lists : (d : Det) → w.gathered who.0 d ≡ true → (list_has listed d ≡ true) ⊎ (is_stable w.past d ≡ true))
     (owns : (d : Det) → w.gathered who.0 d ≡ true → d.dest.0 ≡ who.0 → list_has listed d ≡ true) (from_where : (d : Det) → list_has listed d ≡ true → (w.gathered who.0 d ≡ true) ⊎ (GatheredFrom w who.0 r d ⊎ (is_stable w.past d ≡ true))) where
-  abbrev risen : RoundState
-  risen = record { lane = set_at w.rounds.lane who.0 (w.rounds.lane who.0 + 1); down = set_at w.rounds.down who.0 false; floors = set_at w.rounds.floors who.0 r.view; rounds = set_at w.rounds.rounds who.0 None }
+  abbrev risen : RecoveryState
+  risen = record { lane = with_value_at w.rounds.lane who.0 (w.rounds.lane who.0 + 1); down = with_value_at w.rounds.down who.0 false; floors = with_value_at w.rounds.floors who.0 r.view; rounds = with_value_at w.rounds.rounds who.0 None }
 
   abbrev after : World
   after = record { past = Restart who listed ∷ w.past; rounds = risen; knows_holder = known; knows_stable = marked; packets = w.packets; gathered = w.gathered; stored = w.stored; landed = w.landed }
@@ -60,7 +60,7 @@ module _ (n f : ℕ) (w : World) (k : WorldInvariant n f w) (who : Pid) (listed 
   high_away : (p : ℕ) → suc n ≤ p → p ≡ who.0 → ⊥
   high_away p above is = omega (arith, low, above, is)
 
-  old_round : (s : ℕ) (o : Round) → set_at w.rounds.rounds who.0 None s ≡ Some o → w.rounds.rounds s ≡ Some o
+  old_round : (s : ℕ) (o : Round) → with_value_at w.rounds.rounds who.0 None s ≡ Some o → w.rounds.rounds s ≡ Some o
   old_round s o there = elim (set_at_cases w.rounds.rounds who.0 None s) [ inl is ↦ absurd (none_some o (sym is.1 ∙ there)) | inr other ↦ sym other.1 ∙ there ]
 
   absent_still : AbsentAreDown (suc n) risen
@@ -70,12 +70,12 @@ module _ (n f : ℕ) (w : World) (k : WorldInvariant n f w) (who : Pid) (listed 
     replied = λ s p o there above. k.absent.replied s p o (old_round s o there) above;
   }
 
-  opened : IsOpen w.rounds who.0 r
+  opened : MayComplete w.rounds who.0 r
   opened q other no_reply = absurd (both_ways (r.replied q) no_reply (all q other))
 
   -- what was sent to the process from a lane of its view is in transit to its round
   to_round : (i : ℕ) (p : Packet) → w.packets i ≡ Some p → p.to ≡ who.0 → r.replied p.parcel.from ≡ true → r.view p.parcel.from ≤ p.lane → IsInTransit (volatile_of n w) p.parcel
-  to_round i p there to replied above = in_transit_of n w i p there (is_accepted (suc n) w.rounds (carrier_of p) (by_round r (ap w.rounds.down to ∙ was_down) (ap w.rounds.rounds to ∙ at) (subst (λ s. IsOpen w.rounds s r) (sym to) opened) replied above))
+  to_round i p there to replied above = in_transit_of n w i p there (is_accepted (suc n) w.rounds (carrier_of p) (by_round r (ap w.rounds.down to ∙ was_down) (ap w.rounds.rounds to ∙ at) (subst (λ s. MayComplete w.rounds s r) (sym to) opened) replied above))
 
   stored_alive : (d : Det) → w.stored d ≡ true → Survives n w.past (volatile_of n w) d
   stored_alive d h = let from = k.stores.stored_from d h in inr (inr (from.1.parcel, landed_in_transit n w from.0 from.1 from.2 from.3, from.4))
@@ -90,17 +90,17 @@ module _ (n f : ℕ) (w : World) (k : WorldInvariant n f w) (who : Pid) (listed 
     | inr (inr stable) ↦ inl stable
   ]
 
-  recovers : (d : Det) → must_recover w.past who.0 d ≡ true → IsLogged n w.past d ⊎ IsCarried (volatile_of n after) d → (list_has listed d ≡ true) ⊎ (is_stable w.past d ≡ true)
+  recovers : (d : Det) → must_recover w.past who.0 d ≡ true → IsLoggedBySome n w.past d ⊎ IsCarried (volatile_of n after) d → (list_has listed d ≡ true) ⊎ (is_stable w.past d ≡ true)
   recovers d lost there = by (is_stable w.past d) refl
     where
       logs_stored : w.stored d ≡ true → (det_state_of n w d).logs n ≡ true
       logs_stored h = or_right _ _ (and_from _ _ (eq-eqb n n refl) h)
 
-      seen : IsLogged n w.past d ⊎ IsCarried (volatile_of n after) d → ((y : ℕ) × ((det_state_of n w d).logs y ≡ true)) ⊎ ((i : ℕ) × (t : Carrier) × ((det_state_of n w d).carriers i ≡ Some t) × IsAcceptable risen t)
+      seen : IsLoggedBySome n w.past d ⊎ IsCarried (volatile_of n after) d → ((y : ℕ) × ((det_state_of n w d).logs y ≡ true)) ⊎ ((i : ℕ) × (t : Carrier) × ((det_state_of n w d).carriers i ≡ Some t) × IsAcceptable risen t)
       seen (inl (y, below, has_d)) = inl (y, or_left _ _ (and_from _ _ (below_is y n below) has_d))
       seen (inr (t, in_transit, has_d)) =
           let found = packet_of n after t in_transit in
-          let carries : found.1.parcel.carries d ≡ true = ap (λ (x : Parcel). x.carries d) found.4 ∙ has_d in
+          let carries : found.1.parcel.carries d ≡ true = ap (λ (x : TransitParcel). x.carries d) found.4 ∙ has_d in
           elim (or_cases (w.landed found.0) (is_acceptable (suc n) risen (carrier_of found.1)) found.3) [
             | inl landed ↦
                 let stored = k.stores.landed_stored found.0 landed in
@@ -134,14 +134,14 @@ module _ (n f : ℕ) (w : World) (k : WorldInvariant n f w) (who : Pid) (listed 
       elsewhere : (a b c x e : Bool) → b ≡ false → ((a && ((b && c) || x)) || e) ≡ ((a && x) || e)
       elsewhere a b c x e hb = grind (arith, hb)
 
-  recover_after : (d : Det) (p : ℕ) → set_at (λ q. nat_lt q n && must_recover w.past q d) who.0 false p ≡ (nat_lt p n && (not (who.0 == p) && must_recover w.past p d))
+  recover_after : (d : Det) (p : ℕ) → with_value_at (λ q. nat_lt q n && must_recover w.past q d) who.0 false p ≡ (nat_lt p n && (not (who.0 == p) && must_recover w.past p d))
   recover_after d p = elim (set_at_cases (λ q. nat_lt q n && must_recover w.past q d) who.0 false p) [
     | inl is ↦ let same : (who.0 == p) ≡ true = eq-eqb who.0 p (sym is.0) in is.1 ∙ grind (arith, same)
     | inr other ↦ let differ : (who.0 == p) ≡ false = ne_eqb who.0 p (λ e. other.0 (sym e)) in other.1 ∙ grind (arith, differ)
   ]
 
   abbrev risen_det : Det → (ℕ → Bool) → DetState
-  risen_det d g = record { state = risen; logs = g; must_recover = set_at (λ q. nat_lt q n && must_recover w.past q d) who.0 false; stable = is_stable w.past d; carriers = (det_state_of n w d).carriers; gathered = (det_state_of n w d).gathered }
+  risen_det d g = record { state = risen; logs = g; must_recover = with_value_at (λ q. nat_lt q n && must_recover w.past q d) who.0 false; stable = is_stable w.past d; carriers = (det_state_of n w d).carriers; gathered = (det_state_of n w d).gathered }
 
   dets : (d : Det) → DetInvariant (det_state_of n after d)
   dets d = by (list_has listed d) (w.gathered who.0 d) refl refl
@@ -152,7 +152,7 @@ module _ (n f : ℕ) (w : World) (k : WorldInvariant n f w) (who : Pid) (listed 
           h
 
       first : ℕ → Bool
-      first = set_at (logs_before d) who.0 (w.gathered who.0 d)
+      first = with_value_at (logs_before d) who.0 (w.gathered who.0 d)
 
       restarted : DetInvariant (risen_det d first)
       restarted = det_step_preserves (det_state_of n w d) _ (det.restart who.0 r at all) k.rounds (k.dets d)
@@ -164,7 +164,7 @@ module _ (n f : ℕ) (w : World) (k : WorldInvariant n f w) (who : Pid) (listed 
       is_up = set_at_here w.rounds.down who.0 false
 
       second : Bool → ℕ → Bool
-      second b = set_at first who.0 b
+      second b = with_value_at first who.0 b
 
       second_away : (b : Bool) (q : ℕ) → (q ≡ who.0 → ⊥) → second b q ≡ logs_before d q
       second_away b q other = set_at_away first who.0 b q other ∙ set_at_away (logs_before d) who.0 (w.gathered who.0 d) q other
@@ -196,7 +196,7 @@ module _ (n f : ℕ) (w : World) (k : WorldInvariant n f w) (who : Pid) (listed 
       → ((x : ℕ) (d : Det) → marked x d ≡ true → (w.knows_stable x d ≡ true) ⊎ (is_stable w.past d ≡ true))
       → WorldInvariant n f (record {
         past = Restart who listed ∷ w.past;
-        rounds = record { lane = set_at w.rounds.lane who.0 (w.rounds.lane who.0 + 1); down = set_at w.rounds.down who.0 false; floors = set_at w.rounds.floors who.0 r.view; rounds = set_at w.rounds.rounds who.0 None };
+        rounds = record { lane = with_value_at w.rounds.lane who.0 (w.rounds.lane who.0 + 1); down = with_value_at w.rounds.down who.0 false; floors = with_value_at w.rounds.floors who.0 r.view; rounds = with_value_at w.rounds.rounds who.0 None };
         knows_holder = known;
         knows_stable = marked;
         packets = w.packets;
@@ -245,7 +245,7 @@ module _ (n f : ℕ) (w : World) (k : WorldInvariant n f w) (who : Pid) (listed 
       not_storage : n ≡ who.0 → ⊥
       not_storage is = omega (arith, low, is)
 
-      own : (p : ℕ) (d : Det) → p < n → set_at w.rounds.down who.0 false p ≡ false → d.dest.0 ≡ p → deliveries (Restart who listed ∷ w.past) p ≤ d.rsn → w.stored d ≡ true → logs (Restart who listed ∷ w.past) p d ≡ true
+      own : (p : ℕ) (d : Det) → p < n → with_value_at w.rounds.down who.0 false p ≡ false → d.dest.0 ≡ p → deliveries (Restart who listed ∷ w.past) p ≤ d.rsn → w.stored d ≡ true → logs (Restart who listed ∷ w.past) p d ≡ true
       own p d small still dest next stored = elim (set_at_cases w.rounds.down who.0 false p) [
         | inl is ↦ or_left _ _ (and_from _ _ (eq-eqb who.0 p (sym is.0)) (owns d (k.reads.own_gathered who.0 r d at (all n not_storage) stored (dest ∙ is.0)) (dest ∙ is.0)))
         | inr other ↦

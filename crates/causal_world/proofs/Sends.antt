@@ -10,7 +10,7 @@ use Rattle.causal_trace.specs.declared.entry.Entry.TheVariants.{Send}
 use Rattle.causal_trace.specs.Past.{logs, is_stable}
 use Rattle.causal_steps.specs.Steps.{IsSendStep, silent, sends, emits}
 use Rattle.causal_steps.specs.Reachable.{next_state}
-use Rattle.causal_rounds.specs.Rounds.{set_at, Round}
+use Rattle.causal_rounds.specs.Rounds.{with_value_at, Round}
 use Rattle.causal_rounds.specs.Gathered.{Carrier, DetState, DetInvariant, emit}
 use Rattle.causal_rounds.proofs.Lemmas.RoundSteps.{set_at_cases, some_is}
 use Rattle.causal_rounds.proofs.Lemmas.GatheredSteps.{det_step_preserves}
@@ -23,10 +23,10 @@ use Rattle.causal_world.proofs.Lemmas.Transit.{one_is_new}
 module _ (n f : ℕ) (w : World) (p i : ℕ) (new : Packet) (s : IsSentBy n w p i new) (k : WorldInvariant n f w) where
   -- the world with the packet, after these entries, which say nothing new of logs
   abbrev sent : List Entry → World
-  sent next = record { past = next; rounds = w.rounds; knows_holder = w.knows_holder; knows_stable = w.knows_stable; packets = set_at w.packets i (Some new); gathered = w.gathered; stored = w.stored; landed = w.landed }
+  sent next = record { past = next; rounds = w.rounds; knows_holder = w.knows_holder; knows_stable = w.knows_stable; packets = with_value_at w.packets i (Some new); gathered = w.gathered; stored = w.stored; landed = w.landed }
 
   abbrev with_carrier : Det → DetState → Option Carrier → DetState
-  with_carrier d a c = record { state = a.state; logs = a.logs; must_recover = a.must_recover; stable = a.stable; carriers = set_at a.carriers i c; gathered = a.gathered }
+  with_carrier d a c = record { state = a.state; logs = a.logs; must_recover = a.must_recover; stable = a.stable; carriers = with_value_at a.carriers i c; gathered = a.gathered }
 
   free : (d : Det) → (det_state_of n w d).carriers i ≡ None
   free d = ap (if_carries d) s.free
@@ -53,20 +53,20 @@ module _ (n f : ℕ) (w : World) (p i : ℕ) (new : Packet) (s : IsSentBy n w p 
           subst (λ c. DetInvariant (with_carrier d (det_state_of n w d) c)) (sym (uncarried d is))
           (subst (λ (g : ℕ → Option Carrier). DetInvariant (record { state = w.rounds; logs = (det_state_of n w d).logs; must_recover = (det_state_of n w d).must_recover; stable = is_stable w.past d; carriers = g; gathered = λ q. w.gathered q d })) (λ j q. sym (set_at_same (det_state_of n w d).carriers i None q (free d)) j) (k.dets d))
 
-  same_carriers : (d : Det) (q : ℕ) → if_carries d (set_at w.packets i (Some new) q) ≡ set_at (det_state_of n w d).carriers i (if_carries d (Some new)) q
+  same_carriers : (d : Det) (q : ℕ) → if_carries d (with_value_at w.packets i (Some new) q) ≡ with_value_at (det_state_of n w d).carriers i (if_carries d (Some new)) q
   same_carriers d q = map_set_at (if_carries d) w.packets i (Some new) q
 
-  dets_sent : (d : Det) → DetInvariant (record { state = w.rounds; logs = (det_state_of n w d).logs; must_recover = (det_state_of n w d).must_recover; stable = is_stable w.past d; carriers = λ q. if_carries d (set_at w.packets i (Some new) q); gathered = λ q. w.gathered q d })
+  dets_sent : (d : Det) → DetInvariant (record { state = w.rounds; logs = (det_state_of n w d).logs; must_recover = (det_state_of n w d).must_recover; stable = is_stable w.past d; carriers = λ q. if_carries d (with_value_at w.packets i (Some new) q); gathered = λ q. w.gathered q d })
   dets_sent d = subst (λ (g : ℕ → Option Carrier). DetInvariant (record { state = w.rounds; logs = (det_state_of n w d).logs; must_recover = (det_state_of n w d).must_recover; stable = is_stable w.past d; carriers = g; gathered = λ q. w.gathered q d })) (λ j q. sym (same_carriers d q) j) (sent_det d)
 
-  lanes_sent : (j : ℕ) (x : Packet) → set_at w.packets i (Some new) j ≡ Some x → x.lane ≤ w.rounds.lane x.parcel.from
+  lanes_sent : (j : ℕ) (x : Packet) → with_value_at w.packets i (Some new) j ≡ Some x → x.lane ≤ w.rounds.lane x.parcel.from
   lanes_sent j x at = elim (set_at_cases w.packets i (Some new) j) [
     | inl is ↦ subst (λ (y : Packet). y.lane ≤ w.rounds.lane y.parcel.from) (some_is new x (sym is.1 ∙ at)) (let lane = s.lane in let from : w.rounds.lane new.parcel.from ≡ w.rounds.lane p = ap w.rounds.lane s.of_log.from in omega (arith, lane, from))
     | inr other ↦ k.lanes j x (sym other.1 ∙ at)
   ]
 
   -- an old packet is still there
-  still : (j : ℕ) (x : Packet) → w.packets j ≡ Some x → set_at w.packets i (Some new) j ≡ Some x
+  still : (j : ℕ) (x : Packet) → w.packets j ≡ Some x → with_value_at w.packets i (Some new) j ≡ Some x
   still j x at = elim (set_at_cases w.packets i (Some new) j) [
     | inl is ↦ absurd (let e : None ≡ Some x = sym s.free ∙ ap w.packets (sym is.0) ∙ at in cc)
     | inr other ↦ other.1 ∙ at
@@ -83,7 +83,7 @@ module _ (n f : ℕ) (w : World) (p i : ℕ) (new : Packet) (s : IsSentBy n w p 
   from_still t r d at h = elim (k.gathered_from t r d at h) [ inl old ↦ inl (old.0, old.1, still old.0 old.1 old.2, old.3, old.4, old.5, old.6) | inr stored ↦ inr stored ]
 
   -- something that is no message
-  pub acknowledge_preserves : new.parcel.send ≡ None → WorldInvariant n f (record { past = w.past; rounds = w.rounds; knows_holder = w.knows_holder; knows_stable = w.knows_stable; packets = set_at w.packets i (Some new); gathered = w.gathered; stored = w.stored; landed = w.landed })
+  pub acknowledge_preserves : new.parcel.send ≡ None → WorldInvariant n f (record { past = w.past; rounds = w.rounds; knows_holder = w.knows_holder; knows_stable = w.knows_stable; packets = with_value_at w.packets i (Some new); gathered = w.gathered; stored = w.stored; landed = w.landed })
   acknowledge_preserves none = record {
     reached = next_state w.past w.past (volatile_of n w) (volatile_of n (sent w.past)) k.reached (silent (emits p new.parcel s.of_log none (record { holders = λ x d q. refl; stable = λ x d h. h }) (one_is_new n w (sent w.past) i new refl (λ j. refl) (λ j. refl))));
     rounds = k.rounds;
@@ -100,7 +100,7 @@ module _ (n f : ℕ) (w : World) (p i : ℕ) (new : Packet) (s : IsSentBy n w p 
 
   -- a message
   pub send_preserves : (from to : Pid) (ssn : ℕ) → from.0 ≡ p → new.parcel.send ≡ Some (length w.past) → ((d : Det) → logs w.past p d ≡ true → (new.parcel.carries d ≡ true) ⊎ ((w.knows_stable p d ≡ true) ⊎ (f < count_below n (w.knows_holder p d))))
-      → WorldInvariant n f (record { past = Send from to ssn ∷ w.past; rounds = w.rounds; knows_holder = w.knows_holder; knows_stable = w.knows_stable; packets = set_at w.packets i (Some new); gathered = w.gathered; stored = w.stored; landed = w.landed })
+      → WorldInvariant n f (record { past = Send from to ssn ∷ w.past; rounds = w.rounds; knows_holder = w.knows_holder; knows_stable = w.knows_stable; packets = with_value_at w.packets i (Some new); gathered = w.gathered; stored = w.stored; landed = w.landed })
   send_preserves from to ssn is position left_out = record {
     reached = next_state w.past (Send from to ssn ∷ w.past) (volatile_of n w) (volatile_of n (sent (Send from to ssn ∷ w.past))) k.reached (sends from to ssn new.parcel (subst (λ x. IsSendStep n f w.past x (volatile_of n w) (volatile_of n (sent (Send from to ssn ∷ w.past))) new.parcel) (sym is) (record {
       of_log = s.of_log;

@@ -10,12 +10,12 @@ use Rattle.causal_name.proofs.Lemmas.DetOrder.{same_is}
 use Rattle.causal_trace.specs.declared.entry.Entry.TheVariants.{Stable, Forget}
 use Rattle.causal_trace.specs.Past.{list_has, logs, is_stable, deliveries}
 use Rattle.causal_steps.specs.Recovery.{must_recover, HasOrRecovers}
-use Rattle.causal_steps.specs.Transit.{Parcel, IsInTransit, Survives}
+use Rattle.causal_steps.specs.Transit.{TransitParcel, IsInTransit, Survives}
 use Rattle.causal_steps.specs.Invariant.{StepInvariant}
 use Rattle.causal_steps.specs.Steps.{silent, learns, writes, forgets}
 use Rattle.causal_steps.specs.Reachable.{next_state}
 use Rattle.causal_steps.proofs.Lemmas.Reachable.{reachable_safe}
-use Rattle.causal_rounds.specs.Rounds.{set_at, Round}
+use Rattle.causal_rounds.specs.Rounds.{with_value_at, Round}
 use Rattle.causal_rounds.specs.Gathered.{Carrier, DetState, DetInvariant, take, record_stable, to_up}
 use Rattle.causal_rounds.specs.Gathered as det
 use Rattle.causal_rounds.specs.Acceptance.{by_floor}
@@ -42,7 +42,7 @@ module _ (n f : ℕ) (w : World) (k : WorldInvariant n f w) where
   -- storage takes a write
   module _ (i : ℕ) (p : Packet) (at : w.packets i ≡ Some p) (to : p.to ≡ n) (floor : w.rounds.floors n p.parcel.from ≤ p.lane) where
     abbrev after : World
-    after = record { past = w.past; rounds = w.rounds; knows_holder = w.knows_holder; knows_stable = w.knows_stable; packets = w.packets; gathered = w.gathered; stored = λ d. w.stored d || p.parcel.carries d; landed = set_at w.landed i true }
+    after = record { past = w.past; rounds = w.rounds; knows_holder = w.knows_holder; knows_stable = w.knows_stable; packets = w.packets; gathered = w.gathered; stored = λ d. w.stored d || p.parcel.carries d; landed = with_value_at w.landed i true }
 
     storage_up : w.rounds.down p.to ≡ false
     storage_up = ap w.rounds.down to ∙ k.storage.up
@@ -53,10 +53,10 @@ module _ (n f : ℕ) (w : World) (k : WorldInvariant n f w) where
     written : IsInTransit (volatile_of n w) p.parcel
     written = in_transit_of n w i p at (is_accepted (suc n) w.rounds (carrier_of p) (by_floor storage_up floor_to))
 
-    nothing_new : (t : Parcel) → IsInTransit (volatile_of n after) t → IsInTransit (volatile_of n w) t
+    nothing_new : (t : TransitParcel) → IsInTransit (volatile_of n after) t → IsInTransit (volatile_of n w) t
     nothing_new t there =
         let found = packet_of n after t there in
-        subst (λ y. IsInTransit (volatile_of n w) y) found.4 (elim (or_cases (set_at w.landed i true found.0) (is_acceptable (suc n) w.rounds (carrier_of found.1)) found.3) [
+        subst (λ y. IsInTransit (volatile_of n w) y) found.4 (elim (or_cases (with_value_at w.landed i true found.0) (is_acceptable (suc n) w.rounds (carrier_of found.1)) found.3) [
           | inr accepted ↦ in_transit_of n w found.0 found.1 found.2 accepted
           | inl landed ↦ elim (set_at_cases w.landed i true found.0) [
             | inl is ↦ subst (λ (q : Packet). IsInTransit (volatile_of n w) q.parcel) (some_is p found.1 (sym at ∙ ap w.packets (sym is.0) ∙ found.2)) written
@@ -70,7 +70,7 @@ module _ (n f : ℕ) (w : World) (k : WorldInvariant n f w) where
     abbrev with_logs : Det → (ℕ → Bool) → DetState
     with_logs d g = record { state = w.rounds; logs = g; must_recover = (det_state_of n w d).must_recover; stable = is_stable w.past d; carriers = (det_state_of n w d).carriers; gathered = (det_state_of n w d).gathered }
 
-    logs_landed : (d : Det) → p.parcel.carries d ≡ true → (q : ℕ) → set_at (det_state_of n w d).logs n true q ≡ ((nat_lt q n && logs w.past q d) || (q == n && (w.stored d || p.parcel.carries d)))
+    logs_landed : (d : Det) → p.parcel.carries d ≡ true → (q : ℕ) → with_value_at (det_state_of n w d).logs n true q ≡ ((nat_lt q n && logs w.past q d) || (q == n && (w.stored d || p.parcel.carries d)))
     logs_landed d h q = elim (set_at_cases (det_state_of n w d).logs n true q) [
       | inl is ↦ is.1 ∙ sym (or_right _ _ (and_from _ _ (eq-eqb q n is.0) (or_right _ _ h)))
       | inr other ↦ other.1 ∙ elsewhere (nat_lt q n && logs w.past q d) (q == n) (w.stored d) (p.parcel.carries d) (ne_eqb q n other.0)
@@ -119,7 +119,7 @@ module _ (n f : ℕ) (w : World) (k : WorldInvariant n f w) where
           ]
         ]
 
-    pub land_preserves : WorldInvariant n f (record { past = w.past; rounds = w.rounds; knows_holder = w.knows_holder; knows_stable = w.knows_stable; packets = w.packets; gathered = w.gathered; stored = λ d. w.stored d || p.parcel.carries d; landed = set_at w.landed i true })
+    pub land_preserves : WorldInvariant n f (record { past = w.past; rounds = w.rounds; knows_holder = w.knows_holder; knows_stable = w.knows_stable; packets = w.packets; gathered = w.gathered; stored = λ d. w.stored d || p.parcel.carries d; landed = with_value_at w.landed i true })
     land_preserves = record {
       reached = next_state w.past w.past (volatile_of n w) (volatile_of n after) k.reached (silent (learns 0 (record { new_holders = λ x d q h. inl h; keeps_holders = λ x d q h. h; new_stable = λ x d h. inl h; nothing_new = nothing_new })));
       rounds = k.rounds;
@@ -206,7 +206,7 @@ module _ (n f : ℕ) (w : World) (k : WorldInvariant n f w) where
     abbrev with_less : Det → (ℕ → Bool) → DetState
     with_less d g = record { state = w.rounds; logs = g; must_recover = (det_state_of n w d).must_recover; stable = is_stable w.past d; carriers = (det_state_of n w d).carriers; gathered = (det_state_of n w d).gathered }
 
-    logs_forgotten : (d : Det) → list_has listed d ≡ true → (q : ℕ) → set_at (det_state_of n w d).logs who.0 false q ≡ ((nat_lt q n && (not (who.0 == q && list_has listed d) && logs w.past q d)) || (q == n && w.stored d))
+    logs_forgotten : (d : Det) → list_has listed d ≡ true → (q : ℕ) → with_value_at (det_state_of n w d).logs who.0 false q ≡ ((nat_lt q n && (not (who.0 == q && list_has listed d) && logs w.past q d)) || (q == n && w.stored d))
     logs_forgotten d h q = elim (set_at_cases (det_state_of n w d).logs who.0 false q) [
       | inl is ↦
           let apart : (q == n) ≡ false = subst (λ x. (x == n) ≡ false) (sym is.0) (apart_is who.0 n low) in

@@ -3,19 +3,19 @@ use Rattle.std.specs.Prelude.{◌≡◌, ℕ, suc, ◌<◌, ◌≤◌, Bool, tru
 use Rattle.causal_name.specs.declared.Det.{Det}
 use Rattle.causal_trace.specs.Past.{is_down, logs, is_stable, deliveries}
 use Rattle.causal_steps.specs.Reachable.{IsReachableState}
-use Rattle.causal_rounds.specs.Rounds.{RoundState, Round, RoundInvariant}
+use Rattle.causal_rounds.specs.Rounds.{RecoveryState, Round, RoundInvariant}
 use Rattle.causal_rounds.specs.Gathered.{DetInvariant}
 use Rattle.causal_world.specs.World.{Packet, World, GatheredFrom, volatile_of, det_state_of}
 use Rattle.causal_world.specs.Steps.{WorldStep}
 
 -- numbers of no process: they are down for ever, and count as having replied
-pub record AbsentAreDown (n : ℕ) (w : RoundState) : Type 0 where
+pub record AbsentAreDown (n : ℕ) (w : RecoveryState) : Type 0 where
   pub down : (p : ℕ) → n ≤ p → w.down p ≡ true
   pub no_round : (p : ℕ) → n ≤ p → w.rounds p ≡ None
   pub replied : (s p : ℕ) (r : Round) → w.rounds s ≡ Some r → n ≤ p → r.replied p ≡ true
 
 -- stable storage is number n: it never goes down, and restarts never
-pub record IsStorage (n : ℕ) (w : RoundState) : Type 0 where
+pub record IsStorage (n : ℕ) (w : RecoveryState) : Type 0 where
   pub up : w.down n ≡ false
   pub no_round : w.rounds n ≡ None
   pub first_lane : w.lane n ≡ 0
@@ -28,7 +28,7 @@ pub record StoresRight (w : World) : Type 0 where
 
 -- stable storage replies to a round after all others; the round has then gathered all that is stored of its process's
 -- own deliveries
-pub record ReadsLast (n : ℕ) (w : RoundState) (gathered : ℕ → Det → Bool) (stored : Det → Bool) : Type 0 where
+pub record ReadsLast (n : ℕ) (w : RecoveryState) (gathered : ℕ → Det → Bool) (stored : Det → Bool) : Type 0 where
   pub last : (s : ℕ) (r : Round) (q : ℕ) → w.rounds s ≡ Some r → r.replied n ≡ true → q < n → (q ≡ s → ⊥) → r.replied q ≡ true
   pub own_gathered : (s : ℕ) (r : Round) (d : Det) → w.rounds s ≡ Some r → r.replied n ≡ true → stored d ≡ true → d.dest.0 ≡ s → gathered s d ≡ true
 

@@ -8,7 +8,7 @@ use Rattle.causal_world.specs.World.{World, volatile_of}
 use Rattle.causal_world.specs.Steps.{WorldStep}
 
 -- n processes have begun, and stable storage, which is number n; greater numbers are those of no process
-pub record IsOpening (n : ℕ) (w : World) : Type 0 where
+pub record IsInitialWorld (n : ℕ) (w : World) : Type 0 where
   pub past : w.past ≡ []
   pub up : (p : ℕ) → p < n → w.rounds.down p ≡ false
   pub storage : w.rounds.down n ≡ false
@@ -23,7 +23,7 @@ pub record IsOpening (n : ℕ) (w : World) : Type 0 where
   pub nothing_landed : (i : ℕ) → w.landed i ≡ false
 
 pub data IsReachableWorld (n f : ℕ) : World → Type 0 where
-  opening : (w : World) → IsOpening n w → IsReachableWorld n f w
+  opening : (w : World) → IsInitialWorld n w → IsReachableWorld n f w
   next_world : (w x : World) → IsReachableWorld n f w → WorldStep n f w x → IsReachableWorld n f x
 
 -- each instant of the recording is safe for f: no crash that f allows leaves an orphan

@@ -7,13 +7,13 @@ use Rattle.causal_name.specs.Sets.{any_below}
 use Rattle.causal_trace.specs.declared.entry.Entry.{Entry}
 use Rattle.causal_trace.specs.Past.{logs, is_stable}
 use Rattle.causal_steps.specs.Recovery.{must_recover}
-use Rattle.causal_steps.specs.Transit.{Parcel, VolatileState}
-use Rattle.causal_rounds.specs.Rounds.{RoundState, Round, number}
+use Rattle.causal_steps.specs.Transit.{TransitParcel, VolatileState}
+use Rattle.causal_rounds.specs.Rounds.{RecoveryState, Round, number}
 use Rattle.causal_rounds.specs.Gathered.{Carrier, DetState}
 
 -- something sent: what it may bring to a log, the lane that sent it, and the process to which it was sent
 pub record Packet : Type 0 where
-  pub parcel : Parcel
+  pub parcel : TransitParcel
   pub lane : ℕ
   pub to : ℕ
 
@@ -22,7 +22,7 @@ pub record Packet : Type 0 where
 -- Stable storage is number n: a write is a packet to it
 pub record World : Type 0 where
   pub past : List Entry
-  pub rounds : RoundState
+  pub rounds : RecoveryState
   pub knows_holder : ℕ → Det → ℕ → Bool
   pub knows_stable : ℕ → Det → Bool
   pub packets : ℕ → Option Packet
@@ -34,20 +34,20 @@ abbrev pub carrier_of : Packet → Carrier
 carrier_of p = record { from = p.parcel.from; lane = p.lane; to = p.to }
 
 -- whether those of n processes that have not replied to the round of s are as its view has them
-abbrev pub is_open : ℕ → RoundState → ℕ → Round → Bool
+abbrev pub is_open : ℕ → RecoveryState → ℕ → Round → Bool
 is_open n w s r = not (any_below n (λ q. not (q == s) && (not (r.replied q) && not (number w q == r.view q))))
 
 -- whether the round, if there is one, accepts what this process sent from this lane
-abbrev pub round_accepts : ℕ → RoundState → Carrier → Option Round → Bool
+abbrev pub round_accepts : ℕ → RecoveryState → Carrier → Option Round → Bool
 round_accepts n w t None = false
 round_accepts n w t (Some r) = is_open n w t.to r && (r.replied t.from && nat_le (r.view t.from) t.lane)
 
 -- whether its receiver may take it, now or later
-abbrev pub is_acceptable : ℕ → RoundState → Carrier → Bool
+abbrev pub is_acceptable : ℕ → RecoveryState → Carrier → Bool
 is_acceptable n w t = if w.down t.to then ((not (w.down t.from) && t.lane == w.lane t.from) || round_accepts n w t (w.rounds t.to)) else nat_le (w.floors t.to t.from) t.lane
 
 -- the parcel, if it may be taken, or was stored
-abbrev pub if_in_transit : ℕ → RoundState → Bool → Option Packet → Option Parcel
+abbrev pub if_in_transit : ℕ → RecoveryState → Bool → Option Packet → Option TransitParcel
 if_in_transit n w landed None = None
 if_in_transit n w landed (Some p) = if landed || is_acceptable n w (carrier_of p) then Some p.parcel else None
 

@@ -12,7 +12,7 @@ use Rattle.causal_merge.specs.Sentences.{sentence_of}
 use Rattle.nixu_boundary.specs.Buffers.{IsCopiedOut}
 use Rattle.nixu_boundary.specs.Flags.{flags}
 use Rattle.nixu.specs.declared.c_merge_fault.CMergeFault.{CMergeFault}
-use Rattle.nixu.specs.declared.places.Place.{Place}
+use Rattle.nixu.specs.declared.places.RecordingPlace.{RecordingPlace}
 use Rattle.nixu.specs.Numbers.{kind_number}
 
 -- the number of a kind; an error that a trace's text may have has its number there
@@ -36,7 +36,7 @@ missing_in Twice = empty
 missing_in (Line k) = empty
 
 -- the struct of an error at a place, without the values that explain it
-abbrev pub fault_at : Place → MergeKind → CMergeFault
+abbrev pub fault_at : RecordingPlace → MergeKind → CMergeFault
 fault_at place k = record {
   recording = place.recording;
   line = place.line;
@@ -61,5 +61,5 @@ with_detail c (Again p m) = record c { process = p.0; source = m.source.0; ssn =
 with_detail c (Undelivered det) = record c { source = det.source.0; ssn = det.ssn; dest = det.dest.0; rsn = det.rsn }
 
 -- the struct of an error at a place
-abbrev pub c_merge_fault_of : Place → MergeFault → CMergeFault
+abbrev pub c_merge_fault_of : RecordingPlace → MergeFault → CMergeFault
 c_merge_fault_of place f = option_map_or (with_detail (fault_at place f.kind)) f.detail (fault_at place f.kind)

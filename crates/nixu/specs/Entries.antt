@@ -9,7 +9,7 @@ use Rattle.causal_line.specs.Kinds.{text_kind_of}
 use Rattle.nixu.specs.declared.handle_content.HandleContent.{HandleContent}
 use Rattle.nixu.specs.declared.handle_content.HandleContent.TheVariants.{Reader, Trace}
 use Rattle.nixu_boundary.specs.declared.c_determinant.CDeterminant.{CDeterminant}
-use Rattle.nixu_boundary.specs.Determinants.{det_of}
+use Rattle.nixu_boundary.specs.Determinants.{det_from_c}
 use Rattle.nixu.specs.declared.c_entry.CEntry.{CEntry}
 use Rattle.nixu.specs.Numbers.{kind_number}
 
@@ -24,9 +24,9 @@ plain_entry s =
 -- the entry, if its kind lists determinants
 abbrev pub listing_entry : CEntry → List CDeterminant → Option Entry
 listing_entry s listed =
-    if s.kind == 1 then Some (Deliver (record { 0 = s.dest }) s.send s.rsn (map det_of listed))
-    else if s.kind == 4 then Some (Restart (record { 0 = s.who }) (map det_of listed))
-    else if s.kind == 5 then Some (Forget (record { 0 = s.who }) (map det_of listed))
+    if s.kind == 1 then Some (Deliver (record { 0 = s.dest }) s.send s.rsn (map det_from_c listed))
+    else if s.kind == 4 then Some (Restart (record { 0 = s.who }) (map det_from_c listed))
+    else if s.kind == 5 then Some (Forget (record { 0 = s.who }) (map det_from_c listed))
     else None
 
 -- the first entry if no determinants are listed; else the second
@@ -37,8 +37,8 @@ plain_or_listing None listing listed = listing
 
 -- the entry in a C struct with its listed determinants; None if the kind is unknown, or determinants are listed for a
 -- kind that lists none
-abbrev pub entry_of : CEntry → List CDeterminant → Option Entry
-entry_of s listed = plain_or_listing (plain_entry s) (listing_entry s listed) listed
+abbrev pub entry_from_c : CEntry → List CDeterminant → Option Entry
+entry_from_c s listed = plain_or_listing (plain_entry s) (listing_entry s listed) listed
 
 -- the recording of the open trace; None if none is open
 abbrev pub recording_in : Option HandleContent → Option Recording

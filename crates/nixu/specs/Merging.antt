@@ -9,7 +9,7 @@ use Rattle.nixu.specs.declared.c_recording.CRecording.{CRecording}
 use Rattle.nixu.specs.declared.merging.MergeError.{MergeError}
 use Rattle.nixu.specs.declared.merging.MergeError.TheVariants.{Fault, NoMemory}
 use Rattle.nixu.specs.CMergeFaults.{c_merge_fault_of}
-use Rattle.nixu.specs.Places.{place_of}
+use Rattle.nixu.specs.Places.{recording_place}
 
 -- the bytes of recordings, one after the other
 abbrev pub joined_text : List CRecording → List ℕ
@@ -21,7 +21,7 @@ IsMergedText most text bytes = (r : Recording) × (torn : List ℕ) × MergesWit
 
 -- the recordings do not merge into a trace of at most `most` entries, and the struct is their first error
 abbrev pub IsFaultOfRecordings : ℕ → List CRecording → CMergeFault → Type 0
-IsFaultOfRecordings most recordings c = (f : MergeFault) × IsFirstFaultWithin most (joined_text recordings) f × (c ≡ c_merge_fault_of (place_of f.line recordings) f)
+IsFaultOfRecordings most recordings c = (f : MergeFault) × IsFirstFaultWithin most (joined_text recordings) f × (c ≡ c_merge_fault_of (recording_place f.line recordings) f)
 
 -- if the error is one of recordings, it is their first
 abbrev pub IsMergeErrorOf : ℕ → List ℕ → MergeError → Type 0

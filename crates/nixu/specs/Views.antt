@@ -5,7 +5,7 @@ use Rattle.causal_line.specs.declared.kind.TextFault.{TextFault}
 use Rattle.causal_line.specs.FaultLine.{fault_line}
 use Rattle.causal_text.specs.Spelling.{Spells, IsFirstFault}
 use Rattle.causal_report.specs.Drawings.{IsDrawing}
-use Rattle.causal_report.specs.Reasons.{IsReason}
+use Rattle.causal_report.specs.Reasons.{IsReasonText}
 use Rattle.causal_audit.specs.declared.judged.Judged.{Judged}
 use Rattle.causal_audit.specs.Judgements.{IsJudgedOf}
 use Rattle.causal_audit.specs.VerdictLines.{verdict_line}
@@ -17,7 +17,7 @@ use Rattle.nixu_boundary.specs.Buffers.{CopiesOut, IsUntouched}
 -- the bytes of a view, for a verdict with counts: the verdict's line, that line and its explanation, or a picture
 abbrev pub IsViewText : View → Recording → ℕ → Judged → List ℕ → Type 0
 IsViewText Line r f judged bytes = bytes ≡ verdict_line f judged
-IsViewText Reason r f judged bytes = (reason : List ℕ) × IsReason r f judged.verdict reason × (bytes ≡ verdict_line f judged ++ reason)
+IsViewText Reason r f judged bytes = (reason : List ℕ) × IsReasonText r f judged.verdict reason × (bytes ≡ verdict_line f judged ++ reason)
 IsViewText Picture r f judged bytes = IsDrawing r f judged.verdict bytes
 
 -- the bytes are the view of the recording's verdict for f

@@ -1,10 +1,10 @@
 //! Entries of a trace, in the layout of `nixu_entry` in nixu.h.
 ghost use Rattle.std.specs.Prelude.{◌≡◌, IfOk};
-ghost use Rattle.nixu.specs.Entries.{plain_entry, listing_entry, entry_of};
+ghost use Rattle.nixu.specs.Entries.{plain_entry, listing_entry, entry_from_c};
 
 use causal_name::{Det, NoMemory, Pid};
 use causal_trace::{Dets, Entry};
-use nixu_boundary::c_determinant::{CDeterminant, dets_of};
+use nixu_boundary::c_determinant::{CDeterminant, dets_from_c};
 use std::alloc::Global;
 
 /// An entry without the determinants that it lists. A field that the kind does not use is not read.
@@ -32,12 +32,12 @@ pub struct CEntry {
 ///
 /// # Errors
 /// `NoMemory` if allocation failed.
-pub(crate) fn entry_of(
+pub(crate) fn entry_from_c(
     alloc: Global,
     step: &CEntry,
     listed: &[CDeterminant],
 ) -> Result<Option<Entry>, NoMemory>
-    ensures { IfOk result (λ entry. entry ≡ entry_of step.now listed.now) }
+    ensures { IfOk result (λ entry. entry ≡ entry_from_c step.now listed.now) }
 {
     match plain_entry(step) {
         Some(entry) if listed.is_empty() => Ok(Some(entry)),
@@ -77,7 +77,7 @@ fn listing_entry(
 ) -> Result<Option<Entry>, NoMemory>
     ensures { IfOk result (λ entry. entry ≡ listing_entry step.now listed.now) }
 {
-    let listed = Dets::new(dets_of(alloc, listed)?);
+    let listed = Dets::new(dets_from_c(alloc, listed)?);
     Ok(match step.kind {
         1 => Some(Entry::Deliver {
             to: Pid(step.dest),

@@ -2,8 +2,8 @@
 ghost use Rattle.std.specs.Prelude.{◌≡◌};
 ghost use Rattle.nixu.specs.CMergeFaults as c_faults;
 
-use crate::numbers::number_of;
-use crate::places::Place;
+use crate::numbers::kind_number;
+use crate::places::RecordingPlace;
 use causal_holders::Holders;
 use causal_merge::{MergeDetail, MergeFault, MergeKind};
 use nixu_boundary::flags::flags_of;
@@ -47,7 +47,7 @@ pub(crate) fn merge_number(kind: &MergeKind) -> u32
     match kind {
         MergeKind::NoHeader { .. } => 21,
         MergeKind::Twice => 22,
-        MergeKind::Line(kind) => number_of(*kind),
+        MergeKind::Line(kind) => kind_number(*kind),
     }
 }
 
@@ -63,7 +63,7 @@ fn missing_in(kind: &MergeKind) -> Holders
 }
 
 /// The struct of an error at this place, without the values that explain it.
-fn fault_at(place: Place, kind: &MergeKind) -> CMergeFault
+fn fault_at(place: RecordingPlace, kind: &MergeKind) -> CMergeFault
     ensures { result ≡ c_faults.fault_at place kind.now }
 {
     CMergeFault {
@@ -83,7 +83,7 @@ fn fault_at(place: Place, kind: &MergeKind) -> CMergeFault
 }
 
 /// The struct of an error of recordings at this place.
-pub(crate) fn c_merge_fault_of(place: Place, fault: &MergeFault) -> CMergeFault
+pub(crate) fn c_merge_fault_of(place: RecordingPlace, fault: &MergeFault) -> CMergeFault
     ensures { result ≡ c_faults.c_merge_fault_of place fault.now }
 {
     let plain = fault_at(place, &fault.kind);

@@ -2,7 +2,7 @@
 ghost use Rattle.std.specs.Prelude.{◌≡◌};
 ghost use Rattle.nixu.specs.CStrays.{c_stray_of, c_fault_stray};
 
-use crate::numbers::number_of;
+use crate::numbers::kind_number;
 use causal_replays::Stray;
 use causal_text::TextFault;
 
@@ -70,7 +70,7 @@ pub(crate) fn c_fault_stray(fault: TextFault) -> CStray
         first: 0,
         second: 0,
         line: fault.line,
-        fault: number_of(fault.kind),
+        fault: kind_number(fault.kind),
         process: 0,
     }
 }

@@ -2,7 +2,7 @@
 ghost use Rattle.std.specs.Prelude.{◌≡◌};
 ghost use Rattle.nixu.specs.CVerdicts.{c_verdict_of, c_fault_verdict};
 
-use crate::numbers::number_of;
+use crate::numbers::kind_number;
 use causal_audit::{Judged, Verdict};
 use causal_holders::Holders;
 use causal_text::TextFault;
@@ -86,7 +86,7 @@ pub(crate) fn c_fault_verdict(fault: TextFault) -> CVerdict
         delivery: 0,
         orphan: 0,
         line: fault.line,
-        fault: number_of(fault.kind),
+        fault: kind_number(fault.kind),
         processes: flags_of(Holders::none()),
     }
 }

@@ -10,7 +10,7 @@ use crate::c_merge_fault::{CMergeFault, c_merge_fault_of, merge_number};
 use crate::c_recording::CRecording;
 use crate::faults::kind_of;
 use crate::limits::limits_of;
-use crate::places::place_of;
+use crate::places::recording_place;
 use causal_holders::Holders;
 use causal_merge::{MergeFault, MergeKind, merge_within};
 use causal_name::NoMemory;
@@ -72,7 +72,7 @@ fn merge(
             OK
         }
         Err(MergeError::Fault(found)) => {
-            *fault = c_merge_fault_of(place_of(found.line, recordings), &found);
+            *fault = c_merge_fault_of(recording_place(found.line, recordings), &found);
             FAULT
         }
         Err(MergeError::NoMemory) => NO_MEMORY,

@@ -6,7 +6,7 @@ use causal_text::TextKind;
 
 /// The number of a kind of error, from 1 in the order of [`TextKind`]; 0 for `NoMemory`, which is not an error of a
 /// text.
-pub(crate) fn number_of(kind: TextKind) -> u32
+pub(crate) fn kind_number(kind: TextKind) -> u32
     ensures { result ≡ kind_number kind }
 {
     match kind {

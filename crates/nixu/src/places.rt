@@ -6,16 +6,16 @@ use crate::c_recording::CRecording;
 
 /// The recording in which a line begins, from 0, and its number there, from 1.
 #[derive(Clone, Copy)]
-pub struct Place {
+pub struct RecordingPlace {
     pub recording: usize,
     pub line: u32,
 }
 
 /// The place of a line, which counts from the first of the recordings.
-pub(crate) fn place_of(line: u32, recordings: &[CRecording<'_>]) -> Place
-    ensures { result ≡ places.place_of line recordings.now }
+pub(crate) fn recording_place(line: u32, recordings: &[CRecording<'_>]) -> RecordingPlace
+    ensures { result ≡ places.recording_place line recordings.now }
 {
-    let mut place = Place { recording: 0, line };
+    let mut place = RecordingPlace { recording: 0, line };
     while place.recording + 1 < recordings.len() {
         let text = recordings[place.recording].text;
         if place.line as usize <= line_count(text) {

@@ -3,17 +3,17 @@ ghost use Rattle.std.specs.Prelude.{◌≡◌, ◌≢◌, ◌≤◌, ◌⊎◌, 
 ghost use Rattle.causal_lines.specs.Canonical.{canonical_text};
 ghost use Rattle.causal_trace.specs.Limits.{IsProcessCount, default_entries};
 ghost use Rattle.nixu.specs.VerdictArrays.{IsVerdictStruct};
-ghost use Rattle.nixu.specs.Entries.{entry_of, entry_limit_in, recording_in, OfTrace, CanPush, CanPushIn, IsFaultNumberOf, IsFaultNumberIn};
+ghost use Rattle.nixu.specs.Entries.{entry_from_c, entry_limit_in, recording_in, OfTrace, CanPush, CanPushIn, IsFaultNumberOf, IsFaultNumberIn};
 ghost use Rattle.nixu.specs.Limits.{IsEntryCount};
 ghost use Rattle.nixu_boundary.specs.Buffers.{IsCopiedOut, IsUntouched};
 
 use crate::audit::verdict_for;
-use crate::c_entry::{CEntry, entry_of};
+use crate::c_entry::{CEntry, entry_from_c};
 use crate::c_verdict::CVerdict;
 use crate::handle::Handle;
 use crate::handle_content::HandleContent;
 use crate::limits::limits_of;
-use crate::numbers::number_of;
+use crate::numbers::kind_number;
 use causal_name::NoMemory;
 use causal_text::{TextKind, text_of};
 use causal_trace::limits::{DEFAULT_LIMITS, Limits};
@@ -109,13 +109,13 @@ pub extern "C" fn nixu_trace_push(
 ) -> u32
     ensures ok { result ≡ OK
         → CanPushIn (entry_limit_in trace.old.held.value) (recording_in trace.old.held.value)
-        (entry_of entry.now listed.now) (recording_in trace.new.held.value) }
+        (entry_from_c entry.now listed.now) (recording_in trace.new.held.value) }
     ensures fault { result ≡ FAULT
         → IsFaultNumberIn (entry_limit_in trace.old.held.value) (recording_in trace.old.held.value)
-        (entry_of entry.now listed.now) fault.new }
+        (entry_from_c entry.now listed.now) fault.new }
     ensures entry_limit { entry_limit_in trace.new.held.value
         ≡ entry_limit_in trace.old.held.value }
-    ensures misused { result ≡ MISUSED → entry_of entry.now listed.now ≡ None }
+    ensures misused { result ≡ MISUSED → entry_from_c entry.now listed.now ≡ None }
     ensures closed { (result ≡ CLOSED) ↔ (recording_in trace.old.held.value ≡ None) }
     ensures closed_unchanged { result ≡ CLOSED → trace.new.held.value ≡ trace.old.held.value }
     ensures unchanged { result ≢ OK
@@ -147,15 +147,15 @@ fn push(
     fault: &mut u32,
 ) -> u32
     ensures ok { result ≡ OK → CanPush limits.entries trace.old.recording
-        (entry_of entry.now listed.now) trace.new.recording }
+        (entry_from_c entry.now listed.now) trace.new.recording }
     ensures fault { result ≡ FAULT → IsFaultNumberOf limits.entries trace.old.recording
-        (entry_of entry.now listed.now) fault.new }
-    ensures misused { result ≡ MISUSED → entry_of entry.now listed.now ≡ None }
+        (entry_from_c entry.now listed.now) fault.new }
+    ensures misused { result ≡ MISUSED → entry_from_c entry.now listed.now ≡ None }
     ensures kept { result ≢ OK → trace.new.recording ≡ trace.old.recording }
     ensures unsaid { result ≢ FAULT → fault.new ≡ fault.old }
     ensures status { result ≤ MISUSED }
 {
-    match entry_of(alloc, entry, listed) {
+    match entry_from_c(alloc, entry, listed) {
         Ok(Some(entry)) => push_entry(trace, limits, entry, fault),
         Ok(None) => MISUSED,
         Err(NoMemory) => NO_MEMORY,
@@ -176,7 +176,7 @@ fn push_entry(trace: &mut Trace, limits: Limits, entry: Entry, fault: &mut u32) 
         Ok(()) => OK,
         Err(TraceFault::NoMemory) => NO_MEMORY,
         Err(verdict) => {
-            *fault = number_of(TextKind::from(verdict));
+            *fault = kind_number(TextKind::from(verdict));
             FAULT
         }
     }

@@ -4,8 +4,8 @@ use Rattle.causal_name.specs.declared.Det.{Det}
 use Rattle.nixu_boundary.specs.declared.c_determinant.CDeterminant.{CDeterminant}
 
 -- the determinant in a C struct, and the struct of a determinant
-abbrev pub det_of : CDeterminant → Det
-det_of d = record { source = record { 0 = d.source }; ssn = d.ssn; dest = record { 0 = d.dest }; rsn = d.rsn }
+abbrev pub det_from_c : CDeterminant → Det
+det_from_c d = record { source = record { 0 = d.source }; ssn = d.ssn; dest = record { 0 = d.dest }; rsn = d.rsn }
 
 abbrev pub c_det_of : Det → CDeterminant
 c_det_of d = record { ssn = d.ssn; rsn = d.rsn; source = d.source.0; dest = d.dest.0 }

@@ -1,6 +1,6 @@
 //! Determinants, in the layout of `nixu_determinant` in nixu.h.
 ghost use Rattle.std.specs.Prelude.{◌≡◌, IfOk, map};
-ghost use Rattle.nixu_boundary.specs.Determinants.{det_of, c_det_of, AreCopiedOut};
+ghost use Rattle.nixu_boundary.specs.Determinants.{det_from_c, c_det_of, AreCopiedOut};
 
 use causal_name::{Det, NoMemory, Pid};
 use std::alloc::Global;
@@ -20,8 +20,8 @@ pub struct CDeterminant {
 }
 
 /// Returns the determinant in a C struct.
-pub fn det_of(determinant: CDeterminant) -> Det
-    ensures { result ≡ det_of determinant }
+pub fn det_from_c(determinant: CDeterminant) -> Det
+    ensures { result ≡ det_from_c determinant }
 {
     Det {
         source: Pid(determinant.source),
@@ -47,10 +47,12 @@ pub fn c_det_of(det: Det) -> CDeterminant
 ///
 /// # Errors
 /// `NoMemory` if allocation failed.
-pub fn dets_of(alloc: Global, determinants: &[CDeterminant]) -> Result<Vec<Det>, NoMemory>
-    ensures { IfOk result (λ dets. dets.items ≡ map det_of determinants.now) }
+pub fn dets_from_c(alloc: Global, determinants: &[CDeterminant]) -> Result<Vec<Det>, NoMemory>
+    ensures { IfOk result (λ dets. dets.items ≡ map det_from_c determinants.now) }
 {
-    let dets = determinants.iter().map(|determinant| det_of(*determinant));
+    let dets = determinants
+        .iter()
+        .map(|determinant| det_from_c(*determinant));
     Ok(dets.collect(alloc)?)
 }
 

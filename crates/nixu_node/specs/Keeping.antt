@@ -6,11 +6,11 @@ use Rattle.nixu_node.specs.declared.open_node.Kept.{Kept}
 use Rattle.nixu_node.specs.declared.open_node.Kept.TheVariants as Kepts
 
 -- the bytes for another process
-abbrev pub parcel_of : Kept → List ℕ
-parcel_of (Kepts.Sent to sent) = sent.bytes.items
-parcel_of (Kepts.Received (Receiveds.Question asker reply)) = reply.items
-parcel_of (Kepts.Parcel parcel) = parcel.items
-parcel_of other = []
+abbrev pub kept_parcel : Kept → List ℕ
+kept_parcel (Kepts.Sent to sent) = sent.bytes.items
+kept_parcel (Kepts.Received (Receiveds.Question asker reply)) = reply.items
+kept_parcel (Kepts.Parcel parcel) = parcel.items
+kept_parcel other = []
 
 -- the body of a message that was delivered
 abbrev pub body_of : Kept → List ℕ

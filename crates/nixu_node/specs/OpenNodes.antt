@@ -5,7 +5,7 @@ use Rattle.causal_node.specs.NodeRecovery.{opened}
 use Rattle.nixu_node.specs.declared.c_node.CIdentity.{CIdentity}
 use Rattle.nixu_node.specs.declared.open_node.OpenNode.{OpenNode}
 use Rattle.nixu_node.specs.declared.open_node.Kept.TheVariants as Kepts
-use Rattle.nixu_node.specs.Structs.{identity_of}
+use Rattle.nixu_node.specs.Structs.{identity_from_c}
 
 -- a node is open, and satisfies the predicate
 abbrev pub OfNode : Option OpenNode → (OpenNode → Type 0) → Type 0
@@ -14,7 +14,7 @@ OfNode None IsTrue = ⊥
 
 -- a node that was just opened
 pub record IsOpened (i : CIdentity) (o : OpenNode) : Type 0 where
-  pub endpoint : o.endpoint ≡ record { node = opened (identity_of i) i.lane; run = i.run; clock = i.clock }
+  pub endpoint : o.endpoint ≡ record { node = opened (identity_from_c i) i.lane; run = i.run; clock = i.clock }
   pub nothing : o.kept ≡ Kepts.Nothing
 
 -- the message of this number was sent to this process

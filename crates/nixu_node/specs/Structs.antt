@@ -9,8 +9,8 @@ use Rattle.causal_node.specs.NodeRounds.{round_name}
 use Rattle.causal_node.specs.NodeStates.{Recovery}
 use Rattle.causal_endpoint.specs.declared.receiving.Received.{Received}
 use Rattle.causal_endpoint.specs.declared.receiving.Received.TheVariants as Receiveds
-use Rattle.causal_endpoint.specs.declared.receiving.Delivered.{Delivered}
-use Rattle.causal_endpoint.specs.declared.sending.Sent.{Sent}
+use Rattle.causal_endpoint.specs.declared.receiving.DeliveryRecord.{DeliveryRecord}
+use Rattle.causal_endpoint.specs.declared.sending.SendRecord.{SendRecord}
 use Rattle.causal_endpoint.specs.Endpoints.{EndpointState}
 use Rattle.nixu_node.specs.declared.c_node.CIdentity.{CIdentity}
 use Rattle.nixu_node.specs.declared.c_node.CMessage.{CMessage}
@@ -22,17 +22,17 @@ use Rattle.nixu_node.specs.declared.inspection.CState.{CState}
 abbrev pub pid : ℕ → Pid
 pid p = record { 0 = p }
 
-abbrev pub identity_of : CIdentity → Identity
-identity_of i = record { processes = i.processes; me = pid i.process; faults = i.faults }
+abbrev pub identity_from_c : CIdentity → Identity
+identity_from_c i = record { processes = i.processes; me = pid i.process; faults = i.faults }
 
-abbrev pub c_sent_of : Sent → CSent
+abbrev pub c_sent_of : SendRecord → CSent
 c_sent_of s = record { clock = s.clock; parcel = length s.bytes.items; ssn = s.ssn }
 
 -- a parcel of this kind from a process
 abbrev pub c_kind : ℕ → Pid → CReceived
 c_kind kind source = record { clock = 0; body = 0; parcel = 0; listed = 0; kind = kind; ssn = 0; rsn = 0; lane = 0; source = source.0 }
 
-abbrev pub c_delivered : Delivered → CReceived
+abbrev pub c_delivered : DeliveryRecord → CReceived
 c_delivered d = record {
   clock = d.clock;
   body = length d.body.items;

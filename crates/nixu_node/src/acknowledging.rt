@@ -2,7 +2,7 @@
 ghost use Rattle.std.specs.Prelude.{◌≡◌, ◌≢◌, ◌≤◌, ◌↔◌, false, None, length, map};
 ghost use Rattle.causal_name.specs.Names.{is_ascending};
 ghost use Rattle.causal_endpoint.specs.Acknowledging.{acknowledge_fault};
-ghost use Rattle.nixu_boundary.specs.Determinants.{det_of};
+ghost use Rattle.nixu_boundary.specs.Determinants.{det_from_c};
 ghost use Rattle.nixu_node.specs.OpenNodes.{OfNode};
 ghost use Rattle.nixu_node.specs.Structs.{pid};
 ghost use Rattle.nixu_node.specs.Refusals.{IsNumberOf};
@@ -13,7 +13,7 @@ use crate::open_node::{Kept, OpenNode};
 use crate::refusals::refuse;
 use causal_name::{NoMemory, Pid};
 use causal_trace::entry::Dets;
-use nixu_boundary::c_determinant::{CDeterminant, dets_of};
+use nixu_boundary::c_determinant::{CDeterminant, dets_from_c};
 use nixu_boundary::status::{CLOSED, FAULT, MISUSED, NO_MEMORY, OK};
 use std::alloc::Global;
 
@@ -32,13 +32,13 @@ pub extern "C" fn nixu_node_acknowledge(
     fault: &mut u32,
 ) -> u32
     ensures ok { result ≡ OK → OfNode node.old.held.value (λ o. OfNode node.new.held.value
-        (HasAcknowledged o.endpoint now (pid to) (map det_of listed.now))) }
+        (HasAcknowledged o.endpoint now (pid to) (map det_from_c listed.now))) }
     ensures fault { result ≡ FAULT → OfNode node.old.held.value
         (λ o. IsNumberOf (acknowledge_fault o.endpoint now (pid to) (length listed.now))
         fault.new) }
     ensures legal { result ≡ OK → OfNode node.old.held.value
         (λ o. acknowledge_fault o.endpoint now (pid to) (length listed.now) ≡ None) }
-    ensures misused { result ≡ MISUSED → is_ascending (map det_of listed.now) ≡ false }
+    ensures misused { result ≡ MISUSED → is_ascending (map det_from_c listed.now) ≡ false }
     ensures closed { (result ≡ CLOSED) ↔ (node.old.held.value ≡ None) }
     ensures node_unchanged { result ≢ OK → node.new.held.value ≡ node.old.held.value }
     ensures fault_unchanged { result ≢ FAULT → fault.new ≡ fault.old }
@@ -62,17 +62,17 @@ fn acknowledge(
     fault: &mut u32,
 ) -> u32
     ensures ok { result ≡ OK → HasAcknowledged node.old.endpoint now to
-        (map det_of listed.now) node.new }
+        (map det_from_c listed.now) node.new }
     ensures fault { result ≡ FAULT → IsNumberOf
         (acknowledge_fault node.old.endpoint now to (length listed.now)) fault.new }
     ensures legal { result ≡ OK
         → acknowledge_fault node.old.endpoint now to (length listed.now) ≡ None }
-    ensures misused { result ≡ MISUSED → is_ascending (map det_of listed.now) ≡ false }
+    ensures misused { result ≡ MISUSED → is_ascending (map det_from_c listed.now) ≡ false }
     ensures node_unchanged { result ≢ OK → node.new ≡ node.old }
     ensures fault_unchanged { result ≢ FAULT → fault.new ≡ fault.old }
     ensures status { result ≤ MISUSED }
 {
-    match dets_of(alloc, listed) {
+    match dets_from_c(alloc, listed) {
         Ok(dets) => acknowledge_dets(node, now, to, Dets::new(dets), fault),
         Err(NoMemory) => NO_MEMORY,
     }

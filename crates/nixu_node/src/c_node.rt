@@ -1,9 +1,9 @@
 //! Identities, and what calls return, in the layouts of nixu.h.
 ghost use Rattle.std.specs.Prelude.{◌≡◌};
-ghost use Rattle.nixu_node.specs.Structs.{identity_of, c_sent_of, c_kind, c_delivered, c_received_of, c_message_of};
+ghost use Rattle.nixu_node.specs.Structs.{identity_from_c, c_sent_of, c_kind, c_delivered, c_received_of, c_message_of};
 
-use causal_endpoint::receiving::{Delivered, Received};
-use causal_endpoint::sending::Sent;
+use causal_endpoint::receiving::{DeliveryRecord, Received};
+use causal_endpoint::sending::SendRecord;
 use causal_name::{MsgName, Pid};
 use causal_node::node::Identity;
 
@@ -75,8 +75,8 @@ pub struct CMessage {
 }
 
 /// Returns the identity in a C struct.
-pub(crate) fn identity_of(identity: &CIdentity) -> Identity
-    ensures { result ≡ identity_of identity.now }
+pub(crate) fn identity_from_c(identity: &CIdentity) -> Identity
+    ensures { result ≡ identity_from_c identity.now }
 {
     Identity {
         processes: identity.processes,
@@ -86,7 +86,7 @@ pub(crate) fn identity_of(identity: &CIdentity) -> Identity
 }
 
 /// Returns the struct of a message that was sent.
-pub(crate) fn c_sent_of(sent: &Sent) -> CSent
+pub(crate) fn c_sent_of(sent: &SendRecord) -> CSent
     ensures { result ≡ c_sent_of sent.now }
 {
     CSent {
@@ -114,7 +114,7 @@ fn c_kind(kind: u32, source: Pid) -> CReceived
 }
 
 /// Returns the struct of a delivery.
-fn c_delivered(delivered: &Delivered) -> CReceived
+fn c_delivered(delivered: &DeliveryRecord) -> CReceived
     ensures { result ≡ c_delivered delivered.now }
 {
     CReceived {

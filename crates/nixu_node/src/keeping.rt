@@ -3,7 +3,7 @@ ghost use Rattle.std.specs.Prelude.{◌≡◌, ◌⊎◌, ◌↔◌, None};
 ghost use Rattle.nixu_boundary.specs.Buffers.{IsCopiedOut, IsUntouched};
 ghost use Rattle.nixu_boundary.specs.Determinants.{AreCopiedOut};
 ghost use Rattle.nixu_node.specs.OpenNodes.{OfNode};
-ghost use Rattle.nixu_node.specs.Keeping.{parcel_of, body_of, listed_of};
+ghost use Rattle.nixu_node.specs.Keeping.{kept_parcel, body_of, listed_of};
 
 use crate::handle::NodeHandle;
 use crate::open_node::Kept;
@@ -17,7 +17,7 @@ use std::alloc::Global;
 impl Kept {
     /// Returns the parcel; empty if there is none.
     fn parcel(&self) -> &[u8]
-        ensures { result.now ≡ parcel_of self.now }
+        ensures { result.now ≡ kept_parcel self.now }
     {
         match self {
             Kept::Sent(_, sent) => sent.bytes.as_slice(),
@@ -61,7 +61,7 @@ pub extern "C" fn nixu_node_parcel(
     needed: &mut usize,
 ) -> u32
     ensures ok { result ≡ OK → OfNode node.old.held.value
-        (λ o. IsCopiedOut (parcel_of o.kept) out.old out.new needed.new) }
+        (λ o. IsCopiedOut (kept_parcel o.kept) out.old out.new needed.new) }
     ensures closed { (result ≡ CLOSED) ↔ (node.old.held.value ≡ None) }
     ensures node_unchanged { node.new.held.value ≡ node.old.held.value }
     ensures unchanged { result ≡ CLOSED → IsUntouched out.old out.new needed.old needed.new }

@@ -2,8 +2,8 @@
 use causal_endpoint::endpoint::Endpoint;
 use causal_endpoint::forgetting::Forgotten;
 use causal_endpoint::receiving::Received;
-use causal_endpoint::recovery::Restarted;
-use causal_endpoint::sending::Sent;
+use causal_endpoint::recovery::RestartRecord;
+use causal_endpoint::sending::SendRecord;
 use causal_name::{Det, Pid};
 
 /// What the last call that changed a node has kept: from it the line of the recording, the parcel, the body and the
@@ -13,7 +13,7 @@ pub enum Kept {
     /// There is nothing to write.
     Nothing,
     /// A message that was sent to a process.
-    Sent(Pid, Sent),
+    Sent(Pid, SendRecord),
     /// What was received.
     Received(Received),
     /// A parcel, which has no line.
@@ -21,7 +21,7 @@ pub enum Kept {
     /// That a determinant is stable, at this clock.
     Stored(u64, Det),
     /// A restart.
-    Restarted(Restarted),
+    Restarted(RestartRecord),
     /// A forgetting.
     Forgotten(Forgotten),
 }

@@ -3,10 +3,10 @@ ghost use Rattle.std.specs.Prelude.{◌≡◌, ◌≢◌, ◌≤◌, ◌↔◌, 
 ghost use Rattle.causal_node.specs.NodeRecovery.{opened};
 ghost use Rattle.causal_endpoint.specs.Opening.{open_fault};
 ghost use Rattle.nixu_node.specs.OpenNodes.{OfNode, IsOpened};
-ghost use Rattle.nixu_node.specs.Structs.{identity_of};
+ghost use Rattle.nixu_node.specs.Structs.{identity_from_c};
 ghost use Rattle.nixu_node.specs.Refusals.{IsNumberOf};
 
-use crate::c_node::{CIdentity, identity_of};
+use crate::c_node::{CIdentity, identity_from_c};
 use crate::handle::NodeHandle;
 use crate::open_node::{Kept, OpenNode};
 use crate::refusals::refuse;
@@ -27,11 +27,11 @@ pub extern "C" fn nixu_node_open(
 ) -> u32
     ensures ok { result ≡ OK → OfNode node.new.held.value (IsOpened identity.now) }
     ensures fault { result ≡ FAULT
-        → IsNumberOf (open_fault (identity_of identity.now) identity.now.clock) fault.new }
+        → IsNumberOf (open_fault (identity_from_c identity.now) identity.now.clock) fault.new }
     ensures legal { result ≡ OK
-        → open_fault (identity_of identity.now) identity.now.clock ≡ None }
+        → open_fault (identity_from_c identity.now) identity.now.clock ≡ None }
     ensures no_memory { result ≡ NO_MEMORY
-        → open_fault (identity_of identity.now) identity.now.clock ≡ None }
+        → open_fault (identity_from_c identity.now) identity.now.clock ≡ None }
     ensures misused { (result ≡ MISUSED) ↔ IsSome node.old.held.value }
     ensures unchanged { result ≢ OK → node.new.held.value ≡ node.old.held.value }
     ensures fault_unchanged { result ≢ FAULT → fault.new ≡ fault.old }
@@ -40,7 +40,7 @@ pub extern "C" fn nixu_node_open(
     if node.is_open() {
         return MISUSED;
     }
-    let who = identity_of(identity);
+    let who = identity_from_c(identity);
     let (run, lane) = (identity.run, identity.lane);
     match Endpoint::open(alloc, who, run, lane, identity.clock, identity.seed) {
         Ok(endpoint) => node.keep(

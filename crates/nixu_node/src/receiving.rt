@@ -1,13 +1,13 @@
 //! Receiving of parcels.
 ghost use Rattle.std.specs.Prelude.{◌≡◌, ◌≢◌, ◌≤◌, ◌⊎◌, ◌↔◌, None};
-ghost use Rattle.causal_wire.specs.Reading.{parcel_at};
+ghost use Rattle.causal_wire.specs.Reading.{read_parcel};
 ghost use Rattle.causal_memory.specs.Namings.{named_message_by};
 ghost use Rattle.causal_endpoint.specs.Endpoints.{run_of};
 ghost use Rattle.causal_endpoint.specs.Receiving.{receive_fault};
 ghost use Rattle.nixu_node.specs.OpenNodes.{OfNode};
 ghost use Rattle.nixu_node.specs.Structs.{c_message_of};
 ghost use Rattle.nixu_node.specs.Refusals.{IsNumberOf};
-ghost use Rattle.nixu_node.specs.Calls.{HasReceived};
+ghost use Rattle.nixu_node.specs.Calls.{HasReceivedParcel};
 
 use crate::c_node::{CMessage, CReceived, c_message_of, c_received_of};
 use crate::handle::NodeHandle;
@@ -30,12 +30,12 @@ pub extern "C" fn nixu_node_receive(
     fault: &mut u32,
 ) -> u32
     ensures ok { result ≡ OK → OfNode node.old.held.value (λ o. OfNode node.new.held.value
-        (HasReceived o.endpoint now bytes.now received.new)) }
+        (HasReceivedParcel o.endpoint now bytes.now received.new)) }
     ensures fault { result ≡ FAULT → OfNode node.old.held.value
-        (λ o. IsNumberOf (receive_fault o.endpoint now (parcel_at
+        (λ o. IsNumberOf (receive_fault o.endpoint now (read_parcel
         (run_of o.endpoint) bytes.now)) fault.new) }
     ensures legal { result ≡ OK → OfNode node.old.held.value
-        (λ o. receive_fault o.endpoint now (parcel_at (run_of o.endpoint) bytes.now) ≡ None) }
+        (λ o. receive_fault o.endpoint now (read_parcel (run_of o.endpoint) bytes.now) ≡ None) }
     ensures closed { (result ≡ CLOSED) ↔ (node.old.held.value ≡ None) }
     ensures node_unchanged { result ≢ OK → node.new.held.value ≡ node.old.held.value }
     ensures unchanged { result ≢ OK → received.new ≡ received.old }
@@ -58,10 +58,10 @@ fn receive(
     received: &mut CReceived,
     fault: &mut u32,
 ) -> u32
-    ensures ok { result ≡ OK → HasReceived node.old.endpoint now bytes.now received.new node.new }
-    ensures fault { result ≡ FAULT → IsNumberOf (receive_fault node.old.endpoint now (parcel_at
+    ensures ok { result ≡ OK → HasReceivedParcel node.old.endpoint now bytes.now received.new node.new }
+    ensures fault { result ≡ FAULT → IsNumberOf (receive_fault node.old.endpoint now (read_parcel
         (run_of node.old.endpoint) bytes.now)) fault.new }
-    ensures legal { result ≡ OK → receive_fault node.old.endpoint now (parcel_at
+    ensures legal { result ≡ OK → receive_fault node.old.endpoint now (read_parcel
         (run_of node.old.endpoint) bytes.now) ≡ None }
     ensures node_unchanged { result ≢ OK → node.new ≡ node.old }
     ensures unchanged { result ≢ OK → received.new ≡ received.old }

@@ -9,7 +9,7 @@ ghost use Rattle.nixu_boundary.specs.Flags.{flags};
 ghost use Rattle.nixu_node.specs.OpenNodes.{OfNode};
 ghost use Rattle.nixu_node.specs.Structs.{pid};
 ghost use Rattle.nixu_node.specs.Refusals.{IsNumberOf};
-ghost use Rattle.nixu_node.specs.Calls.{HasBegun, HasAsked, HasTakenEnded, HasRead, HasRestarted};
+ghost use Rattle.nixu_node.specs.Calls.{HasBegun, HasAsked, HasTakenEnded, HasReadStorage, HasRestarted};
 
 use crate::handle::NodeHandle;
 use crate::open_node::{Kept, OpenNode};
@@ -250,7 +250,7 @@ pub extern "C" fn nixu_node_finish_read(
     fault: &mut u32,
 ) -> u32
     ensures ok { result ≡ OK → OfNode node.old.held.value (λ o. OfNode node.new.held.value
-        (HasRead o.endpoint)) }
+        (HasReadStorage o.endpoint)) }
     ensures fault { result ≡ FAULT → OfNode node.old.held.value
         (λ o. IsNumberOf (node_or (read_fault o.endpoint.node.recovery round) None) fault.new) }
     ensures legal { result ≡ OK → OfNode node.old.held.value
@@ -270,7 +270,7 @@ pub extern "C" fn nixu_node_finish_read(
 
 /// Ends the reading.
 fn finish_read(node: &mut OpenNode, round: u64, fault: &mut u32) -> u32
-    ensures ok { result ≡ OK → HasRead node.old.endpoint node.new }
+    ensures ok { result ≡ OK → HasReadStorage node.old.endpoint node.new }
     ensures fault { result ≡ FAULT → IsNumberOf (node_or
         (read_fault node.old.endpoint.node.recovery round) None) fault.new }
     ensures legal { result ≡ OK → node_or

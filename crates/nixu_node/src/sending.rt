@@ -5,7 +5,7 @@ ghost use Rattle.causal_endpoint.specs.Resending.{resend_fault};
 ghost use Rattle.nixu_node.specs.OpenNodes.{OfNode, IsReceiver};
 ghost use Rattle.nixu_node.specs.Structs.{pid};
 ghost use Rattle.nixu_node.specs.Refusals.{IsNumberOf};
-ghost use Rattle.nixu_node.specs.Calls.{HasSent, HasResent};
+ghost use Rattle.nixu_node.specs.Calls.{HasSentMessage, HasResent};
 
 use crate::c_node::{CSent, c_sent_of};
 use crate::handle::NodeHandle;
@@ -30,7 +30,7 @@ pub extern "C" fn nixu_node_send(
     fault: &mut u32,
 ) -> u32
     ensures ok { result ≡ OK → OfNode node.old.held.value (λ o. OfNode node.new.held.value
-        (HasSent o.endpoint now (pid to) body.now sent.new)) }
+        (HasSentMessage o.endpoint now (pid to) body.now sent.new)) }
     ensures fault { result ≡ FAULT → OfNode node.old.held.value
         (λ o. IsNumberOf (send_fault o.endpoint now (pid to) (length body.now)) fault.new) }
     ensures legal { result ≡ OK → OfNode node.old.held.value
@@ -60,7 +60,7 @@ fn send(
     sent: &mut CSent,
     fault: &mut u32,
 ) -> u32
-    ensures ok { result ≡ OK → HasSent node.old.endpoint now to body.now sent.new node.new }
+    ensures ok { result ≡ OK → HasSentMessage node.old.endpoint now to body.now sent.new node.new }
     ensures fault { result ≡ FAULT → IsNumberOf (send_fault node.old.endpoint now to
         (length body.now)) fault.new }
     ensures legal { result ≡ OK → send_fault node.old.endpoint now to (length body.now) ≡ None }

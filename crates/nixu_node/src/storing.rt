@@ -3,7 +3,7 @@ ghost use Rattle.std.specs.Prelude.{◌≡◌, ◌≢◌, ◌≤◌, ◌⊎◌, 
 ghost use Rattle.causal_log.specs.Logs.{unstable_in};
 ghost use Rattle.causal_endpoint.specs.Recovering.{stored_fault};
 ghost use Rattle.causal_endpoint.specs.Forgetting.{forget_fault};
-ghost use Rattle.nixu_boundary.specs.Determinants.{det_of, AreCopiedOut};
+ghost use Rattle.nixu_boundary.specs.Determinants.{det_from_c, AreCopiedOut};
 ghost use Rattle.nixu_node.specs.OpenNodes.{OfNode};
 ghost use Rattle.nixu_node.specs.Refusals.{IsNumberOf};
 ghost use Rattle.nixu_node.specs.Calls.{HasStored, HasForgotten};
@@ -12,7 +12,7 @@ use crate::handle::NodeHandle;
 use crate::open_node::{Kept, OpenNode};
 use crate::refusals::refuse;
 use causal_name::{Det, NoMemory};
-use nixu_boundary::c_determinant::{CDeterminant, copy_dets, det_of};
+use nixu_boundary::c_determinant::{CDeterminant, copy_dets, det_from_c};
 use nixu_boundary::status::{CLOSED, FAULT, MISUSED, NO_MEMORY, OK};
 use std::alloc::Global;
 
@@ -71,7 +71,7 @@ pub extern "C" fn nixu_node_stored(
     fault: &mut u32,
 ) -> u32
     ensures ok { result ≡ OK → OfNode node.old.held.value (λ o. OfNode node.new.held.value
-        (HasStored o.endpoint now (det_of determinant.now))) }
+        (HasStored o.endpoint now (det_from_c determinant.now))) }
     ensures fault { result ≡ FAULT → OfNode node.old.held.value
         (λ o. IsNumberOf (stored_fault o.endpoint now) fault.new) }
     ensures legal { result ≡ OK → OfNode node.old.held.value
@@ -86,7 +86,7 @@ pub extern "C" fn nixu_node_stored(
     let Some(mut open) = node.take(alloc) else {
         return CLOSED;
     };
-    let status = take_stored(&mut *open, now, det_of(*determinant), fault);
+    let status = take_stored(&mut *open, now, det_from_c(*determinant), fault);
     node.fill(open);
     status
 }

@@ -31,7 +31,7 @@ module _ (n : ℕ) (past : List Entry) (formed : AreLegalEntries n past) (events
     because = inr ((stands.receives j i (delivers_below past j i h)).1 h);
   }
 
-  pub in_clock : (i j : ℕ) → Reaches past i j → clock.Reaches events i j
+  pub in_clock : (i j : ℕ) → Reaches past i j → clock.Precedes events i j
   in_clock i j (itself p l at) = clock.itself (omega (arith, event_below past i p l at, stands.count))
   in_clock i k (onward {j} r d) = clock.onward (in_clock i j r) (clock_direct j k d)
 
@@ -39,7 +39,7 @@ module _ (n : ℕ) (past : List Entry) (formed : AreLegalEntries n past) (events
   pub same_event : (i k p q l m : ℕ) → IsEventOf past i p l → IsEventOf past k q m → lane_of events i ≡ lane_of events k → IsEventOf past i q m
   same_event i k p q l m at to same = grind arith
 
-  pub in_run : {i j : ℕ} → clock.Reaches events i j → (p l : ℕ) → IsEventOf past i p l → (k q m : ℕ) → j ≤ k → IsEventOf past k q m → lane_of events j ≡ lane_of events k → Reaches past i k
+  pub in_run : {i j : ℕ} → clock.Precedes events i j → (p l : ℕ) → IsEventOf past i p l → (k q m : ℕ) → j ≤ k → IsEventOf past k q m → lane_of events j ≡ lane_of events k → Reaches past i k
   in_run (clock.itself {i = i} h) p l at k q m up to same = reach_later past i i k q m (itself p l at) up (same_event i k p q l m at to same) to
   in_run {i} (clock.onward {j = j} {k = k} reach d) p l at k2 q m up to same =
       elim d.because [
@@ -53,5 +53,5 @@ module _ (n : ℕ) (past : List Entry) (formed : AreLegalEntries n past) (events
       ]
 
   -- an event reaches another in the clock exactly if it does in the run
-  pub clock_tells : (i j p q l m : ℕ) → IsEventOf past i p l → IsEventOf past j q m → clock.Reaches events i j ↔ Reaches past i j
+  pub clock_tells : (i j p q l m : ℕ) → IsEventOf past i p l → IsEventOf past j q m → clock.Precedes events i j ↔ Reaches past i j
   clock_tells i j p q l m at to = (λ r. in_run r p l at j q m (omega arith) to refl, in_clock i j)

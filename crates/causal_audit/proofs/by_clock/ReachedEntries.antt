@@ -100,7 +100,7 @@ module _ (n : ℕ) (past : List Entry) (k : ℕ) (depends : ℕ → Bool) (are :
 -- the entry at t: the clock decides whether the delivery reaches it, and the next mention whether it mentions the
 -- determinant
 module _ (r : Recording) (formed : IsWellFormed r) (es : List Entry) (read : es ≡ entries_of r) (events : List Event) (stands : IsClockOf r.past events) (k : ℕ) (d : Det) (made : det_at r.past k ≡ Some d) (mentions : List ℕ) (listed : HasMentions r.past d mentions) (only : AreMentionsOf r.past d mentions)
-    (t : ℕ) (e : Entry) (is : e ≡ get_or es t e) (below : t < length r.past) (mention : ℕ) (late : t ≤ mention) (none : HasNoneUntil mentions t mention) (found : mention ≡ t → Contains mentions t) (reached : Bool) (tells : (reached ≡ true) ↔ clock.Reaches events k t) where
+    (t : ℕ) (e : Entry) (is : e ≡ get_or es t e) (below : t < length r.past) (mention : ℕ) (late : t ≤ mention) (none : HasNoneUntil mentions t mention) (found : mention ≡ t → Contains mentions t) (reached : Bool) (tells : (reached ≡ true) ↔ clock.Precedes events k t) where
   next : instant r.past (t + 1) ≡ e ∷ instant r.past t
   next = next_state r es read t e below is
 

@@ -1,7 +1,7 @@
 -- A walk over the entries for the deliveries of a group.
 use Rattle.causal_audit.proofs.Common.{ℕ, All, cases_lt, ◌≡◌, ◌+◌, ◌++◌, ◌<◌, inl, inr, Bool, true, false, List, [], ◌∷◌, length, Option, Some, None, refl, sym, ap, subst, ◌∙◌, arith, ◌≤◌, ◌⊎◌, Contains, ◌&&◌, ◌==◌, not, ◌↔◌, ◌||◌, nat_cmp, FinSet, contains, remove, empty, union, difference, contains-empty, contains-union, contains-difference, insert, false≢true, false_from_ne_true, eqb-true, eq-eqb, cases_Bool, Contains-push, Contains-push_cases, Contains-append_left, Contains-get_or, length-map, length-set, get_or-map, get_or-set_same, get_or-set_other, Det, Entry, instant, det_at, list_has, logs, entry_at, message_sent, Recording, AreLegalEntries, IsWellFormed, Depends, HasOrphan, accepted_then, det_then, det_within, instant_length, nat_cmp_total, nat_tests, Pid, Deliver, Crash, Restart, Forget, Send, Stable, max_entries, set}
 use Rattle.causal_audit.specs.declared.breach.Breach.{Breach}
-use Rattle.causal_audit.specs.declared.group.copies.Copies.{Copies}
+use Rattle.causal_audit.specs.declared.group.copies.DetCopies.{DetCopies}
 use Rattle.causal_audit.specs.declared.group.suspects.WalkStep.{WalkStep}
 use Rattle.causal_audit.specs.declared.group.walk_input.OpenDelivery.{OpenDelivery}
 use Rattle.causal_audit.specs.BreachOrder.{earlier_breach}
@@ -10,7 +10,7 @@ use Rattle.causal_audit.specs.NewOrphans.{MayGetOrphan}
 use Rattle.causal_audit.specs.Quiet.{mentioned_dets}
 use Rattle.causal_audit.specs.Inside.Among.{FirstBreachBy, HasNoOrphanBy, EarliestAmongBy}
 use Rattle.causal_audit.specs.Inside.DeliveryStates.{BreachAt}
-use Rattle.causal_audit.specs.Inside.Group.Walk.{AreCopiesOfGroup, AreCopies, AreCopiesAfter, copies_at, is_crash, no_copies, AreHeldBefore, IsLacked, IsSuspect, IsBreachOfPlace, IsWalkStep, position_at, AreStillOpen, HasRow, HaveNoOrphans, IsWalkState, ArePlaces, AreNewlyReached, row, row_of, IsReach, AppliesEntry, IsPlaceAdded, opened_at, RowsAreHeld, IsDeliveredTo, IsHeldBy, CountsEarlier, ArePlacesAt, AreMentionedPlaces, AreMarked}
+use Rattle.causal_audit.specs.Inside.Group.Walk.{AreCopiesOfGroup, AreDetCopies, AreCopiesAfter, copies_at, is_crash, no_copies, AreHeldBefore, IsLacked, IsSuspect, IsBreachOfPlace, IsWalkStep, position_at, AreStillOpen, HasRow, HaveNoOrphans, IsWalkState, ArePlaces, AreNewlyReached, row, row_of, IsReach, AppliesEntry, IsPlaceAdded, opened_at, RowsAreHeld, IsDeliveredTo, IsHeldBy, CountsEarlier, ArePlacesAt, AreMentionedPlaces, AreMarked}
 use Rattle.causal_audit.specs.Inside.Group.OpenDeliveries.{positions_of, IsDeliveryAt, IsOpenDelivery}
 use Rattle.causal_audit.proofs.AmongLemmas.{among_push, among_wider, among_none}
 use Rattle.causal_audit.proofs.Between.{depends_before, logs_stay, stable_stays}
@@ -50,7 +50,7 @@ apart_or : (a l b : Bool) → a ≡ false → b ≡ ((a && l) || b)
 apart_or a l b h = grind (arith, nat_tests)
 
 -- a delivery to a process that logs d already does not change them
-copies_held : (e : Entry) (past : List Entry) (d : Det) (copies : Copies) → IsDeliveredTo e past d → AreCopies past d copies → AreCopies (e ∷ past) d copies
+copies_held : (e : Entry) (past : List Entry) (d : Det) (copies : DetCopies) → IsDeliveredTo e past d → AreDetCopies past d copies → AreDetCopies (e ∷ past) d copies
 copies_held (Deliver to send rsn listed) past d copies held are = grind (arith, held_or, apart_or)
 copies_held (Send from to ssn) past d copies held are = absurd held
 copies_held (Stable det) past d copies held are = absurd held
@@ -72,12 +72,12 @@ logs_kept (Forget who listed) past d turn silent p = logs_stay (Forget who liste
 
 -- an entry does not change them if it is not a crash, and mentions the determinant at most for a process
 -- that logs it
-pub copies_still : (e : Entry) (past : List Entry) (d : Det) (copies : Copies) → is_crash e ≡ false → (list_has (mentioned_dets e) d ≡ false) ⊎ IsDeliveredTo e past d → AreCopies past d copies → AreCopies (e ∷ past) d copies
+pub copies_still : (e : Entry) (past : List Entry) (d : Det) (copies : DetCopies) → is_crash e ≡ false → (list_has (mentioned_dets e) d ≡ false) ⊎ IsDeliveredTo e past d → AreDetCopies past d copies → AreDetCopies (e ∷ past) d copies
 copies_still e past d copies turn (inl silent) are = record { holders = λ p. are.holders p ∙ logs_kept e past d turn silent p; stable = are.stable ∙ stable_stays e past d silent }
 copies_still e past d copies turn (inr held) are = copies_held e past d copies held are
 
 -- the copies at all places except the remaining ones are updated
-pub record HaveRenewed (e : Entry) (mentioned places rest : FinSet nat_cmp) (old now : List Copies) : Type 0 where
+pub record HaveRenewed (e : Entry) (mentioned places rest : FinSet nat_cmp) (old now : List DetCopies) : Type 0 where
   pub count : length now ≡ length old
   pub left : (j : ℕ) → contains rest j ≡ true → contains places j ≡ true
   pub renewed : (j : ℕ) → contains places j ≡ true → contains rest j ≡ false → AreCopiesAfter e (contains mentioned j) (copies_at old j) (copies_at now j)
@@ -85,7 +85,7 @@ pub record HaveRenewed (e : Entry) (mentioned places rest : FinSet nat_cmp) (old
   pub others : (j : ℕ) → contains places j ≡ false → copies_at now j ≡ copies_at old j
 
 -- after the update of a remaining place, it no longer remains
-pub renewed_more : (e : Entry) (mentioned places rest : FinSet nat_cmp) (old mid : List Copies) (p : ℕ) (here : Copies) → contains rest p ≡ true → p < length mid
+pub renewed_more : (e : Entry) (mentioned places rest : FinSet nat_cmp) (old mid : List DetCopies) (p : ℕ) (here : DetCopies) → contains rest p ≡ true → p < length mid
     → HaveRenewed e mentioned places rest old mid → AreCopiesAfter e (contains mentioned p) (copies_at mid p) here
     → HaveRenewed e mentioned places (remove rest p) old (set mid p here)
 renewed_more e mentioned places rest old mid p here within inside so_far after = record {
@@ -207,18 +207,18 @@ pub in_or_out : (s : FinSet nat_cmp) (j : ℕ) → (contains s j ≡ true) ⊎ (
 in_or_out s j = cases_Bool (contains s j)
 
 -- the copies after a step
-pub copied_next : (r : Recording) (candidates : List OpenDelivery) (s : WalkStep) → IsWalkStep r candidates s → (all held places : FinSet nat_cmp) (old new : List Copies) → ArePlaces candidates all → AreHeldBefore r candidates s held
+pub copied_next : (r : Recording) (candidates : List OpenDelivery) (s : WalkStep) → IsWalkStep r candidates s → (all held places : FinSet nat_cmp) (old new : List DetCopies) → ArePlaces candidates all → AreHeldBefore r candidates s held
     → ((j : ℕ) → contains all j ≡ true → contains places j ≡ false → (is_crash s.entry.now ≡ false) × ((contains s.mentioned j ≡ false) ⊎ (contains held j ≡ true)))
     → ((j : ℕ) → contains places j ≡ false → copies_at new j ≡ copies_at old j) → ((j : ℕ) → contains places j ≡ true → AreCopiesAfter s.entry.now (contains s.mentioned j) (copies_at old j) (copies_at new j))
     → AreCopiesOfGroup r candidates s.t old → AreCopiesOfGroup r candidates (s.t + 1) new
 copied_next r candidates s step all held places old new are before quiet others renewed known j d low at =
     let past = instant r.past s.t in
     let told = step.mentioned j d low at in
-    subst (λ x. AreCopies x d (copies_at new j)) (sym step.next) (elim (in_or_out places j) [
+    subst (λ x. AreDetCopies x d (copies_at new j)) (sym step.next) (elim (in_or_out places j) [
       | inl seen ↦ renewed j seen past d told (known j d low at)
       | inr out ↦
           let still = quiet j ((are j).1 low) out in
-          subst (AreCopies (s.entry.now ∷ past) d) (sym (others j out))
+          subst (AreDetCopies (s.entry.now ∷ past) d) (sym (others j out))
           (copies_still s.entry.now past d (copies_at old j) still.0 (elim still.1 [ inl silent ↦ inl (sym told ∙ silent) | inr holds ↦ inr (before j d low at holds) ]) (known j d low at))
     ])
 

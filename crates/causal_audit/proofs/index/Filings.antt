@@ -1,7 +1,7 @@
 -- The lists of positions of an index, with one more position and one more entry.
 use Rattle.std.proofs.lemmas.Grind.{common_steps}
 use Rattle.causal_audit.proofs.Common.{ℕ, ◌≡◌, ◌≢◌, ◌+◌, ◌<◌, ◌≤◌, inl, inr, true, false, Result, Ok, Err, List, [], ◌∷◌, ◌++◌, length, Option, Some, None, refl, sym, ap, subst, ◌∙◌, arith, Bool, ◌⊎◌, OnOk, Contains, ◌==◌, ◌&&◌, ◌||◌, option_map_or, All, get_or-eq_default, cases_lt, false≢true, cond-true, cond-false, false_from_ne_true, eqb-true, eq-eqb, ne_eqb, and_parts, or_cases, cases_Bool, or_left, or_right, get_or-set_same, get_or-set_other, get_or_past, All-push, All-set, All-get_or, All-weaker, Contains-append_left, Contains-push, Contains-push_cases, IsNonDecreasingBy-push, Entry, entry_at, list_has, nat_cmp, FinSet, contains, empty, remove, contains-empty, IsNonDecreasing, Send, Deliver, Stable, Crash, Restart, Forget, entry_beyond, Det, same_det}
-use Rattle.causal_audit.specs.Inside.Index.Lists.{Ascends, list_at, with_added, AreMentions, AreMentionsWith, mentions_of, AreTransitionsOf, IsFirstCrash, is_transition_of}
+use Rattle.causal_audit.specs.Inside.Index.Lists.{Ascends, list_at, with_added, AreMentions, AreMentionsWith, mentions_of, AreTransitionsOf, IsFirstCrash, restarts_or_crashes}
 use Rattle.causal_audit.specs.Inside.PositionLists.{HasNoneUntil}
 use Rattle.causal_audit.specs.Inside.SafetyScan.Persistence.{restarts_one, CrashesNone, RestartsNone}
 use Rattle.causal_audit.specs.Covered.{IsCrashOf}
@@ -78,7 +78,7 @@ module _ (restarts : Bool) (e : Entry) (past : List Entry) (lists : List (List �
   longer = omega arith
 
   -- an entry that crashes or restarts no process
-  pub turns_same : ((p : ℕ) → is_transition_of restarts p e ≡ false) → AreTransitionsOf restarts (e ∷ past) lists
+  pub turns_same : ((p : ℕ) → restarts_or_crashes restarts p e ≡ false) → AreTransitionsOf restarts (e ∷ past) lists
   turns_same none = record {
     ascend = subst (λ n. All (Ascends n) lists) longer (ascend_weaker (length past) (length past + 1) lists (omega arith) are.ascend);
     only = λ p v listed. let was = are.only p v listed in (was.0, older_entry e past v was.0 was.1, was.2);
@@ -86,7 +86,7 @@ module _ (restarts : Bool) (e : Entry) (past : List Entry) (lists : List (List �
   }
 
   -- an entry that crashes or restarts this process
-  pub turns_more : (q : ℕ) → ((p : ℕ) → is_transition_of restarts p e ≡ (q == p)) → q < length lists → AreTransitionsOf restarts (e ∷ past) (with_added lists q (length past))
+  pub turns_more : (q : ℕ) → ((p : ℕ) → restarts_or_crashes restarts p e ≡ (q == p)) → q < length lists → AreTransitionsOf restarts (e ∷ past) (with_added lists q (length past))
   turns_more q of there = record {
     ascend = subst (λ n. All (Ascends n) (with_added lists q (length past))) longer (added_ascend lists q (length past) there (ascend_weaker (length past) (length past + 1) lists (omega arith) are.ascend));
     only = λ p v listed. elim (added_cases lists q (length past) there p v listed) [
@@ -97,7 +97,7 @@ module _ (restarts : Bool) (e : Entry) (past : List Entry) (lists : List (List �
       | inl old ↦ are.all p v x old (λ list_has. absent (added_keeps lists q (length past) there p v list_has))
       | inr new ↦
           let here : Contains (list_at (with_added lists q (length past)) q) v = subst (Contains (list_at (with_added lists q (length past)) q)) (sym new.0) (added_has lists q (length past) there) in
-          subst (λ y. is_transition_of restarts p y ≡ false) new.1 (of p ∙ ne_eqb q p (λ same. absent (subst (λ m. Contains (list_at (with_added lists q (length past)) m) v) same here)))
+          subst (λ y. restarts_or_crashes restarts p y ≡ false) new.1 (of p ∙ ne_eqb q p (λ same. absent (subst (λ m. Contains (list_at (with_added lists q (length past)) m) v) same here)))
     ];
   }
 
@@ -113,7 +113,7 @@ turns_ascend restarts past lists are = All-weaker (Ascends (length past)) IsNonD
 
 -- ---- the first crash
 
-crash_from : (past : List Entry) (p v : ℕ) (e : Entry) → entry_at past v ≡ Some e → is_transition_of false p e ≡ true → IsCrashOf past p v
+crash_from : (past : List Entry) (p v : ℕ) (e : Entry) → entry_at past v ≡ Some e → restarts_or_crashes false p e ≡ true → IsCrashOf past p v
 crash_from past p v (Crash who) at is = (who, at, eqb-true who.0 p is)
 crash_from past p v (Restart who listed) at is = absurd (false≢true is)
 crash_from past p v (Send from to ssn) at is = absurd (false≢true is)
@@ -146,7 +146,7 @@ rest_less lists members rest from next nearer p low here none q member out =
     ]
 
 -- an entry that restarts one of these processes restarts exactly one of them
-restarted_one : (members : FinSet nat_cmp) (e : Entry) → restarts_one members e ≡ true → (p : ℕ) × (contains members p ≡ true) × (is_transition_of true p e ≡ true)
+restarted_one : (members : FinSet nat_cmp) (e : Entry) → restarts_one members e ≡ true → (p : ℕ) × (contains members p ≡ true) × (restarts_or_crashes true p e ≡ true)
 restarted_one members (Send from to ssn) h = absurd (false≢true h)
 restarted_one members (Deliver to send rsn listed) h = absurd (false≢true h)
 restarted_one members (Stable det) h = absurd (false≢true h)

@@ -5,94 +5,94 @@ use Rattle.std.proofs.lemmas.List.{drop-set-add, drop-set-lt, ext_get_or, length
 use Rattle.std.proofs.lemmas.Bool.Decides.{eqb_tells}
 use Rattle.std.proofs.Math.Seq.{take-suc-set}
 use Rattle.std.specs.List.{slice_range}
-use Rattle.causal_audit.specs.declared.index.packed_lists.Span.{Span}
+use Rattle.causal_audit.specs.declared.index.packed_lists.ListSpan.{ListSpan}
 use Rattle.causal_audit.specs.Inside.Index.Lists.{list_at, with_added}
-use Rattle.causal_audit.specs.Inside.Index.Packed.{ArePacked, HasSpareCapacity, IsSpan, capacities_in, limit_before, list_in}
+use Rattle.causal_audit.specs.Inside.Index.Packed.{ArePacked, HasSpareCapacity, IsSpan, list_capacities, limit_before, list_in}
 
 -- where the next list begins; for the last list the number of positions
-abbrev limit_in : List Span → ℕ → ℕ → ℕ
+abbrev limit_in : List ListSpan → ℕ → ℕ → ℕ
 limit_in spans number size = (get_or spans (number + 1) (record { begin = size; end = size })).begin
 
-limit_first : (size : ℕ) (s : Span) (rest : List Span) → limit_before size rest ≡ limit_in (s ∷ rest) 0 size
+limit_first : (size : ℕ) (s : ListSpan) (rest : List ListSpan) → limit_before size rest ≡ limit_in (s ∷ rest) 0 size
 limit_first size s [] = refl
 limit_first size s (next ∷ rest) = refl
 
 -- a list's capacity is from its start to that of the next list
-pub capacity_at : (size : ℕ) (spans : List Span) (m : ℕ) (d : Span) → m < length spans → get_or (capacities_in size spans) m 0 ≡ limit_in spans m size - (get_or spans m d).begin
+pub capacity_at : (size : ℕ) (spans : List ListSpan) (m : ℕ) (d : ListSpan) → m < length spans → get_or (list_capacities size spans) m 0 ≡ limit_in spans m size - (get_or spans m d).begin
 capacity_at size [] m d there = absurd (omega (arith, there))
 capacity_at size (s ∷ rest) zero d there = ap (λ n. n - s.begin) (limit_first size s rest)
 capacity_at size (s ∷ rest) (suc m) d there = grind (arith, capacity_at size rest m d (omega (arith, there)))
 
 -- one more list with the last capacity
-pub capacities_push : (b limit : ℕ) (spans : List Span) → capacities_in limit (spans ++ record { begin = b; end = b } ∷ []) ≡ capacities_in b spans ++ (limit - b) ∷ []
+pub capacities_push : (b limit : ℕ) (spans : List ListSpan) → list_capacities limit (spans ++ record { begin = b; end = b } ∷ []) ≡ list_capacities b spans ++ (limit - b) ∷ []
 capacities_push b limit [] = refl
 capacities_push b limit (s ∷ []) = refl
 capacities_push b limit (s ∷ next ∷ rest) = ap (λ xs. (next.begin - s.begin) ∷ xs) (capacities_push b limit (next ∷ rest))
 
 -- a span with the same start leaves the capacities unchanged
-pub capacities_still : (size : ℕ) (spans : List Span) (m : ℕ) (new d : Span) → m < length spans → new.begin ≡ (get_or spans m d).begin → capacities_in size (set spans m new) ≡ capacities_in size spans
+pub capacities_still : (size : ℕ) (spans : List ListSpan) (m : ℕ) (new d : ListSpan) → m < length spans → new.begin ≡ (get_or spans m d).begin → list_capacities size (set spans m new) ≡ list_capacities size spans
 capacities_still size [] m new d there same = refl
-capacities_still size (s ∷ rest) zero new d there same = ap (λ b. (limit_before size rest - b) ∷ capacities_in size rest) same
+capacities_still size (s ∷ rest) zero new d there same = ap (λ b. (limit_before size rest - b) ∷ list_capacities size rest) same
 capacities_still size (s ∷ []) (suc m) new d there same = absurd (omega (arith, there))
 capacities_still size (s ∷ next ∷ rest) (suc zero) new d there same =
     let later = capacities_still size (next ∷ rest) zero new d (omega (arith, there)) same in
-    ap (λ b. (b - s.begin) ∷ capacities_in size (new ∷ rest)) same ∙ ap (λ xs. (next.begin - s.begin) ∷ xs) later
+    ap (λ b. (b - s.begin) ∷ list_capacities size (new ∷ rest)) same ∙ ap (λ xs. (next.begin - s.begin) ∷ xs) later
 capacities_still size (s ∷ next ∷ rest) (suc (suc m)) new d there same =
     ap (λ xs. (next.begin - s.begin) ∷ xs) (capacities_still size (next ∷ rest) (suc m) new d (omega (arith, there)) same)
 
-limit_inside : (size : ℕ) (spans : List Span) (m : ℕ) (s : Span) → ArePacked size spans → limit_in spans m size ≤ size
+limit_inside : (size : ℕ) (spans : List ListSpan) (m : ℕ) (s : ListSpan) → ArePacked size spans → limit_in spans m size ≤ size
 limit_inside size spans m s packed =
-    let nothing : Span = record { begin = size; end = size } in
+    let nothing : ListSpan = record { begin = size; end = size } in
     elim (cases_lt (m + 1) (length spans)) [
       | inl below ↦
           let inside : IsSpan size (get_or spans (m + 1) s) = All-get_or (IsSpan size) spans (m + 1) s below packed.each in
-          let next : limit_in spans m size ≡ (get_or spans (m + 1) s).begin = ap (λ (x : Span). x.begin) (get_or_default spans (m + 1) nothing s below) in
+          let next : limit_in spans m size ≡ (get_or spans (m + 1) s).begin = ap (λ (x : ListSpan). x.begin) (get_or_default spans (m + 1) nothing s below) in
           omega (arith, next, inside.order, inside.within)
-      | inr beyond ↦ omega (arith, ap (λ (x : Span). x.begin) (get_or_past spans (m + 1) nothing beyond))
+      | inr beyond ↦ omega (arith, ap (λ (x : ListSpan). x.begin) (get_or_past spans (m + 1) nothing beyond))
     ]
 
 -- a list with spare capacity ends before its limit and within the positions
-pub spare_in : (ps : List ℕ) (spans : List Span) (m : ℕ) (s : Span) → ArePacked (length ps) spans → HasSpareCapacity (record { lists = map (list_in ps) spans; capacities = capacities_in (length ps) spans }) m → s ≡ get_or spans m s → (m < length spans) × (s.end + 1 ≤ limit_in spans m (length ps)) × (s.end < length ps)
+pub spare_in : (ps : List ℕ) (spans : List ListSpan) (m : ℕ) (s : ListSpan) → ArePacked (length ps) spans → HasSpareCapacity (record { lists = map (list_in ps) spans; capacities = list_capacities (length ps) spans }) m → s ≡ get_or spans m s → (m < length spans) × (s.end + 1 ≤ limit_in spans m (length ps)) × (s.end < length ps)
 spare_in ps spans m s packed has is =
     let there : m < length spans = omega (arith, has.there, length-map spans (list_in ps)) in
     let inside : IsSpan (length ps) s = subst (IsSpan (length ps)) (sym is) (All-get_or (IsSpan (length ps)) spans m s there packed.each) in
     let list : list_at (map (list_in ps) spans) m ≡ list_in ps s = get_or-map (list_in ps) spans m s [] there ∙ ap (list_in ps) (sym is) in
     let long : length (list_in ps s) ≡ s.end - s.begin = grind (arith, common_steps, length-drop s.begin ps, length-take-le, inside.order, inside.within) in
-    let room : s.end + 1 ≤ limit_in spans m (length ps) = omega (arith, has.spare, ap length list, long, capacity_at (length ps) spans m s there, ap (λ (x : Span). x.begin) is, inside.order) in
+    let room : s.end + 1 ≤ limit_in spans m (length ps) = omega (arith, has.spare, ap length list, long, capacity_at (length ps) spans m s there, ap (λ (x : ListSpan). x.begin) is, inside.order) in
     (there, room, omega (arith, room, limit_inside (length ps) spans m s packed))
 
 -- lists that end where they begin are empty
-pub none_in : (ps : List ℕ) (spans : List Span) → All (λ (s : Span). s.begin ≡ s.end) spans → All (λ list. list ≡ []) (map (list_in ps) spans)
-none_in ps spans all = All-map (λ list. list ≡ []) (list_in ps) spans (All-weaker (λ (s : Span). s.begin ≡ s.end) (λ s. list_in ps s ≡ []) (λ s h.
+pub none_in : (ps : List ℕ) (spans : List ListSpan) → All (λ (s : ListSpan). s.begin ≡ s.end) spans → All (λ list. list ≡ []) (map (list_in ps) spans)
+none_in ps spans all = All-map (λ list. list ≡ []) (list_in ps) spans (All-weaker (λ (s : ListSpan). s.begin ≡ s.end) (λ s. list_in ps s ≡ []) (λ s h.
     let none : s.end - s.begin ≡ 0 = omega (arith, h) in
     ap (λ n. take n (drop s.begin ps)) none) spans all)
 
 -- one more empty list after the others
-pub packed_push : (b limit : ℕ) (spans new : List Span) → new ≡ spans ++ record { begin = b; end = b } ∷ [] → b ≤ limit → ArePacked b spans → ArePacked limit new
+pub packed_push : (b limit : ℕ) (spans new : List ListSpan) → new ≡ spans ++ record { begin = b; end = b } ∷ [] → b ≤ limit → ArePacked b spans → ArePacked limit new
 packed_push b limit spans new is more packed = grind (arith, common_steps, All-push, All-weaker, length-append, get_or-append_seam)
 
-pub none_push : (b : ℕ) (spans new : List Span) → new ≡ spans ++ record { begin = b; end = b } ∷ [] → All (λ (s : Span). s.begin ≡ s.end) spans → All (λ (s : Span). s.begin ≡ s.end) new
-none_push b spans new is none = subst (All (λ (s : Span). s.begin ≡ s.end)) (sym is) (All-push (λ (s : Span). s.begin ≡ s.end) spans (record { begin = b; end = b }) none refl)
+pub none_push : (b : ℕ) (spans new : List ListSpan) → new ≡ spans ++ record { begin = b; end = b } ∷ [] → All (λ (s : ListSpan). s.begin ≡ s.end) spans → All (λ (s : ListSpan). s.begin ≡ s.end) new
+none_push b spans new is none = subst (All (λ (s : ListSpan). s.begin ≡ s.end)) (sym is) (All-push (λ (s : ListSpan). s.begin ≡ s.end) spans (record { begin = b; end = b }) none refl)
 
 -- a write outside of a list does not change it
-outside : (ps : List ℕ) (e v : ℕ) (s : Span) → (s.end ≤ e) × (s.begin ≤ s.end) → list_in (set ps e v) s ≡ list_in ps s
+outside : (ps : List ℕ) (e v : ℕ) (s : ListSpan) → (s.end ≤ e) × (s.begin ≤ s.end) → list_in (set ps e v) s ≡ list_in ps s
 outside ps e v s is = grind (arith, drop-set-add s.begin ps (e - s.begin) v, take-set-le)
 
 -- a write at its end appends to it
-at_end : (ps : List ℕ) (v : ℕ) (s : Span) → s.begin ≤ s.end → s.end < length ps → slice_range (set ps s.end v) s.begin (s.end + 1) ≡ list_in ps s ++ v ∷ []
+at_end : (ps : List ℕ) (v : ℕ) (s : ListSpan) → s.begin ≤ s.end → s.end < length ps → slice_range (set ps s.end v) s.begin (s.end + 1) ≡ list_in ps s ++ v ∷ []
 at_end ps v s order below = grind (arith, drop-set-add s.begin ps (s.end - s.begin) v, take-suc-set, length-drop s.begin ps)
 
-module _ (ps : List ℕ) (spans : List Span) (m v : ℕ) (s new : Span) (packed : ArePacked (length ps) spans) (there : m < length spans) (is : s ≡ get_or spans m s) (room : s.end + 1 ≤ limit_in spans m (length ps))
+module _ (ps : List ℕ) (spans : List ListSpan) (m v : ℕ) (s new : ListSpan) (packed : ArePacked (length ps) spans) (there : m < length spans) (is : s ≡ get_or spans m s) (room : s.end + 1 ≤ limit_in spans m (length ps))
     (begin : new.begin ≡ s.begin) (end : new.end ≡ s.end + 1) where
-  here : (d : Span) → get_or spans m d ≡ s
+  here : (d : ListSpan) → get_or spans m d ≡ s
   here d = get_or_default spans m d s there ∙ sym is
 
   -- the end of a list's capacity
-  abbrev nothing : Span
+  abbrev nothing : ListSpan
   nothing = record { begin = length ps; end = length ps }
 
   next : m + 1 < length spans → limit_in spans m (length ps) ≡ (get_or spans (m + 1) s).begin
-  next inside = ap (λ (x : Span). x.begin) (get_or_default spans (m + 1) nothing s inside)
+  next inside = ap (λ (x : ListSpan). x.begin) (get_or_default spans (m + 1) nothing s inside)
 
   -- it is within the vector
   limit_within : limit_in spans m (length ps) ≤ length ps
@@ -128,7 +128,7 @@ module _ (ps : List ℕ) (spans : List Span) (m v : ℕ) (s new : Span) (packed 
       ])
 
   -- a field in which the new span equals the old is unchanged in all spans
-  kept : (f : Span → ℕ) → f new ≡ f s → (i : ℕ) (d : Span) → f (get_or (set spans m new) i d) ≡ f (get_or spans i d)
+  kept : (f : ListSpan → ℕ) → f new ≡ f s → (i : ℕ) (d : ListSpan) → f (get_or (set spans m new) i d) ≡ f (get_or spans i d)
   kept f same i d = grind (arith, eqb_tells i m, get_or-set_same spans m new d there, here d, get_or-set_other)
 
   -- the lists still follow one another

@@ -4,7 +4,7 @@ ghost use Rattle.std.specs.List.{All};
 ghost use Rattle.causal_audit.specs.Inside.Group.Walk.{ArePlaces, HasBuffers, HasRowsFor, IsWalkState, IsUntouchedBefore};
 
 use crate::group::Places;
-use crate::group::copies::{Copies, clear_copies, no_copies};
+use crate::group::copies::{DetCopies, clear_copies, no_copies};
 use crate::group::reach::{ReachSets, clear};
 use crate::group::walk::GROUP;
 use crate::group::walk_input::{OpenDelivery, WalkInput};
@@ -19,7 +19,7 @@ use std::alloc::Global;
 pub struct WalkBuffers {
     pub reach: ReachSets,
     pub held_places: Vec<Places>,
-    pub copies: Vec<Copies>,
+    pub copies: Vec<DetCopies>,
     pub down: Holders,
 }
 

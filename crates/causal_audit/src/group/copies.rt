@@ -11,16 +11,16 @@ use causal_trace::entry::Entry;
 
 /// The copies of one determinant.
 #[derive(Clone, Copy)]
-pub struct Copies {
+pub struct DetCopies {
     pub holders: Holders,
     pub stable: bool,
 }
 
 /// Returns a value without copies.
-pub fn no_copies() -> Copies
+pub fn no_copies() -> DetCopies
     ensures { result ≡ no_copies }
 {
-    Copies {
+    DetCopies {
         holders: Holders::none(),
         stable: false,
     }
@@ -28,7 +28,7 @@ pub fn no_copies() -> Copies
 
 /// Removes the copies of each determinant.
 #[tactic(auto, using(crate::proofs::Begins::read_same))]
-pub fn clear_copies(copies: &mut Vec<Copies>)
+pub fn clear_copies(copies: &mut Vec<DetCopies>)
     ensures count { length copies.new.items ≡ length copies.old.items }
     ensures none { (j : ℕ) → j < length copies.old.items →
         copies_at copies.new.items j ≡ no_copies }
@@ -37,10 +37,10 @@ pub fn clear_copies(copies: &mut Vec<Copies>)
 }
 
 /// Returns the copies of a determinant after one more entry. `mentioned`: the entry mentions it.
-fn copies_after(copies: Copies, entry: &Entry, mentioned: bool) -> Copies
+fn copies_after(copies: DetCopies, entry: &Entry, mentioned: bool) -> DetCopies
     ensures { AreCopiesAfter entry.now mentioned copies result }
 {
-    Copies {
+    DetCopies {
         holders: holders_after(copies.holders, entry, mentioned),
         stable: stable_after(copies.stable, entry, mentioned),
     }
@@ -61,7 +61,7 @@ pub fn changed_places(entry: &Entry, mentioned: Places, held: Places, all: Place
 
 /// Updates the copies at the places `touched` by one entry, which mentions the determinants of the places `mentioned`.
 /// Takes O(places in `touched`) time.
-pub fn update_copies(copies: &mut Vec<Copies>, entry: &Entry, mentioned: Places, touched: Places)
+pub fn update_copies(copies: &mut Vec<DetCopies>, entry: &Entry, mentioned: Places, touched: Places)
     requires buffers { length copies.old.items ≡ 256 }
     ensures count { length copies.new.items ≡ length copies.old.items }
     ensures others { (j : ℕ) → set.contains touched j ≡ false →

@@ -10,7 +10,7 @@ use std::marker::Model;
 
 /// Where a list begins and ends. Its capacity ends where the next list begins.
 #[derive(Clone, Copy)]
-pub struct Span {
+pub struct ListSpan {
     pub begin: u32,
     pub end: u32,
 }
@@ -20,7 +20,7 @@ pub struct Span {
 #[derive(Drop)]
 pub struct PackedLists {
     positions: Vec<u32>,
-    spans: Vec<Span>,
+    spans: Vec<ListSpan>,
 }
 
 impl Model for PackedLists {
@@ -57,16 +57,16 @@ impl PackedLists {
 #[derive(Drop)]
 pub struct PackedListsBuilder {
     positions: Vec<u32>,
-    spans: Vec<Span>,
+    spans: Vec<ListSpan>,
 }
 
 impl Model for PackedListsBuilder {
     ghost use Rattle.std.specs.Prelude.{◌<◌, ◌^◌, length, map};
-    ghost use Rattle.causal_audit.specs.Inside.Index.Packed.{ListsWithCapacities, ArePacked, capacities_in, list_in};
+    ghost use Rattle.causal_audit.specs.Inside.Index.Packed.{ListsWithCapacities, ArePacked, list_capacities, list_in};
 
     ghost Value = { ListsWithCapacities };
 
-    ghost view = { λ a. record { lists = map (list_in a.positions.items) a.spans.items; capacities = capacities_in (length a.positions.items) a.spans.items } };
+    ghost view = { λ a. record { lists = map (list_in a.positions.items) a.spans.items; capacities = list_capacities (length a.positions.items) a.spans.items } };
 
     ghost invariant = { λ a. ArePacked (length a.positions.items) a.spans.items × (length a.positions.items < 2 ^ 32) };
 }
@@ -88,7 +88,7 @@ impl PackedListsBuilder {
         let mut spans = Vec::with_capacity(alloc, capacities.len())?;
         let mut begin: u32 = 0;
         for capacity in capacities {
-            spans.push(Span { begin, end: begin })?;
+            spans.push(ListSpan { begin, end: begin })?;
             begin += *capacity;
         }
         let positions = vec![in alloc; 0; begin as usize]?;
@@ -101,9 +101,9 @@ impl PackedListsBuilder {
         ensures added { self.new.lists ≡ with_added self.old.lists number position }
         ensures capacities { self.new.capacities ≡ self.old.capacities }
     {
-        let Span { begin, end } = self.spans[number];
+        let ListSpan { begin, end } = self.spans[number];
         self.positions[end as usize] = position;
-        self.spans[number] = Span {
+        self.spans[number] = ListSpan {
             begin,
             end: end + 1,
         };

@@ -22,7 +22,7 @@ use Rattle.causal_log.proofs.Lemmas.KnowledgeGrows.{logged_all, known_all, holds
 use Rattle.causal_log.proofs.Lemmas.Searches.{any_kept, any_logged, passes, kept_if, shown}
 use Rattle.causal_log.proofs.Lemmas.Ascents.{filter_ascends}
 use Rattle.causal_protocol.specs.MemoryQueries.{has_entry, log_knows_holder, log_knows_stable, has_item, item_holder}
-use Rattle.causal_steps.specs.Transit.{Parcel}
+use Rattle.causal_steps.specs.Transit.{TransitParcel}
 use Rattle.causal_node.specs.NodeAcknowledgements.{known_by_item, logged_items, log_with_holders}
 use Rattle.causal_nodes.specs.NodeSteps as theory
 use Rattle.causal_calls.specs.Views.{log_view}
@@ -97,7 +97,7 @@ module _ (log : LogMap) (items : List Item) where
       ∙ no_mark (log_knows_stable d log) (has_entry d log) _ (marks_none d items)
 
   -- the log after an acknowledgement is the theory's
-  pub learned : (t : Parcel) → ((d : Det) (q : ℕ) → t.names_holder d q ≡ item_holder d q items) → log_view (log_with_holders items log) ≡ theory.log_after_acknowledgement t (log_view log)
+  pub learned : (t : TransitParcel) → ((d : Det) (q : ℕ) → t.names_holder d q ≡ item_holder d q items) → log_view (log_with_holders items log) ≡ theory.log_after_acknowledgement t (log_view log)
   learned t names = same_log _ _ learned_has (λ d q. learned_holder d q ∙ ap (λ b. (has_entry d log && b) || log_knows_holder d q log) (sym (names d q))) learned_stable
 
 -- a test of one determinant of a list

@@ -127,7 +127,7 @@ module _ (items : List Item) (own : Det) (log : LogMap) where
       one_stable absorbed own (held_by own.dest) d ∙ no_mark (log_knows_stable d absorbed) (same_det d own) ∙ absorbed_stable items own.source own.dest log d
 
   -- the log after a delivery is the theory's
-  pub delivered : (at : ℕ) → log_view (log_after_delivery items own log) ≡ theory.log_after_delivery own.dest.0 listed (parcel_of own.source.0 (record { to = own.dest; send = at; batch = items })) (log_view log)
+  pub delivered : (at : ℕ) → log_view (log_after_delivery items own log) ≡ theory.node_log_after_delivery own.dest.0 listed (parcel_of own.source.0 (record { to = own.dest; send = at; batch = items })) (log_view log)
   delivered at = same_log _ _ delivered_has delivered_holder delivered_stable
 
 -- a mark

@@ -3,13 +3,13 @@
 use Rattle.std.specs.Prelude.{◌≡◌, ℕ, ◌+◌, ◌<◌, ◌≤◌, Option, Some, None, List, length}
 use Rattle.causal_clock.specs.declared.Event.{Event}
 use Rattle.causal_clock.specs.declared.TheConstants.{EVENTS}
-use Rattle.causal_clock.specs.Timeline.{lane_of, lane_length, place_of}
-use Rattle.causal_clock.specs.Precedence.{Reaches, FirstReach}
+use Rattle.causal_clock.specs.Timeline.{lane_of, lane_length, lane_place}
+use Rattle.causal_clock.specs.Precedence.{Precedes, FirstReach}
 
 -- the last event of the lane, if it has one
 pub record LastOf (es : List Event) (event : Option ℕ) (lane : ℕ) : Type 0 where
-  pub reached : (i : ℕ) → i < length es → lane_of es i ≡ lane → (p : ℕ) × (event ≡ Some p) × Reaches es i p
-  pub inside : (p : ℕ) → event ≡ Some p → (p < length es) × (lane_of es p ≡ lane) × (place_of es p + 1 ≡ lane_length es lane)
+  pub reached : (i : ℕ) → i < length es → lane_of es i ≡ lane → (p : ℕ) × (event ≡ Some p) × Precedes es i p
+  pub inside : (p : ℕ) → event ≡ Some p → (p < length es) × (lane_of es p ≡ lane) × (lane_place es p + 1 ≡ lane_length es lane)
   pub empty : event ≡ None → lane_length es lane ≡ 0
 
 -- the counts of an event, or 0 if there is none
@@ -23,6 +23,6 @@ pub record CountsAreRight (events : List Event) (counts : ℕ → ℕ → ℕ) (
   -- exactly the first `counts j lane` events of a lane reach event j
   pub reach : (j : ℕ) → j < length events → (lane : ℕ) → FirstReach events j lane (counts j lane)
   -- an event is the last event of its lane that reaches it
-  pub own : (j : ℕ) → j < length events → counts j (lane_of events j) ≡ place_of events j + 1
+  pub own : (j : ℕ) → j < length events → counts j (lane_of events j) ≡ lane_place events j + 1
   pub last : (lane : ℕ) → (event : Option ℕ) × LastOf events event lane
   pub lanes : (i : ℕ) → i < length events → lane_of events i < many

@@ -10,8 +10,8 @@ abbrev pub rises_in : LaneColumns → List (List Rise)
 rises_in x = map (λ c. c.items) x.columns.items
 
 -- how many more rises each column has capacity for
-abbrev pub spares_in : LaneColumns → List ℕ
-spares_in x = map (λ c. vec_capacity c - vec_len c) x.columns.items
+abbrev pub spare_rises : LaneColumns → List ℕ
+spare_rises x = map (λ c. vec_capacity c - vec_len c) x.columns.items
 
 abbrev pub AllStrict : LaneColumns → Type 0
 AllStrict x = (source : ℕ) → RisesStrictly (column_in (rises_in x) source)
@@ -24,7 +24,7 @@ SameColumns x y = (source : ℕ) → column_in (rises_in y) source ≡ column_in
 pub record HasReservedRises (x : LaneColumns) (counts : List ℕ) : Type 0 where
   pub wide : length counts ≤ length (rises_in x)
   pub counted : length counts ≤ length x.row.items
-  pub spare : (k : ℕ) → k < length counts → slice_index x.row.items k < slice_index counts k → 0 < slice_index (spares_in x) k
+  pub spare : (k : ℕ) → k < length counts → slice_index x.row.items k < slice_index counts k → 0 < slice_index (spare_rises x) k
 
 -- two lanes differ at most in one column and its last count
 pub record SameButFor (source : ℕ) (x y : LaneColumns) : Type 0 where
@@ -32,7 +32,7 @@ pub record SameButFor (source : ℕ) (x y : LaneColumns) : Type 0 where
   pub long : length (rises_in y) ≡ length (rises_in x)
   pub counted : length y.row.items ≡ length x.row.items
   pub columns : (k : ℕ) → k ≢ source → column_in (rises_in y) k ≡ column_in (rises_in x) k
-  pub spares : (k : ℕ) → k ≢ source → slice_index (spares_in y) k ≡ slice_index (spares_in x) k
+  pub spares : (k : ℕ) → k ≢ source → slice_index (spare_rises y) k ≡ slice_index (spare_rises x) k
   pub counts : (k : ℕ) → k ≢ source → slice_index y.row.items k ≡ slice_index x.row.items k
 
 -- `count` lanes without events

@@ -11,9 +11,9 @@ GivesError (Map fault) defined = defined ≡ Err fault
 GivesError NoMemory defined = Unit {0}
 
 -- the result, seen through `view`, is the defined one, or an allocation failed
-abbrev pub Gives : {X : Type 0} → (X → List ℕ) → Result X PlaceError → Result (List ℕ) MapFault → Type 0
-Gives view (Ok x) defined = defined ≡ Ok (view x)
-Gives view (Err error) defined = GivesError error defined
+abbrev pub ReturnsPlaced : {X : Type 0} → (X → List ℕ) → Result X PlaceError → Result (List ℕ) MapFault → Type 0
+ReturnsPlaced view (Ok x) defined = defined ≡ Ok (view x)
+ReturnsPlaced view (Err error) defined = GivesError error defined
 
 -- the defined list was appended, or the result is the defined error, or an allocation failed
 abbrev pub GivesAfter : List ℕ → List ℕ → Result (Unit {0}) PlaceError → Result (List ℕ) MapFault → Type 0

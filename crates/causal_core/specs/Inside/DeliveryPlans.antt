@@ -8,13 +8,13 @@ use Rattle.causal_memory.specs.declared.delivery_plan.DeliveryPlan.{DeliveryPlan
 use Rattle.causal_memory.specs.DeliveryPlans.{piggyback_of, log_after_plan}
 use Rattle.causal_protocol.specs.Memory.{batch_of}
 use Rattle.causal_protocol.specs.Run.{memories_of}
-use Rattle.causal_protocol.specs.Naming.{own_det, send_of, listed_for}
+use Rattle.causal_protocol.specs.Naming.{next_own_det, send_of, listed_for}
 use Rattle.causal_core.specs.View.{RunDataState}
 use Rattle.causal_core.specs.Inside.Memories.{log_at}
 
 -- the plan of a delivery to q of the named message
 pub record IsDeliveryPlan (d : RunDataState) (q : Pid) (name : MsgName) (g : DeliveryPlan) : Type 0 where
-  pub own : g.own ≡ own_det (memories_of d.run) q name
+  pub own : g.own ≡ next_own_det (memories_of d.run) q name
   pub send : g.send ≡ send_of (memories_of d.run) name
   pub listed : g.listed ≡ listed_for (memories_of d.run) q name
   pub piggyback : piggyback_of g ≡ batch_of (memories_of d.run) name

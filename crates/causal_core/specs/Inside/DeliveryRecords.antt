@@ -62,16 +62,16 @@ abbrev pub delivery_request_of : Pid → DeliveryPlan → Request
 delivery_request_of q g = Requests.Deliver q g.own.source g.own.ssn
 
 -- the entry of the planned delivery to q
-abbrev pub entry_of : Pid → DeliveryPlan → Entry
-entry_of q g = Deliver q g.send g.own.rsn g.listed
+abbrev pub planned_entry : Pid → DeliveryPlan → Entry
+planned_entry q g = Deliver q g.send g.own.rsn g.listed
 
 -- every determinant that the sends carry is of a delivery in the entries, including the planned one
 abbrev pub IsBatchDelivered : List Entry → Pid → DeliveryPlan → Type 0
-IsBatchDelivered past q g = are_delivered (entry_of q g ∷ past) (dets_of (next_batch g)) ≡ true
+IsBatchDelivered past q g = are_delivered (planned_entry q g ∷ past) (dets_of (next_batch g)) ≡ true
 
 -- the recording with the planned delivery to q and its sends
 abbrev pub with_step : Recording → Pid → DeliveryPlan → List Outgoing → Memory → Recording
-with_step r q g sends m = with_sends (with_entry r (entry_of q g)) q sends m
+with_step r q g sends m = with_sends (with_entry r (planned_entry q g)) q sends m
 
 -- q's memory after the planned delivery and its sends
 abbrev pub memory_after_step : Recording → DeliveryPlan → List Outgoing → Memory → Memory

@@ -19,7 +19,7 @@ pub record IsMade (s : Schedule) (word : ℕ) (before after : List Call) (old ne
   pub step : Steps old call.request call.reply new
 
 -- nothing leads on, and no call was made
-pub record IsQuiet (before after : List Call) (old new : Run) : Type 0 where
+pub record IsIdle (before after : List Call) (old new : Run) : Type 0 where
   pub none : moves old ≡ []
   pub calls : after ≡ before
   pub run : new ≡ old
@@ -34,7 +34,7 @@ pub record LacksSpare (s : Schedule) (word : ℕ) (before after : List Call) (ol
 -- what a turn does
 abbrev pub IsTurn : Schedule → ℕ → TurnOutcome → List Call → List Call → Run → Run → Type 0
 IsTurn s word Outcomes.Made before after old new = IsMade s word before after old new
-IsTurn s word Outcomes.Quiet before after old new = IsQuiet before after old new
+IsTurn s word Outcomes.Quiet before after old new = IsIdle before after old new
 IsTurn s word Outcomes.NoSpare before after old new = LacksSpare s word before after old new
 
 -- this many calls were made so far, which lead from one run to the other, and this word chooses next

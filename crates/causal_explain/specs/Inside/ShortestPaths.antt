@@ -13,7 +13,7 @@ pub data HasPath (past : List Entry) (i : ℕ) : ℕ → ℕ → Type 0 where
   onward : {k n : ℕ} (j m : ℕ) → HasPath past i j m → DirectlyPrecedes past j k → n ≡ m + 1 → HasPath past i k n
 
 -- n is the least number of steps that lead from i to k
-pub record IsLeast (past : List Entry) (i k n : ℕ) : Type 0 where
+pub record IsLeastDistance (past : List Entry) (i k n : ℕ) : Type 0 where
   pub comes : HasPath past i k n
   pub least : (m : ℕ) → HasPath past i k m → n ≤ m
 
@@ -31,7 +31,7 @@ closer_event (Some a) (Some b) = if nat_lt b.steps a.steps then Some b else Some
 
 -- the last step of a shortest path from i to k, if it has a step, goes from the event before
 pub record IsPathStep (past : List Entry) (i k : ℕ) (w : PathStep) : Type 0 where
-  pub fewest : IsLeast past i k w.steps
+  pub fewest : IsLeastDistance past i k w.steps
   pub last : (m : ℕ) → w.steps ≡ m + 1 → DirectlyPrecedes past w.previous k × HasPath past i w.previous m
 
 -- the path to k; None if no path exists

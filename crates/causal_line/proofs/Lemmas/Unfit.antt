@@ -9,7 +9,7 @@ use Rattle.causal_name.specs.declared.Pid.{Pid}
 use Rattle.causal_line.specs.declared.kind.TextKind.{TextKind}
 use Rattle.causal_line.specs.declared.kind.TextKind.TheVariants.{Form}
 use Rattle.causal_line.specs.Reading.{◌>>=◌}
-use Rattle.causal_line.specs.ParsedLines.{or_form, array_len, number_below, number_at, u8_at, pid_at, u32_at, u64_at, det_of, dets_of, dets_at, is_array_named}
+use Rattle.causal_line.specs.ParsedLines.{or_form, array_len, number_below, number_at, u8_at, pid_at, u32_at, u64_at, parse_det, parse_dets, dets_at, is_array_named}
 use Rattle.causal_line.specs.Prescan.{levels, count_capped, may_have_items, value_fits, items_fit}
 
 -- if the result is an error, its kind is `Form`
@@ -87,13 +87,13 @@ IsPlainly-cond true r p = p
 IsPlainly-cond false r p = IsPlainly-form
 
 -- a determinant fails only with `Form`
-pub IsPlainly-det : (d : Data) → IsPlainly (det_of d)
-unfolding det_of
+pub IsPlainly-det : (d : Data) → IsPlainly (parse_det d)
+unfolding parse_det
 IsPlainly-det d = IsPlainly-cond (array_len d == 4) _ (IsPlainly-after (pid_at 0 d) _ (IsPlainly-pid 0 d) (λ a. IsPlainly-after (u32_at 1 d) _ (IsPlainly-or_form _) (λ b. IsPlainly-after (pid_at 2 d) _ (IsPlainly-pid 2 d) (λ c. IsPlainly-after (u32_at 3 d) _ (IsPlainly-or_form _) (λ e. IsPlainly-ok _)))))
 
-IsPlainly-list : (ds : Items) → IsPlainly (dets_of ds)
+IsPlainly-list : (ds : Items) → IsPlainly (parse_dets ds)
 IsPlainly-list no_items = IsPlainly-ok []
-IsPlainly-list (item d ds) = IsPlainly-after (det_of d) _ (IsPlainly-det d) (λ det. IsPlainly-after (dets_of ds) _ (IsPlainly-list ds) (λ dets. IsPlainly-ok _))
+IsPlainly-list (item d ds) = IsPlainly-after (parse_det d) _ (IsPlainly-det d) (λ det. IsPlainly-after (parse_dets ds) _ (IsPlainly-list ds) (λ dets. IsPlainly-ok _))
 
 -- a list of determinants fails only with `Form`
 pub IsPlainly-dets : (i : ℕ) (d : Data) → IsPlainly (dets_at i d)
@@ -144,8 +144,8 @@ far : (n k : ℕ) → k < n → (n == k) ≡ false
 far n k less = ne_eqb n k (λ e. omega (arith, less, e))
 
 -- a determinant, or a list of determinants, with a part that does not fit
-pub det_bad : (left : ℕ) (d : Data) → may_have_items left 4 ≡ true → value_fits left d ≡ false → det_of d ≡ Err Form
-unfolding det_of
+pub det_bad : (left : ℕ) (d : Data) → may_have_items left 4 ≡ true → value_fits left d ≡ false → parse_det d ≡ Err Form
+unfolding parse_det
 det_bad left Data.null m h = refl
 det_bad left (Data.boolean b) m h = refl
 det_bad left (number n) m h = refl
@@ -163,12 +163,12 @@ det_bad left (array (item a (item b (item c (item e no_items))))) m h =
     chain (pid_at 2 d) _ (IsPlainly-pid 2 d) (or_else (value_fits (left - 1) c) _ h3 (pid_bad (left - 1) 2 d c refl) (λ h4 dest.
     stops (u32_at 3 d) _ (number_bad (2 ^ 32) (left - 1) 3 d e refl (last_false (value_fits (left - 1) e) _ m h4))))))))
 
-list_bad : (n : ℕ) (ds : Items) → items_fit 2 n ds ≡ false → dets_of ds ≡ Err Form
+list_bad : (n : ℕ) (ds : Items) → items_fit 2 n ds ≡ false → parse_dets ds ≡ Err Form
 list_bad n no_items h = absurd (let no : true ≡ false = h in cc)
 list_bad n (item d ds) h =
-    chain (det_of d) _ (IsPlainly-det d) (or_else (value_fits 1 d) _ h (det_bad 1 d refl) (λ more det. stops (dets_of ds) _ (list_bad (count_capped n) ds more)))
+    chain (parse_det d) _ (IsPlainly-det d) (or_else (value_fits 1 d) _ h (det_bad 1 d refl) (λ more det. stops (parse_dets ds) _ (list_bad (count_capped n) ds more)))
 
-field_bad : (x : Data) → value_fits 2 x ≡ false → (or_form (as_array x) >>= dets_of) ≡ Err Form
+field_bad : (x : Data) → value_fits 2 x ≡ false → (or_form (as_array x) >>= parse_dets) ≡ Err Form
 field_bad Data.null h = refl
 field_bad (Data.boolean b) h = refl
 field_bad (number n) h = refl
@@ -179,7 +179,7 @@ field_bad (object ms) h = refl
 -- a value that does not fit is refused as a list of determinants
 pub dets_bad : (i : ℕ) (d x : Data) → at i d ≡ Some x → value_fits 2 x ≡ false → dets_at i d ≡ Err Form
 unfolding dets_at
-dets_bad i d x is h = ap (λ o. or_form (option_and_then as_array o) >>= dets_of) is ∙ field_bad x h
+dets_bad i d x is h = ap (λ o. or_form (option_and_then as_array o) >>= parse_dets) is ∙ field_bad x h
 
 -- ---- lines by their length
 

@@ -2,18 +2,18 @@
 ghost use Rattle.std.specs.Prelude.{◌≡◌};
 ghost use Rattle.serde_json.specs.View.{view};
 ghost use Rattle.causal_line.specs.Returns.{Returns};
-ghost use Rattle.causal_line.specs.ParsedLines.{header_of, send_of, deliver_of, stable_of, end_of, parse_value};
+ghost use Rattle.causal_line.specs.ParsedLines.{parse_header, parse_send, parse_deliver, parse_stable, end_of, parse_value};
 
-use crate::fields::{det_of, dets_at, is_array_named, pid_at, u32_at};
+use crate::fields::{dets_at, is_array_named, parse_det, pid_at, u32_at};
 use crate::kind::TextKind;
 use crate::parsed_line::ParsedLine;
 use causal_trace::entry::Entry;
 use serde_json::Value;
 use std::alloc::Global;
 
-#[tactic(auto, unfolding(crate::specs::ParsedLines::header_of))]
-fn header_of(value: &Value) -> Result<ParsedLine, TextKind>
-    ensures { result ≡ header_of (view value.now) }
+#[tactic(auto, unfolding(crate::specs::ParsedLines::parse_header))]
+fn parse_header(value: &Value) -> Result<ParsedLine, TextKind>
+    ensures { result ≡ parse_header (view value.now) }
 {
     Ok(ParsedLine::Header {
         version: u32_at(value, 1)?,
@@ -21,9 +21,9 @@ fn header_of(value: &Value) -> Result<ParsedLine, TextKind>
     })
 }
 
-#[tactic(auto, unfolding(crate::specs::ParsedLines::send_of))]
-fn send_of(value: &Value) -> Result<ParsedLine, TextKind>
-    ensures { result ≡ send_of (view value.now) }
+#[tactic(auto, unfolding(crate::specs::ParsedLines::parse_send))]
+fn parse_send(value: &Value) -> Result<ParsedLine, TextKind>
+    ensures { result ≡ parse_send (view value.now) }
 {
     let entry = Entry::Send {
         from: pid_at(value, 1)?,
@@ -33,9 +33,9 @@ fn send_of(value: &Value) -> Result<ParsedLine, TextKind>
     Ok(ParsedLine::Entry { entry })
 }
 
-#[tactic(auto, unfolding(crate::specs::ParsedLines::deliver_of))]
-fn deliver_of(alloc: Global, value: &Value) -> Result<ParsedLine, TextKind>
-    ensures { Returns result (deliver_of (view value.now)) }
+#[tactic(auto, unfolding(crate::specs::ParsedLines::parse_deliver))]
+fn parse_deliver(alloc: Global, value: &Value) -> Result<ParsedLine, TextKind>
+    ensures { Returns result (parse_deliver (view value.now)) }
 {
     let entry = Entry::Deliver {
         to: pid_at(value, 1)?,
@@ -46,12 +46,12 @@ fn deliver_of(alloc: Global, value: &Value) -> Result<ParsedLine, TextKind>
     Ok(ParsedLine::Entry { entry })
 }
 
-#[tactic(auto, unfolding(crate::specs::ParsedLines::stable_of))]
-fn stable_of(value: &Value) -> Result<ParsedLine, TextKind>
-    ensures { result ≡ stable_of (view value.now) }
+#[tactic(auto, unfolding(crate::specs::ParsedLines::parse_stable))]
+fn parse_stable(value: &Value) -> Result<ParsedLine, TextKind>
+    ensures { result ≡ parse_stable (view value.now) }
 {
     let named = value.get(1).ok_or(TextKind::Form)?;
-    let det = det_of(named)?;
+    let det = parse_det(named)?;
     Ok(ParsedLine::Entry {
         entry: Entry::Stable { det },
     })
@@ -67,18 +67,18 @@ fn end_of(value: &Value) -> Result<ParsedLine, TextKind>
 }
 
 /// Parses the JSON value of a line.
-#[tactic(auto, unfolding(crate::specs::ParsedLines::parse_value, crate::specs::ParsedLines::crash_of, crate::specs::ParsedLines::restart_of, crate::specs::ParsedLines::forget_of))]
+#[tactic(auto, unfolding(crate::specs::ParsedLines::parse_value, crate::specs::ParsedLines::parse_crash, crate::specs::ParsedLines::parse_restart, crate::specs::ParsedLines::parse_forget))]
 pub(crate) fn parse_value(alloc: Global, value: &Value) -> Result<ParsedLine, TextKind>
     ensures { Returns result (parse_value (view value.now)) }
 {
     if is_array_named(value, "trace", 3) {
-        header_of(value)
+        parse_header(value)
     } else if is_array_named(value, "send", 4) {
-        send_of(value)
+        parse_send(value)
     } else if is_array_named(value, "deliver", 5) {
-        deliver_of(alloc, value)
+        parse_deliver(alloc, value)
     } else if is_array_named(value, "stable", 2) {
-        stable_of(value)
+        parse_stable(value)
     } else if is_array_named(value, "crash", 2) {
         let who = pid_at(value, 1)?;
         Ok(ParsedLine::Entry {

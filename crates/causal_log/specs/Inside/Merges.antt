@@ -9,17 +9,17 @@ use Rattle.causal_name.specs.declared.Det.{Det}
 use Rattle.causal_name.specs.declared.Pid.{Pid}
 use Rattle.causal_name.specs.Names.{same_det, is_ascending, is_before}
 use Rattle.causal_log.specs.declared.batch.Item.{Item}
-use Rattle.causal_log.specs.declared.next_batch_merge.Delivery.{Delivery}
+use Rattle.causal_log.specs.declared.next_batch_merge.AppliedDelivery.{AppliedDelivery}
 use Rattle.causal_log.specs.Logs.{LogMap, log_of, after_absorb, after_delivery, batch_items, dets_of}
 
 -- the log before a delivery, after its items, and after its own determinant
-abbrev pub log_before : Delivery → LogMap
+abbrev pub log_before : AppliedDelivery → LogMap
 log_before d = log_of d.entries.now.entries
 
-abbrev pub log_after_items : Delivery → LogMap
+abbrev pub log_after_items : AppliedDelivery → LogMap
 log_after_items d = after_absorb d.items.now d.from d.me (log_before d)
 
-abbrev pub log_after : Delivery → LogMap
+abbrev pub log_after : AppliedDelivery → LogMap
 log_after d = after_delivery d.items.now d.own d.from d.me (log_before d)
 
 -- whether the log knows each of these processes as a holder of a determinant

@@ -3,7 +3,7 @@ use Rattle.std.proofs.Common.{◌≡◌, ℕ, List, [], ◌++◌, reverse, Resul
 use Rattle.std.proofs.lemmas.List.{reverse-append}
 use Rattle.causal_merge.specs.declared.fault.MergeFault.{MergeFault}
 use Rattle.causal_merge.specs.Reading.{read_all_lines}
-use Rattle.causal_merge.specs.ParsedFiles.{IsFaultOf}
+use Rattle.causal_merge.specs.ParsedFiles.{IsFaultOfLines}
 use Rattle.causal_merge.specs.RecordingReaders.{RecordingReaderState, HasReadLines, IsReadBy}
 use Rattle.causal_merge.proofs.Prefixes.{reading-after}
 
@@ -13,7 +13,7 @@ reverse_both front last before = ap (λ xs. xs ++ before) (reverse-append front 
 -- the lines in front, and then the last ones
 pub read_both : (first second : RecordingReaderState) (front last : List (List ℕ)) (r : Result RecordingReaderState MergeFault) → IsReadBy first front (Ok second) → IsReadBy second last r → IsReadBy first (front ++ last) r
 read_both first second front last (Ok next) before then = λ most b h. subst (λ xs. HasReadLines most next xs) (sym (reverse_both front last b)) (then most (reverse front ++ b) (before most b h))
-read_both first second front last (Err fault) before then = λ most b h. subst (λ xs. IsFaultOf most fault xs) (sym (reverse_both front last b)) (then most (reverse front ++ b) (before most b h))
+read_both first second front last (Err fault) before then = λ most b h. subst (λ xs. IsFaultOfLines most fault xs) (sym (reverse_both front last b)) (then most (reverse front ++ b) (before most b h))
 
 -- the lines in front have an error
 pub read_refused : (first : RecordingReaderState) (front last : List (List ℕ)) (fault : MergeFault) → IsReadBy first front (Err fault) → IsReadBy first (front ++ last) (Err fault)
@@ -29,5 +29,5 @@ pub read_whole : (most : ℕ) (first next : RecordingReaderState) (more : List (
 read_whole most first next more h read = subst (λ xs. HasReadLines most next xs) (append-nil (reverse more)) (read most [] h)
 
 -- a line of a whole text has an error
-pub whole_refused : (most : ℕ) (first : RecordingReaderState) (more : List (List ℕ)) (fault : MergeFault) → HasReadLines most first [] → IsReadBy first more (Err fault) → IsFaultOf most fault (reverse more)
-whole_refused most first more fault h read = subst (λ xs. IsFaultOf most fault xs) (append-nil (reverse more)) (read most [] h)
+pub whole_refused : (most : ℕ) (first : RecordingReaderState) (more : List (List ℕ)) (fault : MergeFault) → HasReadLines most first [] → IsReadBy first more (Err fault) → IsFaultOfLines most fault (reverse more)
+whole_refused most first more fault h read = subst (λ xs. IsFaultOfLines most fault xs) (append-nil (reverse more)) (read most [] h)

@@ -27,5 +27,5 @@ pub record HasMerged (most : ℕ) (m : Merger) (before : List EventAtLine) : Typ
   pub last : m.last ≡ newest before
 
 -- the error is that of these events, unless it is `NoMemory`
-abbrev pub IsFaultOf : ℕ → ℕ → MergeFault → List EventAtLine → Type 0
-IsFaultOf most n fault before = fault.kind ≢ kind.Line NoMemory → merge_events_of most n before ≡ Err fault
+abbrev pub IsFaultOfEvents : ℕ → ℕ → MergeFault → List EventAtLine → Type 0
+IsFaultOfEvents most n fault before = fault.kind ≢ kind.Line NoMemory → merge_events_of most n before ≡ Err fault

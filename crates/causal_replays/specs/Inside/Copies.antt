@@ -6,7 +6,7 @@ use Rattle.causal_trace.specs.declared.entry.Entry.TheVariants.{Deliver, Stable,
 use Rattle.std.specs.Option.{IsSome}
 use Rattle.causal_trace.specs.Past.{logs, is_stable, deliveries_in, listed_by}
 use Rattle.causal_trace.specs.Numbers.{delivered_dets, number_of}
-use Rattle.causal_replays.specs.declared.copies.Copies.{Copies}
+use Rattle.causal_replays.specs.declared.copies.CopyTable.{CopyTable}
 use Rattle.causal_replays.specs.Inside.Holdings.{holds, AreLogged}
 
 -- the number of a determinant: that of the newest delivery with it in the whole run
@@ -22,25 +22,25 @@ abbrev pub is_stored : List Bool → ℕ → Bool
 is_stored stable i = slice_index_or stable i false
 
 -- there are a set of holders and a mark for each number, and a log for each process
-pub record AreSized (count : ℕ) (c : Copies) : Type 0 where
+pub record AreSized (count : ℕ) (c : CopyTable) : Type 0 where
   pub holders : vec_len c.holders ≡ count
   pub stable : vec_len c.stable ≡ count
   pub logs : vec_len c.logs ≡ 256
   pub logged : AreLogged c.holders.items c.logs.items
 
 -- the copies are those of this state, by the numbers of a run
-pub record AreCopies (whole past : List Entry) (c : Copies) : Type 0 where
+pub record IsCopyTable (whole past : List Entry) (c : CopyTable) : Type 0 where
   pub held : (d : Det) (i p : ℕ) → number_in whole d ≡ Some i → holds c.holders.items i p ≡ logs past p d
   pub stored : (d : Det) (i : ℕ) → number_in whole d ≡ Some i → is_stored c.stable.items i ≡ is_stable past d
 
 -- the determinant with number i is stable, or some process holds it
-abbrev pub HasCopy : Copies → ℕ → Type 0
+abbrev pub HasCopy : CopyTable → ℕ → Type 0
 HasCopy c i = (is_stored c.stable.items i ≡ true) ⊎ ((p : ℕ) × (holds c.holders.items i p ≡ true))
 
 -- the determinants that an entry lists or writes to stable storage
-abbrev pub named_by : Entry → List Det
-named_by (Stable det) = det ∷ []
-named_by e = listed_by e
+abbrev pub mentioned_dets : Entry → List Det
+mentioned_dets (Stable det) = det ∷ []
+mentioned_dets e = listed_by e
 
 -- the determinants of which an entry makes copies
 abbrev pub copied_by : Entry → List Det

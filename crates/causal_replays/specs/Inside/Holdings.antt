@@ -13,8 +13,8 @@ abbrev pub lists_in : {A : Type 0} → List (Vec A) → List (List A)
 lists_in lists = map (λ list. list.items) lists
 
 -- the numbers that a process has logged
-abbrev pub log_of : List (Vec ℕ) → ℕ → List ℕ
-log_of logs p = slice_index_or (lists_in logs) p []
+abbrev pub logged_numbers : List (Vec ℕ) → ℕ → List ℕ
+logged_numbers logs p = slice_index_or (lists_in logs) p []
 
 -- the list contains number i
 abbrev pub IsIn : List ℕ → ℕ → Type 0
@@ -22,5 +22,5 @@ IsIn list i = (k : ℕ) × (k < length list) × (slice_index list k ≡ i)
 
 -- the list of each process contains each number that the process holds, and no number without holders' place
 pub record AreLogged (holders : List (FinSet nat_cmp)) (logs : List (Vec ℕ)) : Type 0 where
-  pub logged : (i p : ℕ) → holds holders i p ≡ true → IsIn (log_of logs p) i
-  pub below : (p k : ℕ) → k < length (log_of logs p) → slice_index (log_of logs p) k < length holders
+  pub logged : (i p : ℕ) → holds holders i p ≡ true → IsIn (logged_numbers logs p) i
+  pub below : (p k : ℕ) → k < length (logged_numbers logs p) → slice_index (logged_numbers logs p) k < length holders

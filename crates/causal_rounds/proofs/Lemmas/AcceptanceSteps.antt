@@ -3,34 +3,34 @@ use Rattle.std.proofs.Common.{ℕ, ◌≡◌, ◌≤◌, ◌+◌, inl, inr, Bool
 use Rattle.std.specs.Prelude.{◌==◌}
 use Rattle.std.proofs.lemmas.Bool.{both_ways, eq-eqb, cond-true, cond-false}
 use Rattle.std.proofs.lemmas.Bool.Decides.{eqb_tells}
-use Rattle.causal_rounds.specs.Rounds.{set_at, Round, RoundState, number, new_round, with_reply, crash, begin, give_up, answer, refuse, not_up, restart, RoundInvariant}
-use Rattle.causal_rounds.specs.Gathered.{Carrier, DetState, IsOpen, DetInvariant, IsInTransitAfter, to_up, to_new, from_up, to_round}
+use Rattle.causal_rounds.specs.Rounds.{with_value_at, Round, RecoveryState, number, new_round, with_reply, crash, begin, give_up, answer, refuse, not_up, restart, RoundInvariant}
+use Rattle.causal_rounds.specs.Gathered.{Carrier, DetState, MayComplete, DetInvariant, IsInTransitAfter, to_up, to_new, from_up, to_round}
 use Rattle.causal_rounds.specs.Acceptance.{IsAcceptable, by_floor, by_sender, by_round, AcceptanceNeedsSending, RestartsMissNothing}
 use Rattle.causal_rounds.proofs.Lemmas.RoundSteps.{set_at_cases, some_is, none_some}
 use Rattle.causal_rounds.proofs.Lemmas.GatheredSteps.{restarts_gather_all}
 
-here : {X : Type 0} (f : ℕ → X) (p : ℕ) (x : X) → set_at f p x p ≡ x
+here : {X : Type 0} (f : ℕ → X) (p : ℕ) (x : X) → with_value_at f p x p ≡ x
 here f p x = cond-true (p == p) x (f p) (eq-eqb p p refl)
 
-away : {X : Type 0} (f : ℕ → X) (p : ℕ) (x : X) (q : ℕ) → (q ≡ p → ⊥) → set_at f p x q ≡ f q
+away : {X : Type 0} (f : ℕ → X) (p : ℕ) (x : X) (q : ℕ) → (q ≡ p → ⊥) → with_value_at f p x q ≡ f q
 away f p x q other = elim (set_at_cases f p x q) [ inl is ↦ absurd (other is.0) | inr fact ↦ fact.1 ]
 
-up_number : (w : RoundState) (q : ℕ) → w.down q ≡ false → number w q ≡ w.lane q
+up_number : (w : RecoveryState) (q : ℕ) → w.down q ≡ false → number w q ≡ w.lane q
 up_number w q up = cond-false (w.down q) (w.lane q + 1) (w.lane q) up
 
-down_number : (w : RoundState) (q : ℕ) → w.down q ≡ true → number w q ≡ w.lane q + 1
+down_number : (w : RecoveryState) (q : ℕ) → w.down q ≡ true → number w q ≡ w.lane q + 1
 down_number w q down = cond-true (w.down q) (w.lane q + 1) (w.lane q) down
 
-module _ (w : RoundState) (h : RoundInvariant w) (t : Carrier) (low : t.lane ≤ w.lane t.from) where
+module _ (w : RecoveryState) (h : RoundInvariant w) (t : Carrier) (low : t.lane ≤ w.lane t.from) where
   -- p goes down
   module _ (p : ℕ) (up : w.down p ≡ false) where
-    abbrev fallen : RoundState
-    fallen = record { lane = w.lane; down = set_at w.down p true; floors = w.floors; rounds = w.rounds }
+    abbrev fallen : RecoveryState
+    fallen = record { lane = w.lane; down = with_value_at w.down p true; floors = w.floors; rounds = w.rounds }
 
-    was_up : (q : ℕ) → set_at w.down p true q ≡ false → w.down q ≡ false
-    was_up q is = elim (set_at_cases w.down p true q) [ inl me ↦ absurd (both_ways (set_at w.down p true q) is me.1) | inr other ↦ sym other.1 ∙ is ]
+    was_up : (q : ℕ) → with_value_at w.down p true q ≡ false → w.down q ≡ false
+    was_up q is = elim (set_at_cases w.down p true q) [ inl me ↦ absurd (both_ways (with_value_at w.down p true q) is me.1) | inr other ↦ sym other.1 ∙ is ]
 
-    had_replied : (s : ℕ) (r : Round) → w.rounds s ≡ Some r → IsOpen fallen s r → r.replied p ≡ true
+    had_replied : (s : ℕ) (r : Round) → w.rounds s ≡ Some r → MayComplete fallen s r → r.replied p ≡ true
     had_replied s r at fitting = by (r.replied p) refl
       where
         by : (b : Bool) → r.replied p ≡ b → r.replied p ≡ true
@@ -43,7 +43,7 @@ module _ (w : RoundState) (h : RoundInvariant w) (t : Carrier) (low : t.lane ≤
             let seen = h.views_told s p r at in
             absurd (omega (arith, fits, now, then, seen))
 
-    was_open : (s : ℕ) (r : Round) → w.rounds s ≡ Some r → IsOpen fallen s r → IsOpen w s r
+    was_open : (s : ℕ) (r : Round) → w.rounds s ≡ Some r → MayComplete fallen s r → MayComplete w s r
     was_open s r at fitting q other no_reply =
         let not_p : q ≡ p → ⊥ = λ is. both_ways (r.replied q) no_reply (subst (λ x. r.replied x ≡ true) (sym is) (had_replied s r at fitting)) in
         sym (ap (λ (b : Bool). cond b (w.lane q + 1) (w.lane q)) (away w.down p true q not_p)) ∙ fitting q other no_reply
@@ -58,7 +58,7 @@ module _ (w : RoundState) (h : RoundInvariant w) (t : Carrier) (low : t.lane ≤
     before_crash (by_round o down at fitting replied_q view) = by_round o (h.gathering_are_down t.to o at) at (was_open t.to o at fitting) replied_q view
 
   before_begin : (s : ℕ) (view : ℕ → ℕ) (absent : ℕ → Bool) → ((q : ℕ) → absent q ≡ true → (w.down q ≡ true) × (w.rounds q ≡ None) × (view q ≡ w.lane q + 1))
-      → IsAcceptable (record { lane = w.lane; down = w.down; floors = w.floors; rounds = set_at w.rounds s (Some (new_round view absent)) }) t → IsAcceptable w t
+      → IsAcceptable (record { lane = w.lane; down = w.down; floors = w.floors; rounds = with_value_at w.rounds s (Some (new_round view absent)) }) t → IsAcceptable w t
   before_begin s view absent gone (by_floor up floor) = by_floor up floor
   before_begin s view absent gone (by_sender down up lane) = by_sender down up lane
   before_begin s view absent gone (by_round o down at fitting replied_q above) = elim (set_at_cases w.rounds s (Some (new_round view absent)) t.to) [
@@ -70,7 +70,7 @@ module _ (w : RoundState) (h : RoundInvariant w) (t : Carrier) (low : t.lane ≤
     | inr other ↦ by_round o down (sym other.1 ∙ at) fitting replied_q above
   ]
 
-  before_end : (s : ℕ) → IsAcceptable (record { lane = w.lane; down = w.down; floors = w.floors; rounds = set_at w.rounds s None }) t → IsAcceptable w t
+  before_end : (s : ℕ) → IsAcceptable (record { lane = w.lane; down = w.down; floors = w.floors; rounds = with_value_at w.rounds s None }) t → IsAcceptable w t
   before_end s (by_floor up floor) = by_floor up floor
   before_end s (by_sender down up lane) = by_sender down up lane
   before_end s (by_round o down at fitting replied_q above) = elim (set_at_cases w.rounds s None t.to) [
@@ -83,17 +83,17 @@ module _ (w : RoundState) (h : RoundInvariant w) (t : Carrier) (low : t.lane ≤
     abbrev told : Round
     told = with_reply r y up
 
-    open_before : IsOpen w s told → IsOpen w s r
+    open_before : MayComplete w s told → MayComplete w s r
     open_before fitting q other no_reply = elim (set_at_cases r.replied y true q) [
       | inl is ↦ subst (λ x. number w x ≡ r.view x) (sym is.0) fits
       | inr fact ↦ fitting q other (fact.1 ∙ no_reply)
     ]
 
     -- to s, from a process that had replied, or from this one
-    to_asker : t.to ≡ s → w.down t.to ≡ true → IsOpen w s told → told.replied t.from ≡ true → r.view t.from ≤ t.lane → IsAcceptable w t
+    to_asker : t.to ≡ s → w.down t.to ≡ true → MayComplete w s told → told.replied t.from ≡ true → r.view t.from ≤ t.lane → IsAcceptable w t
     to_asker is down fitting replied_q above = elim (set_at_cases r.replied y true t.from) [
       | inl me ↦ by (w.down t.from) refl me.0
-      | inr old ↦ by_round r down (ap w.rounds is ∙ at) (subst (λ x. IsOpen w x r) (sym is) (open_before fitting)) (sym old.1 ∙ replied_q) above
+      | inr old ↦ by_round r down (ap w.rounds is ∙ at) (subst (λ x. MayComplete w x r) (sym is) (open_before fitting)) (sym old.1 ∙ replied_q) above
     ]
       where
         by : (b : Bool) → w.down t.from ≡ b → t.from ≡ y → IsAcceptable w t
@@ -106,11 +106,11 @@ module _ (w : RoundState) (h : RoundInvariant w) (t : Carrier) (low : t.lane ≤
             let number_here : number w t.from ≡ r.view t.from = subst (λ x. number w x ≡ r.view x) (sym me) fits in
             absurd (omega (arith, count, number_here, above, low))
 
-    as_round : (p : ℕ) (o : Round) → p ≡ s → told ≡ o → IsOpen w p o → IsOpen w s told
-    as_round p o is same fitting = subst (λ (x : Round). IsOpen w s x) (sym same) (subst (λ x. IsOpen w x o) is fitting)
+    as_round : (p : ℕ) (o : Round) → p ≡ s → told ≡ o → MayComplete w p o → MayComplete w s told
+    as_round p o is same fitting = subst (λ (x : Round). MayComplete w s x) (sym same) (subst (λ x. MayComplete w x o) is fitting)
 
   before_answer : (y s : ℕ) (r : Round) (floors : ℕ → ℕ) → w.down y ≡ false → w.rounds s ≡ Some r → r.view y ≡ w.lane y → ((z : ℕ) → w.floors y z ≤ floors z)
-      → IsAcceptable (record { lane = w.lane; down = w.down; floors = set_at w.floors y floors; rounds = set_at w.rounds s (Some (with_reply r y true)) }) t → IsAcceptable w t
+      → IsAcceptable (record { lane = w.lane; down = w.down; floors = with_value_at w.floors y floors; rounds = with_value_at w.rounds s (Some (with_reply r y true)) }) t → IsAcceptable w t
   before_answer y s r floors up at fits rise (by_floor is_up floor) = elim (set_at_cases w.floors y floors t.to) [
     | inl is ↦
         let above : floors t.from ≤ t.lane = subst (λ g. g t.from ≤ t.lane) is.1 floor in
@@ -127,10 +127,10 @@ module _ (w : RoundState) (h : RoundInvariant w) (t : Carrier) (low : t.lane ≤
   ]
 
   before_not_up : (y s : ℕ) (r : Round) → w.down y ≡ true → w.rounds s ≡ Some r → r.view y ≡ w.lane y + 1
-      → IsAcceptable (record { lane = w.lane; down = w.down; floors = w.floors; rounds = set_at (set_at w.rounds s (Some (with_reply r y false))) y None }) t → IsAcceptable w t
+      → IsAcceptable (record { lane = w.lane; down = w.down; floors = w.floors; rounds = with_value_at (with_value_at w.rounds s (Some (with_reply r y false))) y None }) t → IsAcceptable w t
   before_not_up y s r is_down at fits (by_floor is_up floor) = by_floor is_up floor
   before_not_up y s r is_down at fits (by_sender down is_up lane) = by_sender down is_up lane
-  before_not_up y s r is_down at fits (by_round o down there fitting replied_q above) = elim (set_at_cases (set_at w.rounds s (Some (with_reply r y false))) y None t.to) [
+  before_not_up y s r is_down at fits (by_round o down there fitting replied_q above) = elim (set_at_cases (with_value_at w.rounds s (Some (with_reply r y false))) y None t.to) [
     | inl is ↦ absurd (none_some o (sym is.1 ∙ there))
     | inr not_y ↦ elim (set_at_cases w.rounds s (Some (with_reply r y false)) t.to) [
       | inl is ↦
@@ -142,8 +142,8 @@ module _ (w : RoundState) (h : RoundInvariant w) (t : Carrier) (low : t.lane ≤
 
   -- s comes up
   module _ (s : ℕ) (r : Round) (at : w.rounds s ≡ Some r) (all : (q : ℕ) → (q ≡ s → ⊥) → r.replied q ≡ true) where
-    abbrev risen : RoundState
-    risen = record { lane = set_at w.lane s (w.lane s + 1); down = set_at w.down s false; floors = set_at w.floors s r.view; rounds = set_at w.rounds s None }
+    abbrev risen : RecoveryState
+    risen = record { lane = with_value_at w.lane s (w.lane s + 1); down = with_value_at w.down s false; floors = with_value_at w.floors s r.view; rounds = with_value_at w.rounds s None }
 
     down_s : w.down s ≡ true
     down_s = h.gathering_are_down s r at
@@ -155,14 +155,14 @@ module _ (w : RoundState) (h : RoundInvariant w) (t : Carrier) (low : t.lane ≤
     ]
 
     -- nothing was sent by the new lane of s
-    not_new : t.from ≡ s → t.lane ≡ set_at w.lane s (w.lane s + 1) t.from → ⊥
+    not_new : t.from ≡ s → t.lane ≡ with_value_at w.lane s (w.lane s + 1) t.from → ⊥
     not_new is lane =
-        let new : t.lane ≡ w.lane s + 1 = lane ∙ ap (set_at w.lane s (w.lane s + 1)) is ∙ here w.lane s (w.lane s + 1) in
+        let new : t.lane ≡ w.lane s + 1 = lane ∙ ap (with_value_at w.lane s (w.lane s + 1)) is ∙ here w.lane s (w.lane s + 1) in
         let old : t.lane ≤ w.lane s = subst (λ x. t.lane ≤ w.lane x) is low in
         omega (arith, new, old)
 
-    still_down : (q : ℕ) → set_at w.down s false q ≡ true → (q ≡ s → ⊥) × (w.down q ≡ true)
-    still_down q is = elim (set_at_cases w.down s false q) [ inl me ↦ absurd (both_ways (set_at w.down s false q) me.1 is) | inr other ↦ (other.0, sym other.1 ∙ is) ]
+    still_down : (q : ℕ) → with_value_at w.down s false q ≡ true → (q ≡ s → ⊥) × (w.down q ≡ true)
+    still_down q is = elim (set_at_cases w.down s false q) [ inl me ↦ absurd (both_ways (with_value_at w.down s false q) me.1 is) | inr other ↦ (other.0, sym other.1 ∙ is) ]
 
     -- what the new lane of s does not refuse comes from a process that has replied
     in_view : r.view t.from ≤ t.lane → r.replied t.from ≡ true
@@ -188,12 +188,12 @@ module _ (w : RoundState) (h : RoundInvariant w) (t : Carrier) (low : t.lane ≤
         let old = still_down t.to down in
         by_round o old.1 (sym (away w.rounds s None t.to old.0) ∙ there) (λ q other no_reply. sym (number_same q) ∙ fitting q other no_reply) replied_q above
 
-before_refuse : (w : RoundState) (t : Carrier) (y : ℕ) (floors : ℕ → ℕ) → ((z : ℕ) → w.floors y z ≤ floors z) → IsAcceptable (record { lane = w.lane; down = w.down; floors = set_at w.floors y floors; rounds = w.rounds }) t → IsAcceptable w t
+before_refuse : (w : RecoveryState) (t : Carrier) (y : ℕ) (floors : ℕ → ℕ) → ((z : ℕ) → w.floors y z ≤ floors z) → IsAcceptable (record { lane = w.lane; down = w.down; floors = with_value_at w.floors y floors; rounds = w.rounds }) t → IsAcceptable w t
 before_refuse w t y floors rise (by_floor up floor) = by_floor up (elim (set_at_cases w.floors y floors t.to) [
   | inl is ↦
       let more = rise t.from in
       let here : w.floors t.to t.from ≡ w.floors y t.from = ap (λ x. w.floors x t.from) is.0 in
-      let new : set_at w.floors y floors t.to t.from ≡ floors t.from = ap (λ (g : ℕ → ℕ). g t.from) is.1 in
+      let new : with_value_at w.floors y floors t.to t.from ≡ floors t.from = ap (λ (g : ℕ → ℕ). g t.from) is.1 in
       omega (arith, floor, more, here, new)
   | inr other ↦ subst (λ g. g t.from ≤ t.lane) other.1 floor
 ])
@@ -211,8 +211,8 @@ acceptance_needs_sending w x (restart s r at all) h t low there = before_restart
 
 -- what is acceptable after a restart is in transit
 module _ (a : DetState) (s : ℕ) (r : Round) (h : RoundInvariant a.state) (k : DetInvariant a) (at : a.state.rounds s ≡ Some r) (all : (q : ℕ) → (q ≡ s → ⊥) → r.replied q ≡ true) where
-  abbrev after : RoundState
-  after = record { lane = set_at a.state.lane s (a.state.lane s + 1); down = set_at a.state.down s false; floors = set_at a.state.floors s r.view; rounds = set_at a.state.rounds s None }
+  abbrev after : RecoveryState
+  after = record { lane = with_value_at a.state.lane s (a.state.lane s + 1); down = with_value_at a.state.down s false; floors = with_value_at a.state.floors s r.view; rounds = with_value_at a.state.rounds s None }
 
   in_transit : (i : ℕ) (t : Carrier) → a.carriers i ≡ Some t → IsAcceptable after t → IsInTransitAfter a s r t
   in_transit i t there (by_floor is_up floor) = elim (set_at_cases a.state.floors s r.view t.to) [

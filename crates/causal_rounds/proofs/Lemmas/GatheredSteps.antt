@@ -3,25 +3,25 @@ use Rattle.std.proofs.Common.{ℕ, ◌≡◌, ◌≤◌, ◌+◌, inl, inr, Bool
 use Rattle.std.specs.Prelude.{◌⊎◌, ◌==◌, ◌||◌}
 use Rattle.std.proofs.lemmas.Bool.{both_ways, or_left, or_right, eq-eqb, cond-true, cond-false}
 use Rattle.std.proofs.lemmas.Bool.Decides.{eqb_tells}
-use Rattle.causal_rounds.specs.Rounds.{set_at, Round, number, new_round, with_reply, RoundInvariant}
-use Rattle.causal_rounds.specs.Gathered.{Carrier, DetState, IsOpen, HasFromLane, emit, take, deliver_again, deliver_as_new, forget, record_stable, crash, begin, give_up, answer, refuse, not_up, restart, DetInvariant, DetStepsPreserve, IsInTransitAfter, to_up, to_new, from_up, to_round, RestartsGatherAll}
+use Rattle.causal_rounds.specs.Rounds.{with_value_at, Round, number, new_round, with_reply, RoundInvariant}
+use Rattle.causal_rounds.specs.Gathered.{Carrier, DetState, MayComplete, HasFromLane, emit, take, deliver_again, deliver_as_new, forget, record_stable, crash, begin, give_up, answer, refuse, not_up, restart, DetInvariant, DetStepsPreserve, IsInTransitAfter, to_up, to_new, from_up, to_round, RestartsGatherAll}
 use Rattle.causal_rounds.proofs.Lemmas.RoundSteps.{set_at_cases, some_is, none_some}
 
 abbrev Result : DetState → ℕ → Round → Type 0
 Result a s r = (a.gathered s ≡ true) ⊎ ((z : ℕ) × (r.replied z ≡ false) × (a.logs z ≡ true))
 
 -- one process more logs it
-more : (f : ℕ → Bool) (p q : ℕ) → f q ≡ true → set_at f p true q ≡ true
+more : (f : ℕ → Bool) (p q : ℕ) → f q ≡ true → with_value_at f p true q ≡ true
 more f p q h = elim (set_at_cases f p true q) [ inl is ↦ is.1 | inr other ↦ other.1 ∙ h ]
 
 -- one process less logs it
-less : (f : ℕ → Bool) (p q : ℕ) → set_at f p false q ≡ true → (q ≡ p → ⊥) × (f q ≡ true)
-less f p q h = elim (set_at_cases f p false q) [ inl is ↦ absurd (both_ways (set_at f p false q) is.1 h) | inr other ↦ (other.0, sym other.1 ∙ h) ]
+less : (f : ℕ → Bool) (p q : ℕ) → with_value_at f p false q ≡ true → (q ≡ p → ⊥) × (f q ≡ true)
+less f p q h = elim (set_at_cases f p false q) [ inl is ↦ absurd (both_ways (with_value_at f p false q) is.1 h) | inr other ↦ (other.0, sym other.1 ∙ h) ]
 
-here : {X : Type 0} (f : ℕ → X) (p : ℕ) (x : X) → set_at f p x p ≡ x
+here : {X : Type 0} (f : ℕ → X) (p : ℕ) (x : X) → with_value_at f p x p ≡ x
 here f p x = cond-true (p == p) x (f p) (eq-eqb p p refl)
 
-away : {X : Type 0} (f : ℕ → X) (p : ℕ) (x : X) (q : ℕ) → (q ≡ p → ⊥) → set_at f p x q ≡ f q
+away : {X : Type 0} (f : ℕ → X) (p : ℕ) (x : X) (q : ℕ) → (q ≡ p → ⊥) → with_value_at f p x q ≡ f q
 away f p x q other = elim (set_at_cases f p x q) [ inl is ↦ absurd (other is.0) | inr fact ↦ fact.1 ]
 
 -- if the view is not above the lane from which something came, something sent from the lane of the view carries it
@@ -42,14 +42,14 @@ at_view a h k s r at i t there replied_q above = by (r.answered t.from) refl
 -- y alone logs more, and a round to which it has replied learns of it
 module _ (a : DetState) (y : ℕ) (up : a.state.down y ≡ false) (k : DetInvariant a) where
   abbrev logged : DetState
-  logged = record { state = a.state; logs = set_at a.logs y true; must_recover = a.must_recover; stable = a.stable; carriers = a.carriers; gathered = a.gathered }
+  logged = record { state = a.state; logs = with_value_at a.logs y true; must_recover = a.must_recover; stable = a.stable; carriers = a.carriers; gathered = a.gathered }
 
   weaker : (s : ℕ) (r : Round) → Result a s r → Result logged s r
   weaker s r (inl got) = inl got
   weaker s r (inr (z, no_reply, has_it)) = inr (z, no_reply, more a.logs y z has_it)
 
   -- if what y logs now follows from what was
-  logged_preserves : ((s : ℕ) (r : Round) → a.state.rounds s ≡ Some r → IsOpen a.state s r → a.must_recover s ≡ true → a.stable ≡ false → r.replied y ≡ true → Result a s r) → DetInvariant logged
+  logged_preserves : ((s : ℕ) (r : Round) → a.state.rounds s ≡ Some r → MayComplete a.state s r → a.must_recover s ≡ true → a.stable ≡ false → r.replied y ≡ true → Result a s r) → DetInvariant logged
   logged_preserves found = record {
     logs_up = λ p h. elim (set_at_cases a.logs y true p) [ inl is ↦ subst (λ x. a.state.down x ≡ false) (sym is.0) up | inr other ↦ k.logs_up p (sym other.1 ∙ h) ];
     recovering_are_down = k.recovering_are_down;
@@ -66,7 +66,7 @@ module _ (a : DetState) (y : ℕ) (up : a.state.down y ≡ false) (k : DetInvari
 
 -- y takes something
 taken : (a : DetState) (y i : ℕ) (t : Carrier) → a.state.down y ≡ false → a.carriers i ≡ Some t → a.state.floors y t.from ≤ t.lane → RoundInvariant a.state → DetInvariant a
-    → (s : ℕ) (r : Round) → a.state.rounds s ≡ Some r → IsOpen a.state s r → a.must_recover s ≡ true → a.stable ≡ false → r.replied y ≡ true → Result a s r
+    → (s : ℕ) (r : Round) → a.state.rounds s ≡ Some r → MayComplete a.state s r → a.must_recover s ≡ true → a.stable ≡ false → r.replied y ≡ true → Result a s r
 taken a y i t up there floor h k s r at fitting must unstable replied_q = by (r.replied t.from) refl (eqb_tells t.from s)
   where
     answered : r.answered y ≡ true
@@ -107,9 +107,9 @@ module _ (a : DetState) (p to i : ℕ) (up : a.state.down p ≡ false) (has_it :
   new = record { from = p; lane = a.state.lane p; to = to }
 
   abbrev emitted : DetState
-  emitted = record { state = a.state; logs = a.logs; must_recover = a.must_recover; stable = a.stable; carriers = set_at a.carriers i (Some new); gathered = a.gathered }
+  emitted = record { state = a.state; logs = a.logs; must_recover = a.must_recover; stable = a.stable; carriers = with_value_at a.carriers i (Some new); gathered = a.gathered }
 
-  which : (j : ℕ) (t : Carrier) → set_at a.carriers i (Some new) j ≡ Some t → (new ≡ t) ⊎ (a.carriers j ≡ Some t)
+  which : (j : ℕ) (t : Carrier) → with_value_at a.carriers i (Some new) j ≡ Some t → (new ≡ t) ⊎ (a.carriers j ≡ Some t)
   which j t h = elim (set_at_cases a.carriers i (Some new) j) [ inl is ↦ inl (some_is new t (sym is.1 ∙ h)) | inr other ↦ inr (sym other.1 ∙ h) ]
 
   emit_preserves : DetInvariant emitted
@@ -130,10 +130,10 @@ module _ (a : DetState) (p to i : ℕ) (up : a.state.down p ≡ false) (has_it :
 -- p goes down
 module _ (a : DetState) (p : ℕ) (up : a.state.down p ≡ false) (h : RoundInvariant a.state) (k : DetInvariant a) where
   abbrev fallen : DetState
-  fallen = record { state = record { lane = a.state.lane; down = set_at a.state.down p true; floors = a.state.floors; rounds = a.state.rounds }; logs = set_at a.logs p false; must_recover = set_at a.must_recover p (a.logs p); stable = a.stable; carriers = a.carriers; gathered = a.gathered }
+  fallen = record { state = record { lane = a.state.lane; down = with_value_at a.state.down p true; floors = a.state.floors; rounds = a.state.rounds }; logs = with_value_at a.logs p false; must_recover = with_value_at a.must_recover p (a.logs p); stable = a.stable; carriers = a.carriers; gathered = a.gathered }
 
   -- p has replied to a round that may still complete
-  had_replied : (s : ℕ) (r : Round) → a.state.rounds s ≡ Some r → IsOpen fallen.state s r → r.replied p ≡ true
+  had_replied : (s : ℕ) (r : Round) → a.state.rounds s ≡ Some r → MayComplete fallen.state s r → r.replied p ≡ true
   had_replied s r at fitting = by (r.replied p) refl
     where
       by : (b : Bool) → r.replied p ≡ b → r.replied p ≡ true
@@ -146,7 +146,7 @@ module _ (a : DetState) (p : ℕ) (up : a.state.down p ≡ false) (h : RoundInva
           let low = h.views_told s p r at in
           absurd (omega (arith, fits, now, then, low))
 
-  was_open : (s : ℕ) (r : Round) → a.state.rounds s ≡ Some r → IsOpen fallen.state s r → IsOpen a.state s r
+  was_open : (s : ℕ) (r : Round) → a.state.rounds s ≡ Some r → MayComplete fallen.state s r → MayComplete a.state s r
   was_open s r at fitting q other no_reply =
       let not_p : q ≡ p → ⊥ = λ is. both_ways (r.replied q) no_reply (subst (λ x. r.replied x ≡ true) (sym is) (had_replied s r at fitting)) in
       let same : number fallen.state q ≡ number a.state q = ap (λ (b : Bool). cond b (a.state.lane q + 1) (a.state.lane q)) (away a.state.down p true q not_p) in
@@ -156,12 +156,12 @@ module _ (a : DetState) (p : ℕ) (up : a.state.down p ≡ false) (h : RoundInva
   fall_preserves = record {
     logs_up = λ q has_it. let old = less a.logs p q has_it in away a.state.down p true q old.0 ∙ k.logs_up q old.1;
     recovering_are_down = λ q must. elim (set_at_cases a.must_recover p (a.logs p) q) [
-      | inl is ↦ subst (λ x. set_at a.state.down p true x ≡ true) (sym is.0) (here a.state.down p true)
+      | inl is ↦ subst (λ x. with_value_at a.state.down p true x ≡ true) (sym is.0) (here a.state.down p true)
       | inr other ↦ away a.state.down p true q other.0 ∙ k.recovering_are_down q (sym other.1 ∙ must)
     ];
     lanes = k.lanes;
     sent = λ i t there is_up lane. elim (set_at_cases a.state.down p true t.from) [
-      | inl is ↦ absurd (both_ways (set_at a.state.down p true t.from) is_up is.1)
+      | inl is ↦ absurd (both_ways (with_value_at a.state.down p true t.from) is_up is.1)
       | inr other ↦ elim (k.sent i t there (sym other.1 ∙ is_up) lane) [ inl has_it ↦ inl (away a.logs p false t.from other.0 ∙ has_it) | inr stable ↦ inr stable ]
     ];
     gathers = λ s q r at fitting must unstable replied_q has_d.
@@ -177,7 +177,7 @@ module _ (a : DetState) (p : ℕ) (up : a.state.down p ≡ false) (h : RoundInva
 -- a round begins
 module _ (a : DetState) (s : ℕ) (view : ℕ → ℕ) (absent : ℕ → Bool) (gone : (q : ℕ) → absent q ≡ true → (a.state.down q ≡ true) × (view q ≡ a.state.lane q + 1)) (k : DetInvariant a) where
   abbrev started : DetState
-  started = record { state = record { lane = a.state.lane; down = a.state.down; floors = a.state.floors; rounds = set_at a.state.rounds s (Some (new_round view absent)) }; logs = a.logs; must_recover = a.must_recover; stable = a.stable; carriers = a.carriers; gathered = set_at a.gathered s false }
+  started = record { state = record { lane = a.state.lane; down = a.state.down; floors = a.state.floors; rounds = with_value_at a.state.rounds s (Some (new_round view absent)) }; logs = a.logs; must_recover = a.must_recover; stable = a.stable; carriers = a.carriers; gathered = with_value_at a.gathered s false }
 
   start_preserves : DetInvariant started
   start_preserves = record {
@@ -199,7 +199,7 @@ module _ (a : DetState) (s : ℕ) (view : ℕ → ℕ) (absent : ℕ → Bool) (
   }
 
 -- a round is given up
-end_preserves : (a : DetState) (s : ℕ) → DetInvariant a → DetInvariant (record { state = record { lane = a.state.lane; down = a.state.down; floors = a.state.floors; rounds = set_at a.state.rounds s None }; logs = a.logs; must_recover = a.must_recover; stable = a.stable; carriers = a.carriers; gathered = a.gathered })
+end_preserves : (a : DetState) (s : ℕ) → DetInvariant a → DetInvariant (record { state = record { lane = a.state.lane; down = a.state.down; floors = a.state.floors; rounds = with_value_at a.state.rounds s None }; logs = a.logs; must_recover = a.must_recover; stable = a.stable; carriers = a.carriers; gathered = a.gathered })
 end_preserves a s k = record {
   logs_up = k.logs_up;
   recovering_are_down = k.recovering_are_down;
@@ -217,7 +217,7 @@ module _ (a : DetState) (y s : ℕ) (r : Round) (floors : ℕ → ℕ) (up : a.s
   told = with_reply r y true
 
   abbrev answered : DetState
-  answered = record { state = record { lane = a.state.lane; down = a.state.down; floors = set_at a.state.floors y floors; rounds = set_at a.state.rounds s (Some told) }; logs = a.logs; must_recover = a.must_recover; stable = a.stable; carriers = a.carriers; gathered = set_at a.gathered s (a.gathered s || a.logs y) }
+  answered = record { state = record { lane = a.state.lane; down = a.state.down; floors = with_value_at a.state.floors y floors; rounds = with_value_at a.state.rounds s (Some told) }; logs = a.logs; must_recover = a.must_recover; stable = a.stable; carriers = a.carriers; gathered = with_value_at a.gathered s (a.gathered s || a.logs y) }
 
   got_old : a.gathered s ≡ true → answered.gathered s ≡ true
   got_old got = here a.gathered s (a.gathered s || a.logs y) ∙ or_left (a.gathered s) (a.logs y) got
@@ -225,13 +225,13 @@ module _ (a : DetState) (y s : ℕ) (r : Round) (floors : ℕ → ℕ) (up : a.s
   got_new : a.logs y ≡ true → answered.gathered s ≡ true
   got_new has_it = here a.gathered s (a.gathered s || a.logs y) ∙ or_right (a.gathered s) (a.logs y) has_it
 
-  open_before : IsOpen a.state s told → IsOpen a.state s r
+  open_before : MayComplete a.state s told → MayComplete a.state s r
   open_before fitting q other no_reply = elim (set_at_cases r.replied y true q) [
     | inl is ↦ subst (λ x. number a.state x ≡ r.view x) (sym is.0) (cond-false (a.state.down y) (a.state.lane y + 1) (a.state.lane y) up ∙ sym fits)
     | inr fact ↦ fitting q other (fact.1 ∙ no_reply)
   ]
 
-  now : (q : ℕ) → IsOpen a.state s told → a.must_recover s ≡ true → a.stable ≡ false → told.replied q ≡ true → HasFromLane a q (r.view q) → Result answered s told
+  now : (q : ℕ) → MayComplete a.state s told → a.must_recover s ≡ true → a.stable ≡ false → told.replied q ≡ true → HasFromLane a q (r.view q) → Result answered s told
   now q fitting must unstable replied_q has_d = elim (set_at_cases r.replied y true q) [
     | inl is ↦ elim has_d [
       | inl logs_it ↦ inl (got_new (subst (λ x. a.logs x ≡ true) is.0 logs_it))
@@ -261,10 +261,10 @@ module _ (a : DetState) (y s : ℕ) (r : Round) (floors : ℕ → ℕ) (up : a.s
     ];
   }
     where
-      by : (p : ℕ) → p ≡ s → (q : ℕ) (o : Round) → told ≡ o → IsOpen a.state p o → a.must_recover p ≡ true → a.stable ≡ false → o.replied q ≡ true → HasFromLane a q (o.view q) → Result answered p o
+      by : (p : ℕ) → p ≡ s → (q : ℕ) (o : Round) → told ≡ o → MayComplete a.state p o → a.must_recover p ≡ true → a.stable ≡ false → o.replied q ≡ true → HasFromLane a q (o.view q) → Result answered p o
       by p is q o same fitting must unstable replied_q has_d =
           subst (λ x. Result answered x o) (sym is) (subst (λ (x : Round). Result answered s x) same
-          (now q (subst (λ (x : Round). IsOpen a.state s x) (sym same) (subst (λ x. IsOpen a.state x o) is fitting)) (subst (λ x. a.must_recover x ≡ true) is must) unstable (ap (λ (x : Round). x.replied q) same ∙ replied_q) (subst (λ (x : Round). HasFromLane a q (x.view q)) (sym same) has_d)))
+          (now q (subst (λ (x : Round). MayComplete a.state s x) (sym same) (subst (λ x. MayComplete a.state x o) is fitting)) (subst (λ x. a.must_recover x ≡ true) is must) unstable (ap (λ (x : Round). x.replied q) same ∙ replied_q) (subst (λ (x : Round). HasFromLane a q (x.view q)) (sym same) has_d)))
 
 -- y, which is not up, says so to s
 module _ (a : DetState) (y s : ℕ) (r : Round) (down : a.state.down y ≡ true) (other_one : y ≡ s → ⊥) (at : a.state.rounds s ≡ Some r) (fits : r.view y ≡ a.state.lane y + 1) (k : DetInvariant a) where
@@ -272,15 +272,15 @@ module _ (a : DetState) (y s : ℕ) (r : Round) (down : a.state.down y ≡ true)
   said = with_reply r y false
 
   abbrev silent : DetState
-  silent = record { state = record { lane = a.state.lane; down = a.state.down; floors = a.state.floors; rounds = set_at (set_at a.state.rounds s (Some said)) y None }; logs = a.logs; must_recover = a.must_recover; stable = a.stable; carriers = a.carriers; gathered = a.gathered }
+  silent = record { state = record { lane = a.state.lane; down = a.state.down; floors = a.state.floors; rounds = with_value_at (with_value_at a.state.rounds s (Some said)) y None }; logs = a.logs; must_recover = a.must_recover; stable = a.stable; carriers = a.carriers; gathered = a.gathered }
 
-  still_open : IsOpen a.state s said → IsOpen a.state s r
+  still_open : MayComplete a.state s said → MayComplete a.state s r
   still_open fitting q other no_reply = elim (set_at_cases r.replied y true q) [
     | inl is ↦ subst (λ x. number a.state x ≡ r.view x) (sym is.0) (cond-true (a.state.down y) (a.state.lane y + 1) (a.state.lane y) down ∙ sym fits)
     | inr fact ↦ fitting q other (fact.1 ∙ no_reply)
   ]
 
-  then : (q : ℕ) → IsOpen a.state s said → a.must_recover s ≡ true → a.stable ≡ false → said.replied q ≡ true → HasFromLane a q (r.view q) → Result a s said
+  then : (q : ℕ) → MayComplete a.state s said → a.must_recover s ≡ true → a.stable ≡ false → said.replied q ≡ true → HasFromLane a q (r.view q) → Result a s said
   then q fitting must unstable replied_q has_d = elim (set_at_cases r.replied y true q) [
     | inl is ↦ elim has_d [
       | inl logs_it ↦ absurd (both_ways (a.state.down y) (k.logs_up y (subst (λ x. a.logs x ≡ true) is.0 logs_it)) down)
@@ -305,7 +305,7 @@ module _ (a : DetState) (y s : ℕ) (r : Round) (down : a.state.down y ≡ true)
     recovering_are_down = k.recovering_are_down;
     lanes = k.lanes;
     sent = k.sent;
-    gathers = λ p q o there fitting must unstable replied_q has_d. elim (set_at_cases (set_at a.state.rounds s (Some said)) y None p) [
+    gathers = λ p q o there fitting must unstable replied_q has_d. elim (set_at_cases (with_value_at a.state.rounds s (Some said)) y None p) [
       | inl is ↦ absurd (none_some o (sym is.1 ∙ there))
       | inr not_y ↦ elim (set_at_cases a.state.rounds s (Some said) p) [
         | inl is ↦ by p is.0 q o (some_is said o (sym is.1 ∙ sym not_y.1 ∙ there)) fitting must unstable replied_q has_d
@@ -314,15 +314,15 @@ module _ (a : DetState) (y s : ℕ) (r : Round) (down : a.state.down y ≡ true)
     ];
   }
     where
-      by : (p : ℕ) → p ≡ s → (q : ℕ) (o : Round) → said ≡ o → IsOpen a.state p o → a.must_recover p ≡ true → a.stable ≡ false → o.replied q ≡ true → HasFromLane a q (o.view q) → Result a p o
+      by : (p : ℕ) → p ≡ s → (q : ℕ) (o : Round) → said ≡ o → MayComplete a.state p o → a.must_recover p ≡ true → a.stable ≡ false → o.replied q ≡ true → HasFromLane a q (o.view q) → Result a p o
       by p is q o same fitting must unstable replied_q has_d =
           subst (λ x. Result a x o) (sym is) (subst (λ (x : Round). Result a s x) same
-          (then q (subst (λ (x : Round). IsOpen a.state s x) (sym same) (subst (λ x. IsOpen a.state x o) is fitting)) (subst (λ x. a.must_recover x ≡ true) is must) unstable (ap (λ (x : Round). x.replied q) same ∙ replied_q) (subst (λ (x : Round). HasFromLane a q (x.view q)) (sym same) has_d)))
+          (then q (subst (λ (x : Round). MayComplete a.state s x) (sym same) (subst (λ x. MayComplete a.state x o) is fitting)) (subst (λ x. a.must_recover x ≡ true) is must) unstable (ap (λ (x : Round). x.replied q) same ∙ replied_q) (subst (λ (x : Round). HasFromLane a q (x.view q)) (sym same) has_d)))
 
 -- s comes up
 module _ (a : DetState) (s : ℕ) (r : Round) (at : a.state.rounds s ≡ Some r) (all : (q : ℕ) → (q ≡ s → ⊥) → r.replied q ≡ true) (h : RoundInvariant a.state) (k : DetInvariant a) where
   abbrev risen : DetState
-  risen = record { state = record { lane = set_at a.state.lane s (a.state.lane s + 1); down = set_at a.state.down s false; floors = set_at a.state.floors s r.view; rounds = set_at a.state.rounds s None }; logs = set_at a.logs s (a.gathered s); must_recover = set_at a.must_recover s false; stable = a.stable; carriers = a.carriers; gathered = a.gathered }
+  risen = record { state = record { lane = with_value_at a.state.lane s (a.state.lane s + 1); down = with_value_at a.state.down s false; floors = with_value_at a.state.floors s r.view; rounds = with_value_at a.state.rounds s None }; logs = with_value_at a.logs s (a.gathered s); must_recover = with_value_at a.must_recover s false; stable = a.stable; carriers = a.carriers; gathered = a.gathered }
 
   down_before : a.state.down s ≡ true
   down_before = h.gathering_are_down s r at
@@ -340,7 +340,7 @@ module _ (a : DetState) (s : ℕ) (r : Round) (at : a.state.rounds s ≡ Some r)
   risen_preserves : DetInvariant risen
   risen_preserves = record {
     logs_up = λ q has_it. elim (set_at_cases a.logs s (a.gathered s) q) [
-      | inl is ↦ subst (λ x. set_at a.state.down s false x ≡ false) (sym is.0) (here a.state.down s false)
+      | inl is ↦ subst (λ x. with_value_at a.state.down s false x ≡ false) (sym is.0) (here a.state.down s false)
       | inr other ↦ away a.state.down s false q other.0 ∙ k.logs_up q (sym other.1 ∙ has_it)
     ];
     recovering_are_down = λ q must. let old = less a.must_recover s q must in away a.state.down s false q old.0 ∙ k.recovering_are_down q old.1;
@@ -371,7 +371,7 @@ module _ (a : DetState) (s : ℕ) (r : Round) (at : a.state.rounds s ≡ Some r)
 
   -- if something is not below the view, the round has gathered the determinant
   module _ (must : a.must_recover s ≡ true) (unstable : a.stable ≡ false) where
-    closed : IsOpen a.state s r
+    closed : MayComplete a.state s r
     closed q other no_reply = absurd (both_ways (r.replied q) no_reply (all q other))
 
     has_gathered : (q : ℕ) → (q ≡ s → ⊥) → HasFromLane a q (r.view q) → a.gathered s ≡ true

@@ -3,10 +3,10 @@ use Rattle.std.proofs.Common.{ℕ, ◌≡◌, ◌≤◌, ◌+◌, inl, inr, Bool
 use Rattle.std.specs.Prelude.{◌⊎◌, ◌==◌}
 use Rattle.std.proofs.lemmas.Bool.{both_ways, eq-eqb, cond-true, cond-false, cases_Bool}
 use Rattle.std.proofs.lemmas.Bool.Decides.{eqb_tells}
-use Rattle.causal_rounds.specs.Rounds.{set_at, Round, RoundState, number, new_round, with_reply, crash, begin, give_up, answer, refuse, not_up, restart, RoundInvariant, RoundStepsPreserve}
+use Rattle.causal_rounds.specs.Rounds.{with_value_at, Round, RecoveryState, number, new_round, with_reply, crash, begin, give_up, answer, refuse, not_up, restart, RoundInvariant, RoundStepsPreserve}
 
 -- the value at a number
-pub set_at_cases : {X : Type 0} (f : ℕ → X) (p : ℕ) (x : X) (q : ℕ) → ((q ≡ p) × (set_at f p x q ≡ x)) ⊎ ((q ≡ p → ⊥) × (set_at f p x q ≡ f q))
+pub set_at_cases : {X : Type 0} (f : ℕ → X) (p : ℕ) (x : X) (q : ℕ) → ((q ≡ p) × (with_value_at f p x q ≡ x)) ⊎ ((q ≡ p → ⊥) × (with_value_at f p x q ≡ f q))
 set_at_cases f p x q = elim (eqb_tells q p) [ inl is ↦ inl (is.1, cond-true (q == p) x (f q) is.0) | inr other ↦ inr (other.1, cond-false (q == p) x (f q) other.0) ]
 
 pub some_is : {X : Type 0} (x y : X) → Some x ≡ Some y → x ≡ y
@@ -16,15 +16,15 @@ pub none_some : {X : Type 0} (x : X) → None ≡ Some x → ⊥
 none_some x h = cc
 
 -- a crash
-module _ (w : RoundState) (p : ℕ) (up : w.down p ≡ false) (k : RoundInvariant w) where
-  abbrev crashed : RoundState
-  crashed = record { lane = w.lane; down = set_at w.down p true; floors = w.floors; rounds = w.rounds }
+module _ (w : RecoveryState) (p : ℕ) (up : w.down p ≡ false) (k : RoundInvariant w) where
+  abbrev crashed : RecoveryState
+  crashed = record { lane = w.lane; down = with_value_at w.down p true; floors = w.floors; rounds = w.rounds }
 
-  stays_down : (q : ℕ) → w.down q ≡ true → set_at w.down p true q ≡ true
+  stays_down : (q : ℕ) → w.down q ≡ true → with_value_at w.down p true q ≡ true
   stays_down q h = elim (set_at_cases w.down p true q) [ inl is ↦ is.1 | inr other ↦ other.1 ∙ h ]
 
-  was_up : (q : ℕ) → set_at w.down p true q ≡ false → w.down q ≡ false
-  was_up q h = elim (set_at_cases w.down p true q) [ inl is ↦ absurd (both_ways (set_at w.down p true q) h is.1) | inr other ↦ sym other.1 ∙ h ]
+  was_up : (q : ℕ) → with_value_at w.down p true q ≡ false → w.down q ≡ false
+  was_up q h = elim (set_at_cases w.down p true q) [ inl is ↦ absurd (both_ways (with_value_at w.down p true q) h is.1) | inr other ↦ sym other.1 ∙ h ]
 
   more : (q : ℕ) → number w q ≤ number crashed q
   more q = grind (arith, cases_Bool (w.down q), stays_down q, cond-true, cond-false)
@@ -44,11 +44,11 @@ module _ (w : RoundState) (p : ℕ) (up : w.down p ≡ false) (k : RoundInvarian
   }
 
 -- a round begins, or is given up: a round that is there is an old one, or the new one of s
-module _ (w : RoundState) (s : ℕ) (k : RoundInvariant w) where
-  abbrev without : RoundState
-  without = record { lane = w.lane; down = w.down; floors = w.floors; rounds = set_at w.rounds s None }
+module _ (w : RecoveryState) (s : ℕ) (k : RoundInvariant w) where
+  abbrev without : RecoveryState
+  without = record { lane = w.lane; down = w.down; floors = w.floors; rounds = with_value_at w.rounds s None }
 
-  left : (q : ℕ) (r : Round) → set_at w.rounds s None q ≡ Some r → w.rounds q ≡ Some r
+  left : (q : ℕ) (r : Round) → with_value_at w.rounds s None q ≡ Some r → w.rounds q ≡ Some r
   left q r h = elim (set_at_cases w.rounds s None q) [ inl is ↦ absurd (none_some r (sym is.1 ∙ h)) | inr other ↦ sym other.1 ∙ h ]
 
   give_up_preserves : RoundInvariant without
@@ -65,12 +65,12 @@ module _ (w : RoundState) (s : ℕ) (k : RoundInvariant w) where
     ordered = λ p z y r o at there. k.ordered p z y r o (left p r at) (left z o there);
   }
 
-module _ (w : RoundState) (s : ℕ) (view : ℕ → ℕ) (is_down : w.down s ≡ true) (mine : view s ≡ w.lane s + 1) (low : (q : ℕ) → view q ≤ number w q) (absent : ℕ → Bool) (there : absent s ≡ false)
+module _ (w : RecoveryState) (s : ℕ) (view : ℕ → ℕ) (is_down : w.down s ≡ true) (mine : view s ≡ w.lane s + 1) (low : (q : ℕ) → view q ≤ number w q) (absent : ℕ → Bool) (there : absent s ≡ false)
     (gone : (q : ℕ) → absent q ≡ true → (w.down q ≡ true) × (w.rounds q ≡ None) × (view q ≡ w.lane q + 1)) (k : RoundInvariant w) where
-  abbrev begun : RoundState
-  begun = record { lane = w.lane; down = w.down; floors = w.floors; rounds = set_at w.rounds s (Some (new_round view absent)) }
+  abbrev begun : RecoveryState
+  begun = record { lane = w.lane; down = w.down; floors = w.floors; rounds = with_value_at w.rounds s (Some (new_round view absent)) }
 
-  which : (p : ℕ) (r : Round) → set_at w.rounds s (Some (new_round view absent)) p ≡ Some r → ((p ≡ s) × (new_round view absent ≡ r)) ⊎ (w.rounds p ≡ Some r)
+  which : (p : ℕ) (r : Round) → with_value_at w.rounds s (Some (new_round view absent)) p ≡ Some r → ((p ≡ s) × (new_round view absent ≡ r)) ⊎ (w.rounds p ≡ Some r)
   which p r h = elim (set_at_cases w.rounds s (Some (new_round view absent)) p) [ inl is ↦ inl (is.0, some_is (new_round view absent) r (sym is.1 ∙ h)) | inr other ↦ inr (sym other.1 ∙ h) ]
 
   replied_new : (r : Round) (q : ℕ) → new_round view absent ≡ r → r.replied q ≡ absent q
@@ -117,7 +117,7 @@ module _ (w : RoundState) (s : ℕ) (view : ℕ → ℕ) (is_down : w.down s ≡
   }
 
 -- one process more has replied to the round of s
-module _ (w : RoundState) (s y : ℕ) (up : Bool) (r : Round) (at : w.rounds s ≡ Some r) (k : RoundInvariant w) where
+module _ (w : RecoveryState) (s y : ℕ) (up : Bool) (r : Round) (at : w.rounds s ≡ Some r) (k : RoundInvariant w) where
   abbrev grown : Round
   grown = with_reply r y up
 
@@ -140,12 +140,12 @@ module _ (w : RoundState) (s y : ℕ) (up : Bool) (r : Round) (at : w.rounds s �
   ]
 
 -- y, which is up, answers s
-module _ (w : RoundState) (y s : ℕ) (r : Round) (new_floors : ℕ → ℕ) (up : w.down y ≡ false) (at : w.rounds s ≡ Some r) (fits : r.view y ≡ w.lane y) (rise : (z : ℕ) → w.floors y z ≤ new_floors z) (above : (z : ℕ) → r.view z ≤ new_floors z) (low : (z : ℕ) → new_floors z ≤ number w z) (k : RoundInvariant w) where
+module _ (w : RecoveryState) (y s : ℕ) (r : Round) (new_floors : ℕ → ℕ) (up : w.down y ≡ false) (at : w.rounds s ≡ Some r) (fits : r.view y ≡ w.lane y) (rise : (z : ℕ) → w.floors y z ≤ new_floors z) (above : (z : ℕ) → r.view z ≤ new_floors z) (low : (z : ℕ) → new_floors z ≤ number w z) (k : RoundInvariant w) where
   abbrev told : Round
   told = with_reply r y true
 
-  abbrev told_world : RoundState
-  told_world = record { lane = w.lane; down = w.down; floors = set_at w.floors y new_floors; rounds = set_at w.rounds s (Some told) }
+  abbrev told_world : RecoveryState
+  told_world = record { lane = w.lane; down = w.down; floors = with_value_at w.floors y new_floors; rounds = with_value_at w.rounds s (Some told) }
 
   -- a process with a round is not y
   has_none : (p : ℕ) (o : Round) → w.rounds p ≡ Some o → p ≡ y → ⊥
@@ -154,19 +154,19 @@ module _ (w : RoundState) (y s : ℕ) (r : Round) (new_floors : ℕ → ℕ) (up
   not_s : s ≡ y → ⊥
   not_s is = has_none s r at is
 
-  found : (p : ℕ) (o : Round) → set_at w.rounds s (Some told) p ≡ Some o → ((p ≡ s) × (told ≡ o)) ⊎ (w.rounds p ≡ Some o)
+  found : (p : ℕ) (o : Round) → with_value_at w.rounds s (Some told) p ≡ Some o → ((p ≡ s) × (told ≡ o)) ⊎ (w.rounds p ≡ Some o)
   found p o h = elim (set_at_cases w.rounds s (Some told) p) [ inl is ↦ inl (is.0, some_is told o (sym is.1 ∙ h)) | inr other ↦ inr (sym other.1 ∙ h) ]
 
   self_answered : told.replied s ≡ false
   self_answered = heard_other w s y true r at k s not_s ∙ (k.own_view s r at).0
 
-  answer_self : (p : ℕ) (o : Round) → set_at w.rounds s (Some told) p ≡ Some o → (o.replied p ≡ false) × (o.view p ≡ w.lane p + 1)
+  answer_self : (p : ℕ) (o : Round) → with_value_at w.rounds s (Some told) p ≡ Some o → (o.replied p ≡ false) × (o.view p ≡ w.lane p + 1)
   answer_self p o there = elim (found p o there) [
     | inl is ↦ subst (λ q. (o.replied q ≡ false) × (o.view q ≡ w.lane q + 1)) (sym is.0) (subst (λ (x : Round). (x.replied s ≡ false) × (x.view s ≡ w.lane s + 1)) is.1 (self_answered, (k.own_view s r at).1))
     | inr old ↦ k.own_view p o old
   ]
 
-  answer_one_way : (p q : ℕ) (a o : Round) → set_at w.rounds s (Some told) p ≡ Some a → set_at w.rounds s (Some told) q ≡ Some o → a.replied q ≡ true → o.replied p ≡ false
+  answer_one_way : (p q : ℕ) (a o : Round) → with_value_at w.rounds s (Some told) p ≡ Some a → with_value_at w.rounds s (Some told) q ≡ Some o → a.replied q ≡ true → o.replied p ≡ false
   answer_one_way p q a o here there replied_q = elim (found p a here) [
     | inl new ↦ elim (heard_more w s y true r at k q (ap (λ (x : Round). x.replied q) new.1 ∙ replied_q)) [
       | inl is ↦ elim (found q o there) [ inl other ↦ absurd (not_s (sym other.0 ∙ is)) | inr old ↦ absurd (has_none q o old is) ]
@@ -181,25 +181,25 @@ module _ (w : RoundState) (y s : ℕ) (r : Round) (new_floors : ℕ → ℕ) (up
     ]
   ]
 
-  floors_rise : (p z : ℕ) → w.floors p z ≤ set_at w.floors y new_floors p z
+  floors_rise : (p z : ℕ) → w.floors p z ≤ with_value_at w.floors y new_floors p z
   floors_rise p z = elim (set_at_cases w.floors y new_floors p) [
     | inl is ↦ subst (λ g. w.floors p z ≤ g z) (sym is.1) (subst (λ q. w.floors q z ≤ new_floors z) (sym is.0) (rise z))
     | inr other ↦ subst (λ g. w.floors p z ≤ g z) (sym other.1) (omega arith)
   ]
 
-  floors_here : (z : ℕ) → r.view z ≤ set_at w.floors y new_floors y z
+  floors_here : (z : ℕ) → r.view z ≤ with_value_at w.floors y new_floors y z
   floors_here z = subst (λ g. r.view z ≤ g z) (sym (cond-true (y == y) new_floors (w.floors y) (eq-eqb y y refl))) (above z)
 
-  answer_refuses : (p q z : ℕ) (a : Round) → set_at w.rounds s (Some told) p ≡ Some a → a.answered q ≡ true → w.down q ≡ false → a.view z ≤ set_at w.floors y new_floors q z
+  answer_refuses : (p q z : ℕ) (a : Round) → with_value_at w.rounds s (Some told) p ≡ Some a → a.answered q ≡ true → w.down q ≡ false → a.view z ≤ with_value_at w.floors y new_floors q z
   answer_refuses p q z a here was is_up = elim (found p a here) [
     | inl new ↦ elim (answered_more w s y true r at k q (ap (λ (x : Round). x.answered q) new.1 ∙ was)) [
-      | inl is ↦ subst (λ (x : Round). x.view z ≤ set_at w.floors y new_floors q z) new.1 (subst (λ x. r.view z ≤ set_at w.floors y new_floors x z) (sym is.0) (floors_here z))
-      | inr old ↦ subst (λ (x : Round). x.view z ≤ set_at w.floors y new_floors q z) new.1 (let before = k.refuses s q z r at old.1 is_up in omega (arith, before, floors_rise q z))
+      | inl is ↦ subst (λ (x : Round). x.view z ≤ with_value_at w.floors y new_floors q z) new.1 (subst (λ x. r.view z ≤ with_value_at w.floors y new_floors x z) (sym is.0) (floors_here z))
+      | inr old ↦ subst (λ (x : Round). x.view z ≤ with_value_at w.floors y new_floors q z) new.1 (let before = k.refuses s q z r at old.1 is_up in omega (arith, before, floors_rise q z))
     ]
     | inr old ↦ omega (arith, k.refuses p q z a old was is_up, floors_rise q z)
   ]
 
-  answer_order : (p z q : ℕ) (a o : Round) → set_at w.rounds s (Some told) p ≡ Some a → set_at w.rounds s (Some told) z ≡ Some o → o.replied p ≡ true → a.answered q ≡ true → o.view q ≤ a.view q
+  answer_order : (p z q : ℕ) (a o : Round) → with_value_at w.rounds s (Some told) p ≡ Some a → with_value_at w.rounds s (Some told) z ≡ Some o → o.replied p ≡ true → a.answered q ≡ true → o.view q ≤ a.view q
   answer_order p z q a o here there replied_q was = elim (found p a here) [
     | inl new ↦ elim (found z o there) [
       | inl other ↦ absurd (both_ways (told.replied s) self_answered (subst (λ x. told.replied x ≡ true) new.0 (ap (λ (x : Round). x.replied p) other.1 ∙ replied_q)))
@@ -252,19 +252,19 @@ module _ (w : RoundState) (y s : ℕ) (r : Round) (new_floors : ℕ → ℕ) (up
   }
 
 -- y, which is not up, says so to s
-module _ (w : RoundState) (y s : ℕ) (r : Round) (is_down : w.down y ≡ true) (other_one : y ≡ s → ⊥) (at : w.rounds s ≡ Some r) (fits : r.view y ≡ w.lane y + 1) (k : RoundInvariant w) where
+module _ (w : RecoveryState) (y s : ℕ) (r : Round) (is_down : w.down y ≡ true) (other_one : y ≡ s → ⊥) (at : w.rounds s ≡ Some r) (fits : r.view y ≡ w.lane y + 1) (k : RoundInvariant w) where
   abbrev said : Round
   said = with_reply r y false
 
   abbrev said_rounds : ℕ → Option Round
-  said_rounds = set_at (set_at w.rounds s (Some said)) y None
+  said_rounds = with_value_at (with_value_at w.rounds s (Some said)) y None
 
-  abbrev said_world : RoundState
+  abbrev said_world : RecoveryState
   said_world = record { lane = w.lane; down = w.down; floors = w.floors; rounds = said_rounds }
 
   -- y has no round
   seen : (p : ℕ) (o : Round) → said_rounds p ≡ Some o → (p ≡ y → ⊥) × (((p ≡ s) × (said ≡ o)) ⊎ (w.rounds p ≡ Some o))
-  seen p o h = elim (set_at_cases (set_at w.rounds s (Some said)) y None p) [
+  seen p o h = elim (set_at_cases (with_value_at w.rounds s (Some said)) y None p) [
     | inl is ↦ absurd (none_some o (sym is.1 ∙ h))
     | inr away ↦ (away.0, elim (set_at_cases w.rounds s (Some said) p) [ inl is ↦ inl (is.0, some_is said o (sym is.1 ∙ sym away.1 ∙ h)) | inr other ↦ inr (sym other.1 ∙ sym away.1 ∙ h) ])
   ]
@@ -342,15 +342,15 @@ module _ (w : RoundState) (y s : ℕ) (r : Round) (is_down : w.down y ≡ true) 
   }
 
 -- all others have replied to s, and it comes up
-module _ (w : RoundState) (s : ℕ) (r : Round) (at : w.rounds s ≡ Some r) (all : (q : ℕ) → (q ≡ s → ⊥) → r.replied q ≡ true) (k : RoundInvariant w) where
-  abbrev come : RoundState
-  come = record { lane = set_at w.lane s (w.lane s + 1); down = set_at w.down s false; floors = set_at w.floors s r.view; rounds = set_at w.rounds s None }
+module _ (w : RecoveryState) (s : ℕ) (r : Round) (at : w.rounds s ≡ Some r) (all : (q : ℕ) → (q ≡ s → ⊥) → r.replied q ≡ true) (k : RoundInvariant w) where
+  abbrev come : RecoveryState
+  come = record { lane = with_value_at w.lane s (w.lane s + 1); down = with_value_at w.down s false; floors = with_value_at w.floors s r.view; rounds = with_value_at w.rounds s None }
 
-  others : (p : ℕ) (o : Round) → set_at w.rounds s None p ≡ Some o → (p ≡ s → ⊥) × (w.rounds p ≡ Some o)
+  others : (p : ℕ) (o : Round) → with_value_at w.rounds s None p ≡ Some o → (p ≡ s → ⊥) × (w.rounds p ≡ Some o)
   others p o h = elim (set_at_cases w.rounds s None p) [ inl is ↦ absurd (none_some o (sym is.1 ∙ h)) | inr other ↦ (other.0, sym other.1 ∙ h) ]
 
   -- s has replied to no round
-  unheard_s : (p : ℕ) (o : Round) → set_at w.rounds s None p ≡ Some o → o.replied s ≡ false
+  unheard_s : (p : ℕ) (o : Round) → with_value_at w.rounds s None p ≡ Some o → o.replied s ≡ false
   unheard_s p o h = let old = others p o h in k.one_way s p r o at old.1 (all p old.0)
 
   same_lane : (q : ℕ) → (q ≡ s → ⊥) → come.lane q ≡ w.lane q
@@ -372,7 +372,7 @@ module _ (w : RoundState) (s : ℕ) (r : Round) (at : w.rounds s ≡ Some r) (al
           ∙ sym (cond-true (w.down s) (w.lane s + 1) (w.lane s) (k.gathering_are_down s r at))
 
   -- a process that has replied is not s
-  had_not_replied : (p q : ℕ) (o : Round) → set_at w.rounds s None p ≡ Some o → o.replied q ≡ true → q ≡ s → ⊥
+  had_not_replied : (p q : ℕ) (o : Round) → with_value_at w.rounds s None p ≡ Some o → o.replied q ≡ true → q ≡ s → ⊥
   had_not_replied p q o there replied_q is = both_ways (o.replied s) (unheard_s p o there) (subst (λ x. o.replied x ≡ true) is replied_q)
 
   restart_preserves : RoundInvariant come
@@ -394,7 +394,7 @@ module _ (w : RoundState) (s : ℕ) (r : Round) (at : w.rounds s ≡ Some r) (al
   }
 
 -- y refuses more
-refuse_preserves : (w : RoundState) (y : ℕ) (floors : ℕ → ℕ) → ((z : ℕ) → w.floors y z ≤ floors z) → ((z : ℕ) → floors z ≤ number w z) → RoundInvariant w → RoundInvariant (record { lane = w.lane; down = w.down; floors = set_at w.floors y floors; rounds = w.rounds })
+refuse_preserves : (w : RecoveryState) (y : ℕ) (floors : ℕ → ℕ) → ((z : ℕ) → w.floors y z ≤ floors z) → ((z : ℕ) → floors z ≤ number w z) → RoundInvariant w → RoundInvariant (record { lane = w.lane; down = w.down; floors = with_value_at w.floors y floors; rounds = w.rounds })
 refuse_preserves w y floors rise below k = record {
   gathering_are_down = k.gathering_are_down;
   own_view = k.own_view;
@@ -409,7 +409,7 @@ refuse_preserves w y floors rise below k = record {
         let old = k.refuses s p z r at was up in
         let here : w.floors p z ≡ w.floors y z = ap (λ x. w.floors x z) is.0 in
         let more = rise z in
-        let new : set_at w.floors y floors p z ≡ floors z = ap (λ (g : ℕ → ℕ). g z) is.1 in
+        let new : with_value_at w.floors y floors p z ≡ floors z = ap (λ (g : ℕ → ℕ). g z) is.1 in
         omega (arith, old, here, more, new)
     | inr other ↦ subst (λ g. r.view z ≤ g z) (sym other.1) (k.refuses s p z r at was up)
   ];

@@ -53,9 +53,9 @@ refusal_at line Faults.NoMemory = Fault.Memory
 refusal_at line fault = Fault.Refused line fault
 
 -- the run's error for a fault of a shared call at a line
-abbrev pub fault_at : ℕ → SharedFault → RunFault
-fault_at line Call.WrongSeat = Fault.Lock
-fault_at line Call.HistoryFull = Fault.Lock
-fault_at line Call.NoRecord = Fault.Memory
-fault_at line (Call.Core fault) = refusal_at line fault
-fault_at line (Call.Flush f) = refusal_at line f.fault
+abbrev pub run_fault_at : ℕ → SharedFault → RunFault
+run_fault_at line Call.WrongSeat = Fault.Lock
+run_fault_at line Call.HistoryFull = Fault.Lock
+run_fault_at line Call.NoRecord = Fault.Memory
+run_fault_at line (Call.Core fault) = refusal_at line fault
+run_fault_at line (Call.Flush f) = refusal_at line f.fault

@@ -9,13 +9,13 @@ use Rattle.causal_run.specs.declared.fault.RunFault.{RunFault}
 use Rattle.causal_run.specs.Runs.{ExplainsRunFault}
 use Rattle.causal_run.specs.ScriptProcesses.{IsStartOf}
 use Rattle.causal_runtime_commands.specs.declared.script.Reason.{Reason}
-use Rattle.causal_runtime_commands.specs.Reasons.{IsReason}
+use Rattle.causal_runtime_commands.specs.Reasons.{IsScriptReason}
 
 -- the reason, if any, is true of each text whose first error this is; of any text if the error is `NoMemory`
 abbrev pub IsFaultReason : ScriptFault → Option Reason → Type 0
-IsFaultReason fault told = (text : List ℕ) → (fault.kind ≢ kind.NoMemory → IsFirstFault text fault) → IfSome told (IsReason text)
+IsFaultReason fault told = (text : List ℕ) → (fault.kind ≢ kind.NoMemory → IsFirstFault text fault) → IfSome told (IsScriptReason text)
 
 -- the reason, if any, is true of each script of whose run this fault is true
 abbrev pub IsRefusalReason : RunFault → Option Reason → Type 0
 IsRefusalReason fault told = (text : List ℕ) (script : Script) → Spells text (script_content script)
-    → ExplainsRunFault (IsStartOf script) script.commands fault → IfSome told (IsReason text)
+    → ExplainsRunFault (IsStartOf script) script.commands fault → IfSome told (IsScriptReason text)

@@ -6,7 +6,7 @@ use causal_trace::trace::Trace;
 
 /// A ring of three; process 1 returns `NoMemory` once, after this number of steps.
 pub(super) fn refusing_ring(alloc: Global, steps: u64) -> Result<Vec<Boxed>, NoMemory> {
-    ring_with(alloc, process(alloc, Kind::Refusing(2, steps), 3, 1))
+    ring_with(alloc, test_process(alloc, Kind::Refusing(2, steps), 3, 1))
 }
 
 /// The error of a start over a store, which may have a member; None too if allocation failed for the processes.
@@ -63,7 +63,7 @@ pub(super) fn delivers_again(alloc: Global, core: &mut Runtime) -> bool {
 /// Returns whether a spare that fails with `NoMemory` in a restart of process 0 is returned, and then restarts it.
 pub(super) fn spare_comes_back(alloc: Global, core: &mut Runtime) -> bool {
     let is_down = core.crash(Pid(0)) == Ok(1);
-    let spare = process(alloc, Kind::Refusing(2, 0), 3, 0);
+    let spare = test_process(alloc, Kind::Refusing(2, 0), 3, 0);
     let answer = ExpectedReply::Restarted(2, 0, 1);
     gives_back(core, (0, CoreFault::NoMemory), (0, answer), spare)
         && is_down

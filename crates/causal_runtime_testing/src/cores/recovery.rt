@@ -94,7 +94,7 @@ fn is_not_replayed_down(core: &mut Runtime) -> bool {
 
 /// Returns whether the spare is returned for 2, which is up, and then restarts 1.
 fn is_restarted(alloc: Global, core: &mut Runtime) -> bool {
-    let spare = process(alloc, Kind::Ring(2), 3, 1);
+    let spare = test_process(alloc, Kind::Ring(2), 3, 1);
     let answer = ExpectedReply::Restarted(7, 3, 0);
     gives_back(core, (2, CoreFault::NotDown), (1, answer), spare)
 }

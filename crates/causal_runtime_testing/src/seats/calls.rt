@@ -20,7 +20,7 @@ fn restart<R: Wait>(
     shared: &Shared<MemStable>,
     seat: &mut Seat,
 ) -> Option<SharedFault> {
-    let spare = process(alloc, Kind::Echo(3), 2, 0).ok()?;
+    let spare = test_process(alloc, Kind::Echo(3), 2, 0).ok()?;
     let refused = shared.restart(rt, seat, Pid(0), spare).err()?;
     Some(refused.fault)
 }

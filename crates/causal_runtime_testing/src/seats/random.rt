@@ -35,7 +35,7 @@ fn restart<R: Wait>(
     seat: &mut Seat,
     p: Pid,
 ) -> bool {
-    let Ok(spare) = process(alloc, Kind::Echo(200), u16::from(SEATS), p.0) else {
+    let Ok(spare) = test_process(alloc, Kind::Echo(200), u16::from(SEATS), p.0) else {
         return false;
     };
     match shared.restart(rt, seat, p, spare) {

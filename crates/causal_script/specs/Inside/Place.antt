@@ -4,7 +4,7 @@ use Rattle.std.specs.List.{AllByRecursion, range_with_len}
 use Rattle.causal_script.specs.declared.script.Command.{Command}
 use Rattle.causal_script.specs.declared.script.ScriptFault.{ScriptFault}
 use Rattle.causal_script.specs.declared.script.ScriptFaultKind.TheVariants.{Big, Script}
-use Rattle.causal_script.specs.Lines.{lines, count_line_feeds}
+use Rattle.causal_script.specs.Lines.{script_lines, count_line_feeds}
 use Rattle.causal_script.specs.Spelling.{max_script, command_line, IsRequest}
 use Rattle.causal_script.specs.Faults.{AreSound}
 
@@ -26,13 +26,13 @@ line_or_fault big line said =
 
 -- `count` lines were read, none has an error, and these bytes remain
 pub record IsAfter (text : List ℕ) (count : ℕ) (left : List ℕ) : Type 0 where
-  pub rest : drop count (lines text) ≡ lines left
-  pub within : count ≤ length (lines text)
+  pub rest : drop count (script_lines text) ≡ script_lines left
+  pub within : count ≤ length (script_lines text)
   pub sound : AreSound text count
 
 -- these are the commands on the lines of `rest`, up to the remaining bytes
 pub record AreCommands (rest : List ℕ) (commands : List Command) (left : List ℕ) : Type 0 where
-  pub said : lines rest ≡ map (λ c. command_line c.request) commands ++ lines left
+  pub said : script_lines rest ≡ map (λ c. command_line c.request) commands ++ script_lines left
   pub requests : AllByRecursion (λ c. IsRequest c.request) commands
 
 -- the commands are those on the text's lines from 2 up to this one

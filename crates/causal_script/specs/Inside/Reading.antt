@@ -28,25 +28,25 @@ abbrev pub space : ℕ
 space = 32
 
 -- digits without a leading zero
-abbrev pub is_plain : List ℕ → Bool
-is_plain [] = false
-is_plain (x ∷ []) = is_ascii_digit x
-is_plain (x ∷ y ∷ ys) = not (x == 48) && all_ascii_digits (x ∷ y ∷ ys)
+abbrev pub is_plain_number : List ℕ → Bool
+is_plain_number [] = false
+is_plain_number (x ∷ []) = is_ascii_digit x
+is_plain_number (x ∷ y ∷ ys) = not (x == 48) && all_ascii_digits (x ∷ y ∷ ys)
 
 -- the number that a token spells, up to a limit
-unfoldable pub number_of : ℕ → List ℕ → Option ℕ
-number_of limit word =
-    if is_plain word && nat_le (digits_value 10 word) limit then Some (digits_value 10 word) else None
+unfoldable pub parse_number : ℕ → List ℕ → Option ℕ
+parse_number limit word =
+    if is_plain_number word && nat_le (digits_value 10 word) limit then Some (digits_value 10 word) else None
 
 -- the process with the number that a token spells
-unfoldable pub process_of : List ℕ → Option Pid
-process_of word = number_of 255 word >>= λ n. Some (record { 0 = n })
+unfoldable pub parse_process : List ℕ → Option Pid
+parse_process word = parse_number 255 word >>= λ n. Some (record { 0 = n })
 
 -- the delivery in `Q SOURCE SSN`
-unfoldable pub delivery_of : List ℕ → Option Request
-delivery_of words =
+unfoldable pub parse_delivery : List ℕ → Option Request
+parse_delivery words =
     split_at_byte space words >>= λ a. split_at_byte space a.1 >>= λ b.
-    process_of a.0 >>= λ q. process_of b.0 >>= λ source. number_of 4294967295 b.1 >>= λ ssn. Some (Deliver q source ssn)
+    parse_process a.0 >>= λ q. parse_process b.0 >>= λ source. parse_number 4294967295 b.1 >>= λ ssn. Some (Deliver q source ssn)
 
 -- a command with one process, by its name
 unfoldable pub parse_process_command : List ℕ → Pid → Option Request
@@ -60,34 +60,34 @@ parse_process_command name p =
 -- a command, by its name and its arguments
 unfoldable pub named_request : List ℕ → List ℕ → Option Request
 named_request name words =
-    if bytes_eq name (codes "deliver") then delivery_of words else process_of words >>= (λ p. parse_process_command name p)
+    if bytes_eq name (codes "deliver") then parse_delivery words else parse_process words >>= (λ p. parse_process_command name p)
 
 -- the request in a line after the first
-unfoldable pub request_of : List ℕ → Option Request
-request_of line = split_at_byte space line >>= λ a. named_request a.0 a.1
+unfoldable pub parse_request : List ℕ → Option Request
+parse_request line = split_at_byte space line >>= λ a. named_request a.0 a.1
 
 -- the process count that a token spells, 1 to 256
-unfoldable pub count_of : List ℕ → Option ℕ
-count_of word = number_of 256 word >>= λ n. if nat_lt 0 n then Some n else None
+unfoldable pub parse_count : List ℕ → Option ℕ
+parse_count word = parse_number 256 word >>= λ n. if nat_lt 0 n then Some n else None
 
 -- the last number of a start, and the exploration `SEED STEPS` after it, if there is to be one
 unfoldable pub split_last : Bool → List ℕ → Option (List ℕ × Option Exploration)
 split_last explores words =
     if explores then
     split_at_byte space words >>= (λ a. split_at_byte space a.1 >>= λ b.
-    number_of 4294967295 b.0 >>= λ seed. number_of max_steps b.1 >>= λ steps. Some (a.0, Some (record { seed = seed; steps = steps })))
+    parse_number 4294967295 b.0 >>= λ seed. parse_number max_steps b.1 >>= λ steps. Some (a.0, Some (record { seed = seed; steps = steps })))
     else Some (words, None)
 
 -- a start with the process count and failure bound in these two tokens
 unfoldable pub numbered_start : Kind → List ℕ → List ℕ → ℕ → Option Exploration → Option Start
 numbered_start kind n f param exploration =
-    count_of n >>= λ n. number_of 65535 f >>= λ f. Some (record { kind = kind; n = n; f = f; param = param; exploration = exploration })
+    parse_count n >>= λ n. parse_number 65535 f >>= λ f. Some (record { kind = kind; n = n; f = f; param = param; exploration = exploration })
 
 -- the start in `N F PARAM`, or in `N F PARAM SEED STEPS`
 unfoldable pub parse_start_numbers : Bool → Kind → List ℕ → Option Start
 parse_start_numbers explores kind words =
     split_at_byte space words >>= λ a. split_at_byte space a.1 >>= λ b. split_last explores b.1 >>= λ c.
-    number_of 255 c.0 >>= λ param. numbered_start kind a.0 b.0 param c.1
+    parse_number 255 c.0 >>= λ param. numbered_start kind a.0 b.0 param c.1
 
 -- the start in `N F`, or in `N F SEED STEPS`
 unfoldable pub tally_of : Bool → List ℕ → Option Start

@@ -4,7 +4,7 @@ use Rattle.causal_trace.specs.declared.entry.Entry.{Entry}
 use Rattle.causal_trace.specs.Rows.{Recording}
 use Rattle.causal_protocol.specs.Run.{Run}
 use Rattle.causal_shared.specs.declared.item.Item.{Item}
-use Rattle.causal_shared.specs.Finish.{HasSeatHistory, AllHaveSeats, IsComplete, before_items}
+use Rattle.causal_shared.specs.Finish.{HasSeatHistory, AllHaveSeats, AreAllSeats, before_items}
 use Rattle.causal_shared.specs.History.{LockedState}
 use Rattle.causal_shared.specs.Seat.{SeatMemory}
 use Rattle.causal_shared.specs.Shared.{opening_from}
@@ -31,7 +31,7 @@ pub record HasOtherOpening (r : Run) (history : List Item) (seats : List SeatMem
 
 -- no check prevents the finish: the seats are complete, they match the history, and the opening is this one
 pub record CanFinish (held : LockedState) (tag k : ℕ) (seats : List SeatMemory) (recording : Recording) (faults : ℕ) : Type 0 where
-  pub complete : IsComplete tag k seats
+  pub complete : AreAllSeats tag k seats
   pub agree : All (HasSeatHistory held.history) seats
   pub seated : AllHaveSeats seats held.history
   pub begins : HasOpening held.run held.history recording faults

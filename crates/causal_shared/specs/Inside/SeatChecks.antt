@@ -6,7 +6,7 @@ use Rattle.causal_shared.specs.declared.refused.SharedRefused.{SharedRefused}
 use Rattle.causal_shared.specs.declared.fault.SharedFault.{SharedFault}
 use Rattle.causal_shared.specs.declared.fault.SharedFault.TheVariants.{WrongSeat, HistoryFull, NoRecord}
 use Rattle.causal_shared.specs.declared.fault.LockedFault.{LockedFault}
-use Rattle.causal_shared.specs.History.{last_of, run_length, count_at, LockedState, Holds, AddsItem}
+use Rattle.causal_shared.specs.History.{last_item, run_length, item_count, LockedState, Holds, AddsItem}
 use Rattle.causal_shared.specs.Limits.{max_items}
 use Rattle.causal_shared.specs.Seat.{SeatView, SeatMemory, IsSeatCall, shared_fault_of}
 
@@ -24,7 +24,7 @@ ItemSection old new seat seat' request (Some reply) =
 
 -- the seat is of this runtime and matches its record
 abbrev pub MatchesRecord : ℕ → LockedState → SeatView → Type 0
-MatchesRecord tag held seat = (seat.tag ≡ tag) × Holds held seat.number (length seat.items) seat.seen (last_of seat.items)
+MatchesRecord tag held seat = (seat.tag ≡ tag) × Holds held seat.number (length seat.items) seat.seen (last_item seat.items)
 
 -- the result is `WrongSeat` if and only if the seat does not match
 abbrev pub WrongSeatIsTrue : {A : Type 0} → ℕ → LockedState → SeatView → Result A SharedFault → Type 0
@@ -43,7 +43,7 @@ pub record CanCall (held : LockedState) (seat : SeatMemory) (first : ℕ) : Type
   pub begins : first ≡ run_length held.run
   pub later : seat.view.seen ≤ first
   pub inside : seat.view.number < length held.seats
-  pub counted : length seat.view.items ≡ count_at held.seats seat.view.number
+  pub counted : length seat.view.items ≡ item_count held.seats seat.view.number
   pub room : length held.history < max_items
   pub few : length seat.view.items < max_items
   pub spare : 1 ≤ seat.spare

@@ -13,7 +13,7 @@ use Rattle.causal_trace.specs.Past.{is_down, logs, is_stable, instant}
 use Rattle.causal_trace.specs.Dependence.{AreForward, is_delivery_of}
 use Rattle.causal_trace.specs.Judgement.{IsCrashSet, IsSafe, IsSafeTrace}
 use Rattle.causal_steps.specs.Recovery.{must_recover, counts_as_holder, IsRecoverable}
-use Rattle.causal_steps.specs.Transit.{Parcel, VolatileState, IsInTransit, Survives}
+use Rattle.causal_steps.specs.Transit.{TransitParcel, VolatileState, IsInTransit, Survives}
 use Rattle.causal_steps.specs.Invariant.{StepInvariant}
 use Rattle.causal_steps.specs.Steps.{IsDeliverStep, IsStep, silent, sends, delivers, crashes, restarts, writes, forgets}
 use Rattle.causal_steps.specs.Reachable.{IsInitial, IsReachableState, initial, next_state}
@@ -81,7 +81,7 @@ step_sound n f past next v w s (writes det m) = next_sound n f (Stable det) past
 step_sound n f past next v w s (forgets who listed m) = next_sound n f (Forget who listed) past v w s (forgets who listed m) (no_delivery (Forget who listed) past (λ i. refl) s.forward)
 
 module _ (n f : ℕ) (v : VolatileState) (none : IsInitial v) where
-  no_parcel : (t : Parcel) → IsInTransit v t → ⊥
+  no_parcel : (t : TransitParcel) → IsInTransit v t → ⊥
   no_parcel t (i, j, at) = let x : None ≡ Some t = sym (none.no_parcels i j) ∙ at in cc
 
   knows_nothing : (p : ℕ) (d : Det) (q : ℕ) → v.knows_holder p d q ≡ true → ⊥

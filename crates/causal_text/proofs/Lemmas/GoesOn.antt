@@ -10,7 +10,7 @@ use Rattle.causal_text.specs.Laws.{PrefixTextPrefixTrace}
 use Rattle.causal_line.specs.Lines.{lines}
 use Rattle.causal_line.specs.Stages.{lines_up_to}
 use Rattle.causal_line.specs.Values.{parse_line}
-use Rattle.causal_line.specs.Versions.{number_of}
+use Rattle.causal_line.specs.Versions.{version_number}
 use Rattle.causal_text.proofs.Feeds.{lines_joined}
 
 abbrev Read : Type 0
@@ -29,7 +29,7 @@ pub texts_go_on : PrefixTextPrefixTrace
 texts_go_on most text whole r spells (bytes, tail, split, c) = let all : lines text ≡ c.complete ++ lines (c.rest ++ tail) = grind (arith, append_assoc, lines_joined) in
     let us = map parse_line (lines (c.rest ++ tail)) in
     let both : map Ok (lines_up_to (Within c.version r)) ++ us ≡ map Ok (lines_up_to (Ended spells.version whole)) = grind (arith, map-append) in
-    let header : parsed.Header (number_of c.version) r.processes ≡ parsed.Header (number_of spells.version) whole.processes = cc in
+    let header : parsed.Header (version_number c.version) r.processes ≡ parsed.Header (version_number spells.version) whole.processes = cc in
     let entries : entries_read (reverse r.past) ++ us ≡ map Ok (map parsed.Entry (reverse whole.past) ++ parsed.End (length whole.past) ∷ []) = cc in
     let later = first_entries (reverse r.past) (reverse whole.past) (length whole.past) us entries in
     let processes : whole.processes ≡ r.processes = cc in (

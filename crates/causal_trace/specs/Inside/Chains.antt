@@ -10,8 +10,8 @@ use Rattle.causal_name.specs.declared.Det.{Det}
 use Rattle.causal_name.specs.Names.{same_pid, message_of}
 use Rattle.causal_trace.specs.declared.entry.Entry.{Entry}
 use Rattle.causal_trace.specs.declared.entry.Entry.TheVariants.{Deliver}
-use Rattle.causal_trace.specs.declared.chains.Receipt.{Receipt}
-use Rattle.causal_trace.specs.declared.chains.Node.{Node}
+use Rattle.causal_trace.specs.declared.chains.MessageReceipt.{MessageReceipt}
+use Rattle.causal_trace.specs.declared.chains.ReceiptNode.{ReceiptNode}
 use Rattle.causal_trace.specs.declared.chains.Search.{Search}
 use Rattle.causal_trace.specs.declared.chains.Search.TheVariants.{Finished, Unfinished}
 use Rattle.causal_trace.specs.Past.{is_message, lane, message_at}
@@ -38,27 +38,27 @@ abbrev pub IsPlaceBelow : Option ℕ → ℕ → Type 0
 IsPlaceBelow at bound = IfSome at (λ k. k < bound)
 
 -- each node links to an older one
-abbrev pub LeadDown : List Node → Type 0
+abbrev pub LeadDown : List ReceiptNode → Type 0
 LeadDown [] = Unit {0}
 LeadDown (node ∷ older) = IsPlaceBelow node.next (length older) × LeadDown older
 
 -- the receipts from an index on, newest first
-abbrev pub chain : List Node → Option ℕ → List Receipt
+abbrev pub chain : List ReceiptNode → Option ℕ → List MessageReceipt
 chain [] at = []
 chain (node ∷ older) at = if option_map_or (λ k. k == length older) at false then node.receipt ∷ chain older node.next else chain older at
 
 -- the chains as a contract sees them
 pub record ChainsState : Type 0 where
   pub heads : Heads
-  pub nodes : List Node
+  pub nodes : List ReceiptNode
   pub spare : ℕ
 
 -- the receipts of a message
-abbrev pub chain_of : ChainsState → MsgName → List Receipt
+abbrev pub chain_of : ChainsState → MsgName → List MessageReceipt
 chain_of c m = chain c.nodes (head_of c.heads m)
 
 -- heads and nodes link to existing nodes
-pub record AreLinked (heads : Heads) (nodes : List Node) : Type 0 where
+pub record AreLinked (heads : Heads) (nodes : List ReceiptNode) : Type 0 where
   pub heads_lead : (m : MsgName) → IsPlaceBelow (head_of heads m) (length nodes)
   pub nodes_lead : LeadDown nodes
 
@@ -75,25 +75,25 @@ abbrev pub with_head : Heads → MsgName → Option ℕ → Heads
 with_head heads m at = slice_set heads m.source.0 (slice_set (heads_of heads m.source.0) m.ssn at)
 
 -- the nodes with one more receipt of a message
-abbrev pub with_receipt : ChainsState → MsgName → Receipt → List Node
+abbrev pub with_receipt : ChainsState → MsgName → MessageReceipt → List ReceiptNode
 with_receipt c m receipt = record { receipt = receipt; next = head_of c.heads m } ∷ c.nodes
 
 -- whether the newest receipt of a process belongs to this lane (incarnation)
-abbrev pub is_newest_in : Pid → ℕ → List Receipt → Bool
+abbrev pub is_newest_in : Pid → ℕ → List MessageReceipt → Bool
 is_newest_in dest l [] = false
 is_newest_in dest l (receipt ∷ older) = if same_pid receipt.dest dest then receipt.lane == l else is_newest_in dest l older
 
 -- whether a receipt of the determinant's message is a delivery with it
-abbrev pub is_of : Det → Receipt → Bool
-is_of d receipt = same_pid receipt.dest d.dest && receipt.rsn == d.rsn
+abbrev pub is_receipt_of : Det → MessageReceipt → Bool
+is_receipt_of d receipt = same_pid receipt.dest d.dest && receipt.rsn == d.rsn
 
 -- the index of the newest receipt with this determinant among the first m nodes, from an index on
-abbrev pub place_of : ℕ → Det → List Node → Option ℕ → Option ℕ
-place_of m d [] at = None
-place_of m d (node ∷ older) at =
+abbrev pub receipt_index : ℕ → Det → List ReceiptNode → Option ℕ → Option ℕ
+receipt_index m d [] at = None
+receipt_index m d (node ∷ older) at =
     if option_map_or (λ k. k == length older) at false
-    then (if nat_lt (length older) m && is_of d node.receipt then Some (length older) else place_of m d older node.next)
-    else place_of m d older at
+    then (if nat_lt (length older) m && is_receipt_of d node.receipt then Some (length older) else receipt_index m d older node.next)
+    else receipt_index m d older at
 
 -- what a search found, if it finished, has this property
 abbrev pub IfFinished : Search → (Option ℕ → Type 0) → Type 0
@@ -106,7 +106,7 @@ least_room [] room = room
 least_room (list ∷ lists) room = min (vec_capacity list - vec_len list) (least_room lists room)
 
 -- the receipts of a message in a run, newest first
-abbrev pub receipts : List Entry → MsgName → List Receipt
+abbrev pub receipts : List Entry → MsgName → List MessageReceipt
 receipts [] m = []
 receipts (Deliver to send rsn listed ∷ past) m = if is_message (message_at past send) m then record { dest = to; lane = lane past to.0; rsn = rsn } ∷ receipts past m else receipts past m
 receipts (_ ∷ past) m = receipts past m
@@ -118,7 +118,7 @@ heads_after None (Some d) c = with_head c.heads (message_of d) (Some (length c.n
 heads_after None None c = c.heads
 
 -- the nodes after an entry that sends this message, or has this determinant, delivered in this lane
-abbrev pub nodes_after : Option MsgName → Option Det → ℕ → ChainsState → List Node
+abbrev pub nodes_after : Option MsgName → Option Det → ℕ → ChainsState → List ReceiptNode
 nodes_after (Some m) own l c = c.nodes
 nodes_after None (Some d) l c = with_receipt c (message_of d) (record { dest = d.dest; lane = l; rsn = d.rsn })
 nodes_after None None l c = c.nodes

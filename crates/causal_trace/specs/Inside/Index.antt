@@ -12,14 +12,14 @@ use Rattle.causal_trace.specs.Past.{is_down, lane, sends, deliveries, restarts, 
 use Rattle.causal_trace.specs.Numbers.{delivered_dets, number_of}
 use Rattle.causal_trace.specs.Rows.{Recording}
 use Rattle.causal_trace.specs.Bounds.{IsBounded}
-use Rattle.causal_trace.specs.Inside.Chains.{Heads, AreLinked, HasHead, ChainsState, chain, head_of, heads_of, place_of, receipts}
+use Rattle.causal_trace.specs.Inside.Chains.{Heads, AreLinked, HasHead, ChainsState, chain, head_of, heads_of, receipt_index, receipts}
 use Rattle.causal_trace.specs.Inside.SortedDeliveries.{AreDeliveries}
-use Rattle.causal_trace.specs.declared.chains.Node.{Node}
+use Rattle.causal_trace.specs.declared.chains.ReceiptNode.{ReceiptNode}
 use Rattle.causal_trace.specs.declared.sorted_deliveries.SortedDeliveries.{SortedDeliveries}
 
 -- the present lane (incarnation) of p
-abbrev pub lane_of : List Entry → ℕ → LaneState
-lane_of past p = record { down = is_down past p; restarts = lane past p; sends = sends past p; deliveries = deliveries past p }
+abbrev pub lane_state : List Entry → ℕ → LaneState
+lane_state past p = record { down = is_down past p; restarts = lane past p; sends = sends past p; deliveries = deliveries past p }
 
 -- the lane of a process before any entry
 abbrev pub first_lane : LaneState
@@ -55,7 +55,7 @@ lanes_after e lanes = lanes_after_of (subject e) e lanes
 -- the list contains the present lanes of n processes
 pub record ArePresentLanes (n : ℕ) (past : List Entry) (lanes : List LaneState) : Type 0 where
   pub count : length lanes ≡ n
-  pub each : (p : ℕ) (d : LaneState) → p < n → slice_index_or lanes p d ≡ lane_of past p
+  pub each : (p : ℕ) (d : LaneState) → p < n → slice_index_or lanes p d ≡ lane_state past p
 
 -- each counter can count one more entry
 pub record CountersFit (l : LaneState) : Type 0 where
@@ -68,7 +68,7 @@ abbrev pub HasHeads : List Entry → Heads → Type 0
 HasHeads past heads = (k : ℕ) → IfSome (message_at past k) (HasHead heads)
 
 -- heads and nodes represent the deliveries of a run of n processes
-pub record AreChains (n : ℕ) (past : List Entry) (heads : Heads) (nodes : List Node) : Type 0 where
+pub record AreChains (n : ℕ) (past : List Entry) (heads : Heads) (nodes : List ReceiptNode) : Type 0 where
   pub count : length heads ≡ n
   pub linked : AreLinked heads nodes
   pub counted : length nodes ≡ deliveries_in past
@@ -76,7 +76,7 @@ pub record AreChains (n : ℕ) (past : List Entry) (heads : Heads) (nodes : List
   pub named : HasHeads past heads
   pub each : (m : MsgName) → chain nodes (head_of heads m) ≡ receipts past m
   pub numbered : length nodes ≡ length (delivered_dets past)
-  pub placed : (k : ℕ) (d : Det) → place_of k d nodes (head_of heads (message_of d)) ≡ number_of k (delivered_dets past) d
+  pub placed : (k : ℕ) (d : Det) → receipt_index k d nodes (head_of heads (message_of d)) ≡ number_of k (delivered_dets past) d
 
 -- a recording, and what a trace stores besides it
 pub record IsIndexed (r : Recording) (n_listed n_restarts : ℕ) (by_process : List LaneState) (by_message : ChainsState) (by_det : SortedDeliveries) : Type 0 where

@@ -6,6 +6,6 @@ use Rattle.causal_trace.specs.declared.entry.DetsRepr.TheVariants.{One}
 use Rattle.causal_trace.specs.declared.entry.DetsRepr.TheVariants as Lists
 
 -- the determinants of either representation
-abbrev pub dets_in : DetsRepr → List Det
-dets_in (One det) = det ∷ []
-dets_in (Lists.List dets) = dets.items
+abbrev pub dets_in_repr : DetsRepr → List Det
+dets_in_repr (One det) = det ∷ []
+dets_in_repr (Lists.List dets) = dets.items

@@ -13,10 +13,10 @@ use Rattle.causal_rounds.specs.Gathered.{Carrier, DetInvariant}
 use Rattle.causal_rounds.proofs.Lemmas.RoundSteps.{none_some}
 use Rattle.causal_world.specs.World.{World, if_in_transit, if_carries, volatile_of, det_state_of}
 use Rattle.causal_world.specs.Invariant.{WorldInvariant}
-use Rattle.causal_world.specs.Reachable.{IsOpening, IsReachableWorld, opening, next_world, WorldsAreSafe, WorldsShareNoSlot}
+use Rattle.causal_world.specs.Reachable.{IsInitialWorld, IsReachableWorld, opening, next_world, WorldsAreSafe, WorldsShareNoSlot}
 use Rattle.causal_world.proofs.Worlds.{world_steps_preserve}
 
-module _ (n f : ℕ) (w : World) (o : IsOpening n w) where
+module _ (n f : ℕ) (w : World) (o : IsInitialWorld n w) where
   no_round : {X : Type 0} (s : ℕ) (r : Round) → w.rounds.rounds s ≡ Some r → X
   no_round s r at = absurd (none_some r (sym (o.no_rounds s) ∙ at))
 

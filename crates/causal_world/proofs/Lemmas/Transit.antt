@@ -5,9 +5,9 @@ use Rattle.std.proofs.lemmas.Bool.{false≢true, both_ways, or_cases, or_left, o
 use Rattle.std.proofs.lemmas.Bool.Decides.{eqb_tells}
 use Rattle.causal_name.specs.Sets.{any_below}
 use Rattle.causal_holders.proofs.Lemmas.MemberCounts.{any_below-found, any_below-from}
-use Rattle.causal_steps.specs.Transit.{Parcel, IsInTransit}
-use Rattle.causal_rounds.specs.Rounds.{set_at, RoundState, Round, RoundStep, RoundInvariant, number}
-use Rattle.causal_rounds.specs.Gathered.{Carrier, IsOpen}
+use Rattle.causal_steps.specs.Transit.{TransitParcel, IsInTransit}
+use Rattle.causal_rounds.specs.Rounds.{with_value_at, RecoveryState, Round, RoundStep, RoundInvariant, number}
+use Rattle.causal_rounds.specs.Gathered.{Carrier, MayComplete}
 use Rattle.causal_rounds.specs.Acceptance.{IsAcceptable, by_floor, by_sender, by_round}
 use Rattle.causal_world.specs.World.{Packet, World, carrier_of, is_open, round_accepts, is_acceptable, if_in_transit, volatile_of}
 use Rattle.causal_rounds.proofs.Lemmas.AcceptanceSteps.{acceptance_needs_sending}
@@ -15,12 +15,12 @@ use Rattle.causal_rounds.proofs.Lemmas.RoundSteps.{set_at_cases, some_is}
 use Rattle.causal_steps.specs.Steps.{HasNothingNew, HasOneNew}
 use Rattle.causal_world.specs.Invariant.{AbsentAreDown}
 
-abbrev is_apart : RoundState → ℕ → Round → ℕ → Bool
+abbrev is_apart : RecoveryState → ℕ → Round → ℕ → Bool
 is_apart w s r q = not (q == s) && (not (r.replied q) && not (number w q == r.view q))
 
-module _ (n : ℕ) (w : RoundState) where
+module _ (n : ℕ) (w : RecoveryState) where
   -- a round is open if the test says so, and the other way round
-  open_is : (s : ℕ) (r : Round) → ((q : ℕ) → n ≤ q → r.replied q ≡ true) → is_open n w s r ≡ true → IsOpen w s r
+  open_is : (s : ℕ) (r : Round) → ((q : ℕ) → n ≤ q → r.replied q ≡ true) → is_open n w s r ≡ true → MayComplete w s r
   open_is s r absent h q other no_reply = elim (eqb_tells (number w q) (r.view q)) [
     | inl same ↦ same.1
     | inr differ ↦ absurd (elim (under (nat_lt q n) refl) [
@@ -35,7 +35,7 @@ module _ (n : ℕ) (w : RoundState) where
       negated : not (any_below n (is_apart w s r)) ≡ true → any_below n (is_apart w s r) ≡ false
       negated h = grind arith
 
-  is_opened : (s : ℕ) (r : Round) → IsOpen w s r → is_open n w s r ≡ true
+  is_opened : (s : ℕ) (r : Round) → MayComplete w s r → is_open n w s r ≡ true
   is_opened s r opened = by (any_below n (is_apart w s r)) refl
     where
       by : (b : Bool) → any_below n (is_apart w s r) ≡ b → not b ≡ true
@@ -73,7 +73,7 @@ module _ (n : ℕ) (w : RoundState) where
 abbrev pub may_reach : ℕ → World → ℕ → Packet → Bool
 may_reach n w i p = w.landed i || is_acceptable (suc n) w.rounds (carrier_of p)
 
-pub packet_of : (n : ℕ) (w : World) (t : Parcel) → IsInTransit (volatile_of n w) t → (i : ℕ) × (p : Packet) × (w.packets i ≡ Some p) × (may_reach n w i p ≡ true) × (p.parcel ≡ t)
+pub packet_of : (n : ℕ) (w : World) (t : TransitParcel) → IsInTransit (volatile_of n w) t → (i : ℕ) × (p : Packet) × (w.packets i ≡ Some p) × (may_reach n w i p ≡ true) × (p.parcel ≡ t)
 packet_of n w t (i, j, at) = by (w.packets i) refl at
   where
     by : (o : Option Packet) → w.packets i ≡ o → if_in_transit (suc n) w.rounds (w.landed i) o ≡ Some t → (i : ℕ) × (p : Packet) × (w.packets i ≡ Some p) × (may_reach n w i p ≡ true) × (p.parcel ≡ t)
@@ -116,7 +116,7 @@ same_brings_nothing n w x rounds same landed t there =
     subst (λ y. IsInTransit (volatile_of n w) y) found.4 (in_transit_if n w found.0 found.1 (sym (same found.0) ∙ found.2) ((λ j. sym (landed found.0) j || is_acceptable (suc n) (sym rounds j) (carrier_of found.1)) ∙ found.3))
 
 -- if one packet is sent, nothing else is new
-pub one_is_new : (n : ℕ) (w x : World) (i : ℕ) (new : Packet) → x.rounds ≡ w.rounds → ((j : ℕ) → x.packets j ≡ set_at w.packets i (Some new) j) → ((j : ℕ) → x.landed j ≡ w.landed j) → HasOneNew (volatile_of n w) (volatile_of n x) new.parcel
+pub one_is_new : (n : ℕ) (w x : World) (i : ℕ) (new : Packet) → x.rounds ≡ w.rounds → ((j : ℕ) → x.packets j ≡ with_value_at w.packets i (Some new) j) → ((j : ℕ) → x.landed j ≡ w.landed j) → HasOneNew (volatile_of n w) (volatile_of n x) new.parcel
 one_is_new n w x i new rounds same landed t there =
     let found = packet_of n x t there in
     elim (set_at_cases w.packets i (Some new) found.0) [

@@ -12,7 +12,7 @@ use Rattle.causal_audit.specs.Inside.SafetyScan.Persistence.{MentionsNone}
 use Rattle.causal_audit.specs.declared.breach.Breach.{Breach}
 use Rattle.causal_audit.specs.declared.group.buffers.WalkBuffers.{WalkBuffers}
 use Rattle.causal_audit.specs.declared.group.suspects.WalkStep.{WalkStep}
-use Rattle.causal_audit.specs.declared.group.copies.Copies.{Copies}
+use Rattle.causal_audit.specs.declared.group.copies.DetCopies.{DetCopies}
 
 -- in a walk from `start`, the row of the entry at position v
 abbrev pub row_of : ℕ → List (FinSet nat_cmp) → ℕ → FinSet nat_cmp
@@ -140,15 +140,15 @@ abbrev pub AreMarked : List Entry → ℕ → ℕ → List OpenDelivery → ℕ 
 AreMarked past start t candidates count rows = (j : ℕ) → j < count → IsMarked past start t j (opened_at candidates j) rows
 
 -- the copies are those of the determinant d
-pub record AreCopies (past : List Entry) (d : Det) (copies : Copies) : Type 0 where
+pub record AreDetCopies (past : List Entry) (d : Det) (copies : DetCopies) : Type 0 where
   pub holders : HasExactly copies.holders (λ p. logs past p d)
   pub stable : copies.stable ≡ is_stable past d
 
 -- if `before` are the copies of a determinant, `after` are those after one more entry; `mentioned_dets`: the entry mentions
 -- it
-abbrev pub AreCopiesAfter : Entry → Bool → Copies → Copies → Type 0
+abbrev pub AreCopiesAfter : Entry → Bool → DetCopies → DetCopies → Type 0
 AreCopiesAfter e mentioned before after =
-    (past : List Entry) (d : Det) → mentioned ≡ list_has (mentioned_dets e) d → AreCopies past d before → AreCopies (e ∷ past) d after
+    (past : List Entry) (d : Det) → mentioned ≡ list_has (mentioned_dets e) d → AreDetCopies past d before → AreDetCopies (e ∷ past) d after
 
 -- whether an entry is a crash
 abbrev pub is_crash : Entry → Bool
@@ -156,17 +156,17 @@ is_crash (Crash who) = true
 is_crash _ = false
 
 -- the copies of a determinant that is neither stable nor in a log
-abbrev pub no_copies : Copies
+abbrev pub no_copies : DetCopies
 no_copies = record { holders = empty; stable = false }
 
 -- the copies at a place
-abbrev pub copies_at : List Copies → ℕ → Copies
+abbrev pub copies_at : List DetCopies → ℕ → DetCopies
 copies_at copies j = slice_index_or copies j no_copies
 
 -- at each place are the copies of its delivery's determinant at the instant t
-abbrev pub AreCopiesOfGroup : Recording → List OpenDelivery → ℕ → List Copies → Type 0
+abbrev pub AreCopiesOfGroup : Recording → List OpenDelivery → ℕ → List DetCopies → Type 0
 AreCopiesOfGroup r candidates t copies =
-    (j : ℕ) (d : Det) → j < length candidates → det_at r.past (position_at candidates j) ≡ Some d → AreCopies (instant r.past t) d (copies_at copies j)
+    (j : ℕ) (d : Det) → j < length candidates → det_at r.past (position_at candidates j) ≡ Some d → AreDetCopies (instant r.past t) d (copies_at copies j)
 
 -- some process below n depends on the place and is not known to hold its determinant
 abbrev pub IsLacked : List (FinSet nat_cmp) → List (FinSet nat_cmp) → ℕ → ℕ → Type 0
@@ -242,5 +242,5 @@ pub record IsWalkState (r : Recording) (candidates : List OpenDelivery) (start t
 abbrev pub IsBreachOfPlace : WalkBuffers → ℕ → ℕ → ℕ → ℕ → Option Breach → Type 0
 IsBreachOfPlace buffers f k place t found =
     (n : ℕ) (past : List Entry) (d : Det) → AreLegalEntries n past → length past ≡ t → (k < t → det_at past k ≡ Some d)
-    → IsReach past k place buffers.reach → AreCopies past d (copies_at buffers.copies.items place) → HasExactly buffers.down (λ p. is_down past p)
+    → IsReach past k place buffers.reach → AreDetCopies past d (copies_at buffers.copies.items place) → HasExactly buffers.down (λ p. is_down past p)
     → BreachAt n f past k t found

@@ -69,22 +69,22 @@ pub record AreMentionsWith (past : List Entry) (dets delivered : List Det) (list
   pub owned : AreOwned delivered lists
 
 -- whether an entry restarts this process, or crashes it if `restarts` is false
-abbrev pub is_transition_of : Bool → ℕ → Entry → Bool
-is_transition_of restarts p (Crash who) = not restarts && (who.0 == p)
-is_transition_of restarts p (Restart who listed) = restarts && (who.0 == p)
-is_transition_of restarts p _ = false
+abbrev pub restarts_or_crashes : Bool → ℕ → Entry → Bool
+restarts_or_crashes restarts p (Crash who) = not restarts && (who.0 == p)
+restarts_or_crashes restarts p (Restart who listed) = restarts && (who.0 == p)
+restarts_or_crashes restarts p _ = false
 
 -- the process that the entry restarts or crashes, if it does
 abbrev pub IsProcessOf : Bool → Entry → Option ℕ → Type 0
 IsProcessOf restarts e found = MatchOption found
-    ((p : ℕ) → is_transition_of restarts p e ≡ false)
-    (λ q. (p : ℕ) → is_transition_of restarts p e ≡ (q == p))
+    ((p : ℕ) → restarts_or_crashes restarts p e ≡ false)
+    (λ q. (p : ℕ) → restarts_or_crashes restarts p e ≡ (q == p))
 
 -- for each process the list contains exactly the positions of the entries that restart or crash it
 pub record AreTransitionsOf (restarts : Bool) (past : List Entry) (lists : List (List ℕ)) : Type 0 where
   pub ascend : All (Ascends (length past)) lists
-  pub only : (p v : ℕ) → Contains (list_at lists p) v → (e : Entry) × (entry_at past v ≡ Some e) × (is_transition_of restarts p e ≡ true)
-  pub all : (p v : ℕ) (e : Entry) → entry_at past v ≡ Some e → (Contains (list_at lists p) v → ⊥) → is_transition_of restarts p e ≡ false
+  pub only : (p v : ℕ) → Contains (list_at lists p) v → (e : Entry) × (entry_at past v ≡ Some e) × (restarts_or_crashes restarts p e ≡ true)
+  pub all : (p v : ℕ) (e : Entry) → entry_at past v ≡ Some e → (Contains (list_at lists p) v → ⊥) → restarts_or_crashes restarts p e ≡ false
 
 -- c is the position of the first crash of p after k, or `end` if there is none before that
 pub record IsFirstCrash (past : List Entry) (p k end c : ℕ) : Type 0 where

@@ -2,7 +2,7 @@ use Rattle.std.proofs.Common.{◌≡◌, ◌<◌, [], ◌∷◌, ◌++◌, None,
 use Rattle.std.proofs.Math.ListN.{length-set}
 use Rattle.causal_clock.specs.Inside.Columns.{column_in}
 use Rattle.causal_clock.specs.Inside.Lanes.{rises_in}
-use Rattle.causal_clock.specs.Inside.Fields.{events_of, places_of}
+use Rattle.causal_clock.specs.Inside.Fields.{events_of, lane_places}
 use Rattle.causal_clock.proofs.Columns.{raised_none}
 use Rattle.causal_clock.proofs.Moves.{small_lane, keeps_more}
 use Rattle.causal_clock.proofs.Clocks.local.Goals as goal
@@ -11,7 +11,7 @@ pub append-requires-clause-place : goal.append-requires-clause-place
 append-requires-clause-place c =
     grind (
       arith,
-      small_lane (events_of c.self.inside) (places_of c.self.inside) c.self.inside.lanes.items c.args.lane c.index_mut.result.now (rw (← c.self.view_is) at c.requires.lane) c.index_mut.ensures.value c.self.invariant.keeps,
+      small_lane (events_of c.self.inside) (lane_places c.self.inside) c.self.inside.lanes.items c.args.lane c.index_mut.result.now (rw (← c.self.view_is) at c.requires.lane) c.index_mut.ensures.value c.self.invariant.keeps,
     )
 
 pub invariant_of-self-2 : goal.invariant_of-self-2

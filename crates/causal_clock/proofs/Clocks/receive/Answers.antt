@@ -3,7 +3,7 @@ use Rattle.std.proofs.Common.{◌≡◌, ◌≢◌, ℕ, ◌+◌, ◌<◌, [], �
 use Rattle.std.proofs.Math.ListN.{length-set}
 use Rattle.causal_clock.specs.Inside.Columns.{column_in, column_after, SameOrNoNews}
 use Rattle.causal_clock.specs.Inside.Lanes.{rises_in}
-use Rattle.causal_clock.specs.Inside.Fields.{events_of, places_of, counts_in}
+use Rattle.causal_clock.specs.Inside.Fields.{events_of, lane_places, counts_in}
 use Rattle.causal_clock.proofs.Columns.{raised_alike}
 use Rattle.causal_clock.proofs.Entries.{tells_event}
 use Rattle.causal_clock.proofs.Lanes.{as_many, column_was, told_was}
@@ -21,7 +21,7 @@ pub invariant_of-self-in_err-reserve_counts : goal.invariant_of-self-in_err-rese
 invariant_of-self-in_err-reserve_counts c =
     grind (
       arith,
-      keeps_unchanged (events_of c.self.inside) (places_of c.self.inside) c.self.inside.lanes.items c.args.lane c.index_mut-own.result.now c.reserve_counts.new.self (rw (← c.self.view_is) at c.requires.lane) c.index_mut-own.ensures.value c.reserve_counts.ensures.events c.reserve_counts.ensures.same c.self.invariant.keeps,
+      keeps_unchanged (events_of c.self.inside) (lane_places c.self.inside) c.self.inside.lanes.items c.args.lane c.index_mut-own.result.now c.reserve_counts.new.self (rw (← c.self.view_is) at c.requires.lane) c.index_mut-own.ensures.value c.reserve_counts.ensures.events c.reserve_counts.ensures.same c.self.invariant.keeps,
       length-set c.self.inside.lanes.items c.args.lane c.reserve_counts.new.self,
     )
 
@@ -29,7 +29,7 @@ pub append_counts-requires-clause-few : goal.append_counts-requires-clause-few
 append_counts-requires-clause-few c =
     grind (
       arith,
-      small_lane (events_of c.self.inside) (places_of c.self.inside) c.self.inside.lanes.items c.args.lane c.index_mut-own.result.now (rw (← c.self.view_is) at c.requires.lane) c.index_mut-own.ensures.value c.self.invariant.keeps,
+      small_lane (events_of c.self.inside) (lane_places c.self.inside) c.self.inside.lanes.items c.args.lane c.index_mut-own.result.now (rw (← c.self.view_is) at c.requires.lane) c.index_mut-own.ensures.value c.self.invariant.keeps,
       c.reserve_counts.ensures.events,
     )
 
@@ -37,7 +37,7 @@ pub append-requires-clause-place : goal.append-requires-clause-place
 append-requires-clause-place c =
     grind (
       arith,
-      small_lane (events_of c.self.inside) (places_of c.self.inside) c.self.inside.lanes.items c.args.lane c.index_mut-own.result.now (rw (← c.self.view_is) at c.requires.lane) c.index_mut-own.ensures.value c.self.invariant.keeps,
+      small_lane (events_of c.self.inside) (lane_places c.self.inside) c.self.inside.lanes.items c.args.lane c.index_mut-own.result.now (rw (← c.self.view_is) at c.requires.lane) c.index_mut-own.ensures.value c.self.invariant.keeps,
       c.reserve_counts.ensures.events,
       c.append_counts.ensures.events,
     )
@@ -63,7 +63,7 @@ invariant_of-self-2 c = let lt : c.args.lane < length c.self.inside.lanes.items 
     let row : c.index-to.result.now.row.items ≡ c.index_mut-own.result.now.row.items = grind (arith, common_steps, told_was) in
     let each : (source : ℕ) → source < length (lengths_in c.self.inside.lanes.items) → source ≢ c.args.lane → SameOrNoNews (get_or c.index_mut-own.result.now.row.items source 0) (get_or c.in_ok-counts.counts.items source 0) (counts_in (events_of c.self.inside) (columns_in c.self.inside.lanes.items) c.args.send_event source) =
     grind (arith, told_in, columns_in, column_was) in
-    let both = alike es (places_of c.self.inside) (lengths_in lanes) (columns_in lanes) k send own sent.inside x.row.items counts (omega (arith, many, lengths)) c.in_ok-counts.ensures.own each in
+    let both = alike es (lane_places c.self.inside) (lengths_in lanes) (columns_in lanes) k send own sent.inside x.row.items counts (omega (arith, many, lengths)) c.in_ok-counts.ensures.own each in
     let kept = x.kept in
     let events_are : c.append_counts.new.self.events ≡ c.index_mut-own.result.now.events = c.append_counts.ensures.events ∙ c.reserve_counts.ensures.events in
     let appended : c.append.new.entries.items ≡ c.self.inside.placed_events.items ++ record { event = record { lane = c.args.lane; send = Some c.args.send_event }; place = c.index_mut-own.result.now.events } ∷ [] =

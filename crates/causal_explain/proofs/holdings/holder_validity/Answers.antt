@@ -12,8 +12,8 @@ loop-i-init c = record { count = refl; stand = stand_none (λ p (past : List Ent
 
 pub loop-i-preserved : goal.loop-i-preserved
 loop-i-preserved c = record {
-  count = omega (arith, c.loop-i.invariant.count, c.note.auto.standings);
-  stand = stand_next c.args.entries.now c.loop-i.i _ c.holder_change.result (λ p state. logs state p c.args.det) c.loop-i.standings c.note.new.standings c.loop-i-test.true c.index-entries-i.is c.note.ensures c.holder_change.ensures c.loop-i.invariant.stand;
+  count = omega (arith, c.loop-i.invariant.count, c.apply_change.auto.standings);
+  stand = stand_next c.args.entries.now c.loop-i.i _ c.holder_change.result (λ p state. logs state p c.args.det) c.loop-i.standings c.apply_change.new.standings c.loop-i-test.true c.index-entries-i.is c.apply_change.ensures c.holder_change.ensures c.loop-i.invariant.stand;
 }
 
 pub returns : goal.returns

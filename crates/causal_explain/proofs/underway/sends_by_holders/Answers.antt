@@ -27,11 +27,11 @@ loop-i-preserved c =
     let before = past_at entries i in
     let below : i < length entries = c.loop-i-test.true in
     let next : past_at entries (i + 1) ≡ e ∷ before = past_more entries i e below c.index-entries-i.is in
-    let stand : AreValidities (e ∷ before) (λ p state. logs state p d) c.note.new.standings =
-    c.note.ensures (λ p state. logs state p d) e before (past_length entries i (omega (arith, below))) c.holder_change.ensures c.loop-i.invariant.stand in
+    let stand : AreValidities (e ∷ before) (λ p state. logs state p d) c.apply_change.new.standings =
+    c.apply_change.ensures (λ p state. logs state p d) e before (past_length entries i (omega (arith, below))) c.holder_change.ensures c.loop-i.invariant.stand in
     record {
-      count = omega (arith, c.loop-i.invariant.count, c.note.auto.standings);
-      stand = subst (λ past. AreValidities past (λ p state. logs state p d) c.note.new.standings) (sym next) stand;
+      count = omega (arith, c.loop-i.invariant.count, c.apply_change.auto.standings);
+      stand = subst (λ past. AreValidities past (λ p state. logs state p d) c.apply_change.new.standings) (sym next) stand;
       marked = rw (next, c.push_reserved.ensures.items)
           (sends_more e before d c.loop-i.sends.items c.is_sent_by_holder.result c.loop-i.invariant.marked (c.is_sent_by_holder.ensures before d c.loop-i.invariant.stand));
       len = omega (arith, c.push_reserved.ensures.len, c.loop-i.invariant.len);

@@ -1,6 +1,6 @@
 use Rattle.std.proofs.Common.{append_assoc, length, string_bytes, ◌++◌, ap, sym, ◌∙◌}
 use Rattle.causal_trace.specs.State.{entries_of}
-use Rattle.causal_line.specs.Versions.{number_of}
+use Rattle.causal_line.specs.Versions.{version_number}
 use Rattle.causal_line.specs.declared.parsed_line.ParsedLine.TheVariants as parsed
 use Rattle.causal_lines.specs.Canonical.{line_text, entries_text, canonical_version}
 use Rattle.causal_lines.proofs.Lemmas.CanonicalParts.{canonical_parts}
@@ -10,7 +10,7 @@ pub returns : goal.returns
 returns c =
     let r = c.args.trace.now.recording in
     let old = string_bytes c.args.out.now in
-    let header = line_text (parsed.Header (number_of (canonical_version r)) r.processes) in
+    let header = line_text (parsed.Header (version_number (canonical_version r)) r.processes) in
     let entries = entries_text (entries_of r) in
     let end = line_text (parsed.End (length r.past)) in
     rw (c.in_ok-push_end.ensures, c.in_ok-push_entries.ensures, c.in_ok-push_header.ensures, c.number-version.ensures, c.canonical_version.ensures, c.processes.ensures.value, c.entries.ensures.value, c.len.ensures.length)

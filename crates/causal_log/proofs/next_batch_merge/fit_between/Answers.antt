@@ -11,13 +11,13 @@ pub returns-in-Some : goal.returns-in-Some
 returns-in-Some c = λ low.
     let next = c.in-Some.next.now in
     let last = c.in-Some-Some.last.now.det in
-    let here = drop_got c.args.kept.now c.place_of.result next (grind (arith, slice_get-get_or)) in
-    apart_between c.args.items.now c.args.kept.now c.in-Some-Some.first.now c.in-Some-Some.last.now c.place_of.result c.requires.ascending (grind arith) (grind arith) c.place_of.ensures.before
+    let here = drop_got c.args.kept.now c.item_index.result next (grind (arith, slice_get-get_or)) in
+    apart_between c.args.items.now c.args.kept.now c.in-Some-Some.first.now c.in-Some-Some.last.now c.item_index.result c.requires.ascending (grind arith) (grind arith) c.item_index.ensures.before
     (ap (λ ys. is_ascending (last ∷ dets_of ys)) here
-    ∙ and_from (is_before last next.det) (is_ascending (dets_of (next ∷ drop (c.place_of.result + 1) c.args.kept.now))) (sym c.comes_before.ensures ∙ low)
-    (ap (λ ys. is_ascending (dets_of ys)) (sym here) ∙ drop_ascends c.args.kept.now c.place_of.result c.requires.kept))
+    ∙ and_from (is_before last next.det) (is_ascending (dets_of (next ∷ drop (c.item_index.result + 1) c.args.kept.now))) (sym c.comes_before.ensures ∙ low)
+    (ap (λ ys. is_ascending (dets_of ys)) (sym here) ∙ drop_ascends c.args.kept.now c.item_index.result c.requires.kept))
 
 pub returns-in-None : goal.returns-in-None
 returns-in-None c = λ low.
-    apart_between c.args.items.now c.args.kept.now c.in-Some-Some.first.now c.in-Some-Some.last.now c.place_of.result c.requires.ascending (grind arith) (grind arith) c.place_of.ensures.before
+    apart_between c.args.items.now c.args.kept.now c.in-Some-Some.first.now c.in-Some-Some.last.now c.item_index.result c.requires.ascending (grind arith) (grind arith) c.item_index.ensures.before
     (grind (arith, drop_all))

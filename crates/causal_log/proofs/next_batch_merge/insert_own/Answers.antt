@@ -9,8 +9,8 @@ use Rattle.causal_log.proofs.MergeLemmas.{got_within, in_its_place, own_met, own
 use Rattle.causal_log.proofs.next_batch_merge.insert_own.Goals.{then-is_some-via-then-is_some, then-is_some-via-else-is_some+then-names_det}
 use Rattle.causal_log.proofs.next_batch_merge.insert_own.Goals as goal
 
-pub place_of-place-requires : goal.place_of-place-requires
-place_of-place-requires c = grind (arith, chosen_ascend)
+pub item_index-place-requires : goal.item_index-place-requires
+item_index-place-requires c = grind (arith, chosen_ascend)
 
 pub remove-requires : goal.remove-requires
 remove-requires c = grind (arith, got_within)
@@ -22,4 +22,4 @@ pub returns-then-is_some : goal.returns-then-is_some
 returns-then-is_some c = grind (arith, or_left, or_right, own_out, absorbed_logged)
 
 pub returns : goal.returns
-returns c = grind (arith, joined_nothing, own_in c.args.delivery.now.f (log_after_items c.args.delivery.now) c.args.delivery.now.own (held_by c.args.delivery.now.me) c.as_slice-items.result.now c.place_of-place.result, absorbed_logged)
+returns c = grind (arith, joined_nothing, own_in c.args.delivery.now.f (log_after_items c.args.delivery.now) c.args.delivery.now.own (held_by c.args.delivery.now.me) c.as_slice-items.result.now c.item_index-place.result, absorbed_logged)

@@ -4,4 +4,4 @@ use Rattle.causal_picture.proofs.frame.push_description.Goals as goal
 
 pub returns : goal.returns
 unfolding description_text
-returns c = rw (sym c.columns_of-count.ensures.value, sym c.line_of-line.ensures) c.write.ensures.bytes
+returns c = rw (sym c.column_count-count.ensures.value, sym c.line_at-line.ensures) c.write.ensures.bytes

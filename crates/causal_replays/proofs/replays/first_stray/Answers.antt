@@ -3,7 +3,7 @@ use Rattle.std.specs.Prelude.{◌||◌, IfSome}
 use Rattle.causal_name.specs.declared.Det.{Det}
 use Rattle.causal_trace.specs.Past.{instant, list_has}
 use Rattle.causal_trace.specs.Survivors.{survives, SlotsAreSingle}
-use Rattle.causal_replays.specs.Inside.Copies.{AreSized, AreCopies}
+use Rattle.causal_replays.specs.Inside.Copies.{AreSized, IsCopyTable}
 use Rattle.causal_replays.specs.Inside.Rivals.{HasRivals, AreNoted}
 use Rattle.causal_replays.proofs.SlotLemmas.{no_number}
 use Rattle.causal_replays.proofs.RivalLemmas.{noted_fewer}
@@ -42,7 +42,7 @@ note_dets-requires-clause-copied c =
     let next = next_state r es read t e c.loop-t-test.true c.index-recorded-t.is in
     let inside : t + 1 ≤ length r.past = omega (arith, c.loop-t-test.true, how_many r es read) in
     let now = c.apply_entry.new.copies in
-    let copied_now = subst (λ p. AreCopies r.past p now) (sym next) (c.in_ok-apply_entry.ensures.copies (instant r.past t) c.loop-t.invariant.copied) in
+    let copied_now = subst (λ p. IsCopyTable r.past p now) (sym next) (c.in_ok-apply_entry.ensures.copies (instant r.past t) c.loop-t.invariant.copied) in
     listed_copied r c.entries-recorded.ensures.formed t e inside next c.loop-t.copies now c.loop-t.invariant.copied copied_now c.copied_by.result.now c.copied_by.ensures
 
 pub first_two-first-requires-clause-two : goal.first_two-first-requires-clause-two
@@ -56,7 +56,7 @@ first_two-first-requires-clause-two c =
     let next = next_state r es read t e c.loop-t-test.true c.index-recorded-t.is in
     let inside : t + 1 ≤ length r.past = omega (arith, c.loop-t-test.true, how_many r es read) in
     let now = c.apply_entry.new.copies in
-    let copied_now = subst (λ p. AreCopies r.past p now) (sym next) (c.in_ok-apply_entry.ensures.copies (instant r.past t) c.loop-t.invariant.copied) in
+    let copied_now = subst (λ p. IsCopyTable r.past p now) (sym next) (c.in_ok-apply_entry.ensures.copies (instant r.past t) c.loop-t.invariant.copied) in
     let noted = c.in_ok-slot.ensures.noted (survives r.processes (instant r.past t)) (noted_kept r formed t e inside next c.loop-t.copies now c.loop-t.invariant.copied copied_now c.loop-t.slots.items c.loop-t.invariant.noted) in
     two_now r formed (t + 1) inside now copied_now c.in-Some.slot (subst (λ o. IfSome o (HasRivals r.past now)) c.in-Some.is noted.rivals)
 
@@ -73,7 +73,7 @@ returns-in-Some c =
     let now = c.apply_entry.new.copies in
     let slots = c.note_dets.new.slots.items in
     let dets = c.copied_by.result.now in
-    let copied_now = subst (λ p. AreCopies r.past p now) (sym next) (c.in_ok-apply_entry.ensures.copies (instant r.past t) c.loop-t.invariant.copied) in
+    let copied_now = subst (λ p. IsCopyTable r.past p now) (sym next) (c.in_ok-apply_entry.ensures.copies (instant r.past t) c.loop-t.invariant.copied) in
     let noted = c.in_ok-slot.ensures.noted (survives r.processes (instant r.past t)) (noted_kept r formed t e inside next c.loop-t.copies now c.loop-t.invariant.copied copied_now c.loop-t.slots.items c.loop-t.invariant.noted) in
     let test : Det → Bool = λ d. survives r.processes (instant r.past t) d || list_has dets d in
     record {
@@ -96,7 +96,7 @@ loop-t-preserved c =
     let now = c.apply_entry.new.copies in
     let slots = c.note_dets.new.slots.items in
     let dets = c.copied_by.result.now in
-    let copied_now = subst (λ p. AreCopies r.past p now) (sym next) (c.in_ok-apply_entry.ensures.copies (instant r.past t) c.loop-t.invariant.copied) in
+    let copied_now = subst (λ p. IsCopyTable r.past p now) (sym next) (c.in_ok-apply_entry.ensures.copies (instant r.past t) c.loop-t.invariant.copied) in
     let noted = c.in_ok-slot.ensures.noted (survives r.processes (instant r.past t)) (noted_kept r formed t e inside next c.loop-t.copies now c.loop-t.invariant.copied copied_now c.loop-t.slots.items c.loop-t.invariant.noted) in
     let test : Det → Bool = λ d. survives r.processes (instant r.past t) d || list_has dets d in
     let single = subst (λ o. AreNoted r.past now slots o test) c.in_default.is noted in

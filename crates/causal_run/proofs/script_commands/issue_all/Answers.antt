@@ -45,7 +45,7 @@ pub returns-in-Err-clause-err : goal.returns-in-Err-clause-err
 returns-in-Err-clause-err g c =
     let i = c.loop-command.command-index in
     let commands = c.args.commands.now in
-    rw c.fault_at.ensures (stopped commands i past_end (get_or commands i past_end) c.loop-command.seat.view c.issue.new.seat.view c.in-Err.fault c.loop-command-test.true refl c.loop-command.invariant.done c.in-Err.ensures.item)
+    rw c.run_fault_at.ensures (stopped commands i past_end (get_or commands i past_end) c.loop-command.seat.view c.issue.new.seat.view c.in-Err.fault c.loop-command-test.true refl c.loop-command.invariant.done c.in-Err.ensures.item)
 
 pub returns-clause-ok : goal.returns-clause-ok
 returns-clause-ok g c =

@@ -2,7 +2,7 @@ use Rattle.std.proofs.Common.{◌≡◌, ◌∙◌, List, take, refl, subst, ari
 use Rattle.causal_core.specs.CoreView.{core_run}
 use Rattle.causal_run.specs.contracts.script_process.ScriptProcess.{the_row}
 use Rattle.causal_script.specs.declared.script.Command.{Command}
-use Rattle.causal_run.specs.Pending.{IsDeliveryAt}
+use Rattle.causal_run.specs.Pending.{IsDeliverCommandAt}
 use Rattle.causal_run.specs.Runs.{IsRunTo}
 use Rattle.causal_run.specs.ScriptProcesses.{IsStartOf, script_process_of}
 use Rattle.causal_run.proofs.Objects.{value_of, made_of, of_each}
@@ -28,7 +28,7 @@ returns-in-Ok g c =
       pending = record {
         place = place;
         receiver = c.in-Some.q;
-        delivery = subst (λ (cs : List Command). IsDeliveryAt cs place c.args.line c.in-Some.q) c.as_slice.ensures c.in-Some.ensures;
+        delivery = subst (λ (cs : List Command). IsDeliverCommandAt cs place c.args.line c.in-Some.q) c.as_slice.ensures c.in-Some.ensures;
         end = end;
         run = subst (λ (cs : List Command). IsRunTo (IsStartOf c.args.script.now) (take place cs) end) c.as_slice-2.ensures
             (run-as _ _ (starts-members _ (λ b. value_of b) (of_each _ (λ b w inputs. refl)) c.args.script.now c.loop-me.boxes.items c.loop-me.me c.loop-me.invariant (omega arith))

@@ -1,7 +1,7 @@
 use Rattle.std.proofs.Common.{◌∙◌, subst}
 use Rattle.std.specs.Prelude.{IfSome}
 use Rattle.std.proofs.lemmas.Result.{IfOk-weaker}
-use Rattle.causal_runtime_commands.specs.Reasons.{IsReason, ArePendingIn}
+use Rattle.causal_runtime_commands.specs.Reasons.{IsScriptReason, ArePendingIn}
 use Rattle.causal_runtime_commands.specs.Runs.{IsScriptAnswer}
 use Rattle.causal_runtime_commands.proofs.Known.{IfSome-weaker}
 use Rattle.causal_runtime_commands.proofs.script.answer_from.Goals as goal
@@ -14,7 +14,7 @@ returns-in-Ok-clause-ok g c = IfOk-weaker c.answer_to.result _ _ (λ answer h.
 pub returns-in-Ok-clause-reason : goal.returns-in-Ok-clause-reason
 returns-in-Ok-clause-reason g c = IfOk-weaker c.answer_to.result _ _ (λ answer h.
     IfSome-weaker (g.I.Read.remaining c.args.input.now) _ _ (λ given same.
-    subst (λ text. IfSome answer.reason (IsReason text)) (c.as_slice.ensures.value ∙ same) h) c.in-Ok.ensures.text) c.answer_to.ensures.reason
+    subst (λ text. IfSome answer.reason (IsScriptReason text)) (c.as_slice.ensures.value ∙ same) h) c.in-Ok.ensures.text) c.answer_to.ensures.reason
 
 pub returns-in-Ok-clause-pending : goal.returns-in-Ok-clause-pending
 returns-in-Ok-clause-pending g c = IfOk-weaker c.answer_to.result _ _ (λ answer h.

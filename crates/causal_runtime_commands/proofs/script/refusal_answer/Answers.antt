@@ -4,7 +4,7 @@ use Rattle.causal_script.specs.Printing.{refused_line}
 use Rattle.causal_run.specs.Runs.{ExplainsRunFault}
 use Rattle.causal_run.specs.ScriptProcesses.{IsStartOf}
 use Rattle.std.specs.Prelude.{IfSome}
-use Rattle.causal_runtime_commands.specs.Reasons.{IsReason}
+use Rattle.causal_runtime_commands.specs.Reasons.{IsScriptReason}
 use Rattle.causal_runtime_commands.specs.Runs.{IsScriptAnswer}
 use Rattle.causal_runtime_commands.proofs.script.refusal_answer.Goals as goal
 
@@ -19,5 +19,5 @@ returns-in-Refused-clause-ok c =
 pub returns-in-Refused-clause-reason : goal.returns-in-Refused-clause-reason
 returns-in-Refused-clause-reason c =
     IfOk-weaker c.line_answer.result _ _ (λ answer h. λ text script spelled refused.
-    subst (λ r. IfSome r (IsReason text)) (sym h)
+    subst (λ r. IfSome r (IsScriptReason text)) (sym h)
     (script, spelled, subst (λ f. ExplainsRunFault (IsStartOf script) script.commands f) c.in-Refused.is refused)) c.line_answer.ensures.reason

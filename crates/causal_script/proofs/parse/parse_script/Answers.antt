@@ -3,7 +3,7 @@ use Rattle.std.proofs.lemmas.Result.{err_from_is_err_and}
 use Rattle.causal_script.proofs.Starts.{says_start, started, not_started}
 use Rattle.causal_script.proofs.Texts.{line_here, judged_ok, sound_none, first_fault, after_none, after_more}
 use Rattle.causal_script.proofs.Scripts.{spelled}
-use Rattle.causal_script.specs.Lines.{lines}
+use Rattle.causal_script.specs.Lines.{script_lines}
 use Rattle.causal_script.specs.Inside.Place.{IsAfter}
 use Rattle.causal_script.proofs.parse.parse_script.Goals as goal
 use Rattle.causal_script.proofs.parse.parse_script.Goals.{In_ok-start}
@@ -19,7 +19,7 @@ returns-in_err-start-clause-err c =
     let p = err_from_is_err_and c.from_residual.result c.from_residual.ensures.1 in
     let text = c.args.bytes.now in
     let l = c.in-Some.first.now in
-    let here = line_here 0 (lines text) l (lines c.in-Some.rest.now) c.in-Some.ensures.parts in
+    let here = line_here 0 (script_lines text) l (script_lines c.in-Some.rest.now) c.in-Some.ensures.parts in
     rw (p.1, p.2) (λ other. first_fault text l 0 c.first_line_past_limit-big.result c.parse_first_line.result c.in_err-start.field-0.0 c.first_line_past_limit-big.ensures (sound_none text) here.0
     (λ none. not_started l (sym c.parse_first_line.ensures ∙ none)) (sym c.in_err-start.ensures))
 

@@ -4,7 +4,7 @@ use Rattle.causal_trace.specs.declared.entry.Entry.TheVariants as Entries
 use Rattle.causal_trace.specs.Rows as Rows
 use Rattle.causal_protocol.specs.declared.request.Request.TheVariants as Requests
 use Rattle.causal_protocol.specs.Run.{Run}
-use Rattle.causal_protocol.specs.Refusals.{first_fault}
+use Rattle.causal_protocol.specs.Refusals.{request_fault}
 use Rattle.causal_protocol.specs.Steps.{LegalStep}
 use Rattle.causal_core.specs.View.{run_from}
 use Rattle.causal_core.specs.Inside.Memories.{memories_in}
@@ -17,8 +17,8 @@ use Rattle.causal_core.proofs.run_data.RunData.crash.Goals.{After-len-first}
 abbrev run : After-len-first → Run
 run c = run_from c.self.inside.trace.recording c.self.inside.faults c.self.inside.writers.items
 
-none : (c : After-len-first) → first_fault (run c) (Requests.Crash c.args.p) ≡ None
-none c = ap (λ s. first_fault s.run (Requests.Crash c.args.p)) c.self.view_is ∙ sym c.crash_fault.ensures ∙ c.in_default.is
+none : (c : After-len-first) → request_fault (run c) (Requests.Crash c.args.p) ≡ None
+none c = ap (λ s. request_fault s.run (Requests.Crash c.args.p)) c.self.view_is ∙ sym c.crash_fault.ensures ∙ c.in_default.is
 
 legal : (c : After-len-first) → (c.args.p.0 < c.self.inside.trace.recording.processes) × (Rows.first_fault c.self.inside.trace.recording.processes c.self.inside.trace.recording.past (Entries.Crash c.args.p) ≡ None)
 legal c =

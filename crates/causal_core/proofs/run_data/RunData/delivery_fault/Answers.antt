@@ -10,7 +10,7 @@ use Rattle.causal_protocol.specs.Memory.{Memories, present_at}
 use Rattle.causal_protocol.specs.Run.{Run, stable_of}
 use Rattle.causal_trace.specs.Past.{has_delivered}
 use Rattle.causal_protocol.specs.Naming.{message_name, next_det, sent_message_for, listed_for}
-use Rattle.causal_protocol.specs.Refusals.{first_fault, fault_unless_named, exceeds_limits}
+use Rattle.causal_protocol.specs.Refusals.{request_fault, fault_unless_named, exceeds_limits}
 use Rattle.causal_core.specs.View.{run_from}
 use Rattle.causal_core.specs.Inside.Memories.{memories_in}
 use Rattle.causal_memory.specs.ProcessMemories.{memory_of}
@@ -25,8 +25,8 @@ run c = run_from c.self.inside.trace.recording c.self.inside.faults c.self.insid
 abbrev ms : After-are_processes → Memories
 ms c = memories_in c.self.inside.process_memories.items
 
-asked_of : (c : After-are_processes) → first_fault (run c) (Requests.Deliver c.args.q c.args.source c.args.ssn) ≡ first_fault c.args.self.now.run (Requests.Deliver c.args.q c.args.source c.args.ssn)
-asked_of c = ap (λ d. first_fault d.run (Requests.Deliver c.args.q c.args.source c.args.ssn)) c.self.view_is
+asked_of : (c : After-are_processes) → request_fault (run c) (Requests.Deliver c.args.q c.args.source c.args.ssn) ≡ request_fault c.args.self.now.run (Requests.Deliver c.args.q c.args.source c.args.ssn)
+asked_of c = ap (λ d. request_fault d.run (Requests.Deliver c.args.q c.args.source c.args.ssn)) c.self.view_is
 
 pub returns-then-not-are_processes : goal.returns-then-not-are_processes
 returns-then-not-are_processes c = grind (arith, tell_process)

@@ -7,7 +7,7 @@ use Rattle.causal_trace.proofs.Lemmas.WellFormed.{formed_short}
 use Rattle.causal_protocol.specs.declared.request.Request.TheVariants as Requests
 use Rattle.causal_protocol.specs.Memory.{present_at}
 use Rattle.causal_protocol.specs.Naming.{message_name, sent_message_for}
-use Rattle.causal_protocol.specs.Refusals.{first_fault}
+use Rattle.causal_protocol.specs.Refusals.{request_fault}
 use Rattle.causal_core.specs.View.{RunDataState, run_from}
 use Rattle.causal_core.specs.Inside.Memories.{memories_in, bodies_in, capacities_in}
 use Rattle.causal_memory.specs.ProcessMemories.{memory_of}
@@ -20,8 +20,8 @@ use Rattle.causal_core.proofs.run_data.RunData.delivery_plan_for.Goals.{After-as
 abbrev state : After-as_slice-process_memories → RunDataState
 state c = record { run = run_from c.self.inside.trace.recording c.self.inside.faults c.self.inside.writers.items; bodies = bodies_in c.self.inside.process_memories.items; spare = c.self.inside.trace.spare; capacities = capacities_in c.self.inside.process_memories.items; stable_capacity = min (vec_capacity c.self.inside.writers - vec_len c.self.inside.writers) c.self.inside.trace.stable_spare }
 
-none : (c : After-as_slice-process_memories) → first_fault (state c).run (Requests.Deliver c.args.q c.args.source c.args.ssn) ≡ None
-none c = ap (λ s. first_fault s.run (Requests.Deliver c.args.q c.args.source c.args.ssn)) c.self.view_is ∙ c.requires
+none : (c : After-as_slice-process_memories) → request_fault (state c).run (Requests.Deliver c.args.q c.args.source c.args.ssn) ≡ None
+none c = ap (λ s. request_fault s.run (Requests.Deliver c.args.q c.args.source c.args.ssn)) c.self.view_is ∙ c.requires
 
 pub unreachable-requires : goal.unreachable-requires
 unreachable-requires c =

@@ -14,8 +14,8 @@ use Rattle.causal_protocol.specs.declared.request.Reply.TheVariants as Replies
 use Rattle.causal_protocol.specs.Memory.{log_after_delivery}
 use Rattle.causal_protocol.specs.Run.{memories_of}
 use Rattle.causal_protocol.specs.Naming.{message_name, next_ssn}
-use Rattle.causal_protocol.specs.Refusals.{first_fault}
-use Rattle.causal_protocol.specs.Steps.{LegalStep, Steps, delivery_of, sends_of}
+use Rattle.causal_protocol.specs.Refusals.{request_fault}
+use Rattle.causal_protocol.specs.Steps.{LegalStep, Steps, delivery_entry, sends_of}
 use Rattle.causal_core.specs.Inside.MemoryInvariant.{AllMatchEntries}
 use Rattle.causal_core.specs.View.{RunDataState, sent_in, with_delivery, run_from, receivers, with_bodies}
 use Rattle.causal_core.specs.Inside.DeliveryPlans.{IsDeliveryPlan}
@@ -34,8 +34,8 @@ state c = record { run = run_from c.self.inside.trace.recording c.self.inside.fa
 grown : (c : After-len-first) → IsDeliveryPlan (state c) c.args.q (message_of c.args.grown.own) c.args.grown
 grown c = subst (λ d. IsDeliveryPlan d c.args.q (message_of c.args.grown.own) c.args.grown) (sym c.self.view_is) c.requires.grown
 
-none : (c : After-len-first) → first_fault (state c).run (Requests.Deliver c.args.q c.args.grown.own.source c.args.grown.own.ssn) ≡ None
-none c = ap (λ s. first_fault s.run (Requests.Deliver c.args.q c.args.grown.own.source c.args.grown.own.ssn)) c.self.view_is ∙ c.requires.legal
+none : (c : After-len-first) → request_fault (state c).run (Requests.Deliver c.args.q c.args.grown.own.source c.args.grown.own.ssn) ≡ None
+none c = ap (λ s. request_fault s.run (Requests.Deliver c.args.q c.args.grown.own.source c.args.grown.own.ssn)) c.self.view_is ∙ c.requires.legal
 
 may : (c : After-len-first) → MayDeliver (state c).run c.args.q c.args.grown.own.source c.args.grown.own.ssn
 may c = may_deliver (state c).run c.args.q c.args.grown.own.source c.args.grown.own.ssn (held_fit (state c).run (memories_in c.self.inside.process_memories.items) c.self.invariant) (none c)
@@ -101,7 +101,7 @@ returns-clause-step c =
     let told = Replies.Delivered (record { first = c.len-first.result; det = c.args.grown.own; sends = c.record_delivery_at-sends.result }) in
     let step : Steps r (Requests.Deliver c.args.q source ssn) told (run_from c.record_delivery_at-sends.new.trace.recording c.self.inside.faults c.self.inside.writers.items) =
     record {
-      appended = delivery_of r c.args.q (message_name source ssn) ∷ sends_of c.args.q number tos;
+      appended = delivery_entry r c.args.q (message_name source ssn) ∷ sends_of c.args.q number tos;
       grown = new_run c;
       legal = (
         none at0,

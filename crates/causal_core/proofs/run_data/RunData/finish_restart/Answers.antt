@@ -13,7 +13,7 @@ use Rattle.causal_protocol.specs.declared.request.Reply.TheVariants as Replies
 use Rattle.causal_protocol.specs.Memory.{new_memory}
 use Rattle.causal_protocol.specs.Gathering.{restart_log}
 use Rattle.causal_protocol.specs.Run.{Run, memories_of, stable_of}
-use Rattle.causal_protocol.specs.Refusals.{first_fault, restart_list}
+use Rattle.causal_protocol.specs.Refusals.{request_fault, restart_list}
 use Rattle.causal_protocol.specs.Steps.{LegalStep, Steps, append_all, sends_of}
 use Rattle.causal_core.specs.Inside.MemoryInvariant.{MatchesEntriesAt, AllMatchEntries}
 use Rattle.causal_memory.specs.RestartPlans.{IsRestartPlan}
@@ -42,8 +42,8 @@ log c = restart_log (memories_of (run c)) (stable_of (run c)) c.args.p
 made : (c : After-len-first) → IsRestartPlan c.self.inside.faults (log c) c.args.gathered
 made c = subst (λ s. IsRestartPlan s.run.faults (restart_log (memories_of s.run) (stable_of s.run) c.args.p) c.args.gathered) (sym c.self.view_is) c.requires.gathered
 
-none : (c : After-len-first) → first_fault (run c) (Requests.Restart c.args.p) ≡ None
-none c = ap (λ s. first_fault s.run (Requests.Restart c.args.p)) c.self.view_is ∙ c.requires.legal
+none : (c : After-len-first) → request_fault (run c) (Requests.Restart c.args.p) ≡ None
+none c = ap (λ s. request_fault s.run (Requests.Restart c.args.p)) c.self.view_is ∙ c.requires.legal
 
 fit : (c : After-len-first) → AllMatchEntries c.self.inside.trace.recording.processes c.self.inside.trace.recording.past (memories_of (run c))
 fit c = held_fit (run c) (memories_in c.self.inside.process_memories.items) c.self.invariant

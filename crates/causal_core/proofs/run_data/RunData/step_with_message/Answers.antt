@@ -3,7 +3,7 @@ use Rattle.std.specs.Prelude.{is_none, is_some}
 use Rattle.causal_protocol.specs.declared.request.Request.TheVariants as Requests
 use Rattle.causal_protocol.specs.Memory.{present_at}
 use Rattle.causal_protocol.specs.Naming.{message_name, sent_message_for}
-use Rattle.causal_protocol.specs.Refusals.{first_fault}
+use Rattle.causal_protocol.specs.Refusals.{request_fault}
 use Rattle.causal_core.specs.View.{run_from}
 use Rattle.causal_core.specs.Inside.Memories.{memories_in, memory_at}
 use Rattle.causal_core.proofs.LegalDelivery.{message_there, sender_keeps}
@@ -16,7 +16,7 @@ keeps g c =
     let ms = memories_in c.self.inside.process_memories.items in
     sender_keeps ms c.args.q c.args.source c.args.ssn
     (ap (λ xs. is_none (sent_message_for xs c.args.q (message_name c.args.source c.args.ssn))) c.self.invariant.same
-    ∙ message_there r c.args.q c.args.source c.args.ssn (ap (λ s. first_fault s.run (Requests.Deliver c.args.q c.args.source c.args.ssn)) c.self.view_is ∙ c.requires.legal))
+    ∙ message_there r c.args.q c.args.source c.args.ssn (ap (λ s. request_fault s.run (Requests.Deliver c.args.q c.args.source c.args.ssn)) c.self.view_is ∙ c.requires.legal))
 
 pub step_with_message_at-requires-clause-up : goal.step_with_message_at-requires-clause-up
 step_with_message_at-requires-clause-up g c = (keeps g (goal.at.step_with_message_at-requires-clause-up g c).After-self).0

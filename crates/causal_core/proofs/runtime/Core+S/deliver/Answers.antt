@@ -6,7 +6,7 @@ use Rattle.causal_protocol.specs.Run.{memories_of}
 use Rattle.causal_protocol.specs.Runs.{SatisfiesInvariant}
 use Rattle.causal_protocol.specs.declared.request.Reply.TheVariants as Replies
 use Rattle.causal_protocol.proofs.Lemmas.KeptByType.{step_preserves}
-use Rattle.causal_protocol.specs.Naming.{message_name, next_ssn, own_det}
+use Rattle.causal_protocol.specs.Naming.{message_name, next_ssn, next_own_det}
 use Rattle.causal_protocol.specs.declared.request.Request.TheVariants as Requests
 use Rattle.causal_core.specs.View.{RunDataState, receivers, sent_bodies, with_bodies}
 use Rattle.causal_core.proofs.StoreEntries.{store_is}
@@ -48,7 +48,7 @@ returns-in-Ok-step_with_message-clause-ok g c = let q = c.args.q in
     let same : c.step_with_message.new.self.run ≡ c.args.self.now.run_data.run = ap (λ (s : RunDataState). s.run) c.step_with_message.ensures.data ∙ c.prepare.ensures.run in
     let bodies : c.step_with_message.new.self.bodies ≡ c.args.self.now.run_data.bodies = ap (λ (s : RunDataState). s.bodies) c.step_with_message.ensures.data ∙ c.prepare.ensures.bodies in
     let made = c.in-Ok.ensures.grown in
-    let own = made.own ∙ ap (λ r. own_det (memories_of r) q asked) c.prepare.ensures.run in
+    let own = made.own ∙ ap (λ r. next_own_det (memories_of r) q asked) c.prepare.ensures.run in
     let sends = c.in-Ok-step_with_message.sends.items in
     record {
       sends = sends;

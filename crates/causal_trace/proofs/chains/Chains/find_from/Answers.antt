@@ -3,7 +3,7 @@ use Rattle.std.specs.Prelude.{nat_lt, ◌&&◌}
 use Rattle.std.specs.Option.{option_map_or}
 use Rattle.std.proofs.lemmas.List.{reverse-reverse, length-reverse}
 use Rattle.std.proofs.lemmas.Bool.{cond-true, cond-false}
-use Rattle.causal_trace.specs.Inside.Chains.{IsPlaceBelow, is_of, place_of}
+use Rattle.causal_trace.specs.Inside.Chains.{IsPlaceBelow, is_receipt_of, receipt_index}
 use Rattle.causal_trace.proofs.ReceiptChains.{leads_on, below_higher, walk_falls}
 use Rattle.causal_trace.proofs.DeliveryPlaces.{place_on, place_none}
 use Rattle.causal_trace.proofs.chains.Chains.find_from.Goals as goal
@@ -24,7 +24,7 @@ down : (c : After-index-node) → c.in-Some.k < length c.args.self.now.nodes →
 down c low = subst (λ n. IsPlaceBelow n.next c.in-Some.k) (node_is c) (leads_on c.args.self.now.nodes c.in-Some.k c.index-node.result.now c.requires.linked.nodes_lead low).down
 
 -- the result is its index, or that of the rest of the chain
-rest : (c : After-index-node) → c.in-Some.k < length c.args.self.now.nodes → place_of c.args.among c.args.det c.args.self.now.nodes c.args.begin ≡ cond (nat_lt c.in-Some.k c.args.among && is_of c.args.det c.index-node.result.now.receipt) (Some c.in-Some.k) (place_of c.args.among c.args.det c.args.self.now.nodes c.index-node.result.now.next)
+rest : (c : After-index-node) → c.in-Some.k < length c.args.self.now.nodes → receipt_index c.args.among c.args.det c.args.self.now.nodes c.args.begin ≡ cond (nat_lt c.in-Some.k c.args.among && is_receipt_of c.args.det c.index-node.result.now.receipt) (Some c.in-Some.k) (receipt_index c.args.among c.args.det c.args.self.now.nodes c.index-node.result.now.next)
 rest c low =
     grind (
       arith,
@@ -46,7 +46,7 @@ loop-place-preserved c =
     let low = there p.In-Some in
     record {
       inside = below_higher c.index-node.result.now.next c.in-Some.k (length c.args.self.now.nodes) (omega (arith, low)) (down p.After-index-node low);
-      rest = rest p.After-index-node low ∙ cond-false (nat_lt c.in-Some.k c.args.among && is_of c.args.det c.index-node.result.now.receipt) _ _ (sym c.if-is_of_first.ensures);
+      rest = rest p.After-index-node low ∙ cond-false (nat_lt c.in-Some.k c.args.among && is_receipt_of c.args.det c.index-node.result.now.receipt) _ _ (sym c.if-is_of_first.ensures);
     }
 
 pub returns : goal.returns

@@ -2,7 +2,7 @@ use Rattle.std.proofs.Common.{◌≡◌, ◌+◌, ◌<◌, reverse, Some, sym, a
 use Rattle.std.specs.Prelude.{IfSome}
 use Rattle.causal_name.specs.Names.{message_of}
 use Rattle.causal_trace.specs.Numbers.{delivered_dets, number_of}
-use Rattle.causal_trace.specs.Inside.Chains.{head_of, place_of}
+use Rattle.causal_trace.specs.Inside.Chains.{head_of, receipt_index}
 use Rattle.causal_trace.proofs.DeliveryPlaces.{place_before}
 use Rattle.causal_trace.proofs.Lemmas.DeliveryNumbers.{number_below, number_among}
 use Rattle.causal_trace.proofs.SortedLemmas.{dets_few}
@@ -16,7 +16,7 @@ pub find_near-requires-clause-begin : goal.find_near-requires-clause-begin
 find_near-requires-clause-begin c = grind (arith, number_below (c.args.number + 1) (delivered_dets (reverse c.self.inside.entries.items)) c.args.det)
 
 -- the search from the delivery finds the next older one
-place_is : (c : After-self) → place_of c.args.number c.args.det c.self.inside.chains.nodes (Some c.args.number) ≡ number_of c.args.number (delivered_dets (reverse c.self.inside.entries.items)) c.args.det
+place_is : (c : After-self) → receipt_index c.args.number c.args.det c.self.inside.chains.nodes (Some c.args.number) ≡ number_of c.args.number (delivered_dets (reverse c.self.inside.entries.items)) c.args.det
 place_is c =
     let chains = c.self.invariant.chains in
     let dets = delivered_dets (reverse c.self.inside.entries.items) in

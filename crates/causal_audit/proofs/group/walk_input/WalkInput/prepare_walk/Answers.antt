@@ -1,6 +1,6 @@
 use Rattle.causal_audit.proofs.Common.{◌≡◌, ◌≤◌, true, length, sym, subst, arith, contains, instant, is_down, logs, instant_length}
 use Rattle.causal_audit.proofs.group.OpenPositions.{zero}
-use Rattle.causal_audit.specs.Inside.Group.Walk.{AreCopies, RowsShowReach, position_at}
+use Rattle.causal_audit.specs.Inside.Group.Walk.{AreDetCopies, RowsShowReach, position_at}
 use Rattle.causal_audit.specs.Inside.Group.OpenDeliveries.{RunUpTo}
 use Rattle.causal_audit.specs.Inside.DeliveryStates.{HasExactly}
 use Rattle.causal_audit.proofs.Shown.{shows_none}
@@ -33,7 +33,7 @@ returns-clause-begun c = let r = c.args.self.now.run in
       copied = λ j d low at.
           let untouched = c.requires.from j zero low in
           let none = unheard_before r.past (position_at candidates j) d start (untouched.unmentioned d at) untouched.made early in
-          subst (AreCopies (instant r.past start) d) (sym (c.clear_copies.ensures.none j (omega (arith, low, c.requires.few, c.requires.buffers.copies))))
+          subst (AreDetCopies (instant r.past start) d) (sym (c.clear_copies.ensures.none j (omega (arith, low, c.requires.few, c.requires.buffers.copies))))
           (record { holders = shows_none (λ p. logs (instant r.past start) p d) none.unlogged; stable = sym none.unstable });
       held = λ j d low at p h. absurd (none_in j (subst (λ s. contains s j ≡ true) (c.clear.ensures.none p) h));
       down = shown;

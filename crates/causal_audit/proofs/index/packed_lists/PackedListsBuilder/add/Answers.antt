@@ -1,8 +1,8 @@
 use Rattle.std.proofs.lemmas.Grind.{common_steps}
 use Rattle.causal_audit.proofs.Common.{sym, ap, subst, refl, ◌∙◌, arith, length-set, length, set, ◌+◌}
-use Rattle.causal_audit.specs.declared.index.packed_lists.Span.{Span}
+use Rattle.causal_audit.specs.declared.index.packed_lists.ListSpan.{ListSpan}
 use Rattle.causal_audit.specs.Inside.Index.Lists.{with_added}
-use Rattle.causal_audit.specs.Inside.Index.Packed.{HasSpareCapacity, ListsWithCapacities, capacities_in}
+use Rattle.causal_audit.specs.Inside.Index.Packed.{HasSpareCapacity, ListsWithCapacities, list_capacities}
 use Rattle.causal_audit.proofs.index.PackedSpans.{packed_more, packed_still, capacities_still, spare_in}
 use Rattle.causal_audit.proofs.index.packed_lists.PackedListsBuilder.add.Goals as goal
 
@@ -39,7 +39,7 @@ returns-clause-capacities c =
     let spans = c.self.inside.spans.items in
     let s = c.index.result.now in
     let spare = spare_in ps spans c.args.number s c.self.invariant.0 (subst (λ v. HasSpareCapacity v c.args.number) (sym c.self.view_is) c.requires) c.index.ensures in
-    let new : Span = record { begin = s.begin; end = s.end + 1 } in
-    ap (λ n. capacities_in n (set spans c.args.number new)) (length-set ps s.end c.args.position)
-    ∙ capacities_still (length ps) spans c.args.number new s spare.0 (ap (λ (x : Span). x.begin) c.index.ensures)
+    let new : ListSpan = record { begin = s.begin; end = s.end + 1 } in
+    ap (λ n. list_capacities n (set spans c.args.number new)) (length-set ps s.end c.args.position)
+    ∙ capacities_still (length ps) spans c.args.number new s spare.0 (ap (λ (x : ListSpan). x.begin) c.index.ensures)
     ∙ ap (λ (v : ListsWithCapacities). v.capacities) c.self.view_is

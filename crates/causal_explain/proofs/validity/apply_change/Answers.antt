@@ -1,7 +1,7 @@
 use Rattle.std.proofs.Common.{subst, arith}
 use Rattle.causal_explain.specs.Inside.Validities.{IsChangeOf}
 use Rattle.causal_explain.proofs.StandingLemmas.{stand_unchanged, stand_changed}
-use Rattle.causal_explain.proofs.validity.note.Goals as goal
+use Rattle.causal_explain.proofs.validity.apply_change.Goals as goal
 
 pub returns-in-Nothing : goal.returns-in-Nothing
 returns-in-Nothing c test e past is change h =

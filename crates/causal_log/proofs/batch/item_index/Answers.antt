@@ -3,7 +3,7 @@ use Rattle.std.proofs.lemmas.Grind.{elements}
 use Rattle.causal_name.specs.Names.{is_ascending}
 use Rattle.causal_log.specs.Logs.{dets_of}
 use Rattle.causal_log.proofs.MergeLemmas.{part_passed}
-use Rattle.causal_log.proofs.batch.place_of.Goals as goal
+use Rattle.causal_log.proofs.batch.item_index.Goals as goal
 
 pub loop-place-preserved-then-comes_before : goal.loop-place-preserved-then-comes_before
 loop-place-preserved-then-comes_before c = grind (arith, elements)

@@ -1,7 +1,7 @@
 use Rattle.std.proofs.Common.{◌≡◌, [], vec_len}
 use Rattle.std.specs.Prelude.{replicate}
 use Rattle.causal_replays.specs.Inside.Holdings.{lists_in}
-use Rattle.causal_replays.proofs.slots.empty_lists.Given as goal
+use Rattle.causal_replays.proofs.slots.empty_process_lists.Given as goal
 
 -- so many empty lists
 abbrev pub invariant-loop : goal.invariant-loop

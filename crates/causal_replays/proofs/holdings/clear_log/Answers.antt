@@ -1,7 +1,7 @@
 use Rattle.std.proofs.Common.{◌≡◌, ◌<◌, ℕ, length, set, get_or, subst, sym, ◌∙◌, arith}
-use Rattle.causal_replays.specs.Inside.Holdings.{AreLogged, IsIn, log_of}
+use Rattle.causal_replays.specs.Inside.Holdings.{AreLogged, IsIn, logged_numbers}
 use Rattle.causal_replays.proofs.LogLemmas.{log_read, logged_less, emptied}
-use Rattle.causal_replays.proofs.holdings.empty_log.Goals as goal
+use Rattle.causal_replays.proofs.holdings.clear_log.Goals as goal
 
 pub remove_from_each-requires : goal.remove_from_each-requires
 remove_from_each-requires c k h =
@@ -9,7 +9,7 @@ remove_from_each-requires c k h =
     let logs = c.args.logs.now.items in
     let there : c.args.who < length logs = grind (arith, c.requires.logs, c.ranges.who) in
     let read = subst (λ q. c.index_mut-log.result.now ≡ get_or logs q c.index_mut-log.result.now) c.from.ensures c.index_mut-log.ensures.value in
-    let e : log_of logs c.args.who ≡ c.as_slice.result.now = log_read logs c.args.who c.index_mut-log.result.now there read ∙ sym c.as_slice.ensures.value in
+    let e : logged_numbers logs c.args.who ≡ c.as_slice.result.now = log_read logs c.args.who c.index_mut-log.result.now there read ∙ sym c.as_slice.ensures.value in
     let below : get_or c.as_slice.result.now k 0 < length holders = subst (λ x. (m : ℕ) → m < length x → get_or x m 0 < length holders) e (c.requires.logged.below c.args.who) k h in
     grind (arith, below)
 

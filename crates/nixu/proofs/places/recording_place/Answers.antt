@@ -1,6 +1,6 @@
 use Rattle.std.proofs.Common.{◌≤◌, ◌+◌, arith, length}
 use Rattle.nixu.proofs.PlaceLemmas.{last_place, same_place}
-use Rattle.nixu.proofs.places.place_of.Goals as goal
+use Rattle.nixu.proofs.places.recording_place.Goals as goal
 
 pub returns : goal.returns
 returns c =

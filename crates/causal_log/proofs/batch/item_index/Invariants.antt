@@ -1,7 +1,7 @@
 use Rattle.std.proofs.Common.{◌≡◌, ◌≤◌, ◌<◌, ◌-◌, true, false, length, slice_get}
 use Rattle.std.specs.Option.{IfSome}
 use Rattle.causal_name.specs.Names.{is_before}
-use Rattle.causal_log.proofs.batch.place_of.Given as goal
+use Rattle.causal_log.proofs.batch.item_index.Given as goal
 
 abbrev pub invariant-loop-place : goal.invariant-loop-place
 invariant-loop-place l = record {

@@ -1,8 +1,0 @@
-use Rattle.std.proofs.Common.{◌≡◌, drop}
-use Rattle.serde_json.specs.View.{items_view}
-use Rattle.causal_line.specs.Returns.{with_front}
-use Rattle.causal_line.specs.ParsedLines.{dets_of}
-use Rattle.causal_line.proofs.fields.dets_of.Given as goal
-
-abbrev pub invariant-loop-value : goal.invariant-loop-value
-invariant-loop-value l = dets_of (items_view l.values) ≡ with_front l.dets.items (dets_of (items_view (drop l.value-index l.values)))
