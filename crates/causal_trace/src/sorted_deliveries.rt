@@ -3,6 +3,7 @@ ghost use Rattle.std.specs.Prelude.{◌≡◌, ◌+◌, ◌<◌, ◌≤◌, ◌�
 ghost use Rattle.std.specs.Option.{option_map_or};
 ghost use Rattle.causal_name.specs.declared.Det.{Det};
 ghost use Rattle.causal_trace.specs.Limits.{max_entries};
+ghost use Rattle.causal_trace.specs.declared.entry.Entry.{Entry};
 ghost use Rattle.causal_trace.specs.Numbers.{delivered_dets, number_of};
 ghost use Rattle.causal_trace.specs.State.{past_at};
 ghost use Rattle.causal_trace.specs.Inside.SortedDeliveries.{AreDeliveries};
@@ -103,26 +104,35 @@ impl SortedDeliveries {
         }
     }
 
-    /// Adds the delivery with determinant `own`, if there is one, after those of these entries, of which there are
-    /// `number`, if the set is complete or `begins`; if it begins, it is filled first. Most traces have few restarts, and
-    /// so need no such set: for them this is a test. O(log deliveries) time unless it begins.
-    pub(crate) fn add_next(
-        &mut self,
-        begins: bool,
-        entries: &[Entry],
-        own: Option<Det>,
-        number: u32,
-    )
+    /// Adds the delivery that an entry is, if it is one, after those of these entries, of which there are `number`, if the
+    /// set is complete or `begins`; if it begins, it is filled first. Most traces have few restarts, and so need no such
+    /// set: for them this is a test. O(log deliveries) time unless it begins.
+    #[inline]
+    pub(crate) fn add_next(&mut self, begins: bool, entries: &[Entry], entry: &Entry, number: u32)
         requires { length entries.now ≤ max_entries }
-        ensures { (dets : List Det) →
-            dets ≡ delivered_dets (past_at entries.now (length entries.now)) →
-            length dets ≡ number → AreDeliveries self.old dets →
-            AreDeliveries self.new (option_map_or (λ det. det ∷ dets) own dets) }
+        ensures { (past : List Entry) → past ≡ past_at entries.now (length entries.now) →
+            length (delivered_dets past) ≡ number →
+            AreDeliveries self.old (delivered_dets past) →
+            AreDeliveries self.new (delivered_dets (entry.now ∷ past)) }
     {
         if begins || self.complete {
-            self.fill_if(begins, entries);
-            self.add_own(own, number);
+            self.add_entry(begins, entries, entry, number);
         }
+    }
+
+    /// Adds the delivery as `add_next` does, whether or not the set is complete. It is a call, so that a push which makes
+    /// none does not prepare for it.
+    #[inline(never)]
+    fn add_entry(&mut self, begins: bool, entries: &[Entry], entry: &Entry, number: u32)
+        requires { length entries.now ≤ max_entries }
+        ensures { (past : List Entry) → past ≡ past_at entries.now (length entries.now) →
+            length (delivered_dets past) ≡ number →
+            AreDeliveries self.old (delivered_dets past) →
+            AreDeliveries self.new (delivered_dets (entry.now ∷ past)) }
+    {
+        self.fill_if(begins, entries);
+        let own = scans::det_of_next(entries, entry);
+        self.add_own(own, number);
     }
 
     /// Returns the number of the newest delivery with this determinant among the first `among` deliveries.

@@ -203,10 +203,10 @@ impl Trace {
         let number = self.deliveries();
         self.entries.reserve(1)?;
         add_to_chains(&mut self.chains, &entry, own, lane)?;
-        count_entry(self.lanes.as_mut_slice(), &entry);
         let begins = is_first_of_many(self.restarts, &entry);
         self.sorted
-            .add_next(begins, self.entries.as_slice(), own, number);
+            .add_next(begins, self.entries.as_slice(), &entry, number);
+        count_entry(self.lanes.as_mut_slice(), &entry);
         self.restarts += restarts_in(&entry);
         self.listed += entry.listed_count() as u32;
         self.entries.push_reserved(entry);

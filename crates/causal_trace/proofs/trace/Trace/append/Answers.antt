@@ -1,6 +1,5 @@
 use Rattle.std.proofs.lemmas.Grind.{common_steps}
-use Rattle.std.proofs.Common.{Bool, true, false, cond, ◌≡◌, ◌≤◌, ◌+◌, length, reverse, ◌++◌, ◌∷◌, take, drop, None, arith, sym, ap, subst, ◌∙◌}
-use Rattle.std.specs.Option.{option_map_or}
+use Rattle.std.proofs.Common.{Bool, true, false, cond, ◌≡◌, ◌≤◌, ◌+◌, length, reverse, ◌++◌, ◌∷◌, take, drop, None, arith, sym, ap, ◌∙◌}
 use Rattle.std.proofs.lemmas.List.{take_at, length-reverse, reverse-append}
 use Rattle.causal_trace.specs.Past.{deliveries_in, listed_by, message_sent, det_of, lane}
 use Rattle.causal_trace.specs.Rows.{first_fault}
@@ -73,9 +72,8 @@ invariant_of-self-2 c =
     ap (λ es. past_at es (length es)) (c.as_slice-2.ensures.value ∙ c.reserve.ensures.items) ∙ past_whole items in
     let count : length dets ≡ c.deliveries-number.result =
     sym c.self.invariant.chains.numbered ∙ c.self.invariant.chains.counted ∙ ap (λ s. deliveries_in s.recording.past) c.self.view_is ∙ sym c.deliveries-number.ensures in
-    let same : dets ≡ delivered_dets (past_at c.as_slice-2.result.now (length c.as_slice-2.result.now)) = ap delivered_dets (sym read) in
     let sorted : AreDeliveries c.add_next.new.self (delivered_dets (c.args.entry ∷ reverse items)) =
-    subst (λ own. AreDeliveries c.add_next.new.self (option_map_or (λ det. det ∷ dets) own dets)) (own_is d) (c.add_next.ensures dets same count c.self.invariant.sorted) in
+    c.add_next.ensures (reverse items) (sym read) count c.self.invariant.sorted in
     rw (c.push_reserved.ensures.items, c.reserve.ensures.items, c.listed_count.ensures, c.restarts_in.ensures, lanes, reverse-append)
     (indexed_push _ c.args.entry _ _ c.receipt_lane-lane.result _ c.self.inside.chains c.add_to_chains.new.chains c.self.inside.sorted c.add_next.new.self c.self.invariant (next d)
     (λ e h. c.receipt_lane-lane.ensures e (own_is d ∙ h) ∙ ap (λ s. lane s.recording.past e.dest.0) (sym c.self.view_is))
