@@ -6,17 +6,17 @@ use Rattle.causal_line.specs.declared.text_refusal.TextRefusal.{TextRefusal}
 use Rattle.causal_line.specs.declared.kind.TextKind.{TextKind}
 use Rattle.causal_line.specs.declared.kind.TextFault.{TextFault}
 use Rattle.causal_line.specs.declared.parsed_line.ParsedLine.{ParsedLine}
-use Rattle.causal_line.specs.declared.stage.LineRefusal.{LineRefusal}
 use Rattle.causal_line.specs.declared.stage.Stage.{Stage}
 use Rattle.causal_line.specs.declared.stage.Stage.TheVariants.{Within}
 use Rattle.causal_line.specs.declared.version.Version.{Version}
 use Rattle.causal_line.specs.Returns.{IsFaultOrNoMemory}
 use Rattle.causal_line.specs.Values.{parse_line}
 
--- the result is the defined stage or error, or `NoMemory`, where the error has a context
-abbrev pub ReturnsLineRefusal : Result Stage LineRefusal → Result Stage TextKind → Type 0
-ReturnsLineRefusal (Ok stage) read = read ≡ Ok stage
-ReturnsLineRefusal (Err refused) read = IsFaultOrNoMemory refused.kind refused.kind read
+-- a result whose error kind is given this line number
+infixl 10 ◌at◌
+abbrev pub ◌at◌ : {A : Type 0} → Result A TextKind → ℕ → Result A TextFault
+(Ok x) at line = Ok x
+(Err kind) at line = Err (record { line = line; kind = kind })
 
 -- the result is the defined value or error, or `NoMemory`, where the error has a context
 abbrev pub ReturnsTextRefusal : {A : Type 0} → Result A TextRefusal → Result A TextFault → Type 0
@@ -29,8 +29,8 @@ IsWithinText stage r = (version : Version) × (stage ≡ Within version r)
 
 -- the context, if there is one, contains the recording of the stage and this parsed line
 abbrev pub IsContextOf : Stage → ParsedLine → Option FaultContext → Type 0
-IsContextOf stage parsed_line kept = IfSome kept (λ at. IsWithinText stage at.trace.recording × (at.parsed_line ≡ parsed_line))
+IsContextOf stage parsed_line kept = IfSome kept (λ context. IsWithinText stage context.trace.recording × (context.parsed_line ≡ parsed_line))
 
 -- the context, if there is one, contains the recording of the stage and the parsed form of this line
 abbrev pub IsContextAt : Stage → List ℕ → Option FaultContext → Type 0
-IsContextAt stage line kept = IfSome kept (λ at. IsWithinText stage at.trace.recording × (parse_line line ≡ Ok at.parsed_line))
+IsContextAt stage line kept = IfSome kept (λ context. IsWithinText stage context.trace.recording × (parse_line line ≡ Ok context.parsed_line))

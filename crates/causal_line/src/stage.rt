@@ -1,14 +1,14 @@
 //! The stage after the lines so far, and the transition by one more line.
 ghost use Rattle.std.specs.Prelude.{◌≡◌, ◌≤◌, None, IfErr, IfSome, OnOk};
 ghost use Rattle.causal_line.specs.Returns.{Returns};
-ghost use Rattle.causal_line.specs.Refusals.{ReturnsLineRefusal, IsContextAt, IsContextOf};
+ghost use Rattle.causal_line.specs.Refusals.{◌at◌, ReturnsTextRefusal, IsContextAt, IsContextOf};
 ghost use Rattle.causal_line.specs.Stages.{max_text_len, longest_text, open_text, apply_line, advance_stage};
 ghost use Rattle.causal_line.specs.Values.{parse_line};
 ghost use Rattle.causal_line.specs.Versions.{version_of};
 
-use crate::kind::TextKind;
+use crate::kind::{TextFault, TextKind};
 use crate::parsed_line::{ParsedLine, parse_line};
-use crate::text_refusal::FaultContext;
+use crate::text_refusal::{FaultContext, TextRefusal};
 use crate::trace_builder::TraceBuilder;
 use crate::version::Version;
 use causal_trace::entry::Entry;
@@ -51,36 +51,30 @@ fn open_text(alloc: Global, number: u32, processes: u32) -> Result<Stage, TextKi
     Ok(Stage::Within { version, trace })
 }
 
-/// Why a line is refused, with its context if the text was within its entries and the line was parsed.
-#[derive(Drop)]
-pub struct LineRefusal {
-    pub kind: TextKind,
-    pub context: Option<FaultContext>,
-}
-
-fn refusal_without_context(kind: TextKind) -> LineRefusal
-    ensures kind { result.kind ≡ kind }
-    ensures before { result.context ≡ None }
+fn refusal_without_context(number: u32, kind: TextKind) -> TextRefusal
+    ensures line { result.fault.line ≡ number }
+    ensures kind { result.fault.kind ≡ kind }
+    ensures context { result.context ≡ None }
 {
-    LineRefusal {
-        kind,
-        context: None,
-    }
+    TextRefusal::without_context(TextFault { line: number, kind })
 }
 
 // with the trace of the lines before, and the parsed line
-fn refusal_with_context(trace: TraceBuilder, parsed_line: ParsedLine, kind: TextKind) -> LineRefusal
-    ensures kind { result.kind ≡ kind }
-    ensures before { IfSome result.context
-        (λ at. (at.trace.recording ≡ trace) × (at.parsed_line ≡ parsed_line)) }
+fn refusal_with_context(
+    number: u32,
+    trace: TraceBuilder,
+    parsed_line: ParsedLine,
+    kind: TextKind,
+) -> TextRefusal
+    ensures line { result.fault.line ≡ number }
+    ensures kind { result.fault.kind ≡ kind }
+    ensures context { IfSome result.context
+        (λ context. (context.trace.recording ≡ trace) × (context.parsed_line ≡ parsed_line)) }
 {
     let trace = trace.into_trace();
-    LineRefusal {
-        kind,
-        context: Some(FaultContext {
-            trace,
-            parsed_line: parsed_line,
-        }),
+    TextRefusal {
+        fault: TextFault { line: number, kind },
+        context: Some(FaultContext { trace, parsed_line }),
     }
 }
 
@@ -97,25 +91,37 @@ fn apply_first_line(alloc: Global, limits: Limits, shape: ParsedLine) -> Result<
 // applies an entry within a text
 fn push_entry(
     limits: Limits,
+    number: u32,
     version: Version,
     mut trace: TraceBuilder,
     entry: Entry,
-) -> Result<Stage, LineRefusal>
-    ensures value { ReturnsLineRefusal result
-        (apply_line limits.entries (Stage.Within version trace) (ParsedLine.Entry entry)) }
+) -> Result<Stage, TextRefusal>
+    ensures value { ReturnsTextRefusal result
+        (apply_line limits.entries (Stage.Within version trace) (ParsedLine.Entry entry) at number) }
+    ensures line { IfErr result (λ refused. refused.fault.line ≡ number) }
     ensures before { IfErr result (λ refused.
         IsContextOf (Stage.Within version trace) (ParsedLine.Entry entry) refused.context) }
 {
     if !version.allows(&entry) {
-        return Err(refusal_with_context(trace, ParsedLine::Entry { entry }, TextKind::Form));
+        return Err(refusal_with_context(
+            number,
+            trace,
+            ParsedLine::Entry { entry },
+            TextKind::Form,
+        ));
     }
     match trace.try_push(limits, entry) {
         Ok(()) => Ok(Stage::Within { version, trace }),
         Err(RefusedEntry { fault, entry }) => {
             let kind = TextKind::from(fault);
             match entry {
-                Some(entry) => Err(refusal_with_context(trace, ParsedLine::Entry { entry }, kind)),
-                None => Err(refusal_without_context(kind)),
+                Some(entry) => Err(refusal_with_context(
+                    number,
+                    trace,
+                    ParsedLine::Entry { entry },
+                    kind,
+                )),
+                None => Err(refusal_without_context(number, kind)),
             }
         }
     }
@@ -124,23 +130,30 @@ fn push_entry(
 // applies a line within a text
 fn apply_later_line(
     limits: Limits,
+    number: u32,
     version: Version,
     trace: TraceBuilder,
     shape: ParsedLine,
-) -> Result<Stage, LineRefusal>
-    ensures value { ReturnsLineRefusal result
-        (apply_line limits.entries (Stage.Within version trace) shape) }
+) -> Result<Stage, TextRefusal>
+    ensures value { ReturnsTextRefusal result
+        (apply_line limits.entries (Stage.Within version trace) shape at number) }
+    ensures line { IfErr result (λ refused. refused.fault.line ≡ number) }
     ensures before { IfErr result
         (λ refused. IsContextOf (Stage.Within version trace) shape refused.context) }
 {
     match shape {
-        ParsedLine::Header { .. } => Err(refusal_with_context(trace, shape, TextKind::Header)),
-        ParsedLine::Entry { entry } => push_entry(limits, version, trace, entry),
+        ParsedLine::Header { .. } => Err(refusal_with_context(
+            number,
+            trace,
+            shape,
+            TextKind::Header,
+        )),
+        ParsedLine::Entry { entry } => push_entry(limits, number, version, trace, entry),
         ParsedLine::End { entries } => {
             if entries == trace.len() {
                 Ok(Stage::Ended { version, trace })
             } else {
-                Err(refusal_with_context(trace, shape, TextKind::Count))
+                Err(refusal_with_context(number, trace, shape, TextKind::Count))
             }
         }
     }
@@ -150,22 +163,24 @@ fn apply_line(
     alloc: Global,
     limits: Limits,
     stage: Stage,
+    number: u32,
     shape: ParsedLine,
-) -> Result<Stage, LineRefusal>
-    ensures value { ReturnsLineRefusal result (apply_line limits.entries stage shape) }
+) -> Result<Stage, TextRefusal>
+    ensures value { ReturnsTextRefusal result (apply_line limits.entries stage shape at number) }
+    ensures line { IfErr result (λ refused. refused.fault.line ≡ number) }
     ensures before { IfErr result (λ refused. IsContextOf stage shape refused.context) }
 {
     match stage {
         Stage::Opening => match apply_first_line(alloc, limits, shape) {
             Ok(begun) => Ok(begun),
-            Err(kind) => Err(refusal_without_context(kind)),
+            Err(kind) => Err(refusal_without_context(number, kind)),
         },
-        Stage::Within { version, trace } => apply_later_line(limits, version, trace, shape),
-        Stage::Ended { .. } => Err(refusal_without_context(TextKind::After)),
+        Stage::Within { version, trace } => apply_later_line(limits, number, version, trace, shape),
+        Stage::Ended { .. } => Err(refusal_without_context(number, TextKind::After)),
     }
 }
 
-/// Applies the next line, which ends at byte number `end` of the text.
+/// Applies the next line, which has this number and ends at byte number `end` of the text.
 ///
 /// # Errors
 /// The first error of the line in the order of [`TextKind`], or `NoMemory` if an allocation failed; with its context
@@ -174,26 +189,29 @@ pub fn advance_stage(
     alloc: Global,
     limits: Limits,
     stage: Stage,
+    number: u32,
     end: usize,
     line: &[u8],
-) -> Result<Stage, LineRefusal>
-    ensures value { ReturnsLineRefusal result (advance_stage limits.entries stage end line.now) }
+) -> Result<Stage, TextRefusal>
+    ensures value { ReturnsTextRefusal result
+        (advance_stage limits.entries stage end line.now at number) }
+    ensures line { IfErr result (λ refused. refused.fault.line ≡ number) }
     ensures within { OnOk result (end ≤ max_text_len limits.entries) }
     ensures few { OnOk result (end ≤ longest_text) }
     ensures context { IfErr result (λ refused. IsContextAt stage line.now refused.context) }
 {
     if let Stage::Ended { .. } = &stage {
-        return Err(refusal_without_context(TextKind::After));
+        return Err(refusal_without_context(number, TextKind::After));
     }
     let most = max_text_len(limits);
     if end > most {
-        return Err(refusal_without_context(TextKind::Big));
+        return Err(refusal_without_context(number, TextKind::Big));
     }
     let shape = match parse_line(alloc, line) {
         Ok(shape) => shape,
-        Err(kind) => return Err(refusal_without_context(kind)),
+        Err(kind) => return Err(refusal_without_context(number, kind)),
     };
-    apply_line(alloc, limits, stage, shape)
+    apply_line(alloc, limits, stage, number, shape)
 }
 
 /// Applies the next line, which was parsed before its turn, as by another thread.
@@ -204,25 +222,28 @@ pub fn advance_parsed(
     alloc: Global,
     limits: Limits,
     stage: Stage,
+    number: u32,
     end: usize,
     line: &[u8],
     parsed: Result<ParsedLine, TextKind>,
-) -> Result<Stage, LineRefusal>
+) -> Result<Stage, TextRefusal>
     requires { Returns parsed (parse_line line.now) }
-    ensures value { ReturnsLineRefusal result (advance_stage limits.entries stage end line.now) }
+    ensures value { ReturnsTextRefusal result
+        (advance_stage limits.entries stage end line.now at number) }
+    ensures line { IfErr result (λ refused. refused.fault.line ≡ number) }
     ensures within { OnOk result (end ≤ max_text_len limits.entries) }
     ensures few { OnOk result (end ≤ longest_text) }
     ensures context { IfErr result (λ refused. IsContextAt stage line.now refused.context) }
 {
     let _line = line;
     if let Stage::Ended { .. } = &stage {
-        return Err(refusal_without_context(TextKind::After));
+        return Err(refusal_without_context(number, TextKind::After));
     }
     if end > max_text_len(limits) {
-        return Err(refusal_without_context(TextKind::Big));
+        return Err(refusal_without_context(number, TextKind::Big));
     }
     match parsed {
-        Ok(parsed_line) => apply_line(alloc, limits, stage, parsed_line),
-        Err(kind) => Err(refusal_without_context(kind)),
+        Ok(parsed_line) => apply_line(alloc, limits, stage, number, parsed_line),
+        Err(kind) => Err(refusal_without_context(number, kind)),
     }
 }

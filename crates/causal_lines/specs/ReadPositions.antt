@@ -7,6 +7,7 @@ use Rattle.causal_line.specs.declared.kind.TextFault.{TextFault}
 use Rattle.causal_line.specs.declared.stage.Stage.{Stage}
 use Rattle.causal_line.specs.declared.stage.Stage.TheVariants.{Opening, Within, Ended}
 use Rattle.causal_line.specs.Reading.{◌>>=◌}
+use Rattle.causal_line.specs.Refusals.{◌at◌}
 use Rattle.causal_line.specs.Stages.{max_text_len, advance_stage}
 
 -- a position: the stage after the lines so far, their number, and their size in bytes
@@ -36,12 +37,6 @@ abbrev pub lines_in : Stage → ℕ
 lines_in Opening = 0
 lines_in (Within version r) = length r.past + 1
 lines_in (Ended version r) = length r.past + 2
-
--- a result whose error kind is given this line number
-infixl 10 ◌at◌
-abbrev pub ◌at◌ : {A : Type 0} → Result A TextKind → ℕ → Result A TextFault
-(Ok x) at line = Ok x
-(Err kind) at line = Err (record { line = line; kind = kind })
 
 -- the position after one more line, or the error of the line
 abbrev pub position_after : ℕ → ReadPosition → List ℕ → Result ReadPosition TextFault

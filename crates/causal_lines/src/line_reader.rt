@@ -8,7 +8,7 @@ ghost use Rattle.causal_line.specs.Values.{parse_line};
 
 use causal_line::kind::{TextFault, TextKind};
 use causal_line::parsed_line::ParsedLine;
-use causal_line::stage::{LineRefusal, Stage, advance_parsed, advance_stage, max_text_len};
+use causal_line::stage::{Stage, advance_parsed, advance_stage, max_text_len};
 use causal_line::text_refusal::TextRefusal;
 use causal_line::trace_builder::TraceBuilder;
 use causal_trace::limits::Limits;
@@ -68,25 +68,12 @@ impl LineReader {
     {
         let LineReader { stage, count, size } = self;
         let end = size.saturating_add(line.len());
-        match advance_stage(alloc, limits, stage, end, line) {
-            Ok(stage) => Ok(LineReader {
-                stage,
-                count: count + 1,
-                size: end,
-            }),
-            Err(
-                LineRefusal {
-                    kind,
-                    context: before,
-                },
-            ) => Err(TextRefusal {
-                fault: TextFault {
-                    line: count + 1,
-                    kind,
-                },
-                context: before,
-            }),
-        }
+        let stage = advance_stage(alloc, limits, stage, count + 1, end, line)?;
+        Ok(LineReader {
+            stage,
+            count: count + 1,
+            size: end,
+        })
     }
 
     /// Reads the next line, which was parsed before its turn.
@@ -109,20 +96,12 @@ impl LineReader {
     {
         let LineReader { stage, count, size } = self;
         let end = size.saturating_add(line.len());
-        match advance_parsed(alloc, limits, stage, end, line, parsed) {
-            Ok(stage) => Ok(LineReader {
-                stage,
-                count: count + 1,
-                size: end,
-            }),
-            Err(LineRefusal { kind, context }) => Err(TextRefusal {
-                fault: TextFault {
-                    line: count + 1,
-                    kind,
-                },
-                context,
-            }),
-        }
+        let stage = advance_parsed(alloc, limits, stage, count + 1, end, line, parsed)?;
+        Ok(LineReader {
+            stage,
+            count: count + 1,
+            size: end,
+        })
     }
 
     /// Returns `NoMemory` as the error of the line that is being read.

@@ -11,10 +11,11 @@ use Rattle.causal_line.specs.declared.stage.Stage.{Stage}
 use Rattle.causal_line.specs.declared.stage.Stage.TheVariants.{Opening, Within, Ended}
 use Rattle.causal_line.specs.Lines.{lines}
 use Rattle.causal_line.specs.declared.version.Version.{Version}
-use Rattle.causal_lines.specs.ReadPositions.{ReadPosition, start_position, ◌at◌, position_after, finish_at, IsOpen}
+use Rattle.causal_lines.specs.ReadPositions.{ReadPosition, start_position, position_after, finish_at, IsOpen}
 use Rattle.causal_text.specs.ReadPosition.{IsPositionAfter}
 use Rattle.causal_text.specs.Inside.LineByLine.{after_lines, read_text}
 use Rattle.causal_line.specs.Reading.{◌>>=◌}
+use Rattle.causal_line.specs.Refusals.{◌at◌}
 use Rattle.causal_line.specs.Values.{parse_line}
 use Rattle.causal_line.specs.Stages.{advance_stage, lines_up_to}
 use Rattle.causal_text.specs.Spelling.{SpellsWithin, LeadsTo, IsFirstFaultWithin}

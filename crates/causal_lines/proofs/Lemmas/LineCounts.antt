@@ -1,5 +1,5 @@
 -- An accepted line increases the line count by one and keeps the entries within the limit.
-use Rattle.std.proofs.Common.{◌≡◌, ℕ, ◌+◌, ◌≤◌, List, length, Option, Some, None, Ok, Err, refl, arith, subst}
+use Rattle.std.proofs.Common.{◌≡◌, ℕ, ◌+◌, ◌≤◌, List, length, Option, Some, None, Result, Ok, Err, refl, arith, subst}
 use Rattle.std.specs.Prelude.{◌==◌, nat_lt, nat_le, ◌&&◌}
 use Rattle.causal_trace.specs.Limits.{max_entries}
 use Rattle.causal_trace.specs.Rows.{Recording, fault_within}
@@ -7,7 +7,9 @@ use Rattle.causal_trace.specs.State.{with_entry}
 use Rattle.causal_trace.specs.declared.entry.Entry.{Entry}
 use Rattle.causal_trace.specs.declared.fault.TraceFault.{TraceFault}
 use Rattle.causal_trace.proofs.Lemmas.WellFormed.{rows_next, short_next}
+use Rattle.causal_line.specs.declared.kind.TextKind.{TextKind}
 use Rattle.causal_line.specs.declared.kind.TextKind.TheVariants as kind
+use Rattle.causal_line.specs.declared.kind.TextFault.{TextFault}
 use Rattle.causal_line.specs.declared.parsed_line.ParsedLine.{ParsedLine}
 use Rattle.causal_line.specs.declared.parsed_line.ParsedLine.TheVariants as parsed
 use Rattle.causal_line.specs.declared.stage.Stage.{Stage}
@@ -15,6 +17,7 @@ use Rattle.causal_line.specs.declared.stage.Stage.TheVariants.{Opening, Within, 
 use Rattle.causal_line.specs.declared.version.Version.{Version}
 use Rattle.causal_line.specs.Kinds.{text_kind_of}
 use Rattle.causal_line.specs.Reading.{◌>>=◌}
+use Rattle.causal_line.specs.Refusals.{◌at◌}
 use Rattle.causal_line.specs.Stages.{empty_recording, max_text_len, open_text, push_entry, apply_line, check_limit, advance_stage}
 use Rattle.causal_line.specs.Values.{parse_line}
 use Rattle.causal_line.specs.Versions.{version_of, max_processes_in, allows}
@@ -58,11 +61,18 @@ Counts-limit most s end line t few h =
     let read = bind_ok (parse_line line) (apply_line most s) t limit.1 in
     Counts-follow most s read.0 t few read.2
 
+accepted : (read : Result Stage TextKind) (number : ℕ) (t : Stage) → (read at number) ≡ Ok t → read ≡ Ok t
+accepted (Ok s) number t h = let same : s ≡ t = cc (h) in rw same refl
+accepted (Err k) number t h = absurd (let fault : TextFault = record { line = number; kind = k } in let no : Err fault ≡ Ok t = h in cc)
+
+Counts-stage : (most : ℕ) (s : Stage) (end : ℕ) (line : List ℕ) (t : Stage) → entries_in s ≤ max_entries → advance_stage most s end line ≡ Ok t → Counts s t
+Counts-stage most Opening end line t few h = Counts-limit most Opening end line t few h
+Counts-stage most (Within version r) end line t few h = Counts-limit most (Within version r) end line t few h
+Counts-stage most (Ended version r) end line t few h = absurd (let no : Err kind.After ≡ Ok t = h in cc)
+
 -- an accepted line is one more line, and the entries are within the limit
-pub Counts-line : (most : ℕ) (s : Stage) (end : ℕ) (line : List ℕ) (t : Stage) → entries_in s ≤ max_entries → advance_stage most s end line ≡ Ok t → Counts s t
-Counts-line most Opening end line t few h = Counts-limit most Opening end line t few h
-Counts-line most (Within version r) end line t few h = Counts-limit most (Within version r) end line t few h
-Counts-line most (Ended version r) end line t few h = absurd (let no : Err kind.After ≡ Ok t = h in cc)
+pub Counts-line : (most : ℕ) (s : Stage) (end : ℕ) (line : List ℕ) (number : ℕ) (t : Stage) → entries_in s ≤ max_entries → (advance_stage most s end line at number) ≡ Ok t → Counts s t
+Counts-line most s end line number t few h = Counts-stage most s end line t few (accepted _ number t h)
 
 -- the line count is at most two above the number of entries: the header and the end line
 pub lines_few : (s : Stage) → lines_in s ≤ entries_in s + 2

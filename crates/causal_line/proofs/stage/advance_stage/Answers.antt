@@ -2,8 +2,8 @@ use Rattle.std.proofs.Common.{◌≡◌, ◌≢◌, ℕ, ◌≤◌, List, Option
 use Rattle.std.specs.Prelude.{IfErr, OnOk}
 use Rattle.causal_trace.specs.Rows.{Recording}
 use Rattle.causal_line.specs.declared.text_refusal.FaultContext.{FaultContext}
+use Rattle.causal_line.specs.declared.text_refusal.TextRefusal.{TextRefusal}
 use Rattle.causal_line.specs.declared.parsed_line.ParsedLine.{ParsedLine}
-use Rattle.causal_line.specs.declared.stage.LineRefusal.{LineRefusal}
 use Rattle.causal_line.specs.declared.stage.Stage.{Stage}
 use Rattle.causal_line.specs.declared.stage.Stage.TheVariants.{Opening, Within, Ended}
 use Rattle.causal_line.specs.declared.version.Version.{Version}
@@ -22,11 +22,11 @@ kept : (stage : Stage) (line : List ℕ) (x : ParsedLine) (before : Option Fault
 kept stage line x None is before = tt
 kept stage line x (Some at) is before = (before.0, is ∙ ap Ok (sym before.1))
 
-kept_if_refused : (stage : Stage) (line : List ℕ) (x : ParsedLine) (given : Result Stage LineRefusal) → parse_line line ≡ Ok x → IfErr given (λ refused. IsContextOf stage x refused.context) → IfErr given (λ refused. IsContextAt stage line refused.context)
+kept_if_refused : (stage : Stage) (line : List ℕ) (x : ParsedLine) (given : Result Stage TextRefusal) → parse_line line ≡ Ok x → IfErr given (λ refused. IsContextOf stage x refused.context) → IfErr given (λ refused. IsContextAt stage line refused.context)
 kept_if_refused stage line x (Ok on) is before = tt
 kept_if_refused stage line x (Err refused) is before = kept stage line x refused.context is before
 
-whatever : {P : Type 0} → (given : Result Stage LineRefusal) → P → OnOk given P
+whatever : {P : Type 0} → (given : Result Stage TextRefusal) → P → OnOk given P
 whatever (Ok on) so = so
 whatever (Err refused) so = tt
 

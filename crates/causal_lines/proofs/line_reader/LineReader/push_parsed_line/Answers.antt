@@ -5,5 +5,5 @@ use Rattle.causal_lines.proofs.line_reader.LineReader.push_parsed_line.Goals as 
 pub invariant_of-result : goal.invariant_of-result
 invariant_of-result c =
     let i = c.self.invariant in
-    let more = Counts-line c.args.limits.entries c.self.inside.stage _ c.args.line.now c.in-Ok.stage i.2 c.in-Ok.ensures.value in
-    (omega (arith, i.0, more.0), omega (arith, i.0, more.0, more.1, lines_few c.in-Ok.stage), more.1, c.in-Ok.ensures.few)
+    let more = Counts-line c.args.limits.entries c.self.inside.stage _ c.args.line.now _ c.in_ok-stage.stage i.2 c.in_ok-stage.ensures.value in
+    (omega (arith, i.0, more.0), omega (arith, i.0, more.0, more.1, lines_few c.in_ok-stage.stage), more.1, c.in_ok-stage.ensures.few)
