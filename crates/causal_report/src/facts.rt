@@ -167,39 +167,30 @@ fn holder_facts(alloc: Global, holders: &[Holding]) -> Result<Vec<Fact>, NoMemor
 fn each_holder(alloc: Global, holders: &[Holding]) -> Result<Vec<Fact>, NoMemory>
     ensures { IfOk result (λ found. found.items ≡ map Fact.Holder holders.now) }
 {
-    Ok(holders.iter().map(holder_fact).collect(alloc)?)
-}
-
-fn holder_fact(holding: &Holding) -> Fact
-    ensures { result ≡ Fact.Holder holding.now }
-{
-    Fact::Holder(*holding)
+    Ok(
+        holders
+            .iter()
+            .map(|holding| Fact::Holder(*holding))
+            .collect(alloc)?,
+    )
 }
 
 /// Each process that lost the determinant.
 fn loss_facts(alloc: Global, losses: &[Loss]) -> Result<Vec<Fact>, NoMemory>
     ensures { IfOk result (λ found. found.items ≡ map Fact.Loss losses.now) }
 {
-    Ok(losses.iter().map(loss_fact).collect(alloc)?)
-}
-
-fn loss_fact(loss: &Loss) -> Fact
-    ensures { result ≡ Fact.Loss loss.now }
-{
-    Fact::Loss(*loss)
+    Ok(losses.iter().map(|loss| Fact::Loss(*loss)).collect(alloc)?)
 }
 
 /// Each down process.
 fn down_facts(alloc: Global, down: &[DownProcess]) -> Result<Vec<Fact>, NoMemory>
     ensures { IfOk result (λ found. found.items ≡ map Fact.Down down.now) }
 {
-    Ok(down.iter().map(down_fact).collect(alloc)?)
-}
-
-fn down_fact(down: &DownProcess) -> Fact
-    ensures { result ≡ Fact.Down down.now }
-{
-    Fact::Down(*down)
+    Ok(
+        down.iter()
+            .map(|process| Fact::Down(*process))
+            .collect(alloc)?,
+    )
 }
 
 /// Each process of the crash set, ascending.
