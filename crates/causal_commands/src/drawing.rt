@@ -1,9 +1,7 @@
 //! The command `draw`, over any reader and writer: a picture of a trace with its verdict.
 ghost use Rattle.std.specs.Prelude.{◌≡◌, ◌≢◌, ◌≤◌, IfOk, IfErr, IfSome, Err};
-ghost use Rattle.causal_audit.specs.Judgements.{IsJudgedOf};
 ghost use Rattle.causal_text.specs.Streams.{StopsWithin};
 ghost use Rattle.causal_reading.specs.Reads.{max_read};
-ghost use Rattle.causal_report.specs.Drawings.{IsSelectedDrawing};
 ghost use Rattle.causal_commands.specs.Drawings.{WritesDrawingFor, IsDrawn};
 ghost use Rattle.causal_commands.specs.Diagnostics.{IsDiagnosisFor};
 ghost use Rattle.causal_commands.specs.Inside.Answers.{IsDrawingAnswerFor, WritesNothing, WritesWholeAnswer, AnswerRefusalIsTrue};
@@ -12,14 +10,13 @@ ghost use Rattle.causal_commands.specs.Inside.Refusals.{ExplainsStreamRefusal};
 use crate::answer::{Answer, ended_of, write_answer};
 use crate::diagnostic::DiagnosedFault;
 use crate::ended::Ended;
-use crate::input_audit::{StreamRefusal, judge_serially, read_input_by};
+use crate::input_audit::{StreamRefusal, read_judged};
 use crate::response::fault_response;
 use crate::stream::Outcome;
 use causal_name::NoMemory;
 use causal_picture::Selection;
 use causal_report::selected_drawing_of;
 use causal_trace::limits::Limits;
-use causal_trace::trace::Trace;
 use causal_workers::Judged;
 use std::alloc::Global;
 use std::io::{Read, Write};
@@ -117,28 +114,13 @@ fn read_drawing<I: Read, R: Threads + Wait>(
         (I.remaining input.old) (I.remaining input.new) }
     ensures never_no_worker { result ≢ Err StreamRefusal.NoWorker }
 {
-    let trace = match read_input_by(rt, alloc, input, limits, workers) {
-        Ok(trace) => trace,
+    let read = match read_judged(rt, alloc, input, limits, f, workers) {
+        Ok(read) => read,
         Err(stopped) => return Err(stopped),
     };
-    match draw_trace(rt, alloc, &trace, f, selection) {
-        Ok(drawn) => Ok(drawn),
+    let judged = read.judged;
+    match selected_drawing_of(alloc, &read.trace, f, judged.verdict, selection) {
+        Ok(picture) => Ok(Drawn { judged, picture }),
         Err(NoMemory) => Err(StreamRefusal::NoMemory),
     }
-}
-
-fn draw_trace<R: Threads + Wait>(
-    rt: &R,
-    alloc: Global,
-    trace: &Trace,
-    f: u16,
-    selection: Selection,
-) -> Result<Drawn, NoMemory>
-    ensures judged { IfOk result (λ drawn. IsJudgedOf trace.now.recording f drawn.judged) }
-    ensures shown { IfOk result (λ drawn. IsSelectedDrawing trace.now.recording f selection
-        drawn.judged.verdict drawn.picture.items) }
-{
-    let judged = judge_serially(rt, alloc, trace, f)?;
-    let picture = selected_drawing_of(alloc, trace, f, judged.verdict, selection)?;
-    Ok(Drawn { judged, picture })
 }

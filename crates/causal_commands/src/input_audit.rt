@@ -76,7 +76,7 @@ fn from_text_refusal(rejected: TextRefusal) -> StreamRefusal
 }
 
 /// Audits a trace by one worker, which needs no thread.
-pub(crate) fn judge_serially<R: Threads + Wait>(
+fn judge_serially<R: Threads + Wait>(
     rt: &R,
     alloc: Global,
     trace: &Trace,
@@ -88,6 +88,42 @@ pub(crate) fn judge_serially<R: Threads + Wait>(
         Ok(judged) => Ok(judged),
         Err(AuditFault::NoMemory) => Err(NoMemory),
         Err(AuditFault::NoWorker) => unreachable!(),
+    }
+}
+
+/// A trace, with its judgement.
+#[derive(Drop)]
+pub(crate) struct JudgedTrace {
+    pub trace: Trace,
+    pub judged: Judged,
+}
+
+/// Reads the trace that the bytes of a reader spell, within the limits, by 1 to 64 workers, and audits it for f by one.
+pub(crate) fn read_judged<I: Read, R: Threads + Wait>(
+    rt: &R,
+    alloc: Global,
+    input: &mut I,
+    limits: Limits,
+    f: u16,
+    workers: u32,
+) -> Result<JudgedTrace, StreamRefusal>
+    requires { (1 ≤ workers) × (workers ≤ 64) }
+    ensures spells { IfOk result (λ read. IfSome (I.remaining input.old)
+        (λ text. SpellsWithin limits.entries text read.trace.recording)) }
+    ensures judged { IfOk result (λ read. IsJudgedOf read.trace.recording f read.judged) }
+    ensures err { IfErr result (λ stopped. IfSome (I.remaining input.old)
+        (λ text. ExplainsStreamRefusal limits.entries text stopped)) }
+    ensures stops { StopsWithin limits.entries (max_read workers)
+        (I.remaining input.old) (I.remaining input.new) }
+    ensures never_no_worker { result ≢ Err StreamRefusal.NoWorker }
+{
+    let trace = match read_input_by(rt, alloc, input, limits, workers) {
+        Ok(trace) => trace,
+        Err(stopped) => return Err(stopped),
+    };
+    match judge_serially(rt, alloc, &trace, f) {
+        Ok(judged) => Ok(JudgedTrace { trace, judged }),
+        Err(NoMemory) => Err(StreamRefusal::NoMemory),
     }
 }
 

@@ -1,21 +1,18 @@
 //! The verdict on a trace, with the facts that explain it.
 ghost use Rattle.std.specs.Prelude.{◌≡◌, ◌≢◌, ◌≤◌, IfOk, IfErr, IfSome, Err};
-ghost use Rattle.causal_audit.specs.Judgements.{IsJudgedOf};
 ghost use Rattle.causal_text.specs.Streams.{StopsWithin};
 ghost use Rattle.causal_reading.specs.Reads.{max_read};
-ghost use Rattle.causal_report.specs.Facts.{AreFacts};
 ghost use Rattle.causal_commands.specs.Replies.{IsExplained};
 ghost use Rattle.causal_commands.specs.Inside.Answers.{IsReasonReplyFor, WritesNothing, WritesWholeAnswer, RefusalIsTrue};
 ghost use Rattle.causal_commands.specs.Inside.Refusals.{ExplainsStreamRefusal};
 
 use crate::answer::ended_of;
 use crate::ended::Ended;
-use crate::input_audit::{StreamRefusal, judge_serially, read_input_by};
+use crate::input_audit::{StreamRefusal, read_judged};
 use crate::response::{Response, fault_response};
 use causal_name::NoMemory;
 use causal_report::{Fact, Finding, Reply, facts_of};
 use causal_trace::limits::Limits;
-use causal_trace::trace::Trace;
 use causal_workers::Judged;
 use std::alloc::Global;
 use std::io::Read;
@@ -79,27 +76,13 @@ pub(crate) fn read_explained<I: Read, R: Threads + Wait>(
         (I.remaining input.old) (I.remaining input.new) }
     ensures never_no_worker { result ≢ Err StreamRefusal.NoWorker }
 {
-    let trace = match read_input_by(rt, alloc, input, limits, workers) {
-        Ok(trace) => trace,
+    let read = match read_judged(rt, alloc, input, limits, f, workers) {
+        Ok(read) => read,
         Err(stopped) => return Err(stopped),
     };
-    match explain_trace(rt, alloc, &trace, f) {
-        Ok(known) => Ok(known),
+    let judged = read.judged;
+    match facts_of(alloc, &read.trace, f, judged.verdict) {
+        Ok(facts) => Ok(Explained { judged, facts }),
         Err(NoMemory) => Err(StreamRefusal::NoMemory),
     }
-}
-
-fn explain_trace<R: Threads + Wait>(
-    rt: &R,
-    alloc: Global,
-    trace: &Trace,
-    f: u16,
-) -> Result<Explained, NoMemory>
-    ensures judged { IfOk result (λ known. IsJudgedOf trace.now.recording f known.judged) }
-    ensures explained { IfOk result
-        (λ known. AreFacts trace.now.recording f known.judged.verdict known.facts.items) }
-{
-    let judged = judge_serially(rt, alloc, trace, f)?;
-    let facts = facts_of(alloc, trace, f, judged.verdict)?;
-    Ok(Explained { judged, facts })
 }

@@ -1,12 +1,12 @@
 use Rattle.causal_commands.proofs.Known.{IfSome-weaker}
 use Rattle.causal_commands.proofs.drawing.read_drawing.Goals as goal
 
-pub returns-in-Ok-draw_trace-clause-ok : goal.returns-in-Ok-draw_trace-clause-ok
-returns-in-Ok-draw_trace-clause-ok g c =
-    let judged = c.in-Ok-draw_trace.ensures.judged in
+pub returns-in-Ok-selected_drawing_of-clause-ok : goal.returns-in-Ok-selected_drawing_of-clause-ok
+returns-in-Ok-selected_drawing_of-clause-ok g c =
+    let judged = c.in-Ok.ensures.judged in
     IfSome-weaker (g.I.Read.remaining c.args.input.now) _ _
     (λ text spells. record {
-      judgement = record { recording = c.in-Ok.trace.recording; spells = spells; verdict = judged.verdict; entries = judged.entries; deliveries = judged.deliveries };
-      shows = c.in-Ok-draw_trace.ensures.shown;
+      judgement = record { recording = c.in-Ok.read.trace.recording; spells = spells; verdict = judged.verdict; entries = judged.entries; deliveries = judged.deliveries };
+      shows = c.in-Ok-selected_drawing_of.ensures;
     })
-    c.in-Ok.ensures.ok
+    c.in-Ok.ensures.spells
