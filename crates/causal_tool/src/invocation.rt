@@ -55,87 +55,143 @@ impl Invocation {
                 form,
                 workers,
                 limits,
-            } => Invocation::Trace {
-                question: match until {
-                    Until::End => Question::Verdict { faults, workers },
-                    Until::Breach => Question::Breach {
-                        faults,
-                        workers,
-                        looks: Looks::Checkpoints,
-                    },
-                    Until::LiveBreach => Question::Breach {
-                        faults,
-                        workers,
-                        looks: Looks::Live,
-                    },
-                },
-                form: form_of(form),
-                limits,
-            },
+            } => audit_invocation(faults, until, form, workers, limits),
             Subcommand::Explain {
                 faults,
                 form,
                 workers,
                 limits,
-            } => Invocation::Trace {
-                question: match faults {
-                    Some(faults) => Question::Reason { faults, workers },
-                    None => Question::Range { workers },
-                },
-                form: form_of(form),
-                limits,
-            },
+            } => explain_invocation(faults, form, workers, limits),
             Subcommand::ExplainByMap {
                 faults,
                 workers,
                 limits,
-            } => Invocation::MappedReason {
-                faults,
-                workers,
-                limits,
-            },
+            } => mapped_invocation(faults, workers, limits),
             Subcommand::Replays {
                 form,
                 workers,
                 limits,
-            } => Invocation::Trace {
-                question: Question::Replays {
-                    workers,
-                    detail: detail_of(form),
-                },
-                form: form_of(form),
-                limits,
-            },
+            } => replays_invocation(form, workers, limits),
             Subcommand::Draw {
                 faults,
                 around,
                 only_breach,
                 workers,
                 limits,
-            } => Invocation::Draw {
-                faults,
-                workers,
-                limits,
-                selection: Selection {
-                    around,
-                    only_focus: only_breach,
-                },
-            },
+            } => draw_invocation(faults, around, only_breach, workers, limits),
             Subcommand::Merge {
                 workers,
                 limits,
                 has_map,
-            } => Invocation::Merge {
-                workers,
-                limits,
-                mapping: if has_map {
-                    Mapping::Mapped
-                } else {
-                    Mapping::Unmapped
-                },
-            },
+            } => merge_invocation(workers, limits, has_map),
             Subcommand::Run => Invocation::Run,
         }
+    }
+}
+
+fn audit_invocation(
+    faults: u16,
+    until: Until,
+    form: causal_arguments::Form,
+    workers: u32,
+    limits: Limits,
+) -> Invocation
+    ensures { result ≡ invocation_of (Subcommand.Audit faults until form workers limits) }
+{
+    let question = match until {
+        Until::End => Question::Verdict { faults, workers },
+        Until::Breach => Question::Breach {
+            faults,
+            workers,
+            looks: Looks::Checkpoints,
+        },
+        Until::LiveBreach => Question::Breach {
+            faults,
+            workers,
+            looks: Looks::Live,
+        },
+    };
+    Invocation::Trace {
+        question,
+        form: form_of(form),
+        limits,
+    }
+}
+
+fn explain_invocation(
+    faults: Option<u16>,
+    form: causal_arguments::Form,
+    workers: u32,
+    limits: Limits,
+) -> Invocation
+    ensures { result ≡ invocation_of (Subcommand.Explain faults form workers limits) }
+{
+    let question = match faults {
+        Some(faults) => Question::Reason { faults, workers },
+        None => Question::Range { workers },
+    };
+    Invocation::Trace {
+        question,
+        form: form_of(form),
+        limits,
+    }
+}
+
+fn mapped_invocation(faults: u16, workers: u32, limits: Limits) -> Invocation
+    ensures { result ≡ invocation_of (Subcommand.ExplainByMap faults workers limits) }
+{
+    Invocation::MappedReason {
+        faults,
+        workers,
+        limits,
+    }
+}
+
+fn replays_invocation(form: causal_arguments::Form, workers: u32, limits: Limits) -> Invocation
+    ensures { result ≡ invocation_of (Subcommand.Replays form workers limits) }
+{
+    Invocation::Trace {
+        question: Question::Replays {
+            workers,
+            detail: detail_of(form),
+        },
+        form: form_of(form),
+        limits,
+    }
+}
+
+fn draw_invocation(
+    faults: u16,
+    around: Option<u32>,
+    only_breach: bool,
+    workers: u32,
+    limits: Limits,
+) -> Invocation
+    ensures { result ≡ invocation_of (Subcommand.Draw faults around only_breach workers limits) }
+{
+    Invocation::Draw {
+        faults,
+        workers,
+        limits,
+        selection: Selection {
+            around,
+            only_focus: only_breach,
+        },
+    }
+}
+
+fn merge_invocation(workers: u32, limits: Limits, has_map: bool) -> Invocation
+    ensures { result ≡ invocation_of (Subcommand.Merge workers limits has_map) }
+{
+    let mapping = if has_map {
+        Mapping::Mapped
+    } else {
+        Mapping::Unmapped
+    };
+    Invocation::Merge {
+        workers,
+        limits,
+        mapping,
     }
 }
 
