@@ -1,5 +1,5 @@
 //! The audit of a recorded run on the calling thread.
-ghost use Rattle.std.specs.Prelude.{◌≤◌, IfOk, length};
+ghost use Rattle.std.specs.Prelude.{◌≡◌, ◌≤◌, IfOk, length};
 ghost use Rattle.causal_trace.specs.Limits.{max_entries};
 ghost use Rattle.causal_trace.specs.Past.{deliveries_in};
 ghost use Rattle.causal_audit.specs.Breaches.{FirstExcess, IsHorizon, EarliestBreachBy};
@@ -9,14 +9,16 @@ use crate::breach::{Breach, Excess};
 use crate::clock_audit::decide_verdict;
 use crate::excess::{first_excess_in, last_deciding_instant};
 use crate::index::mentions::mentioned_dets;
-use crate::prepared_run::PreparedRun;
+use crate::index_parts::{EffectIndex, PrefixIndex, TransitionIndex};
+use crate::indexed_run::IndexedRun;
+use crate::prepared_run::{PreparedRun, breach_by_end};
 use crate::verdict::Verdict;
 use causal_name::NoMemory;
 use causal_trace::entry::Entry;
 use causal_trace::trace::Trace;
 use std::alloc::Global;
 
-/// The maximum number of entries that `horizon_of` audits first.
+/// The maximum number of entries that `index_early` audits first.
 const FIRST_ENTRIES: usize = 4_096;
 
 /// The maximum number of determinants that these entries list.
@@ -56,30 +58,55 @@ fn early_part_len(entries: &[Entry], end: u32) -> u32
     end
 }
 
-/// Returns an instant such that the earliest breach up to it decides the verdict, given the run's first excess. It is
-/// the last instant that can decide, or the instant of an early breach. A breach is early if it comes among the first
-/// 4,096 entries, before these list more than 16,384 determinants. So a run that fails early is prepared only up to its
-/// breach.
+/// Indexes the early part of a run, given what is indexed of the whole run and its first excess. Returns the index with an
+/// instant such that the earliest breach up to it decides the verdict. It is the last instant that can decide, or the
+/// instant of an early breach. A breach is early if it comes among the first 4,096 entries, before these list more than
+/// 16,384 determinants. So a run that fails early is prepared only up to its breach.
 ///
 /// # Errors
 /// `NoMemory` if allocation fails.
-pub fn horizon_of(
+pub fn index_early(
     alloc: Global,
     trace: &Trace,
     f: u16,
     excess: &Option<Excess>,
-) -> Result<u32, NoMemory>
-    requires { FirstExcess trace.now.recording f excess.now }
-    ensures within { IfOk result (λ end. end ≤ length trace.now.recording.past) }
-    ensures decides { IfOk result (IsHorizon trace.now.recording f excess.now) }
+    transitions: TransitionIndex,
+    effects: EffectIndex,
+) -> Result<(IndexedRun, u32), NoMemory>
+    requires transitions { transitions ≡ trace.now.recording }
+    requires effects { effects ≡ trace.now.recording }
+    requires excess { FirstExcess trace.now.recording f excess.now }
+    ensures run { IfOk result (λ early. early.0.run ≡ trace.now.recording) }
+    ensures within { IfOk result (λ early. early.1 ≤ length trace.now.recording.past) }
+    ensures decides { IfOk result (λ early. IsHorizon trace.now.recording f excess.now early.1) }
 {
     let end = last_deciding_instant(trace, excess);
     let first = early_part_len(trace.entries(), end);
-    let early = earliest_breach(alloc, trace, f, first)?;
+    let prefix = PrefixIndex::of(alloc, trace, f, first)?;
+    let indexed = IndexedRun::from_parts(alloc, trace, transitions, effects, prefix)?;
+    let early = breach_by_end(alloc, trace, &indexed)?;
     match early {
-        Some(breach) => Ok(breach.instant),
-        None => Ok(end),
+        Some(breach) => Ok((indexed, breach.instant)),
+        None => Ok((indexed, end)),
     }
+}
+
+/// Returns the earliest breach of an indexed run up to its end, as `earliest_breach` does.
+///
+/// # Errors
+/// `NoMemory` if allocation fails.
+fn breach_of_indexed(
+    alloc: Global,
+    trace: &Trace,
+    indexed: IndexedRun,
+) -> Result<Option<Breach>, NoMemory>
+    requires { trace.now.recording ≡ indexed.run }
+    ensures { IfOk result
+        (EarliestBreachBy indexed.run indexed.f indexed.end 0 (deliveries_in indexed.run.past)) }
+{
+    let found = indexed.open_deliveries(alloc, trace, 0, indexed.deliveries())?;
+    let prepared = PreparedRun::from_search(indexed, found)?;
+    prepared.earliest_breach(alloc, trace)
 }
 
 /// Returns the verdict on a trace for f: every instant is safe, or the first unsafe instant decides. At that instant
@@ -91,7 +118,11 @@ pub fn verdict_of(alloc: Global, trace: &Trace, f: u16) -> Result<Verdict, NoMem
     ensures { IfOk result (IsVerdict trace.now.recording f) }
 {
     let excess = first_excess_in(trace, f);
-    let end = horizon_of(alloc, trace, f, &excess)?;
-    let least = earliest_breach(alloc, trace, f, end)?;
+    let transitions = TransitionIndex::of(alloc, trace)?;
+    let effects = EffectIndex::of(alloc, trace)?;
+    let (early, end) = index_early(alloc, trace, f, &excess, transitions, effects)?;
+    let prefix = PrefixIndex::of(alloc, trace, f, end)?;
+    let indexed = early.with_prefix(alloc, trace, prefix)?;
+    let least = breach_of_indexed(alloc, trace, indexed)?;
     Ok(decide_verdict(excess, least))
 }

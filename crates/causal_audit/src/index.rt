@@ -16,6 +16,8 @@ pub mod packed_lists;
 pub mod indexed_trace;
 /// The positions of the deliveries.
 pub mod positions;
+/// The departures and the reached processes, by one pass.
+pub mod effects;
 /// The processes that the events of each process reach.
 pub mod reachability;
 /// The index of a run.

@@ -1,9 +1,9 @@
-//! The two parts of the index of a recorded run, which two threads can build at the same time.
+//! The parts of the index of a recorded run, which several threads can build at the same time.
 ghost use Rattle.std.specs.Prelude.{◌≡◌, ◌≤◌, IfOk, length};
 ghost use Rattle.causal_audit.specs.Searches.{search_scope};
 
+use crate::index::effects::effects_of;
 use crate::index::mentions::{Mentions, mentions_in};
-use crate::index::reachability::reachable_sets;
 use crate::index::transitions::Transitions;
 use causal_holders::Holders;
 use causal_name::NoMemory;
@@ -12,40 +12,74 @@ use std::alloc::Global;
 use std::marker::Model;
 use std::snapshot::Snapshot;
 
-/// What the audit needs of the whole run: its crashes and restarts, and which processes the events of each reach. It
-/// contains no copy of the trace. The model is the run.
+/// The crashes and restarts of the whole run. It contains no copy of the trace. The model is the run.
 #[derive(Drop)]
-pub struct WholeIndex {
+pub struct TransitionIndex {
     run: Snapshot<Trace>,
     pub(crate) transitions: Transitions,
-    pub(crate) reached: Vec<Holders>,
 }
 
-impl Model for WholeIndex {
+impl Model for TransitionIndex {
     ghost use Rattle.causal_trace.specs.Rows.{Recording};
-    ghost use Rattle.causal_audit.specs.Inside.Index.Parts.{IsWholeIndex};
+    ghost use Rattle.causal_audit.specs.Inside.Index.Parts.{IsTransitionPart};
 
     ghost Value = { Recording };
 
     ghost view = { λ a. a.run.value.recording };
 
-    ghost invariant = { λ a. IsWholeIndex a.run.value.recording a.transitions a.reached.items };
+    ghost invariant = { λ a. IsTransitionPart a.run.value.recording a.transitions };
 }
 
-impl WholeIndex {
+impl TransitionIndex {
     /// Indexes a trace. Takes O(entries) time.
     ///
     /// # Errors
     /// `NoMemory` if allocation fails.
-    pub fn of(alloc: Global, trace: &Trace) -> Result<WholeIndex, NoMemory>
+    pub fn of(alloc: Global, trace: &Trace) -> Result<TransitionIndex, NoMemory>
         ensures { IfOk result (λ index. index ≡ trace.now.recording) }
     {
         let entries = trace.entries();
         let transitions = Transitions::of(alloc, entries)?;
-        let reached = reachable_sets(alloc, trace)?;
-        Ok(WholeIndex {
+        Ok(TransitionIndex {
             run: Snapshot::of(trace),
             transitions,
+        })
+    }
+}
+
+/// When the effect of each event of the whole run first leaves its process, and which processes the events of each reach.
+/// It contains no copy of the trace. The model is the run.
+#[derive(Drop)]
+pub struct EffectIndex {
+    run: Snapshot<Trace>,
+    pub(crate) departures: Vec<u32>,
+    pub(crate) reached: Vec<Holders>,
+}
+
+impl Model for EffectIndex {
+    ghost use Rattle.causal_trace.specs.Rows.{Recording};
+    ghost use Rattle.causal_audit.specs.Inside.Index.Parts.{IsEffectPart};
+
+    ghost Value = { Recording };
+
+    ghost view = { λ a. a.run.value.recording };
+
+    ghost invariant = { λ a. IsEffectPart a.run.value.recording a.departures.items a.reached.items };
+}
+
+impl EffectIndex {
+    /// Indexes a trace. Takes O(entries) time, and 4 bytes for each entry.
+    ///
+    /// # Errors
+    /// `NoMemory` if allocation fails.
+    pub fn of(alloc: Global, trace: &Trace) -> Result<EffectIndex, NoMemory>
+        ensures { IfOk result (λ index. index ≡ trace.now.recording) }
+    {
+        let entries = trace.entries();
+        let (departures, reached) = effects_of(alloc, entries)?;
+        Ok(EffectIndex {
+            run: Snapshot::of(trace),
+            departures,
             reached,
         })
     }

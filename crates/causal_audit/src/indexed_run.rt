@@ -3,11 +3,10 @@ ghost use Rattle.std.specs.Prelude.{◌≡◌, ◌≤◌, ℕ, IfOk, length};
 ghost use Rattle.causal_audit.specs.Searches.{SearchScope, IsSearched, delivery_count, scope_of, search_scope};
 
 use crate::group::walk_input::OpenDelivery;
-use crate::index::departures::departures_of;
 use crate::index::indexed_trace::IndexedTrace;
 use crate::index::positions::positions_of;
 use crate::index::run_index::RunIndex;
-use crate::index_parts::{PrefixIndex, WholeIndex};
+use crate::index_parts::{EffectIndex, PrefixIndex, TransitionIndex};
 use crate::safety_scan::open_delivery_search::OpenDeliverySearch;
 use causal_holders::Holders;
 use causal_name::NoMemory;
@@ -51,38 +50,71 @@ impl IndexedRun {
         ensures { IfOk result (λ indexed. indexed ≡ search_scope trace.now.recording f end) }
     {
         let prefix = PrefixIndex::of(alloc, trace, f, end)?;
-        let whole = WholeIndex::of(alloc, trace)?;
-        let indexed = IndexedRun::from_parts(alloc, trace, whole, prefix)?;
+        let transitions = TransitionIndex::of(alloc, trace)?;
+        let effects = EffectIndex::of(alloc, trace)?;
+        let indexed = IndexedRun::from_parts(alloc, trace, transitions, effects, prefix)?;
         Ok(indexed)
     }
 
-    /// Indexes a trace, given the two parts of its index. It adds when the effect of each event leaves its process, and the
-    /// deliveries: they use the memory again that `PrefixIndex::of` took for a time.
+    /// Indexes a trace, given the parts of its index. It adds the positions of the deliveries.
     ///
     /// # Errors
     /// `NoMemory` if allocation fails.
     pub fn from_parts(
         alloc: Global,
         trace: &Trace,
-        whole: WholeIndex,
+        transitions: TransitionIndex,
+        effects: EffectIndex,
         prefix: PrefixIndex,
     ) -> Result<IndexedRun, NoMemory>
-        requires whole { whole ≡ prefix.run }
+        requires transitions { transitions ≡ prefix.run }
+        requires effects { effects ≡ prefix.run }
         requires same { trace.now.recording ≡ prefix.run }
         ensures { IfOk result (λ indexed. indexed ≡ prefix) }
     {
         let entries = trace.entries();
-        let departures = departures_of(alloc, entries)?;
         let positions = positions_of(alloc, &entries[..prefix.end as usize])?;
         let index = RunIndex {
-            transitions: whole.transitions,
+            transitions: transitions.transitions,
             mentions: prefix.mentions,
         };
         Ok(IndexedRun {
             run: prefix.run,
             index,
-            departures,
-            reached: whole.reached,
+            departures: effects.departures,
+            reached: effects.reached,
+            positions,
+            f: prefix.f,
+            end: prefix.end,
+        })
+    }
+
+    /// Indexes the run up to another instant, given its part of the index. The trace must be the one that was indexed.
+    ///
+    /// # Errors
+    /// `NoMemory` if allocation fails.
+    pub fn with_prefix(
+        self,
+        alloc: Global,
+        trace: &Trace,
+        prefix: PrefixIndex,
+    ) -> Result<IndexedRun, NoMemory>
+        requires run { self.run ≡ prefix.run }
+        requires same { trace.now.recording ≡ prefix.run }
+        ensures { IfOk result (λ indexed. indexed ≡ prefix) }
+    {
+        let entries = trace.entries();
+        let positions = positions_of(alloc, &entries[..prefix.end as usize])?;
+        let kept = self.index;
+        let index = RunIndex {
+            transitions: kept.transitions,
+            mentions: prefix.mentions,
+        };
+        Ok(IndexedRun {
+            run: prefix.run,
+            index,
+            departures: self.departures,
+            reached: self.reached,
             positions,
             f: prefix.f,
             end: prefix.end,

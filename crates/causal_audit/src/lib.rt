@@ -1,7 +1,7 @@
 //! The audit of recorded runs: is each delivery's determinant safe from f crashes at every instant?
 //!
 //! [`verdict_of`] returns the verdict on a trace for f. A caller that divides the work among threads calls the steps:
-//! [`first_excess_in`] returns the first instant with too many processes down, and [`horizon_of`] an instant beyond
+//! [`first_excess_in`] returns the first instant with too many processes down, and [`index_early`] an instant beyond
 //! which nothing decides. [`PreparedRun::of`] finds the deliveries that must be followed up to there, [`Part::earliest_breach`]
 //! follows a part of them, and [`decide_verdict`] combines the results into the verdict. [`Tables`] and [`check_step`] return the
 //! same verdict by vector clocks, [`verdict_line`] prints it, and [`laws`] states the facts behind the audit.
@@ -17,7 +17,7 @@ pub mod breach;
 pub mod excess;
 /// The verdict by vector clocks.
 pub mod clock_audit;
-/// The two parts of the index of a run.
+/// The parts of the index of a run.
 pub mod index_parts;
 /// A run indexed for its audit, and the search for the deliveries that must be followed.
 pub mod indexed_run;
@@ -49,11 +49,11 @@ mod safety_scan;
 /// The state of one delivery at an instant.
 mod delivery_state;
 
-pub use audit::{earliest_breach, horizon_of, verdict_of};
+pub use audit::{earliest_breach, index_early, verdict_of};
 pub use breach::{Breach, Excess, earlier_breach};
 pub use clock_audit::{decide_verdict, first_breach, first_excess, judge};
 pub use excess::{first_excess_in, last_deciding_instant};
-pub use index_parts::{PrefixIndex, WholeIndex};
+pub use index_parts::{EffectIndex, PrefixIndex, TransitionIndex};
 pub use indexed_run::{IndexedRun, OpenDeliveries};
 pub use judged::Judged;
 pub use line::verdict_line;

@@ -1,5 +1,7 @@
 //! A recorded run prepared for its audit, and parts of its deliveries.
 ghost use Rattle.std.specs.Prelude.{◌≡◌, ◌-◌, ◌<◌, ◌≤◌, IfOk, drop, length};
+ghost use Rattle.causal_trace.specs.Past.{deliveries_in};
+ghost use Rattle.causal_audit.specs.Breaches.{EarliestBreachBy};
 ghost use Rattle.causal_audit.specs.Parts.{AreSufficient, EarliestOf, part_of};
 ghost use Rattle.causal_audit.specs.Searches.{IsSearched, delivery_count};
 ghost use Rattle.causal_audit.specs.Shares.{IsFairShare, IsShareOf, walk_count, walk_length, walked};
@@ -229,4 +231,47 @@ impl Part<'_> {
         self.walk_input
             .earliest_of(alloc, self.f, self.end, self.candidates)
     }
+}
+
+/// Returns the result of the whole search of an indexed run as a part, in the order of the search. The trace must be the
+/// one that was indexed.
+fn found_part<'a>(trace: &'a Trace, indexed: &'a IndexedRun, found: &'a OpenDeliveries) -> Part<'a>
+    requires same { trace.now.recording ≡ indexed.now.run }
+    requires found { IsSearched indexed.now 0 (delivery_count indexed.now) found.now }
+    ensures { AreSufficient indexed.now.run indexed.now.f indexed.now.end result }
+{
+    let indexed_trace = IndexedTrace {
+        trace,
+        transitions: &indexed.index.transitions,
+    };
+    let walk_input = WalkInput {
+        indexed_trace: indexed_trace,
+        mentions: &indexed.index.mentions,
+        end: indexed.end,
+    };
+    Part {
+        walk_input: walk_input,
+        f: indexed.f,
+        end: indexed.end,
+        candidates: found.candidates.as_slice(),
+    }
+}
+
+/// Returns the earliest breach of an indexed run up to its end: by instant, then by position. `None` if no delivery has
+/// an orphan by then. The trace must be the one that was indexed. Deliveries are followed in the order of the search, not
+/// in one that shortens walks, so this is for a few thousand entries.
+///
+/// # Errors
+/// `NoMemory` if allocation fails.
+pub(crate) fn breach_by_end(
+    alloc: Global,
+    trace: &Trace,
+    indexed: &IndexedRun,
+) -> Result<Option<Breach>, NoMemory>
+    requires { trace.now.recording ≡ indexed.now.run }
+    ensures { IfOk result (EarliestBreachBy indexed.now.run indexed.now.f indexed.now.end 0
+        (deliveries_in indexed.now.run.past)) }
+{
+    let found = indexed.open_deliveries(alloc, trace, 0, indexed.deliveries())?;
+    found_part(trace, indexed, &found).earliest_breach(alloc)
 }

@@ -9,9 +9,7 @@ ghost use Rattle.causal_workers.specs.Inside.Shares.{Covers, FollowsAfter, IsEar
 use crate::gate::Gate;
 use crate::preparation::prepare_by;
 use crate::share::{RunningShare, Share, ShareResult};
-use causal_audit::{
-    Breach, PreparedRun, Verdict, decide_verdict, earlier_breach, first_excess_in, horizon_of,
-};
+use causal_audit::{Breach, PreparedRun, Verdict, decide_verdict, earlier_breach};
 use causal_name::NoMemory;
 use causal_trace::trace::Trace;
 use std::alloc::Global;
@@ -43,7 +41,7 @@ impl From<NoMemory> for AuditFault {
 
 /// Returns the verdict on a trace for f, by 1 to 64 workers. It is the same for every number of workers.
 ///
-/// The run is prepared up to an instant beyond which nothing decides: two threads index it, and all workers search for
+/// The run is prepared up to an instant beyond which nothing decides: three threads index it, and all workers search for
 /// the deliveries that must be followed. These are divided among the workers, in groups that one walk over
 /// the entries follows. Worker 0 is the calling thread, and begins after all others were started. Each worker calls the
 /// gate's `enter` once with its number, even if no delivery is left for it.
@@ -64,9 +62,7 @@ pub fn audit<G: Gate + Sync, R: Threads + Wait>(
     ensures only { IfOk result (IsOnlyVerdict trace.now.recording f) }
     ensures one_worker { result ≡ Err AuditFault.NoWorker → 2 ≤ workers }
 {
-    let excess = first_excess_in(trace, f);
-    let end = horizon_of(alloc, trace, f, &excess)?;
-    let prepared = prepare_by(rt, alloc, trace, f, end, workers)?;
+    let (prepared, excess) = prepare_by(rt, alloc, trace, f, workers)?;
     let least = earliest_breach(rt, alloc, trace, &prepared, workers, gate)?;
     Ok(decide_verdict(excess, least))
 }

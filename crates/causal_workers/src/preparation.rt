@@ -1,9 +1,13 @@
-//! A trace is prepared by several workers, who share the search for the deliveries that must be followed.
-ghost use Rattle.std.specs.Prelude.{◌≡◌, ◌≤◌, IfOk, length};
+//! A trace is prepared by several workers, who share its indexing and the search for the deliveries that must be followed.
+ghost use Rattle.std.specs.Prelude.{◌≡◌, ◌≤◌, ℕ, IfOk};
+ghost use Rattle.causal_audit.specs.Breaches.{FirstExcess, IsHorizon};
 ghost use Rattle.causal_audit.specs.Parts.{AreSufficient};
-ghost use Rattle.causal_audit.specs.Searches.{IsSearched, delivery_count, search_scope};
+ghost use Rattle.causal_audit.specs.Searches.{IsSearched, delivery_count};
 
-use causal_audit::{IndexedRun, OpenDeliveries, PrefixIndex, PreparedRun, WholeIndex};
+use causal_audit::{
+    EffectIndex, Excess, IndexedRun, OpenDeliveries, PrefixIndex, PreparedRun, TransitionIndex,
+    first_excess_in, index_early,
+};
 use causal_name::NoMemory;
 use causal_trace::trace::Trace;
 use std::alloc::Global;
@@ -12,11 +16,12 @@ use std::thread::{Threads, join};
 /// The least number of deliveries that a worker searches, so that a short run starts no thread for it.
 const LEAST: u32 = 2_048;
 
-/// The least number of entries of a run that two threads index.
+/// The least number of entries of a run that several workers index.
 const LEAST_INDEXED: u32 = 16_384;
 
-/// Prepares a trace for f up to the instant `end`, as `PreparedRun::of` does, by 1 to 64 workers. If a thread cannot
-/// start, the calling thread does its part. The result is the same for every number of workers.
+/// Prepares a trace for f up to an instant such that the earliest breach up to it decides the verdict, by 1 to 64
+/// workers, and returns it with the first excess. If a thread cannot start, the calling thread does its part. The result
+/// is the same for every number of workers.
 ///
 /// # Errors
 /// `NoMemory` if allocation fails.
@@ -25,45 +30,78 @@ pub(crate) fn prepare_by<R: Threads>(
     alloc: Global,
     trace: &Trace,
     f: u16,
-    end: u32,
     workers: u32,
-) -> Result<PreparedRun, NoMemory>
-    requires { end ≤ length trace.now.recording.past }
-    ensures run { IfOk result (λ prepared. prepared.run ≡ trace.now.recording) }
-    ensures sufficient { IfOk result (AreSufficient trace.now.recording f end) }
+) -> Result<(PreparedRun, Option<Excess>), NoMemory>
+    ensures run { IfOk result (λ ready. ready.0.run ≡ trace.now.recording) }
+    ensures excess { IfOk result (λ ready. FirstExcess trace.now.recording f ready.1) }
+    ensures sufficient { IfOk result (λ ready. (end : ℕ) × IsHorizon trace.now.recording f ready.1 end
+        × AreSufficient trace.now.recording f end ready.0) }
 {
-    let indexed = index_by(rt, alloc, trace, f, end, workers)?;
+    let (effects, (transitions, excess)) = index_whole_by(rt, alloc, trace, f, workers);
+    let effects = effects?;
+    let transitions = transitions?;
+    let (early, end) = index_early(alloc, trace, f, &excess, transitions, effects)?;
+    let prefix = PrefixIndex::of(alloc, trace, f, end)?;
+    let indexed = early.with_prefix(alloc, trace, prefix)?;
     let found = search_by(rt, alloc, trace, &indexed, 0, indexed.deliveries(), workers)?;
-    PreparedRun::from_search(indexed, found)
+    let prepared = PreparedRun::from_search(indexed, found)?;
+    Ok((prepared, excess))
 }
 
-/// Indexes a trace; if it is long, both parts of the index at the same time, that of the whole run by a thread of its own.
-fn index_by<R: Threads>(
+/// Indexes the whole run, and finds its first excess. If the run is long, several workers do so, each by a pass over all
+/// entries.
+fn index_whole_by<R: Threads>(
     rt: &R,
     alloc: Global,
     trace: &Trace,
     f: u16,
-    end: u32,
     workers: u32,
-) -> Result<IndexedRun, NoMemory>
-    requires { end ≤ length trace.now.recording.past }
-    ensures { IfOk result (λ indexed. indexed ≡ search_scope trace.now.recording f end) }
+) -> (
+    Result<EffectIndex, NoMemory>,
+    (Result<TransitionIndex, NoMemory>, Option<Excess>),
+)
+    ensures effects { IfOk result.0 (λ effects. effects ≡ trace.now.recording) }
+    ensures transitions { IfOk result.1.0 (λ transitions. transitions ≡ trace.now.recording) }
+    ensures excess { FirstExcess trace.now.recording f result.1.1 }
 {
-    if workers < 2 || end < LEAST_INDEXED {
-        return IndexedRun::of(alloc, trace, f, end);
+    if workers < 2 || trace.len() < LEAST_INDEXED {
+        return (
+            EffectIndex::of(alloc, trace),
+            index_transitions_by(rt, alloc, trace, f, 1),
+        );
     }
-    let index_whole = move || -> Result<WholeIndex, NoMemory>
-        ensures { IfOk result (λ whole. whole ≡ trace.entry.now.recording) }
-    { WholeIndex::of(alloc, trace) };
-    let index_prefix = move || -> Result<PrefixIndex, NoMemory>
-        requires { end ≤ length trace.now.recording.past }
-        ensures { IfOk result (λ prefix. prefix ≡ search_scope trace.entry.now.recording f end) }
-    { PrefixIndex::of(alloc, trace, f, end) };
-    let (whole, prefix) = join(rt, index_whole, index_prefix);
-    let whole = whole?;
-    let prefix = prefix?;
-    let indexed = IndexedRun::from_parts(alloc, trace, whole, prefix)?;
-    Ok(indexed)
+    let others = workers - 1;
+    let index_effects = move || -> Result<EffectIndex, NoMemory>
+        ensures { IfOk result (λ effects. effects ≡ trace.entry.now.recording) }
+    { EffectIndex::of(alloc, trace) };
+    let index_transitions = move || -> (Result<TransitionIndex, NoMemory>, Option<Excess>)
+        ensures transitions { IfOk result.0 (λ transitions. transitions ≡ trace.entry.now.recording) }
+        ensures excess { FirstExcess trace.entry.now.recording f result.1 }
+    { index_transitions_by(rt, alloc, trace, f, others) };
+    join(rt, index_effects, index_transitions)
+}
+
+/// Indexes the crashes and restarts of a run, and finds its first excess; with several workers at the same time.
+fn index_transitions_by<R: Threads>(
+    rt: &R,
+    alloc: Global,
+    trace: &Trace,
+    f: u16,
+    workers: u32,
+) -> (Result<TransitionIndex, NoMemory>, Option<Excess>)
+    ensures transitions { IfOk result.0 (λ transitions. transitions ≡ trace.now.recording) }
+    ensures excess { FirstExcess trace.now.recording f result.1 }
+{
+    if workers < 2 {
+        return (TransitionIndex::of(alloc, trace), first_excess_in(trace, f));
+    }
+    let index = move || -> Result<TransitionIndex, NoMemory>
+        ensures { IfOk result (λ transitions. transitions ≡ trace.entry.now.recording) }
+    { TransitionIndex::of(alloc, trace) };
+    let find_excess = move || -> Option<Excess>
+        ensures { FirstExcess trace.entry.now.recording f result }
+    { first_excess_in(trace, f) };
+    join(rt, index, find_excess)
 }
 
 /// Searches the part from number `from` to below number `to`: the last deliveries by a thread of its own, those before

@@ -1,14 +1,9 @@
 //! When the effect of each event first leaves its process: at the delivery of a message that the lane sends from then
 //! on. Without a clock the position is computed for the process instead of the lane. It is no later.
-ghost use Rattle.std.specs.Prelude.{◌≡◌, ◌≤◌, ◌<◌, IfOk, length, slice_set};
-ghost use Rattle.causal_trace.specs.Limits.{max_entries};
+ghost use Rattle.std.specs.Prelude.{◌≡◌, ◌<◌, length, slice_set};
 ghost use Rattle.causal_audit.specs.Inside.Index.Departures.{event_process, departure_at, with_delivered, with_departure};
-ghost use Rattle.causal_audit.specs.Inside.ByClock.ClockOfRun.{AreDeparturesOf};
 
-use causal_holders::PROCESSES;
-use causal_name::NoMemory;
 use causal_trace::entry::Entry;
-use std::alloc::Global;
 
 /// Writes position i to the slot of the send that the entry at i delivers, if it is a delivery.
 fn note_delivered(spreads: &mut Vec<u32>, entry: &Entry, i: u32)
@@ -23,7 +18,7 @@ fn note_delivered(spreads: &mut Vec<u32>, entry: &Entry, i: u32)
 
 /// Writes the departure of the entry at position i of this lane. All later entries are done. `outs` contains for each
 /// lane the first position at which a message that it sends from there on is delivered.
-fn note_departure(spreads: &mut Vec<u32>, outs: &mut [u32], entry: &Entry, lane: usize, i: u32)
+pub fn note_departure(spreads: &mut Vec<u32>, outs: &mut [u32], entry: &Entry, lane: usize, i: u32)
     requires event { i < length spreads.old.items }
     requires lane { lane < length outs.old }
     ensures spreads { spreads.new.items
@@ -46,31 +41,4 @@ pub fn event_process(entry: &Entry) -> u8
         Entry::Deliver { to, .. } => to.0,
         _ => 0,
     }
-}
-
-/// Returns for each entry the first position at which a message that its process sends from then on is delivered, or
-/// the end.
-///
-/// # Errors
-/// `NoMemory` if allocation fails.
-pub fn departures_of(alloc: Global, entries: &[Entry]) -> Result<Vec<u32>, NoMemory>
-    requires few { length entries.now ≤ max_entries }
-    ensures { IfOk result (λ departures. AreDeparturesOf entries.now departures.items) }
-{
-    let end = entries.len() as u32;
-    let mut departures = vec![in alloc; end; entries.len()]?;
-    let mut outs = [end; PROCESSES as usize];
-    let mut i = end;
-    while i > 0 {
-        i -= 1;
-        let entry = &entries[i as usize];
-        note_departure(
-            &mut departures,
-            &mut outs,
-            entry,
-            event_process(entry) as usize,
-            i,
-        );
-    }
-    Ok(departures)
 }

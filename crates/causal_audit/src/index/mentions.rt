@@ -59,9 +59,10 @@ fn deliveries_in(entries: &[Entry]) -> usize
     count
 }
 
-/// Checks whether searches up to this instant of the trace may be many and long.
-fn has_long_searches(trace: &Trace, end: u32) -> bool {
-    end as usize > FEW_ENTRIES && trace.restarts() > FEW_RESTARTS
+/// Checks whether all deliveries of the trace get lists: those before the instant `end` are all, or searches up to it may
+/// be many and long.
+fn needs_all_lists(trace: &Trace, end: u32) -> bool {
+    end == trace.len() || (end as usize > FEW_ENTRIES && trace.restarts() > FEW_RESTARTS)
 }
 
 /// Returns how many of the trace's first deliveries get lists: those before the instant `end`. A search then skips
@@ -70,7 +71,7 @@ fn lists_needed(trace: &Trace, end: u32) -> usize
     requires { end ≤ length trace.now.recording.past }
     ensures { deliveries_in (instant trace.now.recording.past end) ≤ result }
 {
-    if has_long_searches(trace, end) {
+    if needs_all_lists(trace, end) {
         return trace.deliveries() as usize;
     }
     deliveries_in(&trace.entries()[..end as usize])

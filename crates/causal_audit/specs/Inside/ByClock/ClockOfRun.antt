@@ -1,10 +1,9 @@
 -- How the events of a vector clock represent the entries of a run.
 use Rattle.std.specs.Prelude.{◌≡◌, ℕ, ◌<◌, ◌≤◌, ◌↔◌, Some, List, ◌∷◌, length, slice_index}
-use Rattle.causal_audit.specs.Inside.Common.{Entry, lane, restarts, AreLegalEntries, IsWellFormed, Recording, entries_of, IsEventOf, Delivers}
+use Rattle.causal_audit.specs.Inside.Common.{Entry, lane, restarts, AreLegalEntries, IsEventOf, Delivers}
 use Rattle.causal_clock.specs.declared.Event.{Event}
 use Rattle.causal_clock.specs.declared.TheConstants.{OPENED_LANES}
 use Rattle.causal_clock.specs.Timeline.{Timeline, lane_of, send_of}
-use Rattle.causal_audit.specs.Inside.Index.Departures.{AreDepartures, process_at}
 
 -- the clock has an event for each entry, at its position; two sends or deliveries share a lane of the clock exactly if
 -- they share a lane of one process, and an event receives exactly the send that the delivery at its position delivers
@@ -32,7 +31,3 @@ pub record CanExtendClock (e : Entry) (clock : Timeline) (present : List ℕ) : 
   pub accepted : AreLegalEntries processes (e ∷ past)
   pub lanes : restarts (e ∷ past) ≤ OPENED_LANES
   pub mirrors : IsClockWithLanes processes past clock present
-
--- for each well-formed run of these entries, oldest first, the list contains the departure of each entry
-abbrev pub AreDeparturesOf : List Entry → List ℕ → Type 0
-AreDeparturesOf entries departures = (r : Recording) → IsWellFormed r → entries ≡ entries_of r → AreDepartures r.past (process_at r.past) departures

@@ -7,8 +7,8 @@ returns-clause-verdict g c =
     let r = c.args.trace.now.recording in
     let f = c.args.f in
     let found = c.in_ok-least.least in
-    c.decide_verdict.ensures r f c.first_excess_in-excess.ensures
-    (c.in_ok-end.ensures.decides found (c.in_ok-prepared.ensures.sufficient found c.in_ok-least.ensures.least))
+    let ready = c.in_ok-prepared.ensures in
+    c.decide_verdict.ensures r f ready.excess (ready.sufficient.1 found (ready.sufficient.2 found c.in_ok-least.ensures.least))
 
 pub returns-clause-only : goal.returns-clause-only
 returns-clause-only g c = grind (arith, one_verdict, returns-clause-verdict)

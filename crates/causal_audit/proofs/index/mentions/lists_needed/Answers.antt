@@ -3,8 +3,8 @@ use Rattle.causal_audit.proofs.DeliveryNumbers.{instants_fewer}
 use Rattle.causal_audit.proofs.Steps.{begins}
 use Rattle.causal_audit.proofs.index.mentions.lists_needed.Goals as goal
 
-pub returns-then-has_long_searches : goal.returns-then-has_long_searches
-returns-then-has_long_searches c = omega (arith, instants_fewer c.args.trace.now.recording.past c.args.end c.requires, c.deliveries.ensures)
+pub returns-then-needs_all_lists : goal.returns-then-needs_all_lists
+returns-then-needs_all_lists c = omega (arith, instants_fewer c.args.trace.now.recording.past c.args.end c.requires, c.deliveries.ensures)
 
 pub returns : goal.returns
 returns c = omega (arith, c.deliveries_in.ensures, ap deliveries_in (begins c.args.trace.now.recording c.entries.result.now c.entries.ensures.value c.args.end c.requires))

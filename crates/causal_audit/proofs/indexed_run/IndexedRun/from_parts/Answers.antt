@@ -1,7 +1,7 @@
 use Rattle.causal_audit.proofs.Common.{◌≡◌, sym, ap, subst, ◌∙◌, arith, entries_of, Recording, instant}
 use Rattle.causal_audit.specs.Numbers.{ArePositions}
 use Rattle.causal_audit.specs.Searches.{SearchScope}
-use Rattle.causal_audit.specs.Inside.Index.Parts.{IsWholeIndex}
+use Rattle.causal_audit.specs.Inside.Index.Parts.{IsEffectPart, IsTransitionPart}
 use Rattle.causal_audit.proofs.Steps.{begins}
 use Rattle.causal_audit.proofs.indexed_run.IndexedRun.from_parts.Goals as goal
 
@@ -10,18 +10,19 @@ invariant_of-result c =
     let r = c.prefix.inside.run.value.recording in
     let end = c.prefix.inside.end in
     let run : r ≡ c.args.prefix.run = ap (λ (s : SearchScope). s.run) c.prefix.view_is in
-    let whole = subst (λ (x : Recording). IsWholeIndex x c.whole.inside.transitions c.whole.inside.reached.items) (c.whole.view_is ∙ c.requires.whole ∙ sym run) c.whole.invariant in
+    let turned = subst (λ (x : Recording). IsTransitionPart x c.transitions.inside.transitions) (c.transitions.view_is ∙ c.requires.transitions ∙ sym run) c.transitions.invariant in
+    let effects = subst (λ (x : Recording). IsEffectPart x c.effects.inside.departures.items c.effects.inside.reached.items) (c.effects.view_is ∙ c.requires.effects ∙ sym run) c.effects.invariant in
     let read : c.entries-entries.result.now ≡ entries_of r = c.entries-entries.ensures.value ∙ ap entries_of (c.requires.same ∙ sym run) in
     let numbered : ArePositions (instant r.past end) c.in_ok-positions.positions.items = subst (λ past. ArePositions past c.in_ok-positions.positions.items) (begins r c.entries-entries.result.now read end c.prefix.invariant.within) c.in_ok-positions.ensures in
     record {
-      indexed = record { turned = whole.turned; mentioned = c.prefix.invariant.mentioned };
+      indexed = record { turned = turned.turned; mentioned = c.prefix.invariant.mentioned };
       searched = record {
-        formed = whole.formed;
+        formed = turned.formed;
         within = c.prefix.invariant.within;
-        short = whole.short;
+        short = turned.short;
         mentioned = c.prefix.invariant.mentioned;
-        staying = c.in_ok-departures.ensures r whole.formed read;
-        reaching = whole.reaching;
+        staying = effects.staying;
+        reaching = effects.reaching;
         numbered = numbered;
       };
     }

@@ -1,6 +1,6 @@
 use Rattle.causal_audit.proofs.Common.{subst, deliveries_in}
 use Rattle.causal_audit.specs.Breaches.{EarliestBreachBy}
-use Rattle.causal_audit.proofs.audit.horizon_of.Goals as goal
+use Rattle.causal_audit.proofs.audit.index_early.Goals as goal
 
 pub returns-in-None-clause-decides : goal.returns-in-None-clause-decides
 returns-in-None-clause-decides c found by =
