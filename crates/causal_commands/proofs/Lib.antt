@@ -4,5 +4,5 @@ mod MergeLemmas
 mod PlaceLemmas
 mod ReadLemmas
 mod Refusals
-mod ReplayLemmas
+mod VerdictEndings
 mod Writing

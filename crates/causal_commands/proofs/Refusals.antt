@@ -1,22 +1,21 @@
 -- Facts on the error of a refused text. `most` is the maximum number of entries of a trace.
-use Rattle.std.proofs.Common.{◌≡◌, ◌≢◌, List, ℕ, Option, Result, Ok, Err, IfOk, sym, subst}
+use Rattle.std.proofs.Common.{List, ℕ, Option, sym, subst}
 use Rattle.std.specs.Prelude.{IfSome}
 use Rattle.causal_line.specs.declared.text_refusal.TextRefusal.{TextRefusal}
-use Rattle.causal_report.specs.declared.reply.Reply.{Reply}
 use Rattle.causal_text.specs.declared.context_reading.ReadError.TheVariants as read_error
-use Rattle.causal_line.specs.declared.kind.TextKind.TheVariants as kind
 use Rattle.causal_workers.specs.Streaming.{ExplainsVerdictError}
-use Rattle.causal_workers.specs.declared.looks.Looks.{Looks}
-use Rattle.causal_workers.specs.declared.streaming.VerdictError.TheVariants.{Input}
+use Rattle.causal_workers.specs.declared.streaming.VerdictError.{VerdictError}
+use Rattle.causal_workers.specs.declared.streaming.VerdictError.TheVariants.{Input, Audit}
+use Rattle.causal_commands.specs.declared.diagnostic.DiagnosedFault.{DiagnosedFault}
 use Rattle.causal_commands.specs.declared.ended.Ended.{Ended}
 use Rattle.causal_commands.specs.declared.ended.Ended.TheVariants.{Faulted}
-use Rattle.causal_commands.specs.declared.input_audit.StreamRefusal.{StreamRefusal}
-use Rattle.causal_commands.specs.declared.input_audit.StreamRefusal.TheVariants.{Text}
-use Rattle.causal_commands.specs.declared.diagnostic.DiagnosedFault.{DiagnosedFault}
+use Rattle.causal_commands.specs.declared.question.Question.{Question}
+use Rattle.causal_commands.specs.declared.question.Question.TheVariants.{Verdict, Breach, Reason, Range, Replays}
 use Rattle.causal_commands.specs.declared.response.Response.{Response}
 use Rattle.causal_commands.specs.Diagnostics.{IsTrueDiagnosis, IsDiagnosisFor}
-use Rattle.causal_commands.specs.Replies.{IsFaultReply, IsVerdictReply, IsEarlyReply}
-use Rattle.causal_commands.specs.Inside.Refusals.{IsTrueRefusal, IsTrueRefusalFor, ExplainsStreamRefusal}
+use Rattle.causal_commands.specs.Replies.{IsFaultReply, IsReply}
+use Rattle.causal_commands.specs.Inside.Answers.{ExplainsNoReply, ReportsFault}
+use Rattle.causal_commands.specs.Inside.Refusals.{IsTrueRefusal, IsTrueRefusalFor, ExplainsRefusal}
 use Rattle.causal_commands.proofs.Known.{IfSome-weaker}
 
 -- a true diagnostic of a refused text is true of the bytes of a reader
@@ -24,39 +23,38 @@ pub names : (most : ℕ) (known : Option (List ℕ)) (f : ℕ) (rejected : Optio
     → ((k : ℕ) (text : List ℕ) → IfSome rejected (IsTrueRefusal k text) → IfSome told (IsTrueDiagnosis k text f)) → IsDiagnosisFor most known f told
 names most known f rejected told h is = IfSome-weaker known _ _ (is most) h
 
--- the first error is the reply to the text
-pub faults : (f : ℕ) (stopped : StreamRefusal) (result : Result Response Ended) → IfOk result (λ x. x.ended ≡ Faulted)
-    → IfOk result (λ x. (k : ℕ) (text : List ℕ) → ExplainsStreamRefusal k text stopped → IsFaultReply k text x.reply)
-    → IfOk result (λ x. (k : ℕ) (text : List ℕ) → ExplainsStreamRefusal k text stopped → IsVerdictReply k text f x.ended x.reply)
-faults f stopped (Err e) ended reply = tt
-faults f stopped (Ok x) ended reply = λ k text told. subst (λ (e : Ended). IsVerdictReply k text f e x.reply) (sym ended) (reply k text told)
+-- the reported error is the reply to the text
+pub first_fault : (most : ℕ) (text : List ℕ) (unjudged : VerdictError) (response : Response) → ReportsFault unjudged response → ExplainsRefusal most text unjudged → IsFaultReply most text response.reply
+first_fault most text unjudged response is told = (is.rejected.fault, (subst (ExplainsRefusal most text) is.is told).first is.memory, is.reply)
 
--- the first error is the reply to the bytes of a reader
-pub replies : (most : ℕ) (known : Option (List ℕ)) (IsReply : List ℕ → Ended → Reply → Type 0) (stopped : StreamRefusal) (result : Result Response Ended)
-    → ((text : List ℕ) (reply : Reply) → IsFaultReply most text reply → IsReply text Faulted reply) → IfSome known (λ text. ExplainsStreamRefusal most text stopped)
-    → IfOk result (λ x. x.ended ≡ Faulted) → IfOk result (λ x. (k : ℕ) (text : List ℕ) → ExplainsStreamRefusal k text stopped → IsFaultReply k text x.reply)
-    → IfOk result (λ x. IfSome known (λ text. IsReply text x.ended x.reply))
-replies most known IsReply stopped (Err e) so tells ended reply = tt
-replies most known IsReply stopped (Ok x) so tells ended reply =
-    IfSome-weaker known _ _ (λ text told. subst (λ (e : Ended). IsReply text e x.reply) (sym ended) (so text x.reply (reply most text told))) tells
+-- the refusal in the response is that of the text
+pub true_refusal : (most : ℕ) (text : List ℕ) (unjudged : VerdictError) (response : Response) → ReportsFault unjudged response → ExplainsRefusal most text unjudged → IfSome response.refusal (IsTrueRefusal most text)
+true_refusal most text unjudged response is told =
+    let is_true = subst (ExplainsRefusal most text) is.is told in
+    subst (λ (refusal : Option TextRefusal). IfSome refusal (IsTrueRefusal most text)) (sym is.refusal) (is_true.first is.memory, is_true.kept)
 
--- the refusal in a response is that of the text
-pub rejects : (most : ℕ) (known : Option (List ℕ)) (stopped : StreamRefusal) (result : Result Response Ended) → IfSome known (λ text. ExplainsStreamRefusal most text stopped)
-    → IfOk result (λ a. (k : ℕ) (text : List ℕ) → ExplainsStreamRefusal k text stopped → IfSome a.refusal (IsTrueRefusal k text)) → IfOk result (λ a. IsTrueRefusalFor most known a.refusal)
-rejects most known stopped (Err e) tells h = tt
-rejects most known stopped (Ok a) tells h = IfSome-weaker known _ _ (h most) tells
+early_explains : (most : ℕ) (text : List ℕ) (f : ℕ) (unjudged : VerdictError) → ExplainsVerdictError most text f unjudged → ExplainsRefusal most text unjudged
+early_explains most text f (Input read_error.Source) told = tt
+early_explains most text f (Input (read_error.Text rejected)) told = told.0
+early_explains most text f (Audit fault) told = tt
 
--- if no early audit finds a breach before the first error, that is the reply
-pub faults_until : (rejected : TextRefusal) (result : Result Response Ended) → rejected.fault.kind ≢ kind.NoMemory → IfOk result (λ a. a.ended ≡ Faulted)
-    → IfOk result (λ a. (k : ℕ) (text : List ℕ) → ExplainsStreamRefusal k text (Text rejected) → IsFaultReply k text a.reply)
-    → IfOk result (λ a. (looks : Looks) (k : ℕ) (text : List ℕ) (f : ℕ) → ExplainsVerdictError k text f (Input (read_error.Text rejected)) → IsEarlyReply looks k text f a.ended a.reply)
-faults_until rejected (Err e) some ended line = tt
-faults_until rejected (Ok a) some ended line = λ looks k text f told.
-    subst (λ (e : Ended). IsEarlyReply looks k text f e a.reply) (sym ended) (told.1 some, line k text ((told.0.first some, told.0.kept), some))
+-- why a question on a text got no reply explains the refusal of the text
+pub explains : (most : ℕ) (question : Question) (text : List ℕ) (unjudged : VerdictError) → ExplainsNoReply most question text unjudged → ExplainsRefusal most text unjudged
+explains most (Verdict faults workers) text unjudged told = told
+explains most (Breach faults workers looks) text unjudged told = early_explains most text faults unjudged told
+explains most (Reason faults workers) text unjudged told = told
+explains most (Range workers) text unjudged told = told
+explains most (Replays workers detail) text unjudged told = told
 
--- the refusal in that response is that of the text
-pub rejects_until : (rejected : TextRefusal) (result : Result Response Ended) → rejected.fault.kind ≢ kind.NoMemory
-    → IfOk result (λ a. (k : ℕ) (text : List ℕ) → ExplainsStreamRefusal k text (Text rejected) → IfSome a.refusal (IsTrueRefusal k text))
-    → IfOk result (λ a. (k : ℕ) (text : List ℕ) (f : ℕ) → ExplainsVerdictError k text f (Input (read_error.Text rejected)) → IfSome a.refusal (IsTrueRefusal k text))
-rejects_until rejected (Err e) some so = tt
-rejects_until rejected (Ok a) some so = λ k text f told. so k text ((told.0.first some, told.0.kept), some)
+faulted : (most : ℕ) (question : Question) (text : List ℕ) (unjudged : VerdictError) (response : Response) → ReportsFault unjudged response → ExplainsNoReply most question text unjudged → IsReply most question text Faulted response.reply
+faulted most (Verdict faults workers) text unjudged response is told = first_fault most text unjudged response is told
+faulted most (Breach faults workers looks) text unjudged response is told =
+    ((subst (ExplainsVerdictError most text faults) is.is told).1 is.memory, first_fault most text unjudged response is (early_explains most text faults unjudged told))
+faulted most (Reason faults workers) text unjudged response is told = first_fault most text unjudged response is told
+faulted most (Range workers) text unjudged response is told = first_fault most text unjudged response is told
+faulted most (Replays workers detail) text unjudged response is told = first_fault most text unjudged response is told
+
+-- the reported error is the reply to the question on the text
+pub replies : (most : ℕ) (question : Question) (text : List ℕ) (unjudged : VerdictError) (response : Response) → ReportsFault unjudged response → ExplainsNoReply most question text unjudged
+    → IsReply most question text response.ended response.reply
+replies most question text unjudged response is told = subst (λ (e : Ended). IsReply most question text e response.reply) (sym is.ended) (faulted most question text unjudged response is told)

@@ -1,6 +1,6 @@
 -- What is written for the text of a trace, if the bytes of the reader and of the writer are known.
-use Rattle.std.proofs.Common.{◌≡◌, ◌<◌, List, ℕ, Option, None, Some, Result, Ok, Err, IfOk, inl, inr, length, take, sym, subst}
-use Rattle.std.specs.Prelude.{IfErr, IfSome, MatchResult}
+use Rattle.std.proofs.Common.{◌≡◌, ◌<◌, List, ℕ, Option, None, Some, inl, inr, length, take, sym, subst}
+use Rattle.std.specs.Prelude.{IfSome}
 use Rattle.std.specs.Io.KnownBytes.{Appends}
 use Rattle.std.proofs.KnownBytes.{Keeps-refl}
 use Rattle.causal_report.specs.declared.form.Form.{Form}
@@ -78,12 +78,6 @@ known_all (Some bytes) P all = all bytes
 -- nothing is appended if the ending writes nothing
 pub writes_nothing : (Answers : List ℕ → Ended → List ℕ → Type 0) (known old : Option (List ℕ)) (ended : Ended) → WritesNothing ended → IfSome known (λ text. WritesAnswer (Answers text) ended old old)
 writes_nothing Answers known old ended silent = known_all known _ (λ text. nothing_so (Answers text) old ended silent)
-
--- both branches of a call's result, as one fact on the bytes of a reader
-pub tells : {A E : Type 0} (known : Option (List ℕ)) (P : A → List ℕ → Type 0) (Q : E → List ℕ → Type 0) (told : Result A E) → IfOk told (λ a. IfSome known (P a))
-    → IfErr told (λ e. IfSome known (Q e)) → IfSome known (λ text. MatchResult told (λ a. P a text) (λ e. Q e text))
-tells known P Q (Ok a) ok err = ok
-tells known P Q (Err e) ok err = err
 
 -- the printed reply is the answer
 pub printed : (most : ℕ) (form : Form) (question : Question) (known : Option (List ℕ)) (response : Response) (answer : Answer) → answer.ended ≡ response.ended

@@ -6,7 +6,7 @@ ghost use Rattle.causal_commands.specs.Inside.Refusals.{IsTrueRefusal};
 ghost use Rattle.causal_commands.specs.Diagnostics.{IsTrueDiagnosis, IsDiagnosticOf};
 ghost use Rattle.causal_audit.specs.Judgements.{IsJudgedOf};
 
-use causal_audit::verdict_of;
+use crate::serial_audit::judge_serially;
 use causal_name::NoMemory;
 use causal_text::{FaultContext, FaultDetail, ParsedLine, TextFault, TextRefusal, fault_detail};
 use causal_trace::trace::Trace;
@@ -92,11 +92,7 @@ fn judge_entries_before(
     ensures { IfOk result (λ told. IfSome told (IsJudgedOf trace.now.recording f)) }
 {
     match says {
-        ParsedLine::Entry { .. } => Ok(Some(Judged {
-            verdict: verdict_of(alloc, trace, f)?,
-            entries: trace.len(),
-            deliveries: trace.deliveries(),
-        })),
+        ParsedLine::Entry { .. } => Ok(Some(judge_serially(alloc, trace, f)?)),
         ParsedLine::Header { .. } | ParsedLine::End { .. } => Ok(None),
     }
 }

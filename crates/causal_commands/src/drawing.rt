@@ -1,26 +1,29 @@
 //! The command `draw`, over any reader and writer: a picture of a trace with its verdict.
-ghost use Rattle.std.specs.Prelude.{◌≡◌, ◌≢◌, ◌≤◌, IfOk, IfErr, IfSome, Err};
+ghost use Rattle.std.specs.Prelude.{◌≡◌, ◌≢◌, ◌≤◌, ℕ, List, IfOk, IfErr, IfSome, Err};
+ghost use Rattle.causal_text.specs.Spelling.{SpellsWithin};
 ghost use Rattle.causal_text.specs.Streams.{StopsWithin};
 ghost use Rattle.causal_reading.specs.Reads.{max_read};
-ghost use Rattle.causal_commands.specs.Drawings.{WritesDrawingFor, IsDrawn};
+ghost use Rattle.causal_picture.specs.declared.selection.Selection.{Selection};
+ghost use Rattle.causal_commands.specs.Drawings.{WritesDrawingFor, IsDrawingAnswer, IsDrawn};
 ghost use Rattle.causal_commands.specs.Diagnostics.{IsDiagnosisFor};
 ghost use Rattle.causal_commands.specs.Inside.Answers.{IsDrawingAnswerFor, WritesNothing, WritesWholeAnswer, AnswerRefusalIsTrue};
-ghost use Rattle.causal_commands.specs.Inside.Refusals.{ExplainsStreamRefusal};
+ghost use Rattle.causal_commands.specs.Inside.Refusals.{ExplainsRefusal, IsTrueRefusal};
 
 use crate::answer::{Answer, ended_of, write_answer};
 use crate::diagnostic::DiagnosedFault;
 use crate::ended::Ended;
-use crate::input_audit::{StreamRefusal, read_judged};
 use crate::response::fault_response;
+use crate::serial_audit::judge_serially;
 use crate::stream::Outcome;
 use causal_name::NoMemory;
 use causal_picture::Selection;
+use causal_reading::read_by;
 use causal_report::selected_drawing_of;
 use causal_trace::limits::Limits;
-use causal_workers::Judged;
+use causal_trace::trace::Trace;
+use causal_workers::{AuditFault, Judged, VerdictError};
 use std::alloc::Global;
 use std::io::{Read, Write};
-use std::sync::Wait;
 use std::thread::Threads;
 
 /// Reads the text of a trace within the limits by 1 to 64 workers, audits it for f by one, and writes the selected part of
@@ -29,7 +32,7 @@ use std::thread::Threads;
 ///
 /// The text is read in pieces, of 4,096 bytes with one worker and otherwise as `read_by` reads it, to its end or to the
 /// piece with its first error.
-pub fn answer_drawing<R: Threads + Wait, I: Read, O: Write>(
+pub fn answer_drawing<R: Threads, I: Read, O: Write>(
     rt: &R,
     alloc: Global,
     input: &mut I,
@@ -53,7 +56,7 @@ pub fn answer_drawing<R: Threads + Wait, I: Read, O: Write>(
     }
 }
 
-fn drawing_answer<I: Read, R: Threads + Wait>(
+fn drawing_answer<I: Read, R: Threads>(
     rt: &R,
     alloc: Global,
     input: &mut I,
@@ -72,20 +75,40 @@ fn drawing_answer<I: Read, R: Threads + Wait>(
         (I.remaining input.old) (I.remaining input.new) }
     ensures never_no_worker { result ≢ Err Ended.NoWorker }
 {
-    match read_drawing(rt, alloc, input, limits, f, workers, selection) {
-        Ok(Drawn { judged, picture }) => Ok(Answer {
-            ended: ended_of(judged.verdict),
-            line: picture,
+    let trace = match read_by(rt, alloc, input, limits, workers) {
+        Ok(trace) => trace,
+        Err(unread) => return fault_answer(alloc, VerdictError::Input(unread)),
+    };
+    match draw_trace(alloc, &trace, f, selection) {
+        Ok(drawn) => Ok(Answer {
+            ended: ended_of(drawn.judged.verdict),
+            line: drawn.picture,
             refusal: None,
         }),
-        Err(stopped) => match fault_response(alloc, stopped) {
-            Ok(response) => Ok(Answer {
-                ended: response.ended,
-                line: Vec::new(alloc),
-                refusal: response.refusal,
-            }),
-            Err(ended) => Err(ended),
-        },
+        Err(NoMemory) => Err(Ended::NoMemory),
+    }
+}
+
+/// Returns the answer to a text with an error, which draws nothing, or the ending if there is nothing to write.
+fn fault_answer(alloc: Global, unjudged: VerdictError) -> Result<Answer, Ended>
+    ensures ok { IfOk result (λ answer. (most : ℕ) (selection : Selection) (text : List ℕ) (f : ℕ)
+        → ExplainsRefusal most text unjudged
+        → IsDrawingAnswer most selection text f answer.ended answer.line.items) }
+    ensures rejected { IfOk result (λ answer. (most : ℕ) (text : List ℕ)
+        → ExplainsRefusal most text unjudged
+        → IfSome answer.refusal (IsTrueRefusal most text)) }
+    ensures whole_answer { IfOk result (λ answer. WritesWholeAnswer answer.ended) }
+    ensures err { IfErr result WritesNothing }
+    ensures no_worker { result ≡ Err Ended.NoWorker
+        → unjudged ≡ VerdictError.Audit AuditFault.NoWorker }
+{
+    match fault_response(alloc, unjudged) {
+        Ok(response) => Ok(Answer {
+            ended: response.ended,
+            line: Vec::new(alloc),
+            refusal: response.refusal,
+        }),
+        Err(ended) => Err(ended),
     }
 }
 
@@ -96,31 +119,13 @@ struct Drawn {
     picture: Vec<u8>,
 }
 
-fn read_drawing<I: Read, R: Threads + Wait>(
-    rt: &R,
-    alloc: Global,
-    input: &mut I,
-    limits: Limits,
-    f: u16,
-    workers: u32,
-    selection: Selection,
-) -> Result<Drawn, StreamRefusal>
-    requires { (1 ≤ workers) × (workers ≤ 64) }
-    ensures ok { IfOk result (λ drawn. IfSome (I.remaining input.old)
-        (λ text. IsDrawn limits.entries selection text f drawn.judged drawn.picture.items)) }
-    ensures err { IfErr result (λ stopped. IfSome (I.remaining input.old)
-        (λ text. ExplainsStreamRefusal limits.entries text stopped)) }
-    ensures stops { StopsWithin limits.entries (max_read workers)
-        (I.remaining input.old) (I.remaining input.new) }
-    ensures never_no_worker { result ≢ Err StreamRefusal.NoWorker }
+/// Audits a trace for f, and draws the selected part of it with its verdict.
+fn draw_trace(alloc: Global, trace: &Trace, f: u16, selection: Selection) -> Result<Drawn, NoMemory>
+    ensures { IfOk result (λ drawn. (most : ℕ) (text : List ℕ)
+        → SpellsWithin most text trace.now.recording
+        → IsDrawn most selection text f drawn.judged drawn.picture.items) }
 {
-    let read = match read_judged(rt, alloc, input, limits, f, workers) {
-        Ok(read) => read,
-        Err(stopped) => return Err(stopped),
-    };
-    let judged = read.judged;
-    match selected_drawing_of(alloc, &read.trace, f, judged.verdict, selection) {
-        Ok(picture) => Ok(Drawn { judged, picture }),
-        Err(NoMemory) => Err(StreamRefusal::NoMemory),
-    }
+    let judged = judge_serially(alloc, trace, f)?;
+    let picture = selected_drawing_of(alloc, trace, f, judged.verdict, selection)?;
+    Ok(Drawn { judged, picture })
 }

@@ -18,14 +18,10 @@ mod answer;
 pub mod diagnostic_texts;
 /// The command `draw`.
 pub mod drawing;
-/// The reply to a text that is audited while it is read.
-mod early_audit;
 /// How a command ends: its exit status and its message.
 pub mod ended;
 /// The first bytes of a line, to be shown with an error.
 mod excerpt;
-/// Reads the text of a trace and audits it.
-mod input_audit;
 /// The command `explain --map`.
 pub mod mapped_reason;
 /// The errors of a map.
@@ -48,6 +44,8 @@ mod reason;
 mod replays;
 /// The reply to the text of a trace, before it is printed.
 mod response;
+/// The audit of a trace by the calling thread alone.
+mod serial_audit;
 /// Bounded reads: of recorder files, a map, or the text of a script.
 pub mod bounded_read;
 /// The diagnosis of an invalid trace.

@@ -9,27 +9,26 @@ ghost use Rattle.causal_commands.specs.MappedReasons.{WritesMappedFor};
 ghost use Rattle.causal_commands.specs.Inside.Answers.{WritesNothing, WritesWholeAnswer};
 ghost use Rattle.causal_commands.specs.PlacedLines.{placed_text, with_front};
 ghost use Rattle.causal_commands.specs.Inside.Placing.{ReturnsPlaced};
-ghost use Rattle.causal_commands.specs.Inside.Refusals.{ExplainsStreamRefusal, IsTrueRefusal, IsTrueRefusalFor};
+ghost use Rattle.causal_commands.specs.Inside.Refusals.{ExplainsRefusal, IsTrueRefusal, IsTrueRefusalFor};
 ghost use Rattle.causal_commands.specs.Inside.MappedAnswers.{IsFaultAnswer, IsMappedFor, IsPlacedFor, IsPlaced};
 
 use crate::answer::{Answer, ended_of, write_answer};
 use crate::bounded_read::{ReadFault, read_at_most};
 use crate::diagnostic::DiagnosedFault;
 use crate::ended::Ended;
-use crate::input_audit::StreamRefusal;
 use crate::map_fault::{MapFault, PlaceError};
 use crate::placed_lines::placed_text;
-use crate::reason::{Explained, read_explained};
+use crate::reason::{ExplainedVerdict, explain_trace};
 use crate::response::{fault_response, printed_answer};
 use crate::stream::Outcome;
 use causal_merge::max_input_len;
 use causal_name::NoMemory;
+use causal_reading::read_by;
 use causal_report::Form;
 use causal_trace::limits::Limits;
-use causal_workers::{Judged, verdict_line};
+use causal_workers::{AuditFault, Judged, VerdictError, verdict_line};
 use std::alloc::Global;
 use std::io::{Read, Write};
-use std::sync::Wait;
 use std::thread::Threads;
 
 /// The outcome of an explanation with places: that of the explanation, and the error of the map.
@@ -46,7 +45,7 @@ pub struct MappedOutcome {
 ///
 /// A map that is too long, has another number of lines than the trace has entries, or has another line for an entry that
 /// is named is an error, after which nothing is written. A map that cannot be read is `ReadFault`.
-pub fn answer_mapped_reason<R: Threads + Wait, I: Read, M: Read, O: Write>(
+pub fn answer_mapped_reason<R: Threads, I: Read, M: Read, O: Write>(
     rt: &R,
     alloc: Global,
     input: &mut I,
@@ -86,7 +85,7 @@ struct MappedAnswer {
     map_fault: Option<MapFault>,
 }
 
-fn mapped_answer<I: Read, M: Read, R: Threads + Wait>(
+fn mapped_answer<I: Read, M: Read, R: Threads>(
     rt: &R,
     alloc: Global,
     input: &mut I,
@@ -108,23 +107,28 @@ fn mapped_answer<I: Read, M: Read, R: Threads + Wait>(
         (M.remaining map.new) }
     ensures never_no_worker { result ≢ Err Ended.NoWorker }
 {
-    match read_explained(rt, alloc, input, limits, f, workers) {
+    let trace = match read_by(rt, alloc, input, limits, workers) {
+        Ok(trace) => trace,
+        Err(unread) => return fault_answer(alloc, VerdictError::Input(unread)),
+    };
+    match explain_trace(alloc, &trace, f) {
         Ok(known) => with_places(alloc, map, limits, f, known),
-        Err(stopped) => fault_answer(alloc, stopped),
+        Err(NoMemory) => Err(Ended::NoMemory),
     }
 }
 
 /// Returns the answer with the first error of a text without verdict, or the ending if there is nothing to write.
-fn fault_answer(alloc: Global, stopped: StreamRefusal) -> Result<MappedAnswer, Ended>
-    ensures ok { IfOk result (IsFaultAnswer stopped) }
+fn fault_answer(alloc: Global, unjudged: VerdictError) -> Result<MappedAnswer, Ended>
+    ensures ok { IfOk result (IsFaultAnswer unjudged) }
     ensures rejected { IfOk result (λ given. (most : ℕ) (text : List ℕ)
-        → ExplainsStreamRefusal most text stopped →
+        → ExplainsRefusal most text unjudged →
         IfSome given.answer.refusal (IsTrueRefusal most text)) }
     ensures whole_answer { IfOk result (λ given. WritesWholeAnswer given.answer.ended) }
     ensures err { IfErr result WritesNothing }
-    ensures no_worker { result ≡ Err Ended.NoWorker → stopped ≡ StreamRefusal.NoWorker }
+    ensures no_worker { result ≡ Err Ended.NoWorker
+        → unjudged ≡ VerdictError.Audit AuditFault.NoWorker }
 {
-    let response = match fault_response(alloc, stopped) {
+    let response = match fault_response(alloc, unjudged) {
         Ok(response) => response,
         Err(ended) => return Err(ended),
     };
@@ -143,7 +147,7 @@ fn with_places<M: Read>(
     map: &mut M,
     limits: Limits,
     f: u16,
-    known: Explained,
+    known: ExplainedVerdict,
 ) -> Result<MappedAnswer, Ended>
     ensures ok { IfOk result (λ given. IsPlacedFor limits.entries (M.remaining map.old)
         f known given) }
@@ -166,7 +170,7 @@ fn placed_answer(
     map: &[u8],
     limits: Limits,
     f: u16,
-    known: Explained,
+    known: ExplainedVerdict,
 ) -> Result<MappedAnswer, Ended>
     ensures ok { IfOk result (λ given. IsPlaced limits.entries map.now f known given) }
     ensures none { IfOk result (λ given. given.answer.refusal ≡ None) }
@@ -200,7 +204,7 @@ fn placed_reason(
     map: &[u8],
     limits: Limits,
     f: u16,
-    known: &Explained,
+    known: &ExplainedVerdict,
 ) -> Result<Vec<u8>, PlaceError>
     ensures { ReturnsPlaced (λ out. out.items) result (with_front (verdict_line f known.now.judged)
         (placed_text limits.entries map.now known.now.judged.entries known.now.facts.items)) }

@@ -1,23 +1,26 @@
 //! Questions on a trace, and their answers, over any reader and writer.
-ghost use Rattle.std.specs.Prelude.{◌≡◌, ◌≤◌, IfOk, IfErr, Err};
+ghost use Rattle.std.specs.Prelude.{◌≡◌, ◌≤◌, IfOk, IfErr, IfSome, Err};
 ghost use Rattle.causal_commands.specs.Answers.{WritesFor};
 ghost use Rattle.causal_commands.specs.Diagnostics.{IsDiagnosisFor};
 ghost use Rattle.causal_commands.specs.Questions as questions;
-ghost use Rattle.causal_commands.specs.Inside.Answers.{IsReplyFor, WritesNothing, WritesWholeAnswer, RefusalIsTrue};
+ghost use Rattle.causal_commands.specs.Replies.{IsReply};
+ghost use Rattle.causal_commands.specs.Inside.Answers.{IsFaultless, IsOnWholeText, IsReplyFor, IsReplyOrError, RepliesOn, WritesNothing, WritesWholeAnswer, RefusalIsTrue};
 
 use crate::answer::write_answer;
 use crate::diagnostic::DiagnosedFault;
-use crate::early_audit::early_response;
 use crate::ended::Ended;
-use crate::input_audit::judge_input;
 use crate::range::range_response;
 use crate::reason::reason_response;
 use crate::replays::replays_response;
-use crate::response::{Response, printed_answer, verdict_response};
+use crate::response::{
+    Response, fault_response, printed_answer, stream_response, verdict_response,
+};
 use crate::stream::Outcome;
+use causal_reading::read_by;
 use causal_report::Form;
 use causal_trace::limits::Limits;
-use causal_workers::{Gate, Looks, judge_stream};
+use causal_trace::trace::Trace;
+use causal_workers::{AuditFault, Gate, Looks, VerdictError, judge_stream, judge_trace};
 use std::alloc::Global;
 use std::io::{Read, Write};
 use std::rt::Clock;
@@ -77,6 +80,19 @@ impl Question {
             Question::Range { .. } | Question::Replays { .. } => 0,
         }
     }
+
+    /// Returns the number of workers that read and audit.
+    fn workers(self) -> u32
+        ensures { result ≡ questions.workers_of self }
+    {
+        match self {
+            Question::Verdict { workers, .. }
+            | Question::Breach { workers, .. }
+            | Question::Reason { workers, .. }
+            | Question::Range { workers }
+            | Question::Replays { workers, .. } => workers,
+        }
+    }
 }
 
 /// Reads the text of a trace within the limits, and writes the answer to a question, as lines or as one JSON object on
@@ -134,25 +150,75 @@ fn response_to<I: Read, G: Gate + Sync, R: Threads + Wait + Clock>(
         (I.remaining input.old) (I.remaining input.new) }
     ensures one_worker { result ≡ Err Ended.NoWorker → 2 ≤ questions.workers_of question }
 {
+    match read_reply(rt, alloc, input, limits, question, gate) {
+        Ok(response) => Ok(response),
+        Err(unjudged) => fault_response(alloc, unjudged),
+    }
+}
+
+/// Reads a text, and returns the reply to a question on its trace, or why there is none.
+fn read_reply<I: Read, G: Gate + Sync, R: Threads + Wait + Clock>(
+    rt: &R,
+    alloc: Global,
+    input: &mut I,
+    limits: Limits,
+    question: Question,
+    gate: &G,
+) -> Result<Response, VerdictError>
+    requires { questions.HasFewWorkers question }
+    ensures reads { IfSome (I.remaining input.old)
+        (λ text. IsReplyOrError limits.entries question text result) }
+    ensures faultless { IfOk result IsFaultless }
+    ensures stops { questions.StopsFor limits.entries question
+        (I.remaining input.old) (I.remaining input.new) }
+    ensures one_worker { result ≡ Err (VerdictError.Audit AuditFault.NoWorker)
+        → 2 ≤ questions.workers_of question }
+{
     match question {
-        Question::Verdict { faults, workers } => {
-            let judged = judge_input(rt, alloc, input, limits, faults, workers, gate);
-            verdict_response(alloc, faults, judged)
-        }
         Question::Breach {
             faults,
             workers,
             looks,
         } => {
-            let known = judge_stream(rt, alloc, input, limits, looks, faults, workers, gate);
-            early_response(alloc, faults, known)
+            let known = judge_stream(rt, alloc, input, limits, looks, faults, workers, gate)?;
+            Ok(stream_response(alloc, faults, known))
         }
-        Question::Reason { faults, workers } => {
-            reason_response(rt, alloc, input, limits, faults, workers)
+        _ => {
+            let trace = match read_by(rt, alloc, input, limits, question.workers()) {
+                Ok(trace) => trace,
+                Err(unread) => return Err(VerdictError::Input(unread)),
+            };
+            match trace_response(rt, alloc, &trace, question, gate) {
+                Ok(response) => Ok(response),
+                Err(fault) => Err(VerdictError::Audit(fault)),
+            }
         }
-        Question::Range { workers } => range_response(rt, alloc, input, limits, workers),
-        Question::Replays { workers, detail } => {
-            replays_response(rt, alloc, input, limits, workers, detail)
+    }
+}
+
+/// Returns the reply to a question on a trace that was read whole.
+fn trace_response<G: Gate + Sync, R: Threads + Wait>(
+    rt: &R,
+    alloc: Global,
+    trace: &Trace,
+    question: Question,
+    gate: &G,
+) -> Result<Response, AuditFault>
+    requires few { questions.HasFewWorkers question }
+    requires whole { IsOnWholeText question }
+    ensures reply { IfOk result (RepliesOn trace.now.recording
+        (λ most text. IsReply most question text)) }
+    ensures faultless { IfOk result IsFaultless }
+    ensures one_worker { result ≡ Err AuditFault.NoWorker → 2 ≤ questions.workers_of question }
+{
+    match question {
+        Question::Verdict { faults, workers } => {
+            let judged = judge_trace(rt, alloc, trace, faults, workers, gate)?;
+            Ok(verdict_response(alloc, faults, judged))
         }
+        Question::Breach { .. } => unreachable!(),
+        Question::Reason { faults, .. } => Ok(reason_response(alloc, trace, faults)?),
+        Question::Range { .. } => Ok(range_response(alloc, trace)?),
+        Question::Replays { detail, .. } => Ok(replays_response(alloc, trace, detail)?),
     }
 }

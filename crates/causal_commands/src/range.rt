@@ -1,54 +1,30 @@
 //! The bounds f for which a run is safe.
-ghost use Rattle.std.specs.Prelude.{◌≡◌, ◌≢◌, ◌≤◌, IfOk, IfErr, Err};
-ghost use Rattle.causal_text.specs.Streams.{StopsWithin};
-ghost use Rattle.causal_reading.specs.Reads.{max_read};
+ghost use Rattle.std.specs.Prelude.{◌≡◌, IfOk};
 ghost use Rattle.causal_commands.specs.Ranges as ranges;
-ghost use Rattle.causal_commands.specs.Inside.Answers.{IsRangeReplyFor, WritesNothing, WritesWholeAnswer, RefusalIsTrue};
+ghost use Rattle.causal_commands.specs.Replies.{IsRangeReply};
+ghost use Rattle.causal_commands.specs.Inside.Answers.{IsFaultless, RepliesOn};
 
 use crate::ended::Ended;
-use crate::input_audit::read_input_by;
-use crate::response::{Response, fault_response};
+use crate::response::Response;
 use causal_explain::{SafeRange, safe_range};
+use causal_name::NoMemory;
 use causal_report::{Bounds, Reply};
-use causal_trace::limits::Limits;
+use causal_trace::trace::Trace;
 use std::alloc::{AllocError, Global};
-use std::io::Read;
-use std::thread::Threads;
 
-/// Reads the text of a trace within the limits by 1 to 64 workers, and returns the bounds f for which it is safe, or the
-/// text's first error.
-pub(crate) fn range_response<I: Read, R: Threads>(
-    rt: &R,
-    alloc: Global,
-    input: &mut I,
-    limits: Limits,
-    workers: u32,
-) -> Result<Response, Ended>
-    requires { (1 ≤ workers) × (workers ≤ 64) }
-    ensures ok { IfOk result (λ response. IsRangeReplyFor limits.entries (I.remaining input.old)
-        response.ended response.reply) }
-    ensures rejected { RefusalIsTrue limits.entries (I.remaining input.old) result }
-    ensures whole_answer { IfOk result (λ response. WritesWholeAnswer response.ended) }
-    ensures err { IfErr result WritesNothing }
-    ensures stops { StopsWithin limits.entries (max_read workers)
-        (I.remaining input.old) (I.remaining input.new) }
-    ensures never_no_worker { result ≢ Err Ended.NoWorker }
+/// Returns the reply with the bounds f for which a trace is safe.
+pub(crate) fn range_response(alloc: Global, trace: &Trace) -> Result<Response, NoMemory>
+    ensures reply { IfOk result (RepliesOn trace.now.recording IsRangeReply) }
+    ensures faultless { IfOk result IsFaultless }
 {
-    let trace = match read_input_by(rt, alloc, input, limits, workers) {
-        Ok(trace) => trace,
-        Err(stopped) => return fault_response(alloc, stopped),
-    };
-    let Ok(range) = safe_range(alloc, &trace) else {
-        return Err(Ended::NoMemory);
-    };
-    match ranges_of(alloc, range) {
-        Ok(ranges) => Ok(Response {
-            ended: Ended::Ranged,
-            reply: Reply::Ranges { ranges },
-            refusal: None,
-        }),
-        Err(_) => Err(Ended::NoMemory),
-    }
+    let range = safe_range(alloc, trace)?;
+    Ok(Response {
+        ended: Ended::Ranged,
+        reply: Reply::Ranges {
+            ranges: ranges_of(alloc, range)?,
+        },
+        refusal: None,
+    })
 }
 
 /// Returns up to three ranges of the bounds f: those that the number of down processes exceeds at some instant, those for

@@ -1,60 +1,28 @@
 //! Whether the recoveries of a trace follow the determinants that survive.
-ghost use Rattle.std.specs.Prelude.{◌≡◌, ◌≢◌, ◌≤◌, None, IfOk, IfErr, Err};
-ghost use Rattle.causal_text.specs.Streams.{StopsWithin};
-ghost use Rattle.causal_reading.specs.Reads.{max_read};
+ghost use Rattle.std.specs.Prelude.{IfOk};
 ghost use Rattle.causal_replays.specs.Strays.{IsFirstStray};
 ghost use Rattle.causal_commands.specs.Replies as replies;
-ghost use Rattle.causal_commands.specs.Inside.Answers.{IsReplaysReplyFor, WritesNothing, WritesWholeAnswer, RefusalIsTrue};
+ghost use Rattle.causal_commands.specs.Inside.Answers.{IsFaultless};
 
 use crate::ended::Ended;
-use crate::input_audit::read_input_by;
 use crate::question::StrayDetail;
-use crate::response::{Response, fault_response, found};
+use crate::response::{Response, found};
 use causal_name::NoMemory;
 use causal_replays::{Stray, first_stray};
 use causal_report::{Fact, Finding, Reply, survivor_facts};
-use causal_trace::limits::Limits;
 use causal_trace::trace::Trace;
 use std::alloc::Global;
-use std::io::Read;
-use std::thread::Threads;
 
-/// Reads the text of a trace within the limits by 1 to 64 workers, and returns that each slot has at most one surviving
-/// determinant at each instant, or the first instant that strays from this; or the text's first error.
-pub(crate) fn replays_response<I: Read, R: Threads>(
-    rt: &R,
+/// Returns the reply that each slot of a trace has at most one surviving determinant at each instant, or the first instant
+/// that strays from this.
+pub(crate) fn replays_response(
     alloc: Global,
-    input: &mut I,
-    limits: Limits,
-    workers: u32,
+    trace: &Trace,
     detail: StrayDetail,
-) -> Result<Response, Ended>
-    requires { (1 ≤ workers) × (workers ≤ 64) }
-    ensures ok { IfOk result (λ response. IsReplaysReplyFor limits.entries detail
-        (I.remaining input.old) response.ended response.reply) }
-    ensures rejected { RefusalIsTrue limits.entries (I.remaining input.old) result }
-    ensures whole_answer { IfOk result (λ response. WritesWholeAnswer response.ended) }
-    ensures err { IfErr result WritesNothing }
-    ensures stops { StopsWithin limits.entries (max_read workers)
-        (I.remaining input.old) (I.remaining input.new) }
-    ensures never_no_worker { result ≢ Err Ended.NoWorker }
-{
-    let trace = match read_input_by(rt, alloc, input, limits, workers) {
-        Ok(trace) => trace,
-        Err(stopped) => return fault_response(alloc, stopped),
-    };
-    match trace_response(alloc, &trace, detail) {
-        Ok(response) => Ok(response),
-        Err(NoMemory) => Err(Ended::NoMemory),
-    }
-}
-
-/// Returns the reply to a trace.
-fn trace_response(alloc: Global, trace: &Trace, detail: StrayDetail) -> Result<Response, NoMemory>
-    ensures ok { IfOk result (λ response.
+) -> Result<Response, NoMemory>
+    ensures reply { IfOk result (λ response.
         replies.IsReplaysOf detail trace.now.recording response.ended response.reply) }
-    ensures rejected { IfOk result (λ response. response.refusal ≡ None) }
-    ensures whole_answer { IfOk result (λ response. WritesWholeAnswer response.ended) }
+    ensures faultless { IfOk result IsFaultless }
 {
     match first_stray(alloc, trace)? {
         None => {

@@ -1,17 +1,18 @@
 //! The reply to the text of a trace, before it is printed.
-ghost use Rattle.std.specs.Prelude.{◌≡◌, ℕ, List, [], IfOk, IfErr, IfSome, Err};
+ghost use Rattle.std.specs.Prelude.{◌≡◌, ℕ, List, [], IfOk, IfErr, Err};
 ghost use Rattle.causal_report.specs.Replies.{reply_text};
-ghost use Rattle.causal_commands.specs.Replies.{IsFaultReply, IsFound, IsVerdictReply};
-ghost use Rattle.causal_commands.specs.Inside.Answers.{WritesNothing, WritesWholeAnswer, IsVerdictOrRefusal};
-ghost use Rattle.causal_commands.specs.Inside.Refusals.{IsTrueRefusal, ExplainsStreamRefusal};
+ghost use Rattle.causal_workers.specs.Judgements.{IsJudgementWithin};
+ghost use Rattle.causal_workers.specs.Streaming.{IsStreamVerdict};
+ghost use Rattle.causal_workers.specs.declared.looks.Looks.{Looks};
+ghost use Rattle.causal_commands.specs.Replies.{IsEarlyReply, IsFound, IsVerdictReply};
+ghost use Rattle.causal_commands.specs.Inside.Answers.{IsFaultless, ReportsFault, WritesNothing};
 
 use crate::answer::{Answer, ended_of};
 use crate::ended::Ended;
-use crate::input_audit::StreamRefusal;
 use causal_name::NoMemory;
 use causal_report::{Finding, Form, Reply, reply_text};
-use causal_text::TextRefusal;
-use causal_workers::Judged;
+use causal_text::{ReadError, TextKind, TextRefusal};
+use causal_workers::{AuditFault, Judged, StreamVerdict, VerdictError};
 use std::alloc::Global;
 
 /// The reply to a text, the ending after it is written, and, if it reports an error, that error with its context.
@@ -60,51 +61,56 @@ pub(crate) fn found(
     }
 }
 
-/// Returns the reply to a text with this verdict or this refusal, or the ending if there is nothing to write.
-pub(crate) fn verdict_response(
-    alloc: Global,
-    f: u16,
-    judged: Result<Judged, StreamRefusal>,
-) -> Result<Response, Ended>
-    ensures ok { IfOk result (λ response. (most : ℕ) (text : List ℕ)
-        → IsVerdictOrRefusal most text f judged →
-        IsVerdictReply most text f response.ended response.reply) }
-    ensures rejected { IfOk result (λ response. (most : ℕ) (text : List ℕ)
-        → IsVerdictOrRefusal most text f judged →
-        IfSome response.refusal (IsTrueRefusal most text)) }
-    ensures whole_answer { IfOk result (λ response. WritesWholeAnswer response.ended) }
-    ensures err { IfErr result WritesNothing }
-    ensures no_worker { result ≡ Err Ended.NoWorker → judged ≡ Err StreamRefusal.NoWorker }
+/// Returns the reply with a verdict.
+pub(crate) fn verdict_response(alloc: Global, f: u16, judged: Judged) -> Response
+    ensures reply { (most : ℕ) (text : List ℕ) → IsJudgementWithin most text f judged
+        → IsVerdictReply most text f result.ended result.reply }
+    ensures faultless { IsFaultless result }
 {
-    match judged {
-        Ok(judged) => {
-            let ended = ended_of(judged.verdict);
-            Ok(found(alloc, ended, Finding::Verdict { f, judged }, None))
+    let ended = ended_of(judged.verdict);
+    found(alloc, ended, Finding::Verdict { f, judged }, None)
+}
+
+/// Returns the reply with an early or whole verdict.
+pub(crate) fn stream_response(alloc: Global, f: u16, known: StreamVerdict) -> Response
+    ensures reply { (looks : Looks) (most : ℕ) (text : List ℕ)
+        → IsStreamVerdict looks most text f known
+        → IsEarlyReply looks most text f result.ended result.reply }
+    ensures faultless { IsFaultless result }
+{
+    match known {
+        StreamVerdict::Early(judged) => {
+            found(
+                alloc,
+                Ended::Breached,
+                Finding::EarlyBreach { f, judged },
+                None,
+            )
         }
-        Err(stopped) => fault_response(alloc, stopped),
+        StreamVerdict::Whole(judged) => {
+            let ended = ended_of(judged.verdict);
+            found(alloc, ended, Finding::Verdict { f, judged }, None)
+        }
     }
 }
 
-/// Returns the first error of a text without verdict, or the ending if there is nothing to write.
-pub(crate) fn fault_response(alloc: Global, stopped: StreamRefusal) -> Result<Response, Ended>
-    ensures ended { IfOk result (λ response. response.ended ≡ Ended.Faulted) }
-    ensures whole_answer { IfOk result (λ response. WritesWholeAnswer response.ended) }
-    ensures ok { IfOk result (λ response. (most : ℕ) (text : List ℕ) →
-        ExplainsStreamRefusal most text stopped
-        → IsFaultReply most text response.reply) }
-    ensures rejected { IfOk result (λ response. (most : ℕ) (text : List ℕ)
-        → ExplainsStreamRefusal most text stopped →
-        IfSome response.refusal (IsTrueRefusal most text)) }
+/// Returns the reply with the first error of a text without reply, or the ending if there is nothing to write.
+pub(crate) fn fault_response(alloc: Global, unjudged: VerdictError) -> Result<Response, Ended>
+    ensures ok { IfOk result (ReportsFault unjudged) }
     ensures err { IfErr result WritesNothing }
-    ensures no_worker { result ≡ Err Ended.NoWorker → stopped ≡ StreamRefusal.NoWorker }
+    ensures no_worker { result ≡ Err Ended.NoWorker
+        → unjudged ≡ VerdictError.Audit AuditFault.NoWorker }
 {
-    match stopped {
-        StreamRefusal::Text(rejected) => {
-            let finding = Finding::Fault(rejected.fault);
-            Ok(found(alloc, Ended::Faulted, finding, Some(rejected)))
-        }
-        StreamRefusal::Read => Err(Ended::ReadFault),
-        StreamRefusal::NoMemory => Err(Ended::NoMemory),
-        StreamRefusal::NoWorker => Err(Ended::NoWorker),
+    match unjudged {
+        VerdictError::Input(ReadError::Text(rejected)) => match rejected.fault.kind {
+            TextKind::NoMemory => Err(Ended::NoMemory),
+            _ => {
+                let finding = Finding::Fault(rejected.fault);
+                Ok(found(alloc, Ended::Faulted, finding, Some(rejected)))
+            }
+        },
+        VerdictError::Input(ReadError::Source) => Err(Ended::ReadFault),
+        VerdictError::Audit(AuditFault::NoMemory) => Err(Ended::NoMemory),
+        VerdictError::Audit(AuditFault::NoWorker) => Err(Ended::NoWorker),
     }
 }

@@ -1,40 +1,30 @@
 -- The answer to a trace's text, before it is written.
-use Rattle.std.specs.Prelude.{◌≡◌, ℕ, ◌<◌, ◌⊎◌, List, length, take, Option, IfSome, IfOk, MatchResult, Result, ⊤}
+use Rattle.std.specs.Prelude.{◌≡◌, ◌≢◌, ℕ, ◌<◌, ◌⊎◌, List, [], length, take, Option, Some, None, IfSome, IfOk, MatchResult, Result, ⊤}
 use Rattle.std.specs.Io.KnownBytes.{Appends}
-use Rattle.causal_workers.specs.declared.looks.Looks.{Looks}
-use Rattle.causal_workers.specs.declared.streaming.StreamVerdict.{StreamVerdict}
+use Rattle.causal_trace.specs.Rows.{Recording}
+use Rattle.causal_line.specs.declared.kind.TextKind.TheVariants as kind
+use Rattle.causal_line.specs.declared.text_refusal.TextRefusal.{TextRefusal}
+use Rattle.causal_text.specs.Spelling.{SpellsWithin}
+use Rattle.causal_text.specs.declared.context_reading.ReadError.TheVariants as read_error
 use Rattle.causal_workers.specs.declared.streaming.VerdictError.{VerdictError}
-use Rattle.causal_workers.specs.Streaming.{IsStreamVerdict, ExplainsVerdictError}
-use Rattle.causal_audit.specs.declared.judged.Judged.{Judged}
+use Rattle.causal_workers.specs.declared.streaming.VerdictError.TheVariants.{Input}
+use Rattle.causal_workers.specs.Streaming.{ExplainsVerdictError}
 use Rattle.causal_picture.specs.declared.selection.Selection.{Selection}
+use Rattle.causal_report.specs.declared.finding.Finding.TheVariants as finding
 use Rattle.causal_report.specs.declared.reply.Reply.{Reply}
-use Rattle.causal_workers.specs.Judgements.{IsJudgementWithin}
 use Rattle.causal_commands.specs.declared.answer.Answer.{Answer}
 use Rattle.causal_commands.specs.declared.ended.Ended.{Ended}
 use Rattle.causal_commands.specs.declared.ended.Ended.TheVariants.{Accepted, Breached, Ranged, Followed, Strayed, Merged, Faulted, Ran, Refused, ReadFault, WriteFault, NoMemory, NoWorker}
-use Rattle.causal_commands.specs.declared.input_audit.StreamRefusal.{StreamRefusal}
 use Rattle.causal_commands.specs.declared.question.Question.{Question}
-use Rattle.causal_commands.specs.declared.question.StrayDetail.{StrayDetail}
+use Rattle.causal_commands.specs.declared.question.Question.TheVariants.{Breach}
 use Rattle.causal_commands.specs.declared.response.Response.{Response}
 use Rattle.causal_commands.specs.Drawings.{IsDrawingAnswer}
-use Rattle.causal_commands.specs.Replies.{IsReply, IsReasonReply, IsRangeReply, IsReplaysReply}
-use Rattle.causal_commands.specs.Inside.Refusals.{IsTrueRefusalFor, ExplainsStreamRefusal}
+use Rattle.causal_commands.specs.Replies.{IsFound, IsReply}
+use Rattle.causal_commands.specs.Inside.Refusals.{IsTrueRefusalFor, ExplainsRefusal}
 
 -- the reply to the question on the bytes of a reader, if they are known
 abbrev pub IsReplyFor : ℕ → Question → Option (List ℕ) → Ended → Reply → Type 0
 IsReplyFor most question given ended reply = IfSome given (λ text. IsReply most question text ended reply)
-
--- the verdict for f and the facts that explain it, of the bytes of a reader, if they are known
-abbrev pub IsReasonReplyFor : ℕ → Option (List ℕ) → ℕ → Ended → Reply → Type 0
-IsReasonReplyFor most given f ended reply = IfSome given (λ text. IsReasonReply most text f ended reply)
-
--- the bounds f for which the trace in the bytes of a reader is safe, if they are known
-abbrev pub IsRangeReplyFor : ℕ → Option (List ℕ) → Ended → Reply → Type 0
-IsRangeReplyFor most given ended reply = IfSome given (λ text. IsRangeReply most text ended reply)
-
--- whether the recoveries in the bytes of a reader follow what survives, if they are known
-abbrev pub IsReplaysReplyFor : ℕ → StrayDetail → Option (List ℕ) → Ended → Reply → Type 0
-IsReplaysReplyFor most detail given ended reply = IfSome given (λ text. IsReplaysReply most detail text ended reply)
 
 -- the picture of the bytes of a reader, if they are known
 abbrev pub IsDrawingAnswerFor : ℕ → Selection → Option (List ℕ) → ℕ → Ended → List ℕ → Type 0
@@ -48,13 +38,32 @@ RefusalIsTrue most given result = IfOk result (λ response. IsTrueRefusalFor mos
 abbrev pub AnswerRefusalIsTrue : ℕ → Option (List ℕ) → Result Answer Ended → Type 0
 AnswerRefusalIsTrue most given result = IfOk result (λ answer. IsTrueRefusalFor most given answer.refusal)
 
--- the result is the verdict on the text, or explains why there is none
-abbrev pub IsVerdictOrRefusal : ℕ → List ℕ → ℕ → Result Judged StreamRefusal → Type 0
-IsVerdictOrRefusal most text f judged = MatchResult judged (IsJudgementWithin most text f) (ExplainsStreamRefusal most text)
+-- why a question on a text got no reply: of `Breach`, an error of the text also means that all checkpoints accept
+abbrev pub ExplainsNoReply : ℕ → Question → List ℕ → VerdictError → Type 0
+ExplainsNoReply most (Breach faults workers looks) text unjudged = ExplainsVerdictError most text faults unjudged
+ExplainsNoReply most question text unjudged = ExplainsRefusal most text unjudged
 
--- the result is an early or whole verdict on the text, or explains why there is none
-abbrev pub IsStreamVerdictOrError : Looks → ℕ → List ℕ → ℕ → Result StreamVerdict VerdictError → Type 0
-IsStreamVerdictOrError looks most text f known = MatchResult known (IsStreamVerdict looks most text f) (ExplainsVerdictError most text f)
+-- the result is the reply to a question on the text, or explains why there is none
+abbrev pub IsReplyOrError : ℕ → Question → List ℕ → Result Response VerdictError → Type 0
+IsReplyOrError most question text result = MatchResult result (λ response. IsReply most question text response.ended response.reply) (ExplainsNoReply most question text)
+
+-- the question is answered when its text was read whole
+abbrev pub IsOnWholeText : Question → Type 0
+IsOnWholeText (Breach faults workers looks) = ⊥
+IsOnWholeText _ = ⊤
+
+-- the response is such a reply to each text that spells the recording
+abbrev pub RepliesOn : Recording → (ℕ → List ℕ → Ended → Reply → Type 0) → Response → Type 0
+RepliesOn r IsReplyOn response = (most : ℕ) (text : List ℕ) → SpellsWithin most text r → IsReplyOn most text response.ended response.reply
+
+-- the response reports this error of a text, which is not `NoMemory`
+pub record ReportsFault (unjudged : VerdictError) (response : Response) : Type 0 where
+  pub rejected : TextRefusal
+  pub is : unjudged ≡ Input (read_error.Text rejected)
+  pub memory : rejected.fault.kind ≢ kind.NoMemory
+  pub ended : response.ended ≡ Faulted
+  pub reply : IsFound (finding.Fault rejected.fault) [] response.reply
+  pub refusal : response.refusal ≡ Some rejected
 
 -- the endings that write a whole answer
 abbrev pub WritesWholeAnswer : Ended → Type 0
@@ -68,6 +77,10 @@ WritesWholeAnswer Faulted = ⊤
 WritesWholeAnswer Ran = ⊤
 WritesWholeAnswer Refused = ⊤
 WritesWholeAnswer _ = ⊥
+
+-- the response is a whole answer that reports no error
+abbrev pub IsFaultless : Response → Type 0
+IsFaultless response = WritesWholeAnswer response.ended × (response.refusal ≡ None)
 
 -- the line of the answer was appended whole, or after a write fault a proper prefix of it
 abbrev pub IsWritten : Answer → Ended → Option (List ℕ) → Option (List ℕ) → Type 0

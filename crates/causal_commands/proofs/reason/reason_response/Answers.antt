@@ -1,11 +1,14 @@
+use Rattle.std.proofs.Common.{refl}
+use Rattle.causal_report.specs.declared.finding.Finding.TheVariants as finding
+use Rattle.causal_report.specs.declared.reply.Reply.TheVariants.{Found}
+use Rattle.causal_commands.specs.declared.ended.Ended.{Ended}
 use Rattle.causal_commands.specs.Replies.{IsReasonReply}
-use Rattle.causal_commands.proofs.Refusals.{replies, rejects}
+use Rattle.causal_commands.proofs.VerdictEndings.{by_verdict}
 use Rattle.causal_commands.proofs.reason.reason_response.Goals as goal
 
-pub returns-in-Err-clause-ok : goal.returns-in-Err-clause-ok
-returns-in-Err-clause-ok g c =
-    replies c.args.limits.entries (g.I.Read.remaining c.args.input.now) (λ text. IsReasonReply c.args.limits.entries text c.args.f) c.in-Err.stopped c.fault_response.result (λ text reply is. is) c.in-Err.ensures.err c.fault_response.ensures.ended c.fault_response.ensures.ok
-
-pub returns-in-Err-clause-rejected : goal.returns-in-Err-clause-rejected
-returns-in-Err-clause-rejected g c =
-    rejects c.args.limits.entries (g.I.Read.remaining c.args.input.now) c.in-Err.stopped c.fault_response.result c.in-Err.ensures.err c.fault_response.ensures.rejected
+pub returns-clause-reply : goal.returns-clause-reply
+returns-clause-reply c = λ most text spells.
+    let known = c.in_ok-known.known in
+    let is = c.in_ok-known.ensures most text spells in
+    by_verdict (λ (e : Ended). IsReasonReply most text c.args.f e (Found (finding.Verdict c.args.f known.judged) known.facts)) known.judged.verdict c.ended_of.result c.ended_of.ensures.accepted c.ended_of.ensures.breached
+    (λ accept. (known.judged, (known.facts.items, is, (refl, refl)), accept)) (λ breach. (known.judged, (known.facts.items, is, (refl, refl)), breach))
