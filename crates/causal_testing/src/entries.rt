@@ -1,5 +1,5 @@
-//! Entries of a trace in short form, and traces of them.
-use causal_name::{Det, Pid};
+//! Determinants and entries of a trace in short form, and traces of them.
+use causal_name::{Det, MsgName, Pid};
 use causal_trace::entry::{Dets, Entry};
 use causal_trace::fault::TraceFault;
 use causal_trace::trace::Trace;
@@ -8,12 +8,30 @@ use std::alloc::Global;
 /// Source, ssn, receiver and rsn.
 pub type Fields = (u8, u32, u8, u32);
 
+/// The determinant with these fields.
+pub fn det((source, ssn, dest, rsn): Fields) -> Det {
+    Det {
+        source: Pid(source),
+        ssn,
+        dest: Pid(dest),
+        rsn,
+    }
+}
+
+pub fn name(source: u8, ssn: u32) -> MsgName {
+    MsgName {
+        source: Pid(source),
+        ssn,
+    }
+}
+
 /// An entry, with the fields in the order of its text.
 #[derive(Clone, Copy)]
 pub enum Line<'a> {
     Send(u8, u8, u32),
     Deliver(u8, u32, u32, &'a [Fields]),
     Crash(u8),
+    Restart(u8, &'a [Fields]),
     Forget(u8, &'a [Fields]),
 }
 
@@ -29,14 +47,8 @@ pub const RING: [Line<'static>; 6] = [
 
 fn dets(alloc: Global, list: &[Fields]) -> Result<Dets, TraceFault> {
     let mut listed = Vec::new(alloc);
-    for (source, ssn, dest, rsn) in list {
-        let det = Det {
-            source: Pid(*source),
-            ssn: *ssn,
-            dest: Pid(*dest),
-            rsn: *rsn,
-        };
-        if listed.push(det).is_err() {
+    for fields in list {
+        if listed.push(det(*fields)).is_err() {
             return Err(TraceFault::NoMemory);
         }
     }
@@ -57,6 +69,10 @@ fn entry(alloc: Global, line: Line<'_>) -> Result<Entry, TraceFault> {
             listed: dets(alloc, list)?,
         },
         Line::Crash(who) => Entry::Crash { who: Pid(who) },
+        Line::Restart(who, list) => Entry::Restart {
+            who: Pid(who),
+            listed: dets(alloc, list)?,
+        },
         Line::Forget(who, list) => Entry::Forget {
             who: Pid(who),
             listed: dets(alloc, list)?,
@@ -77,4 +93,46 @@ pub fn build_trace(alloc: Global, n: u16, lines: &[Line<'_>]) -> Result<Trace, T
     let mut trace = Trace::new(alloc, n)?;
     push_all(alloc, &mut trace, lines)?;
     Ok(trace)
+}
+
+/// Returns whether the determinants have these fields.
+pub fn are(dets: &[Det], fields: &[Fields]) -> bool {
+    for (told, wanted) in dets.iter().zip(fields) {
+        if *told != det(*wanted) {
+            return false;
+        }
+    }
+    dets.len() == fields.len()
+}
+
+/// Returns whether an entry is the one that is meant.
+fn is_entry(line: Line<'_>, entry: &Entry) -> bool {
+    match (line, entry) {
+        (Line::Send(p, q, s), Entry::Send { from, to, ssn }) => (from.0, to.0, *ssn) == (p, q, s),
+        (
+            Line::Deliver(q, k, r, list),
+            Entry::Deliver {
+                to,
+                send,
+                rsn,
+                listed,
+            },
+        ) => (to.0, *send, *rsn) == (q, k, r) && are(listed.as_slice(), list),
+        (Line::Crash(p), Entry::Crash { who }) => who.0 == p,
+        (Line::Restart(p, list), Entry::Restart { who, listed })
+        | (Line::Forget(p, list), Entry::Forget { who, listed }) => {
+            who.0 == p && are(listed.as_slice(), list)
+        }
+        _ => false,
+    }
+}
+
+/// Returns whether a trace has exactly these entries.
+pub fn has_entries(trace: &Trace, lines: &[Line<'_>]) -> bool {
+    for (entry, line) in trace.entries().iter().zip(lines) {
+        if !is_entry(*line, entry) {
+            return false;
+        }
+    }
+    trace.entries().len() == lines.len()
 }

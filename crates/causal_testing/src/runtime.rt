@@ -1,14 +1,11 @@
-//! The processes that start a core or a shared runtime in tests, and determinants in short form.
+//! The processes that start a core or a shared runtime in tests.
 use crate::doubles::{Flood, Long, Refusing};
 use crate::example::Numbering;
-use causal_name::{Det, MsgName, NoMemory, Pid};
+use causal_name::{NoMemory, Pid};
 use causal_process::{Echo, Process, Ring, Tally};
 use std::alloc::Global;
 
 pub(crate) type Boxed = Box<dyn Process + Send>;
-
-/// Source, ssn, receiver and rsn.
-pub(crate) type Fields = (u8, u32, u8, u32);
 
 /// The kind of process, with its first count: one of the runtime's kinds, the documented process, or a test double.
 /// `Flood` sends as many messages as it may, `Long` one with this many bytes. `Refusing` is one of a ring that returns `NoMemory` once, after a number of steps.
@@ -21,23 +18,6 @@ pub(crate) enum Kind {
     Flood,
     Long(usize),
     Refusing(u8, u64),
-}
-
-pub(crate) fn name(source: u8, ssn: u32) -> MsgName {
-    MsgName {
-        source: Pid(source),
-        ssn,
-    }
-}
-
-/// The determinant with these fields.
-pub(crate) fn det((source, ssn, dest, rsn): Fields) -> Det {
-    Det {
-        source: Pid(source),
-        ssn,
-        dest: Pid(dest),
-        rsn,
-    }
 }
 
 /// Process `me` of n; n is raised to `me` + 1 if it is smaller.

@@ -1,7 +1,7 @@
 //! Recovery from crash to end of replay.
 use super::Call::Deliver;
-use super::entries::{Line, are, has_entries};
 use super::*;
+use crate::entries::{Line, are, has_entries, name};
 use causal_name::MsgName;
 use causal_process::{Counted, Ring};
 use std::sync::Arc;
@@ -107,7 +107,7 @@ fn is_replayed(core: &mut Runtime) -> bool {
 }
 
 /// The entries of the round, the crash of 1, its restart and its replay.
-const RECOVERED: [Line; 10] = [
+const RECOVERED: [Line<'static>; 10] = [
     Line::Send(0, 1, 0),
     Line::Deliver(1, 0, 0, &[(0, 0, 1, 0)]),
     Line::Send(1, 2, 0),
@@ -279,7 +279,7 @@ const TALLY: [(Call, ExpectedReply); 6] = [
 ];
 
 /// The entries of these calls.
-const TALLIED: [Line; 9] = [
+const TALLIED: [Line<'static>; 9] = [
     Line::Send(1, 0, 0),
     Line::Send(2, 0, 0),
     Line::Deliver(0, 1, 0, &[(2, 0, 0, 0)]),

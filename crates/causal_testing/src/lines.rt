@@ -1,5 +1,5 @@
 //! Lines of a recording, worked by hand.
-use crate::runtime::det;
+use crate::entries::det;
 use causal_endpoint::forgetting::Forgotten;
 use causal_endpoint::lines::{crash_line, forget_line, restart_line, stable_line};
 use causal_endpoint::recovery::RestartRecord;

@@ -1,5 +1,5 @@
 //! Nodes: a process crashes, gathers what the others log, and repeats its delivery.
-use crate::runtime::det;
+use crate::entries::det;
 use causal_name::{Det, MsgName, Pid};
 use causal_node::node::{Identity, Node};
 use causal_node::node_answer::RoundReply;

@@ -1,5 +1,5 @@
 //! Logs, their batches, and the store in memory: each call once, on hand-computed values.
-use crate::runtime::{Fields, det, name};
+use crate::entries::{Fields, det, name};
 use causal_holders::Holders;
 use causal_log::{Batch, Item, Known, Log, MemStable, Stable};
 use causal_name::{Det, Pid, Slot};

@@ -1,5 +1,6 @@
 //! Recovery from crash to end of replay, failures of allocation and of stores, and the limit on entries, on cores of
 //! the runtime's process kinds.
+use crate::entries::{Fields, det};
 use crate::failing::FailingStore;
 use crate::runtime::*;
 use causal_core::{Core, CoreFault, Delivered, FlushFault, Reply, Restarted, StartFault};
@@ -7,8 +8,6 @@ use causal_log::MemStable;
 use causal_name::{NoMemory, Pid};
 use std::alloc::Global;
 
-/// Entries of a trace in short form.
-mod entries;
 /// The start of a core, and its state after a failed allocation or write.
 mod faults;
 /// Recovery from crash to end of replay.

@@ -1,6 +1,6 @@
 //! Single calls: their results, and the seats' views after them.
 use super::*;
-use crate::runtime::name;
+use crate::entries::name;
 
 /// Returns whether the crash of a process that does not exist is refused, recorded as a refusal, and leaves the `seen`
 /// count unchanged.

@@ -1,5 +1,5 @@
 //! Endpoints: bytes worked by hand, and a recovery.
-use crate::runtime::det;
+use crate::entries::det;
 use causal_endpoint::endpoint::Endpoint;
 use causal_endpoint::fault::EndpointFault;
 use causal_endpoint::lines::{deliver_line, header_line, send_line};
