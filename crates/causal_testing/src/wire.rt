@@ -1,7 +1,10 @@
 //! Parcels and their bytes, worked by hand.
+use crate::entries::det;
 use causal_name::Pid;
-use causal_wire::{Content, Head, Parcel, ParcelFault, RunId, WireFault, read, write};
-use std::test::*;
+use causal_wire::{
+    Content, Head, LogEntry, Parcel, ParcelFault, ParcelItem, RunId, WireFault, read, write,
+};
+use std::alloc::Global;
 
 /// The run of all parcels here.
 const RUN: RunId = RunId {
@@ -35,86 +38,117 @@ const TWICE: [u8; 54] = [
     0, 0, 0, 0, 5, 1, 0, 0, 2, 1, 0, 0, 0, 0, 0, 5, 1, 0, 0, 2, 1, 0,
 ];
 
-#[test]
-fn reads_a_head(rt: HostRuntime) -> Result<(), Fail> {
-    let parcel = read(rt.alloc(), RUN, &MESSAGE).ok().ok_or("a parcel")?;
-    assert_eq!(rt; parcel.head.source.0, 1);
-    assert_eq!(rt; parcel.head.dest.0, 2);
-    assert_eq!(rt; parcel.head.lane, 4);
-    assert_eq!(rt; parcel.head.clock, 256);
-    Ok(())
+/// A part of a parcel.
+#[derive(Clone, Copy)]
+enum Part {
+    Head,
+    Number,
+    Body,
+    Item,
+    Answer,
 }
 
-#[test]
-fn reads_a_number(rt: HostRuntime) -> Result<(), Fail> {
-    let parcel = read(rt.alloc(), RUN, &MESSAGE).ok().ok_or("a parcel")?;
-    let Content::Message { ssn, items, .. } = parcel.content else {
-        return Err("a message".into());
-    };
-    assert_eq!(rt; ssn, 9);
-    assert_eq!(rt; items.len(), 1);
-    Ok(())
+fn is_head(head: Head) -> bool {
+    (head.source.0, head.dest.0, head.lane, head.clock) == (1, 2, 4, 256)
 }
 
-#[test]
-fn reads_a_body(rt: HostRuntime) -> Result<(), Fail> {
-    let parcel = read(rt.alloc(), RUN, &MESSAGE).ok().ok_or("a parcel")?;
-    let Content::Message { body, .. } = parcel.content else {
-        return Err("a message".into());
-    };
-    assert_eq!(rt; body.len(), 1);
-    assert_eq!(rt; body.first().copied(), Some(255));
-    Ok(())
+fn is_item(item: &ParcelItem) -> bool {
+    item.det == det((0, 5, 1, 513)) && item.others.len() == 1 && item.others.least() == Some(2)
 }
 
-#[test]
-fn reads_an_item(rt: HostRuntime) -> Result<(), Fail> {
-    let parcel = read(rt.alloc(), RUN, &MESSAGE).ok().ok_or("a parcel")?;
-    let Content::Message { items, .. } = parcel.content else {
-        return Err("a message".into());
-    };
-    assert_eq!(rt; items.len(), 1);
-    for item in &items {
-        assert_eq!(rt; item.det.source.0, 0);
-        assert_eq!(rt; item.det.ssn, 5);
-        assert_eq!(rt; item.det.dest.0, 1);
-        assert_eq!(rt; item.det.rsn, 513);
-        assert_eq!(rt; item.others.len(), 1);
-        assert_eq!(rt; item.others.least(), Some(2));
+fn are_items(items: &[ParcelItem]) -> bool {
+    match items {
+        [item] => is_item(item),
+        _ => false,
     }
-    Ok(())
 }
 
-#[test]
-fn reads_an_answer(rt: HostRuntime) -> Result<(), Fail> {
-    let parcel = read(rt.alloc(), RUN, &ANSWER).ok().ok_or("a parcel")?;
-    let Content::Answer { round, entries } = parcel.content else {
-        return Err("an answer".into());
-    };
-    assert_eq!(rt; round, 7);
-    assert_eq!(rt; entries.len(), 1);
-    for entry in &entries {
-        assert!(rt; entry.stable);
-        assert_eq!(rt; entry.item.others.len(), 0);
+fn are_entries(entries: &[LogEntry]) -> bool {
+    match entries {
+        [entry] => entry.stable && entry.item.others.len() == 0,
+        _ => false,
     }
-    Ok(())
+}
+
+impl Part {
+    /// Returns whether a parcel has this part.
+    fn is_of(self, parcel: &Parcel) -> bool {
+        match (self, &parcel.content) {
+            (Part::Head, _) => is_head(parcel.head),
+            (Part::Number, Content::Message { ssn, items, .. }) => *ssn == 9 && items.len() == 1,
+            (Part::Body, Content::Message { body, .. }) => body.as_slice() == [255].as_slice(),
+            (Part::Item, Content::Message { items, .. }) => are_items(items.as_slice()),
+            (Part::Answer, Content::Answer { round, entries }) => {
+                *round == 7 && are_entries(entries.as_slice())
+            }
+            _ => false,
+        }
+    }
+
+    /// Returns whether bytes are read as a parcel with this part.
+    fn is_read(self, alloc: Global, bytes: &[u8]) -> bool {
+        match read(alloc, RUN, bytes) {
+            Ok(parcel) => self.is_of(&parcel),
+            Err(_) => false,
+        }
+    }
 }
 
 #[test]
-fn writes_a_question(rt: HostRuntime) -> Result<(), Fail> {
+fn reads_a_head(rt: HostRuntime) {
+    assert!(rt; Part::Head.is_read(rt.alloc(), &MESSAGE));
+}
+
+#[test]
+fn reads_a_number(rt: HostRuntime) {
+    assert!(rt; Part::Number.is_read(rt.alloc(), &MESSAGE));
+}
+
+#[test]
+fn reads_a_body(rt: HostRuntime) {
+    assert!(rt; Part::Body.is_read(rt.alloc(), &MESSAGE));
+}
+
+#[test]
+fn reads_an_item(rt: HostRuntime) {
+    assert!(rt; Part::Item.is_read(rt.alloc(), &MESSAGE));
+}
+
+#[test]
+fn reads_an_answer(rt: HostRuntime) {
+    assert!(rt; Part::Answer.is_read(rt.alloc(), &ANSWER));
+}
+
+/// Returns whether a question with this view has those bytes.
+fn is_written(alloc: Global, view: Vec<u32>) -> bool {
     let head = Head {
         source: Pid(2),
         dest: Pid(0),
         lane: 258,
         clock: 1,
     };
-    let view = vec![in rt.alloc(); 0, 1, 258]?;
     let content = Content::Question { round: 7, view };
-    let bytes = write(rt.alloc(), RUN, &Parcel { head, content })
-        .ok()
-        .ok_or("memory")?;
-    assert_eq!(rt; bytes.as_slice(), QUESTION.as_slice());
-    Ok(())
+    match write(alloc, RUN, &Parcel { head, content }) {
+        Ok(bytes) => bytes.as_slice() == QUESTION.as_slice(),
+        Err(_) => false,
+    }
+}
+
+#[test]
+fn writes_a_question(rt: HostRuntime) {
+    let is_right = match vec![in rt.alloc(); 0, 1, 258] {
+        Ok(view) => is_written(rt.alloc(), view),
+        Err(_) => false,
+    };
+    assert!(rt; is_right);
+}
+
+/// The first error of some bytes, if they are no parcel of the run.
+fn refusal(alloc: Global, bytes: &[u8]) -> Option<WireFault> {
+    match read(alloc, RUN, bytes) {
+        Err(ParcelFault::Wire(fault)) => Some(fault),
+        _ => None,
+    }
 }
 
 /// The message with another byte at one place, and the first error.
@@ -134,32 +168,41 @@ const CHANGES: [(usize, u8, WireFault); 13] = [
     (51, 0, WireFault::Trailing),
 ];
 
+/// Returns whether a parcel with another byte at this place has that first error.
+fn refuses_change(alloc: Global, (place, byte, fault): (usize, u8, WireFault)) -> bool {
+    let mut bytes = MESSAGE;
+    if place < bytes.len() {
+        bytes[place] = byte;
+    }
+    refusal(alloc, &bytes) == Some(fault)
+}
+
 #[test]
 fn refuses_changed_bytes(rt: HostRuntime) {
-    for (place, byte, fault) in CHANGES {
-        let mut bytes = MESSAGE;
-        if place < bytes.len() {
-            bytes[place] = byte;
-        }
-        let refused = read(rt.alloc(), RUN, &bytes).err();
-        assert_eq!(rt; refused, Some(ParcelFault::Wire(fault)));
+    for (number, change) in CHANGES.iter().enumerate() {
+        assert!(rt; refuses_change(rt.alloc(), *change), "change {number}");
     }
 }
 
 #[test]
 fn refuses_what_is_too_short(rt: HostRuntime) {
     for len in 0..MESSAGE.len() {
-        let refused = read(rt.alloc(), RUN, &MESSAGE[..len]).err();
-        assert_eq!(rt; refused, Some(ParcelFault::Wire(WireFault::Short)));
+        assert!(rt;
+            refusal(rt.alloc(), &MESSAGE[..len]) == Some(WireFault::Short),
+            "of {len}"
+        );
     }
+}
+
+/// The answer with another byte as its last.
+fn with_flag(alloc: Global) -> Option<WireFault> {
+    let mut flagged = ANSWER;
+    flagged[51] = 2;
+    refusal(alloc, &flagged)
 }
 
 #[test]
 fn refuses_lists_out_of_order(rt: HostRuntime) {
-    let twice = read(rt.alloc(), RUN, &TWICE).err();
-    assert_eq!(rt; twice, Some(ParcelFault::Wire(WireFault::Unsorted)));
-    let mut flagged = ANSWER;
-    flagged[51] = 2;
-    let refused = read(rt.alloc(), RUN, &flagged).err();
-    assert_eq!(rt; refused, Some(ParcelFault::Wire(WireFault::Flag)));
+    assert!(rt; refusal(rt.alloc(), &TWICE) == Some(WireFault::Unsorted));
+    assert!(rt; with_flag(rt.alloc()) == Some(WireFault::Flag));
 }
