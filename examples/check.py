@@ -120,7 +120,7 @@ def wrong_reasons():
     return len(told), wrong
 
 
-# Where things stand in the picture, by the layout (crates/causal_picture/specs/Layout.antt): the first process at 92 and each 40 below
+# Where things stand in the picture, by the layout (crates/causal_picture/src/layout.rt): the first process at 92 and each 40 below
 # the one before it, from 80 to 230, and its shade from edge to edge; the first entry at 110 and each 30 to the right of the one before
 # it; the instant in the middle after the fourth, down to 92 + 3 * 40. At the right end of its line each process is named, and a band goes
 # from the delivery that process 1 logged to the instant.

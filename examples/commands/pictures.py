@@ -1,4 +1,5 @@
 """Traces, and what the pictures that `draw` prints show of them."""
+import hashlib
 import re
 
 from pictures import marks, processes
@@ -216,6 +217,33 @@ def around_rows():
         yield given(f"no such picture: {words}", f"draw --faults 1 {words}", texts.RING_TEXT, 3, "")
 
 
+# Whole pictures, byte for byte, as checksums: the words, colours and places that no contract of a picture contains. The checksums are of
+# pictures of which these were proved. Some have each glyph, an arrow to another process or the same, entries hidden before, between and
+# after, hidden processes, narrow columns or rows, and each verdict.
+TO_ITSELF = trace(1, 2, send(0, 0, 0), deliver(0, 0, 0, [0, 0, 0, 0]))
+WHOLE = [
+    ("each kind of event", "1", texts.TALLY_FORGETTING, 0, "1951c33ebb813867"),
+    ("a message to itself", "0", TO_ITSELF, 0, "42ffaf2ee6e71e73"),
+    ("a repeated message", "1", REPEATED, 1, "2bf5a84622319896"),
+    ("a lost determinant", "1", LOST, 1, "2117dfb8234ea587"),
+    ("a lost determinant alone", "1 --only breach", LOST, 1, "11d5348268e65e66"),
+    ("an excess", "1", texts.RING_CRASHED, 1, "77cecad52ac5c4f4"),
+    ("an excess in a long run", "0", exceeded_at(230), 1, "14ebc38dcda325ba"),
+    ("an early chain in a long run", "1", orphaned_by(4, 100), 1, "e28ca66e1d9f5c49"),
+    ("the middle of a long run", "1 --around 150", orphaned_by(100), 1, "c8d4c5569ca52a97"),
+    ("many processes", "1", trace(1, 60, CHAIN, deliver(2, 2, 0, B)), 1, "98b9c3377b43687a"),
+]
+
+
+def checksum(printed):
+    return hashlib.sha256(printed).hexdigest()[:16]
+
+
+def whole_rows():
+    for name, words, text, status, wanted in WHOLE:
+        yield given(f"whole: {name}", f"draw --faults {words}", text, status, wanted, seen=checksum)
+
+
 def rows():
     for name, text, f, lines in DRAWN:
         status = 0 if "accept" in lines else 1
@@ -232,3 +260,4 @@ def rows():
     yield from longer_rows()
     yield from only_rows()
     yield from around_rows()
+    yield from whole_rows()

@@ -1,60 +1,86 @@
--- The SVG text of a whole picture.
-use Rattle.std.specs.Prelude.{ℕ, ◌+◌, List, [], ◌++◌, codes, flat_map, length, Option, Some, None}
-use Rattle.std.specs.Ordering.{nat_cmp}
-use Rattle.std.specs.FinSet.{FinSet, contains, empty}
-use Rattle.causal_holders.specs.Members.{ascending}
+-- The SVG text of a picture: an element for each part of the drawing, in its order.
+use Rattle.std.specs.Prelude.{◌≡◌, ℕ, ◌+◌, ◌==◌, false, List, [], ◌∷◌, ◌++◌, codes, decimal, Option, Some, None}
+use Rattle.std.specs.List.{list_any}
+use Rattle.std.specs.Option.{option_map_or}
 use Rattle.causal_trace.specs.Rows.{Recording}
 use Rattle.causal_picture.specs.declared.focus.Focus.{Focus}
-use Rattle.causal_picture.specs.declared.entry_range.Grid.{Grid}
-use Rattle.causal_picture.specs.Captions.{caption_text}
-use Rattle.causal_picture.specs.Frames.{head_text, row_text, cuts_text, others_text}
-use Rattle.causal_picture.specs.Layout.{bottom_of}
-use Rattle.causal_picture.specs.Legends.{legend_text}
-use Rattle.causal_picture.specs.Overlays.{points_of, bands_text, shown_chain, instant_text}
-use Rattle.causal_picture.specs.Panels.{early_text, late_text}
-use Rattle.causal_picture.specs.EntryRanges.{grid_around, instant_of}
-use Rattle.causal_picture.specs.Rows.{rows_of}
+use Rattle.causal_picture.specs.declared.part.Part.{Part}
+use Rattle.causal_picture.specs.declared.part.Part.TheVariants.{Row, Up, Event, Held, Chain, Instant, HiddenEntries, HiddenProcesses}
 use Rattle.causal_picture.specs.declared.selection.Selection.{Selection}
+use Rattle.causal_picture.specs.Drawings.{drawing}
 
--- the row of one process, shaded if it is in the crash set
-abbrev pub shaded_row : Grid → FinSet nat_cmp → ℕ → List ℕ
-shaded_row g crash p = row_text g p (contains crash p)
+-- the line of the trace's text for the entry at a position; lines count from 1, and line 1 is the header
+abbrev pub line_at : ℕ → ℕ
+line_at position = position + 2
 
--- the rows of the shown processes
-unfoldable pub rows_text : Grid → FinSet nat_cmp → List ℕ
-rows_text g crash = flat_map (shaded_row g crash) (ascending g.shown)
+-- the start of the title of the entry at a position
+abbrev pub line_title : ℕ → List ℕ
+line_title position = codes "line " ++ decimal (line_at position)
 
--- the crash set of a focus
-abbrev pub focus_crash : Option Focus → FinSet nat_cmp
-focus_crash None = empty
-focus_crash (Some f) = f.crash
+-- the start of a part's title: what it is, and of which process, line or instant, or how many are hidden
+abbrev pub title_of : Part → List ℕ
+title_of (Row p is_shaded) = codes "process " ++ decimal p
+title_of (Up p is_late to) = codes "process " ++ decimal p
+title_of (Event mark is_faint link) = line_title mark.position
+title_of (Held p from to instant) = []
+title_of Chain = codes "chain"
+title_of (Instant instant) = codes "instant " ++ decimal instant
+title_of (HiddenEntries side count) = decimal count ++ codes " entries"
+title_of (HiddenProcesses count) = decimal count ++ codes " processes"
 
--- the bands, the chain and the instant of a focus
-unfoldable pub focus_text : Recording → Grid → Focus → List ℕ
-focus_text r g f =
-    bands_text g (instant_of (length r.past) f) f.bands.now
-    ++ (shown_chain (points_of r.past g f.chain.now) ++ instant_text g (instant_of (length r.past) f) f.orphan)
+-- the start of a group with these attributes, whose title begins with these words
+abbrev pub opening_text : List ℕ → List ℕ → List ℕ
+opening_text attributes title = codes "<g" ++ (attributes ++ (codes "><title>" ++ title))
 
--- the bands, the chain and the instant of a focus, if there is one
-abbrev pub any_focus_text : Recording → Grid → Option Focus → List ℕ
-any_focus_text r g None = []
-any_focus_text r g (Some f) = focus_text r g f
+-- the start of a group whose title begins with these words; no attribute has a `<`
+abbrev pub IsOpening : List ℕ → List ℕ → Type 0
+IsOpening title text = (attributes : List ℕ) × (list_any (λ byte. byte == 60) attributes ≡ false) × (text ≡ opening_text attributes title)
 
--- the drawing of the run: its processes' rows, then its events over them
-unfoldable pub run_text : Recording → Grid → FinSet nat_cmp → List ℕ
-run_text r g crash = rows_text g crash ++ (early_text r g ++ late_text r g)
+-- a group whose title begins with these words
+abbrev pub IsGroup : List ℕ → List ℕ → Type 0
+IsGroup title text = (opening : List ℕ) × (inside : List ℕ) × IsOpening title opening × (text ≡ opening ++ (inside ++ codes "</g>\n"))
 
--- the marks for hidden entries and processes, the caption, the legend, and the end of the text
-unfoldable pub close_text : Grid → ℕ → ℕ → Option Focus → List ℕ
-close_text g entries faults focus =
-    cuts_text g entries ++ (others_text g ++ (caption_text faults focus
-    ++ (legend_text (bottom_of (rows_of g) + 38) (bottom_of (rows_of g) + 62) ++ codes "</svg>\n")))
+-- a path
+abbrev pub IsPath : List ℕ → Type 0
+IsPath text = (rest : List ℕ) × (text ≡ codes "<path d='M" ++ rest)
 
--- the picture of a recorded run on this grid
-abbrev pub picture_at : Recording → ℕ → Option Focus → Grid → List ℕ
-picture_at r faults focus g =
-    head_text g (length r.past) ++ (run_text r g (focus_crash focus) ++ (any_focus_text r g focus ++ close_text g (length r.past) faults focus))
+-- the element of a part: a path for a band, a group with its title for each other part
+abbrev pub IsElement : Part → List ℕ → Type 0
+IsElement (Held p from to instant) text = IsPath text
+IsElement part text = IsGroup (title_of part) text
 
--- the picture of a recorded run: the head, the run, the focus over it, and the caption and legend
-unfoldable pub picture : Recording → ℕ → Option Focus → Selection → List ℕ
-picture r faults focus s = picture_at r faults focus (grid_around r focus s)
+-- an element for each part, in order
+abbrev pub AreElements : List Part → List ℕ → Type 0
+AreElements [] text = text ≡ []
+AreElements (part ∷ parts) text = (first : List ℕ) × (rest : List ℕ) × IsElement part first × AreElements parts rest × (text ≡ first ++ rest)
+
+-- the start of the root element
+abbrev pub IsHead : List ℕ → Type 0
+IsHead text = (rest : List ℕ) × (text ≡ codes "<svg xmlns='http://www.w3.org/2000/svg'" ++ rest)
+
+-- the word of a verdict: of an orphan, of too many down processes, or without a focus of a safe run
+abbrev pub verdict_word : Option Focus → List ℕ
+verdict_word None = codes "accept"
+verdict_word (Some f) = option_map_or (λ orphan. codes "orphan") f.orphan (codes "exceeded")
+
+-- the verdict with its bound f
+abbrev pub verdict_text : ℕ → Option Focus → List ℕ
+verdict_text faults focus = verdict_word focus ++ (codes " f=" ++ decimal faults)
+
+-- the end of the root element, with the verdict
+abbrev pub IsFoot : ℕ → Option Focus → List ℕ → Type 0
+IsFoot faults focus text = (before : List ℕ) × (between : List ℕ) × (text ≡ before ++ (verdict_text faults focus ++ (between ++ codes "</svg>\n")))
+
+-- the root element, with an element for each part after its head, and then the verdict
+pub record HasElements (faults : ℕ) (focus : Option Focus) (parts : List Part) (text : List ℕ) : Type 0 where
+  pub head : List ℕ
+  pub body : List ℕ
+  pub foot : List ℕ
+  pub starts : IsHead head
+  pub each : AreElements parts body
+  pub ends : IsFoot faults focus foot
+  pub whole : text ≡ head ++ (body ++ foot)
+
+-- the picture of the selected part of a recorded run, audited for f, with a focus
+abbrev pub IsPicture : Recording → ℕ → Option Focus → Selection → List ℕ → Type 0
+IsPicture r faults focus s text = HasElements faults focus (drawing r focus s) text

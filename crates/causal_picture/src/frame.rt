@@ -1,27 +1,23 @@
 //! The parts around the events: the head, the processes' rows, the marks for hidden entries.
-ghost use Rattle.std.specs.Prelude.{◌≤◌, ◌<◌, ◌+◌, ◌^◌};
-ghost use Rattle.std.specs.FinSet.{contains};
-ghost use Rattle.causal_picture.specs.Appends.{Appends};
-ghost use Rattle.causal_picture.specs.Frames as frames;
-ghost use Rattle.causal_picture.specs.EntryRanges as stretches;
-ghost use Rattle.causal_picture.specs.Layout.{column_count};
-ghost use Rattle.causal_picture.specs.Titles.{line_at};
+ghost use Rattle.std.specs.Prelude.{◌<◌};
+ghost use Rattle.causal_picture.specs.Pictures.{IsHead};
+ghost use Rattle.causal_picture.specs.Writes.{Extends, Writes};
 
 use crate::entry_range::Grid;
-use crate::glyphs::{Label, push_label, push_level, push_upright};
+use crate::glyphs::{Label, push_label, push_level, push_up, push_upright};
 use crate::layout::{
-    bottom_of, column_count, height_of, right_of, row_height, width_of, x_of_instant, y_of,
+    bottom_of, column_count, height_of, line_end, range_left, right_of, row_height, width_of,
+    x_of_instant, y_of,
 };
+use crate::part::{End, Side};
 use crate::rows::{hidden_of, rows_of};
 use crate::titles::line_at;
 use crate::words::push_words;
-use causal_holders::Holders;
 use std::alloc::AllocError;
 
 /// Appends the number of shown processes: `All 3`, `2 of 3`.
-#[tactic(auto, unfolding(crate::specs::Frames::shown_count_text))]
 fn push_count(out: &mut String, grid: &Grid) -> Result<(), AllocError>
-    ensures { Appends result out.old out.new (frames.shown_count_text grid.now) }
+    ensures { Extends result out.old out.new }
 {
     let (rows, processes) = (rows_of(grid), grid.processes);
     if hidden_of(grid) == 0 {
@@ -32,10 +28,8 @@ fn push_count(out: &mut String, grid: &Grid) -> Result<(), AllocError>
 }
 
 /// Appends the numbers of shown entries and of all.
-#[tactic(auto, unfolding(crate::specs::Frames::description_text))]
 fn push_description(out: &mut String, grid: &Grid, entries: u32) -> Result<(), AllocError>
-    ensures { Appends result out.old out.new (frames.description_text (column_count grid.now) entries
-        (line_at grid.now.early.first)) }
+    ensures { Extends result out.old out.new }
 {
     let (count, line) = (column_count(grid), line_at(grid.early.first));
     write!(
@@ -47,14 +41,21 @@ fn push_description(out: &mut String, grid: &Grid, entries: u32) -> Result<(), A
 /// Appends the head of the picture: its title and description; a white background; and the arrow head, whose tip is
 /// before the end of the arrow's line, outside the delivery's dot. The only variable parts in this file are numbers, so
 /// nothing needs escaping.
-#[tactic(auto, unfolding(crate::specs::Frames::head_text))]
 pub fn push_head(out: &mut String, grid: &Grid, entries: u32) -> Result<(), AllocError>
-    ensures { Appends result out.old out.new (frames.head_text grid.now entries) }
+    ensures { Writes result out.old out.new IsHead }
+{
+    push_words(out, "<svg xmlns='http://www.w3.org/2000/svg'")?;
+    push_start(out, grid, entries)
+}
+
+/// Appends the rest of the head.
+fn push_start(out: &mut String, grid: &Grid, entries: u32) -> Result<(), AllocError>
+    ensures { Extends result out.old out.new }
 {
     let (width, height) = (width_of(grid), height_of(rows_of(grid)));
     write!(
         out,
-        "<svg xmlns='http://www.w3.org/2000/svg' version='1.1' role='img' width='{width}' height='{height}' viewBox='0 0 {width} {height}' font-family='sans-serif' font-size='12'>\n\
+        " version='1.1' role='img' width='{width}' height='{height}' viewBox='0 0 {width} {height}' font-family='sans-serif' font-size='12'>\n\
          <title>Space-time diagram of a recorded run</title>\n"
     )?;
     push_count(out, grid)?;
@@ -67,7 +68,7 @@ pub fn push_head(out: &mut String, grid: &Grid, entries: u32) -> Result<(), Allo
 
 /// Appends the shade behind the line of a process in the crash set.
 fn push_shade(out: &mut String, grid: &Grid, process: u8, is_shaded: bool) -> Result<(), AllocError>
-    ensures { Appends result out.old out.new (frames.shade_text grid.now process is_shaded) }
+    ensures { Extends result out.old out.new }
 {
     if !is_shaded {
         return Ok(());
@@ -83,18 +84,10 @@ fn push_shade(out: &mut String, grid: &Grid, process: u8, is_shaded: bool) -> Re
     )
 }
 
-/// Appends the start of a process's group.
-#[tactic(auto, unfolding(crate::specs::Frames::process_title))]
-pub fn push_process_title(out: &mut String, process: u8) -> Result<(), AllocError>
-    ensures { Appends result out.old out.new (frames.process_title process) }
-{
-    write!(out, "<g><title>process {process}</title>\n")
-}
-
 /// Appends the name of a process above its line, unless the line ends near it or before it.
 fn push_repeated_name(out: &mut String, grid: &Grid, process: u8, x: u64) -> Result<(), AllocError>
     requires { x < 2000 }
-    ensures { Appends result out.old out.new (frames.repeated_name grid.now process x) }
+    ensures { Extends result out.old out.new }
 {
     if x + 30 >= right_of(grid) {
         return Ok(());
@@ -104,9 +97,8 @@ fn push_repeated_name(out: &mut String, grid: &Grid, process: u8, x: u64) -> Res
 }
 
 /// Appends the name of a process at the left end of its line, and repeats it at intervals.
-#[tactic(auto, unfolding(crate::specs::Frames::names_text))]
 fn push_names(out: &mut String, grid: &Grid, process: u8) -> Result<(), AllocError>
-    ensures { Appends result out.old out.new (frames.names_text grid.now process) }
+    ensures { Extends result out.old out.new }
 {
     let y = y_of(grid, process);
     push_label(out, 72, y, Label::Name, u64::from(process))?;
@@ -115,20 +107,18 @@ fn push_names(out: &mut String, grid: &Grid, process: u8) -> Result<(), AllocErr
     push_repeated_name(out, grid, process, 1880)
 }
 
-/// Appends the row of a process: its shade if it is in the crash set, its dotted line, and its names. While the process
-/// is up, a solid line is drawn over the dotted one.
-#[tactic(auto, unfolding(crate::specs::Frames::row_text))]
+/// Appends the rest of the group of a process's row: its shade if it is in the crash set, its dotted line, and its names.
+/// While the process is up, a solid line is drawn over the dotted one.
 pub fn push_row(
     out: &mut String,
     grid: &Grid,
-    crash: Holders,
     process: u8,
+    is_shaded: bool,
 ) -> Result<(), AllocError>
-    ensures { Appends result out.old out.new
-        (frames.row_text grid.now process (contains crash process)) }
+    ensures { Extends result out.old out.new }
 {
-    push_process_title(out, process)?;
-    push_shade(out, grid, process, crash.contains(process))?;
+    push_words(out, "</title>\n")?;
+    push_shade(out, grid, process, is_shaded)?;
     push_level(
         out,
         80,
@@ -136,101 +126,71 @@ pub fn push_row(
         y_of(grid, process),
         "stroke='#999' stroke-dasharray='1 5'",
     )?;
-    push_names(out, grid, process)?;
-    push_words(out, "</g>\n")
+    push_names(out, grid, process)
 }
 
-#[tactic(auto, unfolding(crate::specs::Frames::cut_title))]
-fn push_cut_title(out: &mut String, hidden: u32, side: &str) -> Result<(), AllocError>
-    ensures { Appends result out.old out.new (frames.cut_title hidden side.now) }
-{
-    write!(
-        out,
-        "<g><title>{hidden} entries {side} are not shown</title>\n"
-    )
-}
-
-/// Appends a mark for hidden entries, if there are any: a dotted line, and below it, under the label of an instant, their
-/// number.
-#[tactic(auto, unfolding(crate::specs::Frames::cut_mark))]
-fn push_cut(
+/// Appends the rest of the group of the line of a process that is up where a range begins.
+pub fn push_up_line(
     out: &mut String,
-    hidden: u32,
-    side: &str,
-    x: u64,
-    anchor: &str,
-    bottom: u32,
+    grid: &Grid,
+    process: u8,
+    is_late: bool,
+    to: End,
 ) -> Result<(), AllocError>
-    requires { bottom < 2 ^ 22 }
-    ensures { Appends result out.old out.new (frames.cut_text hidden side.now x anchor.now bottom) }
+    ensures { Extends result out.old out.new }
 {
-    if hidden == 0 {
-        return Ok(());
-    }
-    push_cut_title(out, hidden, side)?;
-    push_upright(out, x, bottom, "stroke='#555' stroke-dasharray='2 4'")?;
-    let below = bottom + 27;
-    write!(
+    let range = if is_late { grid.late } else { grid.early };
+    push_words(out, "</title>\n")?;
+    push_up(
         out,
-        "<text x='{x}' y='{below}' text-anchor='{anchor}' fill='#555'>{hidden} entries {side}</text>\n</g>\n"
+        range_left(grid, is_late),
+        line_end(grid, range.first, to),
+        y_of(grid, process),
     )
 }
 
-/// Appends the marks for hidden entries: before the shown entries, between the ranges and after them.
-#[tactic(auto, unfolding(crate::specs::Frames::cuts_text))]
-pub fn push_cuts(out: &mut String, grid: &Grid, entries: u32) -> Result<(), AllocError>
-    requires { stretches.GridFits entries grid.now }
-    ensures { Appends result out.old out.new (frames.cuts_text grid.now entries) }
+/// The words of a side, and how the label of a cut there is aligned.
+fn side_words(side: Side) -> (&'static str, &'static str) {
+    match side {
+        Side::Before => ("before", "start"),
+        Side::Between => ("between", "middle"),
+        Side::After => ("after", "end"),
+    }
+}
+
+/// The instant of a cut.
+fn cut_instant(grid: &Grid, side: Side) -> u32 {
+    match side {
+        Side::Before => grid.early.first,
+        Side::Between => grid.late.first,
+        Side::After => grid.late.first.saturating_add(grid.late.count),
+    }
+}
+
+/// Appends the rest of the group of a number of hidden entries: a dotted line, and below it, under the label of an instant,
+/// their number.
+pub fn push_cut(out: &mut String, grid: &Grid, side: Side, hidden: u32) -> Result<(), AllocError>
+    ensures { Extends result out.old out.new }
 {
-    let (early, late) = (grid.early, grid.late);
-    let between = late.first - (early.first + early.count);
-    let after = entries - (late.first + late.count);
+    let x = x_of_instant(grid, cut_instant(grid, side));
     let bottom = bottom_of(rows_of(grid));
-    push_cut(
+    let below = bottom + 27;
+    let (words, anchor) = side_words(side);
+    write!(out, " {words} are not shown</title>\n")?;
+    push_upright(out, x, bottom, "stroke='#555' stroke-dasharray='2 4'")?;
+    write!(
         out,
-        early.first,
-        "before",
-        x_of_instant(grid, early.first),
-        "start",
-        bottom,
-    )?;
-    push_cut(
-        out,
-        between,
-        "between",
-        x_of_instant(grid, late.first),
-        "middle",
-        bottom,
-    )?;
-    push_cut(
-        out,
-        after,
-        "after",
-        x_of_instant(grid, late.first + late.count),
-        "end",
-        bottom,
+        "<text x='{x}' y='{below}' text-anchor='{anchor}' fill='#555'>{hidden} entries {words}</text>\n"
     )
 }
 
-/// Appends the number of hidden processes below the names, if there are any.
-#[tactic(auto, unfolding(crate::specs::Frames::others_text))]
-pub fn push_others(out: &mut String, grid: &Grid) -> Result<(), AllocError>
-    ensures { Appends result out.old out.new (frames.others_text grid.now) }
+/// Appends the rest of the group of a number of hidden processes, below the names.
+pub fn push_hidden(out: &mut String, grid: &Grid, hidden: u16) -> Result<(), AllocError>
+    ensures { Extends result out.old out.new }
 {
-    let hidden = hidden_of(grid);
-    if hidden == 0 {
-        return Ok(());
-    }
-    push_hidden(out, hidden, bottom_of(rows_of(grid)) + 27)
-}
-
-/// Appends a number of hidden processes.
-#[tactic(auto, unfolding(crate::specs::Frames::hidden_text))]
-fn push_hidden(out: &mut String, hidden: u16, y: u32) -> Result<(), AllocError>
-    ensures { Appends result out.old out.new (frames.hidden_text hidden y) }
-{
+    let y = bottom_of(rows_of(grid)) + 27;
     write!(
         out,
-        "<g><title>{hidden} processes are not shown</title>\n<text x='72' y='{y}' text-anchor='end' fill='#555'>{hidden} hidden</text>\n</g>\n"
+        " are not shown</title>\n<text x='72' y='{y}' text-anchor='end' fill='#555'>{hidden} hidden</text>\n"
     )
 }

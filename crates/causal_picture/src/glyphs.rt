@@ -1,9 +1,8 @@
 //! Glyphs, lines and labels. Text and attributes contain only numbers and the words of this file, so nothing needs
 //! escaping. Attributes are in single quotes.
-ghost use Rattle.std.specs.Prelude.{◌≡◌, ◌≤◌};
-ghost use Rattle.causal_picture.specs.Appends.{Appends};
-ghost use Rattle.causal_picture.specs.Labels as labels;
-ghost use Rattle.causal_picture.specs.Glyphs as shapes;
+ghost use Rattle.std.specs.Prelude.{◌≤◌};
+ghost use Rattle.causal_picture.specs.Pictures.{IsPath};
+ghost use Rattle.causal_picture.specs.Writes.{Extends, Writes};
 
 use crate::marks::MarkEvent;
 use std::alloc::AllocError;
@@ -27,9 +26,7 @@ pub enum Glyph {
 
 impl Glyph {
     /// How it is drawn around the origin, as the attributes of a path.
-    fn attributes(self) -> &'static str
-        ensures { result.now ≡ shapes.attributes_of self }
-    {
+    fn attributes(self) -> &'static str {
         match self {
             Glyph::OpenDot => {
                 "d='M-4.5 0a4.5 4.5 0 1 0 9 0a4.5 4.5 0 1 0-9 0z' fill='white' stroke='#222' stroke-width='1.5'"
@@ -57,9 +54,7 @@ impl Glyph {
 
 /// The glyph of an event: an open dot for a send, a full one for a delivery, a square for a stable determinant, a cross
 /// for a crash, a ring for a restart, a triangle for a forget.
-pub fn glyph_of(event: &MarkEvent) -> Glyph
-    ensures { result ≡ shapes.glyph_of event.now }
-{
+pub fn glyph_of(event: &MarkEvent) -> Glyph {
     match event {
         MarkEvent::Send { .. } => Glyph::OpenDot,
         MarkEvent::Delivery { .. } => Glyph::Dot,
@@ -71,16 +66,14 @@ pub fn glyph_of(event: &MarkEvent) -> Glyph
 }
 
 /// Appends a glyph at a point.
-#[tactic(auto, unfolding(crate::specs::Glyphs::glyph_text))]
 pub fn push_glyph(out: &mut String, x: u64, y: u32, shape: Glyph) -> Result<(), AllocError>
-    ensures { Appends result out.old out.new (shapes.glyph_text x y shape) }
+    ensures { Extends result out.old out.new }
 {
     let attributes = shape.attributes();
     write!(out, "<path transform='translate({x},{y})' {attributes}/>\n")
 }
 
 /// Appends a horizontal line.
-#[tactic(auto, unfolding(crate::specs::Glyphs::level_text))]
 pub fn push_level(
     out: &mut String,
     from: u64,
@@ -88,21 +81,26 @@ pub fn push_level(
     y: u32,
     stroke: &str,
 ) -> Result<(), AllocError>
-    ensures { Appends result out.old out.new (shapes.level_text from to y stroke.now) }
+    ensures { Writes result out.old out.new IsPath }
 {
     write!(out, "<path d='M{from} {y}H{to}' fill='none' {stroke}/>\n")
 }
 
+/// Appends the line of a process that is up.
+pub fn push_up(out: &mut String, from: u64, to: u64, y: u32) -> Result<(), AllocError>
+    ensures { Extends result out.old out.new }
+{
+    push_level(out, from, to, y, "stroke='#222' stroke-width='1.5'")
+}
+
 /// Appends a vertical line, from above the processes' lines to the bottom.
-#[tactic(auto, unfolding(crate::specs::Glyphs::upright_text))]
 pub fn push_upright(out: &mut String, x: u64, bottom: u32, stroke: &str) -> Result<(), AllocError>
-    ensures { Appends result out.old out.new (shapes.upright_text x bottom stroke.now) }
+    ensures { Extends result out.old out.new }
 {
     write!(out, "<path d='M{x} 70V{bottom}' fill='none' {stroke}/>\n")
 }
 
 /// Appends an arrow from one process's line to another's.
-#[tactic(auto, unfolding(crate::specs::Glyphs::straight_text))]
 pub fn push_straight(
     out: &mut String,
     from_x: u64,
@@ -110,7 +108,7 @@ pub fn push_straight(
     to_x: u64,
     to_y: u32,
 ) -> Result<(), AllocError>
-    ensures { Appends result out.old out.new (shapes.straight_text from_x from_y to_x to_y) }
+    ensures { Extends result out.old out.new }
 {
     write!(
         out,
@@ -119,10 +117,9 @@ pub fn push_straight(
 }
 
 /// Appends an arrow from a process's line to itself, bent upwards.
-#[tactic(auto, unfolding(crate::specs::Glyphs::bent_text))]
 pub fn push_bent(out: &mut String, from_x: u64, to_x: u64, y: u32) -> Result<(), AllocError>
     requires { 30 ≤ y }
-    ensures { Appends result out.old out.new (shapes.bent_text from_x to_x y) }
+    ensures { Extends result out.old out.new }
 {
     let middle = from_x.midpoint(to_x);
     let above = y - 30;
@@ -146,9 +143,7 @@ pub enum Label {
 
 impl Label {
     /// The style of the label, and its words before the number.
-    fn opening(self) -> &'static str
-        ensures { result.now ≡ labels.label_opening self }
-    {
+    fn opening(self) -> &'static str {
         match self {
             Label::Name => "dy='4' text-anchor='end' fill='#222'>process ",
             Label::NameAgain => {
@@ -161,7 +156,6 @@ impl Label {
 }
 
 /// Appends a label at a point.
-#[tactic(auto, unfolding(crate::specs::Labels::label_text))]
 pub fn push_label(
     out: &mut String,
     x: u64,
@@ -169,7 +163,7 @@ pub fn push_label(
     label: Label,
     number: u64,
 ) -> Result<(), AllocError>
-    ensures { Appends result out.old out.new (labels.label_text x y label number) }
+    ensures { Extends result out.old out.new }
 {
     let opening = label.opening();
     write!(out, "<text x='{x}' y='{y}' {opening}{number}</text>\n")

@@ -4,6 +4,7 @@ ghost use Rattle.causal_picture.specs.Layout as layout;
 ghost use Rattle.causal_picture.specs.EntryRanges as stretches;
 
 use crate::entry_range::{EntryRange, Grid};
+use crate::part::End;
 use crate::rows::{rank_of, rows_of};
 
 /// The left end of the processes' lines.
@@ -26,14 +27,6 @@ const LOWEST_ROW: u32 = 16;
 /// The maximum height of all rows, unless the minimum distance exceeds it.
 const ALL_ROWS: u32 = 560;
 
-/// A part of the picture with consecutive entries: their range, and the left and right ends of its lines.
-#[derive(Clone, Copy)]
-pub struct Panel {
-    pub range: EntryRange,
-    pub left: u64,
-    pub right: u64,
-}
-
 /// Returns whether a position is in a range.
 fn is_within(range: EntryRange, position: u32) -> bool
     ensures { result ≡ stretches.is_within range position }
@@ -50,7 +43,6 @@ pub fn is_shown(grid: &Grid, position: u32) -> bool
 
 /// The number of entries of a range before a position.
 fn count_before(range: EntryRange, position: u32) -> u64
-    ensures value { result ≡ layout.count_before range position }
     ensures small { result < 2 ^ 32 }
 {
     u64::from(position.saturating_sub(range.first).min(range.count))
@@ -58,7 +50,6 @@ fn count_before(range: EntryRange, position: u32) -> u64
 
 /// The number of shown entries before a position.
 fn columns_before(grid: &Grid, position: u32) -> u64
-    ensures value { result ≡ layout.columns_before grid.now position }
     ensures small { result < 2 ^ 33 }
 {
     count_before(grid.early, position) + count_before(grid.late, position)
@@ -83,7 +74,6 @@ pub fn column_width(grid: &Grid) -> u64
 /// The x of an instant: halfway between the entries before and after it.
 #[tactic(auto, using(crate::proofs::Sizes::columns_small))]
 pub fn x_of_instant(grid: &Grid, instant: u32) -> u64
-    ensures value { result ≡ layout.x_of_instant grid.now instant }
     ensures small { result < 2 ^ 39 }
 {
     let column = column_width(grid);
@@ -93,7 +83,6 @@ pub fn x_of_instant(grid: &Grid, instant: u32) -> u64
 /// The x of the entry at a position; for a hidden entry, the x of the cut.
 #[tactic(auto, using(crate::proofs::Sizes::columns_small))]
 pub fn x_of(grid: &Grid, position: u32) -> u64
-    ensures value { result ≡ layout.x_of grid.now position }
     ensures small { result < 2 ^ 39 }
 {
     if is_shown(grid, position) {
@@ -106,7 +95,6 @@ pub fn x_of(grid: &Grid, position: u32) -> u64
 /// The right end of the processes' lines.
 #[tactic(auto, using(crate::proofs::Sizes::columns_fit))]
 pub fn right_of(grid: &Grid) -> u64
-    ensures value { result ≡ layout.right_of grid.now }
     ensures narrow { result ≤ 2280 }
 {
     LEFT + column_width(grid) * (column_count(grid) + 1)
@@ -114,36 +102,27 @@ pub fn right_of(grid: &Grid) -> u64
 
 /// The width of the picture: as its lines or its words require.
 pub fn width_of(grid: &Grid) -> u64
-    ensures value { result ≡ layout.width_of grid.now }
     ensures narrow { result ≤ 2400 }
 {
     (right_of(grid) + 120).max(600)
 }
 
-/// The entries up to the cut, or all if there is none.
-pub fn early_panel(grid: &Grid) -> Panel
-    ensures { result ≡ layout.early_panel grid.now }
-{
-    let right = if grid.late.count == 0 {
-        right_of(grid)
-    } else {
+/// The left end of the lines of a range.
+pub fn range_left(grid: &Grid, is_late: bool) -> u64 {
+    if is_late {
         x_of_instant(grid, grid.late.first)
-    };
-    Panel {
-        range: grid.early,
-        left: LEFT,
-        right,
+    } else {
+        LEFT
     }
 }
 
-/// The entries from the cut on.
-pub fn late_panel(grid: &Grid) -> Panel
-    ensures { result ≡ layout.late_panel grid.now }
-{
-    Panel {
-        range: grid.late,
-        left: x_of_instant(grid, grid.late.first),
-        right: right_of(grid),
+/// The right end of the line of a process from the entry at a position on: at its next crash, or at the end of the range
+/// of the entry.
+pub fn line_end(grid: &Grid, position: u32, to: End) -> u64 {
+    match to {
+        End::Entry { position: crash } => x_of(grid, crash),
+        End::Open if grid.late.count == 0 || is_within(grid.late, position) => right_of(grid),
+        End::Open => x_of_instant(grid, grid.late.first),
     }
 }
 
@@ -159,7 +138,6 @@ pub fn row_height(rows: u16) -> u32
 /// The y of a process's line; of a hidden process, that of the next shown one.
 #[tactic(auto, using(crate::proofs::Sizes::rows_small))]
 pub fn y_of(grid: &Grid, process: u8) -> u32
-    ensures value { result ≡ layout.y_of grid.now process }
     ensures below { 92 ≤ result }
 {
     TOP + row_height(rows_of(grid)) * u32::from(rank_of(grid.shown, process))
@@ -177,7 +155,6 @@ pub fn bottom_of(rows: u16) -> u32
 /// The height of the picture; at most 740 for up to 20 rows.
 #[tactic(auto, using(crate::proofs::Sizes::rows_fit))]
 pub fn height_of(rows: u16) -> u32
-    ensures value { result ≡ layout.height_of rows }
     ensures low { rows ≤ 20 → result ≤ 740 }
 {
     bottom_of(rows) + 80

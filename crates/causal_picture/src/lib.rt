@@ -8,6 +8,12 @@
 mod caption;
 /// The processes that are down at the start of a range.
 mod down;
+/// What a picture shows, as a list of parts.
+pub mod drawing;
+/// The element of each part.
+mod element;
+/// The SVG text of an event.
+mod event;
 /// What is shown besides the run: an instant, a crash set, a chain, an orphan.
 pub mod focus;
 /// The parts around the marks.
@@ -16,14 +22,12 @@ mod frame;
 mod layout;
 /// The legend below the picture.
 mod legend;
-/// The SVG text of a mark: its glyph, its title, its arrow.
-mod mark_text;
 /// The events of the shown entries.
 pub mod marks;
-/// The parts over the marks.
+/// The parts over the events.
 mod overlay;
-/// The lines and marks of consecutive entries.
-mod panel;
+/// The parts of a picture.
+pub mod part;
 /// The whole text of a picture.
 pub mod picture;
 /// Messages that are sent again.

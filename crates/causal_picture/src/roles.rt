@@ -1,10 +1,10 @@
 //! The processes at the instant: a glyph for the orphan and for each holder, and each name again at the end of its line.
 ghost use Rattle.std.specs.Prelude.{◌≡◌, ◌<◌};
-ghost use Rattle.causal_picture.specs.Appends.{Appends};
+ghost use Rattle.causal_picture.specs.Writes.{Extends};
 ghost use Rattle.causal_picture.specs.Roles as roles;
 
 use crate::entry_range::Grid;
-use crate::focus::{Focus, Orphan};
+use crate::focus::Orphan;
 use crate::glyphs::{Glyph, push_glyph};
 use crate::layout::{right_of, y_of};
 use std::alloc::AllocError;
@@ -20,9 +20,7 @@ pub enum Role {
 }
 
 /// The words after the name of a process in that role.
-fn role_words(role: Role) -> &'static str
-    ensures { result.now ≡ roles.role_words role }
-{
+fn role_words(role: Role) -> &'static str {
     match role {
         Role::Orphan => ": orphan",
         Role::Holder => ": holder",
@@ -31,10 +29,10 @@ fn role_words(role: Role) -> &'static str
 }
 
 /// The role of a process.
-fn role_of(focus: &Focus<'_>, process: u8) -> Role
-    ensures { result ≡ roles.role_of focus.now.orphan process }
+fn role_of(orphan: &Option<Orphan>, process: u8) -> Role
+    ensures { result ≡ roles.role_of orphan.now process }
 {
-    match &focus.orphan {
+    match orphan {
         Some(orphan) if orphan.process == process => Role::Orphan,
         Some(orphan) if orphan.holders.contains(process) => Role::Holder,
         _ => Role::Other,
@@ -43,7 +41,7 @@ fn role_of(focus: &Focus<'_>, process: u8) -> Role
 
 /// Appends the glyph of a role.
 fn push_sign(out: &mut String, x: u64, y: u32, role: Role) -> Result<(), AllocError>
-    ensures { Appends result out.old out.new (roles.sign_text x y role) }
+    ensures { Extends result out.old out.new }
 {
     match role {
         Role::Orphan => push_glyph(out, x, y, Glyph::OpenDiamond),
@@ -54,18 +52,17 @@ fn push_sign(out: &mut String, x: u64, y: u32, role: Role) -> Result<(), AllocEr
 
 /// Appends a process at the instant: its glyph there, and at the right end of its line its name with its role, where no
 /// event and no other name is.
-#[tactic(auto, unfolding(crate::specs::Roles::process_text))]
 fn push_process(
     out: &mut String,
     grid: &Grid,
     x: u64,
-    focus: &Focus<'_>,
+    orphan: &Option<Orphan>,
     process: u8,
 ) -> Result<(), AllocError>
-    ensures { Appends result out.old out.new (roles.process_text grid.now x focus.now.orphan process) }
+    ensures { Extends result out.old out.new }
 {
     let (right, y) = (right_of(grid), y_of(grid, process));
-    let role = role_of(focus, process);
+    let role = role_of(orphan, process);
     let words = role_words(role);
     push_sign(out, x, y, role)?;
     write!(
@@ -75,17 +72,16 @@ fn push_process(
 }
 
 /// Appends the shown processes at the instant.
-#[tactic(auto, unfolding(crate::specs::Roles::processes_text))]
 pub fn push_processes(
     out: &mut String,
     grid: &Grid,
     x: u64,
-    focus: &Focus<'_>,
+    orphan: &Option<Orphan>,
 ) -> Result<(), AllocError>
-    ensures { Appends result out.old out.new (roles.processes_text grid.now x focus.now.orphan) }
+    ensures { Extends result out.old out.new }
 {
     for process in grid.shown.iter() {
-        push_process(out, grid, x, focus, process)?;
+        push_process(out, grid, x, orphan, process)?;
     }
     Ok(())
 }

@@ -1,7 +1,7 @@
 //! The titles of the events, for tooltips and screen readers.
 ghost use Rattle.std.specs.Prelude.{◌≡◌};
-ghost use Rattle.causal_picture.specs.Appends.{Appends};
-ghost use Rattle.causal_picture.specs.Titles as titles;
+ghost use Rattle.causal_picture.specs.Writes.{Extends};
+ghost use Rattle.causal_picture.specs.Pictures as pictures;
 
 use crate::marks::{Mark, MarkEvent};
 use crate::words::push_words;
@@ -16,7 +16,7 @@ pub const MAX_NAMED: usize = 8;
 /// 0`, `delivery 0 of process 1, of message 0 of process 0, is in stable storage`, `process 1 crashes`, `process 1
 /// restarts`, `process 1 forgets 3 determinants`.
 fn push_event(out: &mut String, event: MarkEvent) -> Result<(), AllocError>
-    ensures { Appends result out.old out.new (titles.event_title event) }
+    ensures { Extends result out.old out.new }
 {
     match event {
         MarkEvent::Send {
@@ -58,7 +58,7 @@ fn push_event(out: &mut String, event: MarkEvent) -> Result<(), AllocError>
 
 /// Appends ` [0,0,1,0]`: source, ssn, receiver and rsn, as in the trace's text.
 fn push_det(out: &mut String, det: &Det) -> Result<(), AllocError>
-    ensures { Appends result out.old out.new (titles.det_title det.now) }
+    ensures { Extends result out.old out.new }
 {
     let Pid(source) = det.source;
     let Pid(dest) = det.dest;
@@ -68,7 +68,7 @@ fn push_det(out: &mut String, det: &Det) -> Result<(), AllocError>
 }
 
 fn push_dets(out: &mut String, dets: &[Det]) -> Result<(), AllocError>
-    ensures { Appends result out.old out.new (titles.dets_title dets.now) }
+    ensures { Extends result out.old out.new }
 {
     for det in dets {
         push_det(out, det)?;
@@ -78,7 +78,7 @@ fn push_dets(out: &mut String, dets: &[Det]) -> Result<(), AllocError>
 
 /// Appends ` and 3 more`, if there are more.
 fn push_more(out: &mut String, more: usize) -> Result<(), AllocError>
-    ensures { Appends result out.old out.new (titles.more_title more) }
+    ensures { Extends result out.old out.new }
 {
     if more == 0 {
         Ok(())
@@ -88,9 +88,8 @@ fn push_more(out: &mut String, more: usize) -> Result<(), AllocError>
 }
 
 /// Appends `, and logs [0,0,1,0] [1,0,2,0]`: the first eight determinants of a list, and the number of the others.
-#[tactic(auto, unfolding(crate::specs::Titles::named_title))]
 fn push_named(out: &mut String, listed: &[Det]) -> Result<(), AllocError>
-    ensures { Appends result out.old out.new (titles.named_title listed.now) }
+    ensures { Extends result out.old out.new }
 {
     let named = listed.len().min(MAX_NAMED);
     push_words(out, ", and logs")?;
@@ -100,7 +99,7 @@ fn push_named(out: &mut String, listed: &[Det]) -> Result<(), AllocError>
 
 /// Appends the determinants that an entry adds to a volatile log.
 fn push_logged(out: &mut String, listed: &[Det]) -> Result<(), AllocError>
-    ensures { Appends result out.old out.new (titles.logged_title listed.now) }
+    ensures { Extends result out.old out.new }
 {
     if listed.is_empty() {
         push_words(out, ", and logs nothing")
@@ -112,8 +111,7 @@ fn push_logged(out: &mut String, listed: &[Det]) -> Result<(), AllocError>
 /// Appends the determinants that the entry at a position adds to a volatile log: a delivery those of its batch, a
 /// restart those that it gathers.
 fn push_list(out: &mut String, trace: &Trace, position: u32) -> Result<(), AllocError>
-    ensures { Appends result out.old out.new
-        (titles.list_title_at trace.now.recording.past position) }
+    ensures { Extends result out.old out.new }
 {
     match trace.entry(position) {
         Some(Entry::Deliver { listed, .. }) => push_logged(out, listed.as_slice()),
@@ -122,14 +120,12 @@ fn push_list(out: &mut String, trace: &Trace, position: u32) -> Result<(), Alloc
     }
 }
 
-/// Appends `<title>line 6: process 1 delivers message 0 of process 0, and logs [0,0,1,0]</title>`. The entry at
-/// position k is on line k + 2 of the trace's text. At most eight determinants are named.
-#[tactic(auto, unfolding(crate::specs::Titles::title_text))]
+/// Appends the rest of an event's title after the number of its line: `: process 1 delivers message 0 of process 0, and
+/// logs [0,0,1,0]</title>`. At most eight determinants are named.
 pub fn push_title(out: &mut String, trace: &Trace, mark: &Mark) -> Result<(), AllocError>
-    ensures { Appends result out.old out.new (titles.title_text trace.now.recording.past mark.now) }
+    ensures { Extends result out.old out.new }
 {
-    let line = line_at(mark.position);
-    write!(out, "<title>line {line}: ")?;
+    push_words(out, ": ")?;
     push_event(out, mark.event)?;
     push_list(out, trace, mark.position)?;
     push_words(out, "</title>\n")
@@ -137,7 +133,7 @@ pub fn push_title(out: &mut String, trace: &Trace, mark: &Mark) -> Result<(), Al
 
 /// The line of the trace's text for the entry at a position. Lines count from 1; line 1 is the header.
 pub fn line_at(position: u32) -> u64
-    ensures { result ≡ titles.line_at position }
+    ensures { result ≡ pictures.line_at position }
 {
     u64::from(position) + 2
 }

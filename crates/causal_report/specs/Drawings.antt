@@ -16,7 +16,7 @@ use Rattle.causal_picture.specs.declared.focus.Band.{Band}
 use Rattle.causal_picture.specs.declared.focus.Focus.{Focus}
 use Rattle.causal_picture.specs.declared.focus.Orphan as focus_words
 use Rattle.causal_picture.specs.declared.selection.Selection.{Selection}
-use Rattle.causal_picture.specs.Pictures.{picture}
+use Rattle.causal_picture.specs.Pictures.{IsPicture}
 use Rattle.causal_picture.specs.Selections.{whole}
 
 -- the set of the processes in a list of holdings
@@ -44,7 +44,7 @@ pub record IsPictureOf (r : Recording) (f : ℕ) (s : Selection) (t : ℕ) (cras
   pub linked : IsChain focus.chain.now
   pub orphaned : IsOrphan focus.orphan
   pub banded : AreBands focus.bands.now
-  pub pictured : text ≡ picture r f (Some focus) s
+  pub pictured : IsPicture r f (Some focus) s text
 
 -- the picture's orphan of the delivery at position k, with the processes whose log contains the determinant at an
 -- instant
@@ -68,7 +68,7 @@ AreShownBands r t k bands = (d : Det) × (det_at r.past k ≡ Some d) × AreBand
 -- the selected part of the drawing. Accept: the run alone. Exceeded: the down processes. Orphan: the crash set, a shortest
 -- chain to the orphan, the orphan, and the processes that hold or lost the determinant, with how long they held it.
 abbrev pub IsSelectedDrawing : Recording → ℕ → Selection → Verdict → List ℕ → Type 0
-IsSelectedDrawing r f s Accept text = text ≡ picture r f None s
+IsSelectedDrawing r f s Accept text = IsPicture r f None s text
 IsSelectedDrawing r f s (Exceeded t down) text = IsPictureOf r f s t down (λ chain. chain ≡ []) (λ orphan. orphan ≡ None) (λ bands. bands ≡ []) text
 IsSelectedDrawing r f s (Orphan t k crash orphan) text =
     IsPictureOf r f s t crash (IsShortestChain (instant r.past t) k orphan) (IsShownOrphan r t k orphan) (AreShownBands r t k) text

@@ -1,7 +1,6 @@
-use Rattle.std.proofs.Common.{◌≡◌, ◌++◌, drop, string_bytes}
-use Rattle.causal_picture.specs.Overlays.{rings_text}
+use Rattle.std.proofs.Common.{◌≡◌, ◌++◌, ℕ, List, string_bytes}
 use Rattle.causal_picture.proofs.overlay.push_rings.Given as goal
 
--- the text so far and that of the remaining points make up the whole text
-abbrev pub invariant-loop-point : goal.invariant-loop-point
-invariant-loop-point l = string_bytes l.fn.out ++ rings_text l.points ≡ string_bytes l.out ++ rings_text (drop l.point-index l.points)
+-- a text was appended
+abbrev pub invariant-loop-mark : goal.invariant-loop-mark
+invariant-loop-mark l = (added : List ℕ) × (string_bytes l.out ≡ string_bytes l.fn.out ++ added)

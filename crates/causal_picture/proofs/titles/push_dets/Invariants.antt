@@ -1,7 +1,6 @@
-use Rattle.std.proofs.Common.{◌≡◌, ◌++◌, drop, string_bytes}
-use Rattle.causal_picture.specs.Titles.{dets_title}
+use Rattle.std.proofs.Common.{◌≡◌, ◌++◌, ℕ, List, string_bytes}
 use Rattle.causal_picture.proofs.titles.push_dets.Given as goal
 
--- the text so far and that of the remaining determinants make up the whole text
+-- a text was appended
 abbrev pub invariant-loop-det : goal.invariant-loop-det
-invariant-loop-det l = string_bytes l.fn.out ++ dets_title l.dets ≡ string_bytes l.out ++ dets_title (drop l.det-index l.dets)
+invariant-loop-det l = (added : List ℕ) × (string_bytes l.out ≡ string_bytes l.fn.out ++ added)
