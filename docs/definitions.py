@@ -6,8 +6,8 @@ the comment line at its head, up to a colon or semicolon if five words are befor
     docs/definitions.py --check     exits with 1 if the page differs, and changes nothing
 
 A file below crates/X/specs is cited if a definition of it is named by a clause of a function that is `pub`, or of a public trait's, or by a
-ghost item of a trait or an implementation. Files below specs/Inside, which no clause of a public call may cite, are left out, and so are
-those of causal_picture, which are the parts of a text. A crate whose README names each of its cited files is linked instead.
+ghost item of a trait or an implementation. Files below specs/Inside, which no clause of a public call may cite, are left out. A crate whose
+README names each of its cited files is linked instead.
 """
 import argparse
 import glob
@@ -18,7 +18,6 @@ import sys
 HERE = os.path.dirname(os.path.abspath(__file__))
 TOP = os.path.dirname(HERE)
 PAGE = os.path.join(HERE, "DEFINITIONS.md")
-LEFT_OUT = ("causal_picture",)
 HEAD = """\
 # Definitions
 
@@ -105,7 +104,7 @@ def is_named(path, readme):
 
 def page():
     files, parts, elsewhere = cited(), [], []
-    for crate in (it for it in crates() if it not in LEFT_OUT):
+    for crate in crates():
         paths = sorted(os.path.relpath(path, TOP) for path in glob.glob(os.path.join(TOP, "crates", crate, "specs", "*.antt")))
         paths = [path for path in paths if path in files]
         readme = os.path.join("crates", crate, "README.md")
