@@ -218,7 +218,7 @@ def around_rows():
 
 
 # Whole pictures, byte for byte, as checksums: the words, colours and places that no contract of a picture contains. The checksums are of
-# pictures of which these were proved. Some have each glyph, an arrow to another process or the same, entries hidden before, between and
+# what commit c791fcde draws, where the contract was a definition of the whole text, with words, colours and places. Some have each glyph, an arrow to another process or the same, entries hidden before, between and
 # after, hidden processes, narrow columns or rows, and each verdict.
 TO_ITSELF = trace(1, 2, send(0, 0, 0), deliver(0, 0, 0, [0, 0, 0, 0]))
 WHOLE = [
