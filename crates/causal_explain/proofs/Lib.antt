@@ -3,7 +3,7 @@ mod ChainLemmas
 mod ClosestLemmas
 mod ComingLemmas
 mod EachLemmas
-mod LackingLemmas
+mod MarkLemmas
 mod LossLemmas
 mod OrphanLemmas
 mod RangeLemmas

@@ -1,6 +1,6 @@
 -- Definitions for private contracts; no public contract cites them.
 pub mod EntryCauses
-pub mod Lacking
+pub mod Marks
 pub mod Losing
 pub mod Bisection
 pub mod Validities

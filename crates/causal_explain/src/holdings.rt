@@ -72,6 +72,16 @@ pub(crate) fn holder_validity(entries: &[Entry], det: Det) -> [Validity; 256]
     standings
 }
 
+/// Whether a process's log contains the determinant, by which logs contain it.
+pub(crate) fn log_has_det(standings: &[Validity], process: u8) -> bool
+    requires { length standings.now ≡ 256 }
+    ensures { (past : List Entry) (d : Det)
+        → AreValidities past (λ p state. logs state p d) standings.now →
+        result ≡ logs past process d }
+{
+    standings[process as usize].holds_since().is_some()
+}
+
 /// Returns the processes whose logs contain it.
 fn holdings_in(alloc: Global, standings: &[Validity]) -> Result<Vec<Holding>, NoMemory>
     requires { length standings.now ≤ 256 }

@@ -16,6 +16,8 @@ pub mod breach_explanation;
 pub mod explanation;
 /// Which volatile logs contain a determinant at an instant and since when, and which lost it.
 pub mod holdings;
+/// Marks of the events of a kind, by the logs that contain a determinant.
+mod marks;
 /// The deliveries after which the receiver's log lacks a determinant.
 mod missing_det;
 /// The bounds f for which a run is safe.

@@ -6,43 +6,17 @@ ghost use Rattle.causal_trace.specs.declared.entry.Entry.{Entry};
 ghost use Rattle.causal_trace.specs.Dependence.{is_delivery_of};
 ghost use Rattle.causal_trace.specs.Limits.{max_entries};
 ghost use Rattle.causal_trace.specs.Past.{logs};
-ghost use Rattle.causal_explain.specs.Underway.{FirstLate, FirstUnderway, arrives_late, is_sent_by_holder, send_of};
-ghost use Rattle.causal_explain.specs.Inside.Transits.{AreInTransit, AreSendsByHolders};
+ghost use Rattle.causal_explain.specs.Underway.{FirstLate, FirstUnderway, arrives_late, send_of};
+ghost use Rattle.causal_explain.specs.Inside.Transits.{AreInTransit};
 ghost use Rattle.causal_explain.specs.Inside.Validities.{AreValidities};
 
-use crate::holdings::{holder_change, holder_validity, lists_det};
-use crate::validity::{Validity, apply_change};
+use crate::holdings::{holder_validity, lists_det, log_has_det};
+use crate::marks::{EventKind, marks_of};
+use crate::validity::Validity;
 use causal_name::{Det, NoMemory};
 use causal_trace::entry::Entry;
 use causal_trace::trace::Trace;
 use std::alloc::Global;
-
-/// Whether an entry is a send by a process whose log contains the determinant, by which logs contain it.
-fn is_sent_by_holder(entry: &Entry, standings: &[Validity]) -> bool
-    requires { length standings.now ≡ 256 }
-    ensures { (past : List Entry) (d : Det)
-        → AreValidities past (λ p state. logs state p d) standings.now →
-        result ≡ is_sent_by_holder past d entry.now }
-{
-    match entry {
-        Entry::Send { from, .. } => standings[from.0 as usize].holds_since().is_some(),
-        _ => false,
-    }
-}
-
-/// Returns for each entry whether it is a send by a process whose log then contains the determinant.
-fn sends_by_holders(alloc: Global, entries: &[Entry], det: Det) -> Result<Vec<bool>, NoMemory>
-    requires { length entries.now ≤ max_entries }
-    ensures { IfOk result (λ sends. AreSendsByHolders (reverse entries.now) det sends.items) }
-{
-    let mut standings = [Validity::Never; 256];
-    let mut sends = Vec::with_capacity(alloc, entries.len())?;
-    for (i, entry) in entries.iter().enumerate() {
-        sends.push_reserved(is_sent_by_holder(entry, &standings));
-        apply_change(&mut standings, holder_change(entry, det), i as u32);
-    }
-    Ok(sends)
-}
 
 /// Removes the mark of the send whose message an entry delivers.
 fn unmark_delivered(marks: &mut [bool], entry: &Entry)
@@ -73,7 +47,7 @@ fn sends_in_transit(alloc: Global, entries: &[Entry], det: Det) -> Result<Vec<bo
     requires { length entries.now ≤ max_entries }
     ensures { IfOk result (λ sends. AreInTransit (reverse entries.now) det sends.items) }
 {
-    let mut sends = sends_by_holders(alloc, entries, det)?;
+    let mut sends = marks_of(alloc, EventKind::SendByHolder, entries, det)?;
     unmark_each_delivered(sends.as_mut_slice(), entries);
     Ok(sends)
 }
@@ -90,16 +64,6 @@ fn all_hold(first: bool, second: bool, third: bool) -> bool
     ensures { result ≡ (first && second && third) }
 {
     first && second && third
-}
-
-/// Whether a process's log lacks the determinant, by which logs contain it.
-fn log_lacks_det(standings: &[Validity], process: u8) -> bool
-    requires { length standings.now ≡ 256 }
-    ensures { (past : List Entry) (d : Det)
-        → AreValidities past (λ p state. logs state p d) standings.now →
-        result ≡ not (logs past process d) }
-{
-    standings[process as usize].holds_since().is_none()
 }
 
 /// Whether an entry is a delivery that brings the determinant to a process whose log lacks it, by a message in transit
@@ -124,9 +88,9 @@ fn arrives_late(
             ..
         } => {
             let is_underway = is_marked_before(in_transit, *send, before);
-            let is_lacking = log_lacks_det(standings, to.0);
+            let is_logged = log_has_det(standings, to.0);
             let is_listed = lists_det(listed, det);
-            all_hold(is_underway, is_lacking, is_listed)
+            all_hold(is_underway, !is_logged, is_listed)
         }
         _ => false,
     }

@@ -1,5 +1,5 @@
 use Rattle.std.proofs.Common.{arith}
-use Rattle.causal_explain.proofs.LackingLemmas.{first_marked}
+use Rattle.causal_explain.proofs.MarkLemmas.{first_marked}
 use Rattle.causal_explain.proofs.FirstEntries.{first_entries}
 use Rattle.causal_explain.proofs.missing_det.first_lacking.Goals as goal
 

@@ -3,19 +3,19 @@ use Rattle.causal_trace.specs.declared.entry.Entry.{Entry}
 use Rattle.causal_trace.specs.Past.{logs}
 use Rattle.causal_trace.specs.State.{past_at}
 use Rattle.causal_trace.proofs.Lemmas.Instants.{past_more, past_length, past_whole}
-use Rattle.causal_explain.specs.Inside.Lacking.{AreLacking}
+use Rattle.causal_explain.specs.Inside.Marks.{AreMarks}
 use Rattle.causal_explain.specs.Inside.Validities.{AreValidities}
-use Rattle.causal_explain.proofs.LackingLemmas.{lacking_more, lacking_none}
+use Rattle.causal_explain.proofs.MarkLemmas.{marks_more, marks_none}
 use Rattle.causal_explain.proofs.StandingLemmas.{stand_none}
-use Rattle.causal_explain.proofs.missing_det.deliveries_without_det.Goals as goal
+use Rattle.causal_explain.proofs.marks.marks_of.Goals as goal
 
 pub loop-i-init : goal.loop-i-init
 loop-i-init c = record {
   count = refl;
   stand = stand_none (λ p (past : List Entry). logs past p c.args.det) 256 (λ p. refl);
-  marked = subst (AreLacking [] c.args.det) (sym c.in_ok-lacking.ensures.items) (lacking_none c.args.det);
-  len = c.in_ok-lacking.ensures.len;
-  room = c.in_ok-lacking.ensures.capacity;
+  marked = subst (AreMarks c.args.kind [] c.args.det) (sym c.in_ok-marks.ensures.items) (marks_none c.args.kind c.args.det);
+  len = c.in_ok-marks.ensures.len;
+  room = c.in_ok-marks.ensures.capacity;
 }
 
 pub loop-i-preserved : goal.loop-i-preserved
@@ -33,7 +33,7 @@ loop-i-preserved c =
       count = omega (arith, c.loop-i.invariant.count, c.apply_change.auto.standings);
       stand = subst (λ past. AreValidities past (λ p state. logs state p d) c.apply_change.new.standings) (sym next) stand;
       marked = rw (next, c.push_reserved.ensures.items)
-          (lacking_more e before d c.loop-i.lacking.items c.lacks_det.result c.loop-i.invariant.marked (c.lacks_det.ensures (e ∷ before) d stand));
+          (marks_more e before d c.args.kind c.loop-i.marks.items c.is_of_kind.result c.loop-i.invariant.marked (c.is_of_kind.ensures (e ∷ before) d stand));
       len = omega (arith, c.push_reserved.ensures.len, c.loop-i.invariant.len);
       room = omega (arith, c.push_reserved.ensures.capacity, c.loop-i.invariant.room);
     }
