@@ -1,7 +1,7 @@
 -- The copies of determinants, one more entry.
 use Rattle.std.proofs.lemmas.Bool.{or_left, or_right}
 use Rattle.causal_replays.proofs.NumberLemmas.{same_itself}
-use Rattle.std.proofs.Common.{ℕ, zero, suc, ◌≡◌, ◌+◌, ◌<◌, Bool, true, false, List, [], ◌∷◌, ◌++◌, length, get_or, take, sym, ap, ◌∙◌, arith}
+use Rattle.std.proofs.Common.{ℕ, zero, suc, ◌≡◌, ◌+◌, ◌<◌, Bool, true, List, [], ◌∷◌, ◌++◌, length, get_or, take, ap, ◌∙◌, arith}
 use Rattle.std.specs.Prelude.{◌&&◌, ◌||◌, not}
 use Rattle.std.proofs.lemmas.Bool.Decides.{nat_tests}
 use Rattle.std.proofs.lemmas.List.{take_more}
@@ -14,21 +14,12 @@ pub has_more : (dets : List Det) (det d : Det) → list_has (dets ++ det ∷ [])
 has_more [] det d = grind arith
 has_more (x ∷ dets) det d = grind (arith, has_more dets det d)
 
-pub has_next : (dets : List Det) (k : ℕ) (det d : Det) → k < length dets → det ≡ get_or dets k det → list_has (take (k + 1) dets) d ≡ (list_has (take k dets) d || same_det d det)
-has_next dets k det d there read = ap (λ x. list_has x d) (take_more dets k det there ∙ ap (λ x. take k dets ++ x ∷ []) (sym read)) ∙ has_more (take k dets) det d
-
 -- one more determinant that a process logs, or forgets
 pub logs_next : (who a b old : Bool) → ((who && b) || ((who && a) || old)) ≡ ((who && (a || b)) || old)
 logs_next who a b old = grind (arith, nat_tests)
 
 pub forgets_next : (who a b old : Bool) → (not (who && b) && (not (who && a) && old)) ≡ (not (who && (a || b)) && old)
 forgets_next who a b old = grind (arith, nat_tests)
-
-pub none_listed : (who old : Bool) → ((who && false) || old) ≡ old
-none_listed who old = grind (arith, nat_tests)
-
-pub none_forgotten : (who old : Bool) → (not (who && false) && old) ≡ old
-none_forgotten who old = grind (arith, nat_tests)
 
 pub and_swap : (a b : Bool) → (a && b) ≡ (b && a)
 and_swap a b = grind (arith, nat_tests)

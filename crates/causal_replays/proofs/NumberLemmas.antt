@@ -63,10 +63,6 @@ numbers_match whole d det i j at to =
           other.1 (let r : i ≡ j = cc e in r)))
     ]
 
--- a determinant with a number differs from one without
-pub numbers_none : (whole : List Entry) (d det : Det) (i : ℕ) → number_in whole d ≡ Some i → number_in whole det ≡ None → same_det d det ≡ false
-numbers_none whole d det i at none = false_from_ne_true (same_det d det) (λ h. let e : Some i ≡ None = sym at ∙ ap (number_in whole) (same_is d det h) ∙ none in cc e)
-
 -- the marks after one is set
 pub stored_set : (stable : List Bool) (j i : ℕ) → j < length stable → is_stored (set stable j true) i ≡ ((i == j) || is_stored stable i)
 stored_set stable j i there = grind (arith, eqb_tells i j, get_or-set_same, get_or-set_other)

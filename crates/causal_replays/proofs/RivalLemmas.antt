@@ -1,6 +1,6 @@
 -- One more determinant that is noted in its slot.
 use Rattle.std.proofs.Common.{ℕ, ◌≡◌, inl, inr, Bool, true, cond, List, Option, Some, refl, sym, ap, subst, ◌∙◌}
-use Rattle.std.specs.Prelude.{◌==◌, ◌&&◌, ◌||◌, IfSome}
+use Rattle.std.specs.Prelude.{◌==◌, ◌&&◌, ◌||◌}
 use Rattle.std.specs.Global.{Vec}
 use Rattle.std.proofs.lemmas.Bool.{or_cases, and_parts, and_from, eqb-true, eq-eqb, cond-true, cond-false, cases_Bool}
 use Rattle.causal_name.specs.declared.Det.{Det}
@@ -10,12 +10,8 @@ use Rattle.causal_trace.specs.declared.entry.Entry.{Entry}
 use Rattle.causal_replays.specs.declared.copies.CopyTable.{CopyTable}
 use Rattle.causal_replays.specs.Inside.Copies.{number_in, HasCopy}
 use Rattle.causal_replays.specs.Inside.Slots.{slot_number}
-use Rattle.causal_replays.specs.Inside.Rivals.{IsCopied, IsInSlot, AreOfSlots, HasRivals, IsSlotBelow, AreNoted, IsLesser}
+use Rattle.causal_replays.specs.Inside.Rivals.{IsCopied, IsInSlot, AreOfSlots, IsSlotBelow, AreNoted}
 use Rattle.causal_replays.proofs.NumberLemmas.{same_is, same_some}
-
--- slots with the same receiver and number are the same
-pub same_slot : (a b : Det) → a.dest.0 ≡ b.dest.0 → a.rsn ≡ b.rsn → slot_of a ≡ slot_of b
-same_slot a b dest rsn = ap (λ (x : ℕ). let s : Slot = record { dest = record { 0 = x }; rsn = a.rsn } in s) dest ∙ ap (λ (x : ℕ). let s : Slot = record { dest = b.dest; rsn = x } in s) rsn
 
 -- fewer determinants are noted too
 pub noted_fewer : (whole : List Entry) (c : CopyTable) (slots : List (Vec (Option ℕ))) (least : Option Slot) (more fewer : Det → Bool) → ((d : Det) → fewer d ≡ true → more d ≡ true) → AreNoted whole c slots least more → AreNoted whole c slots least fewer
@@ -60,37 +56,4 @@ module _ (whole : List Entry) (c : CopyTable) (slots : List (Vec (Option ℕ))) 
                   wrote d.dest.0 d.rsn ∙ cond-true (det.dest.0 == d.dest.0 && d.rsn == det.rsn) (Some number) (slot_number slots d.dest.0 d.rsn) here ∙ ap (λ k. Some k) (sym (alone i there has))
               | inr away ↦ wrote d.dest.0 d.rsn ∙ cond-false (det.dest.0 == d.dest.0 && d.rsn == det.rsn) (Some number) (slot_number slots d.dest.0 d.rsn) away ∙ was
             ]
-      ]
-
-  -- another one with a copy is in its slot
-  pub noted_rival : (lesser : Slot) (j : ℕ) → IsCopied whole c det → slot_number slots det.dest.0 det.rsn ≡ Some j → (j ≡ number → ⊥) → HasCopy c j → IsLesser least (slot_of det) lesser
-      → AreNoted whole c slots least test → AreNoted whole c slots (Some lesser) (λ d. test d || same_det d det)
-  noted_rival lesser j copied at other has lower are = record { of_slots = are.of_slots; in_slots = in_slots; rivals = rivals }
-    where
-      in_slots : (d : Det) → (test d || same_det d det) ≡ true → IsCopied whole c d → IsSlotBelow (Some lesser) (slot_of d) → IsInSlot whole slots d
-      in_slots d t has_copy below = elim (or_cases (test d) (same_det d det) t) [
-        | inr same ↦ absurd (lower.own (subst (λ x. IsSlotBelow (Some lesser) (slot_of x)) (same_is d det same) below))
-        | inl old ↦ are.in_slots d old has_copy (lower.below (slot_of d) below)
-      ]
-
-      found : (d : Det) × (number_in whole d ≡ Some j) × (d.dest.0 ≡ det.dest.0) × (d.rsn ≡ det.rsn)
-      found = are.of_slots det.dest.0 det.rsn j at
-
-      here : HasRivals whole c (slot_of det)
-      here = (
-        found.0,
-        det,
-        record {
-          one = (j, found.1, has);
-          other = copied;
-          one_fills = same_slot found.0 det found.2 found.3;
-          other_fills = refl;
-          differ = λ e. other (same_some j number (sym found.1 ∙ ap (number_in whole) e ∙ own));
-        },
-      )
-
-      rivals : HasRivals whole c lesser
-      rivals = elim lower.either [
-        | inl is ↦ subst (HasRivals whole c) (sym is) here
-        | inr was ↦ subst (λ (o : Option Slot). IfSome o (HasRivals whole c)) was are.rivals
       ]

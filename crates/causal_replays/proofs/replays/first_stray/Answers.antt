@@ -1,4 +1,4 @@
-use Rattle.std.proofs.Common.{◌+◌, ◌≤◌, Bool, None, length, sym, subst, arith}
+use Rattle.std.proofs.Common.{◌≡◌, ◌+◌, ◌≤◌, ◌∷◌, Bool, true, None, length, sym, subst, arith}
 use Rattle.std.specs.Prelude.{◌||◌, IfSome}
 use Rattle.causal_name.specs.declared.Det.{Det}
 use Rattle.causal_trace.specs.Past.{instant, list_has}
@@ -9,6 +9,30 @@ use Rattle.causal_replays.proofs.SlotLemmas.{no_number}
 use Rattle.causal_replays.proofs.RivalLemmas.{noted_fewer}
 use Rattle.causal_replays.proofs.RunLemmas.{how_many, named_numbered, next_state, tested, listed_copied, noted_kept, two_now, lower_now, pair_now, single_now, up_to_next, copied_first, noted_first, single_first}
 use Rattle.causal_replays.proofs.replays.first_stray.Goals as goal
+use Rattle.causal_replays.proofs.replays.first_stray.Goals.{After-copied_by}
+
+-- what holds once the entry at position t is applied
+module _ (c : After-copied_by) where
+  inside : c.loop-t.t + 1 ≤ length c.args.trace.now.recording.past
+  inside = omega (arith, c.loop-t-test.true, how_many c.args.trace.now.recording c.entries-recorded.result.now c.entries-recorded.ensures.value)
+
+  next : instant c.args.trace.now.recording.past (c.loop-t.t + 1) ≡ c.index-recorded-t.result ∷ instant c.args.trace.now.recording.past c.loop-t.t
+  next = next_state c.args.trace.now.recording c.entries-recorded.result.now c.entries-recorded.ensures.value c.loop-t.t c.index-recorded-t.result c.loop-t-test.true c.index-recorded-t.is
+
+  copied : IsCopyTable c.args.trace.now.recording.past (instant c.args.trace.now.recording.past (c.loop-t.t + 1)) c.apply_entry.new.copies
+  copied =
+      let r = c.args.trace.now.recording in
+      subst (λ p. IsCopyTable r.past p c.apply_entry.new.copies) (sym next) (c.in_ok-apply_entry.ensures.copies (instant r.past c.loop-t.t) c.loop-t.invariant.copied)
+
+  -- the earlier survivors are in their slots
+  kept : AreNoted c.args.trace.now.recording.past c.apply_entry.new.copies c.loop-t.slots.items None (survives c.args.trace.now.recording.processes (instant c.args.trace.now.recording.past c.loop-t.t))
+  kept =
+      noted_kept c.args.trace.now.recording c.entries-recorded.ensures.formed c.loop-t.t c.index-recorded-t.result inside next c.loop-t.copies c.apply_entry.new.copies c.loop-t.invariant.copied copied c.loop-t.slots.items c.loop-t.invariant.noted
+
+  -- what survives the entry survived before it, or the entry makes a copy of it
+  passed : (d : Det) → survives c.args.trace.now.recording.processes (instant c.args.trace.now.recording.past (c.loop-t.t + 1)) d ≡ true
+      → (survives c.args.trace.now.recording.processes (instant c.args.trace.now.recording.past c.loop-t.t) d || list_has c.copied_by.result.now d) ≡ true
+  passed = tested c.args.trace.now.recording c.entries-recorded.ensures.formed c.loop-t.t c.index-recorded-t.result inside next c.copied_by.result.now c.copied_by.ensures
 
 pub loop-t-init : goal.loop-t-init
 loop-t-init c =
@@ -28,82 +52,51 @@ apply_entry-requires-clause-numbers c =
     let read = c.entries-recorded.ensures.value in
     let t = c.loop-t.t in
     let e = c.index-recorded-t.result in
-    let next = next_state r es read t e c.loop-t-test.true c.index-recorded-t.is in
-    let inside : t + 1 ≤ length r.past = omega (arith, c.loop-t-test.true, how_many r es read) in
-    named_numbered r c.entries-recorded.ensures.formed t e inside next
+    named_numbered r c.entries-recorded.ensures.formed t e (omega (arith, c.loop-t-test.true, how_many r es read)) (next_state r es read t e c.loop-t-test.true c.index-recorded-t.is)
 
 pub note_dets-requires-clause-copied : goal.note_dets-requires-clause-copied
 note_dets-requires-clause-copied c =
-    let r = c.args.trace.now.recording in
-    let es = c.entries-recorded.result.now in
-    let read = c.entries-recorded.ensures.value in
-    let t = c.loop-t.t in
-    let e = c.index-recorded-t.result in
-    let next = next_state r es read t e c.loop-t-test.true c.index-recorded-t.is in
-    let inside : t + 1 ≤ length r.past = omega (arith, c.loop-t-test.true, how_many r es read) in
-    let now = c.apply_entry.new.copies in
-    let copied_now = subst (λ p. IsCopyTable r.past p now) (sym next) (c.in_ok-apply_entry.ensures.copies (instant r.past t) c.loop-t.invariant.copied) in
-    listed_copied r c.entries-recorded.ensures.formed t e inside next c.loop-t.copies now c.loop-t.invariant.copied copied_now c.copied_by.result.now c.copied_by.ensures
+    let b = (goal.at.note_dets-requires-clause-copied c).After-copied_by in
+    listed_copied c.args.trace.now.recording c.entries-recorded.ensures.formed c.loop-t.t c.index-recorded-t.result (inside b) (next b) c.loop-t.copies c.apply_entry.new.copies c.loop-t.invariant.copied (copied b) c.copied_by.result.now c.copied_by.ensures
 
 pub first_two-first-requires-clause-two : goal.first_two-first-requires-clause-two
 first_two-first-requires-clause-two c =
     let r = c.args.trace.now.recording in
-    let formed = c.entries-recorded.ensures.formed in
-    let es = c.entries-recorded.result.now in
-    let read = c.entries-recorded.ensures.value in
-    let t = c.loop-t.t in
-    let e = c.index-recorded-t.result in
-    let next = next_state r es read t e c.loop-t-test.true c.index-recorded-t.is in
-    let inside : t + 1 ≤ length r.past = omega (arith, c.loop-t-test.true, how_many r es read) in
+    let b = (goal.at.first_two-first-requires-clause-two c).After-copied_by in
     let now = c.apply_entry.new.copies in
-    let copied_now = subst (λ p. IsCopyTable r.past p now) (sym next) (c.in_ok-apply_entry.ensures.copies (instant r.past t) c.loop-t.invariant.copied) in
-    let noted = c.in_ok-slot.ensures.noted (survives r.processes (instant r.past t)) (noted_kept r formed t e inside next c.loop-t.copies now c.loop-t.invariant.copied copied_now c.loop-t.slots.items c.loop-t.invariant.noted) in
-    two_now r formed (t + 1) inside now copied_now c.in-Some.slot (subst (λ o. IfSome o (HasRivals r.past now)) c.in-Some.is noted.rivals)
+    let noted = c.in_ok-slot.ensures.noted (survives r.processes (instant r.past c.loop-t.t)) (kept b) in
+    two_now r c.entries-recorded.ensures.formed (c.loop-t.t + 1) (inside b) now (copied b) c.in-Some.slot (subst (λ o. IfSome o (HasRivals r.past now)) c.in-Some.is noted.rivals)
 
 pub returns-in-Some : goal.returns-in-Some
 returns-in-Some c =
     let r = c.args.trace.now.recording in
     let formed = c.entries-recorded.ensures.formed in
-    let es = c.entries-recorded.result.now in
-    let read = c.entries-recorded.ensures.value in
-    let t = c.loop-t.t in
-    let e = c.index-recorded-t.result in
-    let next = next_state r es read t e c.loop-t-test.true c.index-recorded-t.is in
-    let inside : t + 1 ≤ length r.past = omega (arith, c.loop-t-test.true, how_many r es read) in
+    let b = (goal.at.returns-in-Some c).After-copied_by in
     let now = c.apply_entry.new.copies in
     let slots = c.note_dets.new.slots.items in
-    let dets = c.copied_by.result.now in
-    let copied_now = subst (λ p. IsCopyTable r.past p now) (sym next) (c.in_ok-apply_entry.ensures.copies (instant r.past t) c.loop-t.invariant.copied) in
-    let noted = c.in_ok-slot.ensures.noted (survives r.processes (instant r.past t)) (noted_kept r formed t e inside next c.loop-t.copies now c.loop-t.invariant.copied copied_now c.loop-t.slots.items c.loop-t.invariant.noted) in
-    let test : Det → Bool = λ d. survives r.processes (instant r.past t) d || list_has dets d in
+    let survivor = survives r.processes (instant r.past c.loop-t.t) in
+    let test : Det → Bool = λ d. survivor d || list_has c.copied_by.result.now d in
     record {
-      within = inside;
+      within = inside b;
       earlier = λ u h. c.loop-t.invariant.earlier u (omega (arith, h));
-      lower = lower_now r formed (t + 1) inside now copied_now slots test (tested r formed t e inside next dets c.copied_by.ensures) c.in-Some.slot (subst (λ o. AreNoted r.past now slots o test) c.in-Some.is noted);
-      pair = pair_now r formed (t + 1) inside now copied_now c.in-Some.slot c.first_two-first.result.0 c.first_two-first.result.1 c.first_two-first.ensures;
+      lower = lower_now r formed (c.loop-t.t + 1) (inside b) now (copied b) slots test (passed b) c.in-Some.slot (subst (λ o. AreNoted r.past now slots o test) c.in-Some.is (c.in_ok-slot.ensures.noted survivor (kept b)));
+      pair = pair_now r formed (c.loop-t.t + 1) (inside b) now (copied b) c.in-Some.slot c.first_two-first.result.0 c.first_two-first.result.1 c.first_two-first.ensures;
     }
 
 pub loop-t-preserved : goal.loop-t-preserved
 loop-t-preserved c =
     let r = c.args.trace.now.recording in
-    let formed = c.entries-recorded.ensures.formed in
-    let es = c.entries-recorded.result.now in
-    let read = c.entries-recorded.ensures.value in
-    let t = c.loop-t.t in
-    let e = c.index-recorded-t.result in
-    let next = next_state r es read t e c.loop-t-test.true c.index-recorded-t.is in
-    let inside : t + 1 ≤ length r.past = omega (arith, c.loop-t-test.true, how_many r es read) in
+    let b = (goal.at.loop-t-preserved c).After-copied_by in
+    let next_t = c.loop-t.t + 1 in
     let now = c.apply_entry.new.copies in
     let slots = c.note_dets.new.slots.items in
-    let dets = c.copied_by.result.now in
-    let copied_now = subst (λ p. IsCopyTable r.past p now) (sym next) (c.in_ok-apply_entry.ensures.copies (instant r.past t) c.loop-t.invariant.copied) in
-    let noted = c.in_ok-slot.ensures.noted (survives r.processes (instant r.past t)) (noted_kept r formed t e inside next c.loop-t.copies now c.loop-t.invariant.copied copied_now c.loop-t.slots.items c.loop-t.invariant.noted) in
-    let test : Det → Bool = λ d. survives r.processes (instant r.past t) d || list_has dets d in
-    let single = subst (λ o. AreNoted r.past now slots o test) c.in_default.is noted in
+    let survivor = survives r.processes (instant r.past c.loop-t.t) in
+    let test : Det → Bool = λ d. survivor d || list_has c.copied_by.result.now d in
+    let single = subst (λ o. AreNoted r.past now slots o test) c.in_default.is (c.in_ok-slot.ensures.noted survivor (kept b)) in
     record {
       sized = c.in_ok-apply_entry.ensures.sized;
       count = c.note_dets.ensures.count;
-      copied = copied_now;
-      noted = noted_fewer r.past now slots None test (survives r.processes (instant r.past (t + 1))) (tested r formed t e inside next dets c.copied_by.ensures) single;
-      earlier = up_to_next (λ u. SlotsAreSingle r.processes (instant r.past u)) t c.loop-t.invariant.earlier (single_now r formed (t + 1) inside now copied_now slots test (tested r formed t e inside next dets c.copied_by.ensures) single);
+      copied = copied b;
+      noted = noted_fewer r.past now slots None test (survives r.processes (instant r.past next_t)) (passed b) single;
+      earlier = up_to_next (λ u. SlotsAreSingle r.processes (instant r.past u)) c.loop-t.t c.loop-t.invariant.earlier (single_now r c.entries-recorded.ensures.formed next_t (inside b) now (copied b) slots test (passed b) single);
     }
