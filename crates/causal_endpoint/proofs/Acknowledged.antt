@@ -1,5 +1,5 @@
 -- What an acknowledgement contains: the process is not among the other holders, and there are fewer than 2^32 items.
-use Rattle.std.proofs.Common.{◌≡◌, ℕ, ◌≤◌, false, List, length, map, filter, is_some, arith}
+use Rattle.std.proofs.Common.{◌≡◌, ◌≤◌, false, List, length, filter, is_some, arith}
 use Rattle.std.specs.FinMap as fin
 use Rattle.std.specs.FinSet as set
 use Rattle.std.proofs.lemmas.List.{length-map}

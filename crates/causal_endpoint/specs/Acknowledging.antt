@@ -1,5 +1,5 @@
 -- An acknowledgement that an endpoint sends: who is known to hold the determinants that it acknowledges.
-use Rattle.std.specs.Prelude.{◌≡◌, ℕ, ◌^◌, nat_le, is_some, List, map, filter, Option}
+use Rattle.std.specs.Prelude.{ℕ, ◌^◌, nat_le, is_some, List, map, filter, Option}
 use Rattle.std.specs.FinMap as fin
 use Rattle.std.specs.FinSet as set
 use Rattle.causal_name.specs.declared.Pid.{Pid}

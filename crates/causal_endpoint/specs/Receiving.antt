@@ -12,7 +12,6 @@ use Rattle.causal_log.specs.Logs.{dets_of}
 use Rattle.causal_wire.specs.declared.fault.WireFault.{WireFault}
 use Rattle.causal_wire.specs.declared.parcel.Head.{Head}
 use Rattle.causal_wire.specs.declared.parcel.ParcelItem.{ParcelItem as WireItem}
-use Rattle.causal_wire.specs.declared.parcel.LogEntry.{LogEntry}
 use Rattle.causal_wire.specs.Parcels.{Contents, message, acknowledgement, question, answer, own_number, not_up}
 use Rattle.causal_wire.specs.Bytes.{parcel_bytes}
 use Rattle.causal_node.specs.declared.node_answer.RoundReply.{RoundReply}
@@ -29,7 +28,7 @@ use Rattle.causal_endpoint.specs.declared.receiving.Received.{Received}
 use Rattle.causal_endpoint.specs.declared.receiving.Received.TheVariants as Receiveds
 use Rattle.causal_endpoint.specs.Endpoints.{EndpointState, run_of, head_to, next_clock, with_node}
 use Rattle.causal_endpoint.specs.Items.{log_item, wire_entry, log_from}
-use Rattle.causal_endpoint.specs.Refusals.{or_else, node_or, clock_fault}
+use Rattle.causal_endpoint.specs.Refusals.{or_else, node_or, clock_fault, IsReason}
 
 -- the name of the message that a parcel with this head brings, and the batch that it carries
 abbrev pub name_in : Head → ℕ → MsgName
@@ -131,3 +130,14 @@ pub record IsReceipt (e : EndpointState) (now : ℕ) (read : Result (Head × Con
   pub is_read : read ≡ Ok parcel
   pub receipt : receipt_of r ≡ receipt_at e now parcel.0 parcel.1
   pub after : next ≡ after_parcel e now parcel
+
+-- a parcel's contents were taken: nothing refuses them, this was received with them, and this is the state after
+pub record IsTaken (e : EndpointState) (now : ℕ) (head : Head) (contents : Contents) (r : Received) (next : EndpointState) : Type 0 where
+  pub legal : contents_fault e now head contents ≡ None
+  pub receipt : receipt_of r ≡ receipt_at e now head contents
+  pub after : next ≡ after_contents e now head contents
+
+-- contents were taken, or refused for the first reason that applies with nothing changed
+abbrev pub IsOutcome : EndpointState → ℕ → Head → Contents → Result Received EndpointFault → EndpointState → Type 0
+IsOutcome e now head contents (Ok r) next = IsTaken e now head contents r next
+IsOutcome e now head contents (Err fault) next = IsReason fault (contents_fault e now head contents) × (next ≡ e)

@@ -1,5 +1,5 @@
 -- A kept message that is sent again, with what it carried.
-use Rattle.std.specs.Prelude.{◌≡◌, ℕ, ◌^◌, ◌||◌, nat_le, List, [], length, map, Option, None, Some, unwrap_or, slice_get}
+use Rattle.std.specs.Prelude.{ℕ, ◌^◌, ◌||◌, nat_le, List, [], length, map, Option, None, Some, unwrap_or, slice_get}
 use Rattle.causal_protocol.specs.Memory.{SentMessage}
 use Rattle.causal_wire.specs.Parcels.{message}
 use Rattle.causal_wire.specs.Bytes.{parcel_bytes}

@@ -1,13 +1,13 @@
 //! Receiving of parcels.
 #![tactic(auto, using(crate::proofs::Reasons::reason_first, crate::proofs::Reasons::reason_found, crate::proofs::Written::reply_written))]
 
-ghost use Rattle.std.specs.Prelude.{◌≡◌, ◌<◌, ◌^◌, true, IfOk, IfErr, OnOk, OnErr, None, max};
+ghost use Rattle.std.specs.Prelude.{◌≡◌, ◌<◌, ◌^◌, ℕ, true, IfOk, IfErr, OnOk, OnErr, None, max};
 ghost use Rattle.causal_name.specs.Names.{is_ascending};
 ghost use Rattle.causal_wire.specs.Parcels.{IsParcel, parcel_dets, contents_of, parcel_value, message, question, answer, acknowledgement, own_number, not_up};
 ghost use Rattle.causal_wire.specs.Reading.{read_parcel};
-ghost use Rattle.causal_endpoint.specs.Endpoints.{run_of, with_node};
+ghost use Rattle.causal_endpoint.specs.Endpoints.{run_of};
 ghost use Rattle.causal_endpoint.specs.Refusals.{IsReason};
-ghost use Rattle.causal_endpoint.specs.Receiving.{clock_after, contents_fault, parcel_fault, receive_fault, reply_contents, reply_bytes, receipt_of, receipt_at, after_contents, after_parcel, IsReceipt};
+ghost use Rattle.causal_endpoint.specs.Receiving.{clock_after, parcel_fault, receive_fault, reply_contents, reply_bytes, receipt_of, receipt_at, after_parcel, IsReceipt, IsOutcome};
 
 use crate::endpoint::{Endpoint, clock_fault};
 use crate::fault::EndpointFault;
@@ -70,15 +70,7 @@ impl Endpoint {
     ) -> Result<Received, EndpointFault>
         requires ascending { is_ascending (parcel_dets items.now) ≡ true }
         requires clock { head.clock < 2 ^ 62 }
-        ensures ok { OnOk result (self.new
-            ≡ after_contents self.old now head (message ssn items.now body.items)) }
-        ensures receipt { IfOk result (λ r. receipt_of r
-            ≡ receipt_at self.old now head (message ssn items.now body.items)) }
-        ensures legal { OnOk result
-            (contents_fault self.old now head (message ssn items.now body.items) ≡ None) }
-        ensures refused { IfErr result (λ fault. IsReason fault
-            (contents_fault self.old now head (message ssn items.now body.items))) }
-        ensures unchanged { OnErr result (self.new ≡ self.old) }
+        ensures { IsOutcome self.old now head (message ssn items.now body.items) result self.new }
     {
         let batch = batch_of_items(self.alloc, head.source, items)?;
         let name = MsgName {
@@ -145,15 +137,7 @@ impl Endpoint {
         view: &[u32],
     ) -> Result<Received, EndpointFault>
         requires { head.clock < 2 ^ 62 }
-        ensures ok { OnOk result (self.new
-            ≡ after_contents self.old now head (question round view.now)) }
-        ensures receipt { IfOk result (λ r. receipt_of r
-            ≡ receipt_at self.old now head (question round view.now)) }
-        ensures legal { OnOk result
-            (contents_fault self.old now head (question round view.now) ≡ None) }
-        ensures refused { IfErr result (λ fault. IsReason fault
-            (contents_fault self.old now head (question round view.now))) }
-        ensures unchanged { OnErr result (self.new ≡ self.old) }
+        ensures { IsOutcome self.old now head (question round view.now) result self.new }
     {
         if let Some(fault) = self.node.answer_fault(head.source, view) {
             return Err(EndpointFault::Node(fault));
@@ -177,15 +161,7 @@ impl Endpoint {
         entries: &[LogEntry],
     ) -> Result<Received, EndpointFault>
         requires { head.clock < 2 ^ 62 }
-        ensures ok { OnOk result (self.new
-            ≡ after_contents self.old 0 head (answer round entries.now)) }
-        ensures receipt { IfOk result (λ r. receipt_of r
-            ≡ receipt_at self.old 0 head (answer round entries.now)) }
-        ensures legal { OnOk result
-            (contents_fault self.old 0 head (answer round entries.now) ≡ None) }
-        ensures refused { IfErr result (λ fault. IsReason fault
-            (contents_fault self.old 0 head (answer round entries.now))) }
-        ensures unchanged { OnErr result (self.new ≡ self.old) }
+        ensures { (now : ℕ) → IsOutcome self.old now head (answer round entries.now) result self.new }
     {
         let log = log_from(self.alloc, self.node.new_log(), head.source, entries)?;
         self.node.take_log(round, head.source, &log)?;
@@ -201,15 +177,7 @@ impl Endpoint {
     ) -> Result<Received, EndpointFault>
         requires ascending { is_ascending (parcel_dets items.now) ≡ true }
         requires clock { head.clock < 2 ^ 62 }
-        ensures ok { OnOk result (self.new
-            ≡ after_contents self.old 0 head (acknowledgement items.now)) }
-        ensures receipt { IfOk result (λ r. receipt_of r
-            ≡ receipt_at self.old 0 head (acknowledgement items.now)) }
-        ensures legal { OnOk result
-            (contents_fault self.old 0 head (acknowledgement items.now) ≡ None) }
-        ensures refused { IfErr result (λ fault. IsReason fault
-            (contents_fault self.old 0 head (acknowledgement items.now))) }
-        ensures unchanged { OnErr result (self.new ≡ self.old) }
+        ensures { (now : ℕ) → IsOutcome self.old now head (acknowledgement items.now) result self.new }
     {
         let batch = batch_of_items(self.alloc, head.source, items)?;
         self.node.learn(head.lane, head.source, &*batch)?;
@@ -220,13 +188,7 @@ impl Endpoint {
     /// Takes the number of a process, which is its reply.
     fn take_number(&mut self, head: Head, round: u64) -> Result<Received, EndpointFault>
         requires { head.clock < 2 ^ 62 }
-        ensures ok { OnOk result (self.new ≡ after_contents self.old 0 head (own_number round)) }
-        ensures receipt { IfOk result (λ r. receipt_of r
-            ≡ receipt_at self.old 0 head (own_number round)) }
-        ensures legal { OnOk result (contents_fault self.old 0 head (own_number round) ≡ None) }
-        ensures refused { IfErr result (λ fault. IsReason fault
-            (contents_fault self.old 0 head (own_number round))) }
-        ensures unchanged { OnErr result (self.new ≡ self.old) }
+        ensures { (now : ℕ) → IsOutcome self.old now head (own_number round) result self.new }
     {
         self.node.take_number(round, head.source, head.lane)?;
         self.clock = self.clock.max(head.clock);
@@ -236,13 +198,7 @@ impl Endpoint {
     /// Takes the reply that a process is not up.
     fn take_not_up(&mut self, head: Head, round: u64) -> Result<Received, EndpointFault>
         requires { head.clock < 2 ^ 62 }
-        ensures ok { OnOk result (self.new ≡ after_contents self.old 0 head (not_up round)) }
-        ensures receipt { IfOk result (λ r. receipt_of r
-            ≡ receipt_at self.old 0 head (not_up round)) }
-        ensures legal { OnOk result (contents_fault self.old 0 head (not_up round) ≡ None) }
-        ensures refused { IfErr result (λ fault. IsReason fault
-            (contents_fault self.old 0 head (not_up round))) }
-        ensures unchanged { OnErr result (self.new ≡ self.old) }
+        ensures { (now : ℕ) → IsOutcome self.old now head (not_up round) result self.new }
     {
         self.node.take_not_up(round, head.source, head.lane)?;
         self.clock = self.clock.max(head.clock);
@@ -259,15 +215,7 @@ impl Endpoint {
         content: Content,
     ) -> Result<Received, EndpointFault>
         requires { IsParcel (run_of self.old) (head, contents_of content) }
-        ensures ok { OnOk result
-            (self.new ≡ after_contents self.old now head (contents_of content)) }
-        ensures receipt { IfOk result (λ r. receipt_of r
-            ≡ receipt_at self.old now head (contents_of content)) }
-        ensures legal { OnOk result
-            (contents_fault self.old now head (contents_of content) ≡ None) }
-        ensures refused { IfErr result (λ fault. IsReason fault
-            (contents_fault self.old now head (contents_of content))) }
-        ensures unchanged { OnErr result (self.new ≡ self.old) }
+        ensures { IsOutcome self.old now head (contents_of content) result self.new }
     {
         match content {
             Content::Message { ssn, items, body } => {
