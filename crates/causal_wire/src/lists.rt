@@ -1,6 +1,6 @@
 //! Reading of holders, items and lists.
-ghost use Rattle.std.specs.Prelude.{◌≡◌, None};
-ghost use Rattle.causal_wire.specs.Reading.{ReturnsRead, others_of, parcel_item, read_det_and_listed, read_item, read_entry, read_items, read_entries, read_view, follows, read_list, item_det, entry_det};
+ghost use Rattle.std.specs.Prelude.{◌≡◌};
+ghost use Rattle.causal_wire.specs.Reading.{ReturnsRead, others_of, read_item, read_entry, read_items, read_entries, read_view, follows};
 
 use crate::fault::{ParcelFault, WireFault};
 use crate::fields::{read_det, read_flag, read_short_list, read_u32};
@@ -39,57 +39,45 @@ fn follows(last: Option<Det>, det: Det) -> bool
     }
 }
 
-#[tactic(auto, unfolding(crate::specs::Reading::parcel_item))]
-fn parcel_item(
+/// Returns an item, whose determinant follows the one before it. Its callers match on the result, since the prover has no
+/// rule for `?` on a pair of holders and a slice.
+#[tactic(auto, unfolding(crate::specs::Reading::read_item, crate::specs::Reading::read_det_and_listed, crate::specs::Reading::parcel_item))]
+fn read_item(
     n: u16,
     source: Pid,
     last: Option<Det>,
-    det: Det,
-    listed: &[u8],
-) -> Result<ParcelItem, ParcelFault>
-    ensures { ReturnsRead (λ x. x) result (parcel_item n source.0 last det listed.now) }
+    bytes: &[u8],
+) -> Result<(ParcelItem, &[u8]), ParcelFault>
+    ensures { ReturnsRead (λ x. (x.0, x.1.now)) result (read_item n source.0 last bytes.now) }
 {
+    let (det, rest) = read_det(n, bytes)?;
+    let (listed, rest) = read_short_list(rest)?;
     if !follows(last, det) {
         return Err(ParcelFault::Wire(WireFault::Unsorted));
     }
     let others = others_of(n, source, listed)?;
-    Ok(ParcelItem { det, others })
+    Ok((ParcelItem { det, others }, rest))
 }
 
-/// Returns a determinant and the bytes of its listed holders.
-#[tactic(auto, unfolding(crate::specs::Reading::read_det_and_listed))]
-fn read_det_and_listed(n: u16, bytes: &[u8]) -> Result<(Det, &[u8], &[u8]), ParcelFault>
-    ensures { ReturnsRead (λ x. (x.0, x.1.now, x.2.now)) result (read_det_and_listed n bytes.now) }
-{
-    let (det, rest) = read_det(n, bytes)?;
-    let (listed, rest) = read_short_list(rest)?;
-    Ok((det, listed, rest))
-}
-
-/// Returns `count` items. Memory is allocated as items are read, whatever the count.
-fn next_items(
-    alloc: Global,
+/// Returns a log entry, whose determinant follows the one before it.
+#[tactic(auto, unfolding(crate::specs::Reading::read_entry))]
+fn read_entry(
     n: u16,
     source: Pid,
-    count: u32,
+    last: Option<Det>,
     bytes: &[u8],
-) -> Result<(Vec<ParcelItem>, &[u8]), ParcelFault>
-    ensures { ReturnsRead (λ x. (x.0.items, x.1.now)) result
-        (read_list item_det (read_item n source.0) None count bytes.now) }
+) -> Result<(LogEntry, &[u8]), ParcelFault>
+    ensures { ReturnsRead (λ x. (x.0, x.1.now)) result (read_entry n source.0 last bytes.now) }
 {
-    let mut items = Vec::new(alloc);
-    let mut last = None;
-    let mut rest = bytes;
-    for _ in 0..count {
-        let (det, listed, after) = read_det_and_listed(n, rest)?;
-        let item = parcel_item(n, source, last, det, listed)?;
-        items.push(item)?;
-        last = Some(det);
-        rest = after;
-    }
-    Ok((items, rest))
+    let (item, rest) = match read_item(n, source, last, bytes) {
+        Ok(read) => read,
+        Err(fault) => return Err(fault),
+    };
+    let (stable, rest) = read_flag(rest)?;
+    Ok((LogEntry { item, stable }, rest))
 }
 
+/// Returns a list of items. Memory is allocated as they are read, whatever the count.
 #[tactic(auto, unfolding(crate::specs::Reading::read_items))]
 pub(crate) fn read_items(
     alloc: Global,
@@ -99,35 +87,22 @@ pub(crate) fn read_items(
 ) -> Result<(Vec<ParcelItem>, &[u8]), ParcelFault>
     ensures { ReturnsRead (λ x. (x.0.items, x.1.now)) result (read_items n source.0 bytes.now) }
 {
-    let (count, rest) = read_u32(bytes)?;
-    next_items(alloc, n, source, count, rest)
-}
-
-/// Returns `count` log entries. Memory is allocated as entries are read, whatever the count.
-fn next_entries(
-    alloc: Global,
-    n: u16,
-    source: Pid,
-    count: u32,
-    bytes: &[u8],
-) -> Result<(Vec<LogEntry>, &[u8]), ParcelFault>
-    ensures { ReturnsRead (λ x. (x.0.items, x.1.now)) result
-        (read_list entry_det (read_entry n source.0) None count bytes.now) }
-{
-    let mut entries = Vec::new(alloc);
+    let (count, mut rest) = read_u32(bytes)?;
+    let mut items = Vec::new(alloc);
     let mut last = None;
-    let mut rest = bytes;
     for _ in 0..count {
-        let (det, listed, after) = read_det_and_listed(n, rest)?;
-        let item = parcel_item(n, source, last, det, listed)?;
-        let (stable, after) = read_flag(after)?;
-        entries.push(LogEntry { item, stable })?;
-        last = Some(det);
+        let (item, after) = match read_item(n, source, last, rest) {
+            Ok(read) => read,
+            Err(fault) => return Err(fault),
+        };
+        last = Some(item.det);
+        items.push(item)?;
         rest = after;
     }
-    Ok((entries, rest))
+    Ok((items, rest))
 }
 
+/// Returns a list of log entries. Memory is allocated as they are read, whatever the count.
 #[tactic(auto, unfolding(crate::specs::Reading::read_entries))]
 pub(crate) fn read_entries(
     alloc: Global,
@@ -137,8 +112,19 @@ pub(crate) fn read_entries(
 ) -> Result<(Vec<LogEntry>, &[u8]), ParcelFault>
     ensures { ReturnsRead (λ x. (x.0.items, x.1.now)) result (read_entries n source.0 bytes.now) }
 {
-    let (count, rest) = read_u32(bytes)?;
-    next_entries(alloc, n, source, count, rest)
+    let (count, mut rest) = read_u32(bytes)?;
+    let mut entries = Vec::new(alloc);
+    let mut last = None;
+    for _ in 0..count {
+        let (entry, after) = match read_entry(n, source, last, rest) {
+            Ok(read) => read,
+            Err(fault) => return Err(fault),
+        };
+        last = Some(entry.item.det);
+        entries.push(entry)?;
+        rest = after;
+    }
+    Ok((entries, rest))
 }
 
 /// Returns the numbers of n processes.

@@ -12,52 +12,6 @@ use crate::parcel::{Content, Parcel, RunId};
 use causal_name::Pid;
 use std::alloc::Global;
 
-#[tactic(auto, unfolding(crate::specs::Reading::read_contents))]
-fn read_message(
-    alloc: Global,
-    n: u16,
-    source: Pid,
-    bytes: &[u8],
-) -> Result<(Content, &[u8]), ParcelFault>
-    ensures { ReturnsRead (λ x. (contents_of x.0, x.1.now)) result
-        (read_contents n source.0 ParcelKind.Message bytes.now) }
-{
-    let (ssn, rest) = read_u32(bytes)?;
-    let (items, rest) = read_items(alloc, n, source, rest)?;
-    let (body, rest) = read_body(alloc, rest)?;
-    Ok((Content::Message { ssn, items, body }, rest))
-}
-
-#[tactic(auto, unfolding(crate::specs::Reading::read_contents))]
-fn read_question(
-    alloc: Global,
-    n: u16,
-    source: Pid,
-    bytes: &[u8],
-) -> Result<(Content, &[u8]), ParcelFault>
-    ensures { ReturnsRead (λ x. (contents_of x.0, x.1.now)) result
-        (read_contents n source.0 ParcelKind.Question bytes.now) }
-{
-    let (round, rest) = read_u64(bytes)?;
-    let (view, rest) = read_view(alloc, n, rest)?;
-    Ok((Content::Question { round, view }, rest))
-}
-
-#[tactic(auto, unfolding(crate::specs::Reading::read_contents))]
-fn read_answer(
-    alloc: Global,
-    n: u16,
-    source: Pid,
-    bytes: &[u8],
-) -> Result<(Content, &[u8]), ParcelFault>
-    ensures { ReturnsRead (λ x. (contents_of x.0, x.1.now)) result
-        (read_contents n source.0 ParcelKind.Answer bytes.now) }
-{
-    let (round, rest) = read_u64(bytes)?;
-    let (entries, rest) = read_entries(alloc, n, source, rest)?;
-    Ok((Content::Answer { round, entries }, rest))
-}
-
 /// Returns the contents of a parcel of this kind, from this source.
 #[tactic(auto, unfolding(crate::specs::Reading::read_contents))]
 fn read_contents(
@@ -71,13 +25,26 @@ fn read_contents(
         (read_contents n source.0 kind bytes.now) }
 {
     match kind {
-        ParcelKind::Message => read_message(alloc, n, source, bytes),
+        ParcelKind::Message => {
+            let (ssn, rest) = read_u32(bytes)?;
+            let (items, rest) = read_items(alloc, n, source, rest)?;
+            let (body, rest) = read_body(alloc, rest)?;
+            Ok((Content::Message { ssn, items, body }, rest))
+        }
         ParcelKind::Acknowledgement => {
             let (items, rest) = read_items(alloc, n, source, bytes)?;
             Ok((Content::Acknowledgement { items }, rest))
         }
-        ParcelKind::Question => read_question(alloc, n, source, bytes),
-        ParcelKind::Answer => read_answer(alloc, n, source, bytes),
+        ParcelKind::Question => {
+            let (round, rest) = read_u64(bytes)?;
+            let (view, rest) = read_view(alloc, n, rest)?;
+            Ok((Content::Question { round, view }, rest))
+        }
+        ParcelKind::Answer => {
+            let (round, rest) = read_u64(bytes)?;
+            let (entries, rest) = read_entries(alloc, n, source, rest)?;
+            Ok((Content::Answer { round, entries }, rest))
+        }
         ParcelKind::OwnNumber => {
             let (round, rest) = read_u64(bytes)?;
             Ok((Content::OwnNumber { round }, rest))

@@ -1,6 +1,5 @@
 //! Writing of parcels.
 ghost use Rattle.std.specs.Prelude.{◌≡◌, ◌<◌, ◌^◌, ◌++◌, false, length, OnOk, IfOk};
-ghost use Rattle.std.specs.List.{flat_map};
 ghost use Rattle.std.specs.Int.{w16, w32, w64};
 ghost use Rattle.std.specs.FinSet as set;
 ghost use Rattle.causal_wire.specs.Parcels.{IsWritable, AreWithoutSource, AreEntriesWithoutSource, message, contents_of, parcel_value};
@@ -87,23 +86,16 @@ fn put_item(out: &mut Vec<u8>, source: Pid, item: ParcelItem) -> Result<(), NoMe
     put_others(out, source.0, item.others)
 }
 
-fn put_each_item(out: &mut Vec<u8>, source: Pid, items: &[ParcelItem]) -> Result<(), NoMemory>
-    requires { AreWithoutSource source.0 items.now }
-    ensures { OnOk result (out.new.items ≡ out.old.items ++ flat_map item_bytes items.now) }
-{
-    for item in items {
-        put_item(out, source, *item)?;
-    }
-    Ok(())
-}
-
 fn put_items(out: &mut Vec<u8>, source: Pid, items: &[ParcelItem]) -> Result<(), NoMemory>
     requires count { length items.now < 2 ^ 32 }
     requires others { AreWithoutSource source.0 items.now }
     ensures { OnOk result (out.new.items ≡ out.old.items ++ list_bytes item_bytes items.now) }
 {
     put_u32(out, items.len() as u32)?;
-    put_each_item(out, source, items)
+    for item in items {
+        put_item(out, source, *item)?;
+    }
+    Ok(())
 }
 
 fn put_entry(out: &mut Vec<u8>, source: Pid, entry: LogEntry) -> Result<(), NoMemory>
@@ -115,16 +107,6 @@ fn put_entry(out: &mut Vec<u8>, source: Pid, entry: LogEntry) -> Result<(), NoMe
     Ok(())
 }
 
-fn put_each_entry(out: &mut Vec<u8>, source: Pid, entries: &[LogEntry]) -> Result<(), NoMemory>
-    requires { AreEntriesWithoutSource source.0 entries.now }
-    ensures { OnOk result (out.new.items ≡ out.old.items ++ flat_map entry_bytes entries.now) }
-{
-    for entry in entries {
-        put_entry(out, source, *entry)?;
-    }
-    Ok(())
-}
-
 fn put_entries(out: &mut Vec<u8>, source: Pid, entries: &[LogEntry]) -> Result<(), NoMemory>
     requires count { length entries.now < 2 ^ 32 }
     requires others { AreEntriesWithoutSource source.0 entries.now }
@@ -132,7 +114,10 @@ fn put_entries(out: &mut Vec<u8>, source: Pid, entries: &[LogEntry]) -> Result<(
         (out.new.items ≡ out.old.items ++ list_bytes entry_bytes entries.now) }
 {
     put_u32(out, entries.len() as u32)?;
-    put_each_entry(out, source, entries)
+    for entry in entries {
+        put_entry(out, source, *entry)?;
+    }
+    Ok(())
 }
 
 fn put_view(out: &mut Vec<u8>, view: &[u32]) -> Result<(), NoMemory>
