@@ -1,3 +1,2 @@
-mod AsBox
 mod Each
 mod PlaceLemmas

@@ -2,7 +2,6 @@ pub mod VerdictArrays
 pub mod Entries
 pub mod TextErrors
 pub mod OpenReaders
-pub mod Handles
 pub mod Limits
 pub mod Numbers
 pub mod CVerdicts

@@ -1,3 +1,2 @@
 pub mod Lemmas
 mod Copies
-mod PartsValues

@@ -1,3 +1,4 @@
 pub mod Buffers
 pub mod Determinants
 pub mod Flags
+pub mod Handles

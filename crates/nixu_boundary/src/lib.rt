@@ -8,6 +8,8 @@ pub mod c_determinant;
 /// Sets of processes, as an array with a byte for each.
 pub mod flags;
 /// A box as its pointer.
-pub mod parts;
+pub mod owned;
+/// What a handle does.
+pub mod slot;
 /// The statuses that calls return.
 pub mod status;

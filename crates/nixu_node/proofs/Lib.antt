@@ -1,3 +1,2 @@
-mod AsBox
 mod Named
 mod Steps

@@ -1,4 +1,3 @@
-pub mod Handles
 pub mod OpenNodes
 pub mod Keeping
 pub mod Lines

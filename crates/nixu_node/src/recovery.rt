@@ -17,6 +17,7 @@ use crate::refusals::refuse;
 use causal_name::Pid;
 use nixu_boundary::buffer::copy_numbers;
 use nixu_boundary::flags::flags_of;
+use nixu_boundary::slot::Slot;
 use nixu_boundary::status::{CLOSED, FAULT, MISUSED, NO_MEMORY, OK};
 use std::alloc::Global;
 
