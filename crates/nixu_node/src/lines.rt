@@ -7,7 +7,7 @@ ghost use Rattle.nixu_node.specs.Structs.{pid};
 ghost use Rattle.nixu_node.specs.Lines.{forget_line_unless_empty, kept_line, header_of};
 
 use crate::handle::NodeHandle;
-use crate::open_node::{Kept, OpenNode};
+use crate::open_node::Kept;
 use causal_endpoint::forgetting::Forgotten;
 use causal_endpoint::lines;
 use causal_endpoint::receiving::Received;
@@ -63,26 +63,16 @@ pub extern "C" fn nixu_node_line(
     let Some(open) = node.take(alloc) else {
         return CLOSED;
     };
-    let status = write_line(alloc, &*open, out, needed);
-    node.fill(open);
-    status
-}
-
-/// Writes the line.
-fn write_line(alloc: Global, node: &OpenNode, out: &mut [u8], needed: &mut usize) -> u32
-    ensures ok { result ≡ OK → IsCopiedOut
-        (kept_line node.now.endpoint.node.identity.me node.now.kept) out.old out.new needed.new }
-    ensures unchanged { result ≢ OK → IsUntouched out.old out.new needed.old needed.new }
-    ensures status { (result ≡ OK) ⊎ (result ≡ NO_MEMORY) }
-{
-    let me = node.endpoint.node().identity().me;
-    match kept_line(alloc, me, &node.kept) {
+    let me = open.endpoint.node().identity().me;
+    let status = match kept_line(alloc, me, &open.kept) {
         Ok(line) => {
             copy_out(line.as_slice(), out, needed);
             OK
         }
         Err(NoMemory) => NO_MEMORY,
-    }
+    };
+    node.fill(open);
+    status
 }
 
 /// Writes the header line of the process's recording, with its line feed, as [`nixu_node_line`] writes a line.
@@ -105,27 +95,17 @@ pub extern "C" fn nixu_node_header(
     let Some(open) = node.take(alloc) else {
         return CLOSED;
     };
-    let status = write_header(alloc, &*open, out, needed);
-    node.fill(open);
-    status
-}
-
-/// Writes the header line.
-fn write_header(alloc: Global, node: &OpenNode, out: &mut [u8], needed: &mut usize) -> u32
-    ensures ok { result ≡ OK → IsCopiedOut
-        (header_of node.now.endpoint) out.old out.new needed.new }
-    ensures unchanged { result ≢ OK → IsUntouched out.old out.new needed.old needed.new }
-    ensures status { (result ≡ OK) ⊎ (result ≡ NO_MEMORY) }
-{
-    let identity = node.endpoint.node().identity();
-    let run = node.endpoint.run_number();
-    match lines::header_line(alloc, identity.me, identity.processes, run) {
+    let identity = open.endpoint.node().identity();
+    let run = open.endpoint.run_number();
+    let status = match lines::header_line(alloc, identity.me, identity.processes, run) {
         Ok(line) => {
             copy_out(line.as_slice(), out, needed);
             OK
         }
         Err(NoMemory) => NO_MEMORY,
-    }
+    };
+    node.fill(open);
+    status
 }
 
 /// Writes the line of a crash of `process` at this clock, with its line feed, for whoever has seen the process end.

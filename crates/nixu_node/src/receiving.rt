@@ -11,7 +11,7 @@ ghost use Rattle.nixu_node.specs.Calls.{HasReceivedParcel};
 
 use crate::c_node::{CMessage, CReceived, c_message_of, c_received_of};
 use crate::handle::NodeHandle;
-use crate::open_node::{Kept, OpenNode};
+use crate::open_node::Kept;
 use crate::refusals::refuse;
 use nixu_boundary::slot::Slot;
 use nixu_boundary::status::{CLOSED, FAULT, MISUSED, NO_MEMORY, OK};
@@ -46,37 +46,16 @@ pub extern "C" fn nixu_node_receive(
     let Some(mut open) = node.take(alloc) else {
         return CLOSED;
     };
-    let status = receive(&mut *open, now, bytes, received, fault);
-    node.fill(open);
-    status
-}
-
-/// Receives the parcel.
-fn receive(
-    node: &mut OpenNode,
-    now: u64,
-    bytes: &[u8],
-    received: &mut CReceived,
-    fault: &mut u32,
-) -> u32
-    ensures ok { result ≡ OK → HasReceivedParcel node.old.endpoint now bytes.now received.new node.new }
-    ensures fault { result ≡ FAULT → IsNumberOf (receive_fault node.old.endpoint now (read_parcel
-        (run_of node.old.endpoint) bytes.now)) fault.new }
-    ensures legal { result ≡ OK → receive_fault node.old.endpoint now (read_parcel
-        (run_of node.old.endpoint) bytes.now) ≡ None }
-    ensures node_unchanged { result ≢ OK → node.new ≡ node.old }
-    ensures unchanged { result ≢ OK → received.new ≡ received.old }
-    ensures fault_unchanged { result ≢ FAULT → fault.new ≡ fault.old }
-    ensures status { result ≤ NO_MEMORY }
-{
-    match node.endpoint.receive(now, bytes) {
+    let status = match open.endpoint.receive(now, bytes) {
         Ok(receipt) => {
             *received = c_received_of(&receipt);
-            node.kept = Kept::Received(receipt);
+            open.kept = Kept::Received(receipt);
             OK
         }
         Err(refused) => refuse(refused, fault),
-    }
+    };
+    node.fill(open);
+    status
 }
 
 /// Writes which message has to be delivered next, if the log names one.

@@ -48,31 +48,15 @@ pub extern "C" fn nixu_node_begin_round(
     let Some(mut open) = node.take(alloc) else {
         return CLOSED;
     };
-    let status = begin_round(&mut *open, round, fault);
-    node.fill(open);
-    status
-}
-
-/// Begins the round.
-fn begin_round(node: &mut OpenNode, round: u64, fault: &mut u32) -> u32
-    ensures ok { result ≡ OK → HasBegun node.old.endpoint round node.new }
-    ensures fault { result ≡ FAULT → IsNumberOf (node_or
-        (begin_fault node.old.endpoint.node.recovery) None) fault.new }
-    ensures legal { result ≡ OK → node_or
-        (begin_fault node.old.endpoint.node.recovery) None ≡ None }
-    ensures no_memory { result ≡ NO_MEMORY
-        → node_or (begin_fault node.old.endpoint.node.recovery) None ≡ None }
-    ensures node_unchanged { result ≢ OK → node.new ≡ node.old }
-    ensures fault_unchanged { result ≢ FAULT → fault.new ≡ fault.old }
-    ensures status { result ≤ NO_MEMORY }
-{
-    match node.endpoint.begin_round(round) {
+    let status = match open.endpoint.begin_round(round) {
         Ok(()) => {
-            node.kept = Kept::Nothing;
+            open.kept = Kept::Nothing;
             OK
         }
         Err(refused) => refuse(refused, fault),
-    }
+    };
+    node.fill(open);
+    status
 }
 
 /// Keeps the parcel of the round's question to process `to`, which may be asked again.
@@ -103,29 +87,15 @@ pub extern "C" fn nixu_node_question(
     let Some(mut open) = node.take(alloc) else {
         return CLOSED;
     };
-    let status = ask(&mut *open, now, Pid(to), fault);
-    node.fill(open);
-    status
-}
-
-/// Keeps the question.
-fn ask(node: &mut OpenNode, now: u64, to: Pid, fault: &mut u32) -> u32
-    ensures ok { result ≡ OK → HasAsked node.old.endpoint now to node.new }
-    ensures fault { result ≡ FAULT → IsNumberOf
-        (question_fault node.old.endpoint now to) fault.new }
-    ensures legal { result ≡ OK → question_fault node.old.endpoint now to ≡ None }
-    ensures no_memory { result ≡ NO_MEMORY → question_fault node.old.endpoint now to ≡ None }
-    ensures node_unchanged { result ≢ OK → node.new ≡ node.old }
-    ensures fault_unchanged { result ≢ FAULT → fault.new ≡ fault.old }
-    ensures status { result ≤ NO_MEMORY }
-{
-    match node.endpoint.question(now, to) {
+    let status = match open.endpoint.question(now, Pid(to)) {
         Ok(parcel) => {
-            node.kept = Kept::Parcel(parcel);
+            open.kept = Kept::Parcel(parcel);
             OK
         }
         Err(refused) => refuse(refused, fault),
-    }
+    };
+    node.fill(open);
+    status
 }
 
 /// Writes 1 for each process that has still to reply to the round, 0 for the others.
@@ -209,31 +179,15 @@ pub extern "C" fn nixu_node_take_ended(
     let Some(mut open) = node.take(alloc) else {
         return CLOSED;
     };
-    let status = take_ended(&mut *open, round, Pid(who), lane, fault);
-    node.fill(open);
-    status
-}
-
-/// Takes that the process is not up.
-fn take_ended(node: &mut OpenNode, round: u64, who: Pid, lane: u32, fault: &mut u32) -> u32
-    ensures ok { result ≡ OK → HasTakenEnded node.old.endpoint who lane node.new }
-    ensures fault { result ≡ FAULT → IsNumberOf (node_or
-        (reply_fault node.old.endpoint.node.recovery round who) None) fault.new }
-    ensures legal { result ≡ OK → node_or
-        (reply_fault node.old.endpoint.node.recovery round who) None ≡ None }
-    ensures no_memory { result ≡ NO_MEMORY
-        → node_or (reply_fault node.old.endpoint.node.recovery round who) None ≡ None }
-    ensures node_unchanged { result ≢ OK → node.new ≡ node.old }
-    ensures fault_unchanged { result ≢ FAULT → fault.new ≡ fault.old }
-    ensures status { result ≤ NO_MEMORY }
-{
-    match node.endpoint.take_ended(round, who, lane) {
+    let status = match open.endpoint.take_ended(round, Pid(who), lane) {
         Ok(()) => {
-            node.kept = Kept::Nothing;
+            open.kept = Kept::Nothing;
             OK
         }
         Err(refused) => refuse(refused, fault),
-    }
+    };
+    node.fill(open);
+    status
 }
 
 /// Ends the reading of stable storage for the round of this name: [`nixu_node_stored`] has been called for each
@@ -264,29 +218,15 @@ pub extern "C" fn nixu_node_finish_read(
     let Some(mut open) = node.take(alloc) else {
         return CLOSED;
     };
-    let status = finish_read(&mut *open, round, fault);
-    node.fill(open);
-    status
-}
-
-/// Ends the reading.
-fn finish_read(node: &mut OpenNode, round: u64, fault: &mut u32) -> u32
-    ensures ok { result ≡ OK → HasReadStorage node.old.endpoint node.new }
-    ensures fault { result ≡ FAULT → IsNumberOf (node_or
-        (read_fault node.old.endpoint.node.recovery round) None) fault.new }
-    ensures legal { result ≡ OK → node_or
-        (read_fault node.old.endpoint.node.recovery round) None ≡ None }
-    ensures node_unchanged { result ≢ OK → node.new ≡ node.old }
-    ensures fault_unchanged { result ≢ FAULT → fault.new ≡ fault.old }
-    ensures status { result ≤ FAULT }
-{
-    match node.endpoint.finish_read(round) {
+    let status = match open.endpoint.finish_read(round) {
         Ok(()) => {
-            node.kept = Kept::Nothing;
+            open.kept = Kept::Nothing;
             OK
         }
         Err(refused) => refuse(refused, fault),
-    }
+    };
+    node.fill(open);
+    status
 }
 
 /// Restarts: the process is up, with what its round has gathered. Keeps the line and the list.

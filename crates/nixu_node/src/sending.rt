@@ -104,26 +104,15 @@ pub extern "C" fn nixu_node_receiver(
     let Some(open) = node.take(alloc) else {
         return CLOSED;
     };
-    let status = write_receiver(&*open, ssn, to);
-    node.fill(open);
-    status
-}
-
-/// Writes to which process the message was sent.
-fn write_receiver(node: &OpenNode, ssn: u32, to: &mut u8) -> u32
-    ensures ok { result ≡ OK → IsReceiver node.now ssn to.new }
-    ensures misused { result ≡ MISUSED
-        → slice_get node.now.endpoint.node.memory.sent ssn ≡ None }
-    ensures unchanged { result ≢ OK → to.new ≡ to.old }
-    ensures status { (result ≡ OK) ⊎ (result ≡ MISUSED) }
-{
-    match node.endpoint.node().message(ssn) {
+    let status = match open.endpoint.node().message(ssn) {
         Some(message) => {
             *to = message.to.0;
             OK
         }
         None => MISUSED,
-    }
+    };
+    node.fill(open);
+    status
 }
 
 /// Keeps the parcel of the message of this number again, with what it carried.
@@ -156,33 +145,14 @@ pub extern "C" fn nixu_node_resend(
     let Some(mut open) = node.take(alloc) else {
         return CLOSED;
     };
-    let status = resend(&mut *open, ssn, fault);
-    node.fill(open);
-    status
-}
-
-/// Keeps the parcel.
-fn resend(node: &mut OpenNode, ssn: u32, fault: &mut u32) -> u32
-    ensures ok { result ≡ OK → HasResent node.old.endpoint ssn node.new }
-    ensures fault { result ≡ FAULT → IsNumberOf (resend_fault node.old.endpoint ssn
-        (slice_get node.old.endpoint.node.memory.sent ssn)) fault.new }
-    ensures legal { result ≡ OK → resend_fault node.old.endpoint ssn
-        (slice_get node.old.endpoint.node.memory.sent ssn) ≡ None }
-    ensures no_memory { result ≡ NO_MEMORY
-        → resend_fault node.old.endpoint ssn
-        (slice_get node.old.endpoint.node.memory.sent ssn) ≡ None }
-    ensures misused { result ≡ MISUSED
-        → slice_get node.old.endpoint.node.memory.sent ssn ≡ None }
-    ensures node_unchanged { result ≢ OK → node.new ≡ node.old }
-    ensures fault_unchanged { result ≢ FAULT → fault.new ≡ fault.old }
-    ensures status { result ≤ MISUSED }
-{
-    match node.endpoint.resend(ssn) {
+    let status = match open.endpoint.resend(ssn) {
         Ok(Some(parcel)) => {
-            node.kept = Kept::Parcel(parcel);
+            open.kept = Kept::Parcel(parcel);
             OK
         }
         Ok(None) => MISUSED,
         Err(refused) => refuse(refused, fault),
-    }
+    };
+    node.fill(open);
+    status
 }

@@ -11,7 +11,7 @@ ghost use Rattle.nixu_node.specs.Calls.{HasStored, HasForgotten};
 use crate::handle::NodeHandle;
 use crate::open_node::{Kept, OpenNode};
 use crate::refusals::refuse;
-use causal_name::{Det, NoMemory};
+use causal_name::NoMemory;
 use nixu_boundary::c_determinant::{CDeterminant, copy_dets, det_from_c};
 use nixu_boundary::slot::Slot;
 use nixu_boundary::status::{CLOSED, FAULT, MISUSED, NO_MEMORY, OK};
@@ -38,25 +38,15 @@ pub extern "C" fn nixu_node_unstored(
     let Some(open) = node.take(alloc) else {
         return CLOSED;
     };
-    let status = write_unstored(&*open, out, needed);
-    node.fill(open);
-    status
-}
-
-/// Writes the determinants.
-fn write_unstored(node: &OpenNode, out: &mut [CDeterminant], needed: &mut usize) -> u32
-    ensures ok { result ≡ OK → AreCopiedOut
-        (unstable_in node.now.endpoint.node.memory.log) out.old out.new needed.new }
-    ensures unchanged { result ≢ OK → (out.new ≡ out.old) × (needed.new ≡ needed.old) }
-    ensures status { (result ≡ OK) ⊎ (result ≡ NO_MEMORY) }
-{
-    match node.endpoint.node().unstored() {
+    let status = match open.endpoint.node().unstored() {
         Ok(dets) => {
             copy_dets(dets.as_slice(), out, needed);
             OK
         }
         Err(NoMemory) => NO_MEMORY,
-    }
+    };
+    node.fill(open);
+    status
 }
 
 /// Stable storage has this determinant: it has confirmed a write, or it was read for a recovery. Keeps the line.
@@ -87,28 +77,16 @@ pub extern "C" fn nixu_node_stored(
     let Some(mut open) = node.take(alloc) else {
         return CLOSED;
     };
-    let status = take_stored(&mut *open, now, det_from_c(*determinant), fault);
-    node.fill(open);
-    status
-}
-
-/// Takes the determinant.
-fn take_stored(node: &mut OpenNode, now: u64, det: Det, fault: &mut u32) -> u32
-    ensures ok { result ≡ OK → HasStored node.old.endpoint now det node.new }
-    ensures fault { result ≡ FAULT → IsNumberOf (stored_fault node.old.endpoint now) fault.new }
-    ensures legal { result ≡ OK → stored_fault node.old.endpoint now ≡ None }
-    ensures no_memory { result ≡ NO_MEMORY → stored_fault node.old.endpoint now ≡ None }
-    ensures node_unchanged { result ≢ OK → node.new ≡ node.old }
-    ensures fault_unchanged { result ≢ FAULT → fault.new ≡ fault.old }
-    ensures status { result ≤ NO_MEMORY }
-{
-    match node.endpoint.stored(now, det) {
+    let det = det_from_c(*determinant);
+    let status = match open.endpoint.stored(now, det) {
         Ok(clock) => {
-            node.kept = Kept::Stored(clock, det);
+            open.kept = Kept::Stored(clock, det);
             OK
         }
         Err(refused) => refuse(refused, fault),
-    }
+    };
+    node.fill(open);
+    status
 }
 
 /// Removes from the log what is known to be stable, except of deliveries that have still to be made. Keeps the line,
