@@ -1,5 +1,5 @@
 //! The content of a handle: an open node in its box, or nothing.
-ghost use Rattle.std.specs.Prelude.{◌≡◌, Option};
+ghost use Rattle.std.specs.Prelude.{◌≡◌, Option, None};
 ghost use Rattle.std.specs.Coded.{coded_option};
 ghost use Rattle.std_heap.specs.contracts.GlobalAllocator.TheImpl.{ghosts};
 ghost use Rattle.nixu_boundary.specs.Handles.{held_owns, count_of};
@@ -56,6 +56,18 @@ pub struct NodeHandle {
     pub held: OwnedBox,
     full: u32,
     ghost is: { full ≡ count_of held.value },
+}
+
+impl NodeHandle {
+    /// A handle with nothing open, as C makes it of bytes that are all 0.
+    pub(crate) fn new_closed(alloc: Global) -> NodeHandle
+        ensures { result.held.value ≡ None }
+    {
+        NodeHandle {
+            held: OwnedBox::of(Owned::none(alloc)),
+            full: 0,
+        }
+    }
 }
 
 impl Slot for NodeHandle {
