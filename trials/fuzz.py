@@ -7,6 +7,7 @@ beside this file. Each difference is printed with its input. Everything is decid
 import argparse
 import collections
 import concurrent.futures
+import itertools
 import json
 import os
 import random
@@ -14,6 +15,7 @@ import re
 import subprocess
 import sys
 
+import elements
 import pictures
 import reasons
 import scripts
@@ -24,6 +26,7 @@ PROGRAM = os.path.join(os.path.dirname(HERE), "crates", "causal_tool", "out", "c
 CHUNK = 250  # cases that one worker makes from one seed
 KINDS = ("ring", "echo", "tally")
 PADDED = 1 / 40  # of the texts of `audit` so many are so long that all workers read them
+SHORT = 40  # of so few lines the plain model judges a trace in no time
 LONG = 1 / 800  # of the traces so many have more deliveries that stay open than one worker follows at once
 
 
@@ -291,12 +294,41 @@ def explained(text, f, said):
 
 
 def draw_case(rng):
-    """A whole trace: each entry of a shown process has to have its mark."""
+    """A whole trace. Some are so long, or of so many processes, that they are not all shown."""
     lines = recorded_run(rng) if rng.random() < 0.3 else whole_trace(rng)
-    f, text = rng.choice((0, 1, 1, 2, 3)), ("\n".join(lines) + "\n").encode()
-    is_part = rng.random() < 0.4
-    words = ["draw", "--faults", str(f), *selection(rng, len(lines), is_part)]
-    return words, text, lambda said: (drawing(text, f, is_part, said), traces.audited(text, f)[1])
+    f = rng.choice((0, 1, 1, 2, 3))
+    answer, status = traces.audited(("\n".join(lines) + "\n").encode(), f)
+    if rng.random() < 0.3:
+        lines, answer = stretch(rng, lines, answer)
+    text = ("\n".join(lines) + "\n").encode()
+    assert len(lines) > SHORT or traces.audited(text, f)[0] == answer, "idle entries and processes change nothing"
+    words = ["draw", "--faults", str(f), *selection(rng, len(lines), rng.random() < 0.4)]
+    return words, text, lambda said: (pictures.picture_of(words, text, answer, said), status)
+
+
+def stretch(rng, lines, answer):
+    """The lines of a trace with idle entries between the others, and with some idle processes, and its verdict's line."""
+    entries = [json.loads(line) for line in lines[1:-1]]
+    n = json.loads(lines[0])[2]
+    ups, places, longer = set(range(n)), [], []
+    idle = dict.fromkeys(rng.choices(range(len(entries) + 1), k=rng.choice((1, 2, 3))), 0)
+    for at in idle:
+        idle[at] = rng.randrange(180)
+    for at, entry in enumerate([*entries, None]):
+        longer += [["forget", rng.choice(sorted(ups)), []] for _ in range(idle.get(at, 0) if ups else 0)]
+        if entry is None:
+            break
+        places.append(len(longer))
+        if entry[0] == "deliver":
+            entry[2] = places[entry[2]]
+        elif entry[0] in ("crash", "restart"):
+            ups ^= {entry[1]}
+        longer.append(entry)
+    moved = re.sub(r"instant=(\d+)", lambda found: f"instant={places[int(found[1]) - 1] + 1}", answer)
+    moved = re.sub(r"delivery=(\d+)", lambda found: f"delivery={places[int(found[1])]}", moved)
+    moved = re.sub(r"entries=\d+", f"entries={len(longer)}", moved)
+    rows = [["trace", 2, rng.choice((n, n, n + 9, 64, 256))], *longer, ["end", len(longer)]]
+    return [json.dumps(row, separators=(",", ":")) for row in rows], moved
 
 
 def selection(rng, lines, is_part):
@@ -305,37 +337,10 @@ def selection(rng, lines, is_part):
     return [*around, *(["--only", "breach"] if is_part else [])]
 
 
-def drawing(text, f, is_part, said):
-    """What a picture shows by the model. Of several shortest chains it is the one that the program drew."""
-    chain = re.search(r"^chain (.*)$", said, re.MULTILINE)
-    bands, chain = pictures.breach_of(text, f, list(map(int, chain[1].split())) if chain else [])
-    n = traces.read(text).n
-    shown = pictures.processes_of(text, f, bands, chain or []) if is_part else list(range(n))
-    return listing(shown, n - len(shown), bands, chain or [], pictures.told(text, shown))
-
-
-def listing(shown, hidden, bands, chain, marks, covered=()):
-    """What a picture shows as a text, and what covers what in it."""
-    lines = [f"processes {shown} and {hidden} hidden\n", *(f"band of {p} from {begin} to {end}\n" for p, begin, end in bands)]
-    lines += [f"chain {' '.join(map(str, chain))}\n"] * bool(chain)
-    lines += [f"{line} {words}{' (faint)' if faint else ''}\n" for line, words, faint in marks]
-    return "".join(["picture\n", *lines, *(f"COVERED {words}\n" for words in covered)])
-
-
-def drawn(printed):
-    """What is compared of a picture."""
-    marks = pictures.marks(printed)
-    if marks is None:
-        return "no picture\n"
-    is_cut = re.search(rb"entries (before|between|after) are not shown", printed)
-    bands, chain = ([], []) if is_cut else pictures.breach(printed)
-    return listing(pictures.processes(printed), pictures.hidden(printed), bands, chain, marks, pictures.overlaps(printed))
-
-
 def window_case(rng):
-    """A run of many entries and processes, most of them idle, in which a process comes to depend on a delivery without its determinant.
-    Of its picture the marks are not compared, but no label may cover another."""
-    n, length = rng.choice((3, 5, 14, 40, 64, 200, 256)), rng.choice((30, 77, 190, 201, 260, 420))
+    """A run of many entries and processes, most of them idle, in which a process comes to depend on a delivery without its determinant."""
+    n = rng.choice((3, 5, 14, 40, 64, 200, 256, rng.randrange(3, 50)))
+    length = rng.choice((30, 77, 190, 201, 260, 420, rng.randrange(70, 210)))
     first = rng.randrange(1, length - 4)
     sent = rng.randrange(first + 1, length - 2)
     last = rng.randrange(sent + 1, length)
@@ -348,12 +353,12 @@ def window_case(rng):
     lines = [("trace", 2, n), *[(word, *fields) for word, fields in entries], ("end", length)]
     text = ("\n".join(map(scripts.spelled, lines)) + "\n").encode()
     f = 1 if is_logged else rng.choice((0, 1))
-    return ["draw", "--faults", str(f), *selection(rng, len(lines), rng.random() < 0.5)], text, uncovered
-
-
-def uncovered(said):
-    """The same picture without what covers another, and the status of an orphan."""
-    return "".join(line for line in said.splitlines(keepends=True) if not line.startswith("COVERED ")), 1
+    # With p down nobody has the first determinant; without a fault only the second may be lost.
+    delivery, crash = (first, p) if f else (last, "-")
+    answer = f"orphan f={f} instant={last + 1} delivery={delivery} crash={crash} orphan={q}"
+    assert n * length > 3 * SHORT or traces.audited(text, f)[0] == answer
+    words = ["draw", "--faults", str(f), *selection(rng, len(lines), rng.random() < 0.5)]
+    return words, text, lambda said: (pictures.picture_of(words, text, answer, said), 1)
 
 
 # ---- scripts
@@ -427,6 +432,23 @@ MAKERS = {"audit": [audit_case, audit_case, raised_case], "explain": [explain_ca
 # What a trial of all cases has to meet at least once in so many.
 LEAST = {"accept": 10, "exceeded": 50, "orphan crash=-": 50, "orphan": 100, "with a replay": 50, "with a forgetting": 20, "with a stable": 20}
 
+# How a picture's text shows what pictures have to be met with.
+PICTURED = {
+    "picture of a safe run": ">accept f=",
+    "picture of an excess": ">exceeded f=",
+    "picture of an orphan": ">orphan f=",
+    "picture with a chain": "<title>chain<",
+    "picture of later entries": "entries before are not shown",
+    "picture of two ranges": "entries between are not shown",
+    "picture of earlier entries": "entries after are not shown",
+    "picture of some processes": "processes are not shown",
+    "picture of many processes": ">process 50<",
+    "picture with narrow columns": "rotate(-90)",
+    "picture with an arrow to its sender": "Q",
+    "picture with a message sent again": "<g opacity",
+}
+LEAST |= dict.fromkeys(PICTURED, 200)
+
 
 def features(text):
     """What stands in a trace that tests of its verdict want to have met."""
@@ -437,14 +459,24 @@ def features(text):
 
 
 def one(program, words, text):
-    """What the program prints, of the lines of `explain` the words before the colon, of a picture its marks, and its status."""
+    """What the program prints, of the lines of `explain` the words before the colon, and its status."""
     ended = subprocess.run([program, *words], input=text, capture_output=True, timeout=60)
-    if words[0] == "draw":
-        return drawn(ended.stdout), ended.returncode
     said = ended.stdout.decode("utf-8", "replace")
     if words[0] == "explain":
         said = "".join(line.split(":")[0] + "\n" for line in said.splitlines())
     return said, ended.returncode
+
+
+def difference(words, wanted, got):
+    """What differs in two answers, each a text and a status, and nothing where they are the same: of a picture the first lines that do,
+    or what covers what in it."""
+    if words[0] != "draw":
+        return None if got == wanted else (wanted, got)
+    if got == wanted:
+        covered = list(elements.overlaps(got[0]))
+        return ("no label is covered", covered) if covered else None
+    lines = itertools.zip_longest(wanted[0].splitlines(), got[0].splitlines())
+    return tuple(zip((wanted[1], got[1]), *[pair for pair in lines if pair[0] != pair[1]][:4]))
 
 
 def chunk(program, makers, seed, count):
@@ -455,10 +487,14 @@ def chunk(program, makers, seed, count):
         got = one(program, words, text)
         wanted, status = model(got[0])
         wanted = wanted if wanted.endswith("\n") else wanted + "\n"
-        if got != (wanted, status):
-            wrong.append((words, text, (wanted, status), got))
-        first = wanted.split("\n", 1)[0].split(" ")
-        met[" ".join(word for word in first if not any(c.isdigit() for c in word)) or first[0][:8]] += 1
+        differs = difference(words, (wanted, status), got)
+        if differs:
+            wrong.append((words, text, *differs))
+        if words[0] == "draw":
+            met.update(name for name, shown in PICTURED.items() if shown in wanted)
+        else:
+            first = wanted.split("\n", 1)[0].split(" ")
+            met[" ".join(word for word in first if not any(c.isdigit() for c in word)) or first[0][:8]] += 1
         if words[0] != "run" and status != 2:
             met.update(features(text))
     return wrong, met

@@ -48,17 +48,24 @@ def lanes(entries):
     return found, restarts
 
 
-def chain_to(entries, k, p, told):
-    """A shortest chain from the delivery at position k to an event of p's present lane: the one that is told, where it is one."""
+def shortest_chains(entries, k, p):
+    """The shortest chains from the delivery at position k to an event of p's present lane."""
     found, restarts = lanes(entries)
     present = (p, restarts.get(p, 0))
-    chains = [[k]]
+    chains, reached = [[k]], {k}
     while chains:
         arrived = [chain for chain in chains if found[chain[-1]] == present]
         if arrived:
-            return told if told in arrived else arrived[0]
-        chains = [chain + [j] for chain in chains for j in range(len(entries)) if precedes(entries, found, chain[-1], j)]
-    return None
+            return arrived
+        chains = [[*chain, j] for chain in chains for j in range(len(entries)) if j not in reached and precedes(entries, found, chain[-1], j)]
+        reached |= {chain[-1] for chain in chains}
+    return []
+
+
+def chain_to(entries, k, p, told):
+    """A shortest chain from the delivery at position k to an event of p's present lane: the one that is told, where it is one."""
+    chains = shortest_chains(entries, k, p)
+    return told if told in chains else chains[0]
 
 
 def precedes(entries, found, i, j):

@@ -2,7 +2,7 @@
 import hashlib
 import re
 
-from pictures import marks, processes
+from elements import marks, processes
 
 from . import faults, texts, verdicts
 from .row import given, status_of
