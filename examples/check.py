@@ -3,8 +3,9 @@
 models of the auditor and of the runtime (trials/traces.py, trials/scripts.py): each row of the table, and both answers to the worked
 recording, of which the second is to one list that is forged. The explanations that stand here have to tell what the plain model of
 explanations tells (trials/reasons.py). The rows of commands/ have to be answered by the models where they can. With --program the
-program has to give all of these too, with --json an object that says what the lines say, and to command lines what stands here. Of the
-picture that stands here it checks what follows from the layout of pictures, and of record.py that it shows each kind of line.
+program has to give all of these too, with --json an object that says what the lines say, and to command lines what stands here. The
+picture that stands here has to be that of the plain model of pictures (trials/pictures.py), and what follows by hand from the layout; of
+record.py it checks that it shows each kind of line.
 
     examples/check.py [--program crates/causal_tool/out/causal_tool]
 """
@@ -23,6 +24,7 @@ HERE = os.path.dirname(os.path.abspath(__file__))
 TOP = os.path.dirname(HERE)
 sys.path.insert(0, os.path.join(TOP, "trials"))
 import commands  # noqa: E402
+import pictures  # noqa: E402
 import reasons  # noqa: E402
 import scripts  # noqa: E402
 import traces  # noqa: E402
@@ -131,6 +133,18 @@ BANDS = ["140 132H215"]
 CHAIN = ["140,132 170,132 200,172"]
 NAMED = ["process 0", "process 1: holder", "process 2: orphan"]
 VERDICT = ["orphan f=1: process 2 depends on the delivery of line 3"]
+
+
+def wrong_pictures():
+    """Tells each picture that stands here and is not the one of the plain model, and gives how many there are and how many are wrong."""
+    told = {shown: (trace, f) for shown, (word, trace, f) in SHOWN.items() if word == "draw"}
+    wrong = 0
+    for shown, (trace, f) in told.items():
+        text = bytes_of(trace)
+        if bytes_of(shown).decode() != pictures.picture_of(["draw"], text, traces.audited(text, f)[0]):
+            wrong += 1
+            print(f"{shown} is not the model's picture of {trace} for {f}")
+    return len(told), wrong
 
 
 def wrong_in_the_picture():
@@ -683,7 +697,7 @@ def main():
     if unmet:
         wrong += len(unmet)
         print(f"no row for {', '.join(sorted(unmet))}")
-    asked = [wrong_in_the_format(), wrong_reasons(), wrong_ranges(program), commands.wrong_by_models()]
+    asked = [wrong_in_the_format(), wrong_reasons(), wrong_pictures(), wrong_ranges(program), commands.wrong_by_models()]
     if program:
         asked += [wrong_complaints(program), wrong_streams(program), wrong_words(program), wrong_objects(program)]
         asked.append(wrong_progress(program))

@@ -3,6 +3,7 @@ import concurrent.futures
 import os
 
 import merge_model
+import pictures as painter
 import replays as follower
 import scripts as runtime
 import traces as auditor
@@ -43,8 +44,18 @@ def merged(text):
     return 0, merge_model.spell(n, entries)
 
 
+def picture_answer(row):
+    """What a row compares of the picture by the plain model. A row of a whole picture is made by it."""
+    if row.status > 1 or row.seen is bytes.decode:
+        return None
+    answer, status = auditor.audited(row.text, int(row.words[2]))
+    return status, row.seen(painter.picture_of(row.words, row.text, answer).encode())
+
+
 def modelled(row):
     """What a plain model answers to a row, where there is one."""
+    if row.words[0] == "draw":
+        return picture_answer(row)
     if row.files is not None or row.made is not None or len(row.text) > SHORT or row.seen is not bytes.decode or {"--entries", "--json"} & set(row.words):
         return None
     if row.words[0] == "audit":
@@ -62,7 +73,7 @@ def modelled(row):
 
 
 def wrong_by_models():
-    """The same of the plain models of the auditor, of the runtime and of `merge`."""
+    """The same of the plain models of the auditor, of pictures, of the runtime and of `merge`."""
     asked = [(name, row, modelled(row)) for name, row in all_rows()]
     wrong = [(name, row, got) for name, row, got in asked if got not in (None, (row.status, row.out))]
     for name, row, got in wrong:

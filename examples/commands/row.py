@@ -1,5 +1,5 @@
 """One row: what the built program is given, and how it ends and what it prints then. All that is expected was worked out by hand from
-the definitions and the formats."""
+the definitions and the formats, but for whole pictures, which the plain model has drawn."""
 import os
 import subprocess
 import tempfile
