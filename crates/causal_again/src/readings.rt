@@ -1,7 +1,8 @@
 //! Texts of a trace: reading, printing and audits.
 use crate::reporting::{TRIES, print_refusal, print_result};
 use causal_audit::{Tables, judge, verdict_of};
-use causal_commands::{Ended, audit_stream};
+use causal_commands::audit_stream;
+use causal_outcomes::Ended;
 use causal_text::{Progress, ReaderFault, TraceReader, read_trace, text_of, write_whole};
 use causal_trace::trace::Trace;
 use causal_workers::{OpenGate, audit, audit_text};

@@ -1,6 +1,6 @@
 -- A list that is appended to those before it, or an error.
 use Rattle.std.proofs.Common.{◌≡◌, ◌++◌, ℕ, List, Result, Ok, Err, refl, ap, sym, append_assoc, arith}
-use Rattle.causal_commands.specs.declared.map_fault.MapFault.{MapFault}
+use Rattle.causal_outcomes.specs.declared.map_fault.MapFault.{MapFault}
 use Rattle.causal_commands.specs.PlacedLines.{with_front, joined}
 
 front_twice : (a b : List ℕ) (r : Result (List ℕ) MapFault) → with_front a (with_front b r) ≡ with_front (a ++ b) r

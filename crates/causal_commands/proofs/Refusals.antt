@@ -6,17 +6,17 @@ use Rattle.causal_text.specs.declared.context_reading.ReadError.TheVariants as r
 use Rattle.causal_workers.specs.Streaming.{ExplainsVerdictError}
 use Rattle.causal_workers.specs.declared.streaming.VerdictError.{VerdictError}
 use Rattle.causal_workers.specs.declared.streaming.VerdictError.TheVariants.{Input, Audit}
-use Rattle.causal_commands.specs.declared.diagnostic.DiagnosedFault.{DiagnosedFault}
-use Rattle.causal_commands.specs.declared.ended.Ended.{Ended}
-use Rattle.causal_commands.specs.declared.ended.Ended.TheVariants.{Faulted}
+use Rattle.causal_outcomes.specs.declared.diagnostic.DiagnosedFault.{DiagnosedFault}
+use Rattle.causal_outcomes.specs.declared.ended.Ended.{Ended}
+use Rattle.causal_outcomes.specs.declared.ended.Ended.TheVariants.{Faulted}
 use Rattle.causal_commands.specs.declared.question.Question.{Question}
 use Rattle.causal_commands.specs.declared.question.Question.TheVariants.{Verdict, Breach, Reason, Range, Replays}
 use Rattle.causal_commands.specs.declared.response.Response.{Response}
-use Rattle.causal_commands.specs.Diagnostics.{IsTrueDiagnosis, IsDiagnosisFor}
+use Rattle.causal_outcomes.specs.Diagnostics.{IsTrueDiagnosis, IsDiagnosisFor}
 use Rattle.causal_commands.specs.Replies.{IsFaultReply, IsReply}
 use Rattle.causal_commands.specs.Inside.Answers.{ExplainsNoReply, ReportsFault}
 use Rattle.causal_commands.specs.Inside.Refusals.{IsTrueRefusal, IsTrueRefusalFor, ExplainsRefusal}
-use Rattle.causal_commands.proofs.Known.{IfSome-weaker}
+use Rattle.causal_outcomes.proofs.Lemmas.Known.{IfSome-weaker}
 
 -- a true diagnostic of a refused text is true of the bytes of a reader
 pub names : (most : ℕ) (known : Option (List ℕ)) (f : ℕ) (rejected : Option TextRefusal) (told : Option DiagnosedFault) → IsTrueRefusalFor most known rejected

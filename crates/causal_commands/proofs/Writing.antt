@@ -6,14 +6,14 @@ use Rattle.std.proofs.KnownBytes.{Keeps-refl}
 use Rattle.causal_report.specs.declared.form.Form.{Form}
 use Rattle.causal_report.specs.Replies.{reply_text}
 use Rattle.causal_commands.specs.declared.answer.Answer.{Answer}
-use Rattle.causal_commands.specs.declared.ended.Ended.{Ended}
-use Rattle.causal_commands.specs.declared.ended.Ended.TheVariants.{Accepted, Breached, Ranged, Followed, Strayed, Merged, Faulted, Ran, Refused, ReadFault, WriteFault, NoMemory, NoWorker, FinishFault}
+use Rattle.causal_outcomes.specs.declared.ended.Ended.{Ended}
+use Rattle.causal_outcomes.specs.declared.ended.Ended.TheVariants.{Accepted, Breached, Ranged, Followed, Strayed, Merged, Faulted, Ran, Refused, ReadFault, WriteFault, NoMemory, NoWorker, FinishFault}
 use Rattle.causal_commands.specs.declared.question.Question.{Question}
 use Rattle.causal_commands.specs.declared.response.Response.{Response}
 use Rattle.causal_commands.specs.Answers.{IsAnswer}
-use Rattle.causal_commands.specs.AnswerWrites.{WritesAnswer}
+use Rattle.causal_outcomes.specs.AnswerWrites.{WritesAnswer}
 use Rattle.causal_commands.specs.Inside.Answers.{IsReplyFor, WritesNothing, WritesWholeAnswer, IsWritten}
-use Rattle.causal_commands.proofs.Known.{IfSome-weaker}
+use Rattle.causal_outcomes.proofs.Lemmas.Known.{IfSome-weaker}
 
 -- an answer that is appended whole is written as its ending requires
 whole : (Answers : Ended → List ℕ → Type 0) (old new : Option (List ℕ)) (ended : Ended) (line : List ℕ) → WritesWholeAnswer ended → Answers ended line → Appends old new line → WritesAnswer Answers ended old new

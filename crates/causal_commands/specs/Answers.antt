@@ -4,9 +4,9 @@ use Rattle.std.specs.Prelude.{◌≡◌, ℕ, List, Option, IfSome}
 use Rattle.causal_report.specs.declared.form.Form.{Form}
 use Rattle.causal_report.specs.declared.reply.Reply.{Reply}
 use Rattle.causal_report.specs.Replies.{reply_text}
-use Rattle.causal_commands.specs.declared.ended.Ended.{Ended}
+use Rattle.causal_outcomes.specs.declared.ended.Ended.{Ended}
 use Rattle.causal_commands.specs.declared.question.Question.{Question}
-use Rattle.causal_commands.specs.AnswerWrites.{WritesAnswer}
+use Rattle.causal_outcomes.specs.AnswerWrites.{WritesAnswer}
 use Rattle.causal_commands.specs.Replies.{IsReply}
 
 -- the bytes are the reply to the question in this form

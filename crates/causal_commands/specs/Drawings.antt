@@ -8,9 +8,9 @@ use Rattle.causal_audit.specs.declared.verdict.Verdict.TheVariants.{Accept}
 use Rattle.causal_workers.specs.Judgements.{IsJudgementWithin}
 use Rattle.causal_picture.specs.declared.selection.Selection.{Selection}
 use Rattle.causal_report.specs.Drawings.{IsSelectedDrawing}
-use Rattle.causal_commands.specs.declared.ended.Ended.{Ended}
-use Rattle.causal_commands.specs.declared.ended.Ended.TheVariants.{Accepted, Breached, Faulted}
-use Rattle.causal_commands.specs.AnswerWrites.{WritesAnswer}
+use Rattle.causal_outcomes.specs.declared.ended.Ended.{Ended}
+use Rattle.causal_outcomes.specs.declared.ended.Ended.TheVariants.{Accepted, Breached, Faulted}
+use Rattle.causal_outcomes.specs.AnswerWrites.{WritesAnswer}
 
 -- the text spells a trace with this verdict for f, and this is the selected part of its picture
 pub record IsDrawn (most : ℕ) (selection : Selection) (text : List ℕ) (f : ℕ) (judged : Judged) (out : List ℕ) : Type 0 where

@@ -1,6 +1,5 @@
 -- Definitions for private contracts; no public contract cites them.
 pub mod Answers
-pub mod MergeOutcomes
 pub mod Refusals
 pub mod Placing
 pub mod MappedAnswers

@@ -1,15 +1,7 @@
 pub mod Inside
-pub mod Endings
 pub mod PlacedLines
 pub mod MappedReasons
-pub mod Merges
-pub mod Reading
 pub mod Ranges
-pub mod Diagnostics
-pub mod DiagnosticText
-pub mod AnswerWrites
-pub mod Chains
-pub mod Excerpts
 pub mod Questions
 pub mod Replies
 pub mod Answers

@@ -8,12 +8,12 @@ use Rattle.causal_report.specs.declared.fact.Fact.{Fact}
 use Rattle.causal_report.specs.declared.form.Form.TheVariants.{Lines}
 use Rattle.causal_report.specs.declared.reply.Reply.{Reply}
 use Rattle.causal_report.specs.Replies.{reply_text}
-use Rattle.causal_commands.specs.declared.ended.Ended.{Ended}
-use Rattle.causal_commands.specs.declared.ended.Ended.TheVariants.{Accepted, Breached, Faulted}
-use Rattle.causal_commands.specs.declared.map_fault.MapFault.{MapFault}
+use Rattle.causal_outcomes.specs.declared.ended.Ended.{Ended}
+use Rattle.causal_outcomes.specs.declared.ended.Ended.TheVariants.{Accepted, Breached, Faulted}
+use Rattle.causal_outcomes.specs.declared.map_fault.MapFault.{MapFault}
 use Rattle.causal_commands.specs.declared.mapped_reason.MappedOutcome.{MappedOutcome}
-use Rattle.causal_commands.specs.AnswerWrites.{WritesAnswer}
-use Rattle.causal_commands.specs.Merges.{bytes_read}
+use Rattle.causal_outcomes.specs.AnswerWrites.{WritesAnswer}
+use Rattle.causal_outcomes.specs.Merges.{bytes_read}
 use Rattle.causal_commands.specs.PlacedLines.{placed_text, with_front}
 use Rattle.causal_commands.specs.Replies.{IsExplained, IsFaultReply}
 

@@ -8,8 +8,8 @@ use Rattle.causal_report.specs.declared.fact.Fact.{Fact}
 use Rattle.causal_report.specs.Entries.{entry_of}
 use Rattle.causal_report.specs.Lines.{fact_head}
 use Rattle.causal_report.specs.Sentences.{sentence_of}
-use Rattle.causal_commands.specs.declared.map_fault.MapFault.{MapFault}
-use Rattle.causal_commands.specs.declared.map_fault.MapFault.TheVariants.{Big, Length, Entry}
+use Rattle.causal_outcomes.specs.declared.map_fault.MapFault.{MapFault}
+use Rattle.causal_outcomes.specs.declared.map_fault.MapFault.TheVariants.{Big, Length, Entry}
 
 -- ---- the lines of a map
 

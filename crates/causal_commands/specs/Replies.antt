@@ -22,8 +22,8 @@ use Rattle.causal_report.specs.declared.finding.Finding.TheVariants as finding
 use Rattle.causal_report.specs.declared.reply.Reply.{Reply}
 use Rattle.causal_report.specs.declared.reply.Reply.TheVariants.{Found, Ranges}
 use Rattle.causal_report.specs.Facts.{AreFacts, AreSurvivorFacts}
-use Rattle.causal_commands.specs.declared.ended.Ended.{Ended}
-use Rattle.causal_commands.specs.declared.ended.Ended.TheVariants.{Accepted, Breached, Ranged, Followed, Strayed, Faulted}
+use Rattle.causal_outcomes.specs.declared.ended.Ended.{Ended}
+use Rattle.causal_outcomes.specs.declared.ended.Ended.TheVariants.{Accepted, Breached, Ranged, Followed, Strayed, Faulted}
 use Rattle.causal_commands.specs.declared.question.Question.{Question}
 use Rattle.causal_commands.specs.declared.question.Question.TheVariants.{Verdict, Breach, Reason, Range, Replays}
 use Rattle.causal_commands.specs.declared.question.StrayDetail.{StrayDetail}

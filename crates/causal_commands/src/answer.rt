@@ -1,13 +1,12 @@
 //! The answer to the text of a trace, and its output.
 ghost use Rattle.std.specs.Prelude.{◌≡◌, ◌≢◌, ℕ, List, Option};
-ghost use Rattle.causal_commands.specs.Diagnostics.{IsDiagnosisFor};
+ghost use Rattle.causal_outcomes.specs.Diagnostics.{IsDiagnosisFor};
 ghost use Rattle.causal_commands.specs.Inside.Answers.{WritesWholeAnswer, IsWritten};
 ghost use Rattle.causal_commands.specs.Inside.Refusals.{IsTrueRefusalFor};
 
-use crate::diagnostic::{DiagnosedFault, diagnose};
-use crate::ended::Ended;
-use crate::stream::Outcome;
+use crate::diagnosis::diagnose;
 use causal_audit::verdict::Verdict;
+use causal_outcomes::{DiagnosedFault, Ended, Outcome};
 use causal_text::{TextRefusal, write_whole};
 use std::alloc::Global;
 use std::io::Write;

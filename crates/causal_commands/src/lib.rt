@@ -14,28 +14,14 @@
 
 /// The answer to the text of a trace, and its output.
 mod answer;
-/// The diagnostic of an invalid trace, as text.
-pub mod diagnostic_texts;
 /// The command `draw`.
 pub mod drawing;
-/// How a command ends: its exit status and its message.
-pub mod ended;
-/// The first bytes of a line, to be shown with an error.
-mod excerpt;
 /// The command `explain --map`.
 pub mod mapped_reason;
-/// The errors of a map.
-pub mod map_fault;
-/// The command `merge`.
-pub mod merge_command;
 /// The lines of facts, with the places of their entries.
 mod placed_lines;
 /// Questions on a trace, and their answers: `audit`, `explain` and `replays`.
 pub mod question;
-/// Streams that are read one after the other.
-pub mod chained_stream;
-/// A stream that keeps its last error.
-pub mod last_error_stream;
 /// The bounds f for which a run is safe.
 mod range;
 /// The verdict on a trace, with the facts that explain it.
@@ -46,23 +32,13 @@ mod replays;
 mod response;
 /// The audit of a trace by the calling thread alone.
 mod serial_audit;
-/// Bounded reads: of recorder files, a map, or the text of a script.
-pub mod bounded_read;
 /// The diagnosis of an invalid trace.
-pub mod diagnostic;
-/// The outcome of a command, and `audit` within the default limits.
+mod diagnosis;
+/// The command `audit` within the default limits.
 pub mod stream;
 
-pub use bounded_read::{ReadFault, read_at_most};
 pub use causal_report::Form;
-pub use chained_stream::ChainedStream;
-pub use diagnostic::{DiagnosedFault, Diagnostic};
-pub use diagnostic_texts::diagnostic_text;
 pub use drawing::answer_drawing;
-pub use ended::Ended;
-pub use last_error_stream::LastErrorStream;
-pub use map_fault::MapFault;
 pub use mapped_reason::{MappedOutcome, answer_mapped_reason};
-pub use merge_command::{Mapping, MergeOutcome, answer_merge};
 pub use question::{Question, StrayDetail, answer_question};
-pub use stream::{Outcome, audit_stream};
+pub use stream::audit_stream;

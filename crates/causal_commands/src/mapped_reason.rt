@@ -3,8 +3,8 @@ ghost use Rattle.std.specs.Prelude.{◌≡◌, ◌≢◌, ◌≤◌, ◌++◌, �
 ghost use Rattle.causal_audit.specs.VerdictLines.{verdict_line};
 ghost use Rattle.causal_text.specs.Streams.{StopsWithin};
 ghost use Rattle.causal_reading.specs.Reads.{max_read};
-ghost use Rattle.causal_commands.specs.Diagnostics.{IsDiagnosisFor};
-ghost use Rattle.causal_commands.specs.Merges.{ReadsAtMostRecordings};
+ghost use Rattle.causal_outcomes.specs.Diagnostics.{IsDiagnosisFor};
+ghost use Rattle.causal_outcomes.specs.Merges.{ReadsAtMostRecordings};
 ghost use Rattle.causal_commands.specs.MappedReasons.{WritesMappedFor};
 ghost use Rattle.causal_commands.specs.Inside.Answers.{WritesNothing, WritesWholeAnswer};
 ghost use Rattle.causal_commands.specs.PlacedLines.{placed_text, with_front};
@@ -13,16 +13,12 @@ ghost use Rattle.causal_commands.specs.Inside.Refusals.{ExplainsRefusal, IsTrueR
 ghost use Rattle.causal_commands.specs.Inside.MappedAnswers.{IsFaultAnswer, IsMappedFor, IsPlacedFor, IsPlaced};
 
 use crate::answer::{Answer, ended_of, write_answer};
-use crate::bounded_read::{ReadFault, read_at_most};
-use crate::diagnostic::DiagnosedFault;
-use crate::ended::Ended;
-use crate::map_fault::{MapFault, PlaceError};
-use crate::placed_lines::placed_text;
+use crate::placed_lines::{PlaceError, placed_text};
 use crate::reason::{ExplainedVerdict, explain_trace};
 use crate::response::{fault_response, printed_answer};
-use crate::stream::Outcome;
 use causal_merge::max_input_len;
 use causal_name::NoMemory;
+use causal_outcomes::{DiagnosedFault, Ended, MapFault, Outcome, ReadFault, read_at_most};
 use causal_reading::read_by;
 use causal_report::Form;
 use causal_trace::limits::Limits;

@@ -3,12 +3,19 @@ ghost use Rattle.std.specs.Prelude.{◌≡◌, ◌++◌, map, IfOk, OnOk};
 ghost use Rattle.causal_commands.specs.PlacedLines as placed;
 ghost use Rattle.causal_commands.specs.Inside.Placing.{ReturnsPlaced, GivesAfter};
 
-use crate::map_fault::{MapFault, PlaceError};
 use causal_merge::{max_input_len, read_place};
+use causal_outcomes::MapFault;
 use causal_report::{Fact, fact_head, fact_sentence};
 use causal_text::TextKind;
 use causal_trace::limits::Limits;
 use std::alloc::{AllocError, Global};
+
+/// Why lines are not given the places of their entries.
+#[derive(Clone, Copy)]
+pub(crate) enum PlaceError {
+    Map(MapFault),
+    NoMemory,
+}
 
 /// Returns the lines of facts on a trace with this many entries; each line of a fact that has an entry gets the fields
 /// ` at=FILE:LINE clock=CLOCK` by the map, before its sentence. The map must have a line for each entry; it is parsed

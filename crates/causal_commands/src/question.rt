@@ -1,21 +1,19 @@
 //! Questions on a trace, and their answers, over any reader and writer.
 ghost use Rattle.std.specs.Prelude.{◌≡◌, ◌≤◌, IfOk, IfErr, IfSome, Err};
 ghost use Rattle.causal_commands.specs.Answers.{WritesFor};
-ghost use Rattle.causal_commands.specs.Diagnostics.{IsDiagnosisFor};
+ghost use Rattle.causal_outcomes.specs.Diagnostics.{IsDiagnosisFor};
 ghost use Rattle.causal_commands.specs.Questions as questions;
 ghost use Rattle.causal_commands.specs.Replies.{IsReply};
 ghost use Rattle.causal_commands.specs.Inside.Answers.{IsFaultless, IsOnWholeText, IsReplyFor, IsReplyOrError, RepliesOn, WritesNothing, WritesWholeAnswer, RefusalIsTrue};
 
 use crate::answer::write_answer;
-use crate::diagnostic::DiagnosedFault;
-use crate::ended::Ended;
 use crate::range::range_response;
 use crate::reason::reason_response;
 use crate::replays::replays_response;
 use crate::response::{
     Response, fault_response, printed_answer, stream_response, verdict_response,
 };
-use crate::stream::Outcome;
+use causal_outcomes::{DiagnosedFault, Ended, Outcome};
 use causal_reading::read_by;
 use causal_report::Form;
 use causal_trace::limits::Limits;

@@ -4,10 +4,10 @@ ghost use Rattle.causal_commands.specs.Ranges as ranges;
 ghost use Rattle.causal_commands.specs.Replies.{IsRangeReply};
 ghost use Rattle.causal_commands.specs.Inside.Answers.{IsFaultless, RepliesOn};
 
-use crate::ended::Ended;
 use crate::response::Response;
 use causal_explain::{SafeRange, safe_range};
 use causal_name::NoMemory;
+use causal_outcomes::Ended;
 use causal_report::{Bounds, Reply};
 use causal_trace::trace::Trace;
 use std::alloc::{AllocError, Global};

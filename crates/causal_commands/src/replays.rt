@@ -4,10 +4,10 @@ ghost use Rattle.causal_replays.specs.Strays.{IsFirstStray};
 ghost use Rattle.causal_commands.specs.Replies as replies;
 ghost use Rattle.causal_commands.specs.Inside.Answers.{IsFaultless};
 
-use crate::ended::Ended;
 use crate::question::StrayDetail;
 use crate::response::{Response, found};
 use causal_name::NoMemory;
+use causal_outcomes::Ended;
 use causal_replays::{Stray, first_stray};
 use causal_report::{Fact, Finding, Reply, survivor_facts};
 use causal_trace::trace::Trace;

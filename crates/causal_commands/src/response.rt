@@ -8,8 +8,8 @@ ghost use Rattle.causal_commands.specs.Replies.{IsEarlyReply, IsFound, IsVerdict
 ghost use Rattle.causal_commands.specs.Inside.Answers.{IsFaultless, ReportsFault, WritesNothing};
 
 use crate::answer::{Answer, ended_of};
-use crate::ended::Ended;
 use causal_name::NoMemory;
+use causal_outcomes::Ended;
 use causal_report::{Finding, Form, Reply, reply_text};
 use causal_text::{ReadError, TextKind, TextRefusal};
 use causal_workers::{AuditFault, Judged, StreamVerdict, VerdictError};

@@ -1,12 +1,12 @@
-//! The outcome of a command, and the command `audit` within the default limits.
+//! The command `audit` within the default limits.
 ghost use Rattle.std.specs.Prelude.{◌≡◌, ◌≤◌};
 ghost use Rattle.causal_text.specs.Streams.{StopsWithin};
 ghost use Rattle.causal_reading.specs.Reads.{max_read};
 ghost use Rattle.causal_trace.specs.Limits.{default_entries};
 ghost use Rattle.causal_commands.specs.Answers.{WritesFor};
 
-use crate::ended::Ended;
 use crate::question::{Question, answer_question};
+use causal_outcomes::Ended;
 use causal_report::Form;
 use causal_trace::limits::DEFAULT_LIMITS;
 use causal_workers::Gate;
@@ -15,14 +15,6 @@ use std::io::{Read, Write};
 use std::rt::Clock;
 use std::sync::Wait;
 use std::thread::Threads;
-
-/// The outcome of a command: how it ended, and the error of its input, if the error's line was written or would have
-/// been.
-#[derive(Clone, Copy)]
-pub struct Outcome<F> {
-    pub ended: Ended,
-    pub fault: Option<F>,
-}
 
 /// Reads the text of a trace within the default limits, audits it for f by 1 to 64 workers, and writes one line: the
 /// verdict, or the text's first error. The ending reports a failure of the reader, the writer, an allocation or a

@@ -3,7 +3,7 @@ ghost use Rattle.std.specs.Prelude.{◌≡◌};
 
 use crate::hints::{FileContent, print_hints};
 use crate::place::InputNames;
-use causal_commands::{DiagnosedFault, Ended, MapFault, Outcome, diagnostic_text};
+use causal_outcomes::{DiagnosedFault, Ended, MapFault, Outcome, diagnostic_text};
 use causal_text::TextFault;
 use std::fmt::Display;
 

@@ -1,8 +1,8 @@
 //! The file of a map: `explain` reads it, and `merge` writes it.
 use crate::place::InputNames;
 use crate::source::is_standard_input;
-use causal_commands::{Ended, LastErrorStream, MergeOutcome};
 use causal_merge::{Origin, map_text};
+use causal_outcomes::{Ended, LastErrorStream, MergeOutcome};
 use causal_text::write_whole;
 use std::fs::{self, Files};
 use std::io::{self, Read, Result};

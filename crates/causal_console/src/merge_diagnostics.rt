@@ -4,8 +4,8 @@ ghost use Rattle.std.specs.Prelude.{◌≡◌};
 use crate::diagnostics::{print_at_line, print_error_line};
 use crate::hints::{FileContent, print_hints};
 use crate::place::InputNames;
-use causal_commands::{Ended, MergeOutcome};
 use causal_merge::{MergeFault, MergeKind, sentence};
+use causal_outcomes::{Ended, MergeOutcome};
 
 // maximum number of torn lines that are printed one by one
 const MAX_TORN_PRINTED: usize = 1000;

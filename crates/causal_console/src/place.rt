@@ -1,8 +1,8 @@
 //! The place of a line of the input: its file, and its line there.
 use crate::tracked_stream::TrackedStream;
-use causal_commands::ChainedStream;
 use causal_merge::{InputFile, quoted_name};
 use causal_name::NoMemory;
+use causal_outcomes::ChainedStream;
 use std::alloc::Global;
 use std::fmt::{self, Display, Formatter, Write};
 

@@ -1,6 +1,6 @@
 //! What a command line names: files, and standard input.
 use crate::tracked_stream::TrackedStream;
-use causal_commands::ChainedStream;
+use causal_outcomes::ChainedStream;
 use std::alloc::Global;
 use std::fs;
 use std::fs::Files;

@@ -12,9 +12,9 @@ use Rattle.causal_script.specs.Faults.{IsFirstFault}
 use Rattle.causal_script.specs.Printing.{script_line, refused_line}
 use Rattle.causal_run.specs.Runs.{IsRunFrom, IsRefusedFrom}
 use Rattle.causal_run.specs.ScriptProcesses.{IsStartOf}
-use Rattle.causal_commands.specs.Reading.{ReadsAtMost}
-use Rattle.causal_commands.specs.declared.ended.Ended.{Ended}
-use Rattle.causal_commands.specs.declared.ended.Ended.TheVariants.{Faulted, Ran, Refused, ReadFault, WriteFault, NoMemory, FinishFault}
+use Rattle.causal_outcomes.specs.Reading.{ReadsAtMost}
+use Rattle.causal_outcomes.specs.declared.ended.Ended.{Ended}
+use Rattle.causal_outcomes.specs.declared.ended.Ended.TheVariants.{Faulted, Ran, Refused, ReadFault, WriteFault, NoMemory, FinishFault}
 
 -- the bytes that are read of a text: at most one more than a script may have
 abbrev pub script_bytes_read : List ℕ → List ℕ

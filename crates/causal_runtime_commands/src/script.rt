@@ -7,8 +7,8 @@ ghost use Rattle.causal_runtime_commands.specs.Inside.ScriptAnswers.{IsScriptFau
 ghost use Rattle.causal_runtime_commands.specs.Inside.ReasonsForScripts.{IsFaultReason, IsRefusalReason};
 
 use crate::script_reading::read_script;
-use causal_commands::{Ended, ReadFault};
 use causal_name::{MsgName, NoMemory};
+use causal_outcomes::{Ended, ReadFault};
 use causal_protocol::request::CoreFault;
 use causal_run::{RunFault, pending_before, run_script};
 use causal_script::{

@@ -2,7 +2,7 @@
 ghost use Rattle.std.specs.Prelude.{◌≡◌, IfOk, IfSome};
 ghost use Rattle.causal_runtime_commands.specs.Runs.{ReadsAtMostScript, script_bytes_read};
 
-use causal_commands::{ReadFault, read_at_most};
+use causal_outcomes::{ReadFault, read_at_most};
 use std::alloc::Global;
 use std::io::Read;
 

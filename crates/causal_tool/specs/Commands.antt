@@ -1,13 +1,13 @@
 -- What each command writes and returns.
 use Rattle.std.specs.Prelude.{◌≡◌, ℕ, List, Option}
-use Rattle.causal_commands.specs.declared.ended.Ended.{Ended}
+use Rattle.causal_outcomes.specs.declared.ended.Ended.{Ended}
 use Rattle.causal_commands.specs.declared.question.Question.TheVariants.{Reason}
 use Rattle.causal_commands.specs.Answers.{WritesFor}
 use Rattle.causal_commands.specs.Drawings.{WritesDrawingFor}
 use Rattle.causal_commands.specs.Questions.{StopsFor, faults_of}
-use Rattle.causal_commands.specs.Diagnostics.{IsDiagnosisFor}
+use Rattle.causal_outcomes.specs.Diagnostics.{IsDiagnosisFor}
 use Rattle.causal_commands.specs.MappedReasons.{WritesMappedFor}
-use Rattle.causal_commands.specs.Merges.{WritesMergeFor, ReadsAtMostRecordings}
+use Rattle.causal_outcomes.specs.Merges.{WritesMergeFor, ReadsAtMostRecordings}
 use Rattle.causal_runtime_commands.specs.Reasons.{ArePendingFor, IsReasonFor}
 use Rattle.causal_runtime_commands.specs.Runs.{WritesScriptFor, ReadsAtMostScript}
 use Rattle.causal_tool.specs.declared.invocation.Invocation.{Invocation}

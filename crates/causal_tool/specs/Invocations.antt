@@ -14,7 +14,7 @@ use Rattle.causal_commands.specs.declared.question.Question.TheVariants.{Verdict
 use Rattle.causal_commands.specs.declared.question.Question.TheVariants as question_on
 use Rattle.causal_commands.specs.declared.question.StrayDetail.{StrayDetail}
 use Rattle.causal_commands.specs.declared.question.StrayDetail.TheVariants.{Line, WithSurvivors}
-use Rattle.causal_commands.specs.declared.merge_command.Mapping.TheVariants.{Mapped, Unmapped}
+use Rattle.causal_outcomes.specs.declared.merge_command.Mapping.TheVariants.{Mapped, Unmapped}
 use Rattle.causal_tool.specs.declared.invocation.Invocation.{Invocation}
 use Rattle.causal_tool.specs.declared.invocation.Invocation.TheVariants.{Trace, Draw, MappedReason, Merge, Run}
 

@@ -3,12 +3,13 @@ ghost use Rattle.std.specs.Prelude.{◌≡◌};
 ghost use Rattle.causal_tool.specs.Commands.{ended_of};
 
 use crate::run::CommandOutcome;
-use causal_commands::{Ended, MappedOutcome, Outcome};
+use causal_commands::MappedOutcome;
 use causal_console::{
     InputNames, print_at_line, print_error_line, print_map_fault, print_merge_diagnostics,
     print_trace_outcome,
 };
 use causal_name::{MsgName, Pid};
+use causal_outcomes::{Ended, Outcome};
 use causal_runtime_commands::{Reason, ScriptOutcome, hint_of};
 
 // maximum number of pending messages that are printed one by one

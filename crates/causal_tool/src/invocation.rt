@@ -4,7 +4,8 @@ ghost use Rattle.causal_arguments.specs.Workers.{HasWorkersInRange};
 ghost use Rattle.causal_tool.specs.Invocations.{HasWorkerCountInRange, detail_of, form_of, invocation_of};
 
 use causal_arguments::{Subcommand, Until};
-use causal_commands::{Form, Mapping, Question, StrayDetail};
+use causal_commands::{Form, Question, StrayDetail};
+use causal_outcomes::Mapping;
 use causal_picture::Selection;
 use causal_trace::limits::Limits;
 use causal_workers::Looks;

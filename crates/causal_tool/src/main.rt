@@ -14,7 +14,7 @@
 
 ghost use Rattle.std.specs.Prelude.{◌≡◌};
 ghost use Rattle.std.specs.Process.{exit_status};
-ghost use Rattle.causal_commands.specs.Endings.{status_of};
+ghost use Rattle.causal_outcomes.specs.Endings.{status_of};
 ghost use Rattle.causal_tool.specs.Commands.{ended_of};
 ghost use Rattle.causal_tool.specs.Inside.Exits.{status_after};
 
@@ -30,11 +30,11 @@ use crate::invocation::Invocation;
 use crate::run::{CommandOutcome, run_command};
 use causal_arguments::{BAD_USAGE, CommandLine, EarlyExit, Subcommand, parse_command_line};
 pub use causal_commands::audit_stream;
-use causal_commands::{Ended, LastErrorStream, MergeOutcome};
 use causal_console::{
     InputNames, MapFile, OpenFault, ProgressStream, file_name, is_standard_input, open_sources,
     print_error_line, replaced_input, write_map,
 };
+use causal_outcomes::{Ended, LastErrorStream, MergeOutcome};
 use std::io::{self, ErrorKind, IsTerminal};
 use std::process::ExitCode;
 

@@ -3,10 +3,8 @@ ghost use Rattle.causal_tool.specs.Invocations.{HasWorkerCountInRange};
 ghost use Rattle.causal_tool.specs.Commands.{Answers, ReadsFor, ReadsMapFor};
 
 use crate::invocation::Invocation;
-use causal_commands::{
-    DiagnosedFault, MappedOutcome, MergeOutcome, Outcome, answer_drawing, answer_mapped_reason,
-    answer_merge, answer_question,
-};
+use causal_commands::{MappedOutcome, answer_drawing, answer_mapped_reason, answer_question};
+use causal_outcomes::{DiagnosedFault, MergeOutcome, Outcome, answer_merge};
 use causal_runtime_commands::{ScriptOutcome, answer_script};
 use causal_workers::OpenGate;
 use std::io::{Read, Write};

@@ -13,8 +13,8 @@ use Rattle.causal_picture.specs.declared.selection.Selection.{Selection}
 use Rattle.causal_report.specs.declared.finding.Finding.TheVariants as finding
 use Rattle.causal_report.specs.declared.reply.Reply.{Reply}
 use Rattle.causal_commands.specs.declared.answer.Answer.{Answer}
-use Rattle.causal_commands.specs.declared.ended.Ended.{Ended}
-use Rattle.causal_commands.specs.declared.ended.Ended.TheVariants.{Accepted, Breached, Ranged, Followed, Strayed, Merged, Faulted, Ran, Refused, ReadFault, WriteFault, NoMemory, NoWorker}
+use Rattle.causal_outcomes.specs.declared.ended.Ended.{Ended}
+use Rattle.causal_outcomes.specs.declared.ended.Ended.TheVariants.{Accepted, Breached, Ranged, Followed, Strayed, Merged, Faulted, Ran, Refused, ReadFault, WriteFault, NoMemory, NoWorker}
 use Rattle.causal_commands.specs.declared.question.Question.{Question}
 use Rattle.causal_commands.specs.declared.question.Question.TheVariants.{Breach}
 use Rattle.causal_commands.specs.declared.response.Response.{Response}

@@ -4,7 +4,7 @@ use Rattle.causal_workers.specs.declared.streaming.VerdictError.{VerdictError}
 use Rattle.causal_commands.specs.declared.mapped_reason.MappedAnswer.{MappedAnswer}
 use Rattle.causal_commands.specs.declared.reason.ExplainedVerdict.{ExplainedVerdict}
 use Rattle.causal_commands.specs.MappedReasons.{IsMappedAnswer}
-use Rattle.causal_commands.specs.Merges.{bytes_read}
+use Rattle.causal_outcomes.specs.Merges.{bytes_read}
 use Rattle.causal_commands.specs.Replies.{IsExplained}
 use Rattle.causal_commands.specs.Inside.Refusals.{ExplainsRefusal}
 

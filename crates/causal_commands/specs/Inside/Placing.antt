@@ -1,8 +1,8 @@
 -- The results of functions that add the places of entries to lines.
 use Rattle.std.specs.Prelude.{◌≡◌, ℕ, List, Result, Ok, Err}
-use Rattle.causal_commands.specs.declared.map_fault.MapFault.{MapFault}
-use Rattle.causal_commands.specs.declared.map_fault.PlaceError.{PlaceError}
-use Rattle.causal_commands.specs.declared.map_fault.PlaceError.TheVariants.{Map, NoMemory}
+use Rattle.causal_outcomes.specs.declared.map_fault.MapFault.{MapFault}
+use Rattle.causal_commands.specs.declared.placed_lines.PlaceError.{PlaceError}
+use Rattle.causal_commands.specs.declared.placed_lines.PlaceError.TheVariants.{Map, NoMemory}
 use Rattle.causal_commands.specs.PlacedLines.{with_front}
 
 -- the error is the defined one, or an allocation failed

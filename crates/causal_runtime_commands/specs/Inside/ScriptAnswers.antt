@@ -8,8 +8,8 @@ use Rattle.causal_script.specs.declared.script.ScriptFaultKind.TheVariants as ki
 use Rattle.causal_run.specs.declared.fault.RunFault.{RunFault}
 use Rattle.causal_run.specs.Runs.{ExplainsRunFault}
 use Rattle.causal_run.specs.ScriptProcesses.{IsStartOf}
-use Rattle.causal_commands.specs.declared.ended.Ended.{Ended}
-use Rattle.causal_commands.specs.declared.ended.Ended.TheVariants.{ReadFault, NoMemory, FinishFault}
+use Rattle.causal_outcomes.specs.declared.ended.Ended.{Ended}
+use Rattle.causal_outcomes.specs.declared.ended.Ended.TheVariants.{ReadFault, NoMemory, FinishFault}
 use Rattle.causal_runtime_commands.specs.Reasons.{ArePendingIn}
 use Rattle.causal_runtime_commands.specs.Runs.{IsScriptAnswer, script_bytes_read}
 use Rattle.causal_runtime_commands.specs.declared.script.ScriptAnswer.{ScriptAnswer}

@@ -1,7 +1,7 @@
 use Rattle.std.proofs.lemmas.Result.{IfOk-weaker}
-use Rattle.causal_commands.specs.declared.ended.Ended.{Ended}
+use Rattle.causal_outcomes.specs.declared.ended.Ended.{Ended}
 use Rattle.causal_commands.specs.Drawings.{IsDrawingAnswer}
-use Rattle.causal_commands.proofs.Known.{IfSome-weaker}
+use Rattle.causal_outcomes.proofs.Lemmas.Known.{IfSome-weaker}
 use Rattle.causal_commands.proofs.VerdictEndings.{by_verdict}
 use Rattle.causal_commands.proofs.drawing.drawing_answer.Goals as goal
 

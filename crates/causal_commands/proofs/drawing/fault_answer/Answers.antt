@@ -1,5 +1,5 @@
 use Rattle.std.proofs.Common.{sym, subst}
-use Rattle.causal_commands.specs.declared.ended.Ended.{Ended}
+use Rattle.causal_outcomes.specs.declared.ended.Ended.{Ended}
 use Rattle.causal_commands.specs.Drawings.{IsDrawingAnswer}
 use Rattle.causal_commands.proofs.Refusals.{first_fault, true_refusal}
 use Rattle.causal_commands.proofs.drawing.fault_answer.Goals as goal

@@ -1,6 +1,6 @@
 use Rattle.std.proofs.Common.{◌∙◌, sym, subst}
 use Rattle.std.specs.Prelude.{None}
-use Rattle.causal_commands.specs.declared.ended.Ended.{Ended}
+use Rattle.causal_outcomes.specs.declared.ended.Ended.{Ended}
 use Rattle.causal_commands.specs.MappedReasons.{IsMappedAnswer}
 use Rattle.causal_commands.proofs.Refusals.{first_fault, true_refusal}
 use Rattle.causal_commands.proofs.mapped_reason.fault_answer.Goals as goal

@@ -1,6 +1,6 @@
 use Rattle.std.proofs.lemmas.Result.{IfOk-weaker}
-use Rattle.causal_commands.specs.Merges.{bytes_read}
-use Rattle.causal_commands.proofs.Known.{IfSome-weaker}
+use Rattle.causal_outcomes.specs.Merges.{bytes_read}
+use Rattle.causal_outcomes.proofs.Lemmas.Known.{IfSome-weaker}
 use Rattle.causal_commands.proofs.Writing.{known_all}
 use Rattle.causal_commands.proofs.mapped_reason.mapped_answer.Goals as goal
 

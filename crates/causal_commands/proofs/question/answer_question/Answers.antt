@@ -2,7 +2,7 @@ use Rattle.std.proofs.Common.{sym, subst}
 use Rattle.causal_commands.specs.Answers.{IsAnswer}
 use Rattle.causal_commands.specs.Inside.Answers.{WritesNothing, WritesWholeAnswer}
 use Rattle.causal_commands.specs.Inside.Refusals.{IsTrueRefusalFor}
-use Rattle.causal_commands.specs.Diagnostics.{IsDiagnosisFor}
+use Rattle.causal_outcomes.specs.Diagnostics.{IsDiagnosisFor}
 use Rattle.causal_commands.proofs.Writing.{printed, writes, writes_nothing}
 use Rattle.causal_commands.proofs.question.answer_question.Goals as goal
 

@@ -1,5 +1,5 @@
 use Rattle.std.proofs.lemmas.Result.{IfOk-weaker}
-use Rattle.causal_commands.proofs.Known.{IfSome-weaker}
+use Rattle.causal_outcomes.proofs.Lemmas.Known.{IfSome-weaker}
 use Rattle.causal_commands.proofs.Refusals.{explains, replies, true_refusal}
 use Rattle.causal_commands.proofs.question.response_to.Goals as goal
 

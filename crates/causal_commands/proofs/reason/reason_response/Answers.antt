@@ -1,7 +1,7 @@
 use Rattle.std.proofs.Common.{refl}
 use Rattle.causal_report.specs.declared.finding.Finding.TheVariants as finding
 use Rattle.causal_report.specs.declared.reply.Reply.TheVariants.{Found}
-use Rattle.causal_commands.specs.declared.ended.Ended.{Ended}
+use Rattle.causal_outcomes.specs.declared.ended.Ended.{Ended}
 use Rattle.causal_commands.specs.Replies.{IsReasonReply}
 use Rattle.causal_commands.proofs.VerdictEndings.{by_verdict}
 use Rattle.causal_commands.proofs.reason.reason_response.Goals as goal

@@ -1,0 +1,4 @@
+pub mod Lemmas
+pub mod Excerpts
+mod MergeLemmas
+mod ReadLemmas

@@ -1,0 +1,9 @@
+pub mod Inside
+pub mod Endings
+pub mod Merges
+pub mod Reading
+pub mod Diagnostics
+pub mod DiagnosticText
+pub mod AnswerWrites
+pub mod Chains
+pub mod Excerpts
