@@ -1,11 +1,6 @@
 -- A list made of a set's members, one after another.
 use Rattle.std.proofs.Common.{◌≡◌, ◌++◌, ◌∙◌, ℕ, List, [], ◌∷◌, map, refl, ap, sym, append_assoc}
 
--- before the first member the list is empty
-pub made-none : {S A : Type 0} (order : S → List ℕ) (f : ℕ → A) (made : List A) (rest all : S) → made ≡ [] → rest ≡ all
-    → made ++ map f (order rest) ≡ map f (order all)
-made-none order f made rest all none same = rw (none, same) refl
-
 -- after the next member the list has its value too
 pub made-next : {S A : Type 0} (order : S → List ℕ) (f : ℕ → A) (made next-made all : List A) (p : ℕ) (rest next : S)
     → made ++ map f (order rest) ≡ all → order rest ≡ p ∷ order next → next-made ≡ made ++ f p ∷ []

@@ -1,5 +1,5 @@
 //! The facts that explain the verdict on a trace.
-ghost use Rattle.std.specs.Prelude.{◌≡◌, [], ◌∷◌, map, IfOk};
+ghost use Rattle.std.specs.Prelude.{◌≡◌, [], ◌∷◌, ◌++◌, map, IfOk, OnOk};
 ghost use Rattle.causal_audit.specs.Verdicts.{IsVerdict};
 ghost use Rattle.causal_holders.specs.Members.{ascending};
 ghost use Rattle.causal_report.specs.Facts as facts;
@@ -15,7 +15,7 @@ use causal_explain::{
 use causal_holders::Holders;
 use causal_name::NoMemory;
 use causal_trace::trace::Trace;
-use std::alloc::Global;
+use std::alloc::{AllocError, Global};
 
 /// Returns the facts that explain the verdict on a trace for f, and then, if a recovery strayed, the first stray and who
 /// has which of its two determinants.
@@ -103,15 +103,12 @@ fn excess_facts(
 ) -> Result<Vec<Fact>, NoMemory>
     ensures { IfOk result (λ found. found.items ≡ facts.excess_facts instant cause down.now) }
 {
-    let down = down_facts(alloc, down)?;
     let mut found = Vec::new(alloc);
     found.push(Fact::Cause { instant, cause })?;
-    found.extend_from_slice(down.as_slice())?;
+    push_down(&mut found, down)?;
     Ok(found)
 }
 
-/// The facts of an orphan: the delivery; the cause; that the determinant is not stable; its holders, its losses and the
-/// down processes; the crash set; and the path from the delivery to the orphan.
 fn explanation_facts(
     alloc: Global,
     trace: &Trace,
@@ -121,120 +118,127 @@ fn explanation_facts(
     ensures { IfOk result
         (λ found. found.items ≡ facts.explanation_facts trace.now.recording explanation.now cause) }
 {
-    let holders = holder_facts(alloc, explanation.holders.as_slice())?;
-    let losses = loss_facts(alloc, explanation.losses.as_slice())?;
-    let down = down_facts(alloc, explanation.down.as_slice())?;
-    let crash = crash_facts(alloc, explanation.crash)?;
-    let path = path_facts(alloc, trace, explanation)?;
-    let mut found = breach_facts(alloc, explanation, cause)?;
-    found.extend_from_slice(holders.as_slice())?;
-    found.extend_from_slice(losses.as_slice())?;
-    found.extend_from_slice(down.as_slice())?;
-    found.extend_from_slice(crash.as_slice())?;
-    found.extend_from_slice(path.as_slice())?;
+    let mut found = Vec::new(alloc);
+    push_explanation(&mut found, trace, explanation, cause)?;
     Ok(found)
 }
 
-/// The delivery that has an orphan, the cause, and that the determinant is not stable.
-fn breach_facts(
-    alloc: Global,
+// The functions below append to one list, so that none of them owns another: a list that is owned where a call may fail
+// makes the proof much dearer.
+/// Appends the facts of an orphan: the delivery; the cause; that the determinant is not stable; its holders, its losses and
+/// the down processes; the crash set; and the path from the delivery to the orphan.
+fn push_explanation(
+    found: &mut Vec<Fact>,
+    trace: &Trace,
     explanation: &Explanation,
     cause: Cause,
-) -> Result<Vec<Fact>, NoMemory>
-    ensures { IfOk result (λ found. found.items ≡ facts.breach_facts explanation.now cause) }
+) -> Result<(), AllocError>
+    ensures { OnOk result (found.new.items ≡ found.old.items
+        ++ facts.explanation_facts trace.now.recording explanation.now cause) }
+{
+    push_breach(found, explanation, cause)?;
+    push_holders(found, explanation.holders.as_slice())?;
+    push_losses(found, explanation.losses.as_slice())?;
+    push_down(found, explanation.down.as_slice())?;
+    push_crash_set(found, explanation.crash)?;
+    push_path(found, trace, explanation)
+}
+
+/// Appends the delivery that has an orphan, the cause, and that the determinant is not stable.
+fn push_breach(
+    found: &mut Vec<Fact>,
+    explanation: &Explanation,
+    cause: Cause,
+) -> Result<(), AllocError>
+    ensures { OnOk result (found.new.items ≡ found.old.items
+        ++ facts.breach_facts explanation.now cause) }
 {
     let (delivery, det) = (explanation.delivery, explanation.det);
     let instant = explanation.instant;
-    let mut found = Vec::new(alloc);
     found.push(Fact::Delivery { delivery, det })?;
     found.push(Fact::Cause { instant, cause })?;
     found.push(Fact::Unstable { instant })?;
-    Ok(found)
+    Ok(())
 }
 
-/// Each holder, or that there is none.
-fn holder_facts(alloc: Global, holders: &[Holding]) -> Result<Vec<Fact>, NoMemory>
-    ensures { IfOk result (λ found. found.items ≡ facts.holder_facts holders.now) }
+/// Appends each holder, or that there is none.
+fn push_holders(found: &mut Vec<Fact>, holders: &[Holding]) -> Result<(), AllocError>
+    ensures { OnOk result (found.new.items ≡ found.old.items ++ facts.holder_facts holders.now) }
 {
     if holders.is_empty() {
-        let mut found = Vec::new(alloc);
         found.push(Fact::NoHolder)?;
-        return Ok(found);
+        return Ok(());
     }
-    each_holder(alloc, holders)
+    push_each_holder(found, holders)
 }
 
-fn each_holder(alloc: Global, holders: &[Holding]) -> Result<Vec<Fact>, NoMemory>
-    ensures { IfOk result (λ found. found.items ≡ map Fact.Holder holders.now) }
+fn push_each_holder(found: &mut Vec<Fact>, holders: &[Holding]) -> Result<(), AllocError>
+    ensures { OnOk result (found.new.items ≡ found.old.items ++ map Fact.Holder holders.now) }
 {
-    Ok(
-        holders
-            .iter()
-            .map(|holding| Fact::Holder(*holding))
-            .collect(alloc)?,
-    )
+    for holding in holders {
+        found.push(Fact::Holder(*holding))?;
+    }
+    Ok(())
 }
 
-/// Each process that lost the determinant.
-fn loss_facts(alloc: Global, losses: &[Loss]) -> Result<Vec<Fact>, NoMemory>
-    ensures { IfOk result (λ found. found.items ≡ map Fact.Loss losses.now) }
+/// Appends each process that lost the determinant.
+fn push_losses(found: &mut Vec<Fact>, losses: &[Loss]) -> Result<(), AllocError>
+    ensures { OnOk result (found.new.items ≡ found.old.items ++ map Fact.Loss losses.now) }
 {
-    Ok(losses.iter().map(|loss| Fact::Loss(*loss)).collect(alloc)?)
+    for loss in losses {
+        found.push(Fact::Loss(*loss))?;
+    }
+    Ok(())
 }
 
-/// Each down process.
-fn down_facts(alloc: Global, down: &[DownProcess]) -> Result<Vec<Fact>, NoMemory>
-    ensures { IfOk result (λ found. found.items ≡ map Fact.Down down.now) }
+/// Appends each down process.
+fn push_down(found: &mut Vec<Fact>, down: &[DownProcess]) -> Result<(), AllocError>
+    ensures { OnOk result (found.new.items ≡ found.old.items ++ map Fact.Down down.now) }
 {
-    Ok(
-        down.iter()
-            .map(|process| Fact::Down(*process))
-            .collect(alloc)?,
-    )
+    for process in down {
+        found.push(Fact::Down(*process))?;
+    }
+    Ok(())
 }
 
-/// Each process of the crash set, ascending.
-fn crash_facts(alloc: Global, crash: Holders) -> Result<Vec<Fact>, NoMemory>
-    ensures { IfOk result (λ found. found.items ≡ map Fact.Crash (ascending crash)) }
+/// Appends each process of the crash set, ascending.
+fn push_crash_set(found: &mut Vec<Fact>, crash: Holders) -> Result<(), AllocError>
+    ensures { OnOk result (found.new.items ≡ found.old.items ++ map Fact.Crash (ascending crash)) }
 {
-    let mut found = Vec::new(alloc);
     for process in crash.iter() {
         found.push(Fact::Crash { process })?;
     }
-    Ok(found)
+    Ok(())
 }
 
-/// The chain from the delivery to the orphan, its first delivery without the determinant, the determinant's late
+/// Appends the chain from the delivery to the orphan, its first delivery without the determinant, the determinant's late
 /// arrival, and the orphan.
-fn path_facts(
-    alloc: Global,
+fn push_path(
+    found: &mut Vec<Fact>,
     trace: &Trace,
     explanation: &Explanation,
-) -> Result<Vec<Fact>, NoMemory>
-    ensures { IfOk result
-        (λ found. found.items ≡ facts.path_facts trace.now.recording explanation.now) }
+) -> Result<(), AllocError>
+    ensures { OnOk result (found.new.items ≡ found.old.items
+        ++ facts.path_facts trace.now.recording explanation.now) }
 {
-    let underway = underway_facts(alloc, trace, explanation.underway)?;
-    let unlisted = unlisted_fact(trace, explanation.delivery, explanation.unlisted);
-    let mut found = chain_facts(alloc, trace, explanation.chain.as_slice())?;
-    found.push(unlisted)?;
-    found.extend_from_slice(underway.as_slice())?;
+    push_chain(found, trace, explanation.chain.as_slice())?;
+    found.push(unlisted_fact(trace, explanation.delivery, explanation.unlisted))?;
+    push_underway(found, trace, explanation.underway)?;
     found.push(Fact::Orphan {
         process: explanation.orphan,
     })?;
-    Ok(found)
+    Ok(())
 }
 
-/// The events of a chain.
-fn chain_facts(alloc: Global, trace: &Trace, chain: &[u32]) -> Result<Vec<Fact>, NoMemory>
-    ensures { IfOk result
-        (λ found. found.items ≡ map (facts.chain_fact trace.now.recording) chain.now) }
+/// Appends the events of a chain.
+fn push_chain(found: &mut Vec<Fact>, trace: &Trace, chain: &[u32]) -> Result<(), AllocError>
+    ensures { OnOk result (found.new.items ≡ found.old.items
+        ++ map (facts.chain_fact trace.now.recording) chain.now) }
 {
-    let mut found = Vec::new(alloc);
     for position in chain {
         found.push(chain_fact(trace, *position))?;
     }
-    Ok(found)
+    Ok(())
 }
 
 fn chain_fact(trace: &Trace, position: u32) -> Fact
@@ -261,27 +265,26 @@ fn unlisted_fact(trace: &Trace, delivery: u32, unlisted: Option<u32>) -> Fact
     }
 }
 
-/// The delivery by which a determinant arrives that was in transit, if there is one.
-fn underway_facts(
-    alloc: Global,
+/// Appends the delivery by which a determinant arrives that was in transit, if there is one.
+fn push_underway(
+    found: &mut Vec<Fact>,
     trace: &Trace,
     underway: Option<u32>,
-) -> Result<Vec<Fact>, NoMemory>
-    ensures { IfOk result
-        (λ found. found.items ≡ facts.underway_facts trace.now.recording underway) }
+) -> Result<(), AllocError>
+    ensures { OnOk result (found.new.items ≡ found.old.items
+        ++ facts.underway_facts trace.now.recording underway) }
 {
     match underway {
-        None => Ok(Vec::new(alloc)),
-        Some(position) => arrival_facts(alloc, position, event_at(trace, position)),
+        None => Ok(()),
+        Some(position) => push_arrival(found, position, event_at(trace, position)),
     }
 }
 
-fn arrival_facts(alloc: Global, position: u32, event: ChainEvent) -> Result<Vec<Fact>, NoMemory>
-    ensures { IfOk result (λ found. found.items ≡ facts.arrival_facts position event) }
+fn push_arrival(found: &mut Vec<Fact>, position: u32, event: ChainEvent) -> Result<(), AllocError>
+    ensures { OnOk result (found.new.items ≡ found.old.items ++ facts.arrival_facts position event) }
 {
-    let mut found = Vec::new(alloc);
     if let ChainEvent::Delivery { to, send } = event {
         found.push(Fact::Underway { position, send, to })?;
     }
-    Ok(found)
+    Ok(())
 }

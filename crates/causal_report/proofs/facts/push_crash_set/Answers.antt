@@ -1,12 +1,14 @@
-use Rattle.std.proofs.Common.{◌∙◌}
+use Rattle.std.proofs.Common.{◌++◌, ◌∙◌, ap, map}
+use Rattle.std.specs.FinSet.{FinSet}
+use Rattle.std.specs.Ordering.{nat_cmp}
 use Rattle.causal_holders.specs.Members.{ascending}
 use Rattle.causal_report.specs.declared.fact.Fact.TheVariants.{Crash}
-use Rattle.causal_report.proofs.SetMembers.{made-none, made-next}
-use Rattle.causal_report.proofs.facts.crash_facts.Goals as goal
+use Rattle.causal_report.proofs.SetMembers.{made-next}
+use Rattle.causal_report.proofs.facts.push_crash_set.Goals as goal
 
 pub loop-process-init : goal.loop-process-init
 loop-process-init c =
-    made-none ascending Crash _ c.into_iter-process-iterator.result c.args.crash c.new-found.ensures.items
+    ap (λ (rest : FinSet nat_cmp). c.args.found.now.items ++ map Crash (ascending rest))
     (c.into_iter-process-iterator.ensures.into_iter_gives ∙ c.iter-process-items.ensures)
 
 pub loop-process-preserved : goal.loop-process-preserved
