@@ -21,19 +21,28 @@ pub fn print_at_line<R: Eprint + AllocGlobal, D: Display, S: Drop>(
     line: u32,
     said: &D,
 ) {
-    let (Ok(said), Ok(begin)) = (
-        format!(in rt.alloc(); "{said}"),
-        format!(in rt.alloc(); "line {line}"),
-    ) else {
+    let Ok(said) = format!(in rt.alloc(); "{said}") else {
         return;
     };
-    let label = input.label(line);
-    match said.as_str().strip_prefix(begin.as_str()) {
+    match after_line_number(said.as_str()) {
         Some(rest) => {
+            let label = input.label(line);
             let _ = eprintln!(rt; "{command}: {label}{rest}");
         }
         None => print_error_line(rt, command, &said),
     }
+}
+
+/// Returns what follows `line LINE` at the beginning of a message, if it begins so.
+fn after_line_number(message: &str) -> Option<&str> {
+    let numbered = message.strip_prefix("line ")?;
+    Some(numbered.trim_start_matches(|c: char| c.is_ascii_digit()))
+}
+
+/// Returns what follows `COMMAND: line LINE` at the beginning of a diagnostic, if it begins so.
+fn after_place<'a>(command: &str, diagnostic: &'a str) -> Option<&'a str> {
+    let message = diagnostic.strip_prefix(command)?.strip_prefix(": ")?;
+    after_line_number(message)
 }
 
 /// Prints the diagnostic of a trace, if it is invalid, and returns how the command ended.
@@ -80,13 +89,9 @@ fn print_trace_fault<R: Eprint + AllocGlobal, S: Drop>(
     let Ok(text) = String::from_utf8_lossy(rt.alloc(), bytes.as_slice()) else {
         return;
     };
-    let line = fault.fault.line;
-    let Ok(begin) = format!(in rt.alloc(); "{command}: line {line}") else {
-        return;
-    };
-    let label = input.label(line);
-    match text.as_str().strip_prefix(begin.as_str()) {
+    match after_place(command, text.as_str()) {
         Some(rest) => {
+            let label = input.label(fault.fault.line);
             let _ = eprint!(rt; "{command}: {label}{rest}");
         }
         None => {

@@ -41,15 +41,24 @@ fn print_torn_lines<R: Eprint, S: Drop>(
     torn: &[u32],
 ) {
     for line in torn.iter().take(MAX_TORN_PRINTED) {
-        let _ = match input.file_label(*line) {
-            Some(label) => eprintln!(rt; "{command}: {label}: torn line={line}: passed over"),
-            None => eprintln!(rt; "{command}: torn line={line}: passed over"),
-        };
+        print_torn_line(rt, command, input, *line);
     }
     if torn.len() > MAX_TORN_PRINTED {
         let more = torn.len() - MAX_TORN_PRINTED;
         let _ = eprintln!(rt; "{command}: {more} more torn lines: passed over");
     }
+}
+
+fn print_torn_line<R: Eprint, S: Drop>(
+    rt: &R,
+    command: &str,
+    input: &InputNames<'_, S>,
+    line: u32,
+) {
+    let _ = match input.file_label(line) {
+        Some(label) => eprintln!(rt; "{command}: {label}: torn line={line}: passed over"),
+        None => eprintln!(rt; "{command}: torn line={line}: passed over"),
+    };
 }
 
 /// Prints each process that has no header, if that is the error.
