@@ -30,11 +30,16 @@ pub(crate) fn printed_answer(alloc: Global, form: Form, response: Response) -> R
     ensures rejected { IfOk result (λ answer. answer.refusal ≡ response.refusal) }
     ensures err { IfErr result (λ ended. ended ≡ Ended.NoMemory) }
 {
-    match reply_text(alloc, form, &response.reply) {
+    let Response {
+        ended,
+        reply,
+        refusal,
+    } = response;
+    match reply_text(alloc, form, &reply) {
         Ok(line) => Ok(Answer {
-            ended: response.ended,
+            ended,
             line,
-            refusal: response.refusal,
+            refusal,
         }),
         Err(NoMemory) => Err(Ended::NoMemory),
     }
