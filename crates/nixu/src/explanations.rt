@@ -17,7 +17,7 @@ use causal_name::NoMemory;
 use causal_report::facts_of;
 use causal_text::PushReader;
 use causal_trace::Trace;
-use nixu_boundary::slot::Slot;
+use nixu_boundary::content_owner::ContentOwner;
 use nixu_boundary::status::{CLOSED, FAULT, MISUSED, NO_MEMORY, OK};
 use std::alloc::Global;
 

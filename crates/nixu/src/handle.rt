@@ -7,8 +7,8 @@ ghost use Rattle.nixu.specs.declared.handle_content.HandleContent.{HandleContent
 ghost use Rattle.nixu.specs.contracts.handle_content.HandleContent.{the_row};
 
 use crate::handle_content::HandleContent;
+use nixu_boundary::content_owner::ContentOwner;
 use nixu_boundary::owned::Owned;
-use nixu_boundary::slot::Slot;
 use std::alloc::Global;
 use std::marker::Model;
 use std::mem;
@@ -70,7 +70,7 @@ impl Handle {
     }
 }
 
-impl Slot for Handle {
+impl ContentOwner for Handle {
     type Content = HandleContent;
 
     ghost content = { λ h. h.held.value };

@@ -20,7 +20,7 @@ use causal_trace::limits::{DEFAULT_LIMITS, Limits};
 use causal_trace::{Entry, Trace, TraceFault};
 use nixu_boundary::buffer::copy_out;
 use nixu_boundary::c_determinant::CDeterminant;
-use nixu_boundary::slot::Slot;
+use nixu_boundary::content_owner::ContentOwner;
 use nixu_boundary::status::{CLOSED, FAULT, MISUSED, NO_MEMORY, OK};
 use std::alloc::Global;
 

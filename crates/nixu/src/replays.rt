@@ -10,7 +10,7 @@ use crate::judgement::{TextError, parse_trace};
 use causal_name::NoMemory;
 use causal_replays::first_stray;
 use causal_trace::Trace;
-use nixu_boundary::slot::Slot;
+use nixu_boundary::content_owner::ContentOwner;
 use nixu_boundary::status::{CLOSED, FAULT, NO_MEMORY, OK};
 use std::alloc::Global;
 

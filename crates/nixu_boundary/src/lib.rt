@@ -5,11 +5,11 @@
 pub mod buffer;
 /// Determinants in C's layout.
 pub mod c_determinant;
+/// What a handle does.
+pub mod content_owner;
 /// Sets of processes, as an array with a byte for each.
 pub mod flags;
 /// A box as its pointer.
 pub mod owned;
-/// What a handle does.
-pub mod slot;
 /// The statuses that calls return.
 pub mod status;

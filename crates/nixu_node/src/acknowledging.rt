@@ -14,7 +14,7 @@ use crate::refusals::refuse;
 use causal_name::{NoMemory, Pid};
 use causal_trace::entry::Dets;
 use nixu_boundary::c_determinant::{CDeterminant, dets_from_c};
-use nixu_boundary::slot::Slot;
+use nixu_boundary::content_owner::ContentOwner;
 use nixu_boundary::status::{CLOSED, FAULT, MISUSED, NO_MEMORY, OK};
 use std::alloc::Global;
 

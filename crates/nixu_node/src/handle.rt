@@ -7,8 +7,8 @@ ghost use Rattle.nixu_node.specs.declared.open_node.OpenNode.{OpenNode};
 ghost use Rattle.nixu_node.specs.contracts.open_node.OpenNode.{the_row};
 
 use crate::open_node::OpenNode;
+use nixu_boundary::content_owner::ContentOwner;
 use nixu_boundary::owned::Owned;
-use nixu_boundary::slot::Slot;
 use std::alloc::Global;
 use std::marker::Model;
 use std::mem;
@@ -70,7 +70,7 @@ impl NodeHandle {
     }
 }
 
-impl Slot for NodeHandle {
+impl ContentOwner for NodeHandle {
     type Content = OpenNode;
 
     ghost content = { λ h. h.held.value };

@@ -7,7 +7,7 @@ use crate::handle::NodeHandle;
 use crate::open_node::OpenNode;
 use causal_node::node::Node;
 use causal_node::node_fault::NodeFault;
-use nixu_boundary::slot::Slot;
+use nixu_boundary::content_owner::ContentOwner;
 use nixu_boundary::status::{CLOSED, OK};
 use std::alloc::Global;
 

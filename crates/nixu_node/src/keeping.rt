@@ -11,7 +11,7 @@ use causal_endpoint::receiving::Received;
 use causal_name::Det;
 use nixu_boundary::buffer::copy_out;
 use nixu_boundary::c_determinant::{CDeterminant, copy_dets};
-use nixu_boundary::slot::Slot;
+use nixu_boundary::content_owner::ContentOwner;
 use nixu_boundary::status::{CLOSED, OK};
 use std::alloc::Global;
 

@@ -13,7 +13,7 @@ use causal_endpoint::lines;
 use causal_endpoint::receiving::Received;
 use causal_name::{NoMemory, Pid};
 use nixu_boundary::buffer::copy_out;
-use nixu_boundary::slot::Slot;
+use nixu_boundary::content_owner::ContentOwner;
 use nixu_boundary::status::{CLOSED, NO_MEMORY, OK};
 use std::alloc::Global;
 

@@ -13,7 +13,7 @@ use crate::c_node::{CMessage, CReceived, c_message_of, c_received_of};
 use crate::handle::NodeHandle;
 use crate::open_node::Kept;
 use crate::refusals::refuse;
-use nixu_boundary::slot::Slot;
+use nixu_boundary::content_owner::ContentOwner;
 use nixu_boundary::status::{CLOSED, FAULT, MISUSED, NO_MEMORY, OK};
 use std::alloc::Global;
 

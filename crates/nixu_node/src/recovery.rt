@@ -16,8 +16,8 @@ use crate::open_node::{Kept, OpenNode};
 use crate::refusals::refuse;
 use causal_name::Pid;
 use nixu_boundary::buffer::copy_numbers;
+use nixu_boundary::content_owner::ContentOwner;
 use nixu_boundary::flags::flags_of;
-use nixu_boundary::slot::Slot;
 use nixu_boundary::status::{CLOSED, FAULT, MISUSED, NO_MEMORY, OK};
 use std::alloc::Global;
 

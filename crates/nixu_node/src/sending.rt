@@ -12,7 +12,7 @@ use crate::handle::NodeHandle;
 use crate::open_node::{Kept, OpenNode};
 use crate::refusals::refuse;
 use causal_name::Pid;
-use nixu_boundary::slot::Slot;
+use nixu_boundary::content_owner::ContentOwner;
 use nixu_boundary::status::{CLOSED, FAULT, MISUSED, NO_MEMORY, OK};
 use std::alloc::Global;
 

@@ -13,7 +13,7 @@ use crate::open_node::{Kept, OpenNode};
 use crate::refusals::refuse;
 use causal_name::NoMemory;
 use nixu_boundary::c_determinant::{CDeterminant, copy_dets, det_from_c};
-use nixu_boundary::slot::Slot;
+use nixu_boundary::content_owner::ContentOwner;
 use nixu_boundary::status::{CLOSED, FAULT, MISUSED, NO_MEMORY, OK};
 use std::alloc::Global;
 

@@ -7,7 +7,7 @@ use crate::status::{NO_MEMORY, OK};
 use std::alloc::Global;
 
 /// A handle: one value in its box if it is open, nothing if it is closed.
-pub trait Slot {
+pub trait ContentOwner {
     type Content: Drop;
 
     ghost content: { Self → Option Self.Content };
