@@ -1,14 +1,14 @@
 //! Recovery from crash to end of replay, failures of allocation and of stores, and the limit on entries, on cores of
 //! the runtime's process kinds.
-use crate::entries::{Fields, det};
 use crate::failing::FailingStore;
+use crate::names::{Fields, det};
 use crate::runtime::*;
 use causal_core::{Core, CoreFault, Delivered, FlushFault, Reply, Restarted, StartFault};
 use causal_log::MemStable;
 use causal_name::{NoMemory, Pid};
 use std::alloc::Global;
 
-/// The start of a core, and its state after a failed allocation or write.
+/// The state of a core after a failed allocation or write.
 mod faults;
 /// Recovery from crash to end of replay.
 mod recovery;
@@ -27,7 +27,7 @@ fn steady(alloc: Global, failures: u64) -> FailingStore {
 
 /// A ring of three with another process 1.
 fn ring_with(alloc: Global, second: Result<Boxed, NoMemory>) -> Result<Vec<Boxed>, NoMemory> {
-    let mut boxes = processes(alloc, Kind::Ring(2), 3)?;
+    let mut boxes = processes(alloc, TestProcess::Ring(2), 3)?;
     if let Some(other) = boxes.get_mut(1) {
         *other = second?;
     }
@@ -39,22 +39,18 @@ fn ring_with(alloc: Global, second: Result<Boxed, NoMemory>) -> Result<Vec<Boxed
 enum Scene {
     ReplayOfFive,
     ReplayThatStops,
-    ReplayThatWaits,
-    ReplayOfATally,
-    DeliveredTwice,
     SpareThatComesBack,
     DeliveryMadeAgain,
     FlushMadeAgain,
     FlushOfAWearyStore,
     Flood,
-    LongestBodies,
 }
 
 impl Scene {
     /// The failure bound.
     fn faults(self) -> u16 {
         match self {
-            Scene::ReplayThatStops | Scene::ReplayThatWaits => 2,
+            Scene::ReplayThatStops => 2,
             Scene::Flood => 0,
             _ => 1,
         }
@@ -62,17 +58,15 @@ impl Scene {
 
     fn processes(self, alloc: Global) -> Result<Vec<Boxed>, NoMemory> {
         match self {
-            Scene::ReplayOfFive => processes(alloc, Kind::Ring(9), 1),
-            Scene::ReplayThatWaits => processes(alloc, Kind::Ring(9), 3),
-            Scene::ReplayThatStops | Scene::DeliveredTwice | Scene::SpareThatComesBack => {
-                processes(alloc, Kind::Ring(2), 3)
+            Scene::ReplayOfFive => processes(alloc, TestProcess::Ring(9), 1),
+            Scene::ReplayThatStops | Scene::SpareThatComesBack => {
+                processes(alloc, TestProcess::Ring(2), 3)
             }
             Scene::DeliveryMadeAgain => faults::refusing_ring(alloc, 1),
-            Scene::ReplayOfATally | Scene::FlushMadeAgain | Scene::FlushOfAWearyStore => {
-                processes(alloc, Kind::Tally, 3)
+            Scene::FlushMadeAgain | Scene::FlushOfAWearyStore => {
+                processes(alloc, TestProcess::Tally, 3)
             }
-            Scene::Flood => processes(alloc, Kind::Flood, 1),
-            Scene::LongestBodies => processes(alloc, Kind::Long(1_024), 1),
+            Scene::Flood => processes(alloc, TestProcess::Flood, 1),
         }
     }
 
@@ -88,15 +82,11 @@ impl Scene {
         match self {
             Scene::ReplayOfFive => recovery::makes_five(alloc, core),
             Scene::ReplayThatStops => recovery::stops(alloc, core),
-            Scene::ReplayThatWaits => recovery::waits_for_the_sender(alloc, core),
-            Scene::ReplayOfATally => recovery::tally_replays(alloc, core),
-            Scene::DeliveredTwice => recovery::refuses_second(alloc, core),
             Scene::SpareThatComesBack => faults::spare_comes_back(alloc, core),
             Scene::DeliveryMadeAgain => faults::delivers_again(alloc, core),
             Scene::FlushMadeAgain => faults::flushes_again(alloc, core),
             Scene::FlushOfAWearyStore => faults::is_not_written_to(alloc, core),
             Scene::Flood => fills(core),
-            Scene::LongestBodies => are_delivered(core, 3) && core.trace().len() == 7,
         }
     }
 
@@ -116,18 +106,14 @@ impl Scene {
     }
 }
 
-const SCENES: [Scene; 11] = [
+const SCENES: [Scene; 7] = [
     Scene::ReplayOfFive,
     Scene::ReplayThatStops,
-    Scene::ReplayThatWaits,
-    Scene::ReplayOfATally,
-    Scene::DeliveredTwice,
     Scene::SpareThatComesBack,
     Scene::DeliveryMadeAgain,
     Scene::FlushMadeAgain,
     Scene::FlushOfAWearyStore,
     Scene::Flood,
-    Scene::LongestBodies,
 ];
 
 #[test]
@@ -142,7 +128,7 @@ fn core_scenes(rt: HostRuntime) {
 enum Call {
     Deliver(u8, u8, u32),
     Crash(u8),
-    Restart(u8, Kind),
+    Restart(u8, TestProcess),
     Flush(u8),
 }
 
@@ -154,8 +140,8 @@ fn restart(core: &mut Runtime, p: u8, spare: Boxed) -> Reply {
 }
 
 /// Restarts p with a new process of a kind.
-fn restarted_by(alloc: Global, core: &mut Runtime, p: u8, kind: Kind) -> Option<Reply> {
-    match test_process(alloc, kind, core.trace().processes(), p) {
+fn restarted_by(alloc: Global, core: &mut Runtime, p: u8, process: TestProcess) -> Option<Reply> {
+    match test_process(alloc, process, core.trace().processes(), p) {
         Ok(spare) => Some(restart(core, p, spare)),
         Err(NoMemory) => None,
     }
@@ -169,7 +155,7 @@ fn call_core(alloc: Global, core: &mut Runtime, call: Call) -> Option<Reply> {
             Some(Reply::of_delivery(answer))
         }
         Call::Crash(p) => Some(Reply::of_crash(core.crash(Pid(p)))),
-        Call::Restart(p, kind) => restarted_by(alloc, core, p, kind),
+        Call::Restart(p, process) => restarted_by(alloc, core, p, process),
         Call::Flush(p) => Some(Reply::of_flush(core.flush(Pid(p)))),
     }
 }

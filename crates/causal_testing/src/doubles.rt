@@ -1,6 +1,5 @@
-//! Processes for tests: one that sends as much as it may, one whose messages are as long as they may be, and one that
-//! returns `NoMemory` once.
-ghost use Rattle.std.specs.Prelude.{◌≡◌, [], ◌∷◌, map, min, replicate};
+//! Processes for tests: one that sends as many messages as it may, and one that returns `NoMemory` once.
+ghost use Rattle.std.specs.Prelude.{◌≡◌, [], map, replicate};
 ghost use Rattle.causal_process.specs.ReactionLaws.{map_each, map_in_order};
 
 use causal_name::{NoMemory, Pid};
@@ -43,27 +42,6 @@ impl Process for Flood {
     ghost each = { λ it. map_each (λ input. replicate 8 (record { to = it.me; body = [] })) };
 
     ghost in_order = { λ it. map_in_order (λ input. replicate 8 (record { to = it.me; body = [] })) };
-}
-
-/// Returns one message to itself for each input, with this many bytes of value 7, at most 1,024.
-#[derive(Drop)]
-pub struct Long {
-    pub me: Pid,
-    pub length: usize,
-}
-
-impl Process for Long {
-    ghost answers = { λ it. map (λ input. record { to = it.me; body = replicate (min it.length 1024) 7 } ∷ []) };
-
-    fn step(&mut self, alloc: Global, _input: &Input) -> Result<Vec<Outgoing>, NoMemory> {
-        let length = self.length.min(1_024);
-        let body = Body::new(vec![in alloc; 7; length]?);
-        Ok(vec![in alloc; Outgoing { to: self.me, body }]?)
-    }
-
-    ghost each = { λ it. map_each (λ input. record { to = it.me; body = replicate (min it.length 1024) 7 } ∷ []) };
-
-    ghost in_order = { λ it. map_in_order (λ input. record { to = it.me; body = replicate (min it.length 1024) 7 } ∷ []) };
 }
 
 /// Reacts as the process inside, but returns `NoMemory` once, after a number of steps.

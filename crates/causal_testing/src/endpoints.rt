@@ -1,12 +1,11 @@
 //! Endpoints: bytes worked by hand, and a recovery.
-use crate::entries::are;
+use crate::names::are;
 use causal_endpoint::endpoint::Endpoint;
 use causal_endpoint::fault::EndpointFault;
 use causal_endpoint::receiving::Received;
 use causal_name::Pid;
 use causal_node::node::Identity;
 use causal_node::node_fault::NodeFault;
-use causal_wire::WireFault;
 use std::alloc::Global;
 
 /// The first message of process 0, to process 1, at clock 1000, with the body 7. It carries nothing.
@@ -70,25 +69,23 @@ fn answers(
     }
 }
 
-/// Two messages, and their bytes.
-fn sends(alloc: Global) -> Result<bool, EndpointFault> {
-    let mut zero = endpoint(alloc, 0, 0, 0)?;
-    let mut one = endpoint(alloc, 1, 0, 0)?;
-    let first = zero.send(1000, Pid(1), &[7])?;
-    let delivered = delivers(&mut one, 900, first.bytes.as_slice(), (1001, 1))?;
-    let second = one.send(1005, Pid(2), &[])?;
-    Ok(
-        delivered
-            && first.bytes.as_slice() == FIRST.as_slice()
-            && second.bytes.as_slice() == SECOND.as_slice(),
-    )
+/// Whether a message to a process, sent at this time, has these bytes.
+fn is_sent(sender: &mut Endpoint, now: u64, (to, body): (u8, &[u8]), bytes: &[u8]) -> bool {
+    match sender.send(now, Pid(to), body) {
+        Ok(sent) => sent.bytes.as_slice() == bytes,
+        Err(_) => false,
+    }
 }
 
-/// A clock that was taken in precedes what is sent then.
-fn takes_clocks_in(alloc: Global) -> Result<bool, EndpointFault> {
-    let mut zero = endpoint(alloc, 0, 0, 0)?;
-    zero.take_in(5000)?;
-    Ok(zero.send(1000, Pid(1), &[])?.clock == 5001)
+/// Process 1 delivers the first message and sends the second one.
+fn passes_on(alloc: Global) -> bool {
+    match endpoint(alloc, 1, 0, 0) {
+        Ok(mut one) => {
+            matches!(delivers(&mut one, 900, &FIRST, (1001, 1)), Ok(true))
+                && is_sent(&mut one, 1005, (2, &[]), &SECOND)
+        }
+        Err(_) => false,
+    }
 }
 
 /// The answer of process 2 to the question.
@@ -132,14 +129,16 @@ fn restarts(again: &mut Endpoint) -> Result<bool, EndpointFault> {
     Ok(restarted.clock == 2100 && are(restarted.listed.as_slice(), &[(0, 0, 1, 0), (1, 0, 2, 0)]))
 }
 
-/// Process 2 delivers the second message; process 1, which has crashed, restarts with what it logs.
+/// Process 0 sends the first message, and process 2 delivers the second one. Process 1, which has crashed, restarts with
+/// what they log.
 fn comes_back(
     zero: &mut Endpoint,
     two: &mut Endpoint,
     again: &mut Endpoint,
 ) -> Result<bool, EndpointFault> {
     Ok(
-        delivers(two, 1100, &SECOND, (1100, 0))?
+        is_sent(zero, 1000, (1, &[7]), &FIRST)
+            && delivers(two, 1100, &SECOND, (1100, 0))?
             && is_asked(two, again)?
             && gathers(zero, again)?
             && restarts(again)?
@@ -171,61 +170,12 @@ fn recovers(alloc: Global) -> bool {
     }
 }
 
-/// A repetition is refused, and bytes that end too early.
-fn refuses_repetitions(alloc: Global) -> Result<bool, EndpointFault> {
-    let mut one = endpoint(alloc, 1, 0, 0)?;
-    one.receive(0, &FIRST)?;
-    let twice = one.receive(0, &FIRST).err() == Some(EndpointFault::Node(NodeFault::Duplicate));
-    let short = one.receive(0, &FIRST[..40]).err() == Some(EndpointFault::Wire(WireFault::Short));
-    Ok(twice && short)
-}
-
-/// A parcel for another process is refused, and one of a lane that a question has ended.
-fn refuses_others(alloc: Global) -> Result<bool, EndpointFault> {
-    let mut two = endpoint(alloc, 2, 0, 0)?;
-    let mine = two.receive(0, &FIRST).err() == Some(EndpointFault::NotMine);
-    two.receive(0, &QUESTION)?;
-    let old = two.receive(0, &SECOND).err() == Some(EndpointFault::Node(NodeFault::OldLane));
-    Ok(mine && old)
-}
-
-/// A clock that is too great is refused, and a parcel from the process itself.
-fn refuses_clocks(alloc: Global) -> Result<bool, EndpointFault> {
-    let mut zero = endpoint(alloc, 0, 0, 0)?;
-    let mut own = FIRST;
-    own[15] = 0;
-    let own = zero.receive(0, &own).err() == Some(EndpointFault::OwnParcel);
-    let clock = zero.send(1 << 62, Pid(1), &[]).err() == Some(EndpointFault::Clock);
-    let other = zero.take_in(1 << 62).err() == Some(EndpointFault::Clock);
-    Ok(own && clock && other)
-}
-
 #[test]
-fn an_endpoint_sends(rt: HostRuntime) {
-    assert!(rt; matches!(sends(rt.alloc()), Ok(true)));
-}
-
-#[test]
-fn an_endpoint_takes_clocks_in(rt: HostRuntime) {
-    assert!(rt; matches!(takes_clocks_in(rt.alloc()), Ok(true)));
+fn an_endpoint_passes_on(rt: HostRuntime) {
+    assert!(rt; passes_on(rt.alloc()));
 }
 
 #[test]
 fn an_endpoint_recovers(rt: HostRuntime) {
     assert!(rt; recovers(rt.alloc()));
-}
-
-#[test]
-fn an_endpoint_refuses_repetitions(rt: HostRuntime) {
-    assert!(rt; matches!(refuses_repetitions(rt.alloc()), Ok(true)));
-}
-
-#[test]
-fn an_endpoint_refuses_others(rt: HostRuntime) {
-    assert!(rt; matches!(refuses_others(rt.alloc()), Ok(true)));
-}
-
-#[test]
-fn an_endpoint_refuses_clocks(rt: HostRuntime) {
-    assert!(rt; matches!(refuses_clocks(rt.alloc()), Ok(true)));
 }

@@ -1,6 +1,6 @@
 //! The outputs of the process kinds and of the documented process, on hand-computed values. Drops of a counted process
 //! are tested on a core (`cores`).
-use crate::runtime::{Kind, test_process};
+use crate::runtime::{TestProcess, test_process};
 use causal_name::{NoMemory, Pid};
 use causal_process::{Body, Input, Outgoing, Process};
 use std::alloc::Global;
@@ -9,12 +9,12 @@ use std::alloc::Global;
 type Told = Option<(u8, &'static [u8])>;
 
 /// Process `me` of n of a kind, and its expected output for each of these inputs in turn.
-type Case = (Kind, u16, u8, &'static [(Told, Told)]);
+type Case = (TestProcess, u16, u8, &'static [(Told, Told)]);
 
 // 255 + 255 + 3 is twice 256 plus 1.
 const CASES: [Case; 11] = [
     (
-        Kind::Ring(2),
+        TestProcess::Ring(2),
         3,
         0,
         &[
@@ -24,15 +24,15 @@ const CASES: [Case; 11] = [
             (Some((2, &[])), None),
         ],
     ),
-    (Kind::Ring(2), 1, 0, &[(None, Some((0, &[2])))]),
+    (TestProcess::Ring(2), 1, 0, &[(None, Some((0, &[2])))]),
     (
-        Kind::Ring(2),
+        TestProcess::Ring(2),
         256,
         255,
         &[(None, None), (Some((254, &[7, 1])), Some((0, &[6])))],
     ),
     (
-        Kind::Echo(4),
+        TestProcess::Echo(4),
         3,
         2,
         &[
@@ -41,10 +41,10 @@ const CASES: [Case; 11] = [
             (Some((1, &[0])), None),
         ],
     ),
-    (Kind::Echo(4), 3, 1, &[(None, Some((0, &[4])))]),
-    (Kind::Echo(4), 256, 254, &[(None, Some((255, &[4])))]),
+    (TestProcess::Echo(4), 3, 1, &[(None, Some((0, &[4])))]),
+    (TestProcess::Echo(4), 256, 254, &[(None, Some((255, &[4])))]),
     (
-        Kind::Tally,
+        TestProcess::Tally,
         3,
         0,
         &[
@@ -54,7 +54,7 @@ const CASES: [Case; 11] = [
         ],
     ),
     (
-        Kind::Tally,
+        TestProcess::Tally,
         3,
         0,
         &[
@@ -63,7 +63,7 @@ const CASES: [Case; 11] = [
         ],
     ),
     (
-        Kind::Tally,
+        TestProcess::Tally,
         3,
         0,
         &[
@@ -73,13 +73,13 @@ const CASES: [Case; 11] = [
         ],
     ),
     (
-        Kind::Tally,
+        TestProcess::Tally,
         3,
         2,
         &[(None, Some((0, &[2]))), (Some((0, &[9])), None)],
     ),
     (
-        Kind::Numbering(254),
+        TestProcess::Numbering(254),
         1,
         0,
         &[
@@ -112,8 +112,8 @@ fn are_expected(sends: &[Outgoing], expected: Told) -> bool {
 
 /// Returns whether a process gives the expected output for each input in turn. After `NoMemory` the same input is given
 /// again and must have the output of a single step.
-fn answers(alloc: Global, (kind, n, me, rows): Case) -> Result<bool, NoMemory> {
-    let mut process = test_process(alloc, kind, n, me)?;
+fn answers(alloc: Global, (process, n, me, rows): Case) -> Result<bool, NoMemory> {
+    let mut process = test_process(alloc, process, n, me)?;
     for (given, expected) in rows {
         let input = input(alloc, *given)?;
         let sends = match process.step(alloc, &input) {
@@ -125,25 +125,6 @@ fn answers(alloc: Global, (kind, n, me, rows): Case) -> Result<bool, NoMemory> {
         }
     }
     Ok(true)
-}
-
-/// Returns whether a process begins with a message to itself that has this many bytes, all of value 7.
-fn begins_with(alloc: Global, length: usize) -> Result<bool, NoMemory> {
-    let mut process = test_process(alloc, Kind::Long(length), 1, 0)?;
-    let sends = process.step(alloc, &Input::Begin)?;
-    Ok(match sends.as_slice() {
-        [send] => {
-            let bytes = send.body.as_slice();
-            bytes.len() == length && bytes.iter().all(|byte| *byte == 7)
-        }
-        _ => false,
-    })
-}
-
-// The longest body that a process may send.
-#[test]
-fn a_body_of_1024_bytes(rt: HostRuntime) {
-    assert!(rt; matches!(begins_with(rt.alloc(), 1_024), Ok(true)));
 }
 
 #[test]

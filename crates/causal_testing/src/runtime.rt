@@ -1,5 +1,5 @@
 //! The processes that start a core or a shared runtime in tests.
-use crate::doubles::{Flood, Long, Refusing};
+use crate::doubles::{Flood, Refusing};
 use crate::example::Numbering;
 use causal_name::{NoMemory, Pid};
 use causal_process::{Echo, Process, Ring, Tally};
@@ -7,36 +7,34 @@ use std::alloc::Global;
 
 pub(crate) type Boxed = Box<dyn Process + Send>;
 
-/// The kind of process, with its first count: one of the runtime's kinds, the documented process, or a test double.
-/// `Flood` sends as many messages as it may, `Long` one with this many bytes. `Refusing` is one of a ring that returns `NoMemory` once, after a number of steps.
+/// A process for a test, with its first count: of one of the runtime's kinds, the documented process, or a test double.
+/// `Flood` sends as many messages as it may. `Refusing` is one of a ring that returns `NoMemory` once, after a number of
+/// steps.
 #[derive(Clone, Copy)]
-pub(crate) enum Kind {
+pub(crate) enum TestProcess {
     Ring(u8),
     Echo(u8),
     Tally,
     Numbering(u8),
     Flood,
-    Long(usize),
     Refusing(u8, u64),
 }
 
 /// Process `me` of n; n is raised to `me` + 1 if it is smaller.
-pub(crate) fn test_process(alloc: Global, kind: Kind, n: u16, me: u8) -> Result<Boxed, NoMemory> {
+pub(crate) fn test_process(
+    alloc: Global,
+    process: TestProcess,
+    n: u16,
+    me: u8,
+) -> Result<Boxed, NoMemory> {
     let n = n.max(u16::from(me) + 1);
-    let boxed: Boxed = match kind {
-        Kind::Ring(hops) => Box::new(alloc, Ring::new(n, me, hops))?,
-        Kind::Echo(rounds) => Box::new(alloc, Echo::new(n, me, rounds))?,
-        Kind::Tally => Box::new(alloc, Tally::new(n, me))?,
-        Kind::Numbering(count) => Box::new(alloc, Numbering { count })?,
-        Kind::Flood => Box::new(alloc, Flood { me: Pid(me) })?,
-        Kind::Long(length) => Box::new(
-            alloc,
-            Long {
-                me: Pid(me),
-                length,
-            },
-        )?,
-        Kind::Refusing(hops, steps) => Box::new(
+    let boxed: Boxed = match process {
+        TestProcess::Ring(hops) => Box::new(alloc, Ring::new(n, me, hops))?,
+        TestProcess::Echo(rounds) => Box::new(alloc, Echo::new(n, me, rounds))?,
+        TestProcess::Tally => Box::new(alloc, Tally::new(n, me))?,
+        TestProcess::Numbering(count) => Box::new(alloc, Numbering { count })?,
+        TestProcess::Flood => Box::new(alloc, Flood { me: Pid(me) })?,
+        TestProcess::Refusing(hops, steps) => Box::new(
             alloc,
             Refusing {
                 inner: Ring::new(n, me, hops),
@@ -48,10 +46,14 @@ pub(crate) fn test_process(alloc: Global, kind: Kind, n: u16, me: u8) -> Result<
 }
 
 /// All n processes.
-pub(crate) fn processes(alloc: Global, kind: Kind, n: u8) -> Result<Vec<Boxed>, NoMemory> {
+pub(crate) fn processes(
+    alloc: Global,
+    process: TestProcess,
+    n: u8,
+) -> Result<Vec<Boxed>, NoMemory> {
     let mut boxes = Vec::new(alloc);
     for me in 0..n {
-        boxes.push(test_process(alloc, kind, u16::from(n), me)?)?;
+        boxes.push(test_process(alloc, process, u16::from(n), me)?)?;
     }
     Ok(boxes)
 }

@@ -1,5 +1,5 @@
 //! Parcels and their bytes, worked by hand.
-use crate::entries::det;
+use crate::names::det;
 use causal_name::Pid;
 use causal_wire::{
     Content, Head, LogEntry, Parcel, ParcelFault, ParcelItem, RunId, WireFault, read, write,
@@ -38,16 +38,6 @@ const TWICE: [u8; 54] = [
     0, 0, 0, 0, 5, 1, 0, 0, 2, 1, 0, 0, 0, 0, 0, 5, 1, 0, 0, 2, 1, 0,
 ];
 
-/// A part of a parcel.
-#[derive(Clone, Copy)]
-enum Part {
-    Head,
-    Number,
-    Body,
-    Item,
-    Answer,
-}
-
 fn is_head(head: Head) -> bool {
     (head.source.0, head.dest.0, head.lane, head.clock) == (1, 2, 4, 256)
 }
@@ -70,53 +60,31 @@ fn are_entries(entries: &[LogEntry]) -> bool {
     }
 }
 
-impl Part {
-    /// Returns whether a parcel has this part.
-    fn is_of(self, parcel: &Parcel) -> bool {
-        match (self, &parcel.content) {
-            (Part::Head, _) => is_head(parcel.head),
-            (Part::Number, Content::Message { ssn, items, .. }) => *ssn == 9 && items.len() == 1,
-            (Part::Body, Content::Message { body, .. }) => body.as_slice() == [255].as_slice(),
-            (Part::Item, Content::Message { items, .. }) => are_items(items.as_slice()),
-            (Part::Answer, Content::Answer { round, entries }) => {
-                *round == 7 && are_entries(entries.as_slice())
-            }
-            _ => false,
+/// Returns whether a parcel is the message or the answer.
+fn is_expected(parcel: &Parcel) -> bool {
+    match &parcel.content {
+        Content::Message { ssn, items, body } => {
+            is_head(parcel.head)
+                && *ssn == 9
+                && are_items(items.as_slice())
+                && body.as_slice() == [255].as_slice()
         }
+        Content::Answer { round, entries } => *round == 7 && are_entries(entries.as_slice()),
+        _ => false,
     }
+}
 
-    /// Returns whether bytes are read as a parcel with this part.
-    fn is_read(self, alloc: Global, bytes: &[u8]) -> bool {
-        match read(alloc, RUN, bytes) {
-            Ok(parcel) => self.is_of(&parcel),
-            Err(_) => false,
-        }
+/// Returns whether bytes are read as the message or the answer.
+fn is_read(alloc: Global, bytes: &[u8]) -> bool {
+    match read(alloc, RUN, bytes) {
+        Ok(parcel) => is_expected(&parcel),
+        Err(_) => false,
     }
 }
 
 #[test]
-fn reads_a_head(rt: HostRuntime) {
-    assert!(rt; Part::Head.is_read(rt.alloc(), &MESSAGE));
-}
-
-#[test]
-fn reads_a_number(rt: HostRuntime) {
-    assert!(rt; Part::Number.is_read(rt.alloc(), &MESSAGE));
-}
-
-#[test]
-fn reads_a_body(rt: HostRuntime) {
-    assert!(rt; Part::Body.is_read(rt.alloc(), &MESSAGE));
-}
-
-#[test]
-fn reads_an_item(rt: HostRuntime) {
-    assert!(rt; Part::Item.is_read(rt.alloc(), &MESSAGE));
-}
-
-#[test]
-fn reads_an_answer(rt: HostRuntime) {
-    assert!(rt; Part::Answer.is_read(rt.alloc(), &ANSWER));
+fn reads_a_message_and_an_answer(rt: HostRuntime) {
+    assert!(rt; is_read(rt.alloc(), &MESSAGE) && is_read(rt.alloc(), &ANSWER));
 }
 
 /// Returns whether a question with this view has those bytes.
@@ -177,32 +145,27 @@ fn refuses_change(alloc: Global, (place, byte, fault): (usize, u8, WireFault)) -
     refusal(alloc, &bytes) == Some(fault)
 }
 
-#[test]
-fn refuses_changed_bytes(rt: HostRuntime) {
-    for (number, change) in CHANGES.iter().enumerate() {
-        assert!(rt; refuses_change(rt.alloc(), *change), "change {number}");
+fn refuses_changes(alloc: Global) -> bool {
+    for change in &CHANGES {
+        if !refuses_change(alloc, *change) {
+            return false;
+        }
     }
+    true
 }
 
-#[test]
-fn refuses_what_is_too_short(rt: HostRuntime) {
-    for len in 0..MESSAGE.len() {
-        assert!(rt;
-            refusal(rt.alloc(), &MESSAGE[..len]) == Some(WireFault::Short),
-            "of {len}"
-        );
-    }
-}
-
-/// The answer with another byte as its last.
-fn with_flag(alloc: Global) -> Option<WireFault> {
+/// The first error of the answer with another byte as its last.
+fn flag_refusal(alloc: Global) -> Option<WireFault> {
     let mut flagged = ANSWER;
     flagged[51] = 2;
     refusal(alloc, &flagged)
 }
 
 #[test]
-fn refuses_lists_out_of_order(rt: HostRuntime) {
-    assert!(rt; refusal(rt.alloc(), &TWICE) == Some(WireFault::Unsorted));
-    assert!(rt; with_flag(rt.alloc()) == Some(WireFault::Flag));
+fn refuses_other_bytes(rt: HostRuntime) {
+    assert!(rt;
+        refuses_changes(rt.alloc())
+            && refusal(rt.alloc(), &TWICE) == Some(WireFault::Unsorted)
+            && flag_refusal(rt.alloc()) == Some(WireFault::Flag)
+    );
 }

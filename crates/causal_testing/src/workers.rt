@@ -1,100 +1,15 @@
-//! The gate of an audit: each worker enters once, and two workers overlap. The results for up to 64 workers are rows
-//! for the built program (`examples/commands/`).
+//! The gate of an audit: each worker enters once, and two workers overlap (`traces`). The results for up to 64 workers
+//! are rows for the built program (`examples/commands/`).
 ghost use Rattle.std.specs.Prelude.{⊤};
 
-use crate::entries::{Line, RING, build_trace, push_all};
 use causal_audit::Verdict;
-use causal_holders::Holders;
-use causal_trace::fault::TraceFault;
 use causal_trace::trace::Trace;
-use causal_workers::{Gate, Judged, OpenGate, audit, audit_text};
+use causal_workers::{Gate, audit};
 use std::alloc::Global;
 use std::sync::Wait;
 use std::sync::atomic::{AtomicU64, Ordering};
 use std::thread;
 use std::thread::Threads;
-
-#[test]
-fn a_judgement_has_its_counts(rt: HostRuntime) {
-    let found = audit_text(
-        &rt,
-        rt.alloc(),
-        crate::texts::RING.as_bytes(),
-        1,
-        2,
-        &OpenGate,
-    );
-    assert!(rt;
-        matches!(
-            found,
-            Ok(Judged {
-                verdict: Verdict::Accept,
-                entries: 6,
-                deliveries: 3
-            })
-        )
-    );
-}
-
-/// Two recorded runs, which are audited with f = 1.
-#[derive(Clone, Copy)]
-enum Run {
-    Ring,
-    /// Process 0 sends many messages to process 1, which lists each delivery; then 1 sends to 2, which lists none of
-    /// them.
-    PassedOnBare,
-}
-
-/// More than two groups of open deliveries. If process 1 crashes, 2 depends on the first delivery, whose determinant no
-/// log contains.
-const MANY: u32 = 600;
-
-/// The last message: process 1 sends it after all its deliveries.
-const LAST: [Line<'static>; 2] = [
-    Line::Send(1, 2, 0),
-    Line::Deliver(2, 1_200, 0, &[(1, 0, 2, 0)]),
-];
-
-/// Sends and delivers many messages.
-fn pass_on(alloc: Global, trace: &mut Trace) -> Result<(), TraceFault> {
-    for number in 0..MANY {
-        let lines = [
-            Line::Send(0, 1, number),
-            Line::Deliver(1, trace.len(), number, &[(0, number, 1, number)]),
-        ];
-        push_all(alloc, trace, &lines)?;
-    }
-    push_all(alloc, trace, &LAST)
-}
-
-fn trace_without_lists(alloc: Global) -> Result<Trace, TraceFault> {
-    let mut trace = Trace::new(alloc, 3)?;
-    pass_on(alloc, &mut trace)?;
-    Ok(trace)
-}
-
-impl Run {
-    fn build_trace(self, alloc: Global) -> Result<Trace, TraceFault> {
-        match self {
-            Run::Ring => build_trace(alloc, 3, &RING),
-            Run::PassedOnBare => trace_without_lists(alloc),
-        }
-    }
-
-    fn verdict(self) -> Verdict {
-        let Run::PassedOnBare = self else {
-            return Verdict::Accept;
-        };
-        let mut crash = Holders::none();
-        crash.insert(1);
-        Verdict::Orphan {
-            instant: 1_202,
-            delivery: 1,
-            crash,
-            orphan: 2,
-        }
-    }
-}
 
 /// How often a worker checks whether the awaited workers have entered.
 const TURNS: u32 = 10_000_000;
@@ -152,60 +67,21 @@ impl Gate for Counting {
     }
 }
 
-/// Returns whether an audit with this number of workers and f = 1 returns this verdict.
-fn gives<R: Threads + Wait>(
+/// The number of workers, the bits of all workers, and the bits of those that wait for each other.
+pub(crate) type Entering = (u32, u64, u64);
+
+/// Returns whether an audit for f = 1 returns this verdict, exactly these workers enter, each once, and those that wait
+/// meet.
+pub(crate) fn enter_once<R: Threads + Wait>(
     rt: &R,
     alloc: Global,
     trace: &Trace,
-    workers: u32,
-    gate: &Counting,
+    (workers, all, awaited): Entering,
     verdict: Verdict,
 ) -> bool {
-    match audit(rt, alloc, trace, 1, workers.clamp(1, 64), gate) {
-        Ok(found) => found == verdict,
-        Err(_) => false,
-    }
-}
-
-/// A run, the number of workers, the bits of all workers, and the bits of those that wait for each other.
-type Case = (Run, u32, u64, u64);
-
-const CASES: [Case; 6] = [
-    (Run::Ring, 1, 1, 0),
-    (Run::Ring, 5, 31, 0),
-    (Run::Ring, 64, u64::MAX, 0),
-    (Run::PassedOnBare, 1, 1, 0),
-    (Run::PassedOnBare, 5, 31, 0),
-    (Run::PassedOnBare, 64, u64::MAX, 0),
-];
-
-/// Each of the workers 0 and 1 waits in the gate until the other has entered.
-const OVERLAPPING: [Case; 2] = [(Run::Ring, 2, 3, 3), (Run::PassedOnBare, 2, 3, 3)];
-
-/// Returns whether exactly these workers enter, each once, those that wait meet, and the verdict is the expected one.
-fn enter_once<R: Threads + Wait>(
-    rt: &R,
-    alloc: Global,
-    (run, workers, all, awaited): Case,
-) -> bool {
     let gate = Counting::new(awaited);
-    match run.build_trace(alloc) {
-        Ok(trace) => gives(rt, alloc, &trace, workers, &gate, run.verdict()) && gate.is_of(all),
+    match audit(rt, alloc, trace, 1, workers.clamp(1, 64), &gate) {
+        Ok(found) => found == verdict && gate.is_of(all),
         Err(_) => false,
-    }
-}
-
-// includes cases with more workers than deliveries
-#[test]
-fn workers_enter_once(rt: HostRuntime) {
-    for (number, case) in CASES.iter().enumerate() {
-        assert!(rt; enter_once(&rt, rt.alloc(), *case), "case {number}");
-    }
-}
-
-#[test]
-fn audit_workers_overlap(rt: HostRuntime) {
-    for (number, case) in OVERLAPPING.iter().enumerate() {
-        assert!(rt; enter_once(&rt, rt.alloc(), *case), "case {number}");
     }
 }

@@ -1,47 +1,14 @@
-//! The start of a core, and its state after a failed allocation or write.
+//! The state of a core after a failed allocation or write.
 use super::*;
-use causal_log::Stable;
 use causal_trace::entry::Entry;
 use causal_trace::trace::Trace;
 
 /// A ring of three; process 1 returns `NoMemory` once, after this number of steps.
 pub(super) fn refusing_ring(alloc: Global, steps: u64) -> Result<Vec<Boxed>, NoMemory> {
-    ring_with(alloc, test_process(alloc, Kind::Refusing(2, steps), 3, 1))
-}
-
-/// The error of a start over a store, which may have a member; None too if allocation failed for the processes.
-fn refusal(
-    alloc: Global,
-    boxes: Result<Vec<Boxed>, NoMemory>,
-    member: Option<Fields>,
-) -> Option<StartFault> {
-    let boxes = boxes.ok()?;
-    let mut store = MemStable::new(alloc);
-    if let Some(fields) = member {
-        store.put(det(fields)).ok()?;
-    }
-    Core::start(alloc, 1, boxes, store).err()
-}
-
-/// The number of processes of a tally, a member of the store, and the expected error of the start.
-const BEGINNINGS: [(u8, Option<Fields>, Option<StartFault>); 4] = [
-    (0, None, Some(StartFault::Processes)),
-    (0, Some((0, 0, 0, 0)), Some(StartFault::Processes)),
-    (3, Some((0, 0, 0, 0)), Some(StartFault::StoreNotEmpty)),
-    (3, None, None),
-];
-
-#[test]
-fn start_refusals(rt: HostRuntime) {
-    for (n, member, fault) in &BEGINNINGS {
-        assert!(rt;
-            refusal(rt.alloc(), processes(rt.alloc(), Kind::Tally, *n), *member) == *fault,
-            "of {n}"
-        );
-    }
-    assert!(rt;
-        refusal(rt.alloc(), refusing_ring(rt.alloc(), 0), None) == Some(StartFault::NoMemory)
-    );
+    ring_with(
+        alloc,
+        test_process(alloc, TestProcess::Refusing(2, steps), 3, 1),
+    )
 }
 
 const MADE_AGAIN: [(Call, ExpectedReply); 2] = [
@@ -63,7 +30,7 @@ pub(super) fn delivers_again(alloc: Global, core: &mut Runtime) -> bool {
 /// Returns whether a spare that fails with `NoMemory` in a restart of process 0 is returned, and then restarts it.
 pub(super) fn spare_comes_back(alloc: Global, core: &mut Runtime) -> bool {
     let is_down = core.crash(Pid(0)) == Ok(1);
-    let spare = test_process(alloc, Kind::Refusing(2, 0), 3, 0);
+    let spare = test_process(alloc, TestProcess::Refusing(2, 0), 3, 0);
     let answer = ExpectedReply::Restarted(2, 0, 1);
     gives_back(core, (0, CoreFault::NoMemory), (0, answer), spare)
         && is_down
