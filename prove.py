@@ -21,7 +21,7 @@ MEMORY = 3_000_000_000  # bytes that one proof takes at most
 MOST_JOBS = 4  # more gain nothing
 FIXED, EACH_LINE = 25, 0.12  # what a proof costs: a part for loading what is below, and one for each line of code
 # Words on a proof's last line that no crate of the repository may have.
-REFUSED = ("foreign", "hides", "bugs", "may-abort")
+REFUSED = ("foreign", "hides", "partial", "may-abort", "may-serve", "bugs")
 
 
 def say(text):
