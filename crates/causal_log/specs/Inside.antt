@@ -2,4 +2,5 @@
 pub mod BatchCache
 pub mod Merges
 pub mod Ranks
+pub mod SharedItems
 pub mod Tables

@@ -1,7 +1,7 @@
 //! The piggyback of a message.
 #![tactic(auto, using(crate::proofs::Rules::of_batch))]
 
-ghost use Rattle.std.specs.Prelude.{◌≡◌, ◌≤◌, true, false, Some, take, drop, slice_get, length, IfOk, IfSome, IsNone};
+ghost use Rattle.std.specs.Prelude.{◌≡◌, ◌≤◌, true, false, [], Some, take, drop, slice_get, length, IfOk, IfSome, IsNone};
 ghost use Rattle.causal_name.specs.Names.{is_ascending, same_det};
 ghost use Rattle.causal_log.specs.Knowledge.{union_with};
 ghost use Rattle.causal_log.specs.Inside.BatchCache.{known_of_item};
@@ -11,7 +11,9 @@ ghost use Rattle.causal_log.specs.Logs.{dets_of, names_det, AllBefore, AllAfter}
 use crate::known::Known;
 use causal_holders::Holders;
 use causal_name::{Det, NoMemory};
+use std::alloc::Global;
 use std::marker::Model;
+use std::sync::Arc;
 
 /// A determinant that a message carries, with the processes that its sender knew to hold it.
 #[derive(Clone, Copy, PartialEq, Eq)]
@@ -43,11 +45,12 @@ impl Item {
 /// The piggyback of a message: items whose determinants strictly ascend. `Log::choose` and `Log::choose_after_delivery` return
 /// one.
 ///
-/// All messages of a step carry the same batch, so a runtime stores one batch for each step. A copy for each message
-/// would multiply the memory of a long batch.
+/// All messages of a step carry the same batch, which they, the outbox and the log share: a copy for each would multiply
+/// the memory of a long one. An empty batch is shared without a count, and allocates nothing.
 #[derive(Drop)]
 pub struct Batch {
-    items: Vec<Item>,
+    /// `None` where there are none.
+    items: Option<Arc<Vec<Item>>>,
 }
 
 impl Model for Batch {
@@ -62,19 +65,46 @@ impl Model for Batch {
 
     ghost use Rattle.causal_name.specs.Names.{is_ascending};
     ghost use Rattle.causal_log.specs.Logs.{dets_of};
+    ghost use Rattle.causal_log.specs.Inside.SharedItems.{shared_items};
 
-    ghost view = { λ batch. batch.items.items };
+    ghost view = { λ batch. shared_items batch.items };
 
-    ghost invariant = { λ batch. is_ascending (dets_of batch.items.items) ≡ true };
+    ghost invariant = { λ batch. is_ascending (dets_of (shared_items batch.items)) ≡ true };
 }
 
 impl Batch {
-    /// Returns the batch of these items, whose determinants strictly ascend.
-    pub fn new(items: Vec<Item>) -> Batch
-        requires { is_ascending (dets_of items.items) ≡ true }
-        ensures { result ≡ items.items }
+    /// Returns the batch of no items. It allocates nothing.
+    pub fn empty() -> Batch
+        ensures { result ≡ [] }
     {
-        Batch { items }
+        Batch { items: None }
+    }
+
+    /// Returns the batch of these items, whose determinants strictly ascend. Fails only if out of memory; if there are
+    /// none, it allocates nothing.
+    pub fn new(alloc: Global, items: Vec<Item>) -> Result<Batch, NoMemory>
+        requires { is_ascending (dets_of items.items) ≡ true }
+        ensures { IfOk result (λ batch. batch ≡ items.items) }
+    {
+        if items.is_empty() {
+            return Ok(Batch::empty());
+        }
+        let shared = Arc::new(alloc, items)?;
+        Ok(Batch {
+            items: Some(shared),
+        })
+    }
+
+    /// Returns the same batch, shared with this one. It copies no item and allocates nothing. Fails only if too many
+    /// share it to be counted.
+    pub fn share(&self) -> Result<Batch, NoMemory>
+        ensures { IfOk result (λ batch. batch ≡ self.now) }
+    {
+        let items = match &self.items {
+            Some(shared) => Some(Arc::try_clone(shared)?),
+            None => None,
+        };
+        Ok(Batch { items })
     }
 
     /// Returns the items, by strictly ascending determinant.
@@ -82,7 +112,10 @@ impl Batch {
         ensures items { result.now ≡ self.now }
         ensures ascending { is_ascending (dets_of self.now) ≡ true }
     {
-        self.items.as_slice()
+        match &self.items {
+            Some(shared) => shared.as_slice(),
+            None => &[],
+        }
     }
 
     /// Returns the index at which a determinant would be inserted, or `None` if an item names it. Takes O(log items)
@@ -93,7 +126,7 @@ impl Batch {
         ensures before { IfSome result (λ place. AllBefore (take place self.now) det) }
         ensures after { IfSome result (λ place. AllAfter det (drop place self.now)) }
     {
-        let items = self.items.as_slice();
+        let items = self.as_slice();
         let place = item_index(items, det);
         match next_of(items, place, det) {
             Some(_) => None,

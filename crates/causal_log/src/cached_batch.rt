@@ -2,7 +2,6 @@
 #![tactic(auto, using(crate::proofs::Rules::of_changes))]
 
 ghost use Rattle.std.specs.Prelude.{◌≡◌, [], ◌∷◌, List, IfOk};
-ghost use Rattle.std.specs.Arc.{arc_value};
 ghost use Rattle.std.specs.Map.{keys_of};
 ghost use Rattle.causal_name.specs.declared.Det.{Det};
 ghost use Rattle.causal_log.specs.Logs.{LogMap, log_of, batch_items, dets_of};
@@ -14,13 +13,12 @@ use crate::known::Known;
 use crate::table::Table;
 use causal_name::{Det, NoMemory};
 use std::alloc::Global;
-use std::sync::Arc;
 
 /// The batch that messages carried for a bound `f` when it was last chosen, shared with them, and what has changed since.
 #[derive(Drop)]
 pub(crate) struct CachedBatch {
     pub f: u16,
-    pub batch: Arc<Batch>,
+    pub batch: Batch,
     /// The determinants of which something was learned since, in any order and perhaps more than once.
     pub changed: Vec<Det>,
 }
@@ -33,7 +31,7 @@ impl CachedBatch {
         entries: &Table,
     ) -> Result<Vec<Item>, NoMemory>
         requires { CarriesBut self.now.changed.items self.now.f (log_of entries.now.entries)
-            (arc_value self.now.batch) }
+            self.now.batch }
         ensures { IfOk result (λ items. items.items
             ≡ batch_items self.now.f (log_of entries.now.entries)) }
     {

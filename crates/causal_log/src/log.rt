@@ -4,7 +4,6 @@
 ghost use Rattle.std.specs.Prelude.{◌≡◌, ◌↔◌, ◌<◌, ◌≤◌, ◌+◌, ◌^◌, IsTrue, IsSome, IsOk, true, IfOk, OnOk, OnErr, length, slice_get};
 ghost use Rattle.std.specs.Map.{keys_of};
 ghost use Rattle.std.specs.FinMap as fin;
-ghost use Rattle.std.specs.Arc.{arc_value};
 ghost use Rattle.causal_name.specs.Names.{is_ascending};
 ghost use Rattle.causal_log.specs.Knowledge.{held_by, stable_and_held_by};
 ghost use Rattle.causal_log.specs.Logs.{log_of, after_learn, after_learn_all, dets_of, after_absorb, after_delivery, after_union, after_mark, stable_in, unstable_in, after_drop_stable, forgotten_in, after_forget, batch_items, named_message, SameMultiset};
@@ -21,7 +20,6 @@ use crate::table::{
 use causal_name::{Det, MsgName, NoMemory, Pid, Slot};
 use std::alloc::Global;
 use std::marker::Model;
-use std::sync::Arc;
 
 /// The volatile log of a process: what it knows of each determinant that it logs (`Log(e)` of Elnozahy, Alvisi, Wang
 /// and Johnson 2002, from one process's side).
@@ -142,7 +140,7 @@ impl Log {
     pub fn choose(&self, alloc: Global, f: u16) -> Result<Batch, NoMemory>
         ensures { IfOk result (λ batch. batch ≡ batch_items f self.now.map) }
     {
-        Ok(Batch::new(self.piggyback_items(alloc, f)?))
+        Batch::new(alloc, self.piggyback_items(alloc, f)?)
     }
 
     /// Returns the items that messages carry.
@@ -159,8 +157,8 @@ impl Log {
     /// Caches what messages carry, which is what `choose` returns, so that the next `choose` or `choose_after_delivery` with
     /// the same `f` reads only the entries that have changed since. A runtime shares the batch between the log and the
     /// messages that it sends.
-    pub fn cache_batch(&mut self, f: u16, batch: Arc<Batch>)
-        requires { arc_value batch ≡ batch_items f self.old.map }
+    pub fn cache_batch(&mut self, f: u16, batch: Batch)
+        requires { batch ≡ batch_items f self.old.map }
         ensures map { self.new.map ≡ self.old.map }
         ensures spare { self.new.spare ≡ self.old.spare }
     {
@@ -168,7 +166,7 @@ impl Log {
         self.cached_batch = Some(CachedBatch { f, batch, changed });
     }
 
-    /// Returns what the messages of a step will carry once `apply_delivery` has added a delivery, as a shared batch. It is the
+    /// Returns what the messages of a step will carry once `apply_delivery` has added a delivery. It is shared with the
     /// cached batch if that is found to stay the same. Fails only if out of memory.
     pub fn choose_after_delivery(
         &self,
@@ -178,8 +176,8 @@ impl Log {
         from: Pid,
         me: Pid,
         f: u16,
-    ) -> Result<Arc<Batch>, NoMemory>
-        ensures { IfOk result (λ batch. arc_value batch ≡
+    ) -> Result<Batch, NoMemory>
+        ensures { IfOk result (λ batch. batch ≡
             batch_items f (after_delivery carried.now own from me self.now.map)) }
     {
         let delivery = AppliedDelivery {
@@ -197,7 +195,7 @@ impl Log {
                 next_batch(alloc, &now.batch, &delivery)
             }
             _ => {
-                let batch = Arc::new(alloc, self.choose(alloc, f)?)?;
+                let batch = self.choose(alloc, f)?;
                 next_batch(alloc, &batch, &delivery)
             }
         }

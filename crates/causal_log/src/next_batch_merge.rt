@@ -5,7 +5,6 @@
 
 ghost use Rattle.std.specs.Prelude.{◌≡◌, ◌≤◌, ◌<◌, ◌-◌, ◌++◌, true, false, Some, is_some, take, drop, slice_get, length, vec_len, IfOk, OnOk, IfSome, IsNone};
 ghost use Rattle.std.specs.List.{list_all};
-ghost use Rattle.std.specs.Arc.{arc_value};
 ghost use Rattle.std.specs.FinMap as fin;
 ghost use Rattle.causal_name.specs.declared.Det.{Det};
 ghost use Rattle.causal_name.specs.Names.{is_ascending, is_before, same_det};
@@ -21,7 +20,6 @@ use crate::table::Table;
 use causal_holders::Holders;
 use causal_name::{Det, NoMemory, Pid};
 use std::alloc::Global;
-use std::sync::Arc;
 
 /// A delivery to be added to a log's entries: the items of its message, which process `from` sent to `me`, its own
 /// determinant, and the bound `f` by which messages carry determinants.
@@ -270,20 +268,20 @@ fn insert_own(out: &mut Vec<Item>, delivery: &AppliedDelivery<'_>) -> Result<(),
 /// batch if it is found to stay the same.
 pub(crate) fn next_batch(
     alloc: Global,
-    batch: &Arc<Batch>,
+    batch: &Batch,
     delivery: &AppliedDelivery<'_>,
-) -> Result<Arc<Batch>, NoMemory>
-    requires kept { arc_value batch.now ≡ batch_items delivery.now.f (log_before delivery.now) }
+) -> Result<Batch, NoMemory>
+    requires kept { batch.now ≡ batch_items delivery.now.f (log_before delivery.now) }
     requires ascending { is_ascending (dets_of delivery.now.items.now) ≡ true }
-    ensures { IfOk result (λ next. arc_value next
+    ensures { IfOk result (λ next. next
         ≡ batch_items delivery.now.f (log_after delivery.now)) }
 {
     let kept = batch.as_slice();
     if changes_nothing(kept, delivery) {
-        return Ok(Arc::try_clone(batch)?);
+        return batch.share();
     }
     let mut items = merge_batches(alloc, kept, delivery)?;
     insert_own(&mut items, delivery)?;
     items.shrink_to_fit();
-    Ok(Arc::new(alloc, Batch::new(items))?)
+    Batch::new(alloc, items)
 }

@@ -3,7 +3,6 @@ use Rattle.std.specs.Prelude.{◌≡◌, ℕ, Bool, false, cond, List, Option, S
 use Rattle.std.specs.List.{list_any}
 use Rattle.std.specs.Map.{lookup}
 use Rattle.std.specs.Option.{IfSome}
-use Rattle.std.specs.Arc.{arc_value}
 use Rattle.std.specs.FinMap as fin
 use Rattle.causal_name.specs.declared.Det.{Det}
 use Rattle.causal_name.specs.declared.Pid.{Pid}
@@ -37,7 +36,7 @@ CarriesBut dets f log items = (q : Det) → list_any (same_det q) dets ≡ false
 
 -- except for these determinants and those that have changed, the items of a cached batch are those that messages carry
 abbrev pub CacheIsRightBut : List Det → Option CachedBatch → LogMap → Type 0
-CacheIsRightBut dets kept log = IfSome kept (λ k. CarriesBut (dets ++ k.changed.items) k.f log (arc_value k.batch))
+CacheIsRightBut dets kept log = IfSome kept (λ k. CarriesBut (dets ++ k.changed.items) k.f log k.batch)
 
 -- the same, except for those that have changed alone
 abbrev pub CacheIsRight : Option CachedBatch → LogMap → Type 0

@@ -1,5 +1,4 @@
 use Rattle.std.proofs.Common.{◌∙◌, ap, sym, subst}
-use Rattle.std.specs.Arc.{arc_value}
 use Rattle.causal_log.specs.Logs.{batch_items, log_of}
 use Rattle.causal_log.specs.Inside.BatchCache.{CarriesBut}
 use Rattle.causal_log.proofs.ChangeLemmas.{chosen_right}
@@ -10,5 +9,5 @@ invariant_of-self c =
     let log = log_of c.self.inside.entries.entries in
     record {
       ascending = c.self.invariant.ascending;
-      carries = subst (λ dets. CarriesBut dets c.args.f log (arc_value c.args.batch)) (sym c.new-changed.ensures.items) (chosen_right c.args.f log (arc_value c.args.batch) (c.requires ∙ sym (ap (λ l. batch_items c.args.f l.map) c.self.view_is)));
+      carries = subst (λ dets. CarriesBut dets c.args.f log c.args.batch) (sym c.new-changed.ensures.items) (chosen_right c.args.f log c.args.batch (c.requires ∙ sym (ap (λ l. batch_items c.args.f l.map) c.self.view_is)));
     }
