@@ -33,8 +33,8 @@ pub(crate) struct SlotKey {
     pub number: u64,
 }
 
-/// Tables with a larger capacity use all of it: a run has few of them.
-const MOST_STAGGERED: usize = 1152;
+/// Tables with a larger capacity leave a smaller share of it unused: an eighth.
+const SMALL_CAPACITY: usize = 1152;
 
 /// Entries in insertion order, unless they were sorted since.
 #[derive(Drop)]
@@ -46,7 +46,7 @@ pub(crate) struct Table {
     last: Option<Slot>,
     /// How many more entries can be added without allocation.
     room: usize,
-    /// Which share of a capacity up to `MOST_STAGGERED` stays unused, in parts of 512. Capacities are 9 times a power of
+    /// Which share of a capacity up to `SMALL_CAPACITY` stays unused, in parts of 512. Capacities are 9 times a power of
     /// two, so logs of one run would all grow during the same deliveries; with different shares they do not.
     unused: u8,
 }
@@ -298,8 +298,8 @@ pub(crate) fn is_forgotten(next: Slot, entry: &(Det, Known)) -> bool
 /// Entries by slot and number.
 type Entries = IndexMap<SlotKey, (Det, Known), SeededState>;
 
-/// Returns which share of its capacity a table with this seed leaves unused, in parts of 512: less than a half. The shares
-/// of consecutive seeds are far apart.
+/// Returns which share of a small capacity a table with this seed leaves unused, in parts of 512: less than a half. The
+/// shares of consecutive seeds are far apart.
 fn unused_share(seed: u64) -> u8 {
     ((seed % 256) as u8).wrapping_mul(159)
 }
@@ -325,15 +325,14 @@ fn grow(entries: &mut Entries, unused: u8, more: usize) -> Result<(), NoMemory>
     Ok(())
 }
 
-/// Returns how many more entries it holds without the unused share, which is given in parts of 512.
+/// Returns how many more entries it holds without the unused share: so many parts of 512 of a small capacity, and of 4096
+/// of a larger one.
 fn usable_spare(entries: &Entries, unused: u8) -> usize
     ensures { result ≤ spare entries.now }
 {
     let capacity = entries.capacity();
-    if capacity > MOST_STAGGERED {
-        return spare_of(entries);
-    }
-    let left = capacity.saturating_mul(usize::from(unused)) / 512;
+    let parts = if capacity > SMALL_CAPACITY { 4096 } else { 512 };
+    let left = capacity.saturating_mul(usize::from(unused)) / parts;
     spare_of(entries).saturating_sub(left)
 }
 
