@@ -49,7 +49,7 @@ impl Item {
 /// the memory of a long one. An empty batch is shared without a count, and allocates nothing.
 #[derive(Drop)]
 pub struct Batch {
-    /// `None` where there are none.
+    /// `None` if there are none.
     items: Option<Arc<Vec<Item>>>,
 }
 

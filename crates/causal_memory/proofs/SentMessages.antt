@@ -1,18 +1,16 @@
 -- The messages that a process has sent, and the batches that they carry.
-use Rattle.std.proofs.Common.{◌≡◌, ◌<◌, ◌≤◌, ◌-◌, ◌++◌, ℕ, suc, zero, List, [], ◌∷◌, Some, length, map, slice_get, take, length-append, refl, arith, Global}
-use Rattle.std.specs.Arc.{arc_value}
-use Rattle.std.specs.declared.sync.Arc.{Arc}
-use Rattle.std.specs.Option.{option_map_or}
+use Rattle.std.proofs.Common.{◌≡◌, ◌<◌, ◌≤◌, ◌-◌, ◌++◌, ℕ, suc, zero, List, [], ◌∷◌, Some, length, map, slice_get, take, length-append, refl, arith}
+use Rattle.std.specs.Prelude.{unwrap_or}
 use Rattle.causal_log.specs.declared.batch.Item.{Item}
 use Rattle.causal_memory.specs.declared.outbox.Message.{Message}
 use Rattle.causal_memory.specs.Outboxes.{kept_among}
 
 -- messages that carry one of the first batches are unchanged if those batches are
-pub kept_same : (used_batches : ℕ) (old new : List (Arc (List Item) Global)) (messages : List Message) → ((ssn : ℕ) (m : Message) → slice_get messages ssn ≡ Some m → m.step < used_batches) → ((step : ℕ) → step < used_batches → slice_get new step ≡ slice_get old step) → map (kept_among new) messages ≡ map (kept_among old) messages
+pub kept_same : (used_batches : ℕ) (old new : List (List Item)) (messages : List Message) → ((ssn : ℕ) (m : Message) → slice_get messages ssn ≡ Some m → m.step < used_batches) → ((step : ℕ) → step < used_batches → slice_get new step ≡ slice_get old step) → map (kept_among new) messages ≡ map (kept_among old) messages
 kept_same used_batches old new [] each same = refl
 kept_same used_batches old new (m ∷ ms) each same =
     let here = same m.step (each 0 m refl) in
-    λ i. record { to = m.to; send = m.send; batch = option_map_or arc_value (here i) [] } ∷ kept_same used_batches old new ms (λ ssn k is. each (suc ssn) k is) same i
+    λ i. record { to = m.to; send = m.send; batch = unwrap_or (here i) [] } ∷ kept_same used_batches old new ms (λ ssn k is. each (suc ssn) k is) same i
 
 -- one more batch after the first ones is the last, and the first ones are unchanged
 pub first_stay : {X : Type 0} (xs : List X) (x : X) (n i : ℕ) → i < n → n ≤ length xs → slice_get (take n xs ++ x ∷ []) i ≡ slice_get xs i

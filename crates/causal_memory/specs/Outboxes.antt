@@ -1,10 +1,7 @@
 -- The outbox of a process: its kept messages, their bodies and batches.
-use Rattle.std.specs.Prelude.{◌≡◌, ◌-◌, ℕ, ◌<◌, ◌≤◌, nat_lt, List, [], map, length, Some, slice_get, if◌then◌else◌}
-use Rattle.std.specs.Option.{option_map_or}
+use Rattle.std.specs.Prelude.{◌≡◌, ◌-◌, ℕ, ◌<◌, ◌≤◌, nat_lt, List, [], map, length, Some, slice_get, unwrap_or, if◌then◌else◌}
 use Rattle.std.specs.Coded.{Coded, code_by, coded×, coded_list, coded_ℕ}
-use Rattle.std.specs.Arc.{arc_value}
-use Rattle.std.specs.declared.sync.Arc.{Arc}
-use Rattle.std.proofs.Common.{Global, refl}
+use Rattle.std.proofs.Common.{refl}
 use Rattle.causal_log.specs.declared.batch.Item.{Item}
 use Rattle.causal_log.specs.Knowledge.{coded_item}
 use Rattle.causal_memory.specs.declared.outbox.Message.{Message}
@@ -35,23 +32,23 @@ coded_outbox =
     (λ _. refl)
 
 -- the batch at this index
-abbrev pub batch_at : List (Arc (List Item) Global) → ℕ → List Item
-batch_at batches step = option_map_or arc_value (slice_get batches step) []
+abbrev pub batch_at : List (List Item) → ℕ → List Item
+batch_at batches step = unwrap_or (slice_get batches step) []
 
 -- a kept message with its batch, one of this list
-abbrev pub kept_among : List (Arc (List Item) Global) → Message → SentMessage
+abbrev pub kept_among : List (List Item) → Message → SentMessage
 kept_among batches m = record { to = m.to; send = m.send; batch = batch_at batches m.step }
 
 -- a kept message, by its envelope
 abbrev pub kept_message_of : Envelope → SentMessage
-kept_message_of e = record { to = e.to; send = e.send; batch = arc_value e.batch.now }
+kept_message_of e = record { to = e.to; send = e.send; batch = e.batch.now }
 
 -- the outbox with these messages and batches, and this spare capacity for each of them
-abbrev pub outbox_from : List Message → List (Arc (List Item) Global) → ℕ → ℕ → OutboxState
+abbrev pub outbox_from : List Message → List (List Item) → ℕ → ℕ → OutboxState
 outbox_from messages batches room steps =
     record { kept = map (kept_among batches) messages; bodies = map (λ (m : Message). m.body) messages; batch = batch_at batches (length batches - 1); spare = if nat_lt 0 (length batches) then room else 0; next_spare = if nat_lt 0 steps then room else 0 }
 
 -- each message carries one of the first `used_batches` batches, and there are that many
-pub record CarryTheFirst (used_batches : ℕ) (batches : List (Arc (List Item) Global)) (messages : List Message) : Type 0 where
+pub record CarryTheFirst (used_batches : ℕ) (batches : List (List Item)) (messages : List Message) : Type 0 where
   pub within : used_batches ≤ length batches
   pub each : (ssn : ℕ) (m : Message) → slice_get messages ssn ≡ Some m → m.step < used_batches

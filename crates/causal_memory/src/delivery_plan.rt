@@ -2,7 +2,6 @@
 use causal_log::Batch;
 use causal_name::Det;
 use causal_trace::entry::Dets;
-use std::sync::Arc;
 
 /// Everything that a delivery must allocate, made before the box steps.
 #[derive(Drop)]
@@ -14,9 +13,9 @@ pub struct DeliveryPlan {
     /// The determinants that the deliver entry lists.
     pub listed: Dets,
     /// The batch that the message carries, shared with its sender.
-    pub piggyback: Arc<Batch>,
+    pub piggyback: Batch,
     /// The batch that the next sends carry; the log keeps it.
-    pub next: Arc<Batch>,
-    /// A second reference to `next`, for these sends.
-    pub next_share: Arc<Batch>,
+    pub next: Batch,
+    /// The same batch once more, shared, for these sends.
+    pub next_share: Batch,
 }

@@ -10,7 +10,6 @@ use crate::outbox::Envelope;
 use crate::process_memory::ProcessMemory;
 use causal_name::{Det, NoMemory};
 use std::alloc::Global;
-use std::sync::Arc;
 
 /// Returns the plan of the delivery of this message as the determinant `own`.
 pub fn plan_delivery(
@@ -23,18 +22,18 @@ pub fn plan_delivery(
     ensures { IfOk result (λ g. IsPlanFor f own (memory_of process_memory.now)
         (kept_message_of message.entry) g) }
 {
-    let listed = listed_dets(alloc, own, &**message.batch)?;
-    let piggyback = Arc::try_clone(message.batch)?;
+    let listed = listed_dets(alloc, own, message.batch)?;
+    let piggyback = message.batch.share()?;
     let next = process_memory
         .log
-        .choose_after_delivery(alloc, &*piggyback, own, own.source, own.dest, f)?;
-    let next_share = Arc::try_clone(&next)?;
+        .choose_after_delivery(alloc, &piggyback, own, own.source, own.dest, f)?;
+    let next_share = next.share()?;
     Ok(DeliveryPlan {
         own,
         send: message.send,
         listed,
-        piggyback: piggyback,
+        piggyback,
         next,
-        next_share: next_share,
+        next_share,
     })
 }

@@ -1,6 +1,5 @@
 //! The outbox: the messages that a process has sent.
 ghost use Rattle.std.specs.Prelude.{◌≡◌, ◌≤◌, ◌-◌, ◌+◌, ◌++◌, ◌∷◌, [], ◌==◌, length, false, IfOk, OnOk, slice_get};
-ghost use Rattle.std.specs.Arc.{arc_value};
 ghost use Rattle.std.specs.Option.{option_map, option_map_or};
 ghost use Rattle.causal_memory.specs.Outboxes.{kept_message_of};
 
@@ -9,7 +8,6 @@ use causal_name::{NoMemory, Pid};
 use causal_process::Body;
 use std::alloc::Global;
 use std::marker::Model;
-use std::sync::Arc;
 
 /// A message that its sender keeps.
 #[derive(Drop)]
@@ -28,7 +26,7 @@ pub struct Message {
 pub struct Envelope<'a> {
     pub to: Pid,
     pub send: u32,
-    pub batch: &'a Arc<Batch>,
+    pub batch: &'a Batch,
 }
 
 /// The outbox of a process: the messages that its current lane has sent, in order, and the batches that they carry. All
@@ -36,7 +34,7 @@ pub struct Envelope<'a> {
 #[derive(Drop)]
 pub struct Outbox {
     pub messages: Vec<Message>,
-    pub batches: Vec<Arc<Batch>>,
+    pub batches: Vec<Batch>,
     /// The number of batches that messages carry; these are the first ones. One more batch, if there is one, is for a
     /// step that has sent nothing yet.
     pub used_batches: usize,
@@ -56,8 +54,8 @@ impl Model for Outbox {
 }
 
 /// Returns whether the last of these batches is empty.
-fn ends_empty(batches: &[Arc<Batch>]) -> bool
-    ensures { result ≡ option_map_or (λ b. length (arc_value b) == 0)
+fn ends_empty(batches: &[Batch]) -> bool
+    ensures { result ≡ option_map_or (λ b. length b == 0)
         (slice_get batches.now (length batches.now - 1)) false }
 {
     match batches.last() {
@@ -80,10 +78,10 @@ impl Outbox {
     }
 
     /// Returns an empty outbox with capacity for the messages of two steps; the first step carries this batch.
-    pub fn with_first_batch(alloc: Global, batch: Arc<Batch>) -> Result<Outbox, NoMemory>
+    pub fn with_first_batch(alloc: Global, batch: Batch) -> Result<Outbox, NoMemory>
         ensures kept { IfOk result (λ sent. sent.kept ≡ []) }
         ensures bodies { IfOk result (λ sent. sent.bodies ≡ []) }
-        ensures batch { IfOk result (λ sent. sent.batch ≡ arc_value batch) }
+        ensures batch { IfOk result (λ sent. sent.batch ≡ batch) }
         ensures spare { IfOk result (λ sent. 16 ≤ sent.spare) }
     {
         let messages = Vec::with_capacity(alloc, 16)?;
@@ -141,11 +139,11 @@ impl Outbox {
     /// Sets the batch that the next messages carry, in reserved capacity. It replaces a batch that no message carries,
     /// so no batch is kept for a step that sent nothing. If the last batch and this one are both empty, the last one
     /// stays.
-    pub fn begin_step(&mut self, batch: Arc<Batch>)
+    pub fn begin_step(&mut self, batch: Batch)
         requires { 1 ≤ self.old.next_spare }
         ensures kept { self.new.kept ≡ self.old.kept }
         ensures bodies { self.new.bodies ≡ self.old.bodies }
-        ensures batch { self.new.batch ≡ arc_value batch }
+        ensures batch { self.new.batch ≡ batch }
         ensures spare { self.old.next_spare ≤ self.new.spare }
     {
         if batch.as_slice().is_empty() && ends_empty(self.batches.as_slice()) {

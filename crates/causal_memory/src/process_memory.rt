@@ -1,6 +1,5 @@
 //! The volatile memory of an up process, and how it changes.
 ghost use Rattle.std.specs.Prelude.{◌≡◌, ◌≤◌, ◌+◌, ◌++◌, ◌∷◌, [], length, OnOk};
-ghost use Rattle.std.specs.Arc.{arc_value};
 ghost use Rattle.causal_log.specs.Logs.{after_drop_stable, batch_items};
 ghost use Rattle.causal_protocol.specs.Memory.{log_after_delivery, with_log, with_received, with_sent_message};
 ghost use Rattle.causal_memory.specs.ProcessMemories.{memory_of, bodies_of, capacity_of, with_stable};
@@ -9,7 +8,6 @@ use crate::outbox::Outbox;
 use causal_log::{Batch, Log};
 use causal_name::{Det, MsgName, NoMemory, Pid};
 use causal_process::Body;
-use std::sync::Arc;
 
 /// The volatile memory of an up process: its log, and what its current lane (incarnation) has sent and received, in
 /// order.
@@ -23,8 +21,8 @@ pub struct ProcessMemory {
 impl ProcessMemory {
     /// Adds a delivery with this determinant, of a message with this piggyback, to the log and to what was received, in
     /// reserved capacity. The next messages carry the batch `next`.
-    pub fn receive(&mut self, own: Det, piggyback: &Batch, f: u16, next: Arc<Batch>)
-        requires next { arc_value next ≡ batch_items f (log_after_delivery piggyback.now own
+    pub fn receive(&mut self, own: Det, piggyback: &Batch, f: u16, next: Batch)
+        requires next { next ≡ batch_items f (log_after_delivery piggyback.now own
             (memory_of self.old).log) }
         requires room { 1 ≤ (capacity_of self.old).received }
         requires insertions { length piggyback.now + 1 ≤ (capacity_of self.old).log }

@@ -1,6 +1,5 @@
 //! The making of a restart plan.
 ghost use Rattle.std.specs.Prelude.{◌≡◌, IfOk};
-ghost use Rattle.std.specs.Arc.{arc_value};
 ghost use Rattle.causal_log.specs.Logs.{batch_items};
 ghost use Rattle.causal_memory.specs.RestartPlans.{IsRestartPlan};
 
@@ -9,15 +8,14 @@ use crate::restart_plan::RestartPlan;
 use causal_log::{Batch, Log};
 use causal_name::NoMemory;
 use std::alloc::Global;
-use std::sync::Arc;
 
 /// Returns the batch that a log chooses for f failures, and stores it in the log.
-pub fn choose_and_cache(alloc: Global, f: u16, log: &mut Log) -> Result<Arc<Batch>, NoMemory>
+pub fn choose_and_cache(alloc: Global, f: u16, log: &mut Log) -> Result<Batch, NoMemory>
     ensures map { log.new.map ≡ log.old.map }
-    ensures batch { IfOk result (λ batch. arc_value batch ≡ batch_items f log.old.map) }
+    ensures batch { IfOk result (λ batch. batch ≡ batch_items f log.old.map) }
 {
-    let batch = Arc::new(alloc, log.choose(alloc, f)?)?;
-    let share = Arc::try_clone(&batch)?;
+    let batch = log.choose(alloc, f)?;
+    let share = batch.share()?;
     log.cache_batch(f, batch);
     Ok(share)
 }

@@ -1,6 +1,5 @@
 use Rattle.std.proofs.Common.{◌∙◌, ◌-◌, ◌++◌, ◌∷◌, [], take, length, map, ap}
-use Rattle.std.specs.Arc.{arc_value}
-use Rattle.std.specs.Option.{option_map_or}
+use Rattle.std.specs.Prelude.{unwrap_or}
 use Rattle.causal_memory.specs.Outboxes.{batch_at, kept_among}
 use Rattle.causal_memory.proofs.SentMessages.{first_stay, kept_same, last_there}
 use Rattle.causal_memory.proofs.outbox.Outbox.begin_step.Goals as goal
@@ -16,4 +15,4 @@ returns-clause-kept c =
 
 pub returns-clause-batch : goal.returns-clause-batch
 returns-clause-batch c =
-    ap (λ xs. batch_at xs (length xs - 1)) c.push_reserved.ensures.items ∙ ap (λ o. option_map_or arc_value o []) (last_there c.truncate.new.self.items c.args.batch)
+    ap (λ xs. batch_at xs (length xs - 1)) c.push_reserved.ensures.items ∙ ap (λ o. unwrap_or o []) (last_there c.truncate.new.self.items c.args.batch)
