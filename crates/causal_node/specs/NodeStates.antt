@@ -7,9 +7,7 @@ use Rattle.std.specs.Ordering.{nat_cmp}
 use Rattle.std.specs.Coded.{Coded, code_by, coded×, coded_list, coded_option, coded_ℕ, coded_bool}
 use Rattle.std.specs.FinMap as fin
 use Rattle.std.specs.FinSet as set
-use Rattle.std.specs.Arc.{arc_value}
-use Rattle.std.specs.declared.sync.Arc.{Arc}
-use Rattle.std.proofs.Common.{Global, refl}
+use Rattle.std.proofs.Common.{refl}
 use Rattle.causal_name.specs.declared.Pid.{Pid}
 use Rattle.causal_name.specs.declared.MsgName.{MsgName}
 use Rattle.causal_name.specs.Names.{message_cmp}
@@ -96,8 +94,8 @@ abbrev pub with_memory : NodeState → Memory → List (List ℕ) → NodeState
 with_memory n m bodies = record { identity = n.identity; lane = n.lane; floors = n.floors; memory = m; bodies = bodies; received_names = n.received_names; reserved_names = n.reserved_names; recovery = n.recovery }
 
 -- the cached batch is what messages carry; the numbers of processes, and of messages sent and received, are within limits
-pub record IsNode (who : Identity) (next_batch : Option (Arc (List Item) Global)) (m : Memory) : Type 0 where
+pub record IsNode (who : Identity) (next_batch : Option (List Item)) (m : Memory) : Type 0 where
   pub few : who.processes ≤ max_processes
-  pub batch : IfSome next_batch (λ b. arc_value b ≡ batch_items who.faults m.log)
+  pub batch : IfSome next_batch (λ b. b ≡ batch_items who.faults m.log)
   pub received : length m.received ≤ max_entries
   pub sent : length m.sent ≤ max_entries

@@ -17,7 +17,6 @@ use causal_name::{Det, MsgName, NoMemory, Pid};
 use std::alloc::Global;
 use std::collections::BTreeSet;
 use std::marker::Model;
-use std::sync::Arc;
 
 /// Which process of a run a node is.
 #[derive(Clone, Copy, Debug, PartialEq, Eq)]
@@ -66,7 +65,7 @@ pub struct Node {
     pub(crate) floors: Vec<u32>,
     pub(crate) memory: ProcessMemory,
     /// The batch that the next messages carry, if it is known.
-    pub(crate) next_batch: Option<Arc<Batch>>,
+    pub(crate) next_batch: Option<Batch>,
     /// The names of the messages that the present lane has received.
     pub(crate) received: ReceivedNames,
     /// The names of the messages that the log of the restart has for this process.

@@ -2,7 +2,6 @@
 #![tactic(auto, using(causal_memory::proofs::Lemmas::ListInsert::items_listed))]
 
 ghost use Rattle.std.specs.Prelude.{◌≡◌, ◌≤◌, IfOk, IfErr, OnOk, OnErr, None, length};
-ghost use Rattle.std.specs.Arc.{arc_value};
 ghost use Rattle.causal_trace.specs.Past.{det_from};
 ghost use Rattle.causal_log.specs.Logs.{dets_of};
 ghost use Rattle.causal_protocol.specs.Naming.{with_own};
@@ -16,7 +15,6 @@ use causal_memory::delivery_list::{listed_dets, listed_len};
 use causal_name::{Det, MsgName, NoMemory};
 use causal_protocol::limits::{MAX_ENTRIES, MAX_LISTED};
 use causal_trace::entry::Dets;
-use std::sync::Arc;
 
 /// A delivery, for the recording.
 #[derive(Drop)]
@@ -88,22 +86,22 @@ impl Node {
         &mut self,
         lane: u32,
         name: MsgName,
-        piggyback: &Arc<Batch>,
+        piggyback: &Batch,
     ) -> Result<Delivery, NodeFault>
         ensures ok { OnOk result
-            (self.new ≡ node_after_delivery self.old name (arc_value piggyback.now)) }
-        ensures listed { IfOk result (IsDelivery self.old name (arc_value piggyback.now)) }
+            (self.new ≡ node_after_delivery self.old name piggyback.now) }
+        ensures listed { IfOk result (IsDelivery self.old name piggyback.now) }
         ensures legal { OnOk result
-            (deliver_fault self.old lane name (arc_value piggyback.now) ≡ None) }
+            (deliver_fault self.old lane name piggyback.now ≡ None) }
         ensures refused { IfErr result (λ fault.
-            deliver_fault self.old lane name (arc_value piggyback.now) ≡ node_reason_of fault) }
+            deliver_fault self.old lane name piggyback.now ≡ node_reason_of fault) }
         ensures unchanged { OnErr result (self.new ≡ self.old) }
     {
-        if let Some(fault) = self.deliver_fault(lane, name, &**piggyback) {
+        if let Some(fault) = self.deliver_fault(lane, name, piggyback) {
             return Err(fault);
         }
         let det = self.next_det(name);
-        let Ok(listed) = self.listed_for(det, &**piggyback) else {
+        let Ok(listed) = self.listed_for(det, piggyback) else {
             return Err(NodeFault::NoMemory);
         };
         let logged = listed.as_slice().len() as u32 + 1;
@@ -117,7 +115,7 @@ impl Node {
         if self.received.insert(name).is_err() {
             return Err(NodeFault::NoMemory);
         }
-        self.memory.learn_delivery(det, &**piggyback);
+        self.memory.learn_delivery(det, piggyback);
         self.next_batch = None;
         Ok(Delivery { det, listed })
     }

@@ -1,6 +1,5 @@
 //! A node sends a message.
 ghost use Rattle.std.specs.Prelude.{◌≡◌, IfOk, IfErr, OnOk, OnErr, None, length};
-ghost use Rattle.std.specs.Arc.{arc_value};
 ghost use Rattle.causal_log.specs.Logs.{batch_items};
 ghost use Rattle.causal_node.specs.NodeRefusals.{node_reason_of, node_send_fault};
 ghost use Rattle.causal_node.specs.NodeSteps.{node_after_send};
@@ -12,7 +11,6 @@ use causal_memory::restart_planning::choose_and_cache;
 use causal_name::{NoMemory, Pid};
 use causal_process::Body;
 use causal_protocol::limits::MAX_ENTRIES;
-use std::sync::Arc;
 
 impl Node {
     /// Returns the first refusal that applies to a send, if there is one.
@@ -34,16 +32,16 @@ impl Node {
     /// Returns the batch that messages carry now, and caches it. Takes O(items + changes * log changes) time, where
     /// changes are determinants learned or marked since it was last chosen, or O(n log n) for n logged ones where no batch
     /// is cached: then as many have changed, or the log was read whole since. Fails only if out of memory.
-    pub fn current_batch(&mut self) -> Result<Arc<Batch>, NoMemory>
+    pub fn current_batch(&mut self) -> Result<Batch, NoMemory>
         ensures state { self.new ≡ self.old }
         ensures batch { IfOk result (λ batch.
-            arc_value batch ≡ batch_items self.old.identity.faults self.old.memory.log) }
+            batch ≡ batch_items self.old.identity.faults self.old.memory.log) }
     {
         if let Some(batch) = &self.next_batch {
-            return Ok(Arc::try_clone(batch)?);
+            return batch.share();
         }
         let batch = choose_and_cache(self.alloc, self.identity.faults, &mut self.memory.log)?;
-        self.next_batch = Some(Arc::try_clone(&batch)?);
+        self.next_batch = Some(batch.share()?);
         Ok(batch)
     }
 
