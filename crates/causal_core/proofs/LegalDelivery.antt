@@ -23,7 +23,6 @@ use Rattle.causal_core.specs.Inside.MemoryInvariant.{IsSentAt, MatchesEntries, M
 use Rattle.causal_memory.specs.declared.delivery_plan.DeliveryPlan.{DeliveryPlan}
 use Rattle.causal_core.specs.View.{RunDataState}
 use Rattle.causal_core.specs.Inside.DeliveryPlans.{IsDeliveryPlan}
-use Rattle.causal_memory.specs.DeliveryPlans.{piggyback_of}
 use Rattle.causal_core.specs.Inside.Memories.{memory_at}
 use Rattle.causal_core.proofs.MemoriesFit.{all_more}
 use Rattle.std.proofs.lemmas.List.{length-map}
@@ -118,7 +117,7 @@ unfolding request_refusals
 listed_few r q source ssn none = grind arith
 
 -- and contains at least as many determinants as the message's piggyback
-pub carried_listed : (d : RunDataState) (q : Pid) (m : MsgName) (g : DeliveryPlan) → IsDeliveryPlan d q m g → length (piggyback_of g) ≤ length g.listed
+pub carried_listed : (d : RunDataState) (q : Pid) (m : MsgName) (g : DeliveryPlan) → IsDeliveryPlan d q m g → length g.piggyback ≤ length g.listed
 carried_listed d q m g h = grind (arith, with_longer, length-map)
 
 module _ (r : Run) (q source : Pid) (ssn : ℕ) (d : MayDeliver r q source ssn) where

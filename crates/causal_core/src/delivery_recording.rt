@@ -1,20 +1,19 @@
 //! Recording of a delivery and its sends, after the box has stepped.
 ghost use Rattle.std.specs.Prelude.{◌≡◌, ◌<◌, ◌≤◌, ◌+◌, ◌++◌, Some, true, length, OnOk, is_some};
 ghost use Rattle.causal_name.specs.Names.{message_of, is_ascending};
-ghost use Rattle.std.specs.Arc.{arc_value};
 ghost use Rattle.causal_log.specs.Logs.{batch_items, dets_of};
 ghost use Rattle.causal_trace.specs.Past.{message_at};
 ghost use Rattle.causal_trace.specs.Rows.{IsWellFormed};
 ghost use Rattle.causal_protocol.specs.Memory.{present_at};
 ghost use Rattle.causal_core.specs.Inside.MemoryInvariant.{MatchesEntries, AllMatchEntries};
-ghost use Rattle.causal_core.specs.Inside.DeliveryRecords.{planned_entry, next_batch, memory_after_step, memories_after_step, with_step};
+ghost use Rattle.causal_core.specs.Inside.DeliveryRecords.{planned_entry, memory_after_step, memories_after_step, with_step};
 ghost use Rattle.causal_core.specs.Inside.DeliveryRecords.{IsBatchDelivered, IsLogDelivered, IsLegalNext, OthersStillFit};
 ghost use Rattle.causal_memory.specs.ProcessMemories.{memory_of, bodies_of, capacity_of};
 ghost use Rattle.causal_core.specs.Inside.Memories.{memories_in, memory_at, bodies_in};
 ghost use Rattle.causal_core.specs.Inside.Memories.{capacities_in, capacity_at};
 ghost use Rattle.causal_core.specs.View.{receivers, sent_bodies, with_bodies};
 ghost use Rattle.causal_trace.specs.Limits.{max_entries};
-ghost use Rattle.causal_memory.specs.DeliveryPlans.{piggyback_of, log_after_plan};
+ghost use Rattle.causal_memory.specs.DeliveryPlans.{log_after_plan};
 
 use crate::receipt::record_receipt;
 use crate::sends::append_sends;
@@ -39,15 +38,15 @@ pub(crate) fn record_delivery(
     requires fit { MatchesEntries trace.old.recording.past q.0 (memory_of process_memory.old) }
     requires logged { IsLogDelivered trace.old.recording.past (planned_entry q grown)
         (log_after_plan grown (memory_of process_memory.old).log) }
-    requires ascending { is_ascending (dets_of (next_batch grown)) ≡ true }
+    requires ascending { is_ascending (dets_of grown.next_share) ≡ true }
     requires delivered { IsBatchDelivered trace.old.recording.past q grown }
-    requires next { arc_value grown.next
+    requires next { grown.next
         ≡ batch_items f (log_after_plan grown (memory_of process_memory.old).log) }
     requires few { length sends.items ≤ 8 }
     requires spare { 9 ≤ trace.old.spare }
     requires room { 8 ≤ (capacity_of process_memory.old).sent }
     requires received { 1 ≤ (capacity_of process_memory.old).received }
-    requires insertions { length (piggyback_of grown) + 1 ≤ (capacity_of process_memory.old).log }
+    requires insertions { length grown.piggyback + 1 ≤ (capacity_of process_memory.old).log }
     requires short { length trace.old.recording.past + 9 ≤ max_entries }
     ensures number { result ≡ length (receivers trace.old.recording.processes sends.items) }
     ensures recording { trace.new.recording
@@ -64,9 +63,9 @@ pub(crate) fn record_delivery(
         own,
         send,
         listed,
-        piggyback: piggyback,
+        piggyback,
         next,
-        next_share: next_share,
+        next_share,
     } = grown;
     record_receipt(
         trace,
@@ -75,7 +74,7 @@ pub(crate) fn record_delivery(
         send,
         own,
         listed,
-        &*piggyback,
+        &piggyback,
         f,
         next,
     );
@@ -100,16 +99,16 @@ pub(crate) fn record_delivery_at(
         (memories_in process_memories.old.items) }
     requires logged { IsLogDelivered trace.old.recording.past (planned_entry q grown)
         (log_after_plan grown (memory_at (memories_in process_memories.old.items) q.0).log) }
-    requires ascending { is_ascending (dets_of (next_batch grown)) ≡ true }
+    requires ascending { is_ascending (dets_of grown.next_share) ≡ true }
     requires delivered { IsBatchDelivered trace.old.recording.past q grown }
-    requires next { arc_value grown.next
+    requires next { grown.next
         ≡ batch_items f (log_after_plan grown (memory_at
         (memories_in process_memories.old.items) q.0).log) }
     requires few { length sends.items ≤ 8 }
     requires spare { 9 ≤ trace.old.spare }
     requires room { 8 ≤ (capacity_at (capacities_in process_memories.old.items) q.0).sent }
     requires received { 1 ≤ (capacity_at (capacities_in process_memories.old.items) q.0).received }
-    requires insertions { length (piggyback_of grown) + 1 ≤
+    requires insertions { length grown.piggyback + 1 ≤
         (capacity_at (capacities_in process_memories.old.items) q.0).log }
     requires short { length trace.old.recording.past + 9 ≤ max_entries }
     ensures number { result ≡ length (receivers trace.old.recording.processes sends.items) }

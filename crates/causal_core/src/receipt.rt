@@ -1,6 +1,5 @@
 //! The deliver entry of a step, and what the receiver learns by it.
 ghost use Rattle.std.specs.Prelude.{◌≡◌, ◌≤◌, ◌+◌, length, Some};
-ghost use Rattle.std.specs.Arc.{arc_value};
 ghost use Rattle.causal_name.specs.Names.{message_of};
 ghost use Rattle.causal_log.specs.Logs.{batch_items};
 ghost use Rattle.causal_trace.specs.declared.entry.Entry.TheVariants as Entries;
@@ -16,7 +15,6 @@ use causal_memory::process_memory::ProcessMemory;
 use causal_name::{Det, Pid};
 use causal_trace::entry::{Dets, Entry};
 use causal_trace::trace::Trace;
-use std::sync::Arc;
 
 /// Records a delivery to process q, and adds its determinant and the message's piggyback to q's log.
 pub(crate) fn record_receipt(
@@ -28,7 +26,7 @@ pub(crate) fn record_receipt(
     listed: Dets,
     piggyback: &Batch,
     f: u16,
-    next: Arc<Batch>,
+    next: Batch,
 )
     requires legal { IsLegalNext trace.old.recording (Entries.Deliver q send own.rsn listed) }
     requires sent { message_at trace.old.recording.past send ≡ Some (message_of own) }
@@ -36,7 +34,7 @@ pub(crate) fn record_receipt(
     requires logged { IsLogDelivered trace.old.recording.past
         (Entries.Deliver q send own.rsn listed)
         (log_after_delivery piggyback.now own (memory_of process_memory.old).log) }
-    requires next { arc_value next ≡ batch_items f (log_after_delivery piggyback.now own
+    requires next { next ≡ batch_items f (log_after_delivery piggyback.now own
         (memory_of process_memory.old).log) }
     requires spare { 1 ≤ trace.old.spare }
     requires room { 1 ≤ (capacity_of process_memory.old).received }

@@ -17,7 +17,6 @@ ghost use Rattle.causal_core.specs.Inside.Limits.{exceeds_limits_with, exceeds_e
 ghost use Rattle.causal_core.specs.Inside.Stables.{run_after_flush};
 ghost use Rattle.causal_memory.specs.ProcessMemories.{with_stable};
 ghost use Rattle.causal_core.specs.View.{sent_in};
-ghost use Rattle.causal_memory.specs.DeliveryPlans.{piggyback_of};
 ghost use Rattle.causal_core.specs.Inside.Memories.{log_at, memories_in, bodies_in};
 ghost use Rattle.causal_core.specs.View.{gathering_fault, named_message_of, with_delivery};
 ghost use Rattle.causal_core.specs.Inside.Memories.{stored_for};
@@ -218,7 +217,7 @@ impl RunData {
             dest: q,
             rsn: process_memory.received.len() as u32,
         };
-        if exceeds_limits(&self.trace, 9, listed_len(own, &**message.batch)) {
+        if exceeds_limits(&self.trace, 9, listed_len(own, message.batch)) {
             return Some(CoreFault::Full);
         }
         None
@@ -289,7 +288,7 @@ impl RunData {
             ≡ None) }
         ensures refused { IfErr result (IsFirstRefusal self.old.run (Requests.Deliver q source ssn)) }
         ensures grown { IfOk result (λ g. IsDeliveryPlan self.new q (message_name source ssn) g) }
-        ensures room { IfOk result (λ g. HasCapacity q.0 (length (piggyback_of g) + 1) self.new) }
+        ensures room { IfOk result (λ g. HasCapacity q.0 (length g.piggyback + 1) self.new) }
     {
         if let Some(fault) = self.delivery_fault(q, source, ssn, stored) {
             return Err(fault);
@@ -310,7 +309,7 @@ impl RunData {
         requires legal { request_fault self.old.run (delivery_request_of q grown) ≡ None }
         requires grown { IsDeliveryPlan self.old q (message_of grown.own) grown }
         requires few { length sends.items ≤ 8 }
-        requires room { HasCapacity q.0 (length (piggyback_of grown) + 1) self.old }
+        requires room { HasCapacity q.0 (length grown.piggyback + 1) self.old }
         ensures run { self.new.run
             ≡ with_delivery self.old.run q (message_of grown.own) sends.items }
         ensures step { Steps self.old.run (delivery_request_of q grown)

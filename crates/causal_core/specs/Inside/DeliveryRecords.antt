@@ -1,7 +1,6 @@
 -- The effect of a delivery, or of the sends of a step, on a recording and on a memory.
 use Rattle.std.specs.Prelude.{◌≡◌, ◌≢◌, ◌+◌, ℕ, true, List, ◌∷◌, length, Option, Some, None, slice_set}
 use Rattle.std.specs.FinMap as fin
-use Rattle.std.specs.Arc.{arc_value}
 use Rattle.causal_name.specs.declared.Pid.{Pid}
 use Rattle.causal_name.specs.declared.Det.{Det}
 use Rattle.causal_process.specs.declared.message.Outgoing.{Outgoing}
@@ -17,7 +16,6 @@ use Rattle.causal_protocol.specs.Memory.{Memory, Memories, with_sent_message, wi
 use Rattle.causal_protocol.specs.Steps.{sends_of, append_all}
 use Rattle.causal_memory.specs.declared.delivery_plan.DeliveryPlan.{DeliveryPlan}
 use Rattle.causal_core.specs.View.{receivers}
-use Rattle.causal_memory.specs.DeliveryPlans.{piggyback_of}
 use Rattle.causal_core.specs.Inside.Memories.{memory_at, keep_all}
 use Rattle.causal_core.specs.Inside.MemoryInvariant.{MatchesEntriesAt}
 
@@ -36,10 +34,6 @@ OthersStillFit q old new = (p : ℕ) (m : Option Memory) → p ≢ q → Matches
 -- determinants that were delivered in the old entries are delivered in the new ones
 abbrev pub StayDelivered : List Entry → List Entry → Type 0
 StayDelivered old new = (ds : List Det) → are_delivered old ds ≡ true → are_delivered new ds ≡ true
-
--- the batch that the sends of the step carry
-abbrev pub next_batch : DeliveryPlan → List Item
-next_batch g = arc_value g.next_share
 
 -- the recording with one more send of q, whose memory this is
 abbrev pub with_send : Recording → Pid → Pid → Memory → Recording
@@ -67,7 +61,7 @@ planned_entry q g = Deliver q g.send g.own.rsn g.listed
 
 -- every determinant that the sends carry is of a delivery in the entries, including the planned one
 abbrev pub IsBatchDelivered : List Entry → Pid → DeliveryPlan → Type 0
-IsBatchDelivered past q g = are_delivered (planned_entry q g ∷ past) (dets_of (next_batch g)) ≡ true
+IsBatchDelivered past q g = are_delivered (planned_entry q g ∷ past) (dets_of g.next_share) ≡ true
 
 -- the recording with the planned delivery to q and its sends
 abbrev pub with_step : Recording → Pid → DeliveryPlan → List Outgoing → Memory → Recording
@@ -75,7 +69,7 @@ with_step r q g sends m = with_sends (with_entry r (planned_entry q g)) q sends 
 
 -- q's memory after the planned delivery and its sends
 abbrev pub memory_after_step : Recording → DeliveryPlan → List Outgoing → Memory → Memory
-memory_after_step r g sends m = keep_all (length r.past + 1) (next_batch g) (receivers r.processes sends) (with_received (piggyback_of g) g.own m)
+memory_after_step r g sends m = keep_all (length r.past + 1) g.next_share (receivers r.processes sends) (with_received g.piggyback g.own m)
 
 -- the memories of all processes after the planned delivery to q and its sends
 abbrev pub memories_after_step : Recording → Pid → DeliveryPlan → List Outgoing → Memories → Memories

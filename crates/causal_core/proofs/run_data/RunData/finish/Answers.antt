@@ -1,5 +1,4 @@
 use Rattle.std.proofs.Common.{◌≡◌, ◌∙◌, ◌∷◌, None, refl, ap, sym, subst, arith, length, vec_len}
-use Rattle.std.specs.Arc.{arc_value}
 use Rattle.std.specs.Prelude.{◌-◌, min, vec_capacity}
 use Rattle.std.proofs.lemmas.Bool.Decides.{nat_tests}
 use Rattle.causal_name.specs.Names.{message_of}
@@ -19,7 +18,6 @@ use Rattle.causal_protocol.specs.Steps.{LegalStep, Steps, delivery_entry, sends_
 use Rattle.causal_core.specs.Inside.MemoryInvariant.{AllMatchEntries}
 use Rattle.causal_core.specs.View.{RunDataState, sent_in, with_delivery, run_from, receivers, with_bodies}
 use Rattle.causal_core.specs.Inside.DeliveryPlans.{IsDeliveryPlan}
-use Rattle.causal_memory.specs.DeliveryPlans.{piggyback_of}
 use Rattle.causal_core.specs.Inside.Memories.{memories_in, memory_at, bodies_in, capacities_in}
 use Rattle.causal_core.proofs.RuntimeSend.{are_sends, receivers_below, receivers_long, addressed_few}
 use Rattle.causal_core.proofs.Legal.{held_fit}
@@ -80,7 +78,7 @@ invariant_of-self c =
     (record {
       same =
           c.record_delivery_at-sends.ensures.memories
-          ∙ same_memories (state at0).run c.args.q c.args.grown.own.source c.args.grown.own.ssn (may at0) count (memories_in c.self.inside.process_memories.items) (log_after_delivery (piggyback_of c.args.grown) c.args.grown.own (memory_at (memories_in c.self.inside.process_memories.items) c.args.q.0).log) (arc_value c.args.grown.next_share) c.args.grown.own c.args.grown.send c.args.grown.listed tos same (λ i. log_after_delivery (g.piggyback i) (g.own i) (memory_at (same i) c.args.q.0).log) (g.next_share ∙ ap (λ xs. batch_items c.self.inside.faults (log_after_delivery (piggyback_of c.args.grown) c.args.grown.own (memory_at xs c.args.q.0).log)) (sym same)) g.own g.send g.listed;
+          ∙ same_memories (state at0).run c.args.q c.args.grown.own.source c.args.grown.own.ssn (may at0) count (memories_in c.self.inside.process_memories.items) (log_after_delivery c.args.grown.piggyback c.args.grown.own (memory_at (memories_in c.self.inside.process_memories.items) c.args.q.0).log) c.args.grown.next_share c.args.grown.own c.args.grown.send c.args.grown.listed tos same (λ i. log_after_delivery (g.piggyback i) (g.own i) (memory_at (same i) c.args.q.0).log) (g.next_share ∙ ap (λ xs. batch_items c.self.inside.faults (log_after_delivery c.args.grown.piggyback c.args.grown.own (memory_at xs c.args.q.0).log)) (sym same)) g.own g.send g.listed;
       fit = fit_new;
       formed = subst IsWellFormed new c.record_delivery_at-sends.ensures.formed;
     })
