@@ -3,10 +3,13 @@
 //! [`open_sources`] opens the files; each is a [`TrackedStream`], which keeps what was read last. [`InputNames`] names their
 //! lines in messages. [`print_trace_outcome`], [`print_map_fault`] and [`print_merge_diagnostics`] print what is wrong there. A
 //! [`ProgressStream`] prints how far a long read is; a [`MapFile`] is the file of a map, and [`write_map`] writes one.
+//! [`print_ending`] prints why no answer was written whole, and [`exit_code_of`] returns the exit code.
 #![tactic(auto)]
 
 /// Messages on the input of a command, for standard error.
 mod diagnostics;
+/// How the program ends.
+mod ending;
 /// What standard error adds to the message of an error.
 mod hints;
 /// The file of a map.
@@ -25,6 +28,10 @@ pub mod source;
 pub mod tracked_stream;
 
 pub use diagnostics::{print_at_line, print_error_line, print_map_fault, print_trace_outcome};
+pub use ending::{
+    exit_before_replacing, exit_code_of, exit_early, exit_unopened, print_ending,
+    print_stream_ending,
+};
 pub use map_file::{MapFile, replaced_input, write_map};
 pub use merge_diagnostics::print_merge_diagnostics;
 pub use place::{InputNames, file_name};

@@ -1,3 +1,2 @@
-pub mod Inside
 pub mod Invocations
 pub mod Commands

@@ -16,7 +16,6 @@ ghost use Rattle.std.specs.Prelude.{◌≡◌};
 ghost use Rattle.std.specs.Process.{exit_status};
 ghost use Rattle.causal_outcomes.specs.Endings.{status_of};
 ghost use Rattle.causal_tool.specs.Commands.{ended_of};
-ghost use Rattle.causal_tool.specs.Inside.Exits.{status_after};
 
 /// Messages on the outcome of a command, for standard error.
 mod diagnostics;
@@ -28,14 +27,14 @@ mod run;
 use crate::diagnostics::print_diagnostics;
 use crate::invocation::Invocation;
 use crate::run::{CommandOutcome, run_command};
-use causal_arguments::{BAD_USAGE, CommandLine, EarlyExit, Subcommand, parse_command_line};
+use causal_arguments::{CommandLine, Subcommand, parse_command_line};
 pub use causal_commands::audit_stream;
 use causal_console::{
-    InputNames, MapFile, OpenFault, ProgressStream, file_name, is_standard_input, open_sources,
-    print_error_line, replaced_input, write_map,
+    InputNames, MapFile, ProgressStream, exit_before_replacing, exit_code_of, exit_early,
+    exit_unopened, is_standard_input, open_sources, print_ending, print_stream_ending, write_map,
 };
-use causal_outcomes::{Ended, LastErrorStream, MergeOutcome};
-use std::io::{self, ErrorKind, IsTerminal};
+use causal_outcomes::{LastErrorStream, MergeOutcome};
+use std::io::{self, IsTerminal};
 use std::process::ExitCode;
 
 /// Returns the prefix of each line on standard error.
@@ -65,70 +64,6 @@ fn prompt(rt: &HostRuntime, command: Subcommand, files: &[String]) {
     let _ = eprintln!(rt; "{name}: reading {what} from the terminal; end it with control-D");
 }
 
-/// Prints why no answer was written whole, if so, with the name of the file that failed. It prints nothing if the answer's
-/// reader closed the pipe.
-fn print_ending(
-    rt: &HostRuntime,
-    command: &str,
-    ended: Ended,
-    file: Option<&str>,
-    reason: Option<io::Error>,
-) {
-    let Some(text) = ended.text() else {
-        return;
-    };
-    let is_closed = matches!(&reason, Some(error) if error.kind() == ErrorKind::BrokenPipe);
-    if is_closed {
-        return;
-    }
-    let _ = rt.eprintln(text);
-    match (reason, file) {
-        (Some(error), Some(file)) => {
-            let _ = eprintln!(rt; "{command}: {file}: {error}");
-        }
-        (Some(error), None) => print_error_line(rt, command, &error),
-        (None, _) => {}
-    }
-}
-
-fn exit_code_of(ended: Ended) -> ExitCode
-    ensures { exit_status result ≡ status_of ended }
-{
-    ExitCode::from(ended.status())
-}
-
-/// Prints why a file was not opened, and returns the exit code.
-fn exit_unopened(rt: &HostRuntime, command: &str, files: &[String], fault: OpenFault) -> ExitCode {
-    match fault {
-        OpenFault::Refused { file, error } => {
-            let name = file_name(files, file);
-            print_ending(rt, command, Ended::ReadFault, name, Some(error));
-            exit_code_of(Ended::ReadFault)
-        }
-        OpenFault::NoMemory => {
-            print_ending(rt, command, Ended::NoMemory, None, None);
-            exit_code_of(Ended::NoMemory)
-        }
-    }
-}
-
-/// Prints why no answer was written whole, if so, where the input or the output failed.
-fn print_stream_ending<S: Drop>(
-    rt: &HostRuntime,
-    command: &str,
-    input: &InputNames<'_, S>,
-    ended: Ended,
-    read_error: Option<io::Error>,
-    write_error: Option<io::Error>,
-) {
-    let (file, reason) = match ended {
-        Ended::ReadFault => (input.present_file(), read_error),
-        Ended::WriteFault => (None, write_error),
-        _ => (None, None),
-    };
-    print_ending(rt, command, ended, file, reason);
-}
-
 /// Prints the diagnostics of the outcome, and why no answer was written whole, if so; returns the exit code. `map` is the
 /// name of the file of the map, if one was read or written, and `map_error` its error, by which the command then ended.
 fn exit_after<S: Drop>(
@@ -150,37 +85,6 @@ fn exit_after<S: Drop>(
         print_stream_ending(rt, command, input, ended, read_error, write_error);
     }
     exit_code_of(ended)
-}
-
-/// Prints why no command is run, if that is still to be printed, and returns the exit code.
-fn exit_early(rt: &HostRuntime, exit: EarlyExit) -> ExitCode
-    ensures { exit_status result ≡ status_after exit }
-{
-    let ended = match exit {
-        EarlyExit::Status(status) => return ExitCode::from(status),
-        EarlyExit::WriteFault => Ended::WriteFault,
-        EarlyExit::NoMemory => Ended::NoMemory,
-    };
-    print_ending(rt, "causal_tool", ended, None, None);
-    exit_code_of(ended)
-}
-
-/// Prints that the map of a merge would replace one of its files, if so, and returns the exit code then.
-fn exit_before_replacing(
-    rt: &HostRuntime,
-    command: Subcommand,
-    map: Option<&str>,
-    files: &[String],
-) -> Option<ExitCode> {
-    let (Subcommand::Merge { .. }, Some(map)) = (command, map) else {
-        return None;
-    };
-    let file = replaced_input(rt, map, files)?;
-    let name = name_of(command);
-    let _ = eprintln!(rt;
-        "{name}: the map {map} would replace {file}, which is read: name another file"
-    );
-    Some(ExitCode::from(BAD_USAGE))
 }
 
 /// Writes the map of a merge, if one is wanted; returns the outcome with how the command then ends, and the error of the
@@ -208,11 +112,13 @@ fn main(rt: HostRuntime) -> ExitCode {
         map,
     } = match parse_command_line(&rt) {
         Ok(line) => line,
-        Err(exit) => return exit_early(&rt, exit),
+        Err(exit) => return exit_early(&rt, "causal_tool", exit),
     };
     let name = name_of(command);
     let map = map.as_ref().map(|path| path.as_str());
-    if let Some(exit) = exit_before_replacing(&rt, command, map, files.as_slice()) {
+    if let (Subcommand::Merge { .. }, Some(map)) = (command, map)
+        && let Some(exit) = exit_before_replacing(&rt, name, map, files.as_slice())
+    {
         return exit;
     }
     let sources = match open_sources(&rt, rt.alloc(), files.as_slice()) {

@@ -1,2 +1,0 @@
--- Definitions for private contracts; no public contract cites them.
-pub mod Exits
