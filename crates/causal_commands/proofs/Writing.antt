@@ -3,8 +3,8 @@ use Rattle.std.proofs.Common.{◌≡◌, ◌<◌, List, ℕ, Option, None, Some,
 use Rattle.std.specs.Prelude.{IfSome}
 use Rattle.std.specs.Io.KnownBytes.{Appends}
 use Rattle.std.proofs.KnownBytes.{Keeps-refl}
-use Rattle.causal_report.specs.declared.form.Form.{Form}
-use Rattle.causal_report.specs.Replies.{reply_text}
+use Rattle.causal_replies.specs.declared.form.Form.{Form}
+use Rattle.causal_replies.specs.Replies.{IsReplyText}
 use Rattle.causal_commands.specs.declared.answer.Answer.{Answer}
 use Rattle.causal_outcomes.specs.declared.ended.Ended.{Ended}
 use Rattle.causal_outcomes.specs.declared.ended.Ended.TheVariants.{Accepted, Breached, Ranged, Followed, Strayed, Merged, Faulted, Ran, Refused, ReadFault, WriteFault, NoMemory, NoWorker, FinishFault}
@@ -81,7 +81,7 @@ writes_nothing Answers known old ended silent = known_all known _ (λ text. noth
 
 -- the printed reply is the answer
 pub printed : (most : ℕ) (form : Form) (question : Question) (known : Option (List ℕ)) (response : Response) (answer : Answer) → answer.ended ≡ response.ended
-    → answer.line.items ≡ reply_text form response.reply → IsReplyFor most question known response.ended response.reply
+    → IsReplyText form response.reply answer.line.items → IsReplyFor most question known response.ended response.reply
     → IfSome known (λ text. IsAnswer most form question text answer.ended answer.line.items)
 printed most form question known response answer ended line are =
     IfSome-weaker known _ _ (λ text is. subst (λ (e : Ended). IsAnswer most form question text e answer.line.items) (sym ended) (response.reply, is, line)) are

@@ -1,13 +1,13 @@
 -- The lines of facts, with the places of their entries in recordings.
-use Rattle.std.specs.Prelude.{ℕ, ◌-◌, ◌==◌, nat_lt, if◌then◌else◌, List, [], ◌∷◌, ◌++◌, length, take, Option, Some, None, Result, Ok, Err, slice_get}
+use Rattle.std.specs.Prelude.{◌≡◌, ℕ, ◌-◌, ◌==◌, nat_lt, if◌then◌else◌, List, [], ◌∷◌, ◌++◌, length, take, Option, Some, None, Result, Ok, Err, slice_get}
 use Rattle.std.specs.List.{slice_split}
 use Rattle.causal_line.specs.declared.kind.TextKind.{TextKind}
 use Rattle.causal_merge.specs.Maps.{read_place}
 use Rattle.causal_merge.specs.Reading.{max_input_len}
-use Rattle.causal_report.specs.declared.fact.Fact.{Fact}
-use Rattle.causal_report.specs.Entries.{entry_of}
-use Rattle.causal_report.specs.Lines.{fact_head}
-use Rattle.causal_report.specs.Sentences.{sentence_of}
+use Rattle.causal_facts.specs.declared.fact.Fact.{Fact}
+use Rattle.causal_facts.specs.Entries.{entry_of}
+use Rattle.causal_replies.specs.Lines.{AreLines, fact_head}
+use Rattle.causal_replies.specs.Sentences.{IsSentence}
 use Rattle.causal_outcomes.specs.declared.map_fault.MapFault.{MapFault}
 use Rattle.causal_outcomes.specs.declared.map_fault.MapFault.TheVariants.{Big, Length, Entry}
 
@@ -41,40 +41,37 @@ abbrev pub named_place : List (List ℕ) → Option ℕ → Result (List ℕ) Ma
 named_place map (Some position) = place_by position (slice_get map position)
 named_place map None = Ok []
 
--- ---- lines and texts
+-- ---- the error of a map
 
--- a list in front of a list, unless that is an error
-abbrev pub with_front : List ℕ → Result (List ℕ) MapFault → Result (List ℕ) MapFault
-with_front front (Ok back) = Ok (front ++ back)
-with_front front (Err fault) = Err fault
+-- the error of a place, if it is one, or else a later error
+abbrev pub fault_or : Result (List ℕ) MapFault → Option MapFault → Option MapFault
+fault_or (Ok place) later = later
+fault_or (Err fault) later = Some fault
 
--- two lists, one behind the other, or the first error
-abbrev pub joined : Result (List ℕ) MapFault → Result (List ℕ) MapFault → Result (List ℕ) MapFault
-joined (Ok front) back = with_front front back
-joined (Err fault) back = Err fault
+-- the first error of the places of the entries of facts, if there is one, by the lines of a map
+abbrev pub first_place_fault : List (List ℕ) → List Fact → Option MapFault
+first_place_fault map [] = None
+first_place_fault map (fact ∷ later) = fault_or (named_place map (entry_of fact)) (first_place_fault map later)
 
--- the line of a fact with the fields of a place before its sentence
-abbrev pub with_place : Fact → List ℕ → List ℕ
-with_place fact place = fact_head fact ++ (place ++ sentence_of fact)
+-- the error of the lines of a map for facts on a trace with this many entries: their number, or the first error of a place
+abbrev pub fault_of_lines : List (List ℕ) → ℕ → List Fact → Option MapFault
+fault_of_lines map entries facts = if length map == entries then first_place_fault map facts else Some (Length (length map) entries)
 
--- that line, unless the place is an error
-abbrev pub line_with : Fact → Result (List ℕ) MapFault → Result (List ℕ) MapFault
-line_with fact (Ok place) = Ok (with_place fact place)
-line_with fact (Err fault) = Err fault
+-- the same by the text of a map, which may be too long. `most` is the maximum number of entries, which determines the maximum size of a map.
+abbrev pub map_fault : ℕ → List ℕ → ℕ → List Fact → Option MapFault
+map_fault most map entries facts = if nat_lt (max_input_len most) (length map) then Some Big else fault_of_lines (lines map) entries facts
 
--- the line of a fact with the place of its entry
-abbrev pub placed_line : List (List ℕ) → Fact → Result (List ℕ) MapFault
-placed_line map fact = line_with fact (named_place map (entry_of fact))
+-- ---- lines
+
+-- the line of a fact with the fields of the place of its entry before its sentence
+abbrev pub IsPlacedLine : List (List ℕ) → Fact → List ℕ → Type 0
+IsPlacedLine map fact text =
+    (place : List ℕ) × (sentence : List ℕ) × (named_place map (entry_of fact) ≡ Ok place) × IsSentence sentence × (text ≡ fact_head fact ++ (place ++ sentence))
 
 -- the lines of facts with the places of their entries
-abbrev pub placed_lines : List (List ℕ) → List Fact → Result (List ℕ) MapFault
-placed_lines map [] = Ok []
-placed_lines map (fact ∷ later) = joined (placed_line map fact) (placed_lines map later)
+abbrev pub ArePlacedLines : List (List ℕ) → List Fact → List ℕ → Type 0
+ArePlacedLines map facts text = AreLines (IsPlacedLine map) facts text
 
--- the lines of facts with the places of their entries, by a map with a line for each entry
-abbrev pub placed_by : List (List ℕ) → ℕ → List Fact → Result (List ℕ) MapFault
-placed_by map entries facts = if length map == entries then placed_lines map facts else Err (Length (length map) entries)
-
--- the same by the text of a map. `most` is the maximum number of entries, which determines the maximum size of a map.
-abbrev pub placed_text : ℕ → List ℕ → ℕ → List Fact → Result (List ℕ) MapFault
-placed_text most map entries facts = if nat_lt (max_input_len most) (length map) then Err Big else placed_by (lines map) entries facts
+-- these bytes, and then those lines
+abbrev pub IsPlacedText : List (List ℕ) → List Fact → List ℕ → List ℕ → Type 0
+IsPlacedText map facts front text = (reason : List ℕ) × ArePlacedLines map facts reason × (text ≡ front ++ reason)

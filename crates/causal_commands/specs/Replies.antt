@@ -10,17 +10,17 @@ use Rattle.causal_audit.specs.declared.judged.Judged.{Judged}
 use Rattle.causal_audit.specs.declared.verdict.Verdict.TheVariants.{Accept}
 use Rattle.causal_explain.specs.declared.range.SafeRange.{SafeRange}
 use Rattle.causal_explain.specs.Ranges.{IsSafeRange}
-use Rattle.causal_replays.specs.declared.stray.Stray.{Stray}
+use Rattle.causal_facts.specs.declared.stray.Stray.{Stray}
 use Rattle.causal_replays.specs.Strays.{IsFirstStray}
 use Rattle.causal_workers.specs.declared.looks.Looks.{Looks}
 use Rattle.causal_workers.specs.Judgements.{IsJudgementWithin}
 use Rattle.causal_workers.specs.Streaming.{HasNoEarlyBreach, IsEarlyBreach}
-use Rattle.causal_report.specs.declared.bounds.Bounds.{Bounds}
-use Rattle.causal_report.specs.declared.fact.Fact.{Fact}
-use Rattle.causal_report.specs.declared.finding.Finding.{Finding}
-use Rattle.causal_report.specs.declared.finding.Finding.TheVariants as finding
-use Rattle.causal_report.specs.declared.reply.Reply.{Reply}
-use Rattle.causal_report.specs.declared.reply.Reply.TheVariants.{Found, Ranges}
+use Rattle.causal_replies.specs.declared.bounds.Bounds.{Bounds}
+use Rattle.causal_facts.specs.declared.fact.Fact.{Fact}
+use Rattle.causal_replies.specs.declared.finding.Finding.{Finding}
+use Rattle.causal_replies.specs.declared.finding.Finding.TheVariants as finding
+use Rattle.causal_replies.specs.declared.reply.Reply.{Reply}
+use Rattle.causal_replies.specs.declared.reply.Reply.TheVariants.{Found, Ranges}
 use Rattle.causal_report.specs.Facts.{AreFacts, AreSurvivorFacts}
 use Rattle.causal_outcomes.specs.declared.ended.Ended.{Ended}
 use Rattle.causal_outcomes.specs.declared.ended.Ended.TheVariants.{Accepted, Breached, Ranged, Followed, Strayed, Faulted}

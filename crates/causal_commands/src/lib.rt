@@ -37,7 +37,7 @@ mod diagnosis;
 /// The command `audit` within the default limits.
 pub mod stream;
 
-pub use causal_report::Form;
+pub use causal_replies::Form;
 pub use drawing::answer_drawing;
 pub use mapped_reason::{MappedOutcome, answer_mapped_reason};
 pub use question::{Question, StrayDetail, answer_question};

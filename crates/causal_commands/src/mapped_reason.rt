@@ -7,7 +7,7 @@ ghost use Rattle.causal_outcomes.specs.Diagnostics.{IsDiagnosisFor};
 ghost use Rattle.causal_outcomes.specs.Merges.{ReadsAtMostRecordings};
 ghost use Rattle.causal_commands.specs.MappedReasons.{WritesMappedFor};
 ghost use Rattle.causal_commands.specs.Inside.Answers.{WritesNothing, WritesWholeAnswer};
-ghost use Rattle.causal_commands.specs.PlacedLines.{placed_text, with_front};
+ghost use Rattle.causal_commands.specs.PlacedLines.{IsPlacedText, lines, map_fault};
 ghost use Rattle.causal_commands.specs.Inside.Placing.{ReturnsPlaced};
 ghost use Rattle.causal_commands.specs.Inside.Refusals.{ExplainsRefusal, IsTrueRefusal, IsTrueRefusalFor};
 ghost use Rattle.causal_commands.specs.Inside.MappedAnswers.{IsFaultAnswer, IsMappedFor, IsPlacedFor, IsPlaced};
@@ -20,7 +20,7 @@ use causal_merge::max_input_len;
 use causal_name::NoMemory;
 use causal_outcomes::{DiagnosedFault, Ended, MapFault, Outcome, ReadFault, read_at_most};
 use causal_reading::read_by;
-use causal_report::Form;
+use causal_replies::Form;
 use causal_trace::limits::Limits;
 use causal_workers::{AuditFault, Judged, VerdictError, verdict_line};
 use std::alloc::Global;
@@ -202,8 +202,9 @@ fn placed_reason(
     f: u16,
     known: &ExplainedVerdict,
 ) -> Result<Vec<u8>, PlaceError>
-    ensures { ReturnsPlaced (λ out. out.items) result (with_front (verdict_line f known.now.judged)
-        (placed_text limits.entries map.now known.now.judged.entries known.now.facts.items)) }
+    ensures { ReturnsPlaced (λ out. out.items) result
+        (map_fault limits.entries map.now known.now.judged.entries known.now.facts.items)
+        (IsPlacedText (lines map.now) known.now.facts.items (verdict_line f known.now.judged)) }
 {
     let entries = known.judged.entries;
     match placed_text(alloc, limits, map, entries, known.facts.as_slice()) {

@@ -1,11 +1,14 @@
 //! The lines of facts, with the places of their entries in recordings.
-ghost use Rattle.std.specs.Prelude.{◌≡◌, ◌++◌, map, IfOk, OnOk};
+ghost use Rattle.std.specs.Prelude.{◌≡◌, ◌++◌, [], ◌∷◌, ℕ, List, map, IfOk, OnOk};
 ghost use Rattle.causal_commands.specs.PlacedLines as placed;
-ghost use Rattle.causal_commands.specs.Inside.Placing.{ReturnsPlaced, GivesAfter};
+ghost use Rattle.causal_replies.specs.Lines.{fact_head};
+ghost use Rattle.causal_replies.specs.Sentences.{IsSentence};
+ghost use Rattle.causal_commands.specs.Inside.Placing.{ReturnsPlace, ReturnsPlaced, GivesAfter};
 
+use causal_facts::Fact;
 use causal_merge::{max_input_len, read_place};
 use causal_outcomes::MapFault;
-use causal_report::{Fact, fact_head, fact_sentence};
+use causal_replies::{fact_head, fact_sentence};
 use causal_text::TextKind;
 use causal_trace::limits::Limits;
 use std::alloc::{AllocError, Global};
@@ -28,7 +31,8 @@ pub(crate) fn placed_text(
     facts: &[Fact],
 ) -> Result<Vec<u8>, PlaceError>
     ensures { ReturnsPlaced (λ out. out.items) result
-        (placed.placed_text limits.entries map.now entries facts.now) }
+        (placed.map_fault limits.entries map.now entries facts.now)
+        (placed.ArePlacedLines (placed.lines map.now) facts.now) }
 {
     if map.len() > max_input_len(limits) {
         return Err(PlaceError::Map(MapFault::Big));
@@ -63,7 +67,8 @@ fn placed_by(
     facts: &[Fact],
 ) -> Result<Vec<u8>, PlaceError>
     ensures { ReturnsPlaced (λ out. out.items) result
-        (placed.placed_by (map (λ line. line.now) map_lines.now) entries facts.now) }
+        (placed.fault_of_lines (map (λ line. line.now) map_lines.now) entries facts.now)
+        (placed.ArePlacedLines (map (λ line. line.now) map_lines.now) facts.now) }
 {
     if map_lines.len() as u64 != u64::from(entries) {
         return Err(PlaceError::Map(MapFault::Length {
@@ -85,7 +90,8 @@ fn push_facts(
     facts: &[Fact],
 ) -> Result<(), PlaceError>
     ensures { GivesAfter out.old.items out.new.items result
-        (placed.placed_lines (map (λ line. line.now) map_lines.now) facts.now) }
+        (placed.first_place_fault (map (λ line. line.now) map_lines.now) facts.now)
+        (placed.ArePlacedLines (map (λ line. line.now) map_lines.now) facts.now) }
 {
     for fact in facts {
         match push_fact(alloc, out, map_lines, fact) {
@@ -104,7 +110,8 @@ fn push_fact(
     fact: &Fact,
 ) -> Result<(), PlaceError>
     ensures { GivesAfter out.old.items out.new.items result
-        (placed.placed_line (map (λ line. line.now) map_lines.now) fact.now) }
+        (placed.first_place_fault (map (λ line. line.now) map_lines.now) (fact.now ∷ []))
+        (placed.IsPlacedLine (map (λ line. line.now) map_lines.now) fact.now) }
 {
     match place_of(alloc, map_lines, fact.entry()) {
         Ok(place) => match push_parts(alloc, out, fact, place.as_slice()) {
@@ -116,8 +123,8 @@ fn push_fact(
 }
 
 fn push_parts(alloc: Global, out: &mut Vec<u8>, fact: &Fact, place: &[u8]) -> Result<(), AllocError>
-    ensures { OnOk result (out.new.items ≡ out.old.items
-        ++ placed.with_place fact.now place.now) }
+    ensures { OnOk result ((sentence : List ℕ) × IsSentence sentence × (out.new.items
+        ≡ out.old.items ++ (fact_head fact.now ++ (place.now ++ sentence)))) }
 {
     let head = fact_head(alloc, fact)?;
     let sentence = fact_sentence(alloc, fact)?;
@@ -128,7 +135,7 @@ fn push_parts(alloc: Global, out: &mut Vec<u8>, fact: &Fact, place: &[u8]) -> Re
 
 /// Returns the fields of the place of an entry; none if there is no entry, or the map has no line for it.
 fn place_of(alloc: Global, map_lines: &[&[u8]], entry: Option<u32>) -> Result<Vec<u8>, PlaceError>
-    ensures { ReturnsPlaced (λ place. place.items) result
+    ensures { ReturnsPlace (λ place. place.items) result
         (placed.named_place (map (λ line. line.now) map_lines.now) entry) }
 {
     match entry {
@@ -142,7 +149,7 @@ fn place_of(alloc: Global, map_lines: &[&[u8]], entry: Option<u32>) -> Result<Ve
 
 /// Returns the fields of the place of an entry, by its line of the map.
 fn place_at(alloc: Global, position: u32, line: &[u8]) -> Result<Vec<u8>, PlaceError>
-    ensures { ReturnsPlaced (λ place. place.items) result (placed.place_at position line.now) }
+    ensures { ReturnsPlace (λ place. place.items) result (placed.place_at position line.now) }
 {
     match read_place(alloc, position, line) {
         Ok(place) => Ok(place),

@@ -15,7 +15,7 @@ use crate::response::{
 };
 use causal_outcomes::{DiagnosedFault, Ended, Outcome};
 use causal_reading::read_by;
-use causal_report::Form;
+use causal_replies::Form;
 use causal_trace::limits::Limits;
 use causal_trace::trace::Trace;
 use causal_workers::{AuditFault, Gate, Looks, VerdictError, judge_stream, judge_trace};

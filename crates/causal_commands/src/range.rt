@@ -8,7 +8,7 @@ use crate::response::Response;
 use causal_explain::{SafeRange, safe_range};
 use causal_name::NoMemory;
 use causal_outcomes::Ended;
-use causal_report::{Bounds, Reply};
+use causal_replies::{Bounds, Reply};
 use causal_trace::trace::Trace;
 use std::alloc::{AllocError, Global};
 

@@ -8,8 +8,10 @@ use crate::answer::ended_of;
 use crate::response::Response;
 use crate::serial_audit::judge_serially;
 use causal_audit::Judged;
+use causal_facts::Fact;
 use causal_name::NoMemory;
-use causal_report::{Fact, Finding, Reply, facts_of};
+use causal_replies::{Finding, Reply};
+use causal_report::facts_of;
 use causal_trace::trace::Trace;
 use std::alloc::Global;
 

@@ -6,10 +6,12 @@ ghost use Rattle.causal_commands.specs.Inside.Answers.{IsFaultless};
 
 use crate::question::StrayDetail;
 use crate::response::{Response, found};
+use causal_facts::{Fact, Stray};
 use causal_name::NoMemory;
 use causal_outcomes::Ended;
-use causal_replays::{Stray, first_stray};
-use causal_report::{Fact, Finding, Reply, survivor_facts};
+use causal_replays::first_stray;
+use causal_replies::{Finding, Reply};
+use causal_report::survivor_facts;
 use causal_trace::trace::Trace;
 use std::alloc::Global;
 

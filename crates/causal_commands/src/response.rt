@@ -1,6 +1,6 @@
 //! The reply to the text of a trace, before it is printed.
 ghost use Rattle.std.specs.Prelude.{◌≡◌, ℕ, List, [], IfOk, IfErr, Err};
-ghost use Rattle.causal_report.specs.Replies.{reply_text};
+ghost use Rattle.causal_replies.specs.Replies.{IsReplyText};
 ghost use Rattle.causal_workers.specs.Judgements.{IsJudgementWithin};
 ghost use Rattle.causal_workers.specs.Streaming.{IsStreamVerdict};
 ghost use Rattle.causal_workers.specs.declared.looks.Looks.{Looks};
@@ -10,7 +10,7 @@ ghost use Rattle.causal_commands.specs.Inside.Answers.{IsFaultless, ReportsFault
 use crate::answer::{Answer, ended_of};
 use causal_name::NoMemory;
 use causal_outcomes::Ended;
-use causal_report::{Finding, Form, Reply, reply_text};
+use causal_replies::{Finding, Form, Reply, reply_text};
 use causal_text::{ReadError, TextKind, TextRefusal};
 use causal_workers::{AuditFault, Judged, StreamVerdict, VerdictError};
 use std::alloc::Global;
@@ -25,7 +25,7 @@ pub(crate) struct Response {
 
 /// Prints a reply, as lines or as JSON.
 pub(crate) fn printed_answer(alloc: Global, form: Form, response: Response) -> Result<Answer, Ended>
-    ensures line { IfOk result (λ answer. answer.line.items ≡ reply_text form response.reply) }
+    ensures line { IfOk result (λ answer. IsReplyText form response.reply answer.line.items) }
     ensures ended { IfOk result (λ answer. answer.ended ≡ response.ended) }
     ensures rejected { IfOk result (λ answer. answer.refusal ≡ response.refusal) }
     ensures err { IfErr result (λ ended. ended ≡ Ended.NoMemory) }

@@ -7,7 +7,7 @@ ghost use Rattle.causal_commands.specs.Answers.{WritesFor};
 
 use crate::question::{Question, answer_question};
 use causal_outcomes::Ended;
-use causal_report::Form;
+use causal_replies::Form;
 use causal_trace::limits::DEFAULT_LIMITS;
 use causal_workers::Gate;
 use std::alloc::Global;

@@ -10,7 +10,7 @@ use Rattle.causal_trace.specs.Past.{instant, entry_at, list_has, logs}
 use Rattle.causal_trace.proofs.Lemmas.AtInstants.{instants_stay, last_instant, one_more_instant}
 use Rattle.causal_explain.specs.Inside.Losing.{lost_by}
 use Rattle.causal_explain.specs.ProcessFacts.{HoldsSince, IsLoss, Loses}
-use Rattle.causal_explain.specs.declared.explanation.Loss.{Loss}
+use Rattle.causal_facts.specs.declared.process_fact.Loss.{Loss}
 
 -- the entry at a position, and the instants before and after it
 next_instant : (past : List Entry) (s : ℕ) → s < length past → (e : Entry) × (entry_at past s ≡ Some e) × (instant past (s + 1) ≡ e ∷ instant past s)

@@ -10,8 +10,8 @@ use Rattle.causal_trace.specs.Past.{instant, det_at, list_has, is_down, is_stabl
 use Rattle.causal_trace.specs.Rows.{Recording}
 use Rattle.causal_audit.specs.declared.verdict.Verdict.{Verdict}
 use Rattle.causal_audit.specs.declared.verdict.Verdict.TheVariants.{Accept, Exceeded, Orphan}
-use Rattle.causal_explain.specs.declared.cause.Cause.{Cause}
-use Rattle.causal_explain.specs.declared.cause.Cause.TheVariants as cause
+use Rattle.causal_facts.specs.declared.cause.Cause.{Cause}
+use Rattle.causal_facts.specs.declared.cause.Cause.TheVariants as cause
 
 -- by one more entry p newly depends on the delivery k, and its volatile log lacks k's determinant d
 pub record ComesToDepend (e : Entry) (past : List Entry) (k : ℕ) (d : Det) (p : ℕ) : Type 0 where

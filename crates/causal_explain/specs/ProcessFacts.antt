@@ -5,11 +5,11 @@ use Rattle.causal_name.specs.declared.Det.{Det}
 use Rattle.causal_trace.specs.declared.entry.Entry.{Entry}
 use Rattle.causal_trace.specs.declared.entry.Entry.TheVariants as entry
 use Rattle.causal_trace.specs.Past.{instant, entry_at, list_has, is_down, logs}
-use Rattle.causal_explain.specs.declared.explanation.DownProcess.{DownProcess}
-use Rattle.causal_explain.specs.declared.explanation.Holding.{Holding}
-use Rattle.causal_explain.specs.declared.explanation.Loss.{Loss}
-use Rattle.causal_explain.specs.declared.explanation.LostBy.{LostBy}
-use Rattle.causal_explain.specs.declared.explanation.LostBy.TheVariants.{Crash, Forgetting}
+use Rattle.causal_facts.specs.declared.process_fact.DownProcess.{DownProcess}
+use Rattle.causal_facts.specs.declared.process_fact.Holding.{Holding}
+use Rattle.causal_facts.specs.declared.process_fact.Loss.{Loss}
+use Rattle.causal_facts.specs.declared.process_fact.LostBy.{LostBy}
+use Rattle.causal_facts.specs.declared.process_fact.LostBy.TheVariants.{Crash, Forgetting}
 
 -- the test holds since the entry at position s: not just before it, and at each instant after it
 pub record HoldsSince (past : List Entry) (test : List Entry → Bool) (s : ℕ) : Type 0 where

@@ -6,22 +6,9 @@ ghost use Rattle.causal_explain.specs.Inside.EntryCauses.{cause_from_entry, newe
 
 use causal_audit::Verdict;
 use causal_audit::laws::new_orphans_law;
+use causal_facts::Cause;
 use causal_trace::entry::Entry;
 use causal_trace::trace::Trace;
-
-/// What the last entry before an instant does, by which the instant fails.
-#[derive(Clone, Copy)]
-pub enum Cause {
-    /// The orphan delivers the message that the entry at the position `send` sends. So it comes to depend on the
-    /// delivery, and its log lacks the determinant.
-    Delivery { process: u8, send: u32 },
-    /// The process restarts, and does not list the determinant, which another process holds.
-    Restart { process: u8 },
-    /// The process forgets the determinant, which it held and which is not stable.
-    Forgetting { process: u8 },
-    /// The process crashes; then more than f processes are down.
-    Crash { process: u8 },
-}
 
 /// Returns the cause that an entry may be.
 fn cause_from_entry(entry: &Entry) -> Option<Cause>

@@ -6,8 +6,8 @@ ghost use Rattle.causal_trace.specs.Past.{instant, is_down};
 ghost use Rattle.causal_explain.specs.Inside.Validities.{AreValidities, IsChangeOf};
 ghost use Rattle.causal_explain.specs.ProcessFacts.{AreDown};
 
-use crate::explanation::DownProcess;
 use crate::validity::{Change, Validity, apply_change};
+use causal_facts::DownProcess;
 use causal_name::NoMemory;
 use causal_trace::entry::Entry;
 use causal_trace::trace::Trace;

@@ -8,8 +8,8 @@ ghost use Rattle.causal_explain.specs.Inside.Losing.{lost_by};
 ghost use Rattle.causal_explain.specs.Inside.Validities.{AreValidities, IsChangeOf};
 ghost use Rattle.causal_explain.specs.ProcessFacts.{AreHoldings, AreLosses};
 
-use crate::explanation::{Holding, Loss, LostBy};
 use crate::validity::{Change, Validity, apply_change};
+use causal_facts::{Holding, Loss, LostBy};
 use causal_name::{Det, NoMemory};
 use causal_trace::entry::{Dets, Entry};
 use causal_trace::trace::Trace;

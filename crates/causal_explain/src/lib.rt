@@ -30,10 +30,11 @@ mod validity;
 mod paths;
 
 pub use breach_explanation::explain;
-pub use cause::{Cause, cause_of};
+pub use causal_facts::{Cause, DownProcess, Holding, Loss, LostBy};
+pub use cause::cause_of;
 pub use chain::shortest_chain;
 pub use closest::{Closest, closest_failure};
 pub use down_processes::down_since;
-pub use explanation::{DownProcess, Explanation, Holding, Loss, LostBy};
+pub use explanation::Explanation;
 pub use holdings::{HolderHistory, holder_history};
 pub use range::{SafeRange, safe_range};

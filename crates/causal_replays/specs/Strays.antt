@@ -7,7 +7,7 @@ use Rattle.causal_trace.specs.declared.entry.Entry.{Entry}
 use Rattle.causal_trace.specs.Past.{instant, det_at}
 use Rattle.causal_trace.specs.Rows.{Recording}
 use Rattle.causal_trace.specs.Survivors.{survives, SlotsAreSingle}
-use Rattle.causal_replays.specs.declared.stray.Stray.{Stray}
+use Rattle.causal_facts.specs.declared.stray.Stray.{Stray}
 
 -- one slot precedes another, by receiver, then receive sequence number
 abbrev pub IsLower : Slot → Slot → Type 0

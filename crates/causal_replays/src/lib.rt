@@ -15,8 +15,6 @@ mod rivals;
 mod search;
 /// One number for each slot.
 mod slots;
-/// The value that names a slot with two different survivors.
-pub mod stray;
 
+pub use causal_facts::Stray;
 pub use replays::first_stray;
-pub use stray::Stray;

@@ -7,7 +7,7 @@ use crate::copies::{apply_entry, copied_by, empty_copy_table};
 use crate::rivals::note_dets;
 use crate::search::first_two;
 use crate::slots::empty_process_lists;
-use crate::stray::Stray;
+use causal_facts::Stray;
 use causal_name::NoMemory;
 use causal_trace::trace::Trace;
 use std::alloc::Global;

@@ -1,3 +1,2 @@
-mod Joining
 mod SetMembers
 mod StoredLemmas

@@ -8,8 +8,8 @@ use Rattle.causal_trace.specs.Past.{det_at, instant}
 use Rattle.causal_trace.specs.Rows.{Recording}
 use Rattle.causal_audit.specs.declared.verdict.Verdict.{Verdict}
 use Rattle.causal_audit.specs.declared.verdict.Verdict.TheVariants.{Accept, Exceeded, Orphan}
-use Rattle.causal_explain.specs.declared.explanation.Holding.{Holding}
-use Rattle.causal_explain.specs.declared.explanation.Loss.{Loss}
+use Rattle.causal_facts.specs.declared.process_fact.Holding.{Holding}
+use Rattle.causal_facts.specs.declared.process_fact.Loss.{Loss}
 use Rattle.causal_explain.specs.Chains.{IsShortestChain}
 use Rattle.causal_explain.specs.ProcessFacts.{AreHoldings, AreLosses}
 use Rattle.causal_picture.specs.declared.focus.Band.{Band}

@@ -5,8 +5,8 @@ use Rattle.causal_trace.specs.declared.entry.Entry.{Entry}
 use Rattle.causal_trace.specs.declared.entry.Entry.TheVariants as entry
 use Rattle.causal_trace.specs.Past.{entry_at}
 use Rattle.causal_trace.specs.Rows.{Recording}
-use Rattle.causal_report.specs.declared.event.ChainEvent.{ChainEvent}
-use Rattle.causal_report.specs.declared.event.ChainEvent.TheVariants.{Send, Delivery, Other}
+use Rattle.causal_facts.specs.declared.event.ChainEvent.{ChainEvent}
+use Rattle.causal_facts.specs.declared.event.ChainEvent.TheVariants.{Send, Delivery, Other}
 
 -- a send, a delivery, or neither
 abbrev pub event_of : Entry → ChainEvent

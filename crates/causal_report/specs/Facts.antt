@@ -6,22 +6,22 @@ use Rattle.causal_trace.specs.Rows.{Recording}
 use Rattle.causal_trace.specs.Survivors.{IsFollowed}
 use Rattle.causal_audit.specs.declared.verdict.Verdict.{Verdict}
 use Rattle.causal_audit.specs.declared.verdict.Verdict.TheVariants.{Accept, Exceeded, Orphan}
-use Rattle.causal_explain.specs.declared.cause.Cause.{Cause}
+use Rattle.causal_facts.specs.declared.cause.Cause.{Cause}
 use Rattle.causal_explain.specs.declared.closest.Closest.{Closest}
 use Rattle.causal_explain.specs.declared.closest.Closest.TheVariants.{Never, At}
-use Rattle.causal_explain.specs.declared.explanation.DownProcess.{DownProcess}
+use Rattle.causal_facts.specs.declared.process_fact.DownProcess.{DownProcess}
 use Rattle.causal_explain.specs.declared.explanation.Explanation.{Explanation}
-use Rattle.causal_explain.specs.declared.explanation.Holding.{Holding}
+use Rattle.causal_facts.specs.declared.process_fact.Holding.{Holding}
 use Rattle.causal_explain.specs.Causes.{IsCauseOf}
 use Rattle.causal_explain.specs.Closest.{IsClosest}
 use Rattle.causal_explain.specs.Explanations.{IsExplanation}
 use Rattle.causal_explain.specs.ProcessFacts.{AreDown}
-use Rattle.causal_replays.specs.declared.stray.Stray.{Stray}
+use Rattle.causal_facts.specs.declared.stray.Stray.{Stray}
 use Rattle.causal_replays.specs.Strays.{IsFirstStray}
-use Rattle.causal_report.specs.declared.event.ChainEvent.{ChainEvent}
-use Rattle.causal_report.specs.declared.event.ChainEvent.TheVariants.{Delivery}
-use Rattle.causal_report.specs.declared.fact.Fact.{Fact}
-use Rattle.causal_report.specs.declared.fact.Fact.TheVariants as fact
+use Rattle.causal_facts.specs.declared.event.ChainEvent.{ChainEvent}
+use Rattle.causal_facts.specs.declared.event.ChainEvent.TheVariants.{Delivery}
+use Rattle.causal_facts.specs.declared.fact.Fact.{Fact}
+use Rattle.causal_facts.specs.declared.fact.Fact.TheVariants as fact
 use Rattle.causal_report.specs.Events.{event_at}
 use Rattle.causal_report.specs.Survivors.{AreSurvivorCopies}
 

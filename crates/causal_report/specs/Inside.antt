@@ -1,3 +1,2 @@
 -- Contracts of private functions; no public clause cites them.
-pub mod Appends
 pub mod Storing

@@ -1,15 +1,6 @@
 pub mod Inside
-pub mod Places
 pub mod Events
 pub mod Survivors
 pub mod Facts
-pub mod Words
-pub mod Entries
-pub mod Fields
-pub mod Sentences
-pub mod Lines
 pub mod Reasons
-pub mod Bounds
-pub mod Findings
-pub mod Replies
 pub mod Drawings

@@ -3,7 +3,7 @@ use Rattle.std.specs.Prelude.{◌≡◌, ℕ, Bool, List, Some}
 use Rattle.causal_name.specs.declared.Det.{Det}
 use Rattle.causal_trace.specs.Past.{instant, det_at, is_stable}
 use Rattle.causal_trace.specs.Rows.{Recording}
-use Rattle.causal_explain.specs.declared.explanation.Holding.{Holding}
+use Rattle.causal_facts.specs.declared.process_fact.Holding.{Holding}
 use Rattle.causal_explain.specs.ProcessFacts.{AreHoldings}
 
 -- who has the determinant of the delivery at position k at instant t: these processes, ascending, in their logs; and

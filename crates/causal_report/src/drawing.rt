@@ -5,7 +5,8 @@ ghost use Rattle.std.specs.FinSet as set;
 ghost use Rattle.causal_report.specs.Drawings.{IsDrawing, IsSelectedDrawing, band_of, bands_of, lost_band, holders_of};
 
 use causal_audit::{Breach, Verdict};
-use causal_explain::{Holding, Loss, explain};
+use causal_explain::explain;
+use causal_facts::{Holding, Loss};
 use causal_holders::Holders;
 use causal_name::NoMemory;
 use causal_picture::{Band, Focus, Orphan, Selection, picture_of};

@@ -4,14 +4,11 @@ ghost use Rattle.causal_audit.specs.Verdicts.{IsVerdict};
 ghost use Rattle.causal_holders.specs.Members.{ascending};
 ghost use Rattle.causal_report.specs.Facts as facts;
 
-use crate::event::{ChainEvent, event_at};
-use crate::fact::{ClosestFailure, Fact};
+use crate::event::event_at;
 use crate::strays::facts_of_strays;
 use causal_audit::Verdict;
-use causal_explain::{
-    Cause, Closest, DownProcess, Explanation, Holding, Loss, cause_of, closest_failure, down_since,
-    explain,
-};
+use causal_explain::{Closest, Explanation, cause_of, closest_failure, down_since, explain};
+use causal_facts::{Cause, ChainEvent, ClosestFailure, DownProcess, Fact, Holding, Loss};
 use causal_holders::Holders;
 use causal_name::NoMemory;
 use causal_trace::trace::Trace;

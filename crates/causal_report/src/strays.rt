@@ -5,11 +5,10 @@ ghost use Rattle.causal_trace.specs.Past.{det_at, instant};
 ghost use Rattle.causal_replays.specs.Strays.{IsFirstStray};
 ghost use Rattle.causal_report.specs.Facts as facts;
 
-use crate::fact::Fact;
 use crate::survivors::copies_of;
-use causal_explain::Holding;
+use causal_facts::{Fact, Holding, Stray};
 use causal_name::NoMemory;
-use causal_replays::{Stray, first_stray};
+use causal_replays::first_stray;
 use causal_trace::trace::Trace;
 use std::alloc::Global;
 

@@ -6,7 +6,8 @@ ghost use Rattle.causal_trace.specs.Past.{det_at, instant, is_stable};
 ghost use Rattle.causal_report.specs.Inside.Storing.{stores};
 ghost use Rattle.causal_report.specs.Survivors.{AreSurvivorCopies};
 
-use causal_explain::{Holding, holder_history};
+use causal_explain::holder_history;
+use causal_facts::Holding;
 use causal_name::{Det, NoMemory};
 use causal_trace::entry::Entry;
 use causal_trace::trace::Trace;

@@ -7,8 +7,8 @@ use Rattle.causal_arguments.specs.declared.subcommand.Until.TheVariants as until
 use Rattle.causal_workers.specs.declared.looks.Looks.TheVariants.{Checkpoints, Live}
 use Rattle.causal_arguments.specs.declared.subcommand.Form as asked
 use Rattle.causal_arguments.specs.declared.subcommand.Form.TheVariants as asked_as
-use Rattle.causal_report.specs.declared.form.Form.{Form}
-use Rattle.causal_report.specs.declared.form.Form.TheVariants.{Lines, Json}
+use Rattle.causal_replies.specs.declared.form.Form.{Form}
+use Rattle.causal_replies.specs.declared.form.Form.TheVariants.{Lines, Json}
 use Rattle.causal_commands.specs.Questions.{HasFewWorkers}
 use Rattle.causal_commands.specs.declared.question.Question.TheVariants.{Verdict, Breach, Reason, Range}
 use Rattle.causal_commands.specs.declared.question.Question.TheVariants as question_on

@@ -1,17 +1,17 @@
 -- The C structs of facts that explain a verdict, or say that a recovery strayed.
 use Rattle.std.specs.Prelude.{ℕ, ◌-◌}
 use Rattle.causal_name.specs.declared.Det.{Det}
-use Rattle.causal_explain.specs.declared.cause.Cause.{Cause}
-use Rattle.causal_explain.specs.declared.cause.Cause.TheVariants as cause
-use Rattle.causal_explain.specs.declared.explanation.Loss.{Loss}
-use Rattle.causal_explain.specs.declared.explanation.LostBy.{LostBy}
-use Rattle.causal_explain.specs.declared.explanation.LostBy.TheVariants as lost
-use Rattle.causal_replays.specs.declared.stray.Stray.{Stray}
-use Rattle.causal_report.specs.declared.event.ChainEvent.{ChainEvent}
-use Rattle.causal_report.specs.declared.event.ChainEvent.TheVariants.{Send, Delivery, Other}
-use Rattle.causal_report.specs.declared.fact.ClosestFailure.{ClosestFailure}
-use Rattle.causal_report.specs.declared.fact.Fact.{Fact}
-use Rattle.causal_report.specs.declared.fact.Fact.TheVariants as fact_of
+use Rattle.causal_facts.specs.declared.cause.Cause.{Cause}
+use Rattle.causal_facts.specs.declared.cause.Cause.TheVariants as cause
+use Rattle.causal_facts.specs.declared.process_fact.Loss.{Loss}
+use Rattle.causal_facts.specs.declared.process_fact.LostBy.{LostBy}
+use Rattle.causal_facts.specs.declared.process_fact.LostBy.TheVariants as lost
+use Rattle.causal_facts.specs.declared.stray.Stray.{Stray}
+use Rattle.causal_facts.specs.declared.event.ChainEvent.{ChainEvent}
+use Rattle.causal_facts.specs.declared.event.ChainEvent.TheVariants.{Send, Delivery, Other}
+use Rattle.causal_facts.specs.declared.fact.ClosestFailure.{ClosestFailure}
+use Rattle.causal_facts.specs.declared.fact.Fact.{Fact}
+use Rattle.causal_facts.specs.declared.fact.Fact.TheVariants as fact_of
 use Rattle.nixu.specs.declared.c_fact.CFact.{CFact}
 
 -- the struct of a kind alone

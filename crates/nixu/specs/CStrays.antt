@@ -1,7 +1,7 @@
 -- The C struct of a run's first stray, or of the first error of a text.
 use Rattle.std.specs.Prelude.{◌≡◌, ℕ, List, Option, Some, None, MatchOption}
 use Rattle.causal_line.specs.declared.kind.TextFault.{TextFault}
-use Rattle.causal_replays.specs.declared.stray.Stray.{Stray}
+use Rattle.causal_facts.specs.declared.stray.Stray.{Stray}
 use Rattle.causal_replays.specs.Strays.{IsFirstStray}
 use Rattle.causal_text.specs.Spelling.{Spells, IsFirstFault}
 use Rattle.causal_trace.specs.Rows.{Recording}

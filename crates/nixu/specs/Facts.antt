@@ -4,7 +4,7 @@ use Rattle.causal_trace.specs.Rows.{Recording}
 use Rattle.causal_audit.specs.declared.judged.Judged.{Judged}
 use Rattle.causal_audit.specs.declared.verdict.Verdict.{Verdict}
 use Rattle.causal_audit.specs.Judgements.{IsJudgedOf}
-use Rattle.causal_report.specs.declared.fact.Fact.{Fact}
+use Rattle.causal_facts.specs.declared.fact.Fact.{Fact}
 use Rattle.causal_report.specs.Facts.{AreFacts}
 use Rattle.causal_text.specs.Prefixes.{SpellsLines}
 use Rattle.causal_text.specs.Spelling.{Spells}

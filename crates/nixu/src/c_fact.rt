@@ -2,10 +2,8 @@
 ghost use Rattle.std.specs.Prelude.{◌≡◌, IfOk, map};
 ghost use Rattle.nixu.specs.CFacts as facts;
 
-use causal_explain::{Cause, Loss, LostBy};
+use causal_facts::{Cause, ChainEvent, ClosestFailure, Fact, Loss, LostBy, Stray};
 use causal_name::Det;
-use causal_replays::Stray;
-use causal_report::{ChainEvent, ClosestFailure, Fact};
 use std::alloc::{AllocError, Global};
 
 /// A fact that explains a verdict, or says that a recovery strayed.

@@ -3,7 +3,7 @@ ghost use Rattle.std.specs.Prelude.{◌≡◌};
 ghost use Rattle.nixu.specs.CStrays.{c_stray_of, c_fault_stray};
 
 use crate::numbers::kind_number;
-use causal_replays::Stray;
+use causal_facts::Stray;
 use causal_text::TextFault;
 
 /// The first stray of a run, or the first error of a text that does not spell one.

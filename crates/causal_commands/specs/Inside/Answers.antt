@@ -10,8 +10,8 @@ use Rattle.causal_workers.specs.declared.streaming.VerdictError.{VerdictError}
 use Rattle.causal_workers.specs.declared.streaming.VerdictError.TheVariants.{Input}
 use Rattle.causal_workers.specs.Streaming.{ExplainsVerdictError}
 use Rattle.causal_picture.specs.declared.selection.Selection.{Selection}
-use Rattle.causal_report.specs.declared.finding.Finding.TheVariants as finding
-use Rattle.causal_report.specs.declared.reply.Reply.{Reply}
+use Rattle.causal_replies.specs.declared.finding.Finding.TheVariants as finding
+use Rattle.causal_replies.specs.declared.reply.Reply.{Reply}
 use Rattle.causal_commands.specs.declared.answer.Answer.{Answer}
 use Rattle.causal_outcomes.specs.declared.ended.Ended.{Ended}
 use Rattle.causal_outcomes.specs.declared.ended.Ended.TheVariants.{Accepted, Breached, Ranged, Followed, Strayed, Merged, Faulted, Ran, Refused, ReadFault, WriteFault, NoMemory, NoWorker}

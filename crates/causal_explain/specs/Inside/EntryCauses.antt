@@ -2,8 +2,8 @@
 use Rattle.std.specs.Prelude.{List, [], ◌∷◌, Option, Some, None}
 use Rattle.causal_trace.specs.declared.entry.Entry.{Entry}
 use Rattle.causal_trace.specs.declared.entry.Entry.TheVariants.{Send, Deliver, Stable, Crash, Restart, Forget}
-use Rattle.causal_explain.specs.declared.cause.Cause.{Cause}
-use Rattle.causal_explain.specs.declared.cause.Cause.TheVariants as cause
+use Rattle.causal_facts.specs.declared.cause.Cause.{Cause}
+use Rattle.causal_facts.specs.declared.cause.Cause.TheVariants as cause
 
 -- the cause that an entry may be
 abbrev pub cause_from_entry : Entry → Option Cause

@@ -1,6 +1,6 @@
 use Rattle.std.proofs.Common.{refl}
-use Rattle.causal_report.specs.declared.finding.Finding.TheVariants as finding
-use Rattle.causal_report.specs.declared.reply.Reply.TheVariants.{Found}
+use Rattle.causal_replies.specs.declared.finding.Finding.TheVariants as finding
+use Rattle.causal_replies.specs.declared.reply.Reply.TheVariants.{Found}
 use Rattle.causal_outcomes.specs.declared.ended.Ended.{Ended}
 use Rattle.causal_commands.specs.Replies.{IsReasonReply}
 use Rattle.causal_commands.proofs.VerdictEndings.{by_verdict}

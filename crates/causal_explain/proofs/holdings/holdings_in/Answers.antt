@@ -1,6 +1,6 @@
 use Rattle.std.proofs.Common.{◌≡◌, length, refl, subst, arith}
 use Rattle.causal_trace.specs.Past.{logs}
-use Rattle.causal_explain.specs.declared.explanation.Holding.{Holding}
+use Rattle.causal_facts.specs.declared.process_fact.Holding.{Holding}
 use Rattle.causal_explain.specs.ProcessFacts.{AreHoldings, HoldsSince}
 use Rattle.causal_explain.proofs.EachLemmas.{tells_one, tells_skipped}
 use Rattle.causal_explain.proofs.SinceLemmas.{holds_now}

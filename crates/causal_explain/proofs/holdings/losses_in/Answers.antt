@@ -2,7 +2,7 @@ use Rattle.std.proofs.Common.{◌≡◌, ◌∙◌, length, refl, reverse, sym, 
 use Rattle.std.specs.Prelude.{◌&&◌}
 use Rattle.causal_trace.specs.Past.{logs}
 use Rattle.causal_trace.proofs.Lemmas.Instants.{entry_of}
-use Rattle.causal_explain.specs.declared.explanation.Loss.{Loss}
+use Rattle.causal_facts.specs.declared.process_fact.Loss.{Loss}
 use Rattle.causal_explain.specs.Inside.Losing.{lost_by}
 use Rattle.causal_explain.specs.ProcessFacts.{AreLosses, IsLoss, ever_holds}
 use Rattle.causal_explain.proofs.EachLemmas.{tells_one, tells_skipped}

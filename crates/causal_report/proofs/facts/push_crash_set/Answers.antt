@@ -2,7 +2,7 @@ use Rattle.std.proofs.Common.{◌++◌, ◌∙◌, ap, map}
 use Rattle.std.specs.FinSet.{FinSet}
 use Rattle.std.specs.Ordering.{nat_cmp}
 use Rattle.causal_holders.specs.Members.{ascending}
-use Rattle.causal_report.specs.declared.fact.Fact.TheVariants.{Crash}
+use Rattle.causal_facts.specs.declared.fact.Fact.TheVariants.{Crash}
 use Rattle.causal_report.proofs.SetMembers.{made-next}
 use Rattle.causal_report.proofs.facts.push_crash_set.Goals as goal
 

@@ -1,6 +1,6 @@
 use Rattle.std.proofs.Common.{◌≡◌, ◌++◌, map}
 use Rattle.causal_holders.specs.Members.{ascending}
-use Rattle.causal_report.specs.declared.fact.Fact.TheVariants.{Crash}
+use Rattle.causal_facts.specs.declared.fact.Fact.TheVariants.{Crash}
 use Rattle.causal_report.proofs.facts.push_crash_set.Given as goal
 
 abbrev pub invariant-loop-process : goal.invariant-loop-process

@@ -1,5 +1,5 @@
 use Rattle.std.proofs.Common.{◌≡◌, ◌++◌, drop, map}
-use Rattle.causal_report.specs.declared.fact.Fact.TheVariants.{Logged}
+use Rattle.causal_facts.specs.declared.fact.Fact.TheVariants.{Logged}
 use Rattle.causal_report.proofs.strays.logged_facts.Given as goal
 
 abbrev pub invariant-loop-holding : goal.invariant-loop-holding

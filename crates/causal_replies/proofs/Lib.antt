@@ -1,0 +1,5 @@
+mod FactLines
+mod Joining
+pub mod Lemmas
+mod Printable
+mod SetMembers

@@ -1,0 +1,2 @@
+-- Contracts of private functions; no public clause cites them.
+pub mod Appends
