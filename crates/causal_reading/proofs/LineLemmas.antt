@@ -1,5 +1,5 @@
 -- Bytes that are split after a complete line.
-use Rattle.std.proofs.Common.{arith, ◌≡◌, ◌-◌, ◌+◌, ℕ, Bool, true, false, List, [], ◌∷◌, ◌++◌, length, take, drop, ap, sym, subst, refl, ◌∙◌, append_assoc, append-nil, length-append}
+use Rattle.std.proofs.Common.{arith, ◌≡◌, ◌-◌, ◌+◌, ℕ, Bool, true, false, List, [], ◌∷◌, ◌++◌, length, take, drop, ap, sym, refl, ◌∙◌, append_assoc, append-nil, length-append}
 use Rattle.std.specs.Prelude.{◌==◌}
 use Rattle.std.proofs.Math.Seq.{take-append_seam, drop-append_seam}
 use Rattle.causal_line.specs.Lines.{lines, before_first_line, IsComplete}

@@ -5,8 +5,10 @@
 //! most of it, is divided; whether a line may follow the others is decided in order.
 #![tactic(auto)]
 
-/// The chunks of a piece.
+/// The lengths of chunks.
 mod chunks;
+/// The chunks of a text, in groups.
+mod groups;
 /// Merging recorder files.
 pub mod merging;
 /// Reading from a byte source or a text in memory.

@@ -3,7 +3,7 @@ ghost use Rattle.std.specs.Prelude.{◌≡◌, ◌≤◌, ◌++◌, List, ℕ, I
 ghost use Rattle.causal_line.specs.Lines.{lines};
 ghost use Rattle.causal_merge.specs.RecordingReaders.{RecordingReaderState, IsReadBy};
 
-use crate::chunks::{CHUNK, UNDIVIDED, evenness, front_len, split_lines};
+use crate::chunks::{CHUNK, Lengths, UNDIVIDED, checking_percent, front_len, split_lines};
 use causal_merge::{MergeFault, RecorderChunk, RecordingReader, parse_recordings};
 use causal_name::NoMemory;
 use std::alloc::Global;
@@ -23,7 +23,8 @@ pub(crate) fn read_lines_by<R: Threads>(
         return read_here(reader, bytes);
     }
     let chunks = (bytes.len() / CHUNK).min(workers as usize);
-    read_chunks(rt, alloc, reader, bytes, chunks, evenness(bytes))
+    let lengths = Lengths::in_turn(checking_percent(bytes), 0);
+    read_chunks(rt, alloc, reader, bytes, chunks, lengths)
 }
 
 /// Reads more whole lines in the calling thread.
@@ -42,16 +43,16 @@ fn read_chunks<R: Threads>(
     reader: RecordingReader,
     bytes: &[u8],
     chunks: usize,
-    evenness: usize,
+    lengths: Lengths,
 ) -> Result<RecordingReader, MergeFault>
     ensures { IsReadBy reader (lines bytes.now) result }
 {
     if chunks < 2 {
         return read_here(reader, bytes);
     }
-    let (front, last) = split_lines(bytes, front_len(bytes.len(), chunks, evenness));
+    let (front, last) = split_lines(bytes, front_len(bytes.len(), chunks, lengths));
     if last.is_empty() {
-        return read_chunks(rt, alloc, reader, bytes, chunks - 1, evenness);
+        return read_chunks(rt, alloc, reader, bytes, chunks - 1, lengths);
     }
     let parse = move || -> Result<RecorderChunk<'_>, NoMemory>
         ensures { IfOk result (λ chunk. chunk ≡ lines last.entry.now) }
@@ -59,7 +60,7 @@ fn read_chunks<R: Threads>(
     let read = move || -> Result<RecordingReader, MergeFault>
         requires { 2 ≤ chunks }
         ensures { IsReadBy reader (lines front.entry.now) result }
-    { read_chunks(rt, alloc, reader, front, chunks - 1, evenness) };
+    { read_chunks(rt, alloc, reader, front, chunks - 1, lengths) };
     let (parsed, begun) = join(rt, parse, read);
     read_after(begun, parsed)
 }
