@@ -2,7 +2,6 @@
 #![tactic(auto, using(crate::proofs::Written::same_dets))]
 
 ghost use Rattle.std.specs.Prelude.{◌≡◌, ◌<◌, true, map, slice_get, Some, IfOk};
-ghost use Rattle.std.specs.Arc.{arc_value};
 ghost use Rattle.std.specs.Option.{option_map};
 ghost use Rattle.std.specs.FinMap as fin;
 ghost use Rattle.std.specs.FinSet as set;
@@ -15,7 +14,6 @@ use causal_log::{Batch, Item as LogItem, Known, Log};
 use causal_name::{Det, NoMemory, Pid};
 use causal_wire::{LogEntry, ParcelItem as WireItem};
 use std::alloc::Global;
-use std::sync::Arc;
 
 /// Returns the holders besides one.
 pub(crate) fn without(holders: Holders, source: Pid) -> Holders
@@ -66,12 +64,12 @@ pub(crate) fn batch_of_items(
     alloc: Global,
     source: Pid,
     items: &[WireItem],
-) -> Result<Arc<Batch>, NoMemory>
+) -> Result<Batch, NoMemory>
     requires { is_ascending (parcel_dets items.now) ≡ true }
-    ensures { IfOk result (λ batch. arc_value batch ≡ map (log_item source) items.now) }
+    ensures { IfOk result (λ batch. batch ≡ map (log_item source) items.now) }
 {
     let carried = log_items(alloc, source, items)?;
-    Ok(Arc::new(alloc, Batch::new(carried))?)
+    Batch::new(alloc, carried)
 }
 
 /// Returns the entries of a log, as a parcel from this process has them. Takes O(n log n) time for n entries.

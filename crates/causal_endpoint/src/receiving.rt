@@ -77,7 +77,7 @@ impl Endpoint {
             source: head.source,
             ssn,
         };
-        if let Some(fault) = self.node.deliver_fault(head.lane, name, &*batch) {
+        if let Some(fault) = self.node.deliver_fault(head.lane, name, &batch) {
             return Err(EndpointFault::Node(fault));
         }
         let clock = self.clock_after(now, head);
@@ -180,7 +180,7 @@ impl Endpoint {
         ensures { (now : ℕ) → IsOutcome self.old now head (acknowledgement items.now) result self.new }
     {
         let batch = batch_of_items(self.alloc, head.source, items)?;
-        self.node.learn(head.lane, head.source, &*batch)?;
+        self.node.learn(head.lane, head.source, &batch)?;
         self.clock = self.clock.max(head.clock);
         Ok(Received::Acknowledgement(head.source))
     }
