@@ -43,3 +43,8 @@ returns-clause-run g c = record {
 pub returns-clause-safe : goal.returns-clause-safe
 returns-clause-safe g c =
     subst (IsSafeTrace c.into_trace.result.recording) (c.explore_as.ensures.faults ∙ c.in_ok-core.ensures.faults) c.into_trace.ensures.safe
+
+pub returns-in_err-explore_as-clause-refused : goal.returns-in_err-explore_as-clause-refused
+returns-in_err-explore_as-clause-refused g c =
+    let p = err_from_is_err_and c.from_residual-in_err-explore_as.result c.from_residual-in_err-explore_as.ensures.1 in
+    rw (p.1, p.2) tt
