@@ -14,7 +14,7 @@ use std::thread::{Threads, join};
 /// A piece of fewer bytes is one group.
 const TWO_GROUPS: usize = 131_072;
 
-/// So is a piece whose lines are checked in a lower percentage of the time in which they are parsed.
+/// A piece is one group, too, if checking its lines takes less than this percentage of the time of parsing them.
 const WORTH_TWO_GROUPS: usize = 10;
 
 /// How a group is divided into chunks, and whether it is the last of its piece: then each chunk is checked once it is parsed,
