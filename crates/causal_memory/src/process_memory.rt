@@ -86,22 +86,22 @@ impl ProcessMemory {
         self.log.drop_stable();
     }
 
-    /// Reserves more capacity than a delivery needs, once for determinants and once for the rest; how much more depends
-    /// on the process number. Capacities double from then on, so they do not all grow at the same time, even if all
-    /// processes have delivered equally many messages.
+    /// Reserves more capacity for messages than a delivery needs, once. After how many deliveries, and how much, depends on
+    /// the process number. Capacities double from then on, so they do not all grow at the same time, even if all processes
+    /// have delivered equally many messages. The log's growth depends on its seed in the same way.
     fn reserve_staggered(&mut self, q: Pid) -> Result<(), NoMemory>
         ensures memory { memory_of self.new ≡ memory_of self.old }
         ensures bodies { bodies_of self.new ≡ bodies_of self.old }
     {
-        let room = 13 + (u32::from(q.0) * 7 + 5) % 16;
-        match self.received.len() {
-            4 => self.log.reserve(room),
-            8 => {
-                self.received.reserve_exact(room as usize + 8)?;
-                Ok(self.sent.reserve_exact(room as usize)?)
-            }
-            _ => Ok(()),
+        let number = usize::from(q.0);
+        let len = self.received.len();
+        if len != 1 + number % 8 {
+            return Ok(());
         }
+        // capacities from 22 to 43, so that doubled ones begin where these end
+        let room = 22 + number * 7 % 22 - len;
+        self.received.reserve_exact(room)?;
+        Ok(self.sent.reserve_exact(room)?)
     }
 
     /// Reserves capacity for a delivery that logs the given number of determinants, and for its sends.
