@@ -1,20 +1,18 @@
 -- The dependents of a delivery after one more entry, and the instants between two changes.
-use Rattle.causal_audit.proofs.Common.{ℕ, ◌≡◌, ◌≢◌, ◌+◌, inl, inr, Bool, true, false, cond, List, ◌∷◌, length, Some, None, refl, sym, ap, subst, ◌∙◌, zero, suc, ◌-◌, ◌<◌, ◌≤◌, [], arith, ◌⊎◌, ◌↔◌, ◌&&◌, ◌||◌, not, ◌==◌, nat_cmp, FinSet, contains, insert, remove, false≢true, eq-eqb, ne_eqb, cases_lt, cond-true, cond-false, nat_tests, Pid, Det, Entry, Send, Deliver, Stable, Crash, Restart, Forget, is_down, lane, instant, entry_at, det_at, is_stable, logs, list_has, AreLegalEntries, first_fault, actor, IsEventOf, DirectlyPrecedes, in_order, by_message, Reaches, itself, onward, Depends, event_below, reaches_old, depends_restarted, reaches_begins, accepted_forward, delivers_up, same_det, HasOrphan, instants_stay, one_more_instant, last_instant, accepted_then, det_then, det_within, instant_length}
+use Rattle.causal_audit.proofs.Common.{ℕ, ◌≡◌, ◌≢◌, ◌+◌, inl, inr, Bool, true, false, cond, List, ◌∷◌, length, Some, None, refl, sym, ap, subst, ◌∙◌, zero, suc, ◌-◌, ◌<◌, ◌≤◌, [], arith, ◌⊎◌, ◌↔◌, ◌&&◌, ◌||◌, not, ◌==◌, nat_cmp, FinSet, contains, insert, remove, false≢true, eq-eqb, ne_eqb, cases_lt, cond-true, cond-false, nat_tests, Pid, Det, Entry, Send, Deliver, Stable, Crash, Restart, Forget, is_down, lane, instant, entry_at, det_at, is_stable, logs, list_has, AreLegalEntries, first_fault, actor, IsEventOf, Reaches, itself, onward, Depends, event_below, reaches_old, depends_restarted, reaches_begins, accepted_forward, delivers_up, same_det, HasOrphan, instants_stay, one_more_instant, last_instant, accepted_then, det_then, det_within, instant_length}
 use Rattle.causal_audit.specs.Inside.DeliveryStates.{AreDependents, IsNextReached, IsDeliveryState}
 use Rattle.causal_audit.proofs.Legal.{sends_up}
-use Rattle.causal_audit.proofs.Shown.{inserted, removed}
+use Rattle.causal_holders.proofs.Lemmas.Sets.{inserted, removed}
 use Rattle.causal_audit.specs.Laws.{down_or_holding, IsExposed}
 use Rattle.causal_audit.specs.declared.delivery_state.DeliveryState.{DeliveryState}
-use Rattle.causal_audit.specs.Quiet.{is_transition, mentioned_dets, IsQuiet, AreQuiet, SameDeliveryState, InstantsAgree, OrphansAgree}
+use Rattle.causal_trace.specs.Past.{mentioned_dets}
+use Rattle.causal_audit.specs.Quiet.{is_transition, IsQuiet, AreQuiet, SameDeliveryState, InstantsAgree, OrphansAgree}
 use Rattle.causal_audit.proofs.Lemmas.OrphansByCounts.{exposed, unexposed}
+use Rattle.causal_trace.proofs.Lemmas.DependenceSteps.{precedes_more}
 
 -- ==== the dependents of a delivery after one more entry
 
 -- ---- facts that one more entry preserves
-
-precedes_more : (e : Entry) (past : List Entry) (i j : ℕ) → DirectlyPrecedes past i j → DirectlyPrecedes (e ∷ past) i j
-precedes_more e past i j (in_order p l less a b) = in_order p l less (inl a) (inl b)
-precedes_more e past i j (by_message h) = by_message (inl h)
 
 -- an entry that is reached is still reached in a longer run
 pub reaches_more : (e : Entry) (past : List Entry) (i j : ℕ) → Reaches past i j → Reaches (e ∷ past) i j

@@ -8,7 +8,8 @@ use Rattle.causal_audit.specs.Verdicts.{IsLeastOrphan}
 use Rattle.causal_audit.proofs.safety_scan.CoverStays.{gone_many, gone_shown}
 use Rattle.causal_audit.proofs.Lemmas.OrphansByCounts.{exposed, crash_contains, orphan_without, gone_crash, gone_orphan}
 use Rattle.causal_audit.proofs.Legal.{event_inside}
-use Rattle.causal_audit.proofs.Shown.{shows_none, down_inside, logs_inside, parts}
+use Rattle.causal_audit.proofs.Shown.{shows_none, parts}
+use Rattle.causal_trace.proofs.Lemmas.RunProcesses.{down_inside, logs_inside}
 
 -- before a delivery has holders or dependents, its state consists of the down processes
 pub state_begun : (past : List Entry) (k : ℕ) (d : Det) (down : FinSet nat_cmp) → HasExactly down (λ p. is_down past p) → IsUnknownToAll past k d → IsDeliveryState past k d (record { down = down; holders = empty; stable = false; dependents = empty })

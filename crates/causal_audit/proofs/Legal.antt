@@ -5,7 +5,7 @@ use Rattle.causal_trace.specs.Rows.{rows_within, refusal_rows}
 use Rattle.causal_trace.specs.declared.fault.TraceFault.TheVariants.{NotUp}
 use Rattle.causal_trace.proofs.Lemmas.EntryFacts.{delivery_sent}
 use Rattle.causal_trace.proofs.Lemmas.WellFormed.{within_limits, limits}
-use Rattle.causal_audit.proofs.Shown.{send_inside, deliver_inside}
+use Rattle.causal_trace.proofs.Lemmas.RunProcesses.{send_inside, deliver_inside}
 
 module _ (n : ℕ) (past : List Entry) where
   -- the sender of a send is up

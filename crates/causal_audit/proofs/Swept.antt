@@ -1,13 +1,13 @@
 -- The deliveries that one more entry may newly orphan.
 use Rattle.causal_audit.proofs.Common.{ℕ, zero, suc, ◌≡◌, ◌<◌, inl, inr, true, false, List, [], ◌∷◌, length, Some, None, refl, sym, subst, ◌∙◌, arith, ◌≤◌, Bool, ◌⊎◌, ◌&&◌, ◌||◌, ◌==◌, not, false≢true, cases_Bool, cases_lt, eqb-true, eq-eqb, or_parts, false_from_ne_true, cond-true, cond-false, ne_eqb, eqb_tells, nat_tests, Pid, Det, Entry, Send, Deliver, Stable, Crash, Restart, Forget, is_down, lane, is_stable, logs, list_has, det_at, det_of, AreLegalEntries, actor, is_delivery_of, IsEventOf, in_order, by_message, Reaches, itself, onward, Depends, event_below, reaches_old, reaches_newest, ReachesNewest, is_newest, in_lane, through_message, reaches_begins, accepted_forward, count_below, count_below-within, HasOrphan}
 use Rattle.causal_audit.proofs.Between.{reaches_more, IsNoTurn, depends_before}
-use Rattle.causal_audit.proofs.by_clock.Link.{delivers_below}
 use Rattle.causal_audit.specs.Laws.{down_or_holding}
 use Rattle.causal_audit.specs.NoRelease.{may_release}
 use Rattle.causal_audit.specs.NewOrphans.{MayGetOrphan, NewOrphansLaw, OneNewOrphan}
 use Rattle.causal_audit.proofs.Lemmas.OrphansByCounts.{exposed, unexposed, orphan_without}
 use Rattle.causal_audit.proofs.safety_scan.CoverStays.{stable_more, gone_more}
 use Rattle.causal_audit.proofs.Legal.{sends_up}
+use Rattle.causal_trace.proofs.Lemmas.DependenceSteps.{delivers_below}
 
 -- ==== whether an event reaches another, and whether a process depends on a delivery, is decidable
 

@@ -1,9 +1,9 @@
 -- The entries that do not change the state of a delivery, and the instants that agree because of them.
-use Rattle.std.specs.Prelude.{◌≡◌, ℕ, ◌<◌, ◌≤◌, ◌↔◌, Bool, true, false, List, [], ◌∷◌, length, Some}
+use Rattle.std.specs.Prelude.{◌≡◌, ℕ, ◌<◌, ◌≤◌, ◌↔◌, Bool, true, false, List, ◌∷◌, length, Some}
 use Rattle.causal_name.specs.declared.Det.{Det}
 use Rattle.causal_trace.specs.declared.entry.Entry.{Entry}
-use Rattle.causal_trace.specs.declared.entry.Entry.TheVariants.{Stable, Crash, Restart}
-use Rattle.causal_trace.specs.Past.{instant, entry_at, det_at, is_down, is_stable, logs, list_has, listed_by}
+use Rattle.causal_trace.specs.declared.entry.Entry.TheVariants.{Crash, Restart}
+use Rattle.causal_trace.specs.Past.{instant, entry_at, det_at, is_down, is_stable, logs, list_has, mentioned_dets}
 use Rattle.causal_trace.specs.Rows.{AreLegalEntries}
 use Rattle.causal_trace.specs.Dependence.{actor, Reaches, Depends}
 use Rattle.causal_trace.specs.Judgement.{HasOrphan}
@@ -13,11 +13,6 @@ abbrev pub is_transition : Entry → Bool
 is_transition (Crash who) = true
 is_transition (Restart who listed) = true
 is_transition _ = false
-
--- the determinants that an entry lists or writes to stable storage
-abbrev pub mentioned_dets : Entry → List Det
-mentioned_dets (Stable det) = det ∷ []
-mentioned_dets e = listed_by e
 
 -- the next entry does not change the state of the delivery at k with determinant d: it is not a crash or restart and
 -- does not mention d, and if k reaches it, its process depends on k already

@@ -8,7 +8,6 @@ ghost use Rattle.causal_audit.specs.Verdicts.{IsVerdict};
 use crate::breach::{Breach, Excess};
 use crate::clock_audit::decide_verdict;
 use crate::excess::{first_excess_in, last_deciding_instant};
-use crate::index::mentions::mentioned_dets;
 use crate::index_parts::{EffectIndex, PrefixIndex, TransitionIndex};
 use crate::indexed_run::IndexedRun;
 use crate::prepared_run::{PreparedRun, breach_by_end};
@@ -50,7 +49,7 @@ fn early_part_len(entries: &[Entry], end: u32) -> u32
 {
     let mut listed: usize = 0;
     for (i, entry) in entries.iter().enumerate() {
-        listed = listed.saturating_add(mentioned_dets(entry).len());
+        listed = listed.saturating_add(entry.mentioned_dets().len());
         if i >= FIRST_ENTRIES || listed > FIRST_LISTED {
             return end.min(i as u32);
         }

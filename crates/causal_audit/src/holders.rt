@@ -1,8 +1,7 @@
 //! The holders of a determinant after one more entry.
 ghost use Rattle.std.specs.Prelude.{◌≡◌, true, false};
 ghost use Rattle.causal_name.specs.declared.Det.{Det};
-ghost use Rattle.causal_trace.specs.Past.{list_has};
-ghost use Rattle.causal_audit.specs.Quiet.{mentioned_dets};
+ghost use Rattle.causal_trace.specs.Past.{list_has, mentioned_dets};
 ghost use Rattle.causal_audit.specs.Inside.DeliveryStates.{ShowsHoldersAfter};
 
 use crate::delivery_state::{with_member, without_member};

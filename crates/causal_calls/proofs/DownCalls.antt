@@ -32,7 +32,8 @@ use Rattle.causal_nodes.specs.NodeSteps as theory
 use Rattle.causal_calls.specs.Views.{numbers, log_view, RepresentsAt, Represents, IsRoundOf, IsDownView, IsNodeState, IsRecoveryState}
 use Rattle.causal_calls.specs.Parcels.{log_packet}
 use Rattle.causal_calls.specs.StepLaws.{IsStepOf, IsNoStep}
-use Rattle.causal_calls.proofs.Lemmas.LogViews.{same_log, nothing_logged, nothing_held, nothing_stable, one_entry, one_holder, one_stable, one_holds, held_has, held_holder, held_stable, entry_of_holder}
+use Rattle.causal_calls.proofs.Lemmas.LogViews.{same_log, one_entry, one_holder, one_stable, one_holds, held_has, held_holder, held_stable}
+use Rattle.causal_protocol.proofs.Lemmas.LogMembers.{none_entry, none_holds, none_stable, entry_of_holder}
 use Rattle.causal_calls.proofs.Lemmas.Refusals.{from_not, or_else_none}
 use Rattle.causal_calls.proofs.Lemmas.Numbers.{set_other, set_here, zeros}
 use Rattle.causal_calls.proofs.Lemmas.Refusals.{not_below}
@@ -128,10 +129,10 @@ module _ (position : ℕ) (s : NodeState) (k : IsNodeState s) where
               view = refl;
               heard = λ q low apart gone. absurd (both_ways _ gone (still_awaited n me.0 q low apart));
               read = λ h. absurd (false≢true h);
-              has = λ d. sym (nothing_logged d);
-              holder = λ d q apart. sym (nothing_held d q);
+              has = λ d. sym (none_entry d);
+              holder = λ d q apart. sym (none_holds d q);
               own = λ d h. absurd (false≢true h);
-              stable = λ d. sym (nothing_stable d);
+              stable = λ d. sym (none_stable d);
             },
           );
         },

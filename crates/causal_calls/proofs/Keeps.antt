@@ -30,7 +30,8 @@ use Rattle.causal_nodes.specs.Packets.{message_packet, acknowledgement_packet}
 use Rattle.causal_calls.specs.Views.{HasHoldersBelow, IsNodeState, IsRecoveryState}
 use Rattle.causal_calls.specs.Parcels.{message_with, acknowledgement_with}
 use Rattle.causal_calls.specs.StepLaws.{NamesProcesses}
-use Rattle.causal_calls.proofs.Lemmas.LogViews.{delivered_has, delivered_holder, marked, one_holder, one_holds, held_has, held_holder, nothing_held, nothing_logged}
+use Rattle.causal_calls.proofs.Lemmas.LogViews.{delivered_has, delivered_holder, marked, one_holder, one_holds, held_has, held_holder}
+use Rattle.causal_protocol.proofs.Lemmas.LogMembers.{none_holds, none_entry}
 use Rattle.causal_calls.proofs.Lemmas.LogChanges.{learned, forgotten}
 use Rattle.causal_calls.proofs.Lemmas.Refusals.{from_not, or_else_none}
 use Rattle.causal_calls.proofs.Lemmas.Numbers.{set_other, set_here, set_length, zeros_length, raised_numbers, raised_length}
@@ -148,7 +149,7 @@ module _ (s : NodeState) (k : IsNodeState s) where
       by false is = k
 
   pub begun : (name : ℕ) → IsNodeState (with_recovery s (Some (Some (new_round s.identity name))))
-  begun name = with_other (Some (Some (new_round s.identity name))) (λ d q h. absurd (both_ways _ (nothing_held d q) h), removed (processes_below n) me.0 me.0 ∙ ap (λ b. not b && set.contains (processes_below n) me.0) (eq-eqb me.0 me.0 refl))
+  begun name = with_other (Some (Some (new_round s.identity name))) (λ d q h. absurd (both_ways _ (none_holds d q) h), removed (processes_below n) me.0 me.0 ∙ ap (λ b. not b && set.contains (processes_below n) me.0) (eq-eqb me.0 me.0 refl))
 
   module _ (r : RoundState) (gathers : s.recovery ≡ Some (Some r)) where
     pub kept : IsRecoveryState s.identity (Some (Some r))

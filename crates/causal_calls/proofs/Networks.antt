@@ -24,7 +24,7 @@ use Rattle.causal_calls.specs.Calls.{NodeCall}
 use Rattle.causal_calls.specs.StepLaws.{NamesProcesses, TakesOfProcesses, IsStepOf, IsNoStep}
 use Rattle.causal_calls.specs.Systems.{System, identity_of, is_recovering, SystemEvent, IsNewSystem, IsReachableSystem, new_system, next_system, SystemsAreSafe, SystemsShareNoSlot}
 use Rattle.causal_calls.specs.Systems as system
-use Rattle.causal_calls.proofs.Lemmas.LogViews.{nothing_logged, nothing_held, nothing_stable}
+use Rattle.causal_protocol.proofs.Lemmas.LogMembers.{none_entry, none_holds, none_stable}
 use Rattle.causal_calls.proofs.Lemmas.Numbers.{set_other, zeros}
 use Rattle.causal_calls.proofs.Lemmas.Openings.{opening}
 use Rattle.causal_calls.proofs.Steps.{calls_are_steps, calls_keep}
@@ -105,7 +105,7 @@ module _ (safe : NodesAreSafe) (single : NodesShareNoSlot) (n f : ℕ) where
           by (inr other) = set_other (replicate n 0) p 0 q other.1 ∙ zeros n q
 
       fresh : (p : ℕ) (s : NodeState) → s ≡ opened (identity_of n f p) 0 → IsNewNode (up_view s)
-      fresh p s is = subst (λ t. IsNewNode (up_view t)) (sym is) (record { lane = refl; empty = nothing_logged; no_holders = nothing_held; no_stable = nothing_stable; floors = nothing p; sent = refl; received = refl })
+      fresh p s is = subst (λ t. IsNewNode (up_view t)) (sym is) (record { lane = refl; empty = none_entry; no_holders = none_holds; no_stable = none_stable; floors = nothing p; sent = refl; received = refl })
 
   module _ (w : System) (net : IsNetworkOf n f w) where
     -- a node that is up represents a process that is up

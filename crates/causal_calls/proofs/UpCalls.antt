@@ -38,7 +38,8 @@ use Rattle.causal_nodes.specs.NodeSteps as theory
 use Rattle.causal_calls.specs.Views.{numbers, up_view, RepresentsAt, Represents, IsNodeState, log_view}
 use Rattle.causal_calls.specs.Parcels.{message_with, next_message_packet, acknowledgement_with, acknowledged_items, acknowledgement_of, log_packet, write_of}
 use Rattle.causal_calls.specs.StepLaws.{HasLogSingleSlots, IsStepOf, IsNoStep}
-use Rattle.causal_calls.proofs.Lemmas.LogViews.{entry_of_holder, own_have, items_have, delivered, marked}
+use Rattle.causal_calls.proofs.Lemmas.LogViews.{delivered, marked}
+use Rattle.causal_protocol.proofs.Lemmas.LogMembers.{entry_of_holder, own_have, items_have}
 use Rattle.causal_calls.proofs.Lemmas.LogChanges.{learned, acknowledged_dets, acknowledged_holders, forgotten, forgotten_ascends, forgotten_stable, forgotten_made}
 use Rattle.causal_calls.proofs.Lemmas.Refusals.{below_from, not_below, from_not, or_else_none, unless_up_none}
 use Rattle.causal_calls.proofs.Lemmas.Numbers.{raised_numbers}

@@ -6,10 +6,8 @@ use Rattle.std.specs.Option.{option_map, option_map_or}
 use Rattle.std.specs.FinMap as fin
 use Rattle.causal_name.specs.declared.Pid.{Pid}
 use Rattle.causal_name.specs.declared.Det.{Det}
-use Rattle.causal_name.specs.Names.{is_ascending}
 use Rattle.causal_log.specs.declared.known.Known.{Known}
 use Rattle.causal_log.specs.Logs.{LogMap, stable_in, after_drop_stable}
-use Rattle.causal_log.proofs.Lemmas.Ascents.{filter_ascends}
 use Rattle.causal_log.proofs.Lemmas.Searches.{kept_if}
 use Rattle.causal_trace.specs.declared.entry.Entry.{Entry}
 use Rattle.causal_trace.specs.declared.entry.Entry.TheVariants.{Forget}
@@ -31,6 +29,7 @@ use Rattle.causal_core.proofs.FlushWrites.{logged_passes}
 use Rattle.causal_core.proofs.FlushSteps.{all_from, passes_some}
 use Rattle.causal_core.proofs.ForgetKeeps.{forgets_marked, get_unmarked, has_marked}
 use Rattle.causal_core.proofs.Legal.{there, fits_up}
+use Rattle.causal_log.proofs.Lemmas.LogLists.{stable_ascends}
 
 kept_some : (P : Known → Bool) (o : Option Known) → is_some (kept_if P o) ≡ true → is_some o ≡ true
 kept_some P o h = grind arith
@@ -42,9 +41,6 @@ unmarked_all P log all = all_from P (fin.keys (after_drop_stable log)) (λ d h. 
 -- and for its stable determinants
 stable_all : (P : Det → Bool) (log : LogMap) → list_all P (fin.keys log) ≡ true → list_all P (stable_in log) ≡ true
 stable_all P log all = all_from P (stable_in log) (λ d h. logged_passes P log d all (passes_some (λ k. k.stable) (fin.get log d) (sym (has_marked log d) ∙ h)))
-
-stable_ascends : (log : LogMap) → is_ascending (stable_in log) ≡ true
-stable_ascends log = filter_ascends (λ e. e.1.stable) log
 
 forgotten_fits : (past : List Entry) (p : Pid) (listed : List Det) (m : Memory) → MatchesEntries past p.0 m → MatchesEntries (Forget p listed ∷ past) p.0 (with_log after_drop_stable m)
 forgotten_fits past p listed m fit = grind (arith, unmarked_all, placed_more)

@@ -3,7 +3,8 @@ use Rattle.std.proofs.lemmas.Bool.Decides.{nat_tests}
 use Rattle.std.proofs.lemmas.List.{take_all}
 use Rattle.std.proofs.lemmas.List.Sums.{count_by_more_yes, count_by_more_no}
 use Rattle.causal_core.proofs.BoxLemmas.{answers_at-set_other, map-set, answers_at-set_same}
-use Rattle.causal_core.proofs.DownSets.{none_in, down_there, none_told, one_in, one_out}
+use Rattle.causal_core.proofs.DownSets.{down_there, none_told}
+use Rattle.causal_holders.proofs.Lemmas.MemberCounts.{none_in, one_in, one_out}
 use Rattle.causal_core.proofs.Gathers.{united_up, united_down, united_end}
 use Rattle.causal_core.proofs.PendingMessages.{sent_few, some_read, received_same, sent_there, pending_more, pending_end}
 use Rattle.causal_trace.proofs.Lemmas.WellFormed.{formed_short}

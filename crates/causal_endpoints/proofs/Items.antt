@@ -23,6 +23,7 @@ use Rattle.causal_protocol.specs.MemoryQueries.{has_entry, log_knows_holder, log
 use Rattle.causal_calls.specs.Parcels.{message_with, acknowledged_items, log_packet}
 use Rattle.causal_endpoint.specs.Items.{wire_item, log_item, wire_entry, log_entry, log_from}
 use Rattle.causal_endpoint.specs.Acknowledging.{acknowledged_item, acknowledged_items as wire_acknowledged}
+use Rattle.causal_protocol.proofs.Lemmas.LogMembers.{none_holds, none_stable}
 
 -- the process is not among the others
 pub not_itself : (s : set.FinSet nat_cmp) (p : ℕ) → set.contains (set.remove s p) p ≡ false
@@ -117,12 +118,6 @@ module _ (me : Pid) (log : LogMap) (own : (d : Det) → has_entry d log ≡ true
   nothing_has : (d : Det) → has_entry d fin.empty ≡ false
   nothing_has d = ap is_some (fin.get-empty _ d)
 
-  nothing_held : (d : Det) (q : ℕ) → log_knows_holder d q fin.empty ≡ false
-  nothing_held d q = ap (λ (o : Option Known). set.contains (unwrap_or o unknown).holders q) (fin.get-empty _ d) ∙ set.contains-empty _ q
-
-  nothing_stable : (d : Det) → log_knows_stable d fin.empty ≡ false
-  nothing_stable d = ap (λ (o : Option Known). (unwrap_or o unknown).stable) (fin.get-empty _ d)
-
   -- so a log that is read is the one that was written
   pub log_again : (lane to : ℕ) → log_packet me.0 lane to again ≡ log_packet me.0 lane to log
   log_again lane to = λ i. record {
@@ -130,8 +125,8 @@ module _ (me : Pid) (log : LogMap) (own : (d : Det) → has_entry d log ≡ true
       from = me.0;
       send = None;
       carries = λ d. (ap (has_entry d) same_entries ∙ united_logged fin.empty log d ∙ ap (λ b. b || has_entry d log) (nothing_has d)) i;
-      names_holder = λ d q. (ap (log_knows_holder d q) same_entries ∙ united_holders fin.empty log d q ∙ ap (λ b. b || log_knows_holder d q log) (nothing_held d q)) i;
-      names_stable = λ d. (ap (log_knows_stable d) same_entries ∙ united_stable fin.empty log d ∙ ap (λ b. b || log_knows_stable d log) (nothing_stable d)) i;
+      names_holder = λ d q. (ap (log_knows_holder d q) same_entries ∙ united_holders fin.empty log d q ∙ ap (λ b. b || log_knows_holder d q log) (none_holds d q)) i;
+      names_stable = λ d. (ap (log_knows_stable d) same_entries ∙ united_stable fin.empty log d ∙ ap (λ b. b || log_knows_stable d log) (none_stable d)) i;
     };
     lane = lane;
     to = to;

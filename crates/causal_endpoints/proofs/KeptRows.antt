@@ -27,7 +27,7 @@ use Rattle.causal_nodes.specs.Packets.{Sent, write_packet, read_packet, not_up_p
 use Rattle.causal_calls.specs.Views.{numbers, IsNodeState}
 use Rattle.causal_calls.specs.Parcels.{write_of}
 use Rattle.causal_calls.specs.StepLaws.{NamesProcesses, TakesOfProcesses, CallsKeepNodeStates}
-use Rattle.causal_calls.proofs.Lemmas.LogViews.{nothing_logged, nothing_held}
+use Rattle.causal_protocol.proofs.Lemmas.LogMembers.{none_entry, none_holds}
 use Rattle.causal_endpoint.specs.declared.fault.EndpointFault.TheVariants as Faults
 use Rattle.causal_endpoint.specs.Endpoints.{EndpointState, run_of}
 use Rattle.causal_endpoint.specs.Receiving.{contents_fault, clock_with}
@@ -73,13 +73,13 @@ module _ (n : ℕ) (source : Pid) (low : source.0 < n) where
 
   log_dets : (d : Det) (entries : List LogEntry) → AllByRecursion (λ (entry : LogEntry). IsItem n source.0 entry.item) entries → has_entry d (log_from source entries) ≡ true → IsDet n d
   log_dets d entries each h = elim (or_cases _ _ (sym (logged_all (map (log_entry source) entries) fin.empty d) ∙ h)) [
-    | inl none ↦ absurd (both_ways _ (nothing_logged d) none)
+    | inl none ↦ absurd (both_ways _ (none_entry d) none)
     | inr there ↦ entry_dets d entries each there
   ]
 
   log_holders : (d : Det) (q : ℕ) (entries : List LogEntry) → AllByRecursion (λ (entry : LogEntry). IsItem n source.0 entry.item) entries → log_knows_holder d q (log_from source entries) ≡ true → q < n
   log_holders d q entries each h = elim (or_cases _ _ (sym (known_all (λ (k : Known). set.contains k.holders q) (holds_either q) (map (log_entry source) entries) fin.empty d) ∙ h)) [
-    | inl none ↦ absurd (both_ways _ (nothing_held d q) none)
+    | inl none ↦ absurd (both_ways _ (none_holds d q) none)
     | inr there ↦ entry_holders d q entries each there
   ]
 

@@ -36,7 +36,8 @@ use Rattle.causal_calls.specs.Views.{numbers, IsNodeState}
 use Rattle.causal_calls.specs.Parcels.{acknowledgement_with}
 use Rattle.causal_calls.specs.Calls.{NodeCall, send, deliver, acknowledge, learn, forget, write, stored, answer_log, answer_not_up, answer_number, begin_round, take_log, take_not_up, take_other_number, take_number, ask_storage, take_stored, finish_read, restart, open_again}
 use Rattle.causal_calls.proofs.Lemmas.Refusals.{below_from, some_none, or_else_none, unless_up_none, of_round}
-use Rattle.causal_calls.proofs.Lemmas.LogViews.{delivered_has, own_have, items_have, marked, one_entry, held_has, nothing_logged}
+use Rattle.causal_calls.proofs.Lemmas.LogViews.{delivered_has, marked, one_entry, held_has}
+use Rattle.causal_protocol.proofs.Lemmas.LogMembers.{own_have, items_have, none_entry}
 use Rattle.causal_calls.proofs.Lemmas.LogChanges.{learned, forgotten}
 use Rattle.causal_endpoints.specs.States.{HasDets, IsRoundWithin, IsKeptMessage}
 use Rattle.causal_endpoints.proofs.Written.{carried_fit}
@@ -112,7 +113,7 @@ pub opened_within : (n me : ℕ) (who : Identity) (lane : ℕ) → lane < 2 ^ 32
 opened_within n me who lane low = record {
   lane = low;
   floors = set_within (replicate who.processes 0) who.me.0 lane low (zeros_within who.processes);
-  logged = λ d h. absurd (both_ways _ (nothing_logged d) h);
+  logged = λ d h. absurd (both_ways _ (none_entry d) h);
   round = by (lane == 0);
   kept = nothing_kept (IsKeptMessage n me);
   sent = omega arith;
@@ -248,7 +249,7 @@ calls_within position old new taken sent entries (answer_log asker name view leg
 calls_within position old new taken sent entries (answer_not_up asker name view legal reply) is few k fits named = after_reply old.identity.processes old.identity.me.0 old k view (numbers_each view fits)
 calls_within position old new taken sent entries (answer_number asker view legal reply) is few k fits named = subst (λ t. IsWithin old.identity.processes old.identity.me.0 t) (number_same old view reply) k
 calls_within position old new taken sent entries (begin_round name legal) is few k fits named =
-    with_other old.identity.processes old.identity.me.0 old k (Some (Some (new_round old.identity name))) (named old.identity.me.0 name (numbers old.floors) (inl refl), λ d h. absurd (both_ways _ (nothing_logged d) h))
+    with_other old.identity.processes old.identity.me.0 old k (Some (Some (new_round old.identity name))) (named old.identity.me.0 name (numbers old.floors) (inl refl), λ d h. absurd (both_ways _ (none_entry d) h))
 calls_within position old new taken sent entries (take_log name lane q log legal) is few k fits named =
     let r = of_round old.recovery name q legal in
     changed old.identity.processes old.identity.me.0 old k r.0 r.1 (λ r. with_log_of r q.0 log) (λ w. (w.0, λ d h. elim (or_cases _ _ (sym (united_logged r.0.log log d) ∙ h)) [ inl before ↦ w.1 d before | inr new ↦ fits d new ]))

@@ -14,7 +14,7 @@ use Rattle.causal_trace.specs.Judgement.{IsCrashSet, IsOrphan, HasOrphan, IsSafe
 use Rattle.causal_trace.specs.Past.{instant, det_at, det_of, list_has, is_down, lane, logs}
 use Rattle.causal_trace.specs.Rows.{AreLegalEntries, Recording}
 use Rattle.causal_trace.proofs.Lemmas.EntryFacts.{accepted_forward}
-use Rattle.causal_trace.proofs.Lemmas.AtInstants.{accepted_then, instant_length}
+use Rattle.causal_trace.proofs.Lemmas.AtInstants.{accepted_then, instant_length, delivered_in}
 use Rattle.causal_trace.proofs.Lemmas.DependenceSteps.{depends_old, depends_restarted, reaches_begins}
 use Rattle.causal_audit.specs.Laws.{down_or_holding}
 use Rattle.causal_audit.specs.NewOrphans.{MayGetOrphan, NewOrphansLaw, OneNewOrphan}
@@ -22,7 +22,6 @@ use Rattle.causal_audit.specs.Verdicts.{IsVerdict}
 use Rattle.causal_audit.specs.declared.verdict.Verdict.TheVariants.{Exceeded, Orphan}
 use Rattle.causal_explain.specs.Causes.{MakesExcess, MakesOrphan, IsCauseOf}
 use Rattle.causal_explain.specs.Inside.EntryCauses.{newest_cause}
-use Rattle.causal_explain.proofs.OrphanLemmas.{delivered_in}
 
 -- ---- the state before the newest entry
 

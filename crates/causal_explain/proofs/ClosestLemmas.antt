@@ -16,7 +16,7 @@ use Rattle.causal_explain.specs.declared.closest.Closest.TheVariants.{Never, At}
 use Rattle.causal_explain.specs.Closest.{HasNoOrphan, IsClosest, IsSafeBelowClosest}
 use Rattle.causal_explain.specs.Inside.Bisection.{IsFoundBreach}
 use Rattle.causal_audit.proofs.Lemmas.NumberLemmas.{has_number}
-use Rattle.causal_explain.proofs.OrphanLemmas.{delivered_in}
+use Rattle.causal_trace.proofs.Lemmas.AtInstants.{delivered_in}
 
 -- a crash set for a bound is one for a greater bound
 crash_more : (n f g : ℕ) (past : List Entry) (crash : ℕ → Bool) → f ≤ g → IsCrashSet n f past crash → IsCrashSet n g past crash

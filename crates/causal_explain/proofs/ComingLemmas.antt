@@ -4,39 +4,13 @@ use Rattle.std.specs.Option.{is_some}
 use Rattle.causal_trace.specs.declared.entry.Entry.{Entry}
 use Rattle.causal_trace.specs.Past.{lane}
 use Rattle.causal_trace.specs.Laws.{IsPath}
-use Rattle.causal_trace.specs.Dependence.{AreForward, actor, IsEventOf, Delivers, DirectlyPrecedes, in_order, by_message}
-use Rattle.causal_trace.proofs.Lemmas.DependenceSteps.{event_below}
+use Rattle.causal_trace.specs.Dependence.{AreForward, actor, IsEventOf, DirectlyPrecedes, in_order, by_message}
+use Rattle.causal_trace.proofs.Lemmas.DependenceSteps.{event_below, event_old, delivers_below, precedes_before, precedes_old, precedes_more}
 use Rattle.causal_explain.specs.Inside.ShortestPaths.{HasPath, at_once, onward, PrecedesNext}
-
-event_old : (e : Entry) (past : List Entry) (i p l : ℕ) → i < length past → IsEventOf (e ∷ past) i p l → IsEventOf past i p l
-event_old e past i p l below (inl h) = h
-event_old e past i p l below (inr h) = absurd (omega (arith, below, h.0))
-
-delivers_within : (past : List Entry) (j i : ℕ) → Delivers past j i → j < length past
-delivers_within [] j i h = absurd h
-delivers_within (e ∷ past) j i (inl h) = omega (arith, delivers_within past j i h)
-delivers_within (e ∷ past) j i (inr h) = omega (arith, h.0)
-
-delivers_old : (e : Entry) (past : List Entry) (j i : ℕ) → j < length past → Delivers (e ∷ past) j i → Delivers past j i
-delivers_old e past j i below (inl h) = h
-delivers_old e past j i below (inr h) = absurd (omega (arith, below, h.0))
-
-precedes_before : (past : List Entry) (i j : ℕ) → AreForward past → DirectlyPrecedes past i j → i < j
-precedes_before past i j forward (in_order p l h a b) = h
-precedes_before past i j forward (by_message h) = forward j i h
 
 precedes_within : (past : List Entry) (i j : ℕ) → DirectlyPrecedes past i j → j < length past
 precedes_within past i j (in_order p l h a b) = event_below past j p l b
-precedes_within past i j (by_message h) = delivers_within past j i h
-
-precedes_old : (e : Entry) (past : List Entry) (i j : ℕ) → j < length past → DirectlyPrecedes (e ∷ past) i j → DirectlyPrecedes past i j
-precedes_old e past i j below (in_order p l h a b) = in_order p l h (event_old e past i p l (omega (arith, below, h)) a) (event_old e past j p l below b)
-precedes_old e past i j below (by_message h) = by_message (delivers_old e past j i below h)
-
--- an event that directly precedes another still does with one more entry
-pub precedes_more : (e : Entry) (past : List Entry) (i j : ℕ) → DirectlyPrecedes past i j → DirectlyPrecedes (e ∷ past) i j
-precedes_more e past i j (in_order p l h a b) = in_order p l h (inl a) (inl b)
-precedes_more e past i j (by_message h) = by_message (inl h)
+precedes_within past i j (by_message h) = delivers_below past j i h
 
 -- an event that precedes the next entry directly precedes it, once it is there
 pub next_preceded : (e : Entry) (past : List Entry) (j : ℕ) → PrecedesNext e past j → DirectlyPrecedes (e ∷ past) j (length past)
@@ -84,7 +58,7 @@ precedes_newest e past i j k m n forward here c (in_order p l h a (inl b)) is = 
 precedes_newest e past i j k m n forward here c (in_order p l h a (inr b)) is =
     let below : j < length past = omega (arith, h, here) in
     through j m (inl (p, b.1, subst (λ x. IsEventOf past j p x) (sym b.2) (event_old e past j p l below a))) (comes_old e past i j m forward below c) is
-precedes_newest e past i j k m n forward here c (by_message (inl h)) is = absurd (omega (arith, delivers_within past k j h, here))
+precedes_newest e past i j k m n forward here c (by_message (inl h)) is = absurd (omega (arith, delivers_below past k j h, here))
 precedes_newest e past i j k m n forward here c (by_message (inr h)) is =
     let below : j < length past = omega (arith, forward k j (inr h), here) in
     through j m (inr h.1) (comes_old e past i j m forward below c) is

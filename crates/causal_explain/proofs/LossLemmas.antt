@@ -11,6 +11,7 @@ use Rattle.causal_trace.proofs.Lemmas.AtInstants.{instants_stay, last_instant, o
 use Rattle.causal_explain.specs.Inside.Losing.{lost_by}
 use Rattle.causal_explain.specs.ProcessFacts.{HoldsSince, IsLoss, Loses}
 use Rattle.causal_facts.specs.declared.process_fact.Loss.{Loss}
+use Rattle.causal_trace.proofs.Lemmas.EntryFacts.{not_false}
 
 -- the entry at a position, and the instants before and after it
 next_instant : (past : List Entry) (s : ℕ) → s < length past → (e : Entry) × (entry_at past s ≡ Some e) × (instant past (s + 1) ≡ e ∷ instant past s)
@@ -49,10 +50,6 @@ loses (Crash who) past p d held gone = (refl, sym (eqb-true who.0 p (taken (logs
 loses (Forget who listed) past p d held gone =
     let lists = and_parts (who.0 == p) (list_has listed d) (taken (logs past p d) (who.0 == p && list_has listed d) held gone) in
     (refl, sym (eqb-true who.0 p lists.0), lists.1)
-
-not_false : (b : Bool) → not b ≡ false → b ≡ true
-not_false true h = refl
-not_false false h = sym h
 
 not_true : (b : Bool) → not b ≡ true → b ≡ false
 not_true true h = sym h

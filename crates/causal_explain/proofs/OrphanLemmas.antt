@@ -1,18 +1,9 @@
 -- What an orphan at an instant implies for the run.
-use Rattle.std.proofs.Common.{ℕ, ◌≡◌, ◌<◌, ◌≤◌, List, [], ◌∷◌, ◌++◌, length, Some, refl, sym, subst, ◌∙◌, arith}
-use Rattle.causal_name.specs.declared.Det.{Det}
+use Rattle.std.proofs.Common.{ℕ, List, [], ◌∷◌, ◌++◌, refl, sym, subst}
 use Rattle.causal_trace.specs.declared.entry.Entry.{Entry}
 use Rattle.causal_trace.specs.Laws.{IsPath}
 use Rattle.causal_trace.specs.Dependence.{IsEventOf, DirectlyPrecedes, Reaches, itself, onward, Depends}
-use Rattle.causal_trace.specs.Past.{instant, det_at}
-use Rattle.causal_trace.proofs.Lemmas.AtInstants.{det_then, det_within, instant_length}
 use Rattle.causal_explain.specs.Chains.{IsChain}
-
--- a delivery of an instant is one of the run
-pub delivered_in : (past : List Entry) (t k : ℕ) (d : Det) → t ≤ length past → det_at (instant past t) k ≡ Some d → det_at past k ≡ Some d
-delivered_in past t k d within at =
-    let early : k < t = omega (arith, det_within (instant past t) k d at, instant_length past t within) in
-    sym (det_then past t k early within) ∙ at
 
 -- a path with one more step
 path_more : (past : List Entry) (i j k : ℕ) (over : List ℕ) → IsPath past i over j → DirectlyPrecedes past j k → IsPath past i (over ++ k ∷ []) k

@@ -16,11 +16,11 @@ use Rattle.causal_trace.specs.State.{past_at}
 use Rattle.causal_trace.proofs.Lemmas.AtInstants.{at_instant}
 use Rattle.causal_trace.proofs.Lemmas.Instants.{instant_past}
 use Rattle.causal_trace.specs.Dependence.{AreForward, actor, DirectlyPrecedes, IsEventOf}
-use Rattle.causal_trace.proofs.Lemmas.DependenceSteps.{event_below, event_lane}
+use Rattle.causal_trace.proofs.Lemmas.DependenceSteps.{event_below, event_lane, precedes_more}
 use Rattle.causal_explain.specs.declared.paths.ReachedEvent.{ReachedEvent}
 use Rattle.causal_explain.specs.declared.paths.PathStep.{PathStep}
 use Rattle.causal_explain.specs.Inside.ShortestPaths.{AreNearest, ArePathSteps, HasPath, at_once, onward, IsLeastDistance, IsPathStep, Nearest, PrecedesNext, IsPathStepOf, closer_event}
-use Rattle.causal_explain.proofs.ComingLemmas.{comes_more, comes_old, comes_within, comes_few, comes_newest, next_preceded, precedes_more, ComesNewest, is_newest, through}
+use Rattle.causal_explain.proofs.ComingLemmas.{comes_more, comes_old, comes_within, comes_few, comes_newest, next_preceded, ComesNewest, is_newest, through}
 
 module _ (past : List Entry) (i : ℕ) (A B C : ℕ → Type 0) (either : (k : ℕ) → C k → A k ⊎ B k) (one : (k : ℕ) → A k → C k) (other : (k : ℕ) → B k → C k) where
   -- the closer one of the nearest of two kinds is the nearest of both

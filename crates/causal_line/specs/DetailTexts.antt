@@ -1,15 +1,12 @@
 -- The error message with values.
-use Rattle.std.specs.Prelude.{ℕ, ◌+◌, List, ◌++◌, Option, Some, None, codes, decimal}
+use Rattle.std.specs.Prelude.{ℕ, List, ◌++◌, Option, Some, None, codes, decimal}
 use Rattle.causal_name.specs.declared.Det.{Det}
 use Rattle.causal_name.specs.declared.MsgName.{MsgName}
 use Rattle.causal_line.specs.declared.kind.TextFault.{TextFault}
 use Rattle.causal_line.specs.Sentences.{kind_sentence}
 use Rattle.causal_line.specs.declared.fault_details.FaultDetail.{FaultDetail}
+use Rattle.causal_trace.specs.Past.{line_at}
 use Rattle.causal_line.specs.declared.fault_details.FaultDetail.TheVariants as detail
-
--- the line of the entry at a position; the header is line 1
-abbrev pub line_at : ℕ → ℕ
-line_at position = position + 2
 
 -- a message that begins with its line number
 abbrev pub line_prefix : ℕ → List ℕ → List ℕ

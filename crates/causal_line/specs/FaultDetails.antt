@@ -5,7 +5,7 @@ use Rattle.causal_name.specs.declared.Det.{Det}
 use Rattle.causal_name.specs.declared.Pid.{Pid}
 use Rattle.causal_trace.specs.declared.entry.Entry.{Entry}
 use Rattle.causal_trace.specs.declared.entry.Entry.TheVariants as entry
-use Rattle.causal_trace.specs.Past.{sends, deliveries, is_sent_to, message_at, det_of, det_at, is_det}
+use Rattle.causal_trace.specs.Past.{sends, deliveries, is_sent_to, message_at, det_of, det_at, is_det, mentioned_dets}
 use Rattle.causal_trace.specs.Rows.{Recording}
 use Rattle.causal_line.specs.declared.kind.TextKind.{TextKind}
 use Rattle.causal_line.specs.declared.kind.TextKind.TheVariants as kind
@@ -13,7 +13,7 @@ use Rattle.causal_line.specs.declared.parsed_line.ParsedLine.{ParsedLine}
 use Rattle.causal_line.specs.declared.parsed_line.ParsedLine.TheVariants as parsed
 use Rattle.causal_line.specs.declared.fault_details.FaultDetail.{FaultDetail}
 use Rattle.causal_line.specs.declared.fault_details.FaultDetail.TheVariants as detail
-use Rattle.causal_line.specs.Deliveries.{delivery_position, mentioned_dets}
+use Rattle.causal_line.specs.Deliveries.{delivery_position}
 
 -- the error kind that the values explain
 abbrev pub kind_of_detail : FaultDetail → TextKind

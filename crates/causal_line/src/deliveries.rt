@@ -4,16 +4,14 @@ ghost use Rattle.std.specs.List.{Contains};
 ghost use Rattle.std.specs.BTreeSet.{contains};
 ghost use Rattle.causal_name.specs.declared.Det.{Det};
 ghost use Rattle.causal_name.specs.Names.{det_cmp};
-ghost use Rattle.causal_trace.specs.Past.{det_at, det_of, is_det};
-ghost use Rattle.causal_line.specs.Deliveries.{mentioned_dets};
+ghost use Rattle.causal_trace.specs.Past.{det_at, det_of, is_det, mentioned_dets};
 ghost use Rattle.causal_line.specs.FaultDetails.{IsUndelivered};
 
 use causal_name::{Det, NoMemory};
-use causal_trace::entry::Entry;
+use causal_trace::entry::{Entry, is_det};
 use causal_trace::trace::Trace;
 use std::alloc::Global;
 use std::collections::BTreeSet;
-use std::slice;
 
 /// Returns the first determinant that the entry mentions and that neither a delivery so far nor the entry itself has.
 /// O((entries + listed determinants) * log deliveries) time, O(deliveries) memory.
@@ -30,7 +28,7 @@ pub(crate) fn find_undelivered(
 {
     let delivered = delivered_dets(alloc, trace)?;
     let own = own_det(trace, entry);
-    for det in mentioned_dets(entry) {
+    for det in entry.mentioned_dets() {
         if !is_det(own, *det) && !delivered.contains(det) {
             return Ok(Some(*det));
         }
@@ -50,30 +48,6 @@ fn delivered_dets(alloc: Global, trace: &Trace) -> Result<BTreeSet<Det, Global>,
         }
     }
     Ok(delivered)
-}
-
-/// Checks whether an optional determinant is `det`.
-pub fn is_det(own: Option<Det>, det: Det) -> bool
-    ensures { result ≡ is_det own det }
-{
-    match own {
-        Some(own) => own == det,
-        None => false,
-    }
-}
-
-/// Returns the determinants that an entry mentions.
-pub fn mentioned_dets(entry: &Entry) -> &[Det]
-    ensures { result.now ≡ mentioned_dets entry.now }
-{
-    match entry {
-        Entry::Stable { det } => slice::from_ref(det),
-        Entry::Deliver { listed, .. } => listed.as_slice(),
-        Entry::Restart { listed, .. } => listed.as_slice(),
-        Entry::Forget { listed, .. } => listed.as_slice(),
-        Entry::Send { .. } => &[],
-        Entry::Crash { .. } => &[],
-    }
 }
 
 /// Returns the entry's own determinant if it is a delivery of a recorded send.

@@ -6,6 +6,7 @@ ghost use Rattle.causal_line.specs.DetailTexts as texts;
 use crate::fault_details::FaultDetail;
 use crate::kind::TextFault;
 use causal_name::{Det, MsgName, NoMemory, Pid};
+use causal_trace::entry::line_at;
 use std::alloc::Global;
 
 /// Returns the error message of a faulty line: the wrong number and the correct one, or the send, delivery or
@@ -79,8 +80,7 @@ fn no_send_text(alloc: Global, line: u32, position: u32, process: Pid) -> Result
     ensures { IfOk result (λ text. string_bytes text ≡ texts.no_send_text line position process.0) }
 {
     let p = process.0;
-    // the line of the entry at that position
-    let sent = position as u64 + 2;
+    let sent = line_at(position);
     Ok(format!(in alloc;
         "line {line}: there is no earlier send to process {p} at position {position}, which is line {sent}"
     )?)
@@ -98,7 +98,7 @@ fn duplicate_text(
 {
     let p = process.0;
     let (source, ssn) = (message.source.0, message.ssn);
-    let earlier = position as u64 + 2;
+    let earlier = line_at(position);
     Ok(format!(in alloc;
         "line {line}: process {p} has delivered message {ssn} of process {source} already, at line {earlier}"
     )?)

@@ -1,9 +1,8 @@
 -- The set of the processes without a header.
-use Rattle.std.proofs.Common.{ℕ, ◌≡◌, ◌+◌, ◌<◌, ◌≤◌, ◌∙◌, Bool, true, false, List, Some, None, inl, inr, ap, sym, arith}
-use Rattle.std.specs.Prelude.{◌||◌, ◌==◌, not, slice_index_or}
+use Rattle.std.proofs.Common.{ℕ, ◌≡◌, ◌<◌, ◌≤◌, ◌∙◌, true, false, List, Some, None, inl, inr, ap, sym, arith}
+use Rattle.std.specs.Prelude.{not, slice_index_or}
 use Rattle.std.specs.Ordering.{nat_cmp}
-use Rattle.std.specs.Cmp.{nat_cmp_total, unsigned_tied}
-use Rattle.std.specs.FinSet.{FinSet, empty, insert, contains, contains-empty, contains-insert}
+use Rattle.std.specs.FinSet.{FinSet, empty, contains, contains-empty}
 use Rattle.std.proofs.lemmas.Bool.{false≢true, true_from_ne_false, false_from_ne_true}
 use Rattle.causal_holders.specs.Members.{HasMembers}
 use Rattle.causal_merge.specs.declared.event.RunHeader.{RunHeader}
@@ -11,22 +10,7 @@ use Rattle.causal_merge.specs.declared.event.RecorderLine.{RecorderLine}
 use Rattle.causal_merge.specs.declared.parsed_files.ParsedFiles.{ParsedFiles}
 use Rattle.causal_merge.specs.ReadLines.{has_header, HasAllHeaders, LacksHeader}
 use Rattle.causal_merge.specs.ParsedFiles.{AreParsedFiles}
-
-contains_more : (s : FinSet nat_cmp) (n q : ℕ) → contains (insert s n) q ≡ (q == n || contains s q)
-contains_more s n q = contains-insert nat_cmp_total s n q ∙ ap (λ t. t || contains s q) (unsigned_tied q n)
-
-module _ (n : ℕ) (s : FinSet nat_cmp) (test : ℕ → Bool) (m : HasMembers n s test) where
-  -- a process that passes is inserted
-  pub one_in : test n ≡ true → HasMembers (n + 1) (insert s n) test
-  one_in is = grind (arith, contains_more)
-
-  -- a process that does not pass is left out
-  pub one_out : test n ≡ false → HasMembers (n + 1) s test
-  one_out is = grind arith
-
--- of no processes none is missing
-pub none_in : (s : FinSet nat_cmp) (test : ℕ → Bool) → s ≡ empty → HasMembers 0 s test
-none_in s test is = grind (arith, contains-empty)
+use Rattle.causal_holders.proofs.Lemmas.MemberCounts.{none_in, one_in, one_out}
 
 pub ruleset of_missing = (none_in, one_in, one_out)
 

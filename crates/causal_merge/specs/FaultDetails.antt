@@ -5,8 +5,7 @@ use Rattle.std.specs.List.{find}
 use Rattle.causal_name.specs.declared.Det.{Det}
 use Rattle.causal_trace.specs.declared.entry.Entry.{Entry}
 use Rattle.causal_trace.specs.declared.entry.Entry.TheVariants as entry
-use Rattle.causal_trace.specs.Past.{sends, deliveries, det_of, is_det, is_delivered}
-use Rattle.causal_line.specs.Deliveries.{mentioned_dets}
+use Rattle.causal_trace.specs.Past.{sends, deliveries, det_of, is_det, is_delivered, mentioned_dets}
 use Rattle.causal_line.specs.declared.kind.TextKind.{TextKind}
 use Rattle.causal_line.specs.declared.kind.TextKind.TheVariants.{WrongSsn, NoSend, WrongRsn, Doubled, NoDelivery}
 use Rattle.causal_merge.specs.declared.event.Action.{Action}

@@ -7,10 +7,10 @@ ghost use Rattle.causal_merge.specs.FaultDetails as details;
 
 use crate::sends::SendName;
 use causal_line::counts::{deliveries, sends};
-use causal_line::deliveries::{is_det, mentioned_dets, own_det};
+use causal_line::deliveries::own_det;
 use causal_line::kind::TextKind;
 use causal_name::{Det, MsgName, Pid};
-use causal_trace::entry::Entry;
+use causal_trace::entry::{Entry, is_det};
 use causal_trace::trace::Trace;
 
 /// The values that explain an error of an event.
@@ -101,7 +101,7 @@ fn again_detail(entry: &Entry, name: Option<SendName>) -> Option<MergeDetail>
 fn undelivered_detail(trace: &Trace, entry: &Entry) -> Option<MergeDetail>
     ensures { result ≡ details.undelivered_detail trace.now.recording.past entry.now }
 {
-    let det = first_undelivered(trace, own_det(trace, entry), mentioned_dets(entry))?;
+    let det = first_undelivered(trace, own_det(trace, entry), entry.mentioned_dets())?;
     Some(MergeDetail::Undelivered { det: *det })
 }
 

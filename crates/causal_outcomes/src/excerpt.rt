@@ -15,7 +15,7 @@ const MAX_SHOWN: usize = 80;
 pub(crate) fn line_excerpt(alloc: Global, text: &[u8], line: u32) -> Result<Vec<u8>, AllocError>
     ensures { IfOk result (λ bytes. bytes.items ≡ excerpt text.now line) }
 {
-    let here = without_line_feed(line_at(text, line.saturating_sub(1)));
+    let here = without_line_feed(line_after(text, line.saturating_sub(1)));
     let mut bytes = Vec::new(alloc);
     bytes.extend_from_slice(shown_part(here))?;
     Ok(bytes)
@@ -31,7 +31,7 @@ fn shown_part(line: &[u8]) -> &[u8]
 }
 
 /// Returns the line after so many lines, with its line feed if it has one; empty if there is none.
-fn line_at(text: &[u8], before: u32) -> &[u8]
+fn line_after(text: &[u8], before: u32) -> &[u8]
     ensures { result.now ≡ first_line (drop before (lines text.now)) }
 {
     match split_line(after_lines(text, before)) {

@@ -1,5 +1,5 @@
 -- The SVG text of a picture: an element for each part of the drawing, in its order.
-use Rattle.std.specs.Prelude.{◌≡◌, ℕ, ◌+◌, ◌==◌, false, List, [], ◌∷◌, ◌++◌, codes, decimal, Option, Some, None}
+use Rattle.std.specs.Prelude.{◌≡◌, ℕ, ◌==◌, false, List, [], ◌∷◌, ◌++◌, codes, decimal, Option, Some, None}
 use Rattle.std.specs.List.{list_any}
 use Rattle.std.specs.Option.{option_map_or}
 use Rattle.causal_trace.specs.Rows.{Recording}
@@ -8,10 +8,7 @@ use Rattle.causal_picture.specs.declared.part.Part.{Part}
 use Rattle.causal_picture.specs.declared.part.Part.TheVariants.{Row, Up, Event, Held, Chain, Instant, HiddenEntries, HiddenProcesses}
 use Rattle.causal_picture.specs.declared.selection.Selection.{Selection}
 use Rattle.causal_picture.specs.Drawings.{drawing}
-
--- the line of the trace's text for the entry at a position; lines count from 1, and line 1 is the header
-abbrev pub line_at : ℕ → ℕ
-line_at position = position + 2
+use Rattle.causal_trace.specs.Past.{line_at}
 
 -- the start of the title of the entry at a position
 abbrev pub line_title : ℕ → List ℕ

@@ -5,7 +5,7 @@ ghost use Rattle.causal_picture.specs.Pictures as pictures;
 ghost use Rattle.causal_picture.specs.Writes.{Adds, Extends};
 
 use crate::focus::Focus;
-use crate::titles::line_at;
+use causal_trace::entry::line_at;
 use std::alloc::AllocError;
 
 /// The word of the verdict. Without a focus the run is safe; without an orphan too many processes are down.

@@ -9,9 +9,9 @@ use crate::event::push_event;
 use crate::frame::{push_cut, push_hidden, push_row, push_up_line};
 use crate::overlay::{push_band, push_chain, push_instant};
 use crate::part::Part;
-use crate::titles::line_at;
 use crate::words::push_words;
 use causal_trace::Trace;
+use causal_trace::entry::line_at;
 use std::alloc::AllocError;
 
 /// The attributes of a part's group: an event whose message is sent again is faint, and the chain receives no pointer

@@ -6,10 +6,11 @@ use crate::glyphs::{Label, glyph_of, push_bent, push_glyph, push_label, push_str
 use crate::layout::{column_width, line_end, x_of, y_of};
 use crate::marks::{Mark, MarkEvent};
 use crate::part::Link;
-use crate::titles::{line_at, push_title};
+use crate::titles::push_title;
 use crate::words::push_words;
 use causal_name::Det;
 use causal_trace::Trace;
+use causal_trace::entry::line_at;
 use std::alloc::AllocError;
 
 /// Appends the arrow of a delivery, from the send entry; if that is hidden, from the cut.

@@ -11,8 +11,8 @@ use crate::layout::{
 };
 use crate::part::{End, Side};
 use crate::rows::{hidden_of, rows_of};
-use crate::titles::line_at;
 use crate::words::push_words;
+use causal_trace::entry::line_at;
 use std::alloc::AllocError;
 
 /// Appends the number of shown processes: `All 3`, `2 of 3`.

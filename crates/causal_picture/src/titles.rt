@@ -1,7 +1,5 @@
 //! The titles of the events, for tooltips and screen readers.
-ghost use Rattle.std.specs.Prelude.{◌≡◌};
 ghost use Rattle.causal_picture.specs.Writes.{Extends};
-ghost use Rattle.causal_picture.specs.Pictures as pictures;
 
 use crate::marks::{Mark, MarkEvent};
 use crate::words::push_words;
@@ -129,11 +127,4 @@ pub fn push_title(out: &mut String, trace: &Trace, mark: &Mark) -> Result<(), Al
     push_event(out, mark.event)?;
     push_list(out, trace, mark.position)?;
     push_words(out, "</title>\n")
-}
-
-/// The line of the trace's text for the entry at a position. Lines count from 1; line 1 is the header.
-pub fn line_at(position: u32) -> u64
-    ensures { result ≡ pictures.line_at position }
-{
-    u64::from(position) + 2
 }

@@ -10,7 +10,7 @@ use Rattle.causal_protocol.specs.Memory.{SentMessage, Memories, present_at, new_
 use Rattle.causal_protocol.specs.Run.{Run, memories}
 use Rattle.causal_protocol.specs.MemoryQueries.{log_at, messages, has_entry, log_knows_holder, log_knows_stable, parcel_of, volatile_of}
 use Rattle.causal_protocol.specs.Runs.{IsInvariantState, SatisfiesInvariant, HaveBegunBelow, IsReachable, opened, stepped, StartSatisfiesInvariant}
-use Rattle.causal_protocol.proofs.LearnedLogs.{none_entry, none_holds, none_stable}
+use Rattle.causal_protocol.proofs.Lemmas.LogMembers.{none_entry, none_holds, none_stable}
 use Rattle.causal_protocol.proofs.StepKeeps.{IsKept, are_sends_kept, steps_keep_runs}
 
 abbrev beginners : ℕ → Memories

@@ -1,9 +1,7 @@
 -- Members of the lists that are made from logs.
-use Rattle.std.proofs.Common.{ℕ, ◌≡◌, ◌<◌, Bool, true, cond, not, ◌&&◌, ◌||◌, List, [], ◌∷◌, find, Option, Some, None, is_some, unwrap_or, refl, sym, ap, ◌∙◌, arith, true≢false}
+use Rattle.std.proofs.Common.{ℕ, ◌≡◌, ◌<◌, Bool, true, cond, not, ◌&&◌, List, [], ◌∷◌, find, Option, Some, None, is_some, unwrap_or, refl, sym, ap, ◌∙◌, arith, true≢false}
 use Rattle.std.specs.Prelude.{◌⊎◌}
 use Rattle.std.specs.Option.{option_map}
-use Rattle.std.specs.declared.cmp.Ordering.{Ordering}
-use Rattle.std.specs.declared.cmp.Ordering.TheVariants.{Less, Equal, Greater}
 use Rattle.std.specs.FinMap as fin
 use Rattle.std.specs.FinSet as set
 use Rattle.std.proofs.lemmas.Bool.{false≢true, both_ways, or_cases, and_parts, not_from_false}
@@ -15,14 +13,12 @@ use Rattle.causal_trace.specs.declared.entry.Entry.{Entry}
 use Rattle.causal_trace.specs.declared.entry.Entry.TheVariants.{Send, Deliver, Stable, Crash, Restart, Forget}
 use Rattle.causal_trace.specs.Past.{list_has, is_stable}
 use Rattle.causal_log.specs.declared.known.Known.{Known}
-use Rattle.causal_log.specs.declared.batch.Item.{Item}
 use Rattle.causal_log.specs.Knowledge.{unknown, is_carried, as_stable}
-use Rattle.causal_log.specs.Logs.{LogMap, known_of, item_of, is_in_batch, batch_items, stable_in, after_mark, mark, dets_of, unstable_in}
+use Rattle.causal_log.specs.Logs.{LogMap, known_of, item_of, is_in_batch, batch_items, stable_in, after_mark, mark, unstable_in}
 use Rattle.causal_log.specs.Stores as store
 use Rattle.causal_log.proofs.Lemmas.MessageItems.{carried, swap_first}
-use Rattle.causal_log.proofs.Lemmas.Searches.{any_map, any_kept, any_logged, passes}
+use Rattle.causal_log.proofs.Lemmas.Searches.{any_kept, any_logged, passes}
 use Rattle.causal_protocol.specs.Gathering.{stable_set, without_dets}
-use Rattle.causal_protocol.specs.Naming.{with_own, match_ordering}
 use Rattle.causal_protocol.specs.MemoryQueries.{has_entry, log_knows_holder, log_knows_stable, has_item, item_holder}
 
 swap : (a b : Bool) → (a && b) ≡ (b && a)
@@ -125,21 +121,6 @@ stable_has (Deliver to send rsn listed ∷ past) d = stable_has past d
 stable_has (Crash who ∷ past) d = stable_has past d
 stable_has (Restart who listed ∷ past) d = stable_has past d
 stable_has (Forget who listed ∷ past) d = stable_has past d
-
--- membership after one more determinant is inserted
-pub own_have : (own : Det) (ds : List Det) (d : Det) → list_has (with_own own ds) d ≡ (same_det d own || list_has ds d)
-unfolding with_own
-own_have own [] d = refl
-own_have own (x ∷ ds) d = by (det_cmp own x) refl (own_have own ds d)
-  where
-    by : (o : Ordering) → det_cmp own x ≡ o → list_has (with_own own ds) d ≡ (same_det d own || list_has ds d) → list_has (match_ordering o (own ∷ x ∷ ds) (x ∷ ds) (x ∷ with_own own ds)) d ≡ (same_det d own || (same_det d x || list_has ds d))
-    by Less is rest = refl
-    by Equal is rest = grind (arith, exact_dets own x is)
-    by Greater is rest = grind arith
-
--- membership in the determinants of items
-pub items_have : (items : List Item) (d : Det) → list_has (dets_of items) d ≡ has_item d items
-items_have items d = any_map (λ item. item.det) (same_det d) (λ item. same_det d item.det) (λ x. refl) items
 
 -- what a search returns is in the list and passes the test
 pub first_passes : (p : Det → Bool) (ds : List Det) (d : Det) → find p ds ≡ Some d → (p d ≡ true) × (list_has ds d ≡ true)

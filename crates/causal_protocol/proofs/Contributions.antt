@@ -19,6 +19,7 @@ use Rattle.causal_protocol.specs.Run.{Run, memories, memories_of, stable_of, aft
 use Rattle.causal_protocol.specs.MemoryQueries.{log_at, log_knows_holder, log_knows_stable}
 use Rattle.causal_protocol.specs.Contributions.{ContributesHolder, ContributesMark, HoldersAreContributed, IsContributed, MarksAreContributed, erases_knowledge, run_before, writers_before}
 use Rattle.causal_protocol.proofs.Places.{log_here, set_other}
+use Rattle.causal_protocol.proofs.Lemmas.LogMembers.{none_holds, none_stable}
 use Rattle.causal_protocol.proofs.LearnedLogs
 use Rattle.causal_protocol.proofs.Choices
 
@@ -185,7 +186,7 @@ module _ (p : ℕ) (d : Det) (tells : LogMap → Bool) (Gives : Run → Option P
 
 -- the facts for holders
 holder_facts : (p : ℕ) (d : Det) (q : ℕ) → Facts p d (log_knows_holder d q) (ContributesHolder p d q)
-holder_facts p d q = grind (arith, steady, LearnedLogs.none_holds, LearnedLogs.told_holders_of, Choices.marked_holder, Choices.without_holder)
+holder_facts p d q = grind (arith, steady, none_holds, LearnedLogs.told_holders_of, Choices.marked_holder, Choices.without_holder)
 
 -- an up process knows exactly the holders that its present lane contributed
 pub holders_are_contributed : HoldersAreContributed
@@ -197,7 +198,7 @@ holders_are_contributed r p d q up = (
 -- the facts for marks
 mark_facts : (p : ℕ) (d : Det) → Facts p d (log_knows_stable d) (ContributesMark p d)
 mark_facts p d = record {
-  lacks = LearnedLogs.none_stable d;
+  lacks = none_stable d;
   sent = λ r by from to ssn g. g;
   crashed = λ r by who g. g;
   forgot = λ r by who listed g. g;

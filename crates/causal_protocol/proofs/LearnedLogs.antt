@@ -1,5 +1,5 @@
 -- What logs have after a delivery, after a union, and after a restart.
-use Rattle.std.proofs.Common.{ℕ, zero, suc, ◌≡◌, ◌<◌, inl, inr, Bool, true, false, ◌&&◌, ◌||◌, List, [], ◌∷◌, map, length, Option, Some, None, is_some, unwrap_or, refl, sym, ap, ◌∙◌, arith}
+use Rattle.std.proofs.Common.{ℕ, zero, suc, ◌≡◌, ◌<◌, inl, inr, Bool, true, false, ◌&&◌, ◌||◌, List, [], ◌∷◌, map, length, Some, None, refl, sym, ap, ◌∙◌, arith}
 use Rattle.std.specs.Prelude.{◌==◌, ◌⊎◌}
 use Rattle.std.specs.List.{list_any}
 use Rattle.std.specs.Cmp.{nat_cmp_total}
@@ -9,37 +9,22 @@ use Rattle.std.specs.FinSet as set
 use Rattle.std.proofs.lemmas.Bool.{false≢true, both_ways, or_cases, or_left, or_right, and_parts, eqb-true, eq-eqb}
 use Rattle.causal_name.specs.declared.Pid.{Pid}
 use Rattle.causal_name.specs.declared.Det.{Det}
-use Rattle.causal_name.specs.Names.{det_cmp, same_det}
+use Rattle.causal_name.specs.Names.{same_det}
 use Rattle.causal_name.proofs.Lemmas.DetOrder.{det_ties, same_is, same_itself, nat_ties}
 use Rattle.causal_trace.specs.Past.{list_has}
 use Rattle.causal_log.specs.declared.known.Known.{Known}
 use Rattle.causal_log.specs.declared.batch.Item.{Item}
-use Rattle.causal_log.specs.Knowledge.{unknown, held_by, stable_and_held_by, union_with, knowledge_from_item}
+use Rattle.causal_log.specs.Knowledge.{held_by, stable_and_held_by, union_with, knowledge_from_item}
 use Rattle.causal_log.specs.Logs.{LogMap, known_of, after_learn, after_learn_all, after_absorb, after_union}
 use Rattle.causal_log.specs.Stores.{DetSet, dets_in}
 use Rattle.causal_log.specs.Stores as store
-use Rattle.causal_log.proofs.Lemmas.KnowledgeGrows.{logged_all, known_all, holds_either, stable_either, told_dets, told_holders, told_stable}
-use Rattle.causal_log.proofs.Lemmas.Searches.{any_map, any_logged, any_dets, passes}
+use Rattle.causal_log.proofs.Lemmas.KnowledgeGrows.{logged_all, known_all, holds_either, stable_either, told_dets, told_holders, told_stable, known_passes}
+use Rattle.causal_log.proofs.Lemmas.Searches.{any_map, any_logged, any_dets}
 use Rattle.causal_protocol.specs.Memory.{Memories, log_after_delivery}
 use Rattle.causal_protocol.specs.Gathering.{with_logs_of, with_held, with_stored, union_of_logs, restart_log}
 use Rattle.causal_protocol.specs.Contributions.{MessageImpliesHolder}
 use Rattle.causal_protocol.specs.MemoryQueries.{log_at, has_entry, log_knows_holder, log_knows_stable, memory_logs, knows_holder, knows_stable, has_item, item_holder}
-
--- an empty log knows no holders
-pub none_holds : (d : Det) (q : ℕ) → log_knows_holder d q fin.empty ≡ false
-none_holds d q = ap (λ o. set.contains (unwrap_or o unknown).holders q) (fin.get-empty det_cmp d) ∙ set.contains-empty nat_cmp q
-
--- an empty log knows nothing to be stable
-pub none_stable : (d : Det) → log_knows_stable d fin.empty ≡ false
-none_stable d = ap (λ o. (unwrap_or o unknown).stable) (fin.get-empty det_cmp d)
-
--- an empty log has no determinant
-pub none_entry : (d : Det) → has_entry d fin.empty ≡ false
-none_entry d = ap is_some (fin.get-empty det_cmp d)
-
--- a determinant with a known holder is logged
-pub entry_of_holder : (log : LogMap) (d : Det) (q : ℕ) → log_knows_holder d q log ≡ true → has_entry d log ≡ true
-entry_of_holder log d q h = grind (arith, both_ways, set.contains-empty)
+use Rattle.causal_protocol.proofs.Lemmas.LogMembers.{none_holds, none_stable, none_entry, entry_of_holder}
 
 -- a determinant that is known to be stable is logged
 pub entry_of_mark : (log : LogMap) (d : Det) → log_knows_stable d log ≡ true → has_entry d log ≡ true
@@ -176,9 +161,6 @@ module _ (tells : LogMap → Bool) (either : (log other : LogMap) → tells (aft
 -- the three properties
 pub entry_either : (d : Det) (log other : LogMap) → has_entry d (after_union log other) ≡ (has_entry d log || has_entry d other)
 entry_either d log other = logged_all (fin.entries other) log d ∙ ap (λ b. has_entry d log || b) (any_dets d other)
-
-known_passes : (P : Known → Bool) → P unknown ≡ false → (o : Option Known) → passes P o ≡ P (unwrap_or o unknown)
-known_passes P lacks o = grind arith
 
 pub holder_either : (d : Det) (q : ℕ) (log other : LogMap) → log_knows_holder d q (after_union log other) ≡ (log_knows_holder d q log || log_knows_holder d q other)
 holder_either d q log other =

@@ -3,3 +3,4 @@ pub mod KeptByType
 pub mod StepAppends
 pub mod StepProps
 pub mod Reasons
+pub mod LogMembers

@@ -32,6 +32,7 @@ use Rattle.causal_protocol.proofs.LearnedLogs
 use Rattle.causal_protocol.proofs.Choices
 use Rattle.causal_protocol.proofs.Sets.{survives_log, survives_stable, survives_found}
 use Rattle.causal_protocol.proofs.Facts.{message_of_parcel, keeps_within, invariant, found_up, senders_have_carried}
+use Rattle.causal_protocol.proofs.Lemmas.LogMembers.{none_holds, none_stable, none_entry, entry_of_holder}
 
 -- a legal step to memories that match its entry leads to a sound state
 next_sound : (n f : ℕ) (e : Entry) (past : List Entry) (ms next : Memories) → IsInvariantState n f past ms → IsStep n f past (volatile_of ms) (e ∷ past) (volatile_of next) → MemoriesMatchEntries n (e ∷ past) next → IsInvariantState n f (e ∷ past) next
@@ -290,8 +291,8 @@ module _ (n f : ℕ) (past : List Entry) (ms : Memories) (who : Pid) (low : who.
   is_crashed : IsCrashStep n f past who.0 (volatile_of ms) (volatile_of left_memories)
   is_crashed = record {
     few = few;
-    holders = λ p d q. lost_one (log_knows_holder d q) (LearnedLogs.none_holds d q) p;
-    new_stable = λ p d h. (and_parts (not (who.0 == p)) (knows_stable ms p d) (sym (lost_one (log_knows_stable d) (LearnedLogs.none_stable d) p) ∙ h)).1;
+    holders = λ p d q. lost_one (log_knows_holder d q) (none_holds d q) p;
+    new_stable = λ p d h. (and_parts (not (who.0 == p)) (knows_stable ms p d) (sym (lost_one (log_knows_stable d) (none_stable d) p) ∙ h)).1;
     nothing_new = none_new ms left_memories lost_kept;
   }
 
@@ -300,7 +301,7 @@ module _ (n f : ℕ) (past : List Entry) (ms : Memories) (who : Pid) (low : who.
     count = length_set ms who.0 None ∙ s.fit.count;
     state = λ p small. grind (arith, set_state ms who.0 None p within, s.fit.state p small);
     placed = λ p ssn x h. message_older (Crash who) past x.send _ (s.fit.placed p ssn x (lost_kept p ssn x h));
-    logged = λ p d small. lost_one (has_entry d) (LearnedLogs.none_entry d) p ∙ ap (λ b. not (who.0 == p) && b) (s.fit.logged p d small);
+    logged = λ p d small. lost_one (has_entry d) (none_entry d) p ∙ ap (λ b. not (who.0 == p) && b) (s.fit.logged p d small);
   }
 
   -- the state after a crash is sound
@@ -345,7 +346,7 @@ module _ (n f : ℕ) (past : List Entry) (ms : Memories) (who : Pid) (listed : L
 
   restarted_as : (p : ℕ) (d : Det) → memory_logs restarted p d ≡ ((who.0 == p && list_has listed d) || memory_logs ms p d)
   restarted_as p d =
-      let empty = nothing_there (has_entry d) (LearnedLogs.none_entry d) p in
+      let empty = nothing_there (has_entry d) (none_entry d) p in
       grind (arith, set_cases ms who.0 (Some (new_memory gathered)) p bound, lists d, empty)
 
   -- whoever has sent what carries d logs it, so the restart lists it
@@ -371,12 +372,12 @@ module _ (n f : ℕ) (past : List Entry) (ms : Memories) (who : Pid) (listed : L
     new_holders = λ p d q h. elim (set_cases ms who.0 (Some (new_memory gathered)) p bound) [
       | inl is ↦
           let knows_it : log_knows_holder d q gathered ≡ true = ap (log_knows_holder d q) (sym is.2) ∙ h in
-          inr (is.1, lists d ∙ LearnedLogs.entry_of_holder gathered d q knows_it, elim (LearnedLogs.gathered_holder ms (stable_set past) who d q knows_it) [ inl me ↦ inl me | inr old ↦ inr (inl (old.0, under n f past ms who s old.0 old.1, old.2)) ])
+          inr (is.1, lists d ∙ entry_of_holder gathered d q knows_it, elim (LearnedLogs.gathered_holder ms (stable_set past) who d q knows_it) [ inl me ↦ inl me | inr old ↦ inr (inl (old.0, under n f past ms who s old.0 old.1, old.2)) ])
       | inr other ↦ inl (ap (log_knows_holder d q) (sym other.1) ∙ h)
     ];
     knows_itself = λ d h. grind (arith, set_cases, bound, LearnedLogs.gathered_itself, lists d);
     keeps_holders = λ p d q h. elim (set_cases ms who.0 (Some (new_memory gathered)) p bound) [
-      | inl is ↦ absurd (both_ways _ (nothing_there (log_knows_holder d q) (LearnedLogs.none_holds d q) p is.1) h)
+      | inl is ↦ absurd (both_ways _ (nothing_there (log_knows_holder d q) (none_holds d q) p is.1) h)
       | inr other ↦ ap (log_knows_holder d q) other.1 ∙ h
     ];
     new_stable = λ p d h. elim (set_cases ms who.0 (Some (new_memory gathered)) p bound) [

@@ -31,7 +31,8 @@ use Rattle.causal_protocol.specs.Invariant.{logs_or_stable}
 use Rattle.causal_protocol.specs.Runs.{IsInvariantState, SatisfiesInvariant, StepsPreserveInvariant, RefusalsChangeNothing, HoldsInState, StepsEstablish}
 use Rattle.causal_protocol.proofs.Places.{at_set, at_within, log_here}
 use Rattle.causal_protocol.proofs.LearnedLogs.{keys_have}
-use Rattle.causal_protocol.proofs.Choices.{own_have, items_have, unstable_logged, stable_have, marked_entry}
+use Rattle.causal_protocol.proofs.Choices.{unstable_logged, stable_have, marked_entry}
+use Rattle.causal_protocol.proofs.Lemmas.LogMembers.{own_have, items_have}
 use Rattle.causal_protocol.proofs.Refusals.{first_none, when_none, not_not, is_there, kept_for-is, kept_message, only_named, down_counted}
 use Rattle.causal_protocol.proofs.SoundSteps.{send_sound, was_sent, delivery_sound, stable_sound, forget_sound, crash_sound, restart_sound}
 

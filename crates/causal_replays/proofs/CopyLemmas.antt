@@ -1,18 +1,14 @@
 -- The copies of determinants, one more entry.
 use Rattle.std.proofs.lemmas.Bool.{or_left, or_right}
-use Rattle.causal_replays.proofs.NumberLemmas.{same_itself}
-use Rattle.std.proofs.Common.{ℕ, zero, suc, ◌≡◌, ◌+◌, ◌<◌, Bool, true, List, [], ◌∷◌, ◌++◌, length, get_or, take, ap, ◌∙◌, arith}
+use Rattle.causal_name.proofs.Lemmas.DetOrder.{same_itself}
+use Rattle.std.proofs.Common.{ℕ, zero, suc, ◌≡◌, ◌+◌, ◌<◌, Bool, true, List, [], ◌∷◌, length, get_or, take, ap, ◌∙◌, arith}
 use Rattle.std.specs.Prelude.{◌&&◌, ◌||◌, not}
 use Rattle.std.proofs.lemmas.Bool.Decides.{nat_tests}
 use Rattle.std.proofs.lemmas.List.{take_more}
 use Rattle.causal_name.specs.declared.Det.{Det}
 use Rattle.causal_name.specs.Names.{same_det}
 use Rattle.causal_trace.specs.Past.{list_has}
-
--- a list with one more determinant
-pub has_more : (dets : List Det) (det d : Det) → list_has (dets ++ det ∷ []) d ≡ (list_has dets d || same_det d det)
-has_more [] det d = grind arith
-has_more (x ∷ dets) det d = grind (arith, has_more dets det d)
+use Rattle.causal_trace.proofs.Lemmas.DeliveredDets.{has_more}
 
 -- one more determinant that a process logs, or forgets
 pub logs_next : (who a b old : Bool) → ((who && b) || ((who && a) || old)) ≡ ((who && (a || b)) || old)

@@ -4,24 +4,13 @@ use Rattle.std.proofs.Common.{ℕ, ◌≡◌, ◌<◌, inl, inr, true, false, co
 use Rattle.std.specs.Prelude.{◌==◌, ◌&&◌, ◌||◌, ◌↔◌, not, Option, Some, None, MatchOption}
 use Rattle.std.specs.Option.{is_some}
 use Rattle.std.specs.Ordering.{nat_cmp}
-use Rattle.std.specs.Cmp.{nat_cmp_total, unsigned_tied}
-use Rattle.std.specs.FinSet.{FinSet, contains, insert, remove, empty, contains-insert, contains-remove, contains-empty}
+use Rattle.std.specs.FinSet.{FinSet, contains, insert, remove, empty, contains-empty}
 use Rattle.std.proofs.lemmas.Bool.Decides.{eqb_tells}
 use Rattle.std.proofs.lemmas.Bool.{cond-true, cond-false, false≢true, cases_lt}
 use Rattle.causal_holders.specs.Members.{IsLeast}
 use Rattle.std.proofs.lemmas.List.{get_or_default, get_or-set_same, get_or-set_other, get_or-replicate, get_or_past, length-replicate}
 use Rattle.causal_replays.specs.Inside.Holdings.{holds}
-
-same_number : (p q : ℕ) → (q == p) ≡ (p == q)
-same_number p q = grind arith
-
--- the members of a set after p is inserted
-pub inserted : (s : FinSet nat_cmp) (p q : ℕ) → contains (insert s p) q ≡ ((p == q) || contains s q)
-inserted s p q = contains-insert nat_cmp_total s p q ∙ ap (λ b. b || contains s q) (unsigned_tied q p ∙ same_number p q)
-
--- the members of a set after p is removed
-pub removed : (s : FinSet nat_cmp) (p q : ℕ) → contains (remove s p) q ≡ (not (p == q) && contains s q)
-removed s p q = contains-remove nat_cmp_total s p q ∙ ap (λ b. not b && contains s q) (unsigned_tied q p ∙ same_number p q)
+use Rattle.causal_holders.proofs.Lemmas.Sets.{inserted, removed}
 
 -- the holders of each number after one set is replaced
 pub holds_set : (holders : List (FinSet nat_cmp)) (j : ℕ) (s : FinSet nat_cmp) (i p : ℕ) → j < length holders → holds (set holders j s) i p ≡ cond (i == j) (contains s p) (holds holders i p)

@@ -11,7 +11,8 @@ use Rattle.causal_replays.specs.declared.copies.CopyTable.{CopyTable}
 use Rattle.causal_replays.specs.Inside.Copies.{number_in, HasCopy}
 use Rattle.causal_replays.specs.Inside.Slots.{slot_number}
 use Rattle.causal_replays.specs.Inside.Rivals.{IsCopied, IsInSlot, AreOfSlots, IsSlotBelow, AreNoted}
-use Rattle.causal_replays.proofs.NumberLemmas.{same_is, same_some}
+use Rattle.causal_replays.proofs.NumberLemmas.{same_some}
+use Rattle.causal_name.proofs.Lemmas.DetOrder.{same_is}
 
 -- fewer determinants are noted too
 pub noted_fewer : (whole : List Entry) (c : CopyTable) (slots : List (Vec (Option ℕ))) (least : Option Slot) (more fewer : Det → Bool) → ((d : Det) → fewer d ≡ true → more d ≡ true) → AreNoted whole c slots least more → AreNoted whole c slots least fewer

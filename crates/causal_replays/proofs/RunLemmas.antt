@@ -1,78 +1,34 @@
 -- What the copies and the slots say of a run.
-use Rattle.std.proofs.Common.{ℕ, ◌≡◌, ◌+◌, ◌<◌, ◌≤◌, inl, inr, Bool, true, false, List, [], ◌∷◌, length, get_or, Option, Some, None, refl, sym, ap, subst, ◌∙◌, arith}
-use Rattle.std.specs.Prelude.{◌==◌, ◌||◌, ◌⊎◌, All}
+use Rattle.std.proofs.Common.{ℕ, ◌≡◌, ◌+◌, ◌<◌, ◌≤◌, inl, inr, Bool, true, false, List, ◌∷◌, length, Option, Some, None, refl, sym, ap, subst, ◌∙◌, arith}
+use Rattle.std.specs.Prelude.{◌||◌, ◌⊎◌, All}
 use Rattle.std.proofs.lemmas.List.Elements.{All-weaker}
 use Rattle.std.specs.Global.{Vec}
 use Rattle.std.specs.Option.{is_some}
-use Rattle.std.proofs.lemmas.Bool.{cases_lt, false≢true, or_cases, ne_eqb, eq-eqb, cond-true}
-use Rattle.std.proofs.lemmas.Bool.Decides.{eqb_tells}
-use Rattle.std.proofs.lemmas.List.{length-reverse}
+use Rattle.std.proofs.lemmas.Bool.{cases_lt, false≢true, or_cases}
 use Rattle.causal_name.specs.declared.Det.{Det}
 use Rattle.causal_name.specs.declared.Slot.{Slot}
 use Rattle.causal_name.specs.Sets.{any_below}
 use Rattle.causal_holders.proofs.Lemmas.MemberCounts.{any_below-found}
 use Rattle.causal_trace.specs.declared.entry.Entry.{Entry}
-use Rattle.causal_trace.specs.Past.{instant, logs, is_stable, is_delivered, is_det, det_of, det_at, deliveries_in, list_has}
+use Rattle.causal_trace.specs.Past.{instant, logs, is_stable, is_delivered, det_at, deliveries_in, list_has, mentioned_dets}
 use Rattle.causal_trace.specs.Rows.{Recording, AreLegalEntries, IsWellFormed, first_fault}
-use Rattle.causal_trace.specs.State.{entries_of, past_at}
 use Rattle.causal_trace.specs.Survivors.{survives, SlotsAreSingle}
-use Rattle.causal_trace.proofs.Lemmas.AtInstants.{accepted_then, instant_length, det_then, det_within, read_instant}
-use Rattle.causal_trace.proofs.Lemmas.Instants.{past_more}
+use Rattle.causal_trace.proofs.Lemmas.AtInstants.{accepted_then, instant_length, det_then, det_within, no_entry}
 use Rattle.causal_trace.proofs.Lemmas.DeliveryNumbers.{delivered_numbered, listed_once}
 use Rattle.causal_replays.specs.Strays.{IsLower, FillsSlot, FirstTwo, LowerAreSingle}
 use Rattle.causal_replays.specs.declared.copies.CopyTable.{CopyTable}
-use Rattle.causal_replays.specs.Inside.Copies.{number_in, is_stored, IsCopyTable, HasNumber, copied_by, mentioned_dets}
+use Rattle.causal_replays.specs.Inside.Copies.{number_in, is_stored, IsCopyTable, HasNumber, copied_by}
 use Rattle.causal_replays.specs.Inside.Holdings.{holds}
 use Rattle.causal_replays.specs.Inside.Rivals.{IsCopied, IsInSlot, HasRivals, AreNoted, IsCopiedAt, AreFirstTwo, HaveTwo}
 use Rattle.causal_replays.specs.Inside.Slots.{slot_number}
-use Rattle.causal_replays.proofs.NumberLemmas.{one_det, is_same, same_is}
-use Rattle.causal_replays.proofs.SurvivorLemmas.{logs_inside, named_delivered, survivor_delivered, logged_survives, stable_survives, survives_step, copied_survives_entry, none_survive}
+use Rattle.causal_replays.proofs.NumberLemmas.{one_det}
+use Rattle.causal_replays.proofs.SurvivorLemmas.{named_delivered, survivor_delivered, logged_survives, stable_survives, survives_step, copied_survives_entry, none_survive}
+use Rattle.causal_trace.proofs.Lemmas.RunProcesses.{logs_inside}
+use Rattle.causal_trace.proofs.Lemmas.DeliveredDets.{found_det, at_delivered}
 
 -- ---- instants
 
-module _ (r : Recording) (es : List Entry) (read : es ≡ entries_of r) where
-  pub how_many : length es ≡ length r.past
-  how_many = ap length read ∙ length-reverse r.past
-
-  state_at : (t : ℕ) → t ≤ length r.past → past_at es t ≡ instant r.past t
-  state_at t within = ap (λ x. past_at x t) read ∙ read_instant r.past t within
-
-  -- the next instant has one more entry
-  pub next_state : (t : ℕ) (e : Entry) → t < length es → e ≡ get_or es t e → instant r.past (t + 1) ≡ e ∷ instant r.past t
-  next_state t e there is =
-      sym (state_at (t + 1) (omega (arith, there, how_many))) ∙ past_more es t e there is ∙ ap (λ p. e ∷ p) (state_at t (omega (arith, there, how_many)))
-
--- the first instant has no entries
-pub no_entry : (past : List Entry) → instant past 0 ≡ []
-no_entry past = sym (read_instant past 0 (omega arith))
-
 -- ---- positions and numbers of survivors
-
-is_told : (own : Option Det) (d : Det) → own ≡ Some d → is_det own d ≡ true
-is_told own d h = subst (λ o. is_det o d ≡ true) (sym h) (is_same d d refl)
-
-newest_det : (e : Entry) (past : List Entry) (d : Det) → is_det (det_of past e) d ≡ true → (o : Option Det) → det_of past e ≡ o → (k : ℕ) × (det_at (e ∷ past) k ≡ Some d)
-newest_det e past d h None is = absurd (false≢true (subst (λ o. is_det o d ≡ true) is h))
-newest_det e past d h (Some x) is =
-    (length past, cond-true (length past == length past) (det_of past e) (det_at past (length past)) (eq-eqb (length past) (length past) refl) ∙ is ∙ ap (λ y. Some y) (same_is x d (subst (λ o. is_det o d ≡ true) is h)))
-
-older_det : (e : Entry) (past : List Entry) (d : Det) → (k : ℕ) × (det_at past k ≡ Some d) → (k : ℕ) × (det_at (e ∷ past) k ≡ Some d)
-older_det e past d h = grind (arith, det_within, ne_eqb)
-
-found_det : (past : List Entry) (d : Det) → is_delivered past d ≡ true → (k : ℕ) × (det_at past k ≡ Some d)
-found_det [] d h = absurd (false≢true h)
-found_det (e ∷ past) d h = elim (or_cases (is_det (det_of past e) d) (is_delivered past d) h) [
-  | inl new ↦ newest_det e past d new (det_of past e) refl
-  | inr old ↦ older_det e past d (found_det past d old)
-]
-
-or_true : (a : Bool) → (a || true) ≡ true
-or_true true = refl
-or_true false = refl
-
-told_det : (past : List Entry) (d : Det) (k : ℕ) → det_at past k ≡ Some d → is_delivered past d ≡ true
-told_det [] d k h = absurd (let e : None ≡ Some d = h in cc)
-told_det (e ∷ past) d k h = grind (arith, eqb_tells, is_told, cond-true, told_det past d k, or_true)
 
 some_value : (o : Option ℕ) → is_some o ≡ true → (i : ℕ) × (o ≡ Some i)
 some_value None h = absurd (false≢true h)
@@ -80,7 +36,7 @@ some_value (Some i) h = (i, refl)
 
 -- each delivered determinant has a number
 pub delivered_number : (whole : List Entry) (d : Det) (k : ℕ) → det_at whole k ≡ Some d → (i : ℕ) × (number_in whole d ≡ Some i)
-delivered_number whole d k at = some_value (number_in whole d) (sym (delivered_numbered (deliveries_in whole) whole d (listed_once whole)) ∙ told_det whole d k at)
+delivered_number whole d k at = some_value (number_in whole d) (sym (delivered_numbered (deliveries_in whole) whole d (listed_once whole)) ∙ at_delivered whole d k at)
 
 module _ (r : Recording) (formed : IsWellFormed r) (t : ℕ) (within : t ≤ length r.past) (c : CopyTable) (are : IsCopyTable r.past (instant r.past t) c) where
   legal : AreLegalEntries r.processes (instant r.past t)
@@ -201,10 +157,6 @@ module _ (r : Recording) (formed : IsWellFormed r) (t : ℕ) (within : t ≤ len
           absurd (differ (same_det_some two.one two.two (sym first.delivered ∙ ap (det_at (instant r.past t)) same ∙ second.delivered)))
 
 -- ---- the next entry
-
--- a property of each instant up to t, and of the next, is one of each up to the next
-pub up_to_next : (P : ℕ → Type 0) (t : ℕ) → ((u : ℕ) → u ≤ t → P u) → P (t + 1) → (u : ℕ) → u ≤ t + 1 → P u
-up_to_next P t before here u h = grind arith
 
 module _ (r : Recording) (formed : IsWellFormed r) (t : ℕ) (e : Entry) (inside : t + 1 ≤ length r.past) (next : instant r.past (t + 1) ≡ e ∷ instant r.past t) where
   legal_entry : first_fault r.processes (instant r.past t) e ≡ None

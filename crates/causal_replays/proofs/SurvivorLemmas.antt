@@ -1,9 +1,9 @@
 -- Which determinants survive, one more entry, and that each is that of a delivery.
-use Rattle.std.proofs.Common.{ℕ, ◌≡◌, ◌<◌, inl, inr, Bool, true, false, List, [], ◌∷◌, None, refl, sym, ap, subst, ◌∙◌, arith}
-use Rattle.std.specs.Prelude.{◌==◌, ◌&&◌, ◌||◌, not, nat_lt, All}
+use Rattle.std.proofs.Common.{ℕ, ◌≡◌, ◌<◌, inl, inr, Bool, true, false, List, [], ◌∷◌, None, refl, sym, subst}
+use Rattle.std.specs.Prelude.{◌==◌, ◌&&◌, ◌||◌, not, All}
 use Rattle.std.proofs.lemmas.List.Elements.{All-nil, All-cons, All-weaker}
 use Rattle.std.specs.List.{list_all}
-use Rattle.std.proofs.lemmas.Bool.{cases_lt, false≢true, le-ltb, or_cases, and_parts, and_from, or_left, or_right, eqb-true, eq-eqb}
+use Rattle.std.proofs.lemmas.Bool.{false≢true, or_cases, and_parts, and_from, or_left, or_right, eq-eqb}
 use Rattle.causal_name.specs.declared.Pid.{Pid}
 use Rattle.causal_name.specs.declared.Det.{Det}
 use Rattle.causal_name.specs.Names.{same_det}
@@ -11,35 +11,16 @@ use Rattle.causal_name.specs.Sets.{any_below}
 use Rattle.causal_holders.proofs.Lemmas.MemberCounts.{any_below-found, any_below-from}
 use Rattle.causal_trace.specs.declared.entry.Entry.{Entry}
 use Rattle.causal_trace.specs.declared.entry.Entry.TheVariants.{Send, Deliver, Stable, Crash, Restart, Forget}
-use Rattle.causal_trace.specs.declared.fault.TraceFault.TheVariants.{NoProcess, NoDelivery}
-use Rattle.causal_trace.specs.Past.{logs, is_stable, is_delivered, is_det, det_of, list_has}
+use Rattle.causal_trace.specs.declared.fault.TraceFault.TheVariants.{NoDelivery}
+use Rattle.causal_trace.specs.Past.{logs, is_stable, is_delivered, is_det, det_of, list_has, mentioned_dets}
 use Rattle.causal_trace.specs.Rows.{AreLegalEntries, first_fault, rows_within, refusal_rows, are_delivered, are_delivered_with}
 use Rattle.causal_trace.specs.Survivors.{survives}
 use Rattle.causal_trace.proofs.Lemmas.EntryFacts.{row_fails, not_false}
-use Rattle.causal_replays.specs.Inside.Copies.{copied_by, mentioned_dets}
-use Rattle.causal_replays.proofs.NumberLemmas.{same_is}
+use Rattle.causal_replays.specs.Inside.Copies.{copied_by}
+use Rattle.causal_name.proofs.Lemmas.DetOrder.{same_is}
+use Rattle.causal_trace.proofs.Lemmas.RunProcesses.{restart_inside, deliver_inside}
 
 -- ---- only processes of the run log
-
-below : (p n : ℕ) → not (nat_lt p n) ≡ false → p < n
-below p n h = elim (cases_lt p n) [ inl k ↦ k | inr k ↦ absurd (false≢true (sym h ∙ ap not (le-ltb p n k))) ]
-
-restart_inside : (n : ℕ) (past : List Entry) (who : Pid) (listed : List Det) → first_fault n past (Restart who listed) ≡ None → who.0 < n
-unfolding rows_within
-restart_inside n past who listed legal = below who.0 n (row_fails (refusal_rows n past (Restart who listed)) legal 1 (not (nat_lt who.0 n), NoProcess) refl)
-
-deliver_inside : (n : ℕ) (past : List Entry) (to : Pid) (send rsn : ℕ) (listed : List Det) → first_fault n past (Deliver to send rsn listed) ≡ None → to.0 < n
-unfolding rows_within
-deliver_inside n past to send rsn listed legal = below to.0 n (row_fails (refusal_rows n past (Deliver to send rsn listed)) legal 1 (not (nat_lt to.0 n), NoProcess) refl)
-
-pub logs_inside : (n : ℕ) (past : List Entry) (p : ℕ) (d : Det) → AreLegalEntries n past → logs past p d ≡ true → p < n
-logs_inside n [] p d a h = absurd (false≢true h)
-logs_inside n (Send from to ssn ∷ past) p d a h = logs_inside n past p d a.0 h
-logs_inside n (Deliver to send rsn listed ∷ past) p d a h = grind (arith, logs_inside n past p d a.0, eqb-true, deliver_inside)
-logs_inside n (Stable det ∷ past) p d a h = logs_inside n past p d a.0 h
-logs_inside n (Crash who ∷ past) p d a h = logs_inside n past p d a.0 (and_parts (not (who.0 == p)) (logs past p d) h).1
-logs_inside n (Restart who listed ∷ past) p d a h = grind (arith, eqb-true, restart_inside n past who listed a.1, logs_inside n past p d a.0)
-logs_inside n (Forget who listed ∷ past) p d a h = logs_inside n past p d a.0 (and_parts (not (who.0 == p && list_has listed d)) (logs past p d) h).1
 
 -- ---- each survivor is that of a delivery
 

@@ -3,9 +3,9 @@ ghost use Rattle.std.specs.Prelude.{◌≡◌, ◌<◌, ◌∷◌, ◌||◌, ◌
 ghost use Rattle.causal_name.specs.declared.Det.{Det};
 ghost use Rattle.causal_name.specs.Names.{same_det};
 ghost use Rattle.causal_trace.specs.declared.entry.Entry.{Entry};
-ghost use Rattle.causal_trace.specs.Past.{deliveries_in, list_has};
+ghost use Rattle.causal_trace.specs.Past.{deliveries_in, list_has, mentioned_dets};
 ghost use Rattle.causal_replays.specs.Inside.Holdings.{holds};
-ghost use Rattle.causal_replays.specs.Inside.Copies.{copied_by, mentioned_dets, is_stored, number_in, IsCopyTable, AreSized, HasCopy, HasNumber};
+ghost use Rattle.causal_replays.specs.Inside.Copies.{copied_by, is_stored, number_in, IsCopyTable, AreSized, HasCopy, HasNumber};
 
 use crate::holdings::{add_holder, clear_log, has_holder, remove_holder};
 use crate::slots::empty_process_lists;

@@ -12,7 +12,8 @@ use Rattle.causal_facts.specs.declared.fact.Fact.{Fact}
 use Rattle.causal_facts.specs.declared.fact.Fact.TheVariants as fact
 use Rattle.causal_replies.specs.declared.form.Form.{Form}
 use Rattle.causal_replies.specs.declared.form.Form.TheVariants.{Lines, Json}
-use Rattle.causal_replies.specs.Places.{line_at, line_before}
+use Rattle.causal_trace.specs.Past.{line_at}
+use Rattle.causal_replies.specs.Places.{line_before}
 
 -- ---- fields
 

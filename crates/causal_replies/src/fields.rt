@@ -4,9 +4,10 @@ ghost use Rattle.causal_replies.specs.Inside.Appends.{Appends};
 ghost use Rattle.causal_replies.specs.Fields as fields;
 
 use crate::form::{Form, push_line, push_nothing, push_number, push_process, push_word};
-use crate::place::{line_at, line_before};
+use crate::place::line_before;
 use causal_facts::{Cause, ChainEvent, ClosestFailure, Fact, Loss, LostBy, Stray};
 use causal_name::Det;
+use causal_trace::entry::line_at;
 use std::alloc::AllocError;
 
 /// Appends the fields of a fact.

@@ -1,13 +1,6 @@
 //! The line of an entry in its trace's text. Lines count from 1; line 1 is the header.
 ghost use Rattle.std.specs.Prelude.{◌≡◌};
-ghost use Rattle.causal_replies.specs.Places.{line_at, line_before};
-
-/// The line of the entry at a position.
-pub(crate) fn line_at(position: u32) -> u64
-    ensures { result ≡ line_at position }
-{
-    u64::from(position) + 2
-}
+ghost use Rattle.causal_replies.specs.Places.{line_before};
 
 /// The line of the last entry before an instant; the header's if there is none.
 pub(crate) fn line_before(instant: u32) -> u64

@@ -5,11 +5,12 @@ ghost use Rattle.causal_replies.specs.Inside.Appends.{Writes};
 ghost use Rattle.causal_replies.specs.Sentences.{IsPrintable, IsSentence};
 
 use crate::form::push_text;
-use crate::place::{line_at, line_before};
+use crate::place::line_before;
 use causal_facts::{
     Cause, ChainEvent, ClosestFailure, DownProcess, Fact, Holding, Loss, LostBy, Stray,
 };
 use causal_name::Det;
+use causal_trace::entry::line_at;
 use std::alloc::AllocError;
 
 /// Appends a colon, the sentence of a fact, and a line feed.

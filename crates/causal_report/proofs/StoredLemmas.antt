@@ -1,5 +1,5 @@
 -- Whether a determinant is stable, by the entries in their order; and deliveries of an instant.
-use Rattle.std.proofs.Common.{◌≡◌, ◌≤◌, ◌<◌, ◌∷◌, [], List, ℕ, Bool, true, false, Some, length, take, reverse, refl, sym, ap, ◌∙◌, arith}
+use Rattle.std.proofs.Common.{◌≡◌, ◌≤◌, ◌∷◌, [], List, ℕ, Bool, true, false, length, take, reverse, refl, sym, ap, ◌∙◌}
 use Rattle.std.specs.Prelude.{◌||◌}
 use Rattle.std.specs.List.{list_any}
 use Rattle.std.proofs.lemmas.List.{reverse-append}
@@ -7,8 +7,8 @@ use Rattle.std.proofs.lemmas.List.Folds.{list_any-append}
 use Rattle.causal_name.specs.declared.Det.{Det}
 use Rattle.causal_trace.specs.declared.entry.Entry.{Entry}
 use Rattle.causal_trace.specs.declared.entry.Entry.TheVariants.{Send, Deliver, Stable, Crash, Restart, Forget}
-use Rattle.causal_trace.specs.Past.{det_at, instant, is_stable}
-use Rattle.causal_trace.proofs.Lemmas.AtInstants.{det_then, det_within, instant_length, read_instant}
+use Rattle.causal_trace.specs.Past.{instant, is_stable}
+use Rattle.causal_trace.proofs.Lemmas.AtInstants.{read_instant}
 use Rattle.causal_report.specs.Inside.Storing.{stores}
 
 or_turned : (a b : Bool) → (b || (a || false)) ≡ (a || b)
@@ -37,9 +37,3 @@ stable_by (Forget who listed ∷ past) d = stable_by past d
 pub stored_in : (past : List Entry) (t : ℕ) (d : Det) → t ≤ length past → list_any (stores d) (take t (reverse past)) ≡ is_stable (instant past t) d
 stored_in past t d within =
     sym (any_turned (stores d) (take t (reverse past))) ∙ sym (stable_by (reverse (take t (reverse past))) d) ∙ ap (λ x. is_stable x d) (read_instant past t within)
-
--- a delivery of an instant is one of the recording
-pub delivered_in : (past : List Entry) (t k : ℕ) (d : Det) → t ≤ length past → det_at (instant past t) k ≡ Some d → det_at past k ≡ Some d
-delivered_in past t k d within at =
-    let early : k < t = omega (arith, det_within (instant past t) k d at, instant_length past t within) in
-    sym (det_then past t k early within) ∙ at

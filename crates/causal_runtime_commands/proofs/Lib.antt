@@ -1,4 +1,3 @@
-mod Known
 mod PendingLemmas
 mod PrintLemmas
 mod SafeAccepts

@@ -5,7 +5,7 @@ use Rattle.std.specs.Io.KnownBytes.{Appends}
 use Rattle.causal_outcomes.specs.declared.ended.Ended.{Ended}
 use Rattle.causal_outcomes.specs.declared.ended.Ended.TheVariants.{Accepted, Breached, Ranged, Followed, Strayed, Merged, Faulted, Ran, Refused, ReadFault, WriteFault, NoMemory, NoWorker, FinishFault}
 use Rattle.causal_runtime_commands.specs.Runs.{IsScriptAnswer, WritesScript, script_bytes_read}
-use Rattle.causal_runtime_commands.proofs.Known.{IfSome-weaker}
+use Rattle.causal_outcomes.proofs.Lemmas.Known.{IfSome-weaker}
 
 answered : (text : List ℕ) (old new : Option (List ℕ)) (e : Ended) (out : List ℕ) → IsScriptAnswer text e out → Appends old new out → WritesScript text e old new
 answered text old new Accepted out p a = absurd p

@@ -1,6 +1,6 @@
 -- A lane's counts, and delivered and stable determinants, as counts and searches of the entries.
-use Rattle.std.proofs.Common.{ℕ, ◌≡◌, ◌<◌, Bool, true, false, cond, List, [], ◌∷◌, length, Option, Some, None, refl, sym, subst, ◌∙◌, arith}
-use Rattle.std.specs.Prelude.{◌||◌, ◌==◌, ◌+◌}
+use Rattle.std.proofs.Common.{ℕ, ◌≡◌, ◌<◌, Bool, true, false, cond, List, [], ◌∷◌, length, Some, None, refl, arith}
+use Rattle.std.specs.Prelude.{◌==◌, ◌+◌}
 use Rattle.std.specs.List.{filter}
 use Rattle.std.proofs.lemmas.Bool.{cond-true, cond-false, eq-eqb, ne_eqb, false≢true}
 use Rattle.std.proofs.lemmas.Bool.Decides.{eqb_tells}
@@ -8,9 +8,9 @@ use Rattle.causal_name.specs.declared.Det.{Det}
 use Rattle.causal_name.proofs.Lemmas.DetOrder.{same_itself}
 use Rattle.causal_trace.specs.declared.entry.Entry.{Entry}
 use Rattle.causal_trace.specs.declared.entry.Entry.TheVariants.{Send, Deliver, Stable, Crash, Restart, Forget}
-use Rattle.causal_trace.specs.Past.{entry_at, sends, deliveries, det_at, det_of, is_det, is_delivered, is_stable}
+use Rattle.causal_trace.specs.Past.{entry_at, sends, deliveries, is_stable}
 use Rattle.causal_trace.specs.Laws.{present_lane_entries, is_send_of, is_delivery_to, SendsAreCounted, DeliveriesAreCounted, DeliveredAtPosition, StableAtPosition}
-use Rattle.causal_trace.proofs.Lemmas.AtInstants.{det_within}
+use Rattle.causal_trace.proofs.Lemmas.DeliveredDets.{found_det, at_delivered}
 
 -- counts
 
@@ -45,30 +45,9 @@ deliveries_counted (Forget who listed ∷ past) p = deliveries_counted past p
 
 -- delivered determinants
 
-is_told : (own : Option Det) (d : Det) → own ≡ Some d → is_det own d ≡ true
-is_told own d h = subst (λ o. is_det o d ≡ true) (sym h) (same_itself d)
-
-newest_det : (e : Entry) (past : List Entry) (d : Det) → det_of past e ≡ Some d → (k : ℕ) × (det_at (e ∷ past) k ≡ Some d)
-newest_det e past d h = (length past, cond-true (length past == length past) (det_of past e) (det_at past (length past)) (eq-eqb (length past) (length past) refl) ∙ h)
-
-older_det : (e : Entry) (past : List Entry) (d : Det) → (k : ℕ) × (det_at past k ≡ Some d) → (k : ℕ) × (det_at (e ∷ past) k ≡ Some d)
-older_det e past d h = grind (arith, det_within, ne_eqb)
-
-found_det : (past : List Entry) (d : Det) → is_delivered past d ≡ true → (k : ℕ) × (det_at past k ≡ Some d)
-found_det [] d h = absurd (false≢true h)
-found_det (e ∷ past) d h = grind (arith, newest_det, older_det, found_det past d)
-
-or_true : (a : Bool) → (a || true) ≡ true
-or_true true = refl
-or_true false = refl
-
-told_det : (past : List Entry) (d : Det) (k : ℕ) → det_at past k ≡ Some d → is_delivered past d ≡ true
-told_det [] d k h = absurd (let e : None ≡ Some d = h in cc)
-told_det (e ∷ past) d k h = grind (arith, eqb_tells, is_told, cond-true, told_det past d k, or_true)
-
 -- d is delivered if and only if the delivery at some position has this determinant
 pub delivered_at_position : DeliveredAtPosition
-delivered_at_position past d = (found_det past d, λ h. told_det past d h.0 h.1)
+delivered_at_position past d = (found_det past d, λ h. at_delivered past d h.0 h.1)
 
 -- stable determinants
 

@@ -6,3 +6,5 @@ pub mod DependenceSteps
 pub mod EntryFacts
 pub mod WellFormed
 pub mod CountBounds
+pub mod DeliveredDets
+pub mod RunProcesses

@@ -20,6 +20,10 @@ abbrev pub entry_at : List Entry → ℕ → Option Entry
 entry_at [] i = None
 entry_at (e ∷ past) i = if i == length past then Some e else entry_at past i
 
+-- the line of the entry at a position in the trace's text; lines count from 1, and line 1 is the header
+abbrev pub line_at : ℕ → ℕ
+line_at position = position + 2
+
 -- p is down if its last crash or restart is a crash
 abbrev pub is_down : List Entry → ℕ → Bool
 is_down [] p = false
@@ -125,6 +129,11 @@ listed_by (Deliver to send rsn listed) = listed
 listed_by (Restart who listed) = listed
 listed_by (Forget who listed) = listed
 listed_by _ = []
+
+-- the determinants that an entry mentions: those that it lists, and the one that it writes to stable storage
+abbrev pub mentioned_dets : Entry → List Det
+mentioned_dets (Stable det) = det ∷ []
+mentioned_dets e = listed_by e
 
 -- how many determinants the entries list in all
 abbrev pub listed_in : List Entry → ℕ

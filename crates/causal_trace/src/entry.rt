@@ -1,6 +1,7 @@
 //! Entries of a trace, and lists of determinants.
 ghost use Rattle.std.specs.Prelude.{◌≡◌, ◌∷◌, [], length};
 ghost use Rattle.causal_name.specs.Names.{is_ascending};
+ghost use Rattle.causal_trace.specs.Past.{is_det, line_at};
 
 use crate::scans;
 use causal_name::{Det, Pid};
@@ -142,7 +143,7 @@ pub enum Entry {
 }
 
 impl Entry {
-    ghost use Rattle.causal_trace.specs.Past.{listed_by};
+    ghost use Rattle.causal_trace.specs.Past.{listed_by, mentioned_dets};
 
     /// Returns the number of determinants that the entry lists.
     pub fn listed_count(&self) -> usize
@@ -154,5 +155,36 @@ impl Entry {
             Entry::Forget { listed, .. } => listed.as_slice().len(),
             _ => 0,
         }
+    }
+
+    /// Returns the determinants that the entry mentions: those that it lists, or the one that it writes to stable storage.
+    pub fn mentioned_dets(&self) -> &[Det]
+        ensures { result.now ≡ mentioned_dets self.now }
+    {
+        match self {
+            Entry::Stable { det } => slice::from_ref(det),
+            Entry::Deliver { listed, .. } => listed.as_slice(),
+            Entry::Restart { listed, .. } => listed.as_slice(),
+            Entry::Forget { listed, .. } => listed.as_slice(),
+            Entry::Send { .. } => &[],
+            Entry::Crash { .. } => &[],
+        }
+    }
+}
+
+/// Returns the line of the entry at a position in the trace's text. Lines count from 1; line 1 is the header.
+pub fn line_at(position: u32) -> u64
+    ensures { result ≡ line_at position }
+{
+    u64::from(position) + 2
+}
+
+/// Checks whether an optional determinant is `det`.
+pub fn is_det(own: Option<Det>, det: Det) -> bool
+    ensures { result ≡ is_det own det }
+{
+    match own {
+        Some(own) => own == det,
+        None => false,
     }
 }

@@ -144,16 +144,6 @@ pub(crate) fn det_of_next(entries: &[Entry], e: &Entry) -> Option<Det>
     det_of(entries, entries.len(), e)
 }
 
-/// Checks whether an optional determinant is `d`.
-pub(crate) fn is_det(own: Option<Det>, d: Det) -> bool
-    ensures { result ≡ past.is_det own d }
-{
-    match own {
-        Some(e) => e == d,
-        None => false,
-    }
-}
-
 /// Returns the determinant of the delivery at a position.
 pub(crate) fn det_at(entries: &[Entry], k: u32) -> Option<Det>
     ensures { result ≡ past.det_at (past_at entries.now (length entries.now)) k }

@@ -10,7 +10,7 @@ ghost use Rattle.causal_trace.specs.Inside.Chains.{HasHead, heads_after, nodes_a
 ghost use Rattle.causal_trace.specs.Inside.SortedDeliveries.{AreDeliveries};
 
 use crate::chains::{Chains, MessageReceipt, Search};
-use crate::entry::{Dets, Entry};
+use crate::entry::{Dets, Entry, is_det};
 use crate::fault::{RefusedEntry, TraceFault};
 use crate::lanes::{LaneState, clone_entries, clone_lanes, count_entry, new_lanes, restarts_in};
 use crate::limits::{DEFAULT_LIMITS, Limits, MAX_ENTRIES, MAX_LISTED, MAX_PROCESSES};
@@ -461,7 +461,7 @@ impl Trace {
         ensures { result ≡ are_delivered_with self.now.recording.past own dets.now }
     {
         dets.iter()
-            .all(|d| scans::is_det(own, *d) || self.is_delivered(*d))
+            .all(|d| is_det(own, *d) || self.is_delivered(*d))
     }
 
     /// Checks whether one more entry with this many listed determinants would exceed these limits. O(1) time.

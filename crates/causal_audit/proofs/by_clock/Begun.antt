@@ -1,10 +1,11 @@
 -- The state of a delivery before its first mention.
 use Rattle.causal_audit.proofs.Common.{ℕ, zero, suc, ◌≡◌, ◌+◌, ◌-◌, ◌<◌, ◌≤◌, Bool, false, List, ◌∷◌, length, Some, refl, sym, ap, subst, ◌∙◌, arith, and_right, nat_tests, ◌||◌, ◌&&◌, ◌==◌, not, Det, Entry, Send, Deliver, Stable, Crash, Restart, Forget, instant, entry_at, is_down, is_stable, logs, list_has, reaches_begins, instant_length}
-use Rattle.causal_audit.specs.Quiet.{is_transition, mentioned_dets}
+use Rattle.causal_trace.specs.Past.{mentioned_dets}
+use Rattle.causal_audit.specs.Quiet.{is_transition}
 use Rattle.causal_audit.specs.Inside.DeliveryStates.{IsUnknownToAll}
 use Rattle.causal_audit.specs.Inside.SafetyScan.Persistence.{MentionsNone}
 use Rattle.causal_audit.proofs.Between.{next_entry, no_turn_stays, stable_stays}
-use Rattle.causal_audit.proofs.Steps.{no_entry}
+use Rattle.causal_trace.proofs.Lemmas.AtInstants.{no_entry}
 
 -- ---- from an instant to a later one, entry by entry
 

@@ -3,11 +3,11 @@ use Rattle.causal_audit.proofs.Common.{ℕ, ◌≡◌, ◌≢◌, ◌+◌, ◌<�
 use Rattle.causal_clock.specs.declared.Event.{Event}
 use Rattle.causal_clock.specs.Timeline.{Timeline, lane_of, send_of, with_event}
 use Rattle.causal_audit.specs.Inside.ByClock.ClockOfRun.{IsClockOf, IsClockWithLanes, CanExtendClock}
-use Rattle.causal_audit.proofs.by_clock.Link.{delivers_below}
 use Rattle.causal_clock.specs.declared.ClockFault.{ClockFault}
 use Rattle.causal_clock.specs.declared.ClockFault.TheVariants.{Lanes as ClockLanes, NoMemory as ClockNoMemory}
 use Rattle.causal_audit.proofs.Legal.{entry_short}
-use Rattle.causal_audit.proofs.Shown.{send_inside, deliver_inside, restart_inside}
+use Rattle.causal_trace.proofs.Lemmas.RunProcesses.{send_inside, deliver_inside, restart_inside}
+use Rattle.causal_trace.proofs.Lemmas.DependenceSteps.{delivers_below}
 
 -- ==== one more entry, and one more event for it
 

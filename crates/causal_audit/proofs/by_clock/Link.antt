@@ -1,14 +1,11 @@
 -- An entry reaches another in a run exactly if its event precedes the other's in the clock of the run.
-use Rattle.causal_audit.proofs.Common.{ℕ, ◌≡◌, ◌<◌, ◌≤◌, inl, inr, List, length, refl, subst, ◌∙◌, arith, ◌↔◌, cases_lt, Entry, AreLegalEntries, IsEventOf, Delivers, DirectlyPrecedes, in_order, by_message, Reaches, itself, onward, event_below, accepted_forward}
+use Rattle.causal_audit.proofs.Common.{ℕ, ◌≡◌, ◌≤◌, inl, inr, List, refl, subst, ◌∙◌, arith, ◌↔◌, cases_lt, Entry, AreLegalEntries, IsEventOf, Delivers, DirectlyPrecedes, in_order, by_message, Reaches, itself, onward, event_below, accepted_forward}
 use Rattle.causal_clock.specs.declared.Event.{Event}
 use Rattle.causal_clock.specs.Timeline.{lane_of}
 use Rattle.causal_clock.specs.Precedence as clock
 use Rattle.causal_audit.specs.Inside.ByClock.ClockOfRun.{IsClockOf}
 use Rattle.causal_audit.proofs.Legal.{sender_event, receiver_event}
-
--- an entry that delivers a message is an entry of the run
-pub delivers_below : (past : List Entry) (j i : ℕ) → Delivers past j i → j < length past
-delivers_below past j i h = let into = receiver_event past j i h in event_below past j into.0 into.1 into.2
+use Rattle.causal_trace.proofs.Lemmas.DependenceSteps.{delivers_below}
 
 -- if an event is reached, so are the later events of its lane
 reach_later : (past : List Entry) (i j k p l : ℕ) → Reaches past i j → j ≤ k → IsEventOf past j p l → IsEventOf past k p l → Reaches past i k

@@ -10,11 +10,13 @@ use Rattle.causal_audit.specs.Inside.DeliveryStates.{IsNextReached, IsDeliverySt
 use Rattle.causal_audit.proofs.Swept.{sent_before}
 use Rattle.causal_audit.specs.declared.breach.Breach.{Breach}
 use Rattle.causal_audit.specs.declared.delivery_state.DeliveryState.{DeliveryState}
-use Rattle.causal_audit.specs.Quiet.{SameDeliveryState, mentioned_dets}
+use Rattle.causal_trace.specs.Past.{mentioned_dets}
+use Rattle.causal_audit.specs.Quiet.{SameDeliveryState}
 use Rattle.causal_audit.specs.Inside.PositionLists.{AreMentionsOf, HasNoEffect, HasMentions, HasNoneUntil}
 use Rattle.causal_audit.proofs.safety_scan.CoverStays.{mentioned_next}
 use Rattle.causal_audit.proofs.NoOrphanSoFar.{accepted_next}
-use Rattle.causal_audit.proofs.Steps.{entry_read, next_state}
+use Rattle.causal_audit.proofs.Steps.{entry_read}
+use Rattle.causal_trace.proofs.Lemmas.AtInstants.{next_state}
 
 -- ==== a run's entries in order, and its instants
 

@@ -8,7 +8,9 @@ use Rattle.causal_audit.proofs.Legal.{sent_is}
 use Rattle.causal_audit.proofs.Steps.{entry_cases, entry_within}
 use Rattle.causal_audit.proofs.by_clock.ReachedEntries.{send_tells, delivery_tells}
 use Rattle.causal_audit.proofs.index.Receivers.{reach_later}
-use Rattle.causal_audit.proofs.Shown.{inserted, parts, removed, crash_inside, restart_inside}
+use Rattle.causal_audit.proofs.Shown.{parts}
+use Rattle.causal_holders.proofs.Lemmas.Sets.{inserted, removed}
+use Rattle.causal_trace.proofs.Lemmas.RunProcesses.{crash_inside, restart_inside}
 
 abbrev Sets : Type 0
 Sets = List (FinSet nat_cmp)

@@ -7,7 +7,7 @@ use Rattle.causal_audit.specs.declared.group.walk_input.OpenDelivery.{OpenDelive
 use Rattle.causal_audit.specs.BreachOrder.{earlier_breach}
 use Rattle.causal_audit.specs.Laws.{down_or_holding, IsExposed}
 use Rattle.causal_audit.specs.NewOrphans.{MayGetOrphan}
-use Rattle.causal_audit.specs.Quiet.{mentioned_dets}
+use Rattle.causal_trace.specs.Past.{mentioned_dets}
 use Rattle.causal_audit.specs.Inside.Among.{FirstBreachBy, HasNoOrphanBy, EarliestAmongBy}
 use Rattle.causal_audit.specs.Inside.DeliveryStates.{BreachAt}
 use Rattle.causal_audit.specs.Inside.Group.Walk.{AreCopiesOfGroup, AreDetCopies, AreCopiesAfter, copies_at, is_crash, no_copies, AreHeldBefore, IsLacked, IsSuspect, IsBreachOfPlace, IsWalkStep, position_at, AreStillOpen, HasRow, HaveNoOrphans, IsWalkState, ArePlaces, AreNewlyReached, row, row_of, IsReach, AppliesEntry, IsPlaceAdded, opened_at, RowsAreHeld, IsDeliveredTo, IsHeldBy, CountsEarlier, ArePlacesAt, AreMentionedPlaces, AreMarked}
@@ -18,11 +18,12 @@ use Rattle.causal_audit.proofs.Lemmas.OrphansByCounts.{exposed, gone_orphan}
 use Rattle.causal_audit.proofs.Swept.{sweep_law, one_new_orphan}
 use Rattle.causal_audit.proofs.NoOrphanSoFar.{accepted_next, first_breach_is}
 use Rattle.causal_audit.proofs.group.GroupReach.{left_in, left_out, none_in}
-use Rattle.causal_audit.proofs.Steps.{up_to_next}
+use Rattle.causal_trace.proofs.Lemmas.AtInstants.{up_to_next}
 use Rattle.causal_audit.proofs.group.OpenPositions.{position, zero}
 use Rattle.causal_audit.specs.declared.group.buffers.WalkBuffers.{WalkBuffers}
 use Rattle.causal_audit.specs.declared.group.reach.ReachSets.{ReachSets}
-use Rattle.causal_audit.proofs.Shown.{inserted, parts}
+use Rattle.causal_audit.proofs.Shown.{parts}
+use Rattle.causal_holders.proofs.Lemmas.Sets.{inserted}
 
 abbrev Sets : Type 0
 Sets = List (FinSet nat_cmp)

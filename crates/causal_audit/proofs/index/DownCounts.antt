@@ -1,7 +1,7 @@
 -- How many processes are down, and the restarts by the number that are down after them.
 use Rattle.causal_audit.proofs.Common.{ℕ, zero, suc, ◌≡◌, ◌+◌, ◌<◌, ◌≤◌, inl, inr, Bool, true, false, cond, List, [], ◌∷◌, length, Some, None, refl, sym, ap, subst, ◌∙◌, arith, not, ◌==◌, ◌&&◌, ◌||◌, Contains, All, All-weaker, ne_eqb, or_right, eqb_tells, count_below, count_below-within, Entry, Send, Deliver, Stable, Crash, Restart, Forget, Pid, Det, instant, entry_at, is_down, AreLegalEntries, instants_stay, one_more_instant, IsNonDecreasing}
 use Rattle.causal_name.specs.Sets.{union_test}
-use Rattle.causal_holders.proofs.Lemmas.MemberCounts.{count_below-same}
+use Rattle.causal_holders.proofs.Lemmas.MemberCounts.{count_below-same, at_most_one}
 use Rattle.causal_audit.specs.Inside.Index.Falls.{AreFalls}
 use Rattle.causal_audit.specs.Inside.Index.Lists.{Ascends, list_at, with_added}
 use Rattle.causal_audit.specs.Inside.PositionLists.{HasNoneUntil}
@@ -11,10 +11,6 @@ use Rattle.causal_audit.proofs.safety_scan.CoverStays.{entry_then}
 use Rattle.causal_audit.proofs.Steps.{entry_cases, entry_within}
 
 -- ---- counts
-
-at_most_one : (x : Bool) → cond x 1 0 ≤ 1
-at_most_one true = omega arith
-at_most_one false = omega arith
 
 -- without one number a count is at most one less
 pub one_fewer : (n : ℕ) (test : ℕ → Bool) (w : ℕ) → count_below n test ≤ count_below n (λ p. not (w == p) && test p) + 1

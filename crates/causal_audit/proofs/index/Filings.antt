@@ -1,18 +1,20 @@
 -- The lists of positions of an index, with one more position and one more entry.
 use Rattle.std.proofs.lemmas.Grind.{common_steps}
-use Rattle.causal_audit.proofs.Common.{ℕ, ◌≡◌, ◌≢◌, ◌+◌, ◌<◌, ◌≤◌, inl, inr, true, false, Result, Ok, Err, List, [], ◌∷◌, ◌++◌, length, Option, Some, None, refl, sym, ap, subst, ◌∙◌, arith, Bool, ◌⊎◌, OnOk, Contains, ◌==◌, ◌&&◌, ◌||◌, option_map_or, All, get_or-eq_default, cases_lt, false≢true, cond-true, cond-false, false_from_ne_true, eqb-true, eq-eqb, ne_eqb, and_parts, or_cases, cases_Bool, or_left, or_right, get_or-set_same, get_or-set_other, get_or_past, All-push, All-set, All-get_or, All-weaker, Contains-append_left, Contains-push, Contains-push_cases, IsNonDecreasingBy-push, Entry, entry_at, list_has, nat_cmp, FinSet, contains, empty, remove, contains-empty, IsNonDecreasing, Send, Deliver, Stable, Crash, Restart, Forget, entry_beyond, Det, same_det}
+use Rattle.causal_audit.proofs.Common.{ℕ, ◌≡◌, ◌≢◌, ◌+◌, ◌<◌, ◌≤◌, inl, inr, true, false, Result, Ok, Err, List, [], ◌∷◌, ◌++◌, length, Option, Some, None, refl, sym, ap, subst, ◌∙◌, arith, Bool, ◌⊎◌, OnOk, Contains, ◌==◌, ◌&&◌, option_map_or, All, get_or-eq_default, cases_lt, false≢true, cond-true, cond-false, false_from_ne_true, eqb-true, eq-eqb, ne_eqb, or_cases, or_left, or_right, get_or-set_same, get_or-set_other, get_or_past, All-push, All-set, All-get_or, All-weaker, Contains-append_left, Contains-push, Contains-push_cases, IsNonDecreasingBy-push, Entry, entry_at, list_has, nat_cmp, FinSet, contains, empty, remove, contains-empty, IsNonDecreasing, Send, Deliver, Stable, Crash, Restart, Forget, entry_beyond, Det, same_det}
 use Rattle.causal_audit.specs.Inside.Index.Lists.{Ascends, list_at, with_added, AreMentions, AreMentionsWith, mentions_of, AreTransitionsOf, IsFirstCrash, restarts_or_crashes}
 use Rattle.causal_audit.specs.Inside.PositionLists.{HasNoneUntil}
 use Rattle.causal_audit.specs.Inside.SafetyScan.Persistence.{restarts_one, CrashesNone, RestartsNone}
 use Rattle.causal_audit.specs.Covered.{IsCrashOf}
 use Rattle.causal_audit.proofs.group.GroupReach.{left_out}
 use Rattle.causal_audit.proofs.Steps.{entry_cases, entry_within}
-use Rattle.causal_audit.specs.Quiet.{mentioned_dets}
-use Rattle.std.specs.Prelude.{nat_lt, IfSome}
+use Rattle.causal_trace.specs.Past.{mentioned_dets}
+use Rattle.std.specs.Prelude.{nat_lt}
 use Rattle.std.proofs.lemmas.Bool.{le-ltb, lt-ltb}
 use Rattle.std.proofs.lemmas.List.{length-set}
 use Rattle.causal_trace.specs.Numbers.{number_of}
-use Rattle.causal_trace.proofs.Lemmas.DeliveryNumbers.{number_below}
+use Rattle.causal_trace.proofs.Lemmas.DeliveryNumbers.{number_below, found_below, numbers_apart}
+use Rattle.causal_name.proofs.Lemmas.DetOrder.{same_is}
+use Rattle.causal_trace.proofs.Lemmas.DeliveredDets.{has_more}
 
 -- ==== the lists of positions, with one more position and one more entry
 
@@ -169,38 +171,7 @@ none_crashes past lists members from next are none v who late early at =
 
 -- ==== the lists of the entries that mention each determinant
 
--- equal determinants are identical
-pub same_is : (x y : Det) → same_det x y ≡ true → x ≡ y
-same_is x y h = grind (arith, eqb-true)
-
 -- ---- numbers
-
--- a number that is found is below the bound
-pub found_below : (o : Option ℕ) (n m : ℕ) → IfSome o (λ i. i < n) → o ≡ Some m → m < n
-found_below o n m all is = subst (λ x. IfSome x (λ i. i < n)) is all
-
-newest_below : (n : ℕ) (x : Det) (older : List Det) (c d : Det) (m : ℕ) → (nat_lt (length older) n && same_det x c) ≡ true → (nat_lt (length older) n && same_det x d) ≡ false → number_of n (x ∷ older) c ≡ Some m → number_of n (x ∷ older) d ≡ Some m → ⊥
-newest_below n x older c d m same other at to =
-    let is : Some (length older) ≡ Some m = sym (cond-true (nat_lt (length older) n && same_det x c) (Some (length older)) (number_of n older c) same) ∙ at in
-    let it : length older ≡ m = cc is in
-    omega (arith, it, found_below (number_of n older d) (length older) m (number_below n older d) (sym (cond-false (nat_lt (length older) n && same_det x d) (Some (length older)) (number_of n older d) other) ∙ to))
-
--- only one determinant has each number
-pub numbers_apart : (n : ℕ) (numbers : List Det) (c d : Det) (m : ℕ) → number_of n numbers c ≡ Some m → number_of n numbers d ≡ Some m → same_det c d ≡ true
-numbers_apart n [] c d m at to = absurd (let x : None ≡ Some m = at in cc)
-numbers_apart n (x ∷ older) c d m at to =
-    elim (cases_Bool (nat_lt (length older) n && same_det x c)) [
-      | inl same_c ↦ elim (cases_Bool (nat_lt (length older) n && same_det x d)) [
-        | inl same_d ↦ subst (λ y. same_det y d ≡ true) (same_is x c (and_parts (nat_lt (length older) n) (same_det x c) same_c).1) (and_parts (nat_lt (length older) n) (same_det x d) same_d).1
-        | inr other ↦ absurd (newest_below n x older c d m same_c other at to)
-      ]
-      | inr other_c ↦ elim (cases_Bool (nat_lt (length older) n && same_det x d)) [
-        | inl same_d ↦ absurd (newest_below n x older d c m same_d other_c to at)
-        | inr other_d ↦
-            numbers_apart n older c d m (sym (cond-false (nat_lt (length older) n && same_det x c) (Some (length older)) (number_of n older c) other_c) ∙ at)
-            (sym (cond-false (nat_lt (length older) n && same_det x d) (Some (length older)) (number_of n older d) other_d) ∙ to)
-      ]
-    ]
 
 -- a number at or above a bound belongs to no delivery below it
 pub too_late : (k m : ℕ) (b : Bool) → m ≤ k → (nat_lt k m && b) ≡ false
@@ -213,10 +184,6 @@ number_of_found m (x ∷ older) d j is =
     grind (arith, cond-true, lt-ltb, cond-false, found_below, number_below m older d, too_late, number_of_found m older d j)
 
 -- ---- one more position in the list of a determinant
-
-has_more : (dets : List Det) (det d : Det) → list_has (dets ++ det ∷ []) d ≡ (list_has dets d || same_det d det)
-has_more [] det d = grind arith
-has_more (x ∷ dets) det d = grind (arith, has_more dets det d)
 
 -- an element of a determinant's list remains one after an addition to some list
 keeps_of : (o : Option ℕ) (lists : List (List ℕ)) (m v w : ℕ) → m < length lists → Contains (option_map_or (list_at lists) o []) w → Contains (option_map_or (list_at (with_added lists m v)) o []) w

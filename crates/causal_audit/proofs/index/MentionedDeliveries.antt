@@ -1,13 +1,12 @@
 -- Each determinant that an entry mentions is that of a delivery, so it has a number.
 use Rattle.causal_audit.proofs.Common.{ℕ, ◌≡◌, ◌+◌, ◌≤◌, inl, inr, Bool, true, List, [], ◌∷◌, length, reverse, take, Option, Some, None, refl, sym, ap, subst, ◌∙◌, arith, not, nat_lt, ◌&&◌, ◌||◌, All, All-cons, All-head, All-nil, All-push, All-tail, All-weaker, and_parts, option_map_or, is_some, cases_Bool, cases_lt, cond-true, cond-false, or_right, take_all, reverse-append, reverse-reverse, Det, same_det, Entry, Send, Deliver, Stable, Crash, Restart, Forget, Recording, AreLegalEntries, accepted_then, deliveries_in, det_of, entries_of, first_fault, instant, instants_stay, one_more_instant, row_fails}
 use Rattle.std.specs.List.{list_all}
-use Rattle.causal_trace.specs.Past.{is_delivered, is_det}
+use Rattle.causal_trace.specs.Past.{is_delivered, is_det, mentioned_dets}
 use Rattle.causal_trace.specs.Numbers.{delivered_dets, number_of}
 use Rattle.causal_trace.specs.Rows.{are_delivered, are_delivered_with, rows_within, refusal_rows}
 use Rattle.causal_trace.specs.declared.fault.TraceFault.TheVariants.{NoDelivery}
 use Rattle.causal_trace.proofs.Lemmas.DeliveryNumbers.{delivered_numbered, listed_once}
 use Rattle.causal_trace.proofs.Lemmas.EntryFacts.{not_false}
-use Rattle.causal_audit.specs.Quiet.{mentioned_dets}
 use Rattle.causal_audit.specs.Inside.Index.Lists.{HaveNumbers}
 use Rattle.causal_audit.proofs.Steps.{begins}
 

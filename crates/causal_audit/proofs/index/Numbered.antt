@@ -4,10 +4,9 @@ use Rattle.std.specs.List.{flat_map}
 use Rattle.std.proofs.lemmas.List.{append_cancel_left, drop_more, take-append-le}
 use Rattle.std.proofs.lemmas.Grind.{common_steps, flat_map-append}
 use Rattle.causal_trace.specs.Numbers.{number_of}
-use Rattle.causal_trace.proofs.Lemmas.DeliveryNumbers.{number_among}
-use Rattle.causal_audit.specs.Quiet.{mentioned_dets}
+use Rattle.causal_trace.proofs.Lemmas.DeliveryNumbers.{number_among, found_below}
+use Rattle.causal_trace.specs.Past.{mentioned_dets}
 use Rattle.causal_audit.specs.Inside.Index.Lists.{AreNumbersOf}
-use Rattle.causal_audit.proofs.index.Filings.{found_below}
 
 abbrev some : ℕ → Option ℕ
 some v = Some v

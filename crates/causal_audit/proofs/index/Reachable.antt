@@ -3,7 +3,7 @@ use Rattle.causal_audit.proofs.Common.{ℕ, ◌≡◌, ◌+◌, ◌<◌, ◌≤�
 use Rattle.causal_audit.specs.Inside.Index.Reachability.{reachable_from, with_reached}
 use Rattle.causal_audit.specs.Inside.Index.Departures.{process_at}
 use Rattle.causal_audit.proofs.Legal.{receiver_event}
-use Rattle.causal_audit.proofs.Shown.{inserted}
+use Rattle.causal_holders.proofs.Lemmas.Sets.{inserted}
 use Rattle.causal_audit.proofs.index.Receivers.{delivered, det_process, process_is, process_of_event}
 
 -- an event reaches only itself, and the events reached by one that it directly precedes

@@ -2,7 +2,7 @@
 use Rattle.causal_audit.proofs.Common.{ℕ, ◌≡◌, ◌<◌, ◌≤◌, inl, inr, true, false, List, [], ◌∷◌, length, Some, None, refl, sym, ap, subst, ◌∙◌, arith, get_or, delivers_sent, sent_within, message_sent, option_and_then, ◌+◌, ◌⊎◌, ◌==◌, slice_set, option_map, option_map_or, cases_lt, false≢true, eqb-true, eq-eqb, or_from, cond-true, cond-false, ne_eqb, false_from_ne_true, or_right, Pid, Det, Entry, Send, Deliver, Stable, Crash, Restart, Forget, instant, is_down, is_send_to, logs, lane, det_at, det_of, det_from, entry_at, AreLegalEntries, actor, IsEventOf, Delivers, DirectlyPrecedes, in_order, by_message, Reaches, itself, onward, is_delivery_of, accepted_forward, event_below, event_lane, instant_length, det_then, HasOrphan, length-set, get_or-set_other}
 use Rattle.causal_audit.specs.Laws.{down_or_holding}
 use Rattle.causal_audit.specs.Covered.{LocalHasNoOtherDependents, CoveredHasNoOrphan, StaysLocalUntil, CrashedHasNoDependents}
-use Rattle.causal_trace.proofs.Lemmas.DependenceSteps.{event_once}
+use Rattle.causal_trace.proofs.Lemmas.DependenceSteps.{event_once, delivers_below}
 use Rattle.causal_audit.proofs.Lemmas.OrphansByCounts.{exposed}
 use Rattle.causal_audit.proofs.Legal.{delivery_event, sent_is}
 use Rattle.causal_audit.proofs.NoOrphanSoFar.{not_yet}
@@ -14,7 +14,6 @@ use Rattle.causal_audit.specs.declared.safety_scan.at_risk_intervals.AtRiskInter
 use Rattle.causal_audit.specs.Inside.Index.Lists.{IsFirstCrash}
 use Rattle.causal_audit.specs.Inside.SafetyScan.Scans.{IsAtRiskWithoutReceiverAt, IsAtRiskAt, AreAtRiskIntervals, MayBeOpen}
 use Rattle.std.proofs.lemmas.Grind.{get_or-set_at, common_steps}
-use Rattle.causal_audit.proofs.by_clock.Link.{delivers_below}
 
 -- ==== when the effect of a delivery leaves its receiver
 

@@ -5,7 +5,7 @@ use Rattle.causal_audit.specs.Inside.SafetyScan.Scans.{AreWatched, IsAtRiskAt, R
 use Rattle.causal_audit.specs.NoRelease.{may_release, NoneReleasedFrom, RemainsSafe, OrphansEnd}
 use Rattle.causal_audit.proofs.Lemmas.OrphansByCounts.{exposed}
 use Rattle.causal_audit.proofs.NoOrphanSoFar.{not_yet}
-use Rattle.causal_audit.specs.Quiet.{mentioned_dets}
+use Rattle.causal_trace.specs.Past.{mentioned_dets}
 use Rattle.causal_audit.specs.Inside.SafetyScan.Persistence.{restarts_one, DownOrHoldingPersists, HoldersPersist, MentionsNone, RestartsNone}
 use Rattle.causal_audit.proofs.by_clock.Begun.{onward_to}
 use Rattle.causal_audit.proofs.Between.{logs_stay, next_entry}
@@ -16,7 +16,7 @@ use Rattle.causal_audit.specs.Inside.Index.Departures.{process_at}
 use Rattle.causal_audit.specs.Inside.DeliveryStates.{HasExactly}
 use Rattle.causal_audit.specs.declared.safety_scan.det_safety.DetSafety.{DetSafety}
 use Rattle.causal_audit.specs.declared.safety_scan.det_safety.DetSafety.TheVariants.{Safe, AtRisk, AtRiskWithoutReceiver}
-use Rattle.causal_audit.proofs.Shown.{down_inside, logs_inside}
+use Rattle.causal_trace.proofs.Lemmas.RunProcesses.{down_inside, logs_inside}
 use Rattle.causal_audit.proofs.Steps.{entry_cases}
 
 -- ==== when a delivery has no orphan any more

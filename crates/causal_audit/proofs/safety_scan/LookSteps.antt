@@ -13,11 +13,12 @@ use Rattle.causal_audit.specs.Inside.SafetyScan.Scans.{IsIntervalPassed, IsKeptU
 use Rattle.causal_audit.specs.Inside.Index.TransitionCursors.{IsCursorAt}
 use Rattle.causal_audit.specs.Inside.DeliveryStates.{HasExactly, ShowsDownAfter, ShowsHoldersAfter}
 use Rattle.causal_audit.specs.Inside.SafetyScan.Persistence.{MentionsNone}
-use Rattle.causal_audit.specs.Quiet.{mentioned_dets}
+use Rattle.causal_trace.specs.Past.{mentioned_dets}
 use Rattle.causal_audit.proofs.safety_scan.CoverStays.{gone_lasts, holds_until, kept_still, mentioned_next, none_mention, none_later, over_then}
 use Rattle.causal_audit.proofs.index.Cursors.{cursor_later}
-use Rattle.causal_audit.proofs.Steps.{entry_read, entry_then, next_state}
+use Rattle.causal_audit.proofs.Steps.{entry_read, entry_then}
 use Rattle.causal_audit.proofs.index.DownAfterTurns.{passed_down}
+use Rattle.causal_trace.proofs.Lemmas.AtInstants.{next_state}
 
 -- up to the next change no entry mentions the determinant, and the scan's position is kept
 pub record IsChange (look : SafetyScan) (scan_position : ScanPosition) (mention change : ℕ) : Type 0 where

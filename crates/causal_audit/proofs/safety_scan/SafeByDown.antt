@@ -14,7 +14,8 @@ use Rattle.causal_audit.specs.declared.safety_scan.det_safety.DetSafety.TheVaria
 use Rattle.causal_audit.proofs.by_clock.Begun.{onward_to}
 use Rattle.causal_audit.proofs.index.DownCounts.{disjoint_counted, entry_next, more_down}
 use Rattle.causal_audit.proofs.safety_scan.CoverStays.{holder_up, holders_stay, up_held}
-use Rattle.causal_audit.proofs.Shown.{counted, down_members, logs_inside}
+use Rattle.causal_audit.proofs.Shown.{counted, down_members}
+use Rattle.causal_trace.proofs.Lemmas.RunProcesses.{logs_inside}
 
 -- a process that is up remains up until it crashes
 up_more : (e : Entry) (past : List Entry) (p : ℕ) → ((who : Pid) → e ≡ Crash who → (who.0 == p) ≡ false) → is_down past p ≡ false → is_down (e ∷ past) p ≡ false

@@ -3,7 +3,7 @@ use Rattle.causal_audit.proofs.Common.{ℕ, ◌≡◌, ◌+◌, ◌<◌, ◌≤�
 use Rattle.std.proofs.lemmas.Bool.{lt-ltb}
 use Rattle.std.proofs.lemmas.List.Elements.{All-append}
 use Rattle.causal_trace.specs.Numbers.{delivered_dets, number_of}
-use Rattle.causal_trace.proofs.Lemmas.DeliveryNumbers.{number_among, number_below}
+use Rattle.causal_trace.proofs.Lemmas.DeliveryNumbers.{number_among, number_below, found_below, numbers_apart}
 use Rattle.causal_audit.specs.Numbers.{ArePositions, is_delivery, IsNumbered}
 use Rattle.causal_audit.specs.declared.group.walk_input.OpenDelivery.{OpenDelivery}
 use Rattle.causal_audit.specs.Searches.{SearchScope, IncludeUnsafe, IsNewest, delivery_count}
@@ -13,7 +13,8 @@ use Rattle.causal_audit.proofs.DeliveryNumbers.{numbered_below, numbered_later, 
 use Rattle.causal_audit.proofs.Lemmas.NumberLemmas.{has_number}
 use Rattle.causal_audit.proofs.NoOrphanSoFar.{not_yet}
 use Rattle.causal_audit.proofs.group.OpenPositions.{position}
-use Rattle.causal_audit.proofs.index.Filings.{found_below, number_of_found, numbers_apart, same_is}
+use Rattle.causal_audit.proofs.index.Filings.{number_of_found}
+use Rattle.causal_name.proofs.Lemmas.DetOrder.{same_is}
 
 -- ==== deliveries by their numbers and by their determinants
 

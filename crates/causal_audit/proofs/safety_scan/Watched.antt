@@ -4,7 +4,7 @@ use Rattle.std.specs.FinSet.{is_subset, is_subset-contains, contains-is_subset}
 use Rattle.causal_audit.specs.Inside.SafetyScan.Scans.{AreWatched, IsSafetyOf}
 use Rattle.causal_audit.specs.declared.safety_scan.det_safety.DetSafety.{DetSafety}
 use Rattle.causal_audit.specs.declared.safety_scan.det_safety.DetSafety.TheVariants.{AtRisk, Safe}
-use Rattle.causal_audit.proofs.Shown.{inserted}
+use Rattle.causal_holders.proofs.Lemmas.Sets.{inserted}
 
 holder_gone : (down holders : FinSet nat_cmp) (p : ℕ) → contains holders p ≡ true → contains (union down holders) p ≡ true
 holder_gone down holders p h = contains-union nat_cmp_total down holders p ∙ or_right (contains down p) (contains holders p) h

@@ -3,7 +3,7 @@ use Rattle.std.specs.Prelude.{◌≡◌, ℕ, ◌↔◌, Bool, true, false, List
 use Rattle.causal_audit.specs.Inside.Common.{nat_cmp, FinSet, contains, Det, Entry, det_at, list_has, is_down, logs, is_stable, AreLegalEntries, HasOrphan, actor, Reaches, Depends}
 use Rattle.causal_audit.specs.declared.delivery_state.DeliveryState.{DeliveryState}
 use Rattle.causal_audit.specs.declared.delivery_state.CrashSetAndOrphan.{CrashSetAndOrphan}
-use Rattle.causal_audit.specs.Quiet.{mentioned_dets}
+use Rattle.causal_trace.specs.Past.{mentioned_dets}
 use Rattle.causal_audit.specs.Verdicts.{IsLeastOrphan}
 use Rattle.causal_audit.specs.declared.breach.Breach.{Breach}
 

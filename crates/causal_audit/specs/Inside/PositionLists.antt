@@ -1,7 +1,8 @@
 -- Lists of the positions at which a delivery's state may change, and a cursor over such a list.
 use Rattle.std.specs.Prelude.{◌≡◌, ℕ, true, false, List, Some, Contains, ◌<◌, ◌≤◌, slice_index_or, Bool}
 use Rattle.causal_audit.specs.Inside.Common.{Det, Entry, entry_at, list_has, nat_cmp, FinSet, contains, actor}
-use Rattle.causal_audit.specs.Quiet.{is_transition, mentioned_dets}
+use Rattle.causal_trace.specs.Past.{mentioned_dets}
+use Rattle.causal_audit.specs.Quiet.{is_transition}
 use Rattle.causal_audit.specs.declared.index.cursor.Cursor.{Cursor}
 
 -- an entry whose position is not in the list does not mention d

@@ -16,7 +16,7 @@ use causal_holders::Holders;
 use causal_trace::trace::Trace;
 
 /// Returns the processes that depend on the delivery of a place.
-#[tactic(auto, using(crate::proofs::Shown::inserted))]
+#[tactic(auto, using(causal_holders::proofs::Lemmas::Sets::inserted))]
 fn dependents_of(present: &[Places], place: u8) -> Holders
     requires { length present.now ≤ 256 }
     ensures { (p : ℕ) → set.contains result p ≡ set.contains (row present.now p) place }

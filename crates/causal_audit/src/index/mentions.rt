@@ -5,8 +5,7 @@ ghost use Rattle.causal_name.specs.declared.Det.{Det};
 ghost use Rattle.causal_trace.specs.declared.entry.Entry.{Entry};
 ghost use Rattle.causal_trace.specs.Limits.{max_entries};
 ghost use Rattle.causal_trace.specs.Numbers.{delivered_dets, number_of};
-ghost use Rattle.causal_trace.specs.Past.{deliveries_in, instant};
-ghost use Rattle.causal_audit.specs.Quiet.{mentioned_dets};
+ghost use Rattle.causal_trace.specs.Past.{deliveries_in, instant, mentioned_dets};
 ghost use Rattle.causal_audit.specs.Inside.Index.Lists.{AreMentions, AreNumbersOf, HaveNumbers, mentions_of, past_of};
 ghost use Rattle.causal_audit.specs.Inside.Index.Packed.{AreOccurrences, HaveCapacityFor};
 ghost use Rattle.causal_audit.specs.Inside.Index.RunIndexes.{IsMentionIndex};
@@ -16,7 +15,6 @@ use causal_name::{Det, NoMemory};
 use causal_trace::entry::Entry;
 use causal_trace::trace::Trace;
 use std::alloc::Global;
-use std::slice;
 
 /// Lists of positions, by the numbers of a trace's first deliveries. The list of a determinant is at its newest
 /// delivery among these.
@@ -121,7 +119,7 @@ fn numbers_of(
 {
     let mut numbers = Vec::new(alloc);
     for entry in entries {
-        note_numbers(&mut numbers, trace, mentioned_dets(entry), among)?;
+        note_numbers(&mut numbers, trace, entry.mentioned_dets(), among)?;
     }
     Ok(numbers)
 }
@@ -207,20 +205,6 @@ impl Mentions {
     }
 }
 
-/// Returns the determinants that an entry lists or writes to stable storage.
-pub fn mentioned_dets(entry: &Entry) -> &[Det]
-    ensures { result.now ≡ mentioned_dets entry.now }
-{
-    match entry {
-        Entry::Stable { det } => slice::from_ref(det),
-        Entry::Deliver { listed, .. } => listed.as_slice(),
-        Entry::Restart { listed, .. } => listed.as_slice(),
-        Entry::Forget { listed, .. } => listed.as_slice(),
-        Entry::Send { .. } => &[],
-        Entry::Crash { .. } => &[],
-    }
-}
-
 /// Returns the positions of these entries, by the numbers of the determinants that they mention. `numbers` contains
 /// these numbers in order; there are `among` lists.
 ///
@@ -243,7 +227,7 @@ fn build_mentions(
     let mut builder = allocate_lists(alloc, numbers, among)?;
     let mut rest = numbers;
     for (i, entry) in entries.iter().enumerate() {
-        let (own, later) = rest.split_at(mentioned_dets(entry).len());
+        let (own, later) = rest.split_at(entry.mentioned_dets().len());
         note(&mut builder, own, i as u32);
         rest = later;
     }

@@ -3,8 +3,7 @@ ghost use Rattle.std.specs.Prelude.{◌≡◌, ◌<◌, ◌⊎◌, ℕ, MatchOpt
 ghost use Rattle.std.specs.FinSet as set;
 ghost use Rattle.std.specs.Ordering.{nat_cmp};
 ghost use Rattle.causal_name.specs.declared.Det.{Det};
-ghost use Rattle.causal_trace.specs.Past.{list_has};
-ghost use Rattle.causal_audit.specs.Quiet.{mentioned_dets};
+ghost use Rattle.causal_trace.specs.Past.{list_has, mentioned_dets};
 ghost use Rattle.causal_audit.specs.Inside.DeliveryStates.{ShowsDownAfter, ShowsHoldersAfter};
 ghost use Rattle.causal_audit.specs.Inside.SafetyScan.Scans.{AreWatched, IsDownBound, IsSafetyOf};
 

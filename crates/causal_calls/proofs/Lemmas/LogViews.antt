@@ -1,65 +1,34 @@
 -- The logs of the theory that the logs of nodes represent, after each change.
-use Rattle.std.proofs.Common.{ℕ, ◌≡◌, ◌∙◌, ◌==◌, Bool, true, false, ◌&&◌, ◌||◌, List, [], ◌∷◌, is_some, unwrap_or, refl, sym, ap, arith}
+use Rattle.std.proofs.Common.{ℕ, ◌≡◌, ◌∙◌, ◌==◌, Bool, true, false, ◌&&◌, ◌||◌, List, [], ◌∷◌, refl, sym, ap, arith}
 use Rattle.std.specs.List.{list_any}
 use Rattle.std.specs.Cmp.{nat_cmp_total}
 use Rattle.std.specs.Ordering.{nat_cmp}
-use Rattle.std.specs.declared.cmp.Ordering.{Ordering}
-use Rattle.std.specs.declared.cmp.Ordering.TheVariants.{Less, Equal, Greater}
 use Rattle.std.specs.FinMap as fin
 use Rattle.std.specs.FinSet as set
-use Rattle.std.proofs.lemmas.Bool.{both_ways}
 use Rattle.causal_name.specs.declared.Pid.{Pid}
 use Rattle.causal_name.specs.declared.Det.{Det}
-use Rattle.causal_name.specs.Names.{det_cmp, same_det}
-use Rattle.causal_name.proofs.Lemmas.DetOrder.{exact_dets, nat_ties}
+use Rattle.causal_name.specs.Names.{same_det}
+use Rattle.causal_name.proofs.Lemmas.DetOrder.{nat_ties}
 use Rattle.causal_trace.specs.Past.{list_has}
 use Rattle.causal_log.specs.declared.known.Known.{Known}
 use Rattle.causal_log.specs.declared.batch.Item.{Item}
-use Rattle.causal_log.specs.Knowledge.{unknown, held_by}
+use Rattle.causal_log.specs.Knowledge.{held_by}
 use Rattle.causal_log.specs.Logs.{LogMap, dets_of, after_learn, after_absorb, after_mark}
 use Rattle.causal_log.proofs.Lemmas.KnowledgeGrows.{logged_all, known_all, holds_either, stable_either, absorbed_logged, absorbed_holders, absorbed_stable}
 use Rattle.causal_log.proofs.Lemmas.LogLists.{get_marked}
-use Rattle.causal_log.proofs.Lemmas.Searches.{any_map}
 use Rattle.causal_protocol.specs.Memory.{log_after_delivery}
 use Rattle.causal_protocol.specs.Gathering.{with_held}
-use Rattle.causal_protocol.specs.Naming.{with_own, match_ordering}
+use Rattle.causal_protocol.specs.Naming.{with_own}
 use Rattle.causal_protocol.specs.MemoryQueries.{has_entry, log_knows_holder, log_knows_stable, has_item, item_holder, parcel_of}
 use Rattle.causal_nodes.specs.Node.{NodeLog}
 use Rattle.causal_nodes.specs.NodeSteps.{log_after_mark}
 use Rattle.causal_nodes.specs.NodeSteps as theory
 use Rattle.causal_calls.specs.Views.{log_view}
+use Rattle.causal_protocol.proofs.Lemmas.LogMembers.{own_have, items_have}
 
 -- logs that know the same are equal
 pub same_log : (a b : NodeLog) → ((d : Det) → a.has d ≡ b.has d) → ((d : Det) (q : ℕ) → a.holder d q ≡ b.holder d q) → ((d : Det) → a.stable d ≡ b.stable d) → a ≡ b
 same_log a b has holder stable = λ i. record { has = λ d. has d i; holder = λ d q. holder d q i; stable = λ d. stable d i }
-
--- a determinant with a known holder is logged
-pub entry_of_holder : (log : LogMap) (d : Det) (q : ℕ) → log_knows_holder d q log ≡ true → has_entry d log ≡ true
-entry_of_holder log d q h = grind (arith, both_ways, set.contains-empty)
-
--- an empty log knows nothing
-pub nothing_logged : (d : Det) → has_entry d fin.empty ≡ false
-nothing_logged d = ap is_some (fin.get-empty det_cmp d)
-
-pub nothing_held : (d : Det) (q : ℕ) → log_knows_holder d q fin.empty ≡ false
-nothing_held d q = ap (λ o. set.contains (unwrap_or o unknown).holders q) (fin.get-empty det_cmp d) ∙ set.contains-empty nat_cmp q
-
-pub nothing_stable : (d : Det) → log_knows_stable d fin.empty ≡ false
-nothing_stable d = ap (λ o. (unwrap_or o unknown).stable) (fin.get-empty det_cmp d)
-
--- membership after one more determinant is inserted
-pub own_have : (own : Det) (ds : List Det) (d : Det) → list_has (with_own own ds) d ≡ (same_det d own || list_has ds d)
-unfolding with_own
-own_have own [] d = refl
-own_have own (x ∷ ds) d = by (det_cmp own x) refl (own_have own ds d)
-  where
-    by : (o : Ordering) → det_cmp own x ≡ o → list_has (with_own own ds) d ≡ (same_det d own || list_has ds d) → list_has (match_ordering o (own ∷ x ∷ ds) (x ∷ ds) (x ∷ with_own own ds)) d ≡ (same_det d own || (same_det d x || list_has ds d))
-    by Less is rest = refl
-    by Equal is rest = grind (arith, exact_dets own x is)
-    by Greater is rest = grind arith
-
-pub items_have : (items : List Item) (d : Det) → list_has (dets_of items) d ≡ has_item d items
-items_have items d = any_map (λ item. item.det) (same_det d) (λ item. same_det d item.det) (λ x. refl) items
 
 -- after one determinant is learned
 module _ (log : LogMap) (own : Det) (k : Known) (d : Det) where

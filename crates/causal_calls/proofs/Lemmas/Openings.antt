@@ -5,7 +5,7 @@ use Rattle.std.proofs.lemmas.Bool.{both_ways}
 use Rattle.causal_node.specs.declared.node.Identity.{Identity}
 use Rattle.causal_node.specs.NodeRecovery.{opened}
 use Rattle.causal_calls.specs.Views.{IsNodeState, IsRecoveryState}
-use Rattle.causal_calls.proofs.Lemmas.LogViews.{nothing_held, nothing_logged}
+use Rattle.causal_protocol.proofs.Lemmas.LogMembers.{none_holds, none_entry}
 use Rattle.causal_calls.proofs.Lemmas.Numbers.{set_here, set_length, zeros_length}
 
 -- a node that is opened
@@ -14,8 +14,8 @@ opening who lane low = record {
   process = low;
   floors = set_length (replicate who.processes 0) who.me.0 lane ∙ zeros_length who.processes;
   own_floor = set_here (replicate who.processes 0) who.me.0 lane (subst (λ m. who.me.0 < m) (sym (zeros_length who.processes)) low);
-  holders = λ d q h. absurd (both_ways _ (nothing_held d q) h);
-  own = λ d h. absurd (both_ways _ (nothing_logged d) h);
+  holders = λ d q h. absurd (both_ways _ (none_holds d q) h);
+  own = λ d h. absurd (both_ways _ (none_entry d) h);
   received = λ m. refl;
   recovery = by (lane == 0);
 }

@@ -3,7 +3,7 @@ use Rattle.std.proofs.Common.{ℕ, zero, suc, ◌≡◌, ◌+◌, ◌-◌, ◌<�
 use Rattle.std.specs.Prelude.{◌&&◌, ◌||◌, ◌↔◌, not, nat_lt}
 use Rattle.std.specs.Ordering.{nat_cmp}
 use Rattle.std.specs.Cmp.{nat_cmp_total, unsigned_tied}
-use Rattle.std.specs.FinSet.{FinSet, contains, empty, remove, union, is_subset, len, same_set, contains-empty, contains-remove, contains-union, is_subset-contains, contains-is_subset, len-empty, len-remove, nat_cmp-IsAntisymmetric}
+use Rattle.std.specs.FinSet.{FinSet, contains, empty, insert, remove, union, is_subset, len, same_set, contains-empty, contains-insert, contains-remove, contains-union, is_subset-contains, contains-is_subset, len-empty, len-remove, nat_cmp-IsAntisymmetric}
 use Rattle.std.proofs.lemmas.Bool.{false≢true, or_cases, or_left, or_right}
 use Rattle.std.proofs.lemmas.Bool.Decides.{nat_tests, eqb_tells}
 use Rattle.causal_name.specs.Sets.{count_below, any_below, union_test, IsSubsetBelow}
@@ -27,7 +27,8 @@ pub count_below-within : (n : ℕ) (a b : ℕ → Bool) → IsSubsetBelow n a b 
 count_below-within zero a b h = omega arith
 count_below-within (suc n) a b h = omega (arith, count_below-within n a b (λ p below. h p (omega (arith, below))), one_le (a n) (b n) (h n (omega arith)))
 
-at_most_one : (x : Bool) → cond x 1 0 ≤ 1
+-- one bit counts at most 1
+pub at_most_one : (x : Bool) → cond x 1 0 ≤ 1
 at_most_one true = omega arith
 at_most_one false = omega arith
 
@@ -120,3 +121,21 @@ is_subset_members n s t a b m k = (
   λ h p below passes. sym (k.member p below) ∙ is_subset-contains nat_cmp_total s t h p (m.member p below ∙ passes),
   λ h. contains-is_subset nat_cmp_total s t (λ p in_s. k.member p (m.process p in_s) ∙ h p (m.process p in_s) (sym (m.member p (m.process p in_s)) ∙ in_s)),
 )
+
+-- ---- the members of a test, number by number
+
+-- for no processes the empty set contains exactly those that pass
+pub none_in : (s : FinSet nat_cmp) (test : ℕ → Bool) → s ≡ empty → HasMembers 0 s test
+none_in s test is = grind (arith, contains-empty)
+
+contains_more : (s : FinSet nat_cmp) (n q : ℕ) → contains (insert s n) q ≡ (q == n || contains s q)
+contains_more s n q = contains-insert nat_cmp_total s n q ∙ ap (λ t. t || contains s q) (unsigned_tied q n)
+
+module _ (n : ℕ) (s : FinSet nat_cmp) (test : ℕ → Bool) (m : HasMembers n s test) where
+  -- a process that passes is inserted
+  pub one_in : test n ≡ true → HasMembers (n + 1) (insert s n) test
+  one_in is = grind (arith, contains_more)
+
+  -- a process that does not pass is left out
+  pub one_out : test n ≡ false → HasMembers (n + 1) s test
+  one_out is = grind arith

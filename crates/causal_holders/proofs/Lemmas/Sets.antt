@@ -1,16 +1,27 @@
 -- Finite sets of numbers: subsets, differences, members and lengths.
-use Rattle.std.specs.Prelude.{◌≡◌, ℕ, ◌-◌, ◌<◌, ◌≤◌, ◌⊎◌, Bool, true, false, cond, not, ◌&&◌, ◌||◌, List, [], ◌∷◌, nat_eq}
+use Rattle.std.specs.Prelude.{◌≡◌, ℕ, ◌-◌, ◌<◌, ◌≤◌, ◌⊎◌, Bool, true, false, cond, not, ◌&&◌, ◌||◌, ◌==◌, List, [], ◌∷◌, nat_eq}
 use Rattle.std.proofs.Common.{zero, suc, refl, arith, ap, sym, ◌∙◌, inl, inr}
 use mathlib.Core.Bool.{true≢false}
 use Rattle.std.specs.Ordering.{nat_cmp, eq_by_cmp}
 use Rattle.std.specs.List.{list_any}
 use Rattle.std.specs.Cmp.{nat_cmp_total, unsigned_tied}
-use Rattle.std.specs.FinSet.{FinSet, empty, empty_of_len, remove, difference, items, is_subset, len, contains, contains-empty, contains-items, contains-remove, contains-difference, same_set, nat_cmp-IsAntisymmetric, len-remove, len-empty, is_subset-contains, contains-is_subset}
+use Rattle.std.specs.FinSet.{FinSet, empty, empty_of_len, insert, remove, difference, items, is_subset, len, contains, contains-empty, contains-items, contains-insert, contains-remove, contains-difference, same_set, nat_cmp-IsAntisymmetric, len-remove, len-empty, is_subset-contains, contains-is_subset}
 use Rattle.std.proofs.lemmas.Bool.Decides.{nat_tests, leb_tells}
 
 -- a number is equal to itself
 itself : (x : ℕ) → nat_eq x x ≡ true
 itself x = grind (arith, nat_tests)
+
+same_number : (p q : ℕ) → (q == p) ≡ (p == q)
+same_number p q = grind arith
+
+-- the members of a set after p is inserted
+pub inserted : (s : FinSet nat_cmp) (p q : ℕ) → contains (insert s p) q ≡ ((p == q) || contains s q)
+inserted s p q = contains-insert nat_cmp_total s p q ∙ ap (λ b. b || contains s q) (unsigned_tied q p ∙ same_number p q)
+
+-- the members of a set after p is removed
+pub removed : (s : FinSet nat_cmp) (p q : ℕ) → contains (remove s p) q ≡ (not (p == q) && contains s q)
+removed s p q = contains-remove nat_cmp_total s p q ∙ ap (λ b. not b && contains s q) (unsigned_tied q p ∙ same_number p q)
 
 -- a set is empty or has a member
 pub empty_or_member : (s : FinSet nat_cmp) → (s ≡ empty) ⊎ ((x : ℕ) × (contains s x ≡ true))

@@ -4,7 +4,7 @@ use Rattle.causal_name.specs.declared.Det.{Det}
 use Rattle.causal_trace.specs.declared.entry.Entry.{Entry}
 use Rattle.causal_trace.specs.declared.entry.Entry.TheVariants.{Deliver, Stable, Restart}
 use Rattle.std.specs.Option.{IsSome}
-use Rattle.causal_trace.specs.Past.{logs, is_stable, deliveries_in, listed_by}
+use Rattle.causal_trace.specs.Past.{logs, is_stable, deliveries_in}
 use Rattle.causal_trace.specs.Numbers.{delivered_dets, number_of}
 use Rattle.causal_replays.specs.declared.copies.CopyTable.{CopyTable}
 use Rattle.causal_replays.specs.Inside.Holdings.{holds, AreLogged}
@@ -36,11 +36,6 @@ pub record IsCopyTable (whole past : List Entry) (c : CopyTable) : Type 0 where
 -- the determinant with number i is stable, or some process holds it
 abbrev pub HasCopy : CopyTable → ℕ → Type 0
 HasCopy c i = (is_stored c.stable.items i ≡ true) ⊎ ((p : ℕ) × (holds c.holders.items i p ≡ true))
-
--- the determinants that an entry lists or writes to stable storage
-abbrev pub mentioned_dets : Entry → List Det
-mentioned_dets (Stable det) = det ∷ []
-mentioned_dets e = listed_by e
 
 -- the determinants of which an entry makes copies
 abbrev pub copied_by : Entry → List Det

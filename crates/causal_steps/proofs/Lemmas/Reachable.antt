@@ -1,5 +1,5 @@
 -- The states that legal steps reach are safe.
-use Rattle.std.proofs.Common.{ℕ, ◌≡◌, ◌<◌, ◌≤◌, ◌+◌, ◌-◌, inl, inr, Bool, true, false, List, [], ◌∷◌, length, drop, Some, None, refl, sym, ap, subst, ◌∙◌, arith, add-one}
+use Rattle.std.proofs.Common.{ℕ, ◌≡◌, ◌<◌, ◌+◌, ◌-◌, inl, inr, Bool, true, false, List, [], ◌∷◌, length, drop, Some, None, refl, sym, ap, subst, ◌∙◌, arith}
 use Rattle.std.specs.Prelude.{◌⊎◌}
 use Rattle.std.proofs.lemmas.Bool.{both_ways, or_cases}
 use Rattle.std.proofs.lemmas.Bool.Decides.{eqb_tells}
@@ -18,6 +18,7 @@ use Rattle.causal_steps.specs.Invariant.{StepInvariant}
 use Rattle.causal_steps.specs.Steps.{IsDeliverStep, IsStep, silent, sends, delivers, crashes, restarts, writes, forgets}
 use Rattle.causal_steps.specs.Reachable.{IsInitial, IsReachableState, initial, next_state}
 use Rattle.causal_steps.proofs.StepPreserves.{step_preserves}
+use Rattle.causal_trace.proofs.Lemmas.AtInstants.{instants_stay}
 
 -- the invariant of a state, and that all states so far are safe
 pub record IsSafeState (n f : ℕ) (past : List Entry) (v : VolatileState) : Type 0 where
@@ -48,9 +49,6 @@ invariant_safe n f past v k = record {
         | inr recoverable ↦ recoverable_not_lost n f past o.det h.crash (λ p must. k.recovering_are_down p o.det must) recoverable h.may_crash o.unstable o.lost
       ];
 }
-
-instants_stay : (e : Entry) (past : List Entry) (t : ℕ) → t ≤ length past → instant (e ∷ past) t ≡ instant past t
-instants_stay e past t within = grind (arith, add-one)
 
 last_instant : (past : List Entry) (t : ℕ) → t ≡ length past → instant past t ≡ past
 last_instant past t whole = ap (λ n. drop n past) (let none : length past - t ≡ 0 = omega (arith, whole) in none)

@@ -1,14 +1,14 @@
 -- Facts of a run that hold at each of its instants.
-use Rattle.std.proofs.Common.{ℕ, zero, suc, cond, ◌≡◌, ◌+◌, ◌-◌, ◌<◌, ◌≤◌, List, [], ◌∷◌, length, drop, reverse, Some, refl, ap, ◌∙◌, arith}
+use Rattle.std.proofs.Common.{ℕ, zero, suc, cond, ◌≡◌, ◌+◌, ◌-◌, ◌<◌, ◌≤◌, List, [], ◌∷◌, length, get_or, drop, reverse, Some, refl, sym, ap, ◌∙◌, arith}
 use Rattle.std.specs.Prelude.{◌==◌}
 use Rattle.std.proofs.lemmas.List.{length-drop, length-reverse, reverse-append, reverse-reverse, drop_at, take-append-drop}
 use Rattle.std.proofs.lemmas.Bool.{cases_lt, cond-false, ne_eqb}
 use Rattle.causal_name.specs.declared.Det.{Det}
 use Rattle.causal_trace.specs.declared.entry.Entry.{Entry}
 use Rattle.causal_trace.specs.Past.{instant, det_at, det_of}
-use Rattle.causal_trace.specs.Rows.{AreLegalEntries}
-use Rattle.causal_trace.specs.State.{past_at}
-use Rattle.causal_trace.proofs.Lemmas.Instants.{det_beyond}
+use Rattle.causal_trace.specs.Rows.{Recording, AreLegalEntries}
+use Rattle.causal_trace.specs.State.{entries_of, past_at}
+use Rattle.causal_trace.proofs.Lemmas.Instants.{det_beyond, past_more}
 
 -- one more entry leaves the earlier instants unchanged
 pub instants_stay : (e : Entry) (past : List Entry) (t : ℕ) → t ≤ length past → instant (e ∷ past) t ≡ instant past t
@@ -54,6 +54,28 @@ read_instant past t within =
       length-reverse past,
     )
 
+-- the first instant has no entries
+pub no_entry : (past : List Entry) → instant past 0 ≡ []
+no_entry past = sym (read_instant past 0 (omega arith))
+
+-- a property of each instant up to t, and of the next, is one of each up to the next
+pub up_to_next : (P : ℕ → Type 0) (t : ℕ) → ((u : ℕ) → u ≤ t → P u) → P (t + 1) → (u : ℕ) → u ≤ t + 1 → P u
+up_to_next P t before here u h = grind arith
+
+module _ (r : Recording) (es : List Entry) (read : es ≡ entries_of r) where
+  -- the number of entries read is that of the run
+  pub how_many : length es ≡ length r.past
+  how_many = ap length read ∙ length-reverse r.past
+
+  -- the states of the entries read are the instants of the run
+  pub state_at : (t : ℕ) → t ≤ length r.past → past_at es t ≡ instant r.past t
+  state_at t within = ap (λ x. past_at x t) read ∙ read_instant r.past t within
+
+  -- the next instant has one more entry
+  pub next_state : (t : ℕ) (e : Entry) → t < length r.past → e ≡ get_or es t e → instant r.past (t + 1) ≡ e ∷ instant r.past t
+  next_state t e inside is =
+      sym (state_at (t + 1) (omega (arith, inside))) ∙ past_more es t e (omega (arith, inside, how_many)) is ∙ ap (λ p. e ∷ p) (state_at t (omega (arith, inside)))
+
 -- the position of a delivery is below the length of the past
 pub det_within : (past : List Entry) (k : ℕ) (d : Det) → det_at past k ≡ Some d → k < length past
 det_within past k d at = grind (arith, det_beyond)
@@ -67,3 +89,9 @@ found_then at of more (e ∷ past) t k below within = grind (arith, cases_lt, in
 -- a delivery's determinant is the same at each later instant
 pub det_then : (past : List Entry) (t k : ℕ) → k < t → t ≤ length past → det_at (instant past t) k ≡ det_at past k
 det_then = found_then det_at det_of (λ e past k. refl)
+
+-- a delivery of an instant is one of the run
+pub delivered_in : (past : List Entry) (t k : ℕ) (d : Det) → t ≤ length past → det_at (instant past t) k ≡ Some d → det_at past k ≡ Some d
+delivered_in past t k d within at =
+    let early : k < t = omega (arith, det_within (instant past t) k d at, instant_length past t within) in
+    sym (det_then past t k early within) ∙ at

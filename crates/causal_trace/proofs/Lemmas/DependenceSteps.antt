@@ -60,6 +60,11 @@ pub precedes_old : (e : Entry) (past : List Entry) (i j : ℕ) → j < length pa
 precedes_old e past i j below (in_order p l h a b) = in_order p l h (event_old e past i p l (omega (arith, below, h)) a) (event_old e past j p l below b)
 precedes_old e past i j below (by_message h) = by_message (delivers_old e past j i below h)
 
+-- an event that directly precedes another still does with one more entry
+pub precedes_more : (e : Entry) (past : List Entry) (i j : ℕ) → DirectlyPrecedes past i j → DirectlyPrecedes (e ∷ past) i j
+precedes_more e past i j (in_order p l h a b) = in_order p l h (inl a) (inl b)
+precedes_more e past i j (by_message h) = by_message (inl h)
+
 -- the newest entry changes nothing between earlier events
 pub reaches_old : (e : Entry) (past : List Entry) (i : ℕ) → AreForward (e ∷ past) → (j : ℕ) → j < length past → Reaches (e ∷ past) i j → Reaches past i j
 reaches_old e past i forward j below (itself p l at) = itself p l (event_old e past i p l below at)

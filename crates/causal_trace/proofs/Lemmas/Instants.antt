@@ -50,6 +50,10 @@ det_there es (suc t) k d within below =
           ∙ det_there es t k d (omega (arith, within)) (let ne : k ≡ t → ⊥ = older.1 in omega (arith, below))
     ]
 
+-- the determinant at a position is unchanged by one more entry
+pub det_more : (e : Entry) (past : List Entry) (k : ℕ) → k < length past → det_at (e ∷ past) k ≡ det_at past k
+det_more e past k below = cond-false (k == length past) _ _ (ne_eqb k (length past) (λ is. omega (arith, below, is)))
+
 -- no position at or above the length has a delivery
 pub det_beyond : (past : List Entry) (k : ℕ) → length past ≤ k → det_at past k ≡ None
 det_beyond [] k above = refl

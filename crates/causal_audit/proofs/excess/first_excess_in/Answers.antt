@@ -1,7 +1,8 @@
 use Rattle.causal_audit.proofs.Common.{ℕ, List, length, ◌≡◌, ◌+◌, ◌<◌, ◌∷◌, arith, sym, subst, instant, is_down, Entry, Recording, entries_of, accepted_then}
 use Rattle.causal_audit.specs.Inside.DeliveryStates.{HasExactly}
 use Rattle.causal_audit.proofs.Shown.{down_members}
-use Rattle.causal_audit.proofs.Steps.{how_many, next_state, nobody_down, down_count, few_at_first, up_to_next}
+use Rattle.causal_audit.proofs.Steps.{nobody_down, down_count, few_at_first}
+use Rattle.causal_trace.proofs.Lemmas.AtInstants.{how_many, next_state, up_to_next}
 use Rattle.causal_audit.proofs.excess.first_excess_in.Goals as goal
 
 below : (r : Recording) (es : List Entry) (t : ℕ) → es ≡ entries_of r → t < length es → t < length r.past

@@ -4,7 +4,7 @@ use Rattle.causal_audit.specs.Inside.Common.{nat_cmp, FinSet, contains, empty, D
 pub use Rattle.causal_audit.specs.Inside.Group.Rows.{row}
 use Rattle.causal_audit.specs.declared.group.reach.ReachSets.{ReachSets}
 use Rattle.causal_audit.specs.declared.group.walk_input.OpenDelivery.{OpenDelivery}
-use Rattle.causal_audit.specs.Quiet.{mentioned_dets}
+use Rattle.causal_trace.specs.Past.{mentioned_dets}
 use Rattle.causal_audit.specs.Inside.Among.{HasNoOrphanBy}
 use Rattle.causal_audit.specs.Inside.Group.OpenDeliveries.{IsDeliveryAt}
 use Rattle.causal_audit.specs.Inside.DeliveryStates.{BreachAt, HasExactly}

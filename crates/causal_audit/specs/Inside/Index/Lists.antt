@@ -4,7 +4,7 @@ use Rattle.causal_audit.specs.Inside.Common.{All, IsNonDecreasing, option_map_or
 use Rattle.std.specs.Global.{Vec}
 use Rattle.std.specs.Option.{is_some}
 use Rattle.causal_audit.specs.Inside.PositionLists.{AreMentionsOf, HasMentions, HasAllTransitions}
-use Rattle.causal_audit.specs.Quiet.{mentioned_dets}
+use Rattle.causal_trace.specs.Past.{mentioned_dets}
 use Rattle.causal_audit.specs.Inside.DeliveryStates.{HasExactly}
 use Rattle.causal_audit.specs.Covered.{IsCrashOf}
 use Rattle.causal_trace.specs.Numbers.{number_of}

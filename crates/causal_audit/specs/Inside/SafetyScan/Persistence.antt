@@ -2,7 +2,7 @@
 use Rattle.std.specs.Prelude.{◌≡◌, ℕ, ◌<◌, ◌≤◌, ◌&&◌, Bool, true, false, not, List, length, Some}
 use Rattle.causal_audit.specs.Inside.Common.{nat_cmp, FinSet, contains, Pid, Det, Entry, Crash, Restart, instant, entry_at, list_has, is_down, logs, AreLegalEntries}
 use Rattle.causal_audit.specs.Laws.{down_or_holding}
-use Rattle.causal_audit.specs.Quiet.{mentioned_dets}
+use Rattle.causal_trace.specs.Past.{mentioned_dets}
 
 -- whether an entry restarts one of these processes
 abbrev pub restarts_one : FinSet nat_cmp → Entry → Bool

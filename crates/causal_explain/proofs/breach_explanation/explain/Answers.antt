@@ -1,6 +1,7 @@
 use Rattle.std.proofs.Common.{arith}
 use Rattle.causal_trace.specs.Past.{instant}
-use Rattle.causal_explain.proofs.OrphanLemmas.{delivered_in, depends_led}
+use Rattle.causal_explain.proofs.OrphanLemmas.{depends_led}
+use Rattle.causal_trace.proofs.Lemmas.AtInstants.{delivered_in}
 use Rattle.causal_explain.proofs.breach_explanation.explain.Goals as goal
 
 pub unreachable-requires : goal.unreachable-requires

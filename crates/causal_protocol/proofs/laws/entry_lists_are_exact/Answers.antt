@@ -4,7 +4,7 @@ use Rattle.causal_protocol.specs.Memory.{batch_of}
 use Rattle.causal_protocol.specs.Naming.{next_own_det}
 use Rattle.causal_protocol.specs.Run.{memories_of, stable_of}
 use Rattle.causal_protocol.specs.Gathering.{restart_log}
-use Rattle.causal_protocol.proofs.Choices.{own_have}
+use Rattle.causal_protocol.proofs.Lemmas.LogMembers.{own_have}
 use Rattle.causal_protocol.proofs.LearnedLogs.{keys_have}
 use Rattle.causal_protocol.proofs.SoundSteps.{gathered_survivors}
 use Rattle.causal_protocol.proofs.laws.entry_lists_are_exact.Goals as goal

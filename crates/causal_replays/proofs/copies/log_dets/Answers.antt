@@ -1,7 +1,8 @@
 use Rattle.std.proofs.Common.{◌≡◌, take, ◌∙◌, arith}
 use Rattle.std.proofs.lemmas.Grind.{common_steps}
 use Rattle.std.proofs.lemmas.List.{take_all}
-use Rattle.causal_replays.proofs.CopyLemmas.{has_more, logs_next}
+use Rattle.causal_replays.proofs.CopyLemmas.{logs_next}
+use Rattle.causal_trace.proofs.Lemmas.DeliveredDets.{has_more}
 use Rattle.causal_replays.proofs.copies.log_dets.Goals as goal
 
 pub loop-det-preserved : goal.loop-det-preserved

@@ -7,9 +7,10 @@ use Rattle.causal_replays.specs.Inside.Copies.{AreSized, IsCopyTable}
 use Rattle.causal_replays.specs.Inside.Rivals.{HasRivals, AreNoted}
 use Rattle.causal_replays.proofs.SlotLemmas.{no_number}
 use Rattle.causal_replays.proofs.RivalLemmas.{noted_fewer}
-use Rattle.causal_replays.proofs.RunLemmas.{how_many, named_numbered, next_state, tested, listed_copied, noted_kept, two_now, lower_now, pair_now, single_now, up_to_next, copied_first, noted_first, single_first}
+use Rattle.causal_replays.proofs.RunLemmas.{named_numbered, tested, listed_copied, noted_kept, two_now, lower_now, pair_now, single_now, copied_first, noted_first, single_first}
 use Rattle.causal_replays.proofs.replays.first_stray.Goals as goal
 use Rattle.causal_replays.proofs.replays.first_stray.Goals.{After-copied_by}
+use Rattle.causal_trace.proofs.Lemmas.AtInstants.{how_many, next_state, up_to_next}
 
 -- what holds once the entry at position t is applied
 module _ (c : After-copied_by) where
@@ -17,7 +18,7 @@ module _ (c : After-copied_by) where
   inside = omega (arith, c.loop-t-test.true, how_many c.args.trace.now.recording c.entries-recorded.result.now c.entries-recorded.ensures.value)
 
   next : instant c.args.trace.now.recording.past (c.loop-t.t + 1) ≡ c.index-recorded-t.result ∷ instant c.args.trace.now.recording.past c.loop-t.t
-  next = next_state c.args.trace.now.recording c.entries-recorded.result.now c.entries-recorded.ensures.value c.loop-t.t c.index-recorded-t.result c.loop-t-test.true c.index-recorded-t.is
+  next = next_state c.args.trace.now.recording c.entries-recorded.result.now c.entries-recorded.ensures.value c.loop-t.t c.index-recorded-t.result (omega (arith, inside)) c.index-recorded-t.is
 
   copied : IsCopyTable c.args.trace.now.recording.past (instant c.args.trace.now.recording.past (c.loop-t.t + 1)) c.apply_entry.new.copies
   copied =
@@ -52,7 +53,8 @@ apply_entry-requires-clause-numbers c =
     let read = c.entries-recorded.ensures.value in
     let t = c.loop-t.t in
     let e = c.index-recorded-t.result in
-    named_numbered r c.entries-recorded.ensures.formed t e (omega (arith, c.loop-t-test.true, how_many r es read)) (next_state r es read t e c.loop-t-test.true c.index-recorded-t.is)
+    let below : t + 1 ≤ length r.past = omega (arith, c.loop-t-test.true, how_many r es read) in
+    named_numbered r c.entries-recorded.ensures.formed t e below (next_state r es read t e (omega (arith, below)) c.index-recorded-t.is)
 
 pub note_dets-requires-clause-copied : goal.note_dets-requires-clause-copied
 note_dets-requires-clause-copied c =

@@ -1,5 +1,5 @@
 use Rattle.std.proofs.Common.{◌∙◌}
-use Rattle.causal_report.proofs.StoredLemmas.{delivered_in}
+use Rattle.causal_trace.proofs.Lemmas.AtInstants.{delivered_in}
 use Rattle.causal_report.proofs.survivors.copies_of.Goals as goal
 
 pub unreachable-requires : goal.unreachable-requires

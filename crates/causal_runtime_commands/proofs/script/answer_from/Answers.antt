@@ -3,7 +3,7 @@ use Rattle.std.specs.Prelude.{IfSome}
 use Rattle.std.proofs.lemmas.Result.{IfOk-weaker}
 use Rattle.causal_runtime_commands.specs.Reasons.{IsScriptReason, ArePendingIn}
 use Rattle.causal_runtime_commands.specs.Runs.{IsScriptAnswer}
-use Rattle.causal_runtime_commands.proofs.Known.{IfSome-weaker}
+use Rattle.causal_outcomes.proofs.Lemmas.Known.{IfSome-weaker}
 use Rattle.causal_runtime_commands.proofs.script.answer_from.Goals as goal
 
 pub returns-in-Ok-clause-ok : goal.returns-in-Ok-clause-ok

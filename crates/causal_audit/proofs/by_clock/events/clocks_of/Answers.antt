@@ -1,9 +1,8 @@
 use Rattle.causal_audit.proofs.Common.{◌≡◌, ◌+◌, ◌≤◌, ◌∷◌, ◌++◌, length, take, drop, arith, subst, length-reverse, instant, AreLegalEntries, accepted_then, restarts}
-use Rattle.causal_trace.proofs.Lemmas.AtInstants.{at_instant}
+use Rattle.causal_trace.proofs.Lemmas.AtInstants.{at_instant, next_state}
 use Rattle.causal_trace.proofs.Lemmas.WellFormed.{restarts_before}
 use Rattle.std.proofs.lemmas.Grind.{common_steps}
 use Rattle.causal_audit.specs.Inside.ByClock.ClockOfRun.{IsClockWithLanes}
-use Rattle.causal_audit.proofs.Steps.{next_state}
 use Rattle.causal_audit.proofs.by_clock.events.clocks_of.Goals as goal
 
 pub add_event-requires : goal.add_event-requires

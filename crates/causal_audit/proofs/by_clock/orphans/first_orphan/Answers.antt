@@ -5,7 +5,8 @@ use Rattle.causal_audit.proofs.by_clock.Begun.{unheard_before}
 use Rattle.causal_audit.proofs.by_clock.ReachedEntries.{breach_after, seen_after, unchanged}
 use Rattle.causal_audit.proofs.index.Cursors.{cursor_later}
 use Rattle.causal_audit.proofs.NoOrphanSoFar.{not_yet, first_breach_is}
-use Rattle.causal_audit.proofs.Steps.{nobody_down, up_to_next}
+use Rattle.causal_audit.proofs.Steps.{nobody_down}
+use Rattle.causal_trace.proofs.Lemmas.AtInstants.{up_to_next}
 use Rattle.causal_audit.proofs.by_clock.orphans.first_orphan.Goals as goal
 
 pub precedes-reached-requires-clause-earlier : goal.precedes-reached-requires-clause-earlier

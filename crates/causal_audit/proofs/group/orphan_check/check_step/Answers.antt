@@ -1,7 +1,7 @@
 use Rattle.causal_audit.proofs.Common.{◌≡◌, ◌≤◌, ◌∙◌, arith, inl, inr, sym, ap, subst, ℕ, false, contains, contains-empty, nat_cmp, ◌+◌, and_parts, and_from, instant, HasOrphan, false≢true}
 use Rattle.causal_audit.specs.Inside.Group.Walk.{position_at, opened_at, IsSuspect, IsBreachOfPlace}
 use Rattle.causal_audit.proofs.group.GroupWalk.{among_opened, asked_less, judged_over, found_next, in_or_out, judged_none, judged_more, least_in_all, none_over, suspect}
-use Rattle.causal_audit.proofs.Steps.{up_to_next}
+use Rattle.causal_trace.proofs.Lemmas.AtInstants.{up_to_next}
 use Rattle.causal_audit.proofs.group.GroupReach.{fewer}
 use Rattle.causal_audit.proofs.group.orphan_check.check_step.Goals as goal
 

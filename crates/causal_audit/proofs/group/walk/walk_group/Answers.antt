@@ -6,7 +6,8 @@ use Rattle.causal_audit.proofs.group.OpenPositions.{zero}
 use Rattle.causal_audit.specs.Inside.DeliveryStates.{HasExactly}
 use Rattle.causal_audit.specs.declared.group.buffers.WalkBuffers.{WalkBuffers}
 use Rattle.causal_audit.proofs.group.GroupWalk.{copied_next, marked_next, sees_each, place_of, held_then, is_step, told_after, none_of_all}
-use Rattle.causal_audit.proofs.Steps.{next_state, entry_read}
+use Rattle.causal_audit.proofs.Steps.{entry_read}
+use Rattle.causal_trace.proofs.Lemmas.AtInstants.{next_state}
 use Rattle.causal_audit.proofs.group.walk.walk_group.Goals as goal
 
 pub check_step-requires-clause-candidates : goal.check_step-requires-clause-candidates

@@ -2,7 +2,8 @@ use Rattle.causal_audit.proofs.Common.{◌≡◌, ◌+◌, ◌-◌, ◌<◌, len
 use Rattle.causal_audit.specs.Inside.Index.Departures.{process_at, departure_at, with_delivered}
 use Rattle.causal_audit.proofs.index.Reachable.{AreReachedFrom, reached_begun, reached_next}
 use Rattle.causal_audit.proofs.index.Receivers.{process_is, AreSpreadsFrom, noted_length, spreads_begun, spreads_next}
-use Rattle.causal_audit.proofs.Steps.{how_many, entry_read}
+use Rattle.causal_audit.proofs.Steps.{entry_read}
+use Rattle.causal_trace.proofs.Lemmas.AtInstants.{how_many}
 use Rattle.causal_audit.proofs.index.effects.effects_of.Goals as goal
 
 pub loop-i-init : goal.loop-i-init

@@ -1,6 +1,6 @@
 use Rattle.causal_audit.proofs.Common.{◌≡◌, ◌+◌, ◌<◌, ◌++◌, ◌∙◌, All, List, Det, drop, length, sym, ap, subst, arith, length-append, past_at, past_more, past_length}
 use Rattle.std.specs.List.{flat_map}
-use Rattle.causal_audit.specs.Quiet.{mentioned_dets}
+use Rattle.causal_trace.specs.Past.{mentioned_dets}
 use Rattle.causal_audit.specs.Inside.Index.Lists.{AreMentions, AreNumbersOf}
 use Rattle.causal_audit.specs.Inside.Index.Packed.{HaveCapacityFor}
 use Rattle.causal_audit.proofs.index.Capacities.{spare_front}

@@ -1,6 +1,6 @@
 use Rattle.causal_audit.proofs.Common.{◌≡◌, List, Det, drop, length, past_at}
 use Rattle.std.specs.List.{flat_map}
-use Rattle.causal_audit.specs.Quiet.{mentioned_dets}
+use Rattle.causal_trace.specs.Past.{mentioned_dets}
 use Rattle.causal_audit.specs.Inside.Index.Lists.{AreMentions, AreNumbersOf}
 use Rattle.causal_audit.specs.Inside.Index.Packed.{HaveCapacityFor}
 use Rattle.causal_audit.proofs.index.mentions.build_mentions.Given as goal

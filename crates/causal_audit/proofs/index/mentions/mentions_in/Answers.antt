@@ -5,12 +5,13 @@ use Rattle.causal_trace.proofs.Lemmas.WellFormed.{accepted_short}
 use Rattle.std.specs.List.{flat_map}
 use Rattle.std.proofs.lemmas.Result.{IfOk-weaker}
 use Rattle.causal_trace.specs.Numbers.{delivered_dets}
-use Rattle.causal_audit.specs.Quiet.{mentioned_dets}
+use Rattle.causal_trace.specs.Past.{mentioned_dets}
 use Rattle.causal_audit.specs.Inside.Index.Lists.{AreNumbersOf}
 use Rattle.causal_audit.specs.Inside.Index.RunIndexes.{IsMentionIndex}
-use Rattle.causal_audit.proofs.Steps.{begins, state_at}
+use Rattle.causal_audit.proofs.Steps.{begins}
 use Rattle.causal_audit.proofs.index.Numbered.{as_many}
 use Rattle.causal_audit.proofs.index.MentionedDeliveries.{mentioned_numbered}
+use Rattle.causal_trace.proofs.Lemmas.AtInstants.{state_at}
 use Rattle.causal_audit.proofs.index.mentions.mentions_in.Goals as goal
 
 pub numbers_of-requires : goal.numbers_of-requires

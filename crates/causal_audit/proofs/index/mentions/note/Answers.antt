@@ -1,7 +1,7 @@
 use Rattle.causal_audit.proofs.Common.{◌≡◌, ◌+◌, ◌<◌, ◌∷◌, ◌++◌, [], Some, get_or, length, refl, take, drop, sym, ap, subst, ◌∙◌, arith, take_all, append-nil, nil_from_length}
 use Rattle.std.proofs.lemmas.List.{drop_more, length-drop, length-set}
 use Rattle.causal_trace.specs.Numbers.{number_of}
-use Rattle.causal_audit.specs.Quiet.{mentioned_dets}
+use Rattle.causal_trace.specs.Past.{mentioned_dets}
 use Rattle.causal_audit.specs.Inside.Index.Lists.{AreMentionsWith, list_at, with_added}
 use Rattle.causal_audit.specs.Inside.Index.Packed.{HaveCapacityFor}
 use Rattle.causal_audit.proofs.index.Capacities.{spare_next, spare_added}

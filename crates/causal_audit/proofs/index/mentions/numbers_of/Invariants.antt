@@ -1,7 +1,7 @@
 use Rattle.causal_audit.proofs.Common.{take}
 use Rattle.std.specs.List.{flat_map}
 use Rattle.causal_trace.specs.Numbers.{delivered_dets}
-use Rattle.causal_audit.specs.Quiet.{mentioned_dets}
+use Rattle.causal_trace.specs.Past.{mentioned_dets}
 use Rattle.causal_audit.specs.Inside.Index.Lists.{AreNumbersOf}
 use Rattle.causal_audit.proofs.index.mentions.numbers_of.Given as goal
 

@@ -1,6 +1,6 @@
 use Rattle.causal_audit.proofs.Common.{◌∙◌, sym, arith}
 use Rattle.causal_audit.proofs.group.GroupReach.{seen, sent, stored, forgotten, crashed, restarted, delivered}
-use Rattle.causal_audit.proofs.Shown.{deliver_inside}
+use Rattle.causal_trace.proofs.Lemmas.RunProcesses.{deliver_inside}
 use Rattle.causal_audit.proofs.group.reach.ReachSets.apply_entry.Goals as goal
 
 pub returns-in_ok-set_row-in-Send-clause-sees : goal.returns-in_ok-set_row-in-Send-clause-sees

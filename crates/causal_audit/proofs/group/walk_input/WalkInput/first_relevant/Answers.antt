@@ -1,6 +1,6 @@
 use Rattle.causal_audit.proofs.Common.{◌≡◌, ◌≤◌, ◌∙◌, Some, subst, sym, arith, Contains, false, list_has, instant}
 use Rattle.causal_trace.specs.Numbers.{delivered_dets}
-use Rattle.causal_audit.specs.Quiet.{mentioned_dets}
+use Rattle.causal_trace.specs.Past.{mentioned_dets}
 use Rattle.causal_audit.specs.Inside.Group.Walk.{IsUntouchedBefore}
 use Rattle.causal_audit.specs.Inside.Group.OpenDeliveries.{RunUpTo}
 use Rattle.causal_audit.proofs.index.Filings.{mentions_ascend}

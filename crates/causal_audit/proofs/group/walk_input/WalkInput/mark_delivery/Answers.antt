@@ -1,6 +1,6 @@
 use Rattle.causal_audit.proofs.Common.{◌≡◌, ◌∙◌, ◌+◌, ◌<◌, inl, inr, length, Some, refl, subst, sym, arith, Contains, contains, list_has, instant}
 use Rattle.causal_trace.specs.Numbers.{delivered_dets}
-use Rattle.causal_audit.specs.Quiet.{mentioned_dets}
+use Rattle.causal_trace.specs.Past.{mentioned_dets}
 use Rattle.causal_audit.specs.Inside.Group.Walk.{IsMarked, row}
 use Rattle.causal_audit.specs.Inside.Index.Lists.{mentions_of}
 use Rattle.causal_audit.specs.Inside.Group.OpenDeliveries.{RunUpTo}

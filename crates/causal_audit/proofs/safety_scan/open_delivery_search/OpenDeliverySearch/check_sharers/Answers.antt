@@ -1,9 +1,9 @@
 use Rattle.causal_audit.proofs.Common.{◌≡◌, ◌<◌, ◌≤◌, inl, inr, cases_lt, None, Some, length, instant, det_then, sym, subst, ◌∙◌, arith, AreLegalEntries}
 use Rattle.causal_trace.specs.Numbers.{delivered_dets, number_of}
-use Rattle.causal_trace.proofs.Lemmas.DeliveryNumbers.{number_among}
+use Rattle.causal_trace.proofs.Lemmas.DeliveryNumbers.{number_among, found_below}
 use Rattle.causal_audit.specs.Numbers.{IsNumbered}
 use Rattle.causal_audit.specs.Searches.{SearchScope, delivery_count}
-use Rattle.causal_audit.proofs.index.Filings.{found_below, number_of_found}
+use Rattle.causal_audit.proofs.index.Filings.{number_of_found}
 use Rattle.causal_audit.proofs.DeliveryNumbers.{numbered_later}
 use Rattle.causal_audit.proofs.Lemmas.NumberLemmas.{has_number}
 use Rattle.causal_audit.proofs.safety_scan.SurveyAsks.{more_twice, no_newer, none_between, none_older}
