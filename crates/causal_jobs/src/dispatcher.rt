@@ -3,9 +3,8 @@ ghost use Rattle.causal_process.specs.Reactions.{answers_from};
 ghost use Rattle.causal_process.specs.ReactionLaws.{from_each, from_in_order};
 ghost use Rattle.causal_jobs.specs.Jobs.{left_after, dispatcher_reaction};
 
-use crate::worker::send_one;
 use causal_name::NoMemory;
-use causal_process::{Input, Outgoing, Process};
+use causal_process::{Input, Outgoing, Process, send_one};
 use std::alloc::Global;
 
 /// Gives a job to each process that sends it a message, until none is left.

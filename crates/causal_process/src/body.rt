@@ -64,7 +64,7 @@ impl Body {
 }
 
 /// Returns the first byte, or 0 if the body is empty.
-pub(crate) fn first_or_zero(body: &Body) -> u8
+pub fn first_byte(body: &Body) -> u8
     ensures { result ≡ first_byte body.now }
 {
     match body.as_slice() {

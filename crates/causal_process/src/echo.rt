@@ -1,5 +1,5 @@
 //! A process that exchanges a count with its partner; each message lowers it by one.
-use crate::body::first_or_zero;
+use crate::body::first_byte;
 use crate::message::{Input, Outgoing};
 use crate::process::Process;
 use crate::sending::{send_countdown, send_one};
@@ -68,7 +68,7 @@ impl Process for Echo {
                     Ok(Vec::new(alloc))
                 }
             }
-            Input::Message { from, body } => send_countdown(alloc, *from, first_or_zero(body)),
+            Input::Message { from, body } => send_countdown(alloc, *from, first_byte(body)),
         }
     }
 

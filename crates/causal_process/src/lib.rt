@@ -75,7 +75,7 @@
 #![tactic(auto)]
 
 /// The body of a message.
-mod body;
+pub mod body;
 /// A process wrapper that counts drops.
 mod counted;
 /// A count that two partners exchange.
@@ -87,17 +87,18 @@ mod process;
 /// A count that goes round a ring.
 mod ring;
 /// The sends of the kinds: one message, or none.
-mod sending;
+pub mod sending;
 /// A list of values of any type.
 mod sequence;
 /// A sum that depends on the order of its deliveries.
 mod tally;
 
-pub use body::Body;
+pub use body::{Body, first_byte};
 pub use counted::Counted;
 pub use echo::Echo;
 pub use message::{Input, Outgoing};
 pub use process::Process;
 pub use ring::Ring;
+pub use sending::send_one;
 pub use sequence::Sequence;
 pub use tally::Tally;

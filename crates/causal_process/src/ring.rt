@@ -1,5 +1,5 @@
 //! A process of a ring, round which a count goes; each process lowers it by one.
-use crate::body::first_or_zero;
+use crate::body::first_byte;
 use crate::message::{Input, Outgoing};
 use crate::process::Process;
 use crate::sending::{send_countdown, send_one};
@@ -64,7 +64,7 @@ impl Process for Ring {
             Input::Begin if self.me == 0 => send_one(alloc, self.next(), &[self.hops]),
             Input::Begin => Ok(Vec::new(alloc)),
             Input::Message { from: _, body } => {
-                send_countdown(alloc, self.next(), first_or_zero(body))
+                send_countdown(alloc, self.next(), first_byte(body))
             }
         }
     }

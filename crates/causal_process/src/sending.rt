@@ -7,8 +7,11 @@ use crate::message::Outgoing;
 use causal_name::{NoMemory, Pid};
 use std::alloc::Global;
 
-// Returns the sends of one message with these bytes.
-pub(crate) fn send_one(alloc: Global, to: Pid, bytes: &[u8]) -> Result<Vec<Outgoing>, NoMemory>
+/// Returns the sends of one message with these bytes.
+///
+/// # Errors
+/// `NoMemory` if an allocation failed.
+pub fn send_one(alloc: Global, to: Pid, bytes: &[u8]) -> Result<Vec<Outgoing>, NoMemory>
     ensures { IfOk result (λ sends. sends.items ≡ one_message to bytes.now) }
 {
     let body = Body::of(alloc, bytes)?;

@@ -5,7 +5,7 @@ ghost use Rattle.causal_process.specs.Kinds.{adder_after, tally_reaction};
 ghost use Rattle.causal_process.specs.Reactions.{answers_from};
 ghost use Rattle.causal_process.specs.ReactionLaws.{from_each, from_in_order};
 
-use crate::body::first_or_zero;
+use crate::body::first_byte;
 use crate::message::{Input, Outgoing};
 use crate::process::Process;
 use crate::sending::send_one;
@@ -52,7 +52,7 @@ impl Process for Tally {
             Input::Begin if self.me == 0 => Ok(Vec::new(alloc)),
             Input::Begin => send_one(alloc, Pid(0), &[self.me]),
             Input::Message { from, body } if self.me == 0 => {
-                let total = self.total.wrapping_add(u64::from(first_or_zero(body)));
+                let total = self.total.wrapping_add(u64::from(first_byte(body)));
                 let sends = send_one(alloc, *from, &total.to_be_bytes())?;
                 self.total = total;
                 Ok(sends)
