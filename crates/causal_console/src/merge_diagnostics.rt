@@ -4,7 +4,7 @@ ghost use Rattle.std.specs.Prelude.{◌≡◌};
 use crate::diagnostics::{print_at_line, print_error_line};
 use crate::hints::{FileContent, print_hints};
 use crate::place::InputNames;
-use causal_merge::{MergeFault, MergeKind, sentence};
+use causal_merge::{MergeFault, MergeKind, merge_sentence};
 use causal_outcomes::{Ended, MergeOutcome};
 
 // maximum number of torn lines that are printed one by one
@@ -78,7 +78,7 @@ fn print_merge_fault<R: Eprint + AllocGlobal, S: Drop>(
     fault: MergeFault,
     start: &[u8],
 ) {
-    match sentence(rt.alloc(), &fault) {
+    match merge_sentence(rt.alloc(), &fault) {
         Ok(text) => print_at_line(rt, command, input, fault.line, &text),
         Err(_) => print_at_line(rt, command, input, fault.line, &fault),
     }

@@ -11,7 +11,7 @@ use Rattle.causal_line.specs.Prescan.{levels, value_fits}
 use Rattle.causal_line.proofs.Lemmas.Unfit.{process_or, number_or, or_else, last_false, split, stops, after, chain, IsPlainly-or_form, IsPlainly-pid, IsPlainly-det, IsPlainly-dets, number_bad, u64_bad, pid_bad, det_bad, dets_bad, of_line, fields, either}
 use Rattle.causal_merge.specs.declared.event.Action.{Action}
 use Rattle.causal_merge.specs.declared.event.Action.TheVariants.{Crash, Restart, Forget}
-use Rattle.causal_merge.specs.Shapes.{parse_header, parse_event, parse_send, parse_deliver, parse_stable, parse_restart, parse_forget, heard_of, parse_value}
+use Rattle.causal_merge.specs.Shapes.{parse_recording_header, parse_event, parse_send_event, parse_deliver_event, parse_stable_event, parse_restart_event, parse_forget_event, heard_of, parse_recorder_value}
 
 -- if the process or the clock of an event fails the scan, its form is refused
 event_bad : (d b c : Data) (act : Action) → at 1 d ≡ Some b → at 2 d ≡ Some c → (value_fits 2 b && value_fits 2 c) ≡ false → parse_event d act ≡ Err Form
@@ -27,9 +27,9 @@ crash_bad : (d : Data) → value_fits levels d ≡ false → is_array_named d (c
 crash_bad d h is = of_line 2 (codes "crash") (λ x. parse_event x Crash ≡ Err Form) d h is (λ a b c bad name.
     event_or b c true (fields (codes "crash") a _ refl bad name) (event_bad (array (item a (item b (item c no_items)))) b c Crash refl refl) (λ none. absurd (let no : true ≡ false = none in cc)))
 
-stable_bad : (d : Data) → value_fits levels d ≡ false → is_array_named d (codes "stable") 4 ≡ true → parse_stable d ≡ Err Form
-unfolding parse_stable
-stable_bad d h is = of_line 3 (codes "stable") (λ x. parse_stable x ≡ Err Form) d h is (λ a b c e bad name.
+stable_bad : (d : Data) → value_fits levels d ≡ false → is_array_named d (codes "stable") 4 ≡ true → parse_stable_event d ≡ Err Form
+unfolding parse_stable_event
+stable_bad d h is = of_line 3 (codes "stable") (λ x. parse_stable_event x ≡ Err Form) d h is (λ a b c e bad name.
     event_or b c _ (fields (codes "stable") a _ refl bad name)
     (λ event. after (parse_det e) _ (IsPlainly-det e) (λ det. event_bad (array (item a (item b (item c (item e no_items))))) b c _ refl refl event))
     (λ own. stops (parse_det e) _ (det_bad 2 e refl (last_false (value_fits 2 e) true refl own))))
@@ -42,9 +42,9 @@ listing_bad name act d none h is = of_line 3 name (λ x. (dets_at 3 x >>= λ lis
     (λ event. after (dets_at 3 l) _ (IsPlainly-dets 3 l) (λ listed. event_bad l b c _ refl refl event))
     (λ own. stops (dets_at 3 l) _ (dets_bad 3 l e refl (last_false (value_fits 2 e) true refl own))))
 
-header_bad : (d : Data) → value_fits levels d ≡ false → is_array_named d (codes "recording") 5 ≡ true → parse_header d ≡ Err Form
-unfolding parse_header
-header_bad d h is = of_line 4 (codes "recording") (λ x. parse_header x ≡ Err Form) d h is (λ a b c e x bad name.
+header_bad : (d : Data) → value_fits levels d ≡ false → is_array_named d (codes "recording") 5 ≡ true → parse_recording_header d ≡ Err Form
+unfolding parse_recording_header
+header_bad d h is = of_line 4 (codes "recording") (λ x. parse_recording_header x ≡ Err Form) d h is (λ a b c e x bad name.
     let l : Data = array (item a (item b (item c (item e (item x no_items))))) in
     process_or 1 l b _ _ refl (fields (codes "recording") a _ refl bad name) (λ h2 process. number_or 2 l c _ _ refl h2 (λ h3 version. number_or 3 l e _ _ refl h3 (λ h4 processes.
     stops (u64_at 4 l) _ (u64_bad 2 4 l x refl (last_false (value_fits 2 x) true refl h4))))))
@@ -58,18 +58,18 @@ heard_bad d h is = of_line 4 (codes "heard") (λ x. heard_of x ≡ Err Form) d h
     process_or 3 l e _ _ refl h3 (λ h4 from.
     stops (u64_at 4 l) _ (u64_bad 2 4 l x refl (last_false (value_fits 2 x) true refl h4)))))))
 
-send_bad : (d : Data) → value_fits levels d ≡ false → is_array_named d (codes "send") 5 ≡ true → parse_send d ≡ Err Form
-unfolding parse_send
-send_bad d h is = of_line 4 (codes "send") (λ x. parse_send x ≡ Err Form) d h is (λ a b c e x bad name.
+send_bad : (d : Data) → value_fits levels d ≡ false → is_array_named d (codes "send") 5 ≡ true → parse_send_event d ≡ Err Form
+unfolding parse_send_event
+send_bad d h is = of_line 4 (codes "send") (λ x. parse_send_event x ≡ Err Form) d h is (λ a b c e x bad name.
     let l : Data = array (item a (item b (item c (item e (item x no_items))))) in
     event_or b c _ (fields (codes "send") a _ refl bad name)
     (λ event. after (pid_at 3 l) _ (IsPlainly-pid 3 l) (λ to. after (u32_at 4 l) _ (IsPlainly-or_form _) (λ ssn. event_bad l b c _ refl refl event)))
     (λ own. process_or 3 l e _ _ refl own (λ h2 to.
     stops (u32_at 4 l) _ (number_bad (2 ^ 32) 2 4 l x refl (last_false (value_fits 2 x) true refl h2)))))
 
-deliver_bad : (d : Data) → value_fits levels d ≡ false → is_array_named d (codes "deliver") 8 ≡ true → parse_deliver d ≡ Err Form
-unfolding parse_deliver
-deliver_bad d h is = of_line 7 (codes "deliver") (λ x. parse_deliver x ≡ Err Form) d h is (λ a b c e x y z w bad name.
+deliver_bad : (d : Data) → value_fits levels d ≡ false → is_array_named d (codes "deliver") 8 ≡ true → parse_deliver_event d ≡ Err Form
+unfolding parse_deliver_event
+deliver_bad d h is = of_line 7 (codes "deliver") (λ x. parse_deliver_event x ≡ Err Form) d h is (λ a b c e x y z w bad name.
     let l : Data = array (item a (item b (item c (item e (item x (item y (item z (item w no_items)))))))) in
     event_or b c _ (fields (codes "deliver") a _ refl bad name)
     (λ event. after (pid_at 3 l) _ (IsPlainly-pid 3 l) (λ source. after (u32_at 4 l) _ (IsPlainly-or_form _) (λ lane. after (u32_at 5 l) _ (IsPlainly-or_form _) (λ ssn.
@@ -79,8 +79,8 @@ deliver_bad d h is = of_line 7 (codes "deliver") (λ x. parse_deliver x ≡ Err 
     stops (dets_at 7 l) _ (dets_bad 7 l w refl (last_false (value_fits 2 w) true refl h5))))))))
 
 -- a value that fails the scan is refused for its form
-pub no_line : (d : Data) → value_fits levels d ≡ false → parse_value d ≡ Err Form
-unfolding parse_value parse_restart parse_forget
+pub no_line : (d : Data) → value_fits levels d ≡ false → parse_recorder_value d ≡ Err Form
+unfolding parse_recorder_value parse_restart_event parse_forget_event
 no_line d h =
     either _ _ _ (header_bad d h) (either _ _ _ (send_bad d h) (either _ _ _ (deliver_bad d h) (either _ _ _ (stable_bad d h)
     (either _ _ _ (crash_bad d h) (either _ _ _ (listing_bad (codes "restart") Restart d refl h) (either _ _ _ (listing_bad (codes "forget") Forget d refl h) (either _ _ _ (heard_bad d h) refl)))))))

@@ -6,7 +6,7 @@ use Rattle.causal_line.specs.declared.kind.TextKind.{TextKind}
 use Rattle.causal_merge.specs.declared.event.RecorderLine.{RecorderLine}
 use Rattle.causal_merge.specs.declared.event.EventAtLine.{EventAtLine}
 use Rattle.causal_merge.specs.declared.fault.MergeFault.{MergeFault}
-use Rattle.causal_merge.specs.Reading.{with_line, read_all_lines}
+use Rattle.causal_merge.specs.Reading.{with_recorder_line, read_all_lines}
 use Rattle.causal_merge.specs.Inside.Merger as merger
 use Rattle.causal_merge.specs.EventMerge.{merge_events_of}
 
@@ -44,7 +44,7 @@ merged-fault most n m all before rest e f same split h =
 pub merged-all : (most n m : ℕ) (all before rest : List EventAtLine) (past : List Entry) → m ≡ n → all ≡ reverse before ++ rest → rest ≡ [] → merge_events_of most m before ≡ Ok past → merge_events_of most n (reverse all) ≡ Ok past
 merged-all most n m all before rest past same split none h = grind (arith, reverse_whole)
 
-more_said : (said s : List RecorderLine) (r : Result RecorderLine TextKind) → with_line s r ≡ Ok said → length said ≡ suc (length s)
+more_said : (said s : List RecorderLine) (r : Result RecorderLine TextKind) → with_recorder_line s r ≡ Ok said → length said ≡ suc (length s)
 more_said said s (Ok x) h = (let same : x ∷ s ≡ said = cc in sym (ap length same))
 more_said said s (Err k) h = absurd (cc)
 

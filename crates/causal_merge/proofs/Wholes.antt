@@ -16,7 +16,7 @@ use Rattle.causal_merge.specs.ReadLines.{HasAllHeaders, LacksHeader}
 use Rattle.causal_merge.specs.ReadLines.{header_fault as missing_fault}
 use Rattle.causal_merge.specs.Order.{IsMergedOrder}
 use Rattle.causal_merge.specs.EventMerge.{merge_events_of}
-use Rattle.causal_merge.specs.Merges.{MergesFrom, IsFirstFaultWithin}
+use Rattle.causal_merge.specs.Merges.{MergesFrom, IsFirstMergeFaultWithin}
 use Rattle.causal_merge.specs.Origins.{origin_of}
 use Rattle.causal_merge.specs.declared.merge.OrderedRun.{OrderedRun}
 use Rattle.causal_merge.specs.Inside.OrderedRuns.{IsOrderedRun}
@@ -55,12 +55,12 @@ merges most text o r torn h processes same entries = record {
 }
 
 -- if a header is missing, that is the first error
-pub header_fault : (most : ℕ) (text : List ℕ) (g : ParsedFiles) (f : MergeFault) → HasParsedLines most g (reverse (lines text)) → ((said : List RecorderLine) → AreParsedFiles g said → (missing : FinSet nat_cmp) × LacksHeader said missing × (f ≡ missing_fault (length said + 1) missing)) → IsFirstFaultWithin most text f
+pub header_fault : (most : ℕ) (text : List ℕ) (g : ParsedFiles) (f : MergeFault) → HasParsedLines most g (reverse (lines text)) → ((said : List RecorderLine) → AreParsedFiles g said → (missing : FinSet nat_cmp) × LacksHeader said missing × (f ≡ missing_fault (length said + 1) missing)) → IsFirstMergeFaultWithin most text f
 header_fault most text g f read lacks =
     let h = lacks read.0 read.2 in
     let count : length read.0 ≡ length (lines text) = reading-length most (reverse (lines text)) read.0 read.1 ∙ length-reverse (lines text) in
     inr (inl (record { contents = read.0; parses = read.1; missing = h.0; lacks = h.1; is = h.2 ∙ ap (λ n. missing_fault (n + 1) h.0) count }))
 
 -- an error of the ordered events is the first
-pub event_fault : (most : ℕ) (text : List ℕ) (o : OrderedRun) (f : MergeFault) → IsOrderedRun most text o → merge_events_of most o.run.processes (reverse o.events.items) ≡ Err f → IsFirstFaultWithin most text f
+pub event_fault : (most : ℕ) (text : List ℕ) (o : OrderedRun) (f : MergeFault) → IsOrderedRun most text o → merge_events_of most o.run.processes (reverse o.events.items) ≡ Err f → IsFirstMergeFaultWithin most text f
 event_fault most text o f h faulty = inr (inr (record { contents = h.contents; parses = h.parses; run = o.run; whole = h.whole; order = o.events.items; ordered = h.ordered; faulty = faulty }))

@@ -19,7 +19,7 @@ use Rattle.causal_merge.specs.declared.fault.MergeKind.TheVariants as kind
 use Rattle.causal_merge.specs.declared.fault.MergeFault.{MergeFault}
 use Rattle.causal_merge.specs.declared.fault_details.MergeDetail.{MergeDetail}
 use Rattle.causal_merge.specs.declared.sends.SendName.{SendName}
-use Rattle.causal_merge.specs.FaultDetails.{name_of, detail_of}
+use Rattle.causal_merge.specs.FaultDetails.{name_of, merge_detail_of}
 
 -- whether two names are those of one send
 abbrev pub same_send : SendName → SendName → Bool
@@ -34,21 +34,21 @@ send_position (_ ∷ past) name = send_position past name
 
 -- The entry that an event becomes after this past. A delivery whose send is missing gets its own position as that of
 -- the send; no send is there.
-abbrev pub entry_of : List Entry → Pid → Action → Entry
-entry_of past p (Send to ssn) = entry.Send p to ssn
-entry_of past p (Deliver source lane ssn rsn listed) =
+abbrev pub event_entry : List Entry → Pid → Action → Entry
+event_entry past p (Send to ssn) = entry.Send p to ssn
+event_entry past p (Deliver source lane ssn rsn listed) =
     entry.Deliver p (unwrap_or (send_position past (record { source = source; lane = lane; ssn = ssn })) (length past)) rsn listed
-entry_of past p (Stable det) = entry.Stable det
-entry_of past p Crash = entry.Crash p
-entry_of past p (Restart listed) = entry.Restart p listed
-entry_of past p (Forget listed) = entry.Forget p listed
+event_entry past p (Stable det) = entry.Stable det
+event_entry past p Crash = entry.Crash p
+event_entry past p (Restart listed) = entry.Restart p listed
+event_entry past p (Forget listed) = entry.Forget p listed
 
 -- the determinants that an event lists
-abbrev pub listed_by : Action → List Det
-listed_by (Deliver source lane ssn rsn listed) = listed
-listed_by (Restart listed) = listed
-listed_by (Forget listed) = listed
-listed_by _ = []
+abbrev pub listed_by_action : Action → List Det
+listed_by_action (Deliver source lane ssn rsn listed) = listed
+listed_by_action (Restart listed) = listed
+listed_by_action (Forget listed) = listed
+listed_by_action _ = []
 
 -- whether the other process that an act names, if any, is one of n
 abbrev pub has_other : ℕ → Action → Bool
@@ -69,7 +69,7 @@ is_duplicate (last ∷ before) e = last.event.clock == e.clock && last.event.pro
 abbrev pub event_fault_before_push : ℕ → ℕ → List EventAtLine → List Entry → RecordedEvent → Option MergeKind
 event_fault_before_push most n before past e =
     if is_duplicate before e then Some kind.Twice else
-    if exceeds most past (length (listed_by e.act)) then Some (kind.Line TooLong) else
+    if exceeds most past (length (listed_by_action e.act)) then Some (kind.Line TooLong) else
     if not (has_processes n e) then Some (kind.Line NoProcess) else
     None
 
@@ -81,15 +81,15 @@ first_fault_of None later = later
 -- the first error of the next event: that one, or the error of its entry in a trace
 abbrev pub event_fault : ℕ → ℕ → List EventAtLine → List Entry → RecordedEvent → Option MergeKind
 event_fault most n before past e =
-    first_fault_of (event_fault_before_push most n before past e) (option_map (λ f. kind.Line (text_kind_of f)) (fault_within most (record { processes = n; past = past }) (entry_of past e.process e.act)))
+    first_fault_of (event_fault_before_push most n before past e) (option_map (λ f. kind.Line (text_kind_of f)) (fault_within most (record { processes = n; past = past }) (event_entry past e.process e.act)))
 
 -- the values that explain an error of this kind in an event
 abbrev pub event_detail : MergeKind → List Entry → RecordedEvent → Option MergeDetail
-event_detail k past e = detail_of k past (entry_of past e.process e.act) (name_of e.act)
+event_detail k past e = merge_detail_of k past (event_entry past e.process e.act) (name_of e.act)
 
 -- the entries with that of one more event, or the event's error
 abbrev pub with_event_entry : List Entry → EventAtLine → Option MergeKind → Result (List Entry) MergeFault
-with_event_entry past e None = Ok (entry_of past e.event.process e.event.act ∷ past)
+with_event_entry past e None = Ok (event_entry past e.event.process e.event.act ∷ past)
 with_event_entry past e (Some k) = Err (record { line = e.line; kind = k; detail = event_detail k past e.event })
 
 -- the entries of these events in a run of n processes; else the error of the oldest event that has one

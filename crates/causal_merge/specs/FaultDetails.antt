@@ -59,6 +59,6 @@ line_detail NoDelivery past e name = undelivered_detail past e
 line_detail _ past e name = None
 
 -- `line_detail` for any kind
-abbrev pub detail_of : MergeKind → List Entry → Entry → Option SendName → Option MergeDetail
-detail_of (kind.Line k) past e name = line_detail k past e name
-detail_of _ past e name = None
+abbrev pub merge_detail_of : MergeKind → List Entry → Entry → Option SendName → Option MergeDetail
+merge_detail_of (kind.Line k) past e name = line_detail k past e name
+merge_detail_of _ past e name = None

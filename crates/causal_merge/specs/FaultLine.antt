@@ -16,5 +16,5 @@ kind_line line kind.Twice = named_line line (codes "Twice")
 kind_line line (kind.Line k) = text.fault_line (record { line = line; kind = k })
 
 -- an error that a trace's text may have prints as it does there
-abbrev pub fault_line : MergeFault → List ℕ
-fault_line f = kind_line f.line f.kind
+abbrev pub merge_fault_line : MergeFault → List ℕ
+merge_fault_line f = kind_line f.line f.kind

@@ -18,7 +18,7 @@ line_hint NoDelivery = Some (codes "a recording or its end may be missing, or th
 line_hint _ = None
 
 -- the hint on a kind of error; None if its sentence is enough
-abbrev pub hint_of : MergeKind → Option (List ℕ)
-hint_of (kind.NoHeader missing) = Some (codes "a recording may be missing")
-hint_of kind.Twice = Some (codes "a recording may stand twice, or a clock fell back at a restart")
-hint_of (kind.Line k) = line_hint k
+abbrev pub merge_hint_of : MergeKind → Option (List ℕ)
+merge_hint_of (kind.NoHeader missing) = Some (codes "a recording may be missing")
+merge_hint_of kind.Twice = Some (codes "a recording may stand twice, or a clock fell back at a restart")
+merge_hint_of (kind.Line k) = line_hint k

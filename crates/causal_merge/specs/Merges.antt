@@ -66,9 +66,9 @@ pub record IsEventFault (most : ℕ) (text : List ℕ) (fault : MergeFault) : Ty
   pub faulty : merge_events_of most run.processes (reverse order) ≡ Err fault
 
 -- the first error of the recorder files
-abbrev pub IsFirstFaultWithin : ℕ → List ℕ → MergeFault → Type 0
-IsFirstFaultWithin most text fault = IsLineFault most text fault ⊎ (IsHeaderFault most text fault ⊎ IsEventFault most text fault)
+abbrev pub IsFirstMergeFaultWithin : ℕ → List ℕ → MergeFault → Type 0
+IsFirstMergeFaultWithin most text fault = IsLineFault most text fault ⊎ (IsHeaderFault most text fault ⊎ IsEventFault most text fault)
 
--- `IsFirstFaultWithin` with the default limits
-abbrev pub IsFirstFault : List ℕ → MergeFault → Type 0
-IsFirstFault text fault = IsFirstFaultWithin default_entries text fault
+-- `IsFirstMergeFaultWithin` with the default limits
+abbrev pub IsFirstMergeFault : List ℕ → MergeFault → Type 0
+IsFirstMergeFault text fault = IsFirstMergeFaultWithin default_entries text fault

@@ -11,7 +11,7 @@ use Rattle.causal_merge.specs.declared.event.RecorderLine.{RecorderLine}
 use Rattle.causal_merge.specs.declared.event.RecorderLine.TheVariants as says
 use Rattle.causal_merge.specs.declared.fault.MergeKind.TheVariants as kind
 use Rattle.causal_merge.specs.declared.fault.MergeFault.{MergeFault}
-use Rattle.causal_merge.specs.Shapes.{parse_value}
+use Rattle.causal_merge.specs.Shapes.{parse_recorder_value}
 use Rattle.causal_merge.specs.TornLines.{is_blank, is_torn}
 use Rattle.causal_merge.specs.ReadLines.{run_in}
 
@@ -25,7 +25,7 @@ max_input_len most = min (most * 1024) max_bytes
 
 -- the content of a line with this JSON value; if the bytes are not JSON, a torn line or their error
 abbrev pub parse_json_value : List ℕ → Result Data TextKind → Result RecorderLine TextKind
-parse_json_value bytes (Ok d) = parse_value d
+parse_json_value bytes (Ok d) = parse_recorder_value d
 parse_json_value bytes (Err k) = if is_torn bytes then Ok says.Torn else Err k
 
 -- the content of a line, by its bytes without the line feed
@@ -51,11 +51,11 @@ abbrev pub line_fault : ℕ → TextKind → MergeFault
 line_fault line k = record { line = line; kind = kind.Line k; detail = None }
 
 -- the content with one more line, or the error of that line
-abbrev pub with_line : List RecorderLine → Result RecorderLine TextKind → Result (List RecorderLine) MergeFault
-with_line said (Ok said_next) = Ok (said_next ∷ said)
-with_line said (Err k) = Err (line_fault (length said + 1) k)
+abbrev pub with_recorder_line : List RecorderLine → Result RecorderLine TextKind → Result (List RecorderLine) MergeFault
+with_recorder_line said (Ok said_next) = Ok (said_next ∷ said)
+with_recorder_line said (Err k) = Err (line_fault (length said + 1) k)
 
 -- the content of these lines, the newest first in both lists; else the error of the oldest line that has one
 abbrev pub read_all_lines : ℕ → List (List ℕ) → Result (List RecorderLine) MergeFault
 read_all_lines most [] = Ok []
-read_all_lines most (line ∷ before) = read_all_lines most before >>= λ said. with_line said (next_line most (run_in said) (sum_by length (line ∷ before)) line)
+read_all_lines most (line ∷ before) = read_all_lines most before >>= λ said. with_recorder_line said (next_line most (run_in said) (sum_by length (line ∷ before)) line)

@@ -18,8 +18,8 @@ check_header_values process version processes number =
     if version == 1 then (if is_process_count processes then Ok (says.Header process (record { processes = processes; number = number })) else Err Processes) else Err Version
 
 -- `["recording",process,version,processes,run]`
-unfoldable pub parse_header : Data → Result RecorderLine TextKind
-parse_header d = do
+unfoldable pub parse_recording_header : Data → Result RecorderLine TextKind
+parse_recording_header d = do
   process ← pid_at 1 d
   version ← u32_at 2 d
   processes ← u32_at 3 d
@@ -34,15 +34,15 @@ parse_event d act = do
   Ok (says.Event (record { process = process; clock = clock; act = act }))
 
 -- `["send",process,clock,to,ssn]`
-unfoldable pub parse_send : Data → Result RecorderLine TextKind
-parse_send d = do
+unfoldable pub parse_send_event : Data → Result RecorderLine TextKind
+parse_send_event d = do
   to ← pid_at 3 d
   ssn ← u32_at 4 d
   parse_event d (Send to ssn)
 
 -- `["deliver",process,clock,source,lane,ssn,rsn,[dets]]`
-unfoldable pub parse_deliver : Data → Result RecorderLine TextKind
-parse_deliver d = do
+unfoldable pub parse_deliver_event : Data → Result RecorderLine TextKind
+parse_deliver_event d = do
   source ← pid_at 3 d
   lane ← u32_at 4 d
   ssn ← u32_at 5 d
@@ -51,21 +51,21 @@ parse_deliver d = do
   parse_event d (Deliver source lane ssn rsn listed)
 
 -- `["stable",process,clock,det]`
-unfoldable pub parse_stable : Data → Result RecorderLine TextKind
-parse_stable d = do
+unfoldable pub parse_stable_event : Data → Result RecorderLine TextKind
+parse_stable_event d = do
   named ← field 3 d
   det ← parse_det named
   parse_event d (Stable det)
 
 -- `["restart",process,clock,[dets]]`
-unfoldable pub parse_restart : Data → Result RecorderLine TextKind
-parse_restart d = do
+unfoldable pub parse_restart_event : Data → Result RecorderLine TextKind
+parse_restart_event d = do
   listed ← dets_at 3 d
   parse_event d (Restart listed)
 
 -- `["forget",process,clock,[dets]]`
-unfoldable pub parse_forget : Data → Result RecorderLine TextKind
-parse_forget d = do
+unfoldable pub parse_forget_event : Data → Result RecorderLine TextKind
+parse_forget_event d = do
   listed ← dets_at 3 d
   parse_event d (Forget listed)
 
@@ -79,14 +79,14 @@ heard_of d = do
   Ok says.Heard
 
 -- the shapes of a line; a value that has none of them is refused
-unfoldable pub parse_value : Data → Result RecorderLine TextKind
-parse_value d =
-    if is_array_named d (codes "recording") 5 then parse_header d else
-    if is_array_named d (codes "send") 5 then parse_send d else
-    if is_array_named d (codes "deliver") 8 then parse_deliver d else
-    if is_array_named d (codes "stable") 4 then parse_stable d else
+unfoldable pub parse_recorder_value : Data → Result RecorderLine TextKind
+parse_recorder_value d =
+    if is_array_named d (codes "recording") 5 then parse_recording_header d else
+    if is_array_named d (codes "send") 5 then parse_send_event d else
+    if is_array_named d (codes "deliver") 8 then parse_deliver_event d else
+    if is_array_named d (codes "stable") 4 then parse_stable_event d else
     if is_array_named d (codes "crash") 3 then parse_event d Crash else
-    if is_array_named d (codes "restart") 4 then parse_restart d else
-    if is_array_named d (codes "forget") 4 then parse_forget d else
+    if is_array_named d (codes "restart") 4 then parse_restart_event d else
+    if is_array_named d (codes "forget") 4 then parse_forget_event d else
     if is_array_named d (codes "heard") 5 then heard_of d else
     Err Form

@@ -1,6 +1,6 @@
 //! The content of a line of a recorder file.
 ghost use Rattle.std.specs.Prelude.{◌≡◌, length};
-ghost use Rattle.causal_merge.specs.EventMerge.{listed_by};
+ghost use Rattle.causal_merge.specs.EventMerge.{listed_by_action};
 
 use causal_name::{Det, Pid};
 use causal_trace::entry::Dets;
@@ -41,7 +41,7 @@ pub(crate) enum Action {
 impl Action {
     /// Returns the number of determinants that it lists.
     pub(crate) fn listed_count(&self) -> usize
-        ensures { result ≡ length (listed_by self.now) }
+        ensures { result ≡ length (listed_by_action self.now) }
     {
         match self {
             Action::Deliver { listed, .. } => listed.as_slice().len(),

@@ -1,6 +1,6 @@
 //! The error messages of recorder files, and possible causes.
 ghost use Rattle.std.specs.Prelude.{◌≡◌, option_map};
-ghost use Rattle.causal_merge.specs.Hints.{hint_of, line_hint};
+ghost use Rattle.causal_merge.specs.Hints.{merge_hint_of, line_hint};
 ghost use Rattle.causal_merge.specs.Sentences.{line_sentence, sentence_of};
 
 use crate::fault::MergeKind;
@@ -20,7 +20,7 @@ impl MergeKind {
 
     /// Returns a possible cause of an error of this kind, for people; None if its sentence is enough.
     pub fn hint(self) -> Option<&'static str>
-        ensures { option_map (λ text. text.now) result ≡ hint_of self }
+        ensures { option_map (λ text. text.now) result ≡ merge_hint_of self }
     {
         match self {
             MergeKind::NoHeader { .. } => Some("a recording may be missing"),

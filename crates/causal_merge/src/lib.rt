@@ -1,7 +1,7 @@
 //! Merges the recorder files of the processes of one run into one trace.
 //!
 //! Start at [`merge_text`]: it reads the lines of all files, in any order, and returns the trace or the first error;
-//! [`fault_line`] returns the line that prints the error. [`merge_within`] merges within limits that the caller sets,
+//! [`merge_fault_line`] returns the line that prints the error. [`merge_within`] merges within limits that the caller sets,
 //! and [`max_input_len`] returns the maximum size of recorder files for them. [`RecordingReader`] reads the files part by
 //! part, and [`parse_recordings`] parses the lines of a part before their turn, so that several threads can share that
 //! work.
@@ -62,6 +62,6 @@ pub use merge::{MappedTrace, MergedTrace, merge_mapped, merge_text, merge_within
 pub use origins::Origin;
 pub use recorder_chunk::{RecorderChunk, parse_recordings};
 pub use recording_reader::RecordingReader;
-pub use report::fault_line;
+pub use report::merge_fault_line;
 pub use sends::SendName;
-pub use sentences::sentence;
+pub use sentences::merge_sentence;

@@ -2,7 +2,7 @@
 ghost use Rattle.std.specs.Prelude.{◌≡◌, ◌≤◌, IfOk, OnOk};
 ghost use Rattle.serde_json.specs.View.{view};
 ghost use Rattle.causal_line.specs.Returns.{Returns};
-ghost use Rattle.causal_merge.specs.Shapes.{check_header_values, parse_header, parse_event, parse_send, parse_deliver, parse_stable, heard_of, parse_value};
+ghost use Rattle.causal_merge.specs.Shapes.{check_header_values, parse_recording_header, parse_event, parse_send_event, parse_deliver_event, parse_stable_event, heard_of, parse_recorder_value};
 ghost use Rattle.causal_merge.specs.Reading.{parse_bytes, check_header, next_line, same_run, max_bytes};
 ghost use Rattle.causal_line.specs.Values.{without_line_feed};
 ghost use Rattle.causal_merge.specs.ParsedFiles.{IsSoundLine};
@@ -43,9 +43,9 @@ fn check_header_values(
     Ok(RecorderLine::Header { process, run })
 }
 
-#[tactic(auto, unfolding(crate::specs::Shapes::parse_header))]
-fn parse_header(value: &Value) -> Result<RecorderLine, TextKind>
-    ensures value { result ≡ parse_header (view value.now) }
+#[tactic(auto, unfolding(crate::specs::Shapes::parse_recording_header))]
+fn parse_recording_header(value: &Value) -> Result<RecorderLine, TextKind>
+    ensures value { result ≡ parse_recording_header (view value.now) }
     ensures sound { IfOk result IsSoundLine }
 {
     let process = pid_at(value, 1)?;
@@ -72,9 +72,9 @@ fn parse_event(value: &Value, act: Action) -> Result<RecorderLine, TextKind>
     })
 }
 
-#[tactic(auto, unfolding(crate::specs::Shapes::parse_send))]
-fn parse_send(value: &Value) -> Result<RecorderLine, TextKind>
-    ensures value { result ≡ parse_send (view value.now) }
+#[tactic(auto, unfolding(crate::specs::Shapes::parse_send_event))]
+fn parse_send_event(value: &Value) -> Result<RecorderLine, TextKind>
+    ensures value { result ≡ parse_send_event (view value.now) }
     ensures sound { IfOk result IsSoundLine }
 {
     let act = Action::Send {
@@ -84,9 +84,9 @@ fn parse_send(value: &Value) -> Result<RecorderLine, TextKind>
     parse_event(value, act)
 }
 
-#[tactic(auto, unfolding(crate::specs::Shapes::parse_deliver))]
-fn parse_deliver(alloc: Global, value: &Value) -> Result<RecorderLine, TextKind>
-    ensures value { Returns result (parse_deliver (view value.now)) }
+#[tactic(auto, unfolding(crate::specs::Shapes::parse_deliver_event))]
+fn parse_deliver_event(alloc: Global, value: &Value) -> Result<RecorderLine, TextKind>
+    ensures value { Returns result (parse_deliver_event (view value.now)) }
     ensures sound { IfOk result IsSoundLine }
 {
     let act = Action::Deliver {
@@ -99,9 +99,9 @@ fn parse_deliver(alloc: Global, value: &Value) -> Result<RecorderLine, TextKind>
     parse_event(value, act)
 }
 
-#[tactic(auto, unfolding(crate::specs::Shapes::parse_stable))]
-fn parse_stable(value: &Value) -> Result<RecorderLine, TextKind>
-    ensures value { result ≡ parse_stable (view value.now) }
+#[tactic(auto, unfolding(crate::specs::Shapes::parse_stable_event))]
+fn parse_stable_event(value: &Value) -> Result<RecorderLine, TextKind>
+    ensures value { result ≡ parse_stable_event (view value.now) }
     ensures sound { IfOk result IsSoundLine }
 {
     let named = value.get(3).ok_or(TextKind::Form)?;
@@ -121,19 +121,19 @@ fn heard_of(value: &Value) -> Result<RecorderLine, TextKind>
     Ok(RecorderLine::Heard)
 }
 
-#[tactic(auto, unfolding(crate::specs::Shapes::parse_value, crate::specs::Shapes::parse_restart, crate::specs::Shapes::parse_forget))]
-fn parse_value(alloc: Global, value: &Value) -> Result<RecorderLine, TextKind>
-    ensures value { Returns result (parse_value (view value.now)) }
+#[tactic(auto, unfolding(crate::specs::Shapes::parse_recorder_value, crate::specs::Shapes::parse_restart_event, crate::specs::Shapes::parse_forget_event))]
+fn parse_recorder_value(alloc: Global, value: &Value) -> Result<RecorderLine, TextKind>
+    ensures value { Returns result (parse_recorder_value (view value.now)) }
     ensures sound { IfOk result IsSoundLine }
 {
     if is_array_named(value, "recording", 5) {
-        parse_header(value)
+        parse_recording_header(value)
     } else if is_array_named(value, "send", 5) {
-        parse_send(value)
+        parse_send_event(value)
     } else if is_array_named(value, "deliver", 8) {
-        parse_deliver(alloc, value)
+        parse_deliver_event(alloc, value)
     } else if is_array_named(value, "stable", 4) {
-        parse_stable(value)
+        parse_stable_event(value)
     } else if is_array_named(value, "crash", 3) {
         parse_event(value, Action::Crash)
     } else if is_array_named(value, "restart", 4) {
@@ -159,7 +159,7 @@ fn parse_bytes(alloc: Global, bytes: &[u8]) -> Result<RecorderLine, TextKind>
         return Ok(RecorderLine::Blank);
     }
     match value_of(alloc, bytes) {
-        Ok(Some(value)) => parse_value(alloc, &value),
+        Ok(Some(value)) => parse_recorder_value(alloc, &value),
         Ok(None) => Err(TextKind::Form),
         Err(TextKind::NoMemory) => Err(TextKind::NoMemory),
         Err(kind) => {
@@ -197,7 +197,7 @@ fn check_header(first: Option<RunHeader>, line: RecorderLine) -> Result<Recorder
 }
 
 /// Parses a line, with its line feed if it has one. Needs nothing of the lines before it.
-pub(crate) fn parse_line(alloc: Global, line: &[u8]) -> Result<RecorderLine, TextKind>
+pub(crate) fn parse_recorder_line(alloc: Global, line: &[u8]) -> Result<RecorderLine, TextKind>
     ensures value { Returns result (parse_bytes (without_line_feed line.now)) }
     ensures sound { IfOk result IsSoundLine }
 {
@@ -220,7 +220,7 @@ pub(crate) fn next_line(
     if end > max_input_len(limits) {
         return Err(TextKind::Big);
     }
-    let said = parse_line(alloc, line)?;
+    let said = parse_recorder_line(alloc, line)?;
     check_header(first, said)
 }
 

@@ -1,7 +1,7 @@
 //! Merges the recorder files of a run.
 ghost use Rattle.std.specs.Prelude.{◌≡◌, ◌≢◌, ◌≤◌, ℕ, List, map, reverse, IfOk, IfErr};
 ghost use Rattle.causal_trace.specs.Limits.{IsProcessCount};
-ghost use Rattle.causal_merge.specs.Merges.{Merges, MergesFrom, MergesWithin, IsFirstFault, IsFirstFaultWithin};
+ghost use Rattle.causal_merge.specs.Merges.{Merges, MergesFrom, MergesWithin, IsFirstMergeFault, IsFirstMergeFaultWithin};
 ghost use Rattle.causal_merge.specs.Origins.{origin_of};
 ghost use Rattle.causal_merge.specs.ParsedFiles.{AreParsedFiles, HasParsedLines};
 ghost use Rattle.causal_merge.specs.Reading.{max_bytes};
@@ -40,7 +40,7 @@ pub struct MergedTrace {
 pub fn merge_text(alloc: Global, text: &[u8]) -> Result<MergedTrace, MergeFault>
     ensures ok { IfOk result (λ merged. Merges text.now merged.trace.recording merged.torn.items) }
     ensures err { IfErr result
-        (λ fault. fault.kind ≢ MergeKind.Line TextKind.NoMemory → IsFirstFault text.now fault) }
+        (λ fault. fault.kind ≢ MergeKind.Line TextKind.NoMemory → IsFirstMergeFault text.now fault) }
 {
     merge_within(alloc, text, DEFAULT_LIMITS)
 }
@@ -51,7 +51,7 @@ pub fn merge_within(alloc: Global, text: &[u8], limits: Limits) -> Result<Merged
     ensures ok { IfOk result
         (λ merged. MergesWithin limits.entries text.now merged.trace.recording merged.torn.items) }
     ensures err { IfErr result (λ fault. fault.kind ≢ MergeKind.Line TextKind.NoMemory
-        → IsFirstFaultWithin limits.entries text.now fault) }
+        → IsFirstMergeFaultWithin limits.entries text.now fault) }
 {
     let reader = RecordingReader::within(alloc, limits).feed(text)?;
     reader.merge()
@@ -70,7 +70,7 @@ pub fn merge_mapped(alloc: Global, text: &[u8], limits: Limits) -> Result<Mapped
     ensures ok { IfOk result (λ mapped. MergesFrom limits.entries text.now
         mapped.merged.trace.recording mapped.merged.torn.items mapped.origins.items) }
     ensures err { IfErr result (λ fault. fault.kind ≢ MergeKind.Line TextKind.NoMemory
-        → IsFirstFaultWithin limits.entries text.now fault) }
+        → IsFirstMergeFaultWithin limits.entries text.now fault) }
 {
     let reader = RecordingReader::within(alloc, limits).feed(text)?;
     reader.merge_mapped()
@@ -102,7 +102,7 @@ pub(crate) fn order_run(gathered: ParsedFiles) -> Result<OrderedRun, MergeFault>
         → HasParsedLines most gathered (reverse (lines text)) → IsOrderedRun most text ordered) }
     ensures few { IfOk result (λ ordered. IsProcessCount ordered.run.processes) }
     ensures err { IfErr result (λ fault. (most : ℕ) (text : List ℕ)
-        → HasParsedLines most gathered (reverse (lines text)) → IsFirstFaultWithin most text fault) }
+        → HasParsedLines most gathered (reverse (lines text)) → IsFirstMergeFaultWithin most text fault) }
 {
     let run = gathered.whole_run()?;
     let ParsedFiles {
@@ -126,7 +126,7 @@ pub(crate) fn merge_run(
         (map origin_of ordered.events.items)) }
     ensures err { IfErr result (λ fault. (text : List ℕ) → IsOrderedRun limits.entries text ordered
         → fault.kind ≢ MergeKind.Line TextKind.NoMemory
-        → IsFirstFaultWithin limits.entries text fault) }
+        → IsFirstMergeFaultWithin limits.entries text fault) }
 {
     let OrderedRun { run, events, torn } = ordered;
     let trace = merge_events(alloc, limits, run.processes, events)?;
@@ -145,7 +145,7 @@ pub(crate) fn map_run(
         mapped.origins.items) }
     ensures err { IfErr result (λ fault. (text : List ℕ) → IsOrderedRun limits.entries text ordered
         → fault.kind ≢ MergeKind.Line TextKind.NoMemory
-        → IsFirstFaultWithin limits.entries text fault) }
+        → IsFirstMergeFaultWithin limits.entries text fault) }
 {
     let Ok(origins) = origins_of(alloc, ordered.events.as_slice()) else {
         return Err(no_memory());

@@ -7,8 +7,8 @@ ghost use Rattle.causal_trace.specs.Rows.{fault_within};
 ghost use Rattle.causal_trace.specs.State.{with_entry};
 ghost use Rattle.causal_line.specs.Kinds.{text_kind_of};
 ghost use Rattle.causal_merge.specs.declared.event.EventAtLine.{EventAtLine};
-ghost use Rattle.causal_merge.specs.EventMerge.{has_processes, send_position, entry_of, event_fault_before_push, event_fault, event_detail, merge_events_of};
-ghost use Rattle.causal_merge.specs.FaultDetails.{name_of, detail_of};
+ghost use Rattle.causal_merge.specs.EventMerge.{has_processes, send_position, event_entry, event_fault_before_push, event_fault, event_detail, merge_events_of};
+ghost use Rattle.causal_merge.specs.FaultDetails.{name_of, merge_detail_of};
 ghost use Rattle.causal_merge.specs.Inside.Sends.{IsSendsOf};
 ghost use Rattle.causal_merge.specs.Inside.Merger.{HasMerged, IsFaultOfEvents, newest, is_newest};
 
@@ -36,7 +36,7 @@ pub(crate) struct EventFault {
 fn entry_fault(trace: &Trace, refused: RefusedEntry, name: Option<SendName>) -> EventFault
     ensures kind { result.kind ≡ MergeKind.Line (text_kind_of refused.fault) }
     ensures detail { (e : Entry) → refused.entry ≡ Some e → result.detail
-        ≡ detail_of result.kind trace.now.recording.past e name }
+        ≡ merge_detail_of result.kind trace.now.recording.past e name }
 {
     let kind = TextKind::from(refused.fault);
     let detail = match &refused.entry {
@@ -144,9 +144,9 @@ impl Merger {
     }
 
     // the entry for the next event
-    fn entry_of(&self, process: Pid, act: Action) -> Entry
+    fn event_entry(&self, process: Pid, act: Action) -> Entry
         ensures { IsSendsOf self.now.sends self.now.trace.recording.past
-            → result ≡ entry_of self.now.trace.recording.past process act }
+            → result ≡ event_entry self.now.trace.recording.past process act }
     {
         match act {
             Action::Send { to, ssn } => Entry::Send {
@@ -196,7 +196,7 @@ impl Merger {
             → option_map (λ f. MergeKind.Line (text_kind_of f))
             (fault_within limits.entries self.old.trace.recording entry) ≡ Some refused.kind) }
         ensures detail { IfErr result (λ refused. refused.kind ≢ MergeKind.Line TextKind.NoMemory
-            → refused.detail ≡ detail_of refused.kind self.old.trace.recording.past entry name) }
+            → refused.detail ≡ merge_detail_of refused.kind self.old.trace.recording.past entry name) }
     {
         if let Err(kind) = self.sends.note(&entry, self.trace.len()) {
             return Err(EventFault {
@@ -234,7 +234,7 @@ impl Merger {
             act,
         } = event;
         let name = name_of(&act);
-        let entry = self.entry_of(process, act);
+        let entry = self.event_entry(process, act);
         self.push(limits, entry, name)?;
         self.last = Some((clock, process));
         Ok(())

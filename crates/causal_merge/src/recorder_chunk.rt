@@ -3,7 +3,7 @@ ghost use Rattle.std.specs.Prelude.{◌≡◌, IfOk};
 ghost use Rattle.causal_line.specs.Lines.{lines};
 
 use crate::event::RecorderLine;
-use crate::line_parser::parse_line;
+use crate::line_parser::parse_recorder_line;
 use causal_line::kind::TextKind;
 use causal_line::lines::split_line;
 use causal_name::NoMemory;
@@ -53,7 +53,7 @@ pub fn parse_recordings(alloc: Global, bytes: &[u8]) -> Result<RecorderChunk<'_>
     let mut parsed = Vec::new(alloc);
     let mut rest = bytes;
     while let Some((line, after)) = split_line(rest) {
-        let content = parse_line(alloc, line);
+        let content = parse_recorder_line(alloc, line);
         let goes_on = content.is_ok() && parsed.len() < bytes.len() / SHORTEST;
         parsed.push(RecorderChunkLine {
             bytes: line,

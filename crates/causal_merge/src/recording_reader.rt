@@ -2,7 +2,7 @@
 ghost use Rattle.std.specs.Prelude.{◌≡◌, ◌≢◌, ◌+◌, ◌<◌, ◌≤◌, ◌∷◌, [], ℕ, List, length, reverse, IfOk, IfErr, OnOk};
 ghost use Rattle.causal_line.specs.Lines.{lines};
 ghost use Rattle.causal_line.specs.Returns.{Returns};
-ghost use Rattle.causal_merge.specs.Merges.{MergesFrom, MergesWithin, IsFirstFaultWithin};
+ghost use Rattle.causal_merge.specs.Merges.{MergesFrom, MergesWithin, IsFirstMergeFaultWithin};
 ghost use Rattle.causal_merge.specs.ParsedFiles.{IsSoundLine};
 ghost use Rattle.causal_merge.specs.Reading.{max_bytes, next_line, line_fault};
 ghost use Rattle.causal_merge.specs.RecordingReaders.{HasReadLines, IsReadBy};
@@ -166,7 +166,7 @@ impl RecordingReader {
             → MergesWithin most text merged.trace.recording merged.torn.items) }
         ensures err { IfErr result (λ fault. (most : ℕ) (text : List ℕ)
             → HasReadLines most self (reverse (lines text))
-            → fault.kind ≢ MergeKind.Line TextKind.NoMemory → IsFirstFaultWithin most text fault) }
+            → fault.kind ≢ MergeKind.Line TextKind.NoMemory → IsFirstMergeFaultWithin most text fault) }
     {
         let RecordingReader {
             alloc,
@@ -189,7 +189,7 @@ impl RecordingReader {
             mapped.origins.items) }
         ensures err { IfErr result (λ fault. (most : ℕ) (text : List ℕ)
             → HasReadLines most self (reverse (lines text))
-            → fault.kind ≢ MergeKind.Line TextKind.NoMemory → IsFirstFaultWithin most text fault) }
+            → fault.kind ≢ MergeKind.Line TextKind.NoMemory → IsFirstMergeFaultWithin most text fault) }
     {
         let RecordingReader {
             alloc,

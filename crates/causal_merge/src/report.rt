@@ -1,6 +1,6 @@
 //! The printed line of an error.
 ghost use Rattle.std.specs.Prelude.{◌≡◌, IfOk};
-ghost use Rattle.causal_merge.specs.FaultLine.{named_line, fault_line};
+ghost use Rattle.causal_merge.specs.FaultLine.{named_line, merge_fault_line};
 
 use crate::fault::{MergeFault, MergeKind};
 use causal_line::kind::TextFault;
@@ -17,8 +17,8 @@ fn named_line(alloc: Global, line: u32, name: &str) -> Result<Vec<u8>, NoMemory>
 
 /// Returns the line that prints an error: `fault line=3 Twice`, with a line feed. `NoMemory` is returned only if an
 /// allocation failed.
-pub fn fault_line(alloc: Global, fault: &MergeFault) -> Result<Vec<u8>, NoMemory>
-    ensures { IfOk result (λ text. text.items ≡ fault_line fault.now) }
+pub fn merge_fault_line(alloc: Global, fault: &MergeFault) -> Result<Vec<u8>, NoMemory>
+    ensures { IfOk result (λ text. text.items ≡ merge_fault_line fault.now) }
 {
     let line = fault.line;
     match fault.kind {

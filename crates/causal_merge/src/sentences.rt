@@ -18,17 +18,17 @@ use std::alloc::Global;
 ///
 /// # Errors
 /// `NoMemory` if an allocation failed.
-pub fn sentence(alloc: Global, fault: &MergeFault) -> Result<String, NoMemory>
-    ensures { IfOk result (λ text. string_bytes text ≡ texts.sentence fault.now) }
+pub fn merge_sentence(alloc: Global, fault: &MergeFault) -> Result<String, NoMemory>
+    ensures { IfOk result (λ text. string_bytes text ≡ texts.merge_sentence fault.now) }
 {
     match fault.detail {
-        Some(detail) => detail_text(alloc, fault.line, detail),
-        None => kind_text(alloc, fault.line, fault.kind),
+        Some(detail) => merge_detail_text(alloc, fault.line, detail),
+        None => merge_kind_text(alloc, fault.line, fault.kind),
     }
 }
 
-fn detail_text(alloc: Global, line: u32, detail: MergeDetail) -> Result<String, NoMemory>
-    ensures { IfOk result (λ text. string_bytes text ≡ texts.detail_text line detail) }
+fn merge_detail_text(alloc: Global, line: u32, detail: MergeDetail) -> Result<String, NoMemory>
+    ensures { IfOk result (λ text. string_bytes text ≡ texts.merge_detail_text line detail) }
 {
     match detail {
         MergeDetail::Ssn {
@@ -43,7 +43,7 @@ fn detail_text(alloc: Global, line: u32, detail: MergeDetail) -> Result<String, 
             };
             line_text(alloc, line, wrong)
         }
-        MergeDetail::Send { process, name } => no_send_text(alloc, line, process, name),
+        MergeDetail::Send { process, name } => merge_no_send_text(alloc, line, process, name),
         MergeDetail::Rsn {
             process,
             given,
@@ -56,7 +56,9 @@ fn detail_text(alloc: Global, line: u32, detail: MergeDetail) -> Result<String, 
             };
             line_text(alloc, line, wrong)
         }
-        MergeDetail::Again { process, message } => duplicate_text(alloc, line, process, message),
+        MergeDetail::Again { process, message } => merge_duplicate_text(
+            alloc, line, process, message,
+        ),
         MergeDetail::Undelivered { det } => {
             line_text(alloc, line, FaultDetail::Undelivered { det })
         }
@@ -75,15 +77,20 @@ fn line_text(alloc: Global, line: u32, wrong: FaultDetail) -> Result<String, NoM
     sentences::sentence(alloc, fault, Some(wrong))
 }
 
-fn kind_text(alloc: Global, line: u32, kind: MergeKind) -> Result<String, NoMemory>
-    ensures { IfOk result (λ text. string_bytes text ≡ texts.kind_text line kind) }
+fn merge_kind_text(alloc: Global, line: u32, kind: MergeKind) -> Result<String, NoMemory>
+    ensures { IfOk result (λ text. string_bytes text ≡ texts.merge_kind_text line kind) }
 {
     let sentence = kind.sentence();
     Ok(format!(in alloc; "line {line}: {sentence}")?)
 }
 
-fn no_send_text(alloc: Global, line: u32, process: Pid, name: SendName) -> Result<String, NoMemory>
-    ensures { IfOk result (λ text. string_bytes text ≡ texts.no_send_text line process.0 name) }
+fn merge_no_send_text(
+    alloc: Global,
+    line: u32,
+    process: Pid,
+    name: SendName,
+) -> Result<String, NoMemory>
+    ensures { IfOk result (λ text. string_bytes text ≡ texts.merge_no_send_text line process.0 name) }
 {
     let p = process.0;
     let (source, lane, ssn) = (name.source.0, name.lane, name.ssn);
@@ -92,14 +99,14 @@ fn no_send_text(alloc: Global, line: u32, process: Pid, name: SendName) -> Resul
     )?)
 }
 
-fn duplicate_text(
+fn merge_duplicate_text(
     alloc: Global,
     line: u32,
     process: Pid,
     message: MsgName,
 ) -> Result<String, NoMemory>
     ensures { IfOk result (λ text. string_bytes text
-        ≡ texts.duplicate_text line process.0 message) }
+        ≡ texts.merge_duplicate_text line process.0 message) }
 {
     let p = process.0;
     let (source, ssn) = (message.source.0, message.ssn);

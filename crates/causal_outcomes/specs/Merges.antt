@@ -4,9 +4,9 @@ use Rattle.std.specs.Prelude.{◌≡◌, ℕ, ◌+◌, ◌<◌, List, [], length
 use Rattle.std.specs.Io.KnownBytes.{Appends, Keeps}
 use Rattle.causal_trace.specs.Rows.{Recording}
 use Rattle.causal_lines.specs.Canonical.{canonical_text}
-use Rattle.causal_merge.specs.Merges.{MergesFrom, IsFirstFaultWithin}
+use Rattle.causal_merge.specs.Merges.{MergesFrom, IsFirstMergeFaultWithin}
 use Rattle.causal_merge.specs.Reading.{max_input_len}
-use Rattle.causal_merge.specs.FaultLine.{fault_line}
+use Rattle.causal_merge.specs.FaultLine.{merge_fault_line}
 use Rattle.causal_merge.specs.declared.fault.MergeFault.{MergeFault}
 use Rattle.causal_merge.specs.declared.origins.Origin.{Origin}
 use Rattle.causal_outcomes.specs.declared.ended.Ended.{Ended}
@@ -39,8 +39,8 @@ pub record IsMergedTrace (most : ℕ) (mapping : Mapping) (text : List ℕ) (m :
 -- the files do not merge: the output is the line of their first error, and the outcome has that error alone
 pub record IsMergeFaultAnswer (most : ℕ) (text : List ℕ) (m : MergeOutcome) (out : List ℕ) : Type 0 where
   pub fault : MergeFault
-  pub first : IsFirstFaultWithin most text fault
-  pub line : out ≡ fault_line fault
+  pub first : IsFirstMergeFaultWithin most text fault
+  pub line : out ≡ merge_fault_line fault
   pub faulty : m.fault ≡ Some fault
   pub whole : m.torn.items ≡ []
   pub unmapped : m.origins.items ≡ []

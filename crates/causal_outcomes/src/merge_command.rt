@@ -7,7 +7,7 @@ use crate::bounded_read::{ReadFault, read_at_most};
 use crate::ended::Ended;
 use crate::excerpt::line_excerpt;
 use causal_merge::{
-    MappedTrace, MergeFault, MergeKind, MergedTrace, Origin, fault_line, max_input_len,
+    MappedTrace, MergeFault, MergeKind, MergedTrace, Origin, max_input_len, merge_fault_line,
 };
 use causal_reading::{merge_by, merge_mapped_by};
 use causal_text::{TextKind, text_of, write_whole};
@@ -183,7 +183,7 @@ fn fault_answer(alloc: Global, input: &[u8], fault: MergeFault) -> Result<MergeA
         return Err(Ended::NoMemory);
     }
     let (Ok(text), Ok(excerpt)) = (
-        fault_line(alloc, &fault),
+        merge_fault_line(alloc, &fault),
         line_excerpt(alloc, input, fault.line),
     ) else {
         return Err(Ended::NoMemory);

@@ -1,7 +1,7 @@
 //! Merging recorder files, whose lines several workers parse.
 ghost use Rattle.std.specs.Prelude.{◌≡◌, ◌≢◌, ◌≤◌, IfOk, IfErr};
 ghost use Rattle.causal_line.specs.Lines.{lines};
-ghost use Rattle.causal_merge.specs.Merges.{MergesFrom, MergesWithin, IsFirstFaultWithin};
+ghost use Rattle.causal_merge.specs.Merges.{MergesFrom, MergesWithin, IsFirstMergeFaultWithin};
 ghost use Rattle.causal_merge.specs.RecordingReaders.{IsReadBy};
 
 use crate::chunks::split_lines;
@@ -32,7 +32,7 @@ pub fn merge_by<R: Threads>(
     ensures ok { IfOk result
         (λ merged. MergesWithin limits.entries text.now merged.trace.recording merged.torn.items) }
     ensures err { IfErr result (λ fault. fault.kind ≢ MergeKind.Line TextKind.NoMemory
-        → IsFirstFaultWithin limits.entries text.now fault) }
+        → IsFirstMergeFaultWithin limits.entries text.now fault) }
 {
     let before = RecordingReader::within(alloc, limits);
     let reader = read_all_by(rt, alloc, before, text, workers)?;
@@ -54,7 +54,7 @@ pub fn merge_mapped_by<R: Threads>(
     ensures ok { IfOk result (λ mapped. MergesFrom limits.entries text.now
         mapped.merged.trace.recording mapped.merged.torn.items mapped.origins.items) }
     ensures err { IfErr result (λ fault. fault.kind ≢ MergeKind.Line TextKind.NoMemory
-        → IsFirstFaultWithin limits.entries text.now fault) }
+        → IsFirstMergeFaultWithin limits.entries text.now fault) }
 {
     let before = RecordingReader::within(alloc, limits);
     let reader = read_all_by(rt, alloc, before, text, workers)?;

@@ -1,7 +1,7 @@
 -- The answer to recorder files, before it is written.
 use Rattle.std.specs.Prelude.{◌≡◌, ◌≢◌, ℕ, List, Option, IfSome, ⊤}
 use Rattle.causal_line.specs.declared.kind.TextKind.TheVariants as text_kind
-use Rattle.causal_merge.specs.Merges.{MergesFrom, IsFirstFaultWithin}
+use Rattle.causal_merge.specs.Merges.{MergesFrom, IsFirstMergeFaultWithin}
 use Rattle.causal_merge.specs.declared.fault.MergeFault.{MergeFault}
 use Rattle.causal_merge.specs.declared.fault.MergeKind.TheVariants as kind
 use Rattle.causal_merge.specs.declared.merge.MergedTrace.{MergedTrace}
@@ -29,7 +29,7 @@ IsTraceOutcome merged wanted m out = (most : ℕ) (mapping : Mapping) (text : Li
 -- the answer to all recorder files whose first error this is; to any files if the error is `NoMemory`
 abbrev pub IsFaultOutcome : MergeFault → MergeOutcome → List ℕ → Type 0
 IsFaultOutcome fault m out = (most : ℕ) (mapping : Mapping) (text : List ℕ)
-    → (fault.kind ≢ kind.Line text_kind.NoMemory → IsFirstFaultWithin most text fault) → IsMerge most mapping text m out
+    → (fault.kind ≢ kind.Line text_kind.NoMemory → IsFirstMergeFaultWithin most text fault) → IsMerge most mapping text m out
 
 -- the endings of a merge that write nothing
 abbrev pub MergeWritesNothing : Ended → Type 0

@@ -4,7 +4,7 @@ use Rattle.causal_line.specs.declared.kind.TextKind.TheVariants.{NoMemory}
 use Rattle.causal_merge.specs.declared.fault.MergeFault.{MergeFault}
 use Rattle.causal_merge.specs.declared.fault.MergeKind.TheVariants as kind
 use Rattle.causal_merge.specs.declared.merge.MergedTrace.{MergedTrace}
-use Rattle.causal_merge.specs.Merges.{MergesWithin, IsFirstFaultWithin}
+use Rattle.causal_merge.specs.Merges.{MergesWithin, IsFirstMergeFaultWithin}
 use Rattle.causal_merge.proofs.ReadLemmas.{ok_of_reader, err_of_reader}
 use Rattle.causal_merge.proofs.recording_reader.RecordingReader.merge.Goals as goal
 
@@ -20,6 +20,6 @@ pub returns-clause-err : goal.returns-clause-err
 returns-clause-err c =
     let inside = c.self.inside in
     rw (← c.self.view_is) (
-    err_of_reader inside.limits.entries inside.size inside.files c.in_ok-ordered.ordered (λ (most : ℕ) (text : List ℕ) (fault : MergeFault). fault.kind ≢ kind.Line NoMemory → IsFirstFaultWithin most text fault) c.merge_run.result
+    err_of_reader inside.limits.entries inside.size inside.files c.in_ok-ordered.ordered (λ (most : ℕ) (text : List ℕ) (fault : MergeFault). fault.kind ≢ kind.Line NoMemory → IsFirstMergeFaultWithin most text fault) c.merge_run.result
     c.in_ok-ordered.ensures.ok c.merge_run.ensures.err
     )
