@@ -217,7 +217,7 @@ fn is_audited<P: Print + Eprint, S: Stable>(rt: &P, alloc: Global, core: &Core<S
 }
 
 /// Starts a core of these processes, performs all its calls and audits its trace. Returns whether all succeeded.
-pub fn run<R: Print + Eprint + Threads + Wait>(
+pub fn run_cores<R: Print + Eprint + Threads + Wait>(
     rt: &R,
     alloc: Global,
     boxes: Vec<Boxed>,

@@ -29,9 +29,9 @@ fn make_and_run<R: Print + Eprint + Threads + Wait>(
     }
     let spare: Boxed = Box::new(alloc, Ring::new(u16::from(PROCESSES), 1, HOPS))?;
     Ok(if is_shared {
-        seats::run(rt, alloc, boxes, spare)
+        seats::run_seats(rt, alloc, boxes, spare)
     } else {
-        cores::run(rt, alloc, boxes, spare)
+        cores::run_cores(rt, alloc, boxes, spare)
     })
 }
 

@@ -233,7 +233,7 @@ fn call_and_finish<R: Print + Eprint + Threads + Wait>(
 
 /// Opens a shared runtime of these processes with one seat, performs all its calls and audits its trace. Returns
 /// whether all succeeded. If `open` is refused, the core is dropped.
-pub fn run<R: Print + Eprint + Threads + Wait>(
+pub fn run_seats<R: Print + Eprint + Threads + Wait>(
     rt: &R,
     alloc: Global,
     boxes: Vec<Boxed>,

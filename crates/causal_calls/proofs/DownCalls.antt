@@ -23,7 +23,7 @@ use Rattle.causal_protocol.specs.MemoryQueries.{has_entry, log_knows_holder, log
 use Rattle.causal_rounds.specs.Rounds.{with_value_at}
 use Rattle.causal_node.specs.declared.node_answer.RoundReply.TheVariants as Replies
 use Rattle.causal_node.specs.NodeStates.{NodeState, Recovery, RoundState, floor_of}
-use Rattle.causal_node.specs.NodeRecovery.{ask_fault, node_restart_fault, new_round, with_recovery, map_round, with_log_of, without_awaited, after_not_up, after_number, raised_at, node_after_stored, node_after_read, after_restart_at, restart_log_of, opened, processes_below}
+use Rattle.causal_node.specs.NodeRecovery.{ask_fault, node_restart_fault, new_round_state, with_recovery, map_round, with_log_of, without_awaited, after_not_up, after_number, raised_at, node_after_stored, node_after_read, after_restart_at, restart_log_of, opened_node, processes_below}
 use Rattle.causal_node.specs.NodeAnswers.{answer_fault, node_after_answer, after_answer_at, knows_number, round_reply}
 use Rattle.causal_nodes.specs.Node.{NodeRound, DownNode, Node, up_node, down_node}
 use Rattle.causal_nodes.specs.Packets.{Sent, question_packet, answer_packet, not_up_packet, read_packet, stored_packet, number_packet}
@@ -111,7 +111,7 @@ module _ (position : ℕ) (s : NodeState) (k : IsNodeState s) where
     abbrev here : Node
     here = down_node x
 
-    pub begins : (name : ℕ) → IsStepOf position s here None (with_recovery s (Some (Some (new_round s.identity name)))) (question_packet me.0 name (numbers s.floors) ∷ []) []
+    pub begins : (name : ℕ) → IsStepOf position s here None (with_recovery s (Some (Some (new_round_state s.identity name)))) (question_packet me.0 name (numbers s.floors) ∷ []) []
     begins name = record {
       next = down_node (with_round x (Some (new_node_round name (numbers s.floors))));
       step = begin_row x name (numbers s.floors) (k.own_floor ∙ is_down.lane) is_down.told;
@@ -202,11 +202,11 @@ module _ (position : ℕ) (s : NodeState) (k : IsNodeState s) where
           );
         })
 
-    pub opens_again : IsStepOf position s here None (opened s.identity s.lane) [] []
+    pub opens_again : IsStepOf position s here None (opened_node s.identity s.lane) [] []
     opens_again = record {
       next = down_node (fallen_node x.lane);
       step = give_up_row x;
-      represents = subst (λ (o : Recovery). RepresentsAt (opened s.identity s.lane) o (down_node (fallen_node x.lane))) (ap {B = Recovery} (λ (b : Bool). if b then None else Some None) (sym not_first)) (
+      represents = subst (λ (o : Recovery). RepresentsAt (opened_node s.identity s.lane) o (down_node (fallen_node x.lane))) (ap {B = Recovery} (λ (b : Bool). if b then None else Some None) (sym not_first)) (
         fallen_node x.lane,
         refl,
         record {

@@ -21,7 +21,7 @@ use Rattle.causal_protocol.specs.Memory.{with_log}
 use Rattle.causal_node.specs.declared.node.Identity.{Identity}
 use Rattle.causal_node.specs.NodeStates.{NodeState, Recovery, RoundState, floor_of, with_memory}
 use Rattle.causal_node.specs.NodeSteps.{node_after_delivery}
-use Rattle.causal_node.specs.NodeRecovery.{new_round, with_recovery, map_round, with_log_of, without_awaited, after_not_up, after_number, node_after_stored, node_after_read, after_restart_at, restart_log_of, opened, processes_below}
+use Rattle.causal_node.specs.NodeRecovery.{new_round_state, with_recovery, map_round, with_log_of, without_awaited, after_not_up, after_number, node_after_stored, node_after_read, after_restart_at, restart_log_of, opened_node, processes_below}
 use Rattle.causal_node.specs.NodeAcknowledgements.{log_with_holders, after_acknowledgement}
 use Rattle.causal_node.specs.NodeForgetting.{next_slot, node_after_forget}
 use Rattle.causal_node.specs.NodeAnswers.{answer_fault, node_after_answer, after_answer_at, knows_number}
@@ -148,8 +148,8 @@ module _ (s : NodeState) (k : IsNodeState s) where
       by true is = at_recovery (eqb-true _ _ is) s.recovery k.recovery
       by false is = k
 
-  pub begun : (name : ℕ) → IsNodeState (with_recovery s (Some (Some (new_round s.identity name))))
-  begun name = with_other (Some (Some (new_round s.identity name))) (λ d q h. absurd (both_ways _ (none_holds d q) h), removed (processes_below n) me.0 me.0 ∙ ap (λ b. not b && set.contains (processes_below n) me.0) (eq-eqb me.0 me.0 refl))
+  pub begun : (name : ℕ) → IsNodeState (with_recovery s (Some (Some (new_round_state s.identity name))))
+  begun name = with_other (Some (Some (new_round_state s.identity name))) (λ d q h. absurd (both_ways _ (none_holds d q) h), removed (processes_below n) me.0 me.0 ∙ ap (λ b. not b && set.contains (processes_below n) me.0) (eq-eqb me.0 me.0 refl))
 
   module _ (r : RoundState) (gathers : s.recovery ≡ Some (Some r)) where
     pub kept : IsRecoveryState s.identity (Some (Some r))

@@ -27,7 +27,7 @@ use Rattle.causal_node.specs.declared.node_fault.NodeFault.{NodeFault}
 use Rattle.causal_node.specs.NodeStates.{Recovery, RoundState, has_name}
 use Rattle.causal_node.specs.NodeRefusals.{unless_up, or_else, naming_fault}
 use Rattle.causal_node.specs.NodeRecovery.{reply_fault}
-use Rattle.causal_node.specs.NodeAnswers.{raised}
+use Rattle.causal_node.specs.NodeAnswers.{raised_floors}
 use Rattle.causal_calls.specs.Views.{numbers}
 use Rattle.causal_calls.specs.StepLaws.{HasLogSingleSlots}
 use Rattle.causal_calls.proofs.Lemmas.Refusals.{from_not, some_none, or_else_none}

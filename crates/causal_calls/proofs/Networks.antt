@@ -13,7 +13,7 @@ use Rattle.causal_protocol.specs.MemoryQueries.{has_entry}
 use Rattle.causal_world.specs.World.{Packet}
 use Rattle.causal_node.specs.declared.node.Identity.{Identity}
 use Rattle.causal_node.specs.NodeStates.{NodeState, Recovery}
-use Rattle.causal_node.specs.NodeRecovery.{opened}
+use Rattle.causal_node.specs.NodeRecovery.{opened_node}
 use Rattle.causal_nodes.specs.Node.{Node, up_node, down_node, is_node_down}
 use Rattle.causal_nodes.specs.Packets.{Sent, write_packet, written_packet, read_packet, stored_packet, WasSent, WasTaken}
 use Rattle.causal_nodes.specs.NodeSteps.{NodeStep, fallen_node}
@@ -59,8 +59,8 @@ not_first : (a : ℕ) → (a + 1 == 0) ≡ false
 not_first a = elim (eqb_tells (a + 1) 0) [ inl is ↦ absurd (omega (arith, is.1)) | inr other ↦ other.0 ]
 
 -- a node that is opened after a crash
-reopened : (who : Identity) (lane : ℕ) → Represents (opened who (lane + 1)) (down_node (fallen_node lane))
-reopened who lane = subst (λ (o : Recovery). RepresentsAt (opened who (lane + 1)) o (down_node (fallen_node lane))) (ap {B = Recovery} (λ (b : Bool). if b then None else Some None) (sym (not_first lane))) (
+reopened : (who : Identity) (lane : ℕ) → Represents (opened_node who (lane + 1)) (down_node (fallen_node lane))
+reopened who lane = subst (λ (o : Recovery). RepresentsAt (opened_node who (lane + 1)) o (down_node (fallen_node lane))) (ap {B = Recovery} (λ (b : Bool). if b then None else Some None) (sym (not_first lane))) (
   fallen_node lane,
   refl,
   record {
@@ -97,14 +97,14 @@ module _ (safe : NodesAreSafe) (single : NodesShareNoSlot) (n f : ℕ) where
       here_or_none (suc m) zero = refl
       here_or_none (suc m) (suc i) = here_or_none m i
 
-      nothing : (p q : ℕ) → numbers (opened (identity_of n f p) 0).floors q ≡ 0
+      nothing : (p q : ℕ) → numbers (opened_node (identity_of n f p) 0).floors q ≡ 0
       nothing p q = by (eqb_tells q p)
         where
-          by : ((q == p ≡ true) × (q ≡ p)) ⊎ ((q == p ≡ false) × (q ≡ p → ⊥)) → numbers (opened (identity_of n f p) 0).floors q ≡ 0
-          by (inl same) = subst (λ m. numbers (opened (identity_of n f m) 0).floors q ≡ 0) same.1 (here_or_none n q)
+          by : ((q == p ≡ true) × (q ≡ p)) ⊎ ((q == p ≡ false) × (q ≡ p → ⊥)) → numbers (opened_node (identity_of n f p) 0).floors q ≡ 0
+          by (inl same) = subst (λ m. numbers (opened_node (identity_of n f m) 0).floors q ≡ 0) same.1 (here_or_none n q)
           by (inr other) = set_other (replicate n 0) p 0 q other.1 ∙ zeros n q
 
-      fresh : (p : ℕ) (s : NodeState) → s ≡ opened (identity_of n f p) 0 → IsNewNode (up_view s)
+      fresh : (p : ℕ) (s : NodeState) → s ≡ opened_node (identity_of n f p) 0 → IsNewNode (up_view s)
       fresh p s is = subst (λ t. IsNewNode (up_view t)) (sym is) (record { lane = refl; empty = none_entry; no_holders = none_holds; no_stable = none_stable; floors = nothing p; sent = refl; received = refl })
 
   module _ (w : System) (net : IsNetworkOf n f w) where
@@ -165,7 +165,7 @@ module _ (safe : NodesAreSafe) (single : NodesShareNoSlot) (n f : ℕ) where
       calls = elim (calls_are_steps (length w.past) old new taken emitted entries (net.nodes me.0) call (net.states me.0 low) (λ up. share_none me.0 me.0 low low up up) (net.represents me.0 low)) [ inl step ↦ by_step step | inr none ↦ by_none none ]
 
     crashes : (who : Pid) → who.0 < n → (w.nodes who.0).recovery ≡ None → count_below n (λ q. is_recovering (w.nodes q)) < f
-        → IsNetworkOf n f (record { past = Crash who ∷ w.past; nodes = with_value_at w.nodes who.0 (opened (w.nodes who.0).identity ((w.nodes who.0).lane + 1)); sent = w.sent; stored = w.stored; floors = w.floors })
+        → IsNetworkOf n f (record { past = Crash who ∷ w.past; nodes = with_value_at w.nodes who.0 (opened_node (w.nodes who.0).identity ((w.nodes who.0).lane + 1)); sent = w.sent; stored = w.stored; floors = w.floors })
     crashes who low up few =
         let s = w.nodes who.0 in
         let is = is_up who.0 low up in
@@ -175,14 +175,14 @@ module _ (safe : NodesAreSafe) (single : NodesShareNoSlot) (n f : ℕ) where
           reached = next_network (network_of w net.nodes) _ net.reached (crash_event who (up_view s) low is (subst (λ m. m < f) same few));
           represents = λ p low_p. both p low_p (eqb_tells p who.0);
           states = λ p low_p. at_each (λ p s. IsNodeState s) w.nodes who.0 _ (opening s.identity (s.lane + 1) (net.states who.0 low).process) p (net.states p low_p);
-          identities = λ p low_p. at_each (λ p s. s.identity ≡ identity_of n f p) w.nodes who.0 (opened s.identity (s.lane + 1)) (net.identities who.0 low) p (net.identities p low_p);
+          identities = λ p low_p. at_each (λ p s. s.identity ≡ identity_of n f p) w.nodes who.0 (opened_node s.identity (s.lane + 1)) (net.identities who.0 low) p (net.identities p low_p);
           names = net.names;
         }
       where
         both : (p : ℕ) → p < n → ((p == who.0 ≡ true) × (p ≡ who.0)) ⊎ ((p == who.0 ≡ false) × (p ≡ who.0 → ⊥))
-            → Represents (with_value_at w.nodes who.0 (opened (w.nodes who.0).identity ((w.nodes who.0).lane + 1)) p) (with_value_at net.nodes who.0 (down_node (fallen_node (w.nodes who.0).lane)) p)
-        both p low_p (inl same) = subst (λ (b : Bool). Represents (if b then opened (w.nodes who.0).identity ((w.nodes who.0).lane + 1) else w.nodes p) (if b then down_node (fallen_node (w.nodes who.0).lane) else net.nodes p)) (sym same.0) (reopened (w.nodes who.0).identity (w.nodes who.0).lane)
-        both p low_p (inr other) = subst (λ (b : Bool). Represents (if b then opened (w.nodes who.0).identity ((w.nodes who.0).lane + 1) else w.nodes p) (if b then down_node (fallen_node (w.nodes who.0).lane) else net.nodes p)) (sym other.0) (net.represents p low_p)
+            → Represents (with_value_at w.nodes who.0 (opened_node (w.nodes who.0).identity ((w.nodes who.0).lane + 1)) p) (with_value_at net.nodes who.0 (down_node (fallen_node (w.nodes who.0).lane)) p)
+        both p low_p (inl same) = subst (λ (b : Bool). Represents (if b then opened_node (w.nodes who.0).identity ((w.nodes who.0).lane + 1) else w.nodes p) (if b then down_node (fallen_node (w.nodes who.0).lane) else net.nodes p)) (sym same.0) (reopened (w.nodes who.0).identity (w.nodes who.0).lane)
+        both p low_p (inr other) = subst (λ (b : Bool). Represents (if b then opened_node (w.nodes who.0).identity ((w.nodes who.0).lane + 1) else w.nodes p) (if b then down_node (fallen_node (w.nodes who.0).lane) else net.nodes p)) (sym other.0) (net.represents p low_p)
 
     named_more : (k : Sent) → NamesProcesses n k → (j : Sent) → WasSent (k ∷ w.sent) j → NamesProcesses n j
     named_more k names j (inl is) = subst (λ x. NamesProcesses n x) is names

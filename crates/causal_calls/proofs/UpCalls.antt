@@ -30,13 +30,13 @@ use Rattle.causal_node.specs.NodeSteps.{node_after_send, node_after_delivery}
 use Rattle.causal_node.specs.NodeRecovery.{node_after_stored}
 use Rattle.causal_node.specs.NodeAcknowledgements.{learn_fault, after_acknowledgement}
 use Rattle.causal_node.specs.NodeForgetting.{next_slot, node_after_forget}
-use Rattle.causal_node.specs.NodeAnswers.{answer_fault, node_after_answer, after_answer_at, knows_number, raised, with_floors, round_reply, reply_at}
+use Rattle.causal_node.specs.NodeAnswers.{answer_fault, node_after_answer, after_answer_at, knows_number, raised_floors, with_floors, round_reply, reply_at}
 use Rattle.causal_nodes.specs.Node.{Node, up_node}
 use Rattle.causal_nodes.specs.Packets.{message_packet, acknowledgement_packet, write_packet, written_packet, question_packet, answer_packet}
-use Rattle.causal_nodes.specs.NodeSteps.{NodeStep, send_row, deliver_row, acknowledge_row, learn_row, write_row, mark_row, forget_row, answer_row, IsOfNodeLog, with_one_sent, with_log, log_after_acknowledgement, log_after_mark, log_without}
+use Rattle.causal_nodes.specs.NodeSteps.{NodeStep, send_row, deliver_row, acknowledge_row, learn_row, write_row, mark_row, forget_row, answer_row, IsOfNodeLog, with_one_sent, with_node_log, log_after_acknowledgement, log_after_mark, log_without}
 use Rattle.causal_nodes.specs.NodeSteps as theory
 use Rattle.causal_calls.specs.Views.{numbers, up_view, RepresentsAt, Represents, IsNodeState, log_view}
-use Rattle.causal_calls.specs.Parcels.{message_with, next_message_packet, acknowledgement_with, acknowledged_items, acknowledgement_of, log_packet, write_of}
+use Rattle.causal_calls.specs.Parcels.{message_with, next_message_packet, acknowledgement_with, items_of_logged, acknowledgement_of, log_packet, write_of}
 use Rattle.causal_calls.specs.StepLaws.{HasLogSingleSlots, IsStepOf, IsNoStep}
 use Rattle.causal_calls.proofs.Lemmas.LogViews.{delivered, marked}
 use Rattle.causal_protocol.proofs.Lemmas.LogMembers.{entry_of_holder, own_have, items_have}
@@ -175,7 +175,7 @@ module _ (position : ℕ) (s : NodeState) (k : IsNodeState s) (up : s.recovery �
   pub marks : (dets : Det → Bool) (det : Det) → dets det ≡ true
       → IsStepOf position s here (Some (written_packet dets)) (node_after_stored s det s.recovery) [] (Stable det ∷ [])
   marks dets det has = subst (λ (o : Recovery). IsStepOf position s here (Some (written_packet dets)) (node_after_stored s det o) [] (Stable det ∷ [])) (sym up) (record {
-    next = up_node (with_log (up_view s) (log_after_mark det (log_view log)));
+    next = up_node (with_node_log (up_view s) (log_after_mark det (log_view log)));
     step = mark_row (up_view s) dets det has;
     represents = as_up (node_after_stored s det None) _ refl (λ i. up_node (record { lane = s.lane; log = sym (marked log det) i; floors = numbers s.floors; sent = length s.memory.sent; received = s.memory.received }));
   })
@@ -184,7 +184,7 @@ module _ (position : ℕ) (s : NodeState) (k : IsNodeState s) (up : s.recovery �
   log_of_node : (to : ℕ) → IsOfNodeLog me.0 (up_view s) (log_packet me.0 s.lane to log)
   log_of_node to = record { from = refl; lane = refl; logged = λ d h. h; known_holders = λ d q h. (h, entry_of_holder log d q h); known_stable = λ d h. h; names_sender = k.own }
 
-  answered : (view : List ℕ) → knows_number s view ≡ true → node_after_answer s view ≡ with_floors s (raised s.floors view)
+  answered : (view : List ℕ) → knows_number s view ≡ true → node_after_answer s view ≡ with_floors s (raised_floors s.floors view)
   answered view knows = λ i. if knows i then after_answer_at s view (up i) else s
 
   pub answers : (asker : Pid) (name : ℕ) (view : List ℕ) → answer_fault s asker view ≡ None → round_reply s view ≡ Replies.Log
@@ -195,7 +195,7 @@ module _ (position : ℕ) (s : NodeState) (k : IsNodeState s) (up : s.recovery �
       subst (λ (t : NodeState). IsStepOf position s here (Some (question_packet asker.0 name (numbers view))) t (answer_packet name (log_packet me.0 s.lane asker.0 log) ∷ []) []) (sym (answered view knows)) (record {
         next = up_node (theory.with_floors (up_view s) (theory.raised (numbers s.floors) (numbers view)));
         step = answer_row (up_view s) asker.0 name (numbers view) (log_packet me.0 s.lane asker.0 log) (eqb-true _ _ knows) (log_of_node asker.0) refl refl (λ d. refl);
-        represents = as_up (with_floors s (raised s.floors view)) _ refl (λ i. up_node (record { lane = s.lane; log = log_view log; floors = λ q. sym (raised_numbers s.floors view (k.floors ∙ sym size) q) i; sent = length s.memory.sent; received = s.memory.received }));
+        represents = as_up (with_floors s (raised_floors s.floors view)) _ refl (λ i. up_node (record { lane = s.lane; log = log_view log; floors = λ q. sym (raised_numbers s.floors view (k.floors ∙ sym size) q) i; sent = length s.memory.sent; received = s.memory.received }));
       })
 
   pub acknowledges : (to : Pid) (dets : List Det) → IsStepOf position s here None s (acknowledgement_packet (acknowledgement_of s to dets) ∷ []) []
@@ -217,7 +217,7 @@ module _ (position : ℕ) (s : NodeState) (k : IsNodeState s) (up : s.recovery �
     represents = as_up s _ refl refl;
   }
     where
-      has : (d : Det) → has_item d (acknowledged_items log dets) ≡ true → has_entry d log ≡ true
+      has : (d : Det) → has_item d (items_of_logged log dets) ≡ true → has_entry d log ≡ true
       has d h = (and_parts (list_has dets d) (has_entry d log) (sym (acknowledged_dets log dets d) ∙ h)).1
 
   pub learns : (lane : ℕ) (from : Pid) (items : List Item) → learn_fault s lane from ≡ None
@@ -226,7 +226,7 @@ module _ (position : ℕ) (s : NodeState) (k : IsNodeState s) (up : s.recovery �
       let floor = or_else_none _ _ _ (or_else_none _ _ _ (unless_up_none _ _ legal).1).1 in
       let t = acknowledgement_with from lane me items in
       record {
-        next = up_node (with_log (up_view s) (log_after_acknowledgement t.parcel (log_view log)));
+        next = up_node (with_node_log (up_view s) (log_after_acknowledgement t.parcel (log_view log)));
         step = learn_row (up_view s) t refl (not_below lane (floor_of s.floors from) floor.0);
         represents = as_up (after_acknowledgement s items) _ refl (λ i. up_node (record { lane = s.lane; log = sym (learned log items t.parcel (λ d q. refl)) i; floors = numbers s.floors; sent = length s.memory.sent; received = s.memory.received }));
       }
@@ -235,14 +235,14 @@ module _ (position : ℕ) (s : NodeState) (k : IsNodeState s) (up : s.recovery �
   pub forgets : IsStepOf position s here None (node_after_forget s) [] (forget_entries me (forgotten_in (next_slot s) log)) ⊎ IsNoStep here (node_after_forget s) [] (forget_entries me (forgotten_in (next_slot s) log))
   forgets = by (forgotten_in (next_slot s) log) refl
     where
-      represented : (listed : List Det) → forgotten_in (next_slot s) log ≡ listed → Represents (node_after_forget s) (up_node (with_log (up_view s) (log_without listed (log_view log))))
+      represented : (listed : List Det) → forgotten_in (next_slot s) log ≡ listed → Represents (node_after_forget s) (up_node (with_node_log (up_view s) (log_without listed (log_view log))))
       represented listed is = as_up (node_after_forget s) _ refl (λ i. up_node (record { lane = s.lane; log = (ap (λ ds. log_without ds (log_view log)) (sym is) ∙ sym (forgotten (next_slot s) log)) i; floors = numbers s.floors; sent = length s.memory.sent; received = s.memory.received }))
 
       by : (listed : List Det) → forgotten_in (next_slot s) log ≡ listed
           → IsStepOf position s here None (node_after_forget s) [] (forget_entries me listed) ⊎ IsNoStep here (node_after_forget s) [] (forget_entries me listed)
       by [] is = inr (record { silent = refl; unrecorded = refl; represents = represented [] is })
       by (d ∷ ds) is = inl (record {
-        next = up_node (with_log (up_view s) (log_without (d ∷ ds) (log_view log)));
+        next = up_node (with_node_log (up_view s) (log_without (d ∷ ds) (log_view log)));
         step = forget_row (up_view s) (d ∷ ds) (sym (ap is_ascending is) ∙ forgotten_ascends (next_slot s) log)
             (λ x h. forgotten_stable (next_slot s) log x (ap (λ ys. list_has ys x) is ∙ h))
             (λ x h mine. forgotten_made (next_slot s) log x (ap (λ ys. list_has ys x) is ∙ h) mine);

@@ -17,7 +17,7 @@ use Rattle.causal_node.specs.declared.node_answer.RoundReply.TheVariants as Repl
 use Rattle.causal_node.specs.NodeStates.{NodeState, RoundState, floor_of}
 use Rattle.causal_node.specs.NodeRefusals.{node_send_fault, deliver_fault}
 use Rattle.causal_node.specs.NodeSteps.{node_after_send, node_after_delivery}
-use Rattle.causal_node.specs.NodeRecovery.{begin_fault, reply_fault, node_stored_fault, ask_fault, read_fault, node_restart_fault, new_round, with_recovery, map_round, with_log_of, after_not_up, after_number, node_after_stored, node_after_read, after_restart_at, opened}
+use Rattle.causal_node.specs.NodeRecovery.{begin_fault, reply_fault, node_stored_fault, ask_fault, read_fault, node_restart_fault, new_round_state, with_recovery, map_round, with_log_of, after_not_up, after_number, node_after_stored, node_after_read, after_restart_at, opened_node}
 use Rattle.causal_node.specs.NodeAnswers.{answer_fault, round_reply, node_after_answer}
 use Rattle.causal_node.specs.NodeAcknowledgements.{node_acknowledge_fault, learn_fault, after_acknowledgement}
 use Rattle.causal_node.specs.NodeForgetting.{next_slot, node_forget_fault, node_after_forget}
@@ -59,7 +59,7 @@ pub data NodeCall (position : ℕ) (old : NodeState) : Option Sent → NodeState
       → NodeCall position old None (node_after_answer old view) (number_packet old.identity.me.0 old.lane ∷ []) []
   -- a round begins, and all others are asked
   begin_round : (name : ℕ) → begin_fault old.recovery ≡ None
-      → NodeCall position old None (with_recovery old (Some (Some (new_round old.identity name)))) (question_packet old.identity.me.0 name (numbers old.floors) ∷ []) []
+      → NodeCall position old None (with_recovery old (Some (Some (new_round_state old.identity name)))) (question_packet old.identity.me.0 name (numbers old.floors) ∷ []) []
   take_log : (name lane : ℕ) (q : Pid) (log : LogMap) → reply_fault old.recovery name q ≡ None
       → NodeCall position old (Some (answer_packet name (log_packet q.0 lane old.identity.me.0 log))) (with_recovery old (map_round (λ r. with_log_of r q.0 log) old.recovery)) [] []
   -- of a process that is not up, with the number that the view has for it
@@ -81,4 +81,4 @@ pub data NodeCall (position : ℕ) (old : NodeState) : Option Sent → NodeState
   restart : (reserved : List MsgName) → node_restart_fault old.recovery ≡ None
       → NodeCall position old None (after_restart_at old old.recovery reserved) [] (Restart old.identity.me (fin.keys (after_restart_at old old.recovery reserved).memory.log) ∷ [])
   -- a process that recovers dies: a node is opened again, in the same lane
-  open_again : (round : Option RoundState) → old.recovery ≡ Some round → NodeCall position old None (opened old.identity old.lane) [] []
+  open_again : (round : Option RoundState) → old.recovery ≡ Some round → NodeCall position old None (opened_node old.identity old.lane) [] []

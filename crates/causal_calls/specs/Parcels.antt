@@ -32,12 +32,12 @@ acknowledgement_with from lane to items = record {
 }
 
 -- what a log says of those of these determinants that it has
-abbrev pub acknowledged_items : LogMap → List Det → List Item
-acknowledged_items log dets = map (λ det. item_of (det, known_of log det)) (filter (λ det. has_entry det log) dets)
+abbrev pub items_of_logged : LogMap → List Det → List Item
+items_of_logged log dets = map (λ det. item_of (det, known_of log det)) (filter (λ det. has_entry det log) dets)
 
 -- a node's acknowledgement of these determinants to a process
 abbrev pub acknowledgement_of : NodeState → Pid → List Det → Packet
-acknowledgement_of s to dets = acknowledgement_with s.identity.me s.lane to (acknowledged_items s.memory.log dets)
+acknowledgement_of s to dets = acknowledgement_with s.identity.me s.lane to (items_of_logged s.memory.log dets)
 
 -- a write of these determinants to stable storage
 abbrev pub write_of : NodeState → List Det → Packet

@@ -11,7 +11,7 @@ use Rattle.causal_protocol.specs.MemoryQueries.{has_entry}
 use Rattle.causal_world.specs.World.{Packet}
 use Rattle.causal_node.specs.declared.node.Identity.{Identity}
 use Rattle.causal_node.specs.NodeStates.{NodeState}
-use Rattle.causal_node.specs.NodeRecovery.{opened}
+use Rattle.causal_node.specs.NodeRecovery.{opened_node}
 use Rattle.causal_nodes.specs.Packets.{Sent, write_packet, written_packet, read_packet, stored_packet, WasSent, WasTaken}
 use Rattle.causal_nodes.specs.NodeSteps.{raised}
 use Rattle.causal_nodes.specs.Network.{HasFreshName}
@@ -43,7 +43,7 @@ pub data SystemEvent (n f : ℕ) (w : System) : System → Type 0 where
       → SystemEvent n f w (record { past = entries ++ w.past; nodes = with_value_at w.nodes me.0 node; sent = emitted ++ w.sent; stored = w.stored; floors = w.floors })
   crash_event : (who : Pid) → who.0 < n → (w.nodes who.0).recovery ≡ None
       → count_below n (λ q. is_recovering (w.nodes q)) < f
-      → SystemEvent n f w (record { past = Crash who ∷ w.past; nodes = with_value_at w.nodes who.0 (opened (w.nodes who.0).identity ((w.nodes who.0).lane + 1)); sent = w.sent; stored = w.stored; floors = w.floors })
+      → SystemEvent n f w (record { past = Crash who ∷ w.past; nodes = with_value_at w.nodes who.0 (opened_node (w.nodes who.0).identity ((w.nodes who.0).lane + 1)); sent = w.sent; stored = w.stored; floors = w.floors })
   store_event : (p : Packet) → WasSent w.sent (write_packet p) → w.floors p.parcel.from ≤ p.lane
       → SystemEvent n f w (record { past = w.past; nodes = w.nodes; sent = written_packet p.parcel.carries ∷ w.sent; stored = λ d. w.stored d || p.parcel.carries d; floors = w.floors })
   read_event : (s name : ℕ) (view : ℕ → ℕ) → WasSent w.sent (read_packet s name view)
@@ -52,7 +52,7 @@ pub data SystemEvent (n f : ℕ) (w : System) : System → Type 0 where
 -- n nodes are opened in lane 0; nothing was sent or stored
 pub record IsNewSystem (n f : ℕ) (w : System) : Type 0 where
   pub past : w.past ≡ []
-  pub nodes : (p : ℕ) → p < n → w.nodes p ≡ opened (identity_of n f p) 0
+  pub nodes : (p : ℕ) → p < n → w.nodes p ≡ opened_node (identity_of n f p) 0
   pub sent : w.sent ≡ []
   pub stored : (d : Det) → w.stored d ≡ false
   pub floors : (q : ℕ) → w.floors q ≡ 0

@@ -6,7 +6,7 @@ use Rattle.std.proofs.Math.Seq.{get_or-append_seam, take-append_seam}
 use Rattle.std.proofs.lemmas.List.{take-append-le}
 use Rattle.std.proofs.lemmas.List.Sums.{sum_by-append}
 use Rattle.causal_clock.specs.declared.Event.{Event}
-use Rattle.causal_clock.specs.Timeline.{lane_of, send_of, lane_length, lane_place}
+use Rattle.causal_clock.specs.Timeline.{lane_of, sending_event, lane_length, lane_place}
 use Rattle.causal_clock.specs.Precedence.{DirectlyPrecedes, Precedes, itself, onward, FirstReach}
 use Rattle.causal_clock.specs.Inside.EventCounts.{LastOf}
 
@@ -19,13 +19,13 @@ old_event es e i d h = get_or-append es (e ∷ []) d i h
 pub lane_of-old : (es : List Event) (e : Event) (i : ℕ) → i < length es → lane_of (es ++ e ∷ []) i ≡ lane_of es i
 lane_of-old es e i h = ap (λ (x : Event). x.lane) (old_event es e i _ h)
 
-pub send_of-old : (es : List Event) (e : Event) (i : ℕ) → i < length es → send_of (es ++ e ∷ []) i ≡ send_of es i
+pub send_of-old : (es : List Event) (e : Event) (i : ℕ) → i < length es → sending_event (es ++ e ∷ []) i ≡ sending_event es i
 send_of-old es e i h = ap (λ (x : Event). x.send) (old_event es e i _ h)
 
 pub lane_of-new : (es : List Event) (e : Event) → lane_of (es ++ e ∷ []) (length es) ≡ e.lane
 lane_of-new es e = ap (λ (x : Event). x.lane) (get_or-append_seam es e [] _)
 
-pub send_of-new : (es : List Event) (e : Event) → send_of (es ++ e ∷ []) (length es) ≡ e.send
+pub send_of-new : (es : List Event) (e : Event) → sending_event (es ++ e ∷ []) (length es) ≡ e.send
 send_of-new es e = ap (λ (x : Event). x.send) (get_or-append_seam es e [] _)
 
 -- one more event makes the list longer by one

@@ -3,7 +3,7 @@ use Rattle.std.specs.Prelude.{◌≡◌, ◌≢◌, ℕ, ◌-◌, ◌<◌, ◌�
 use Rattle.std.proofs.Common.{arith, sym, ◌∙◌}
 use Rattle.causal_clock.specs.declared.Event.{Event}
 use Rattle.causal_clock.specs.declared.Rise.{Rise}
-use Rattle.causal_clock.specs.Timeline.{lane_of, lane_length, lane_place, send_of}
+use Rattle.causal_clock.specs.Timeline.{lane_of, lane_length, lane_place, sending_event}
 use Rattle.causal_clock.specs.Precedence.{Precedes, itself, onward, FirstReach}
 use Rattle.causal_clock.specs.Rises.{rise_at, count_at, RisesStrictly, AreRises, IsReceiveAt}
 use Rattle.causal_clock.specs.Inside.Columns.{IsColumn}
@@ -23,7 +23,7 @@ module _ (es : List Event) (counts : ℕ → ℕ → ℕ) (many : ℕ) (k : Coun
 
   module _ (lane source : ℕ) (apart : source ≢ lane) (rises : List Rise) (strictly : RisesStrictly rises) (told : (j : ℕ) → j < length es → lane_of es j ≡ lane → FirstReach es j source (count_at rises (lane_place es j))) (i : ℕ) (within : i < length rises) where
     -- events that newly reach a lane do so by a send
-    by_a_send : {m j : ℕ} → Precedes es m j → lane_of es m ≡ source → lane_place es m ≡ (rise_at rises i).count - 1 → lane_of es j ≡ lane → lane_place es j ≡ (rise_at rises i).place → send_of es j ≢ None
+    by_a_send : {m j : ℕ} → Precedes es m j → lane_of es m ≡ source → lane_place es m ≡ (rise_at rises i).count - 1 → lane_of es j ≡ lane → lane_place es j ≡ (rise_at rises i).place → sending_event es j ≢ None
     by_a_send (itself h) from place of_lane placed none = absurd (apart (sym from ∙ of_lane))
     by_a_send {m} (onward {j = l} {k = j} before step) from place of_lane placed none = grind (arith, reaches_forward, lower, fewer)
 

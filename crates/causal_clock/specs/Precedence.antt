@@ -2,13 +2,13 @@
 use Rattle.std.specs.Prelude.{◌≡◌, ℕ, ◌<◌, ◌≤◌, ◌↔◌, ◌⊎◌, ◌==◌, ◌&&◌, Bool, true, Some, List, length, count_by}
 use Rattle.std.specs.List.{range_with_len}
 use Rattle.causal_clock.specs.declared.Event.{Event}
-use Rattle.causal_clock.specs.Timeline.{lane_of, send_of, lane_length, lane_place}
+use Rattle.causal_clock.specs.Timeline.{lane_of, sending_event, lane_length, lane_place}
 
 -- event i directly precedes event j: i is earlier, and both are in one lane or j receives what i sent
 pub record DirectlyPrecedes (events : List Event) (i j : ℕ) : Type 0 where
   pub earlier : i < j
   pub within : j < length events
-  pub because : (lane_of events i ≡ lane_of events j) ⊎ (send_of events j ≡ Some i)
+  pub because : (lane_of events i ≡ lane_of events j) ⊎ (sending_event events j ≡ Some i)
 
 -- event i is j or happened before it: there is a chain from i to j in which each event directly precedes the next
 pub data Precedes (events : List Event) : ℕ → ℕ → Type 0 where

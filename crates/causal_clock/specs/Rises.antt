@@ -3,7 +3,7 @@ use Rattle.std.specs.Prelude.{◌≡◌, ◌≢◌, ℕ, ◌<◌, max, leb, if�
 use Rattle.causal_clock.specs.declared.Event.{Event}
 use Rattle.causal_clock.specs.declared.Rise.{Rise}
 use Rattle.causal_clock.specs.Precedence.{FirstReach}
-use Rattle.causal_clock.specs.Timeline.{lane_of, lane_place, send_of}
+use Rattle.causal_clock.specs.Timeline.{lane_of, lane_place, sending_event}
 
 -- the i-th rise of a list
 abbrev pub rise_at : List Rise → ℕ → Rise
@@ -25,7 +25,7 @@ pub record IsReceiveAt (events : List Event) (lane place j : ℕ) : Type 0 where
   pub within : j < length events
   pub of_lane : lane_of events j ≡ lane
   pub placed : lane_place events j ≡ place
-  pub receives : send_of events j ≢ None
+  pub receives : sending_event events j ≢ None
 
 -- the rises of a lane by the source, which is another lane
 pub record AreRises (events : List Event) (lane source : ℕ) (rises : List Rise) : Type 0 where

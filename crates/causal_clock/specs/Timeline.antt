@@ -25,8 +25,8 @@ abbrev pub lane_of : List Event → ℕ → ℕ
 lane_of events i = (slice_index_or events i (record { lane = 0; send = None })).lane
 
 -- the event that sent what event i receives; `None` if i is not a receive
-abbrev pub send_of : List Event → ℕ → Option ℕ
-send_of events i = (slice_index_or events i (record { lane = 0; send = None })).send
+abbrev pub sending_event : List Event → ℕ → Option ℕ
+sending_event events i = (slice_index_or events i (record { lane = 0; send = None })).send
 
 -- how many events the lane has
 abbrev pub lane_length : List Event → ℕ → ℕ

@@ -37,7 +37,7 @@ use causal_memory::naming::{must_replay_fault, named_message};
 use causal_memory::process_memory::ProcessMemory;
 use causal_name::{Det, MsgName, NoMemory, Pid};
 use causal_process::Outgoing;
-use causal_protocol::limits::{MAX_ENTRIES, MAX_LISTED};
+use causal_protocol::limits::{MAX_RUN_ENTRIES, MAX_RUN_LISTED};
 use causal_protocol::request::{CoreFault, Delivered};
 use causal_trace::entry::Entry;
 use causal_trace::trace::Trace;
@@ -86,14 +86,15 @@ fn are_processes(q: Pid, source: Pid, n: u16) -> bool
 pub(crate) fn exceeds_entries(trace: &Trace, entries: u32) -> bool
     ensures { result ≡ exceeds_entries_with trace.now.recording.past entries }
 {
-    trace.len().saturating_add(entries) > MAX_ENTRIES
+    trace.len().saturating_add(entries) > MAX_RUN_ENTRIES
 }
 
 /// Returns whether this number of further entries, or a list of this length, would exceed a limit.
 pub(crate) fn exceeds_limits(trace: &Trace, entries: u32, listed: usize) -> bool
     ensures { result ≡ exceeds_limits_with trace.now.recording.past entries listed }
 {
-    exceeds_entries(trace, entries) || listed.saturating_add(trace.listed() as usize) > MAX_LISTED
+    exceeds_entries(trace, entries)
+        || listed.saturating_add(trace.listed() as usize) > MAX_RUN_LISTED
 }
 
 /// Drops the memory of a process.

@@ -7,14 +7,14 @@ use Rattle.causal_name.specs.declared.MsgName.{MsgName}
 use Rattle.causal_wire.specs.declared.parcel.Head.{Head}
 use Rattle.causal_wire.specs.Parcels.{Contents, question}
 use Rattle.causal_node.specs.NodeRounds.{round_name, node_question_fault as node_question_fault}
-use Rattle.causal_node.specs.NodeRecovery.{with_recovery, map_round, node_after_read as node_after_read, new_round, node_stored_fault as node_stored_fault, node_restart_fault as node_restart_fault, node_after_stored as node_after_stored, after_restart_at}
+use Rattle.causal_node.specs.NodeRecovery.{with_recovery, map_round, node_after_read as node_after_read, new_round_state, node_stored_fault as node_stored_fault, node_restart_fault as node_restart_fault, node_after_stored as node_after_stored, after_restart_at}
 use Rattle.causal_endpoint.specs.declared.fault.EndpointFault.{EndpointFault}
 use Rattle.causal_endpoint.specs.Endpoints.{EndpointState, head_to, next_clock, with_node}
 use Rattle.causal_endpoint.specs.Refusals.{node_or, clock_fault}
 
 -- the endpoint after a round of this name has begun
 abbrev pub after_begin : EndpointState → ℕ → EndpointState
-after_begin e name = with_node e (with_recovery e.node (Some (Some (new_round e.node.identity name)))) e.clock
+after_begin e name = with_node e (with_recovery e.node (Some (Some (new_round_state e.node.identity name)))) e.clock
 
 -- the question of the present round to a process, at this clock
 abbrev pub question_to : EndpointState → Pid → ℕ → Head × Contents

@@ -21,9 +21,9 @@ abbrev pub clock_fault : ℕ → Option EndpointFault
 clock_fault clock = or_else (nat_le (2 ^ 62) clock) Faults.Clock None
 
 -- the refusal that a fault means: none for `NoMemory`, which requires that none applies
-abbrev pub reason_of : EndpointFault → Option EndpointFault
-reason_of (Faults.Node fault) = option_map Faults.Node (node_reason_of fault)
-reason_of fault = Some fault
+abbrev pub endpoint_reason_of : EndpointFault → Option EndpointFault
+endpoint_reason_of (Faults.Node fault) = option_map Faults.Node (node_reason_of fault)
+endpoint_reason_of fault = Some fault
 
 abbrev pub IsNodeReason : NodeFault → Option EndpointFault → Type 0
 IsNodeReason NodeFaults.NoMemory reason = Unit {0}

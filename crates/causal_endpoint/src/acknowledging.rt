@@ -6,7 +6,7 @@ ghost use Rattle.causal_name.specs.Names.{is_ascending};
 ghost use Rattle.causal_log.specs.Logs.{known_of};
 ghost use Rattle.causal_wire.specs.Bytes.{parcel_bytes};
 ghost use Rattle.causal_endpoint.specs.Endpoints.{run_of, next_clock, with_node};
-ghost use Rattle.causal_endpoint.specs.Refusals.{reason_of};
+ghost use Rattle.causal_endpoint.specs.Refusals.{endpoint_reason_of};
 ghost use Rattle.causal_endpoint.specs.Acknowledging.{acknowledged_item, acknowledged_items, acknowledgement_to, acknowledge_fault};
 
 use crate::endpoint::{Endpoint, clock_fault};
@@ -91,7 +91,7 @@ impl Endpoint {
             (acknowledgement_to self.old to dets.now (next_clock now self.old.clock))) }
         ensures legal { OnOk result (acknowledge_fault self.old now to (length dets.now) ≡ None) }
         ensures refused { IfErr result (λ fault.
-            acknowledge_fault self.old now to (length dets.now) ≡ reason_of fault) }
+            acknowledge_fault self.old now to (length dets.now) ≡ endpoint_reason_of fault) }
         ensures unchanged { OnErr result (self.new ≡ self.old) }
     {
         if let Some(fault) = self.acknowledge_fault(now, to, dets.len()) {

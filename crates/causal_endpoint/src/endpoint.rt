@@ -1,8 +1,8 @@
 //! A process of a run, over the bytes of parcels.
 ghost use Rattle.std.specs.Prelude.{◌≡◌, IfOk, IfErr, OnOk, OnErr, None, max};
-ghost use Rattle.causal_node.specs.NodeRecovery.{opened};
+ghost use Rattle.causal_node.specs.NodeRecovery.{opened_node};
 ghost use Rattle.causal_endpoint.specs.Endpoints.{run_of, head_to, next_clock, with_node};
-ghost use Rattle.causal_endpoint.specs.Refusals.{clock_fault, reason_of};
+ghost use Rattle.causal_endpoint.specs.Refusals.{clock_fault, endpoint_reason_of};
 ghost use Rattle.causal_endpoint.specs.Opening.{open_fault};
 
 use crate::fault::EndpointFault;
@@ -58,9 +58,9 @@ impl Endpoint {
         seed: u64,
     ) -> Result<Endpoint, EndpointFault>
         ensures ok { IfOk result (λ e. e
-            ≡ record { node = opened identity lane; run = run; clock = clock }) }
+            ≡ record { node = opened_node identity lane; run = run; clock = clock }) }
         ensures legal { OnOk result (open_fault identity clock ≡ None) }
-        ensures refused { IfErr result (λ fault. open_fault identity clock ≡ reason_of fault) }
+        ensures refused { IfErr result (λ fault. open_fault identity clock ≡ endpoint_reason_of fault) }
     {
         if clock >= CLOCK_END {
             return Err(EndpointFault::Clock);
@@ -104,7 +104,7 @@ impl Endpoint {
         ensures ok { OnOk result
             (self.new ≡ with_node self.old self.old.node (max self.old.clock clock)) }
         ensures legal { OnOk result (clock_fault clock ≡ None) }
-        ensures refused { IfErr result (λ fault. clock_fault clock ≡ reason_of fault) }
+        ensures refused { IfErr result (λ fault. clock_fault clock ≡ endpoint_reason_of fault) }
         ensures unchanged { OnErr result (self.new ≡ self.old) }
     {
         if let Some(fault) = clock_fault(clock) {

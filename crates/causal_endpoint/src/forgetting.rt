@@ -1,6 +1,6 @@
 //! Forgetting of what is known to be stable.
 ghost use Rattle.std.specs.Prelude.{◌≡◌, IfOk, IfErr, OnOk, OnErr, None};
-ghost use Rattle.causal_endpoint.specs.Refusals.{reason_of};
+ghost use Rattle.causal_endpoint.specs.Refusals.{endpoint_reason_of};
 ghost use Rattle.causal_endpoint.specs.Forgetting.{forget_fault, endpoint_after_forget, IsForgotten};
 
 use crate::endpoint::{Endpoint, clock_fault};
@@ -24,7 +24,7 @@ impl Endpoint {
         ensures ok { OnOk result (self.new ≡ endpoint_after_forget self.old now) }
         ensures listed { IfOk result (IsForgotten self.old now) }
         ensures legal { OnOk result (forget_fault self.old now ≡ None) }
-        ensures refused { IfErr result (λ fault. forget_fault self.old now ≡ reason_of fault) }
+        ensures refused { IfErr result (λ fault. forget_fault self.old now ≡ endpoint_reason_of fault) }
         ensures unchanged { OnErr result (self.new ≡ self.old) }
     {
         if let Some(fault) = self.node.forget_fault() {

@@ -6,7 +6,7 @@ ghost use Rattle.causal_wire.specs.Bytes.{parcel_bytes};
 ghost use Rattle.causal_node.specs.NodeStates.{has_name};
 ghost use Rattle.causal_node.specs.NodeRecovery.{is_named_for, begin_fault, read_fault, reply_fault, after_not_up};
 ghost use Rattle.causal_endpoint.specs.Endpoints.{run_of, next_clock, with_node};
-ghost use Rattle.causal_endpoint.specs.Refusals.{node_or, reason_of};
+ghost use Rattle.causal_endpoint.specs.Refusals.{node_or, endpoint_reason_of};
 ghost use Rattle.causal_endpoint.specs.Recovering.{after_begin, after_read, question_to, question_fault, stored_fault, after_stored, restart_fault, after_restart};
 
 use crate::endpoint::{Endpoint, clock_fault};
@@ -32,7 +32,7 @@ impl Endpoint {
         ensures ok { OnOk result (self.new ≡ after_begin self.old name) }
         ensures legal { OnOk result (begin_fault self.old.node.recovery ≡ None) }
         ensures refused { IfErr result (λ fault.
-            node_or (begin_fault self.old.node.recovery) None ≡ reason_of fault) }
+            node_or (begin_fault self.old.node.recovery) None ≡ endpoint_reason_of fault) }
         ensures unchanged { OnErr result (self.new ≡ self.old) }
     {
         Ok(self.node.begin_round(name)?)
@@ -49,7 +49,7 @@ impl Endpoint {
             ≡ with_node self.old (after_not_up self.old.node q number) self.old.clock) }
         ensures legal { OnOk result (reply_fault self.old.node.recovery name q ≡ None) }
         ensures refused { IfErr result (λ fault.
-            node_or (reply_fault self.old.node.recovery name q) None ≡ reason_of fault) }
+            node_or (reply_fault self.old.node.recovery name q) None ≡ endpoint_reason_of fault) }
         ensures unchanged { OnErr result (self.new ≡ self.old) }
     {
         Ok(self.node.take_not_up(name, q, number)?)
@@ -88,7 +88,7 @@ impl Endpoint {
         ensures bytes { IfOk result (λ bytes. bytes.items ≡ parcel_bytes (run_of self.old)
             (question_to self.old to (next_clock now self.old.clock))) }
         ensures legal { OnOk result (question_fault self.old now to ≡ None) }
-        ensures refused { IfErr result (λ fault. question_fault self.old now to ≡ reason_of fault) }
+        ensures refused { IfErr result (λ fault. question_fault self.old now to ≡ endpoint_reason_of fault) }
         ensures unchanged { OnErr result (self.new ≡ self.old) }
     {
         if let Some(fault) = self.question_fault(now, to) {
@@ -110,7 +110,7 @@ impl Endpoint {
         ensures ok { OnOk result (self.new ≡ after_stored self.old now det) }
         ensures clock { IfOk result (λ clock. clock ≡ next_clock now self.old.clock) }
         ensures legal { OnOk result (stored_fault self.old now ≡ None) }
-        ensures refused { IfErr result (λ fault. stored_fault self.old now ≡ reason_of fault) }
+        ensures refused { IfErr result (λ fault. stored_fault self.old now ≡ endpoint_reason_of fault) }
         ensures unchanged { OnErr result (self.new ≡ self.old) }
     {
         if let Some(fault) = self.node.stored_fault() {
@@ -155,7 +155,7 @@ impl Endpoint {
             has_name self.new.node.reserved_names m
             ≡ is_named_for self.old.node.identity.me r.listed.items m) }
         ensures legal { OnOk result (restart_fault self.old now ≡ None) }
-        ensures refused { IfErr result (λ fault. restart_fault self.old now ≡ reason_of fault) }
+        ensures refused { IfErr result (λ fault. restart_fault self.old now ≡ endpoint_reason_of fault) }
         ensures unchanged { OnErr result (self.new ≡ self.old) }
     {
         if let Some(fault) = self.node.restart_fault() {

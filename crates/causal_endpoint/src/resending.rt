@@ -3,7 +3,7 @@
 
 ghost use Rattle.std.specs.Prelude.{◌≡◌, IfOk, IfErr, OnOk, None, slice_get};
 ghost use Rattle.std.specs.Option.{option_map};
-ghost use Rattle.causal_endpoint.specs.Refusals.{reason_of};
+ghost use Rattle.causal_endpoint.specs.Refusals.{endpoint_reason_of};
 ghost use Rattle.causal_endpoint.specs.Resending.{resent_bytes, resend_fault};
 
 use crate::endpoint::Endpoint;
@@ -25,7 +25,7 @@ impl Endpoint {
             (resend_fault self.now ssn (slice_get self.now.node.memory.sent ssn) ≡ None) }
         ensures refused { IfErr result (λ fault.
             resend_fault self.now ssn (slice_get self.now.node.memory.sent ssn)
-            ≡ reason_of fault) }
+            ≡ endpoint_reason_of fault) }
     {
         let Some(message) = self.node.message(ssn) else {
             return Ok(None);

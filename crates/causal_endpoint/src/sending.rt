@@ -4,7 +4,7 @@
 ghost use Rattle.std.specs.Prelude.{◌≡◌, ◌<◌, ◌^◌, IfOk, IfErr, OnOk, OnErr, None, length};
 ghost use Rattle.causal_wire.specs.Bytes.{parcel_bytes};
 ghost use Rattle.causal_endpoint.specs.Endpoints.{run_of};
-ghost use Rattle.causal_endpoint.specs.Refusals.{reason_of};
+ghost use Rattle.causal_endpoint.specs.Refusals.{endpoint_reason_of};
 ghost use Rattle.causal_endpoint.specs.Sending.{send_fault, next_message, after_send, IsSent};
 
 use crate::endpoint::{Endpoint, clock_fault};
@@ -64,7 +64,7 @@ impl Endpoint {
         ensures sent { IfOk result (IsSent self.old now to body.now) }
         ensures legal { OnOk result (send_fault self.old now to (length body.now) ≡ None) }
         ensures refused { IfErr result (λ fault. send_fault self.old now to (length body.now)
-            ≡ reason_of fault) }
+            ≡ endpoint_reason_of fault) }
         ensures unchanged { OnErr result (self.new ≡ self.old) }
     {
         if let Some(fault) = self.send_fault(now, to, body.len()) {

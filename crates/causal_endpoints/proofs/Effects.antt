@@ -15,7 +15,7 @@ use Rattle.causal_protocol.specs.Steps.{forget_entries}
 use Rattle.causal_world.specs.World.{Packet}
 use Rattle.causal_node.specs.NodeStates.{NodeState, Recovery, RoundState, floor_of}
 use Rattle.causal_node.specs.NodeForgetting.{next_slot}
-use Rattle.causal_node.specs.NodeRecovery.{begin_fault, reply_fault, node_restart_fault, with_recovery, map_round, with_log_of, without_awaited, after_not_up, after_number, node_after_stored, node_after_read, after_restart_at, opened}
+use Rattle.causal_node.specs.NodeRecovery.{begin_fault, reply_fault, node_restart_fault, with_recovery, map_round, with_log_of, without_awaited, after_not_up, after_number, node_after_stored, node_after_read, after_restart_at, opened_node}
 use Rattle.causal_node.specs.NodeAnswers.{node_after_answer, after_answer_at, knows_number}
 use Rattle.causal_nodes.specs.Packets.{Sent, WasSent, message_packet, question_packet, read_packet, is_of_round}
 use Rattle.causal_calls.specs.Views.{numbers}
@@ -142,7 +142,7 @@ call_effect position old new taken sent entries (restart reserved legal) later =
     by (Some (Some r)) is legal = restarts _ (Some r) is refl refl refl refl refl
 call_effect position old new taken sent entries (open_again round down) later = stays refl (inr refl) (recovers ∙ ap is_some (sym down)) (λ up. absurd (false≢true (ap is_some (sym up ∙ down)))) nothing_recorded no_message
   where
-    recovers : is_some (opened old.identity old.lane).recovery ≡ true
+    recovers : is_some (opened_node old.identity old.lane).recovery ≡ true
     recovers = elim (eqb_tells old.lane 0) [ inl is ↦ absurd (later round down is.1) | inr other ↦ ap {B = Bool} (λ (b : Bool). is_some (recovery_at b)) other.0 ]
 
 -- a round is the one before, or its question was sent
@@ -214,7 +214,7 @@ call_rounds position old new taken sent entries (restart reserved legal) = by ol
     by (Some (Some r)) is legal = λ q none. no_round q none
 call_rounds position old new taken sent entries (open_again round down) = by (old.lane == 0)
   where
-    by : (b : Bool) → RoundEffect old (with_recovery (opened old.identity old.lane) (if b then None else Some None)) []
+    by : (b : Bool) → RoundEffect old (with_recovery (opened_node old.identity old.lane) (if b then None else Some None)) []
     by true = λ q is. no_round q is
     by false = λ q is. absurd (inner (Some None) q is refl)
 

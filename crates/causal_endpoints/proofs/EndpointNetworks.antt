@@ -24,7 +24,7 @@ use Rattle.causal_wire.specs.Bytes.{parcel_bytes}
 use Rattle.causal_wire.specs.Reading.{read_parcel}
 use Rattle.causal_node.specs.declared.node.Identity.{Identity}
 use Rattle.causal_node.specs.NodeStates.{NodeState, RoundState, floor_of}
-use Rattle.causal_node.specs.NodeRecovery.{opened}
+use Rattle.causal_node.specs.NodeRecovery.{opened_node}
 use Rattle.causal_nodes.specs.Packets.{Sent, WasSent, WasTaken, message_packet, acknowledgement_packet, write_packet, written_packet, question_packet, answer_packet, not_up_packet, read_packet, stored_packet, number_packet, is_of_round}
 use Rattle.causal_nodes.specs.Network.{HasFreshName}
 use Rattle.causal_calls.specs.Views.{numbers}
@@ -252,8 +252,8 @@ module _ (n f run : ℕ) (w : EndpointSystem) where
         lane_is : (w.endpoints q.0).node.lane ≡ number
         lane_is = ap (λ (s : NodeState). s.lane) has_ended.fresh
 
-        fresh : (w.endpoints q.0).node ≡ opened (w.endpoints q.0).node.identity (w.endpoints q.0).node.lane
-        fresh = has_ended.fresh ∙ ap (opened (w.endpoints q.0).node.identity) (sym lane_is)
+        fresh : (w.endpoints q.0).node ≡ opened_node (w.endpoints q.0).node.identity (w.endpoints q.0).node.lane
+        fresh = has_ended.fresh ∙ ap (opened_node (w.endpoints q.0).node.identity) (sym lane_is)
 
         by : (b : Bool) → (floor_of (w.endpoints me.0).node.floors q == number) ≡ b → HasTaken (Some (if b then not_up_packet q.0 (w.endpoints me.0).node.identity.me.0 r.name else number_packet q.0 number))
         by true is =
@@ -495,7 +495,7 @@ module _ (back : ReadsBack) (calls : EndpointCallsAreNodeCalls) (keeps : Endpoin
       names = sys.names;
     }
       where
-        fallen : with_nodes w (Crash who ∷ w.past) (with_value_at (nodes_of w.endpoints) who.0 (opened (w.endpoints who.0).node.identity ((w.endpoints who.0).node.lane + 1))) sys.packets ≡ system_of (after_fall w who clock) sys.packets
+        fallen : with_nodes w (Crash who ∷ w.past) (with_value_at (nodes_of w.endpoints) who.0 (opened_node (w.endpoints who.0).node.identity ((w.endpoints who.0).node.lane + 1))) sys.packets ≡ system_of (after_fall w who clock) sys.packets
         fallen = λ i. with_nodes w (Crash who ∷ w.past) (nodes_at w.endpoints who.0 (opened_after (w.endpoints who.0) clock) i) sys.packets
 
     -- stable storage takes a write, or sends what it has
@@ -557,10 +557,10 @@ module _ (back : ReadsBack) (calls : EndpointCallsAreNodeCalls) (keeps : Endpoin
     names = λ s name view there. absurd there;
   }
     where
-      opened_nodes : (p : ℕ) → p < n → (w.endpoints p).node ≡ opened (identity_of n f p) 0
+      opened_nodes : (p : ℕ) → p < n → (w.endpoints p).node ≡ opened_node (identity_of n f p) 0
       opened_nodes p low = ap (λ (x : EndpointState). x.node) (new.endpoints p low).2
 
-      first_state : (p : ℕ) → p < n → (clock : ℕ) → clock < 2 ^ 62 → IsEndpointState (record { node = opened (identity_of n f p) 0; run = run; clock = clock })
+      first_state : (p : ℕ) → p < n → (clock : ℕ) → clock < 2 ^ 62 → IsEndpointState (record { node = opened_node (identity_of n f p) 0; run = run; clock = clock })
       first_state p low clock early =
           let within = opened_within n p (identity_of n f p) 0 (omega arith) in
           record {

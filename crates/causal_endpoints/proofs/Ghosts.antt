@@ -9,7 +9,7 @@ use Rattle.causal_node.specs.declared.node_answer.RoundReply.TheVariants as Repl
 use Rattle.causal_node.specs.declared.node_fault.NodeFault.TheVariants as Faults
 use Rattle.causal_node.specs.NodeStates.{NodeState, Recovery, floor_of}
 use Rattle.causal_node.specs.NodeRefusals.{or_else}
-use Rattle.causal_node.specs.NodeRecovery.{opened}
+use Rattle.causal_node.specs.NodeRecovery.{opened_node}
 use Rattle.causal_node.specs.NodeAnswers.{is_gathering, knows_number, answer_fault, reply_at, node_after_answer, after_answer_at}
 use Rattle.causal_nodes.specs.Packets.{question_packet, not_up_packet, number_packet}
 use Rattle.causal_calls.specs.Views.{numbers, IsNodeState}
@@ -60,7 +60,7 @@ module _ (position : ℕ) (s : NodeState) (k : IsNodeState s) (asker : Pid) (low
       never b = grind arith
 
 -- a process that has ended, and done nothing since, replies to a question with its number that it is not up
-module _ (position : ℕ) (s : NodeState) (down : s.recovery ≡ Some None) (fresh : s ≡ opened s.identity s.lane) (asker : Pid) (low : asker.0 < s.identity.processes) (other : asker.0 ≡ s.identity.me.0 → ⊥) where
+module _ (position : ℕ) (s : NodeState) (down : s.recovery ≡ Some None) (fresh : s ≡ opened_node s.identity s.lane) (asker : Pid) (low : asker.0 < s.identity.processes) (other : asker.0 ≡ s.identity.me.0 → ⊥) where
   no_floor : numbers s.floors asker.0 ≡ 0
   no_floor = ap (λ (t : NodeState). numbers t.floors asker.0) fresh ∙ set_other (replicate s.identity.processes 0) s.identity.me.0 s.lane asker.0 other ∙ zeros s.identity.processes asker.0
 

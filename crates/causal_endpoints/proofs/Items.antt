@@ -20,9 +20,9 @@ use Rattle.causal_log.specs.Logs.{LogMap, known_of, item_of, after_learn_all}
 use Rattle.causal_log.proofs.Lemmas.KnowledgeGrows.{united_logged, united_holders, united_stable}
 use Rattle.causal_log.proofs.Lemmas.LogLists.{place_shown}
 use Rattle.causal_protocol.specs.MemoryQueries.{has_entry, log_knows_holder, log_knows_stable, has_item, item_holder}
-use Rattle.causal_calls.specs.Parcels.{message_with, acknowledged_items, log_packet}
+use Rattle.causal_calls.specs.Parcels.{message_with, items_of_logged, log_packet}
 use Rattle.causal_endpoint.specs.Items.{wire_item, log_item, wire_entry, log_entry, log_from}
-use Rattle.causal_endpoint.specs.Acknowledging.{acknowledged_item, acknowledged_items as wire_acknowledged}
+use Rattle.causal_endpoint.specs.Acknowledging.{acknowledged_item, acknowledged_items}
 use Rattle.causal_protocol.proofs.Lemmas.LogMembers.{none_holds, none_stable}
 
 -- the process is not among the others
@@ -89,11 +89,11 @@ module _ (me : Pid) (log : LogMap) (own : (d : Det) → has_entry d log ≡ true
   item_again : (d : Det) → has_entry d log ≡ true → log_item me (acknowledged_item me log d) ≡ item_of (d, known_of log d)
   item_again d has = λ i. record { det = d; holders = same_again (known_of log d).holders me.0 (own d has) i }
 
-  pub acknowledged_again : (dets : List Det) → map (log_item me) (wire_acknowledged me log dets) ≡ acknowledged_items log dets
+  pub acknowledged_again : (dets : List Det) → map (log_item me) (acknowledged_items me log dets) ≡ items_of_logged log dets
   acknowledged_again [] = refl
   acknowledged_again (d ∷ ds) = by (has_entry d log) refl (acknowledged_again ds)
     where
-      by : (b : Bool) → has_entry d log ≡ b → map (log_item me) (wire_acknowledged me log ds) ≡ acknowledged_items log ds
+      by : (b : Bool) → has_entry d log ≡ b → map (log_item me) (acknowledged_items me log ds) ≡ items_of_logged log ds
           → map (log_item me) (map (acknowledged_item me log) (if b then d ∷ filter (λ det. is_some (fin.get log det)) ds else filter (λ det. is_some (fin.get log det)) ds))
           ≡ map (λ det. item_of (det, known_of log det)) (if b then d ∷ filter (λ det. has_entry det log) ds else filter (λ det. has_entry det log) ds)
       by true has rest = λ i. item_again d has i ∷ rest i

@@ -25,7 +25,7 @@ use Rattle.causal_protocol.specs.Naming.{message_name}
 use Rattle.causal_world.specs.World.{Packet}
 use Rattle.causal_node.specs.declared.node.Identity.{Identity}
 use Rattle.causal_node.specs.NodeStates.{NodeState, Recovery, RoundState}
-use Rattle.causal_node.specs.NodeRecovery.{opened}
+use Rattle.causal_node.specs.NodeRecovery.{opened_node}
 use Rattle.causal_nodes.specs.Packets.{Sent, WasSent, WasTaken, message_packet, question_packet, is_of_round}
 use Rattle.causal_calls.specs.Views.{numbers}
 use Rattle.causal_calls.specs.Parcels.{message_with, next_message_packet}
@@ -342,7 +342,7 @@ next_is_not_first : (a : ℕ) → (a + 1 == 0) ≡ false
 next_is_not_first a = elim (eqb_tells (a + 1) 0) [ inl is ↦ absurd (omega (arith, is.1)) | inr other ↦ other.0 ]
 
 -- n nodes that are opened in lane 0
-pub first_facts : (n f : ℕ) (w : System) → w.past ≡ [] → ((p : ℕ) → p < n → w.nodes p ≡ opened (identity_of n f p) 0) → w.sent ≡ [] → SystemFacts n f w
+pub first_facts : (n f : ℕ) (w : System) → w.past ≡ [] → ((p : ℕ) → p < n → w.nodes p ≡ opened_node (identity_of n f p) 0) → w.sent ≡ [] → SystemFacts n f w
 first_facts n f w past nodes sent = record {
   counted = counted;
   identities = λ p low. ap (λ (s : NodeState). s.identity) (nodes p low);
@@ -358,7 +358,7 @@ first_facts n f w past nodes sent = record {
 
 -- a crash
 pub facts_after_crash : (n f : ℕ) (w : System) → SystemFacts n f w → (who : Pid) → who.0 < n → (w.nodes who.0).recovery ≡ None
-    → SystemFacts n f (record { past = Crash who ∷ w.past; nodes = with_value_at w.nodes who.0 (opened (w.nodes who.0).identity ((w.nodes who.0).lane + 1)); sent = w.sent; stored = w.stored; floors = w.floors })
+    → SystemFacts n f (record { past = Crash who ∷ w.past; nodes = with_value_at w.nodes who.0 (opened_node (w.nodes who.0).identity ((w.nodes who.0).lane + 1)); sent = w.sent; stored = w.stored; floors = w.floors })
 facts_after_crash n f w k who low up = record {
   counted = counted;
   identities = λ p low_p. at_each (λ p s. s.identity ≡ identity_of n f p) w.nodes who.0 fallen (k.identities who.0 low) p (λ other. k.identities p low_p);
@@ -370,7 +370,7 @@ facts_after_crash n f w k who low up = record {
 }
   where
     fallen : NodeState
-    fallen = opened (w.nodes who.0).identity ((w.nodes who.0).lane + 1)
+    fallen = opened_node (w.nodes who.0).identity ((w.nodes who.0).lane + 1)
 
     counted : AreSendsCounted (Crash who ∷ w.past)
     counted = k.counted
@@ -378,8 +378,8 @@ facts_after_crash n f w k who low up = record {
     counts : lane_of w.past who.0 ≡ (w.nodes who.0).lane
     counts = (subst (λ o. CountsAt w.past who.0 (w.nodes who.0) o) up (k.nodes who.0 low)).0
 
-    fallen_counts : NodeCounts (Crash who ∷ w.past) who.0 (opened (w.nodes who.0).identity ((w.nodes who.0).lane + 1))
-    fallen_counts = subst (λ (b : Bool). CountsAt (Crash who ∷ w.past) who.0 (opened (w.nodes who.0).identity ((w.nodes who.0).lane + 1)) (if b then None else Some None)) (sym (next_is_not_first (w.nodes who.0).lane)) (ap (λ m. m + 1) counts)
+    fallen_counts : NodeCounts (Crash who ∷ w.past) who.0 (opened_node (w.nodes who.0).identity ((w.nodes who.0).lane + 1))
+    fallen_counts = subst (λ (b : Bool). CountsAt (Crash who ∷ w.past) who.0 (opened_node (w.nodes who.0).identity ((w.nodes who.0).lane + 1)) (if b then None else Some None)) (sym (next_is_not_first (w.nodes who.0).lane)) (ap (λ m. m + 1) counts)
 
 -- stable storage sends something that is no message
 pub facts_after_storage : (n f : ℕ) (w : System) → SystemFacts n f w → (j : Sent) (stored : Det → Bool) (floors : ℕ → ℕ) → ((name : MsgName) (t : Packet) → j ≡ message_packet name t → ⊥)

@@ -14,7 +14,7 @@ use Rattle.causal_log.specs.Knowledge.{stable_and_held_by}
 use Rattle.causal_log.specs.Logs.{LogMap, after_learn, after_mark, after_forget, batch_items, dets_of}
 use Rattle.causal_log.proofs.Lemmas.KnowledgeGrows.{united_logged}
 use Rattle.causal_log.proofs.Lemmas.LogLists.{keys_logged}
-use Rattle.causal_protocol.specs.Limits.{max_entries, max_listed}
+use Rattle.causal_protocol.specs.Limits.{max_run_entries, max_run_listed}
 use Rattle.causal_protocol.specs.Memory.{SentMessage, with_log}
 use Rattle.causal_protocol.specs.Naming.{with_own}
 use Rattle.causal_wire.specs.Parcels.{IsDet}
@@ -28,8 +28,8 @@ use Rattle.causal_node.specs.NodeAcknowledgements.{log_with_holders}
 use Rattle.causal_node.specs.NodeForgetting.{next_slot}
 use Rattle.causal_node.specs.declared.node_answer.RoundReply.{RoundReply}
 use Rattle.causal_node.specs.declared.node_answer.RoundReply.TheVariants as Replies
-use Rattle.causal_node.specs.NodeRecovery.{reply_fault, node_restart_fault, new_round, with_recovery, map_round, with_log_of, without_awaited, after_not_up, after_number, node_after_stored, node_after_read, after_restart_at, opened}
-use Rattle.causal_node.specs.NodeAnswers.{node_after_answer, after_answer_at, knows_number, raised, round_reply, reply_at}
+use Rattle.causal_node.specs.NodeRecovery.{reply_fault, node_restart_fault, new_round_state, with_recovery, map_round, with_log_of, without_awaited, after_not_up, after_number, node_after_stored, node_after_read, after_restart_at, opened_node}
+use Rattle.causal_node.specs.NodeAnswers.{node_after_answer, after_answer_at, knows_number, raised_floors, round_reply, reply_at}
 use Rattle.causal_nodes.specs.Node.{NodeLog}
 use Rattle.causal_nodes.specs.Packets.{Sent, WasSent, message_packet, written_packet, question_packet, answer_packet, stored_packet, number_packet}
 use Rattle.causal_calls.specs.Views.{numbers, IsNodeState}
@@ -50,8 +50,8 @@ pub record IsWithin (n me : ℕ) (s : NodeState) : Type 0 where
   pub logged : HasDets n s.memory.log
   pub round : IsRoundWithin n s.recovery
   pub kept : (ssn : ℕ) (kept : SentMessage) → slice_get s.memory.sent ssn ≡ Some kept → IsKeptMessage n me kept
-  pub sent : length s.memory.sent ≤ max_entries
-  pub received : length s.memory.received ≤ max_entries
+  pub sent : length s.memory.sent ≤ max_run_entries
+  pub received : length s.memory.received ≤ max_run_entries
 
 -- what is taken brings determinants and numbers that parcels of n processes have
 abbrev pub IsTakenWithin : ℕ → Sent → Type 0
@@ -93,7 +93,7 @@ zeros_within (suc m) = (omega arith, zeros_within m)
 greater : (a b c : ℕ) → a < c → b < c → max a b < c
 greater a b c h k = omega (arith, h, k)
 
-raised_within : (floors view : List ℕ) → AllByRecursion (λ number. number < 2 ^ 32) floors → AllByRecursion (λ number. number < 2 ^ 32) view → AllByRecursion (λ number. number < 2 ^ 32) (raised floors view)
+raised_within : (floors view : List ℕ) → AllByRecursion (λ number. number < 2 ^ 32) floors → AllByRecursion (λ number. number < 2 ^ 32) view → AllByRecursion (λ number. number < 2 ^ 32) (raised_floors floors view)
 raised_within [] view h k = tt
 raised_within (x ∷ xs) [] h k = tt
 raised_within (x ∷ xs) (v ∷ vs) h k = (greater x v (2 ^ 32) h.0 k.0, raised_within xs vs h.1 k.1)
@@ -109,7 +109,7 @@ nothing_kept : {X : Type 0} (P : X → Type 0) (i : ℕ) (y : X) → slice_get {
 nothing_kept P i y at = absurd (false≢true (ap is_some at))
 
 -- a node that is opened
-pub opened_within : (n me : ℕ) (who : Identity) (lane : ℕ) → lane < 2 ^ 32 → IsWithin n me (opened who lane)
+pub opened_within : (n me : ℕ) (who : Identity) (lane : ℕ) → lane < 2 ^ 32 → IsWithin n me (opened_node who lane)
 opened_within n me who lane low = record {
   lane = low;
   floors = set_within (replicate who.processes 0) who.me.0 lane low (zeros_within who.processes);
@@ -201,7 +201,7 @@ pub calls_within : (position : ℕ) (old new : NodeState) (taken : Option Sent) 
     → IsWithin old.identity.processes old.identity.me.0 new
 calls_within position old new taken sent entries (send to body legal) is few k fits named =
     let low = or_else_none (not (nat_lt to.0 old.identity.processes)) Faults.NoProcess _ (unless_up_none _ _ legal).1 in
-    let more = or_else_none (nat_le max_entries (length old.memory.sent)) Faults.Full None low.1 in
+    let more = or_else_none (nat_le max_run_entries (length old.memory.sent)) Faults.Full None low.1 in
     let space = not_at 65536 (length old.memory.sent) more.0 in
     record {
       lane = k.lane;
@@ -217,8 +217,8 @@ calls_within position old new taken sent entries (deliver lane name at items asc
     let floor = or_else_none (nat_lt lane (floor_of old.floors name.source)) Faults.OldLane _ process.1 in
     let once = or_else_none (has_name old.received_names name) Faults.Duplicate _ floor.1 in
     let own = det_from old.identity.me (length old.memory.received) name in
-    let few_listed = or_else (nat_lt max_listed (length (with_own own (dets_of items)))) Faults.Full None in
-    let more = room (named_message_by old.identity.me old.memory None) (has_name old.reserved_names name) name (or_else (nat_le max_entries (length old.memory.received)) Faults.Full few_listed) once.1 in
+    let few_listed = or_else (nat_lt max_run_listed (length (with_own own (dets_of items)))) Faults.Full None in
+    let more = room (named_message_by old.identity.me old.memory None) (has_name old.reserved_names name) name (or_else (nat_le max_run_entries (length old.memory.received)) Faults.Full few_listed) once.1 in
     let space = not_at 65536 (length old.memory.received) (or_else_none _ _ few_listed more).0 in
     let mine : IsDet old.identity.processes own = record { source = fits.0; ssn = fits.1; dest = is.process; rsn = omega (arith, space) } in
     record {
@@ -249,7 +249,7 @@ calls_within position old new taken sent entries (answer_log asker name view leg
 calls_within position old new taken sent entries (answer_not_up asker name view legal reply) is few k fits named = after_reply old.identity.processes old.identity.me.0 old k view (numbers_each view fits)
 calls_within position old new taken sent entries (answer_number asker view legal reply) is few k fits named = subst (λ t. IsWithin old.identity.processes old.identity.me.0 t) (number_same old view reply) k
 calls_within position old new taken sent entries (begin_round name legal) is few k fits named =
-    with_other old.identity.processes old.identity.me.0 old k (Some (Some (new_round old.identity name))) (named old.identity.me.0 name (numbers old.floors) (inl refl), λ d h. absurd (both_ways _ (none_entry d) h))
+    with_other old.identity.processes old.identity.me.0 old k (Some (Some (new_round_state old.identity name))) (named old.identity.me.0 name (numbers old.floors) (inl refl), λ d h. absurd (both_ways _ (none_entry d) h))
 calls_within position old new taken sent entries (take_log name lane q log legal) is few k fits named =
     let r = of_round old.recovery name q legal in
     changed old.identity.processes old.identity.me.0 old k r.0 r.1 (λ r. with_log_of r q.0 log) (λ w. (w.0, λ d h. elim (or_cases _ _ (sym (united_logged r.0.log log d) ∙ h)) [ inl before ↦ w.1 d before | inr new ↦ fits d new ]))

@@ -19,7 +19,7 @@ use Rattle.causal_wire.specs.Reading.{read_parcel}
 use Rattle.causal_node.specs.NodeStates.{RoundState}
 use Rattle.causal_node.specs.NodeForgetting.{next_slot}
 use Rattle.causal_node.specs.NodeAnswers.{round_reply}
-use Rattle.causal_node.specs.NodeRecovery.{begin_fault, reply_fault, ask_fault, read_fault, after_not_up, opened}
+use Rattle.causal_node.specs.NodeRecovery.{begin_fault, reply_fault, ask_fault, read_fault, after_not_up, opened_node}
 use Rattle.causal_nodes.specs.Packets.{Sent, write_packet, written_packet, read_packet, stored_packet}
 use Rattle.causal_calls.specs.Views.{numbers}
 use Rattle.causal_calls.specs.Parcels.{write_of}
@@ -104,4 +104,4 @@ pub data EndpointCall (past : List Entry) (e : EndpointState) : CallInput → En
       → EndpointCall past e nothing (after_restart e now reserved) no_output (Restart e.node.identity.me (fin.keys (after_restart e now reserved).node.memory.log) ∷ [])
   -- a process that recovers dies: an endpoint is opened again, in the same lane
   open_again : (round : Option RoundState) (clock : ℕ) → e.node.recovery ≡ Some round → clock < 2 ^ 62
-      → EndpointCall past e nothing (record { node = opened e.node.identity e.node.lane; run = e.run; clock = clock }) no_output []
+      → EndpointCall past e nothing (record { node = opened_node e.node.identity e.node.lane; run = e.run; clock = clock }) no_output []

@@ -4,7 +4,7 @@ use Rattle.std.specs.List.{AllByRecursion}
 use Rattle.std.specs.FinMap as fin
 use Rattle.causal_name.specs.declared.Det.{Det}
 use Rattle.causal_log.specs.Logs.{LogMap}
-use Rattle.causal_protocol.specs.Limits.{max_entries}
+use Rattle.causal_protocol.specs.Limits.{max_run_entries}
 use Rattle.causal_protocol.specs.Memory.{SentMessage}
 use Rattle.causal_protocol.specs.MemoryQueries.{has_entry}
 use Rattle.causal_wire.specs.declared.parcel.Head.{Head}
@@ -42,8 +42,8 @@ pub record IsEndpointState (e : EndpointState) : Type 0 where
   pub logged : HasDets e.node.identity.processes e.node.memory.log
   pub round : IsRoundWithin e.node.identity.processes e.node.recovery
   pub kept : (ssn : ℕ) (kept : SentMessage) → slice_get e.node.memory.sent ssn ≡ Some kept → IsKeptMessage e.node.identity.processes e.node.identity.me.0 kept
-  pub sent : length e.node.memory.sent ≤ max_entries
-  pub received : length e.node.memory.received ≤ max_entries
+  pub sent : length e.node.memory.sent ≤ max_run_entries
+  pub received : length e.node.memory.received ≤ max_run_entries
 
 -- a log has fewer than 2^32 determinants
 abbrev pub HasCountedLog : EndpointState → Type 0

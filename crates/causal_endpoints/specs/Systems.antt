@@ -10,7 +10,7 @@ use Rattle.causal_trace.specs.Judgement.{IsSafeTrace}
 use Rattle.causal_rounds.specs.Rounds.{with_value_at}
 use Rattle.causal_protocol.specs.MemoryQueries.{has_entry}
 use Rattle.causal_world.specs.World.{Packet}
-use Rattle.causal_node.specs.NodeRecovery.{opened}
+use Rattle.causal_node.specs.NodeRecovery.{opened_node}
 use Rattle.causal_nodes.specs.Packets.{Sent, write_packet, written_packet, read_packet, stored_packet}
 use Rattle.causal_nodes.specs.NodeSteps.{raised}
 use Rattle.causal_calls.specs.Systems.{identity_of, is_recovering}
@@ -34,7 +34,7 @@ pub record EndpointSystem : Type 0 where
 -- the process has crashed, or died while it recovered, and its next endpoint, of this lane, has done nothing
 pub record HasGoneDown (e : EndpointState) (number : ℕ) : Type 0 where
   pub down : e.node.recovery ≡ Some None
-  pub fresh : e.node ≡ opened e.node.identity number
+  pub fresh : e.node ≡ opened_node e.node.identity number
 
 -- what a call takes was sent before; a process is said to have ended only while it has
 abbrev pub IsTakeable : ℕ → EndpointSystem → CallInput → Type 0
@@ -45,7 +45,7 @@ IsTakeable n w (ended q number) = (q.0 < n) × HasGoneDown (w.endpoints q.0) num
 
 -- the endpoint that a process opens after a crash
 abbrev pub opened_after : EndpointState → ℕ → EndpointState
-opened_after e clock = record { node = opened e.node.identity (e.node.lane + 1); run = e.run; clock = clock }
+opened_after e clock = record { node = opened_node e.node.identity (e.node.lane + 1); run = e.run; clock = clock }
 
 -- What happens. What a call takes was sent before, at any time, and any number of times; a log has fewer than 2^32
 -- determinants, as its length says; fewer than f processes recover at a crash; after a crash an endpoint is opened in
@@ -105,7 +105,7 @@ pub record IsNewEndpointSystem (n f run : ℕ) (w : EndpointSystem) : Type 0 whe
   pub bound : f < 2 ^ 16
   pub number : run < 2 ^ 64
   pub past : w.past ≡ []
-  pub endpoints : (p : ℕ) → p < n → (clock : ℕ) × (clock < 2 ^ 62) × (w.endpoints p ≡ record { node = opened (identity_of n f p) 0; run = run; clock = clock })
+  pub endpoints : (p : ℕ) → p < n → (clock : ℕ) × (clock < 2 ^ 62) × (w.endpoints p ≡ record { node = opened_node (identity_of n f p) 0; run = run; clock = clock })
   pub sent : w.sent ≡ []
   pub requests : w.requests ≡ []
   pub stored : (d : Det) → w.stored d ≡ false

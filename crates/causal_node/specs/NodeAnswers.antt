@@ -31,8 +31,8 @@ answer_fault n asker view =
     None)))
 
 -- the greater of each floor and the number in the view
-abbrev pub raised : List ℕ → List ℕ → List ℕ
-raised floors view = map (λ p. max p.0 p.1) (zip floors view)
+abbrev pub raised_floors : List ℕ → List ℕ → List ℕ
+raised_floors floors view = map (λ p. max p.0 p.1) (zip floors view)
 
 -- the node with other floors
 abbrev pub with_floors : NodeState → List ℕ → NodeState
@@ -47,7 +47,7 @@ abbrev pub round_reply : NodeState → List ℕ → RoundReply
 round_reply n view = if knows_number n view then reply_at n.recovery else Replies.OwnNumber
 
 abbrev pub after_answer_at : NodeState → List ℕ → Recovery → NodeState
-after_answer_at n view None = with_floors n (raised n.floors view)
+after_answer_at n view None = with_floors n (raised_floors n.floors view)
 after_answer_at n view (Some r) = with_recovery n (Some None)
 
 -- the node after that reply

@@ -31,8 +31,8 @@ abbrev pub with_recovery : NodeState → Recovery → NodeState
 with_recovery n recovery = record n { recovery = recovery }
 
 -- a round to which nobody has replied
-abbrev pub new_round : Identity → ℕ → RoundState
-new_round who name = record { name = name; awaited = set.remove (processes_below who.processes) who.me.0; log = fin.empty; read = false }
+abbrev pub new_round_state : Identity → ℕ → RoundState
+new_round_state who name = record { name = name; awaited = set.remove (processes_below who.processes) who.me.0; log = fin.empty; read = false }
 
 -- the node with a determinant that its process read from stable storage in a round
 abbrev pub with_stored_in : NodeState → RoundState → Det → NodeState
@@ -70,8 +70,8 @@ abbrev pub node_open_fault : Identity → Option NodeFault
 node_open_fault who = or_else (nat_lt max_processes who.processes || nat_le who.processes who.me.0) Faults.NoProcess None
 
 -- a node that is opened in this lane
-abbrev pub opened : Identity → ℕ → NodeState
-opened who lane = record {
+abbrev pub opened_node : Identity → ℕ → NodeState
+opened_node who lane = record {
   identity = who;
   lane = lane;
   floors = slice_set (replicate who.processes 0) who.me.0 lane;

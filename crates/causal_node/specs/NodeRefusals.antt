@@ -6,7 +6,7 @@ use Rattle.causal_name.specs.declared.MsgName.{MsgName}
 use Rattle.causal_name.specs.Names.{same_message}
 use Rattle.causal_log.specs.declared.batch.Item.{Item}
 use Rattle.causal_log.specs.Logs.{dets_of}
-use Rattle.causal_protocol.specs.Limits.{max_entries, max_listed}
+use Rattle.causal_protocol.specs.Limits.{max_run_entries, max_run_listed}
 use Rattle.causal_protocol.specs.Naming.{with_own}
 use Rattle.causal_trace.specs.Past.{det_from}
 use Rattle.causal_node.specs.declared.node_fault.NodeFault.{NodeFault}
@@ -36,8 +36,8 @@ deliver_fault n lane name items =
     (or_else (nat_lt lane (floor_of n.floors name.source)) Faults.OldLane
     (or_else (has_name n.received_names name) Faults.Duplicate
     (naming_fault (named_message_by n.identity.me n.memory None) (has_name n.reserved_names name) name
-    (or_else (nat_le max_entries (length n.memory.received)) Faults.Full
-    (or_else (nat_lt max_listed (length (with_own (det_from n.identity.me (length n.memory.received) name) (dets_of items)))) Faults.Full
+    (or_else (nat_le max_run_entries (length n.memory.received)) Faults.Full
+    (or_else (nat_lt max_run_listed (length (with_own (det_from n.identity.me (length n.memory.received) name) (dets_of items)))) Faults.Full
     None))))))
 
 -- the first refusal that applies to a send
@@ -45,7 +45,7 @@ abbrev pub node_send_fault : NodeState → Pid → Option NodeFault
 node_send_fault n to =
     unless_up n.recovery
     (or_else (not (nat_lt to.0 n.identity.processes)) Faults.NoProcess
-    (or_else (nat_le max_entries (length n.memory.sent)) Faults.Full
+    (or_else (nat_le max_run_entries (length n.memory.sent)) Faults.Full
     None))
 
 -- the refusal that a fault means: none for `NoMemory`, which requires that none applies

@@ -15,7 +15,7 @@ use Rattle.causal_log.specs.declared.batch.Item.{Item}
 use Rattle.causal_log.specs.Knowledge.{coded_det, coded_known}
 use Rattle.causal_log.specs.Logs.{LogMap, batch_items}
 use Rattle.causal_memory.specs.Outboxes.{coded_kept}
-use Rattle.causal_protocol.specs.Limits.{max_entries}
+use Rattle.causal_protocol.specs.Limits.{max_run_entries}
 use Rattle.causal_protocol.specs.Memory.{Memory, SentMessage}
 use Rattle.causal_trace.specs.Limits.{max_processes}
 use Rattle.causal_node.specs.MessageNames.{coded_name}
@@ -97,5 +97,5 @@ with_memory n m bodies = record { identity = n.identity; lane = n.lane; floors =
 pub record IsNode (who : Identity) (next_batch : Option (List Item)) (m : Memory) : Type 0 where
   pub few : who.processes ≤ max_processes
   pub batch : IfSome next_batch (λ b. b ≡ batch_items who.faults m.log)
-  pub received : length m.received ≤ max_entries
-  pub sent : length m.sent ≤ max_entries
+  pub received : length m.received ≤ max_run_entries
+  pub sent : length m.sent ≤ max_run_entries

@@ -1,6 +1,6 @@
 //! A node replies to another process's round.
 ghost use Rattle.std.specs.Prelude.{◌≡◌, IfOk, IfErr, OnOk, OnErr, None};
-ghost use Rattle.causal_node.specs.NodeAnswers.{node_after_answer, answer_fault, raised, round_reply};
+ghost use Rattle.causal_node.specs.NodeAnswers.{node_after_answer, answer_fault, raised_floors, round_reply};
 ghost use Rattle.causal_node.specs.NodeRefusals.{node_reason_of};
 ghost use Rattle.causal_node.specs.NodeStates.{floor_of};
 
@@ -21,8 +21,8 @@ pub enum RoundReply {
 }
 
 /// Returns the greater of each floor and the number in the view.
-fn raised(alloc: Global, floors: &[u32], view: &[u32]) -> Result<Vec<u32>, NoMemory>
-    ensures { IfOk result (λ new. new.items ≡ raised floors.now view.now) }
+fn raised_floors(alloc: Global, floors: &[u32], view: &[u32]) -> Result<Vec<u32>, NoMemory>
+    ensures { IfOk result (λ new. new.items ≡ raised_floors floors.now view.now) }
 {
     let pairs = floors.iter().zip(view);
     Ok(
@@ -95,7 +95,7 @@ impl Node {
         match reply {
             RoundReply::OwnNumber => (),
             RoundReply::NotUp => self.stage = NodeStage::Down,
-            RoundReply::Log => match raised(self.alloc, self.floors.as_slice(), view) {
+            RoundReply::Log => match raised_floors(self.alloc, self.floors.as_slice(), view) {
                 Ok(floors) => self.floors = floors,
                 Err(_) => return Err(NodeFault::NoMemory),
             },

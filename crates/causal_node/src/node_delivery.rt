@@ -13,7 +13,7 @@ use crate::node_fault::NodeFault;
 use causal_log::Batch;
 use causal_memory::delivery_list::{listed_dets, listed_len};
 use causal_name::{Det, MsgName, NoMemory};
-use causal_protocol::limits::{MAX_ENTRIES, MAX_LISTED};
+use causal_protocol::limits::{MAX_RUN_ENTRIES, MAX_RUN_LISTED};
 use causal_trace::entry::Dets;
 
 /// A delivery, for the recording.
@@ -58,8 +58,8 @@ impl Node {
             None if self.reserved.contains(&name) => return Some(NodeFault::Reserved),
             _ => (),
         }
-        if self.memory.received.len() >= MAX_ENTRIES as usize
-            || listed_len(self.next_det(name), batch) > MAX_LISTED
+        if self.memory.received.len() >= MAX_RUN_ENTRIES as usize
+            || listed_len(self.next_det(name), batch) > MAX_RUN_LISTED
         {
             return Some(NodeFault::Full);
         }

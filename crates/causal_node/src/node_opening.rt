@@ -1,7 +1,7 @@
 //! A node begins.
 ghost use Rattle.std.specs.Prelude.{◌≡◌, ◌<◌, ◌≤◌, IfOk, IfErr, OnOk, None};
 ghost use Rattle.causal_trace.specs.Limits.{max_processes};
-ghost use Rattle.causal_node.specs.NodeRecovery.{node_open_fault, opened, processes_below};
+ghost use Rattle.causal_node.specs.NodeRecovery.{node_open_fault, opened_node, processes_below};
 ghost use Rattle.causal_node.specs.NodeRefusals.{node_reason_of};
 
 use crate::node::{Identity, Node, NodeStage};
@@ -36,7 +36,7 @@ impl Node {
     /// `NoProcess` if a run cannot have so many processes or `me` is none of them; otherwise `NoMemory` if allocation
     /// failed.
     pub fn open(alloc: Global, identity: Identity, lane: u32, seed: u64) -> Result<Node, NodeFault>
-        ensures ok { IfOk result (λ node. node ≡ opened identity lane) }
+        ensures ok { IfOk result (λ node. node ≡ opened_node identity lane) }
         ensures legal { OnOk result (node_open_fault identity ≡ None) }
         ensures refused { IfErr result (λ fault. node_open_fault identity ≡ node_reason_of fault) }
     {
@@ -53,7 +53,7 @@ impl Node {
     fn new(alloc: Global, identity: Identity, lane: u32, seed: u64) -> Result<Node, NoMemory>
         requires few { identity.processes ≤ max_processes }
         requires mine { identity.me.0 < identity.processes }
-        ensures { IfOk result (λ node. node ≡ opened identity lane) }
+        ensures { IfOk result (λ node. node ≡ opened_node identity lane) }
     {
         let mut floors = vec![in alloc; 0; usize::from(identity.processes)]?;
         floors[usize::from(identity.me.0)] = lane;

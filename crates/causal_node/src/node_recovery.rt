@@ -3,7 +3,7 @@ ghost use Rattle.std.specs.Prelude.{◌≡◌, IfOk, IfErr, OnOk, OnErr, None, S
 ghost use Rattle.std.specs.Option.{option_and_then, option_map};
 ghost use Rattle.std.specs.FinMap as fin;
 ghost use Rattle.causal_name.specs.declared.MsgName.{MsgName as Message};
-ghost use Rattle.causal_node.specs.NodeRecovery.{after_not_up, after_number, node_after_read, after_restart_at, node_after_stored, ask_fault, begin_fault, is_named_for, map_round, new_round, read_fault, reply_fault, node_restart_fault, restart_log_of, node_stored_fault, with_log_of, with_recovery};
+ghost use Rattle.causal_node.specs.NodeRecovery.{after_not_up, after_number, node_after_read, after_restart_at, node_after_stored, ask_fault, begin_fault, is_named_for, map_round, new_round_state, read_fault, reply_fault, node_restart_fault, restart_log_of, node_stored_fault, with_log_of, with_recovery};
 ghost use Rattle.causal_node.specs.NodeRefusals.{node_reason_of};
 ghost use Rattle.causal_node.specs.NodeStates.{has_name, round_of};
 ghost use Rattle.causal_memory.specs.RestartPlans.{IsRestartPlan};
@@ -65,7 +65,7 @@ impl Node {
     /// `Up`. A refusal changes nothing.
     pub fn begin_round(&mut self, name: u64) -> Result<(), NodeFault>
         ensures ok { OnOk result (self.new
-            ≡ with_recovery self.old (Some (Some (new_round self.old.identity name)))) }
+            ≡ with_recovery self.old (Some (Some (new_round_state self.old.identity name)))) }
         ensures legal { OnOk result (begin_fault self.old.recovery ≡ None) }
         ensures refused { IfErr result (λ fault. begin_fault self.old.recovery
             ≡ node_reason_of fault) }

@@ -10,7 +10,7 @@ use causal_log::Batch;
 use causal_memory::restart_planning::choose_and_cache;
 use causal_name::{NoMemory, Pid};
 use causal_process::Body;
-use causal_protocol::limits::MAX_ENTRIES;
+use causal_protocol::limits::MAX_RUN_ENTRIES;
 
 impl Node {
     /// Returns the first refusal that applies to a send, if there is one.
@@ -23,7 +23,7 @@ impl Node {
         if u16::from(to.0) >= self.identity.processes {
             return Some(NodeFault::NoProcess);
         }
-        if self.memory.sent.len() >= MAX_ENTRIES as usize {
+        if self.memory.sent.len() >= MAX_RUN_ENTRIES as usize {
             return Some(NodeFault::Full);
         }
         None

@@ -18,7 +18,7 @@ use Rattle.causal_world.specs.Reachable.{IsReachableWorld, next_world}
 use Rattle.causal_world.proofs.Lemmas.Functions.{set_at_here, set_at_away}
 use Rattle.causal_nodes.specs.Node.{NodeLog, UpNode, Node, up_node}
 use Rattle.causal_nodes.specs.Packets.{message_packet, acknowledgement_packet, written_packet, WasSent}
-use Rattle.causal_nodes.specs.NodeSteps.{with_log, node_log_after_delivery, up_after_delivery, log_after_acknowledgement, log_after_mark, log_without}
+use Rattle.causal_nodes.specs.NodeSteps.{with_node_log, node_log_after_delivery, up_after_delivery, log_after_acknowledgement, log_after_mark, log_without}
 use Rattle.causal_nodes.specs.Network.{Network}
 use Rattle.causal_nodes.proofs.Represents.{UpFits, IsPacket, NodeFits, Represents}
 use Rattle.causal_nodes.proofs.Kept.{IsLater, IsUntouched, packets_later, node_kept, nodes_and_one}
@@ -154,11 +154,11 @@ module _ (n f : ℕ) (net : Network) (w : World) (reach : IsReachableWorld n f w
       | inr other ↦ ap (λ (g : Det → ℕ → Bool). g d q) other.1 ∙ h
     ]
 
-    pub learns : IsWorldOf n f (after_step (up_node (with_log a learned)) net.past)
+    pub learns : IsWorldOf n f (after_step (up_node (with_node_log a learned)) net.past)
     learns = (
       wiser,
       next_world w wiser reach (world.learn me.0 acknowledgement.0 p knows fits.is_up acknowledgement.1 mine (subst (λ m. m ≤ p.lane) (sym (fits.floors p.parcel.from acknowledgement.2)) floor) learns_new still_knows),
-      represents w.past net.past knows w.knows_stable (up_node (with_log a learned)) rep.past
+      represents w.past net.past knows w.knows_stable (up_node (with_node_log a learned)) rep.past
           (record { numbers = λ q. omega arith; packets = λ i t at. at; stable = λ d h. h; stored = λ d h. h; messages = λ send m h. h })
           (record { is_up = fits.is_up; lane = fits.lane; log = record { has = fits.log.has; holder = λ d q. sym (ap (λ (g : Det → ℕ → Bool). g d q) (set_at_here w.knows_holder me.0 learned.holder)); stable = fits.log.stable }; floors = fits.floors; received = fits.received })
           (λ q other. record { is_down = refl; lane = refl; floors = λ z. refl; round = refl; gathered = λ d. refl; holders = λ d h. ap (λ (g : Det → ℕ → Bool). g d h) (set_at_away w.knows_holder me.0 learned.holder q other); stables = λ d. refl; logged = λ d. refl; received = refl }),
@@ -186,11 +186,11 @@ module _ (n f : ℕ) (net : Network) (w : World) (reach : IsReachableWorld n f w
       | inr other ↦ inl (sym (ap (λ (g : Det → Bool). g d) other.1) ∙ h)
     ]
 
-    pub marks_stable : IsWorldOf n f (after_step (up_node (with_log a marked)) (Stable det ∷ net.past))
+    pub marks_stable : IsWorldOf n f (after_step (up_node (with_node_log a marked)) (Stable det ∷ net.past))
     marks_stable = (
       recorded,
       next_world w recorded reach (world.write_entry det marks is_stored marks_new),
-      represents (Stable det ∷ w.past) (Stable det ∷ net.past) w.knows_holder marks (up_node (with_log a marked)) (ap (λ t. Stable det ∷ t) rep.past)
+      represents (Stable det ∷ w.past) (Stable det ∷ net.past) w.knows_holder marks (up_node (with_node_log a marked)) (ap (λ t. Stable det ∷ t) rep.past)
           (record { numbers = λ q. omega arith; packets = λ i t at. at; stable = λ d h. or_right (same_det d det) (is_stable w.past d) h; stored = λ d h. h; messages = message_older (Stable det) w.past })
           (record { is_up = fits.is_up; lane = fits.lane; log = record { has = fits.log.has; holder = fits.log.holder; stable = λ d. sym (ap (λ (g : Det → Bool). g d) (set_at_here w.knows_stable me.0 marked.stable)) }; floors = fits.floors; received = fits.received })
           (λ q other. record { is_down = refl; lane = refl; floors = λ z. refl; round = refl; gathered = λ d. refl; holders = λ d h. refl; stables = λ d. ap (λ (g : Det → Bool). g d) (set_at_away w.knows_stable me.0 marked.stable q other); logged = λ d. refl; received = refl }),
@@ -212,11 +212,11 @@ module _ (n f : ℕ) (net : Network) (w : World) (reach : IsReachableWorld n f w
     not_away : (b l y : Bool) → b ≡ false → (not (b && l) && y) ≡ y
     not_away b l y hb = grind (arith, hb)
 
-    pub forgets : IsWorldOf n f (after_step (up_node (with_log a (log_without listed a.log))) (Forget me listed ∷ net.past))
+    pub forgets : IsWorldOf n f (after_step (up_node (with_node_log a (log_without listed a.log))) (Forget me listed ∷ net.past))
     forgets = (
       shorter,
       next_world w shorter reach (world.forget me listed low fits.is_up (λ d h. sym (fits.log.stable d) ∙ known_stable d h) (λ d h dest. subst (λ m. d.rsn < m) fits.received (repeated d h dest))),
-      represents (Forget me listed ∷ w.past) (Forget me listed ∷ net.past) holders_left marks_left (up_node (with_log a (log_without listed a.log))) (ap (λ t. Forget me listed ∷ t) rep.past)
+      represents (Forget me listed ∷ w.past) (Forget me listed ∷ net.past) holders_left marks_left (up_node (with_node_log a (log_without listed a.log))) (ap (λ t. Forget me listed ∷ t) rep.past)
           (record { numbers = λ q. omega arith; packets = λ i t at. at; stable = λ d h. h; stored = λ d h. h; messages = message_older (Forget me listed) w.past })
           (record {
             is_up = fits.is_up;

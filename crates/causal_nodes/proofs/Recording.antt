@@ -20,7 +20,7 @@ use Rattle.causal_world.specs.World.{Packet, volatile_of}
 use Rattle.causal_world.proofs.Lemmas.Functions.{set_at_here}
 use Rattle.causal_nodes.specs.Node.{NodeLog, UpNode, NodeRound, DownNode, Node, up_node, down_node, lane_or_next}
 use Rattle.causal_nodes.specs.Packets.{Sent, message_packet, acknowledgement_packet, write_packet, written_packet, question_packet, answer_packet, not_up_packet, read_packet, stored_packet, number_packet, WasSent, WasTaken}
-use Rattle.causal_nodes.specs.NodeSteps.{raised, with_log, with_floors, with_one_sent, up_after_delivery, log_after_acknowledgement, log_after_mark, log_without, with_round, fallen_node, new_node_round, after_answer, with_heard, round_with_stored, up_after_restart, NodeStep, send_row, deliver_row, acknowledge_row, learn_row, write_row, mark_row, forget_row, answer_row, tell_row, hear_number_row, begin_row, not_up_row, give_up_row, hear_answer_row, hear_not_up_row, read_row, take_stored_row, hear_stored_row, restart_row}
+use Rattle.causal_nodes.specs.NodeSteps.{raised, with_node_log, with_floors, with_one_sent, up_after_delivery, log_after_acknowledgement, log_after_mark, log_without, with_round, fallen_node, new_node_round, after_answer, with_heard, round_with_stored, up_after_restart, NodeStep, send_row, deliver_row, acknowledge_row, learn_row, write_row, mark_row, forget_row, answer_row, tell_row, hear_number_row, begin_row, not_up_row, give_up_row, hear_answer_row, hear_not_up_row, read_row, take_stored_row, hear_stored_row, restart_row}
 use Rattle.causal_nodes.specs.Network.{Network, NetworkEvent, step_event, crash_event, store_event, read_event, IsNewNetwork, IsReachableNetwork, new_network, next_network, in_storage, in_log}
 use Rattle.causal_nodes.specs.Recordings.{NodesRecordTraces}
 use Rattle.causal_nodes.proofs.Context.{IsWorldOf, same_is, other_is, away_or, invariant, up_of, down_of, up_in_past}
@@ -188,11 +188,11 @@ module _ (n f : ℕ) (net : Network) (c : Counts n net) (h : IsWorldOf n f net) 
     quiet_up : (node : UpNode) → node.sent ≡ a.sent → node.received ≡ a.received → NodeCounts net.past me.0 (up_node node)
     quiet_up node sent received = (sent ∙ mine.0, λ m had. ap (λ names. list_any (same_message m) names) received ∙ mine.1 m had)
 
-    mark_counts : (log : NodeLog) (det : Det) → is_delivered net.past det ≡ true → Counts n (next_of (up_node (with_log a log)) [] (Stable det ∷ []))
-    mark_counts log det legal = recorded n net c me.0 (Stable det) (up_node (with_log a log)) [] legal (mine.0, mine.1) (λ q other. (refl, λ m. refl)) (messages_older (Stable det) net.past net.sent c.messages)
+    mark_counts : (log : NodeLog) (det : Det) → is_delivered net.past det ≡ true → Counts n (next_of (up_node (with_node_log a log)) [] (Stable det ∷ []))
+    mark_counts log det legal = recorded n net c me.0 (Stable det) (up_node (with_node_log a log)) [] legal (mine.0, mine.1) (λ q other. (refl, λ m. refl)) (messages_older (Stable det) net.past net.sent c.messages)
 
-    forget_counts : (log : NodeLog) (listed : List Det) → is_ascending listed ≡ true → ((d : Det) → list_has listed d ≡ true → a.log.stable d ≡ true) → Counts n (next_of (up_node (with_log a log)) [] (Forget me listed ∷ []))
-    forget_counts log listed ascending known = recorded n net c me.0 (Forget me listed) (up_node (with_log a log)) []
+    forget_counts : (log : NodeLog) (listed : List Det) → is_ascending listed ≡ true → ((d : Det) → list_has listed d ≡ true → a.log.stable d ≡ true) → Counts n (next_of (up_node (with_node_log a log)) [] (Forget me listed ∷ []))
+    forget_counts log listed ascending known = recorded n net c me.0 (Forget me listed) (up_node (with_node_log a log)) []
         (low, up_here n f net h me.0 a low is, ascending, all_from listed (is_delivered net.past) (λ d has. marked_delivered n f net h me.0 a low is d (known d has))) (mine.0, mine.1) (λ q other. (refl, λ m. refl)) (messages_older (Forget me listed) net.past net.sent c.messages)
 
   cleared : (b y : Bool) → b ≡ true → (not b && y) ≡ false
@@ -229,7 +229,7 @@ module _ (n f : ℕ) (net : Network) (c : Counts n net) (h : IsWorldOf n f net) 
   row_counts old taken node emitted entries (send_row a to new low_to of_log to_is position left_out) is was next = send_counts a is to new low_to to_is position
   row_counts old taken node emitted entries (deliver_row a name p send listed ascending to floor at_send once only lists) is was next = deliver_counts a is name p send listed ascending to at_send once was next
   row_counts old taken node emitted entries (acknowledge_row a new of_log none) is was next = one_more (up_node a) (acknowledgement_packet new) (mine a is) (λ name t e. absurd (let x : acknowledgement_packet new ≡ message_packet name t = e in cc))
-  row_counts old taken node emitted entries (learn_row a p to floor) is was next = no_more (up_node (with_log a (log_after_acknowledgement p.parcel a.log))) (quiet_up a is (with_log a (log_after_acknowledgement p.parcel a.log)) refl refl)
+  row_counts old taken node emitted entries (learn_row a p to floor) is was next = no_more (up_node (with_node_log a (log_after_acknowledgement p.parcel a.log))) (quiet_up a is (with_node_log a (log_after_acknowledgement p.parcel a.log)) refl refl)
   row_counts old taken node emitted entries (write_row a new of_log to none) is was next = one_more (up_node a) (write_packet new) (mine a is) (λ name t e. absurd (let x : write_packet new ≡ message_packet name t = e in cc))
   row_counts old taken node emitted entries (mark_row a dets det has) is was next = mark_counts a is (log_after_mark det a.log) det (stored_is_delivered det ((h.2.packets (written_packet dets) was) det has))
   row_counts old taken node emitted entries (forget_row a listed ascending known repeated) is was next = forget_counts a is (log_without listed a.log) listed ascending known

@@ -23,8 +23,8 @@ abbrev pub empty_log : NodeLog
 empty_log = record { has = λ d. false; holder = λ d q. false; stable = λ d. false }
 
 -- a memory with another log, or with other floors
-abbrev pub with_log : UpNode → NodeLog → UpNode
-with_log a log = record { lane = a.lane; log = log; floors = a.floors; sent = a.sent; received = a.received }
+abbrev pub with_node_log : UpNode → NodeLog → UpNode
+with_node_log a log = record { lane = a.lane; log = log; floors = a.floors; sent = a.sent; received = a.received }
 
 abbrev pub with_floors : UpNode → (ℕ → ℕ) → UpNode
 with_floors a floors = record { lane = a.lane; log = a.log; floors = floors; sent = a.sent; received = a.received }
@@ -141,18 +141,18 @@ pub data NodeStep (n f : ℕ) (me : Pid) (position : ℕ) : Node → Option Sent
   acknowledge_row : (a : UpNode) (new : Packet) → IsOfNodeLog me.0 a new → new.parcel.send ≡ None
       → NodeStep n f me position (up_node a) None (up_node a) (acknowledgement_packet new ∷ []) []
   learn_row : (a : UpNode) (p : Packet) → p.to ≡ me.0 → a.floors p.parcel.from ≤ p.lane
-      → NodeStep n f me position (up_node a) (Some (acknowledgement_packet p)) (up_node (with_log a (log_after_acknowledgement p.parcel a.log))) [] []
+      → NodeStep n f me position (up_node a) (Some (acknowledgement_packet p)) (up_node (with_node_log a (log_after_acknowledgement p.parcel a.log))) [] []
   write_row : (a : UpNode) (new : Packet) → IsOfNodeLog me.0 a new → new.to ≡ n → new.parcel.send ≡ None
       → NodeStep n f me position (up_node a) None (up_node a) (write_packet new ∷ []) []
   -- what stable storage has confirmed is recorded, and known to be stable
   mark_row : (a : UpNode) (dets : Det → Bool) (det : Det) → dets det ≡ true
-      → NodeStep n f me position (up_node a) (Some (written_packet dets)) (up_node (with_log a (log_after_mark det a.log))) [] (Stable det ∷ [])
+      → NodeStep n f me position (up_node a) (Some (written_packet dets)) (up_node (with_node_log a (log_after_mark det a.log))) [] (Stable det ∷ [])
   -- what is known to be stable is forgotten, but no determinant of the process that is still to be
   -- repeated
   forget_row : (a : UpNode) (listed : List Det) → is_ascending listed ≡ true
       → ((d : Det) → list_has listed d ≡ true → a.log.stable d ≡ true)
       → ((d : Det) → list_has listed d ≡ true → d.dest.0 ≡ me.0 → d.rsn < length a.received)
-      → NodeStep n f me position (up_node a) None (up_node (with_log a (log_without listed a.log))) [] (Forget me listed ∷ [])
+      → NodeStep n f me position (up_node a) None (up_node (with_node_log a (log_without listed a.log))) [] (Forget me listed ∷ [])
   -- a question with its own lane is answered with the whole log; what is below the view is refused from now on
   answer_row : (a : UpNode) (s name : ℕ) (view : ℕ → ℕ) (new : Packet) → view me.0 ≡ a.lane → IsOfNodeLog me.0 a new
       → new.to ≡ s → new.parcel.send ≡ None → ((d : Det) → new.parcel.carries d ≡ a.log.has d)

@@ -28,7 +28,7 @@ use Rattle.causal_protocol.specs.Refusals.{fault_if, fault_unless_named, request
 use Rattle.causal_protocol.specs.Steps.{append_all, extend_run, receiver_of, sends_of, AreSends, delivery_entry, forget_entries, LegalStep, flush_reason_of, IsPartialFlush}
 use Rattle.causal_protocol.specs.MemoryQueries.{memory_logs, knows_stable, has_item}
 use Rattle.causal_protocol.specs.Invariant.{logs_or_stable}
-use Rattle.causal_protocol.specs.Runs.{IsInvariantState, SatisfiesInvariant, StepsPreserveInvariant, RefusalsChangeNothing, HoldsInState, StepsEstablish}
+use Rattle.causal_protocol.specs.Runs.{IsInvariantState, SatisfiesInvariant, RequestsPreserveInvariant, RefusalsChangeNothing, HoldsInState, StepsEstablish}
 use Rattle.causal_protocol.proofs.Places.{at_set, at_within, log_here}
 use Rattle.causal_protocol.proofs.LearnedLogs.{keys_have}
 use Rattle.causal_protocol.proofs.Choices.{unstable_logged, stable_have, marked_entry}
@@ -199,7 +199,7 @@ legal_kept r (Requests.Forget p) (Replies.Refused fault) appended h s = nothing_
 legal_kept r request reply appended h s = absurd h
 
 -- each legal step preserves the invariant of runs
-pub steps_keep_runs : StepsPreserveInvariant
+pub steps_keep_runs : RequestsPreserveInvariant
 steps_keep_runs old new request reply step s = subst SatisfiesInvariant (sym step.grown) (legal_kept old request reply step.appended step.legal s)
 
 -- a refusal of a call other than a flush leaves the run unchanged

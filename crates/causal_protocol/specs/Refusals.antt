@@ -7,7 +7,7 @@ use Rattle.causal_name.specs.declared.MsgName.{MsgName}
 use Rattle.causal_name.specs.declared.Det.{Det}
 use Rattle.causal_name.specs.Names.{same_message}
 use Rattle.causal_trace.specs.Limits.{default_restarts}
-use Rattle.causal_protocol.specs.Limits.{max_entries, max_listed}
+use Rattle.causal_protocol.specs.Limits.{max_run_entries, max_run_listed}
 use Rattle.causal_trace.specs.Past.{listed_in, restarts}
 use Rattle.causal_log.specs.Logs.{stable_in, unstable_in}
 use Rattle.causal_protocol.specs.declared.request.Request.{Request}
@@ -33,10 +33,10 @@ dets_to_forget r p = option_map_or (λ m. stable_in m.log) (present_at (memories
 
 -- whether a number of further entries would exceed the limit; whether they, with what they list, would exceed a limit
 abbrev pub exceeds_entries : Run → ℕ → Bool
-exceeds_entries r entries = nat_lt max_entries (length r.recording.past + entries)
+exceeds_entries r entries = nat_lt max_run_entries (length r.recording.past + entries)
 
 abbrev pub exceeds_limits : Run → ℕ → ℕ → Bool
-exceeds_limits r entries listed = exceeds_entries r entries || nat_lt max_listed (listed_in r.recording.past + listed)
+exceeds_limits r entries listed = exceeds_entries r entries || nat_lt max_run_listed (listed_in r.recording.past + listed)
 
 -- this fault if the test holds
 abbrev pub fault_if : Bool → CoreFault → Option CoreFault

@@ -77,8 +77,8 @@ abbrev pub StartSatisfiesInvariant : Type 0
 StartSatisfiesInvariant = (r : Run) → HaveBegunBelow r.recording.processes r.recording.processes r.recording.past → r.writers ≡ [] → SatisfiesInvariant r
 
 -- each legal step preserves the invariant
-abbrev pub StepsPreserveInvariant : Type 0
-StepsPreserveInvariant = (old new : Run) (request : Request) (reply : Reply) → Steps old request reply new → SatisfiesInvariant old → SatisfiesInvariant new
+abbrev pub RequestsPreserveInvariant : Type 0
+RequestsPreserveInvariant = (old new : Run) (request : Request) (reply : Reply) → Steps old request reply new → SatisfiesInvariant old → SatisfiesInvariant new
 
 -- a refused call other than a flush leaves the run unchanged
 abbrev pub RefusalsChangeNothing : Type 0

@@ -1,5 +1,5 @@
 //! Laws over the definitions. Each function has an empty body: its contract is the law.
-ghost use Rattle.causal_protocol.specs.Runs.{StartSatisfiesInvariant, StepsPreserveInvariant, RefusalsChangeNothing, RepliesMatchEntries, OfInvariantRuns, OfReachableRuns};
+ghost use Rattle.causal_protocol.specs.Runs.{StartSatisfiesInvariant, RequestsPreserveInvariant, RefusalsChangeNothing, RepliesMatchEntries, OfInvariantRuns, OfReachableRuns};
 ghost use Rattle.causal_protocol.specs.Runs.{IsSafeRun, IsFollowedRun, HasSingleSlots, HasDeliveredSurvivors, StepsEstablish};
 ghost use Rattle.causal_protocol.specs.Runs.{IsDeliveryRequest, IsCrash, IsRestartRequest, IsFlush, IsForgetting};
 ghost use Rattle.causal_protocol.specs.Contributions.{HoldersAreContributed, MarksAreContributed};
@@ -29,9 +29,9 @@ pub fn runs_are_followed()
 {}
 
 /// The initial state, in which all processes have begun, satisfies the invariant, and each legal step preserves it.
-pub fn steps_preserve_invariant()
+pub fn requests_preserve_invariant()
     ensures start { StartSatisfiesInvariant }
-    ensures steps { StepsPreserveInvariant }
+    ensures steps { RequestsPreserveInvariant }
 {}
 
 /// A refused call other than a flush leaves the run unchanged; each reply gives the number of entries that

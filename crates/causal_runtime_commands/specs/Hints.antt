@@ -17,6 +17,6 @@ hint_at line kind.Script = Some (expected_at line)
 hint_at line _ = None
 
 -- the hint on the reason; None for a refused command
-abbrev pub hint_of : Reason → Option (List ℕ)
-hint_of (Why.Script fault) = hint_at fault.line fault.kind
-hint_of (Why.Run fault) = None
+abbrev pub reason_hint : Reason → Option (List ℕ)
+reason_hint (Why.Script fault) = hint_at fault.line fault.kind
+reason_hint (Why.Run fault) = None

@@ -1,8 +1,8 @@
 -- Why `run` writes no trace for the text of a script.
 use Rattle.std.specs.Prelude.{List, ℕ, Option, Some, None, IfSome}
 use Rattle.causal_script.specs.declared.script.Script.{Script}
-use Rattle.causal_script.specs.Spelling.{Spells, script_content}
-use Rattle.causal_script.specs.Faults.{IsFirstFault}
+use Rattle.causal_script.specs.Spelling.{SpellsScript, script_content}
+use Rattle.causal_script.specs.Faults.{IsFirstScriptFault}
 use Rattle.causal_run.specs.declared.fault.RunFault.TheVariants as run_fault
 use Rattle.causal_run.specs.Runs.{ExplainsRunFault}
 use Rattle.causal_run.specs.Pending.{IsPendingBefore}
@@ -18,8 +18,8 @@ use Rattle.causal_runtime_commands.specs.declared.script.Reason.TheVariants as W
 -- the text is not a valid script, and this is its first error; or a refusal is that of the script's run, by its own
 -- processes
 abbrev pub IsScriptReason : List ℕ → Reason → Type 0
-IsScriptReason text (Why.Script fault) = IsFirstFault text fault
-IsScriptReason text (Why.Run fault) = (script : Script) × Spells text (script_content script) × ExplainsRunFault (IsStartOf script) script.commands fault
+IsScriptReason text (Why.Script fault) = IsFirstScriptFault text fault
+IsScriptReason text (Why.Run fault) = (script : Script) × SpellsScript text (script_content script) × ExplainsRunFault (IsStartOf script) script.commands fault
 
 -- the returned reason, if any, is true of the bytes read from a reader, if its bytes are known
 abbrev pub IsReasonFor : Option (List ℕ) → Option Reason → Type 0
@@ -38,7 +38,7 @@ IsPendingAt script _ names = ⊥
 
 -- the messages are pending in the run of the script that the text spells, where it was refused for this reason
 abbrev pub ArePendingIn : List ℕ → Option Reason → List MsgName → Type 0
-ArePendingIn text (Some (Why.Run fault)) names = (script : Script) × Spells text (script_content script) × IsPendingAt script fault names
+ArePendingIn text (Some (Why.Run fault)) names = (script : Script) × SpellsScript text (script_content script) × IsPendingAt script fault names
 ArePendingIn text _ names = ⊥
 
 -- the returned messages, if any, are pending in the run of the script in the bytes read from a reader, if its bytes are

@@ -7,8 +7,8 @@ use Rattle.causal_lines.specs.Canonical.{canonical_text}
 use Rattle.causal_protocol.specs.declared.request.CoreFault.{CoreFault}
 use Rattle.causal_script.specs.declared.script.Script.{Script}
 use Rattle.causal_script.specs.declared.script.ScriptFault.{ScriptFault}
-use Rattle.causal_script.specs.Spelling.{Spells, script_content, max_script}
-use Rattle.causal_script.specs.Faults.{IsFirstFault}
+use Rattle.causal_script.specs.Spelling.{SpellsScript, script_content, max_script}
+use Rattle.causal_script.specs.Faults.{IsFirstScriptFault}
 use Rattle.causal_script.specs.Printing.{script_line, refused_line}
 use Rattle.causal_run.specs.Runs.{IsRunFrom, IsRefusedFrom}
 use Rattle.causal_run.specs.ScriptProcesses.{IsStartOf}
@@ -24,11 +24,11 @@ script_bytes_read text = take (max_script + 1) text
 -- commands, none refused, by the script's own processes, and that trace is safe for the script's f. `Refused`: the line
 -- of the first command that such a run refuses. `Faulted`: the line of the text's first error.
 abbrev pub IsScriptAnswer : List ℕ → Ended → List ℕ → Type 0
-IsScriptAnswer text Ran out = (script : Script) × Spells text (script_content script) × (recording : Recording)
+IsScriptAnswer text Ran out = (script : Script) × SpellsScript text (script_content script) × (recording : Recording)
     × IsRunFrom (IsStartOf script) script.commands script.exploration recording × IsSafeTrace recording script.f × (out ≡ canonical_text recording)
-IsScriptAnswer text Refused out = (script : Script) × Spells text (script_content script) × (line : ℕ) × (why : CoreFault)
+IsScriptAnswer text Refused out = (script : Script) × SpellsScript text (script_content script) × (line : ℕ) × (why : CoreFault)
     × IsRefusedFrom (IsStartOf script) script.commands line why × (out ≡ refused_line line why)
-IsScriptAnswer text Faulted out = (first : ScriptFault) × IsFirstFault text first × (out ≡ script_line first)
+IsScriptAnswer text Faulted out = (first : ScriptFault) × IsFirstScriptFault text first × (out ≡ script_line first)
 IsScriptAnswer text _ out = ⊥
 
 -- the writer's contents before and after, by the ending: the whole answer is appended; after a write fault a proper

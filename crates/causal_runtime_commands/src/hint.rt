@@ -6,8 +6,8 @@ use crate::script::Reason;
 use causal_script::ScriptFaultKind;
 
 /// Returns what was expected at the line of a script's error, if that line is invalid there; None for any other reason.
-pub fn hint_of(reason: Reason) -> Option<&'static str>
-    ensures { option_map (λ text. text.now) result ≡ hints.hint_of reason }
+pub fn reason_hint(reason: Reason) -> Option<&'static str>
+    ensures { option_map (λ text. text.now) result ≡ hints.reason_hint reason }
 {
     match reason {
         Reason::Script(fault) => match fault.kind {

@@ -13,7 +13,7 @@ use Rattle.causal_script.specs.declared.script.ScriptFaultKind.{ScriptFaultKind}
 use Rattle.causal_script.specs.declared.script.ScriptFaultKind.TheVariants.{Big, Script, NoMemory}
 use Rattle.causal_script.specs.Lines.{is_feed, script_lines, count_line_feeds}
 use Rattle.causal_script.specs.Spelling.{max_script, command_line, IsRequest}
-use Rattle.causal_script.specs.Faults.{IsCommandLine, IsInPlace, IsFaultAfterLines, AreSound, IsFirstFault, IsReadUpTo}
+use Rattle.causal_script.specs.Faults.{IsCommandLine, IsInPlace, IsFaultAfterLines, AreSound, IsFirstScriptFault, IsScriptReadUpTo}
 use Rattle.causal_script.specs.Inside.Reading.{split_at_byte}
 use Rattle.causal_script.specs.Inside.Place.{IsBigLine, is_line, line_or_fault, IsAfter, AreCommands, AreOnLines}
 
@@ -126,12 +126,12 @@ sound_more text count next is sound small place before kind below bad = by_place
 -- the error of the next line is the first error of the text
 pub first_fault : {A : Type 0} (text l : List ℕ) (before : ℕ) (big : Option ℕ) (said : Option A) (f : ScriptFault)
     → IsBigLine text big → AreSound text before → slice_get (script_lines text) before ≡ Some l → (said ≡ None → IsInPlace before (Some l) → ⊥)
-    → line_or_fault big (before + 1) said ≡ Err f → IsFirstFault text f
+    → line_or_fault big (before + 1) said ≡ Err f → IsFirstScriptFault text f
 first_fault text l before big said f bigs sound here misplaced e = by_cases (judged_err big (before + 1) said f e) where
-  told : (kind : ScriptFaultKind) → f ≡ Fault (before + 1) kind → IsFaultAfterLines text before kind → (kind ≡ Script → IsFaultAfterLines text before Big → ⊥) → IsFirstFault text f
-  told kind is faulty first = subst (λ (g : ScriptFault). IsFirstFault text g) (sym is) (record { before = before; number = refl; sound = sound; faulty = faulty; big_first = first })
+  told : (kind : ScriptFaultKind) → f ≡ Fault (before + 1) kind → IsFaultAfterLines text before kind → (kind ≡ Script → IsFaultAfterLines text before Big → ⊥) → IsFirstScriptFault text f
+  told kind is faulty first = subst (λ (g : ScriptFault). IsFirstScriptFault text g) (sym is) (record { before = before; number = refl; sound = sound; faulty = faulty; big_first = first })
 
-  by_cases : ((is_line (before + 1) big ≡ true) × (f ≡ Fault (before + 1) Big)) ⊎ ((is_line (before + 1) big ≡ false) × (said ≡ None) × (f ≡ Fault (before + 1) Script)) → IsFirstFault text f
+  by_cases : ((is_line (before + 1) big ≡ true) × (f ≡ Fault (before + 1) Big)) ⊎ ((is_line (before + 1) big ≡ false) × (said ≡ None) × (f ≡ Fault (before + 1) Script)) → IsFirstScriptFault text f
   by_cases (inl h) = told Big h.1 (is_big text big before bigs h.0) (λ is. absurd (let no : Big ≡ Script = is in cc))
   by_cases (inr h) = told Script h.2 (λ place. misplaced h.1 (subst (λ (o : Option (List ℕ)). IsInPlace before o) here place)) (λ is. not_big text big before bigs h.0)
 
@@ -205,14 +205,14 @@ reaches_more text left l after commands line next big said x c is here r split b
 
 -- an error on a command's line is the first error of the text
 pub command_fault : {A : Type 0} (text left l after : List ℕ) (commands : List Command) (line next : ℕ) (big : Option ℕ) (said : Option A) (f : ScriptFault)
-    → next ≡ line + 1 → AreOnLines text commands line left → script_lines left ≡ l ∷ script_lines after → IsBigLine text big → line_or_fault big next said ≡ Err f → (said ≡ None → IsCommandLine l → ⊥) → IsFirstFault text f
+    → next ≡ line + 1 → AreOnLines text commands line left → script_lines left ≡ l ∷ script_lines after → IsBigLine text big → line_or_fault big next said ≡ Err f → (said ≡ None → IsCommandLine l → ⊥) → IsFirstScriptFault text f
 command_fault text left l after commands line next big said f is r split bigs e none =
     let misplaced : IsInPlace line (Some l) → IsCommandLine l = λ w. subst (λ (n : ℕ). IsInPlace n (Some l)) (let count : line ≡ suc (length commands) = omega (arith, r.count) in count) w in
     let here = line_here line (script_lines text) l (script_lines after) (r.after.rest ∙ split) in
     first_fault text l line big said f bigs r.after.sound here.0 (λ no place. none no (misplaced place)) (subst (λ (n : ℕ). line_or_fault big n said ≡ Err f) is e)
 
 -- no line before the next one has an error
-pub read_up_to : (text left : List ℕ) (line next : ℕ) → next ≡ line + 1 → IsAfter text line left → IsReadUpTo text next
+pub read_up_to : (text left : List ℕ) (line next : ℕ) → next ≡ line + 1 → IsAfter text line left → IsScriptReadUpTo text next
 read_up_to text left line next is a = record { before = line; number = is; sound = a.sound }
 
 -- the error of a line contains the line's number

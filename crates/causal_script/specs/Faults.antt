@@ -36,7 +36,7 @@ abbrev pub AreSound : List ℕ → ℕ → Type 0
 AreSound text count = (before : ℕ) (kind : ScriptFaultKind) → before < count → IsFaultAfterLines text before kind → ⊥
 
 -- the line of the error is the first that has one; if it has both kinds, the error is `Big`
-pub record IsFirstFault (text : List ℕ) (fault : ScriptFault) : Type 0 where
+pub record IsFirstScriptFault (text : List ℕ) (fault : ScriptFault) : Type 0 where
   pub before : ℕ
   pub number : fault.line ≡ before + 1
   pub sound : AreSound text before
@@ -44,7 +44,7 @@ pub record IsFirstFault (text : List ℕ) (fault : ScriptFault) : Type 0 where
   pub big_first : fault.kind ≡ Script → IsFaultAfterLines text before Big → ⊥
 
 -- no line before the line with this number has an error
-pub record IsReadUpTo (text : List ℕ) (line : ℕ) : Type 0 where
+pub record IsScriptReadUpTo (text : List ℕ) (line : ℕ) : Type 0 where
   pub before : ℕ
   pub number : line ≡ before + 1
   pub sound : AreSound text before

@@ -7,14 +7,14 @@ use Rattle.causal_script.specs.declared.script.ScriptFaultKind.{ScriptFaultKind}
 use Rattle.causal_script.specs.declared.script.ScriptFaultKind.TheVariants as kind
 
 -- the printed name of each kind of error
-abbrev pub kind_name : ScriptFaultKind → List ℕ
-kind_name kind.Big = codes "Big"
-kind_name kind.Script = codes "Script"
-kind_name kind.NoMemory = codes "NoMemory"
+abbrev pub script_kind_name : ScriptFaultKind → List ℕ
+script_kind_name kind.Big = codes "Big"
+script_kind_name kind.Script = codes "Script"
+script_kind_name kind.NoMemory = codes "NoMemory"
 
 -- `fault line=LINE KIND` and a line feed
 abbrev pub script_line : ScriptFault → List ℕ
-script_line f = codes "fault line=" ++ (decimal f.line ++ (codes " " ++ (kind_name f.kind ++ codes "\n")))
+script_line f = codes "fault line=" ++ (decimal f.line ++ (codes " " ++ (script_kind_name f.kind ++ codes "\n")))
 
 -- the printed name of each refusal; `MustReplay` is followed by the source and ssn of the message to deliver first
 abbrev pub refusal : CoreFault → List ℕ

@@ -96,7 +96,7 @@ pub record IsScriptContent (p : ScriptContent) : Type 0 where
   pub room : length p.commands ≤ max_script
 
 -- the text consists of the script's lines and is within the size limit
-pub record Spells (text : List ℕ) (p : ScriptContent) : Type 0 where
+pub record SpellsScript (text : List ℕ) (p : ScriptContent) : Type 0 where
   pub content : IsScriptContent p
   pub said : script_lines text ≡ start_line p.start ∷ map (λ c. command_line c.request) p.commands
   pub within : length text ≤ max_script

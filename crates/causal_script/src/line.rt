@@ -1,7 +1,7 @@
 //! The printed lines for an error in a script and for a refused command.
 ghost use Rattle.std.specs.Prelude.{◌≡◌, IfOk};
 ghost use Rattle.std.specs.String.{string_bytes};
-ghost use Rattle.causal_script.specs.Printing.{kind_name, script_line, refusal, refused_line};
+ghost use Rattle.causal_script.specs.Printing.{script_kind_name, script_line, refusal, refused_line};
 
 use crate::script::{ScriptFault, ScriptFaultKind};
 use causal_name::{MsgName, NoMemory, Pid};
@@ -22,7 +22,7 @@ pub fn script_line(alloc: Global, fault: &ScriptFault) -> Result<Vec<u8>, NoMemo
 
 impl ScriptFaultKind {
     fn name(self) -> &'static str
-        ensures { result.now ≡ kind_name self }
+        ensures { result.now ≡ script_kind_name self }
     {
         match self {
             ScriptFaultKind::Big => "Big",

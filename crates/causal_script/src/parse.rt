@@ -1,8 +1,8 @@
 //! Parsing of a script.
 ghost use Rattle.std.specs.Prelude.{◌≡◌, ◌≢◌, ◌<◌, ◌≤◌, ℕ, List, [], ◌∷◌, length, IfOk, IfErr, IfSome, MatchOption};
 ghost use Rattle.causal_script.specs.Lines.{script_lines, count_line_feeds};
-ghost use Rattle.causal_script.specs.Spelling.{Spells, IsScriptContent, script_content};
-ghost use Rattle.causal_script.specs.Faults.{IsFirstFault, IsReadUpTo};
+ghost use Rattle.causal_script.specs.Spelling.{SpellsScript, IsScriptContent, script_content};
+ghost use Rattle.causal_script.specs.Faults.{IsFirstScriptFault, IsScriptReadUpTo};
 ghost use Rattle.causal_script.specs.Inside.Place.{IsBigLine, IsAfter, AreCommands, AreOnLines, line_or_fault};
 
 use crate::command::parse_request;
@@ -77,10 +77,10 @@ fn parse_commands(alloc: Global, rest: &[u8], big: Option<u32>) -> Result<Vec<Co
         → (line : ℕ) × AreOnLines text commands.items line []) }
     ensures err { IfErr result (λ fault. fault.kind ≢ ScriptFaultKind.NoMemory
         → (text : List ℕ) → IsAfter text 1 rest.now → IsBigLine text big →
-        IsFirstFault text fault) }
+        IsFirstScriptFault text fault) }
     ensures memory { IfErr result (λ fault. fault.kind ≡ ScriptFaultKind.NoMemory
         → (text : List ℕ) → IsAfter text 1 rest.now → IsBigLine text big →
-        IsReadUpTo text fault.line) }
+        IsScriptReadUpTo text fault.line) }
 {
     let mut commands = Vec::new(alloc);
     let mut line: u32 = 1;
@@ -107,12 +107,12 @@ fn parse_commands(alloc: Global, rest: &[u8], big: Option<u32>) -> Result<Vec<Co
 /// For any other text, the first line that breaks the rules, counted from 1, and the kind of error. `NoMemory` if
 /// allocation failed, with the line that was being read; no line before it has an error.
 pub fn parse_script(alloc: Global, bytes: &[u8]) -> Result<Script, ScriptFault>
-    ensures ok { IfOk result (λ script. Spells bytes.now (script_content script)) }
+    ensures ok { IfOk result (λ script. SpellsScript bytes.now (script_content script)) }
     ensures content { IfOk result (λ script. IsScriptContent (script_content script)) }
     ensures err { IfErr result
-        (λ fault. fault.kind ≢ ScriptFaultKind.NoMemory → IsFirstFault bytes.now fault) }
+        (λ fault. fault.kind ≢ ScriptFaultKind.NoMemory → IsFirstScriptFault bytes.now fault) }
     ensures memory { IfErr result
-        (λ fault. fault.kind ≡ ScriptFaultKind.NoMemory → IsReadUpTo bytes.now fault.line) }
+        (λ fault. fault.kind ≡ ScriptFaultKind.NoMemory → IsScriptReadUpTo bytes.now fault.line) }
 {
     let big = first_line_past_limit(bytes);
     let Some((first, rest)) = split_line(bytes) else {

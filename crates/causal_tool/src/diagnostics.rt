@@ -10,7 +10,7 @@ use causal_console::{
 };
 use causal_name::{MsgName, Pid};
 use causal_outcomes::{Ended, Outcome};
-use causal_runtime_commands::{Reason, ScriptOutcome, hint_of};
+use causal_runtime_commands::{Reason, ScriptOutcome, reason_hint};
 
 // maximum number of pending messages that are printed one by one
 const MAX_PENDING_PRINTED: usize = 100;
@@ -65,7 +65,7 @@ fn print_reason<R: Eprint + AllocGlobal, S: Drop>(
         Some(line) => print_at_line(rt, command, input, line, &reason),
         None => print_error_line(rt, command, &reason),
     }
-    if let Some(hint) = hint_of(reason) {
+    if let Some(hint) = reason_hint(reason) {
         print_error_line(rt, command, &hint);
     }
 }

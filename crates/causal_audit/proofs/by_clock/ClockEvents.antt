@@ -1,7 +1,7 @@
 -- The event of one more entry: it may be added, and the clock then represents one more entry.
 use Rattle.causal_audit.proofs.Common.{ℕ, ◌≡◌, ◌≢◌, ◌+◌, ◌<◌, ◌≤◌, inl, inr, true, cond, List, [], ◌∷◌, ◌++◌, length, Option, Some, None, refl, sym, ap, ◌∙◌, arith, length-append, false, subst, ◌↔◌, slice_index, slice_set, ◌==◌, get_or-append, get_or-append_seam, false≢true, cases_lt, eq-eqb, ne_eqb, eqb-true, eqb_tells, get_or-set_same, get_or-set_other, length-set, Pid, Det, Entry, Restart, Send, Deliver, Stable, Crash, Forget, lane, restarts, actor, is_delivery_of, IsEventOf, Delivers, event_below, event_lane, AreLegalEntries, delivers_sent, sent_within}
 use Rattle.causal_clock.specs.declared.Event.{Event}
-use Rattle.causal_clock.specs.Timeline.{Timeline, lane_of, send_of, with_event}
+use Rattle.causal_clock.specs.Timeline.{Timeline, lane_of, sending_event, with_event}
 use Rattle.causal_audit.specs.Inside.ByClock.ClockOfRun.{IsClockOf, IsClockWithLanes, CanExtendClock}
 use Rattle.causal_clock.specs.declared.ClockFault.{ClockFault}
 use Rattle.causal_clock.specs.declared.ClockFault.TheVariants.{Lanes as ClockLanes, NoMemory as ClockNoMemory}
@@ -14,14 +14,14 @@ use Rattle.causal_trace.proofs.Lemmas.DependenceSteps.{delivers_below}
 lane_of-old : (es : List Event) (e : Event) (i : ℕ) → i < length es → lane_of (es ++ e ∷ []) i ≡ lane_of es i
 lane_of-old es e i h = ap (λ (x : Event). x.lane) (get_or-append es (e ∷ []) _ i h)
 
-send_of-old : (es : List Event) (e : Event) (i : ℕ) → i < length es → send_of (es ++ e ∷ []) i ≡ send_of es i
+send_of-old : (es : List Event) (e : Event) (i : ℕ) → i < length es → sending_event (es ++ e ∷ []) i ≡ sending_event es i
 send_of-old es e i h = ap (λ (x : Event). x.send) (get_or-append es (e ∷ []) _ i h)
 
 lane_of-new : (es : List Event) (e : Event) (i : ℕ) → i ≡ length es → lane_of (es ++ e ∷ []) i ≡ e.lane
 lane_of-new es e i h = ap (λ n. lane_of (es ++ e ∷ []) n) h ∙ ap (λ (x : Event). x.lane) (get_or-append_seam es e [] _)
 
-send_of-new : (es : List Event) (e : Event) (i : ℕ) → i ≡ length es → send_of (es ++ e ∷ []) i ≡ e.send
-send_of-new es e i h = ap (λ n. send_of (es ++ e ∷ []) n) h ∙ ap (λ (x : Event). x.send) (get_or-append_seam es e [] _)
+send_of-new : (es : List Event) (e : Event) (i : ℕ) → i ≡ length es → sending_event (es ++ e ∷ []) i ≡ e.send
+send_of-new es e i h = ap (λ n. sending_event (es ++ e ∷ []) n) h ∙ ap (λ (x : Event). x.send) (get_or-append_seam es e [] _)
 
 iff_at : {P : Type 0} (a b c d : ℕ) → a ≡ c → b ≡ d → ((c ≡ d) ↔ P) → (a ≡ b) ↔ P
 iff_at a b c d x y f = (λ h. f.0 (sym x ∙ h ∙ y), λ p. x ∙ f.1 p ∙ sym y)
@@ -47,16 +47,16 @@ module _ (x : Entry) (past : List Entry) (events : List Event) (e : Event) (s : 
     same_lane i j p q l m (inr a) (inl b) = grind (arith, old_lane j q m b, new_lane i a.0)
     same_lane i j p q l m (inr a) (inr b) = grind (arith, same_actor x p q a.1 b.1, new_lane i a.0, new_lane j b.0)
 
-    receives : Receives x e.send → (j i : ℕ) → j < length (x ∷ past) → (send_of (events ++ e ∷ []) j ≡ Some i) ↔ Delivers (x ∷ past) j i
+    receives : Receives x e.send → (j i : ℕ) → j < length (x ∷ past) → (sending_event (events ++ e ∷ []) j ≡ Some i) ↔ Delivers (x ∷ past) j i
     receives sends j i low =
         elim (cases_lt j (length past)) [
           | inl h ↦
-              let old : send_of (events ++ e ∷ []) j ≡ send_of events j = send_of-old events e j (omega (arith, h, s.count)) in
+              let old : sending_event (events ++ e ∷ []) j ≡ sending_event events j = send_of-old events e j (omega (arith, h, s.count)) in
               let f = s.receives j i h in
               (λ k. inl (f.0 (sym old ∙ k)), λ d. old ∙ f.1 (earlier j i h d))
           | inr h ↦
               let is : j ≡ length past = omega (arith, h, low) in
-              let now : send_of (events ++ e ∷ []) j ≡ e.send = send_of-new events e j (omega (arith, is, s.count)) in
+              let now : sending_event (events ++ e ∷ []) j ≡ e.send = send_of-new events e j (omega (arith, is, s.count)) in
               (λ k. inr (is, (sends i).0 (sym now ∙ k)), λ d. now ∙ (sends i).1 (newest j i is d))
         ]
       where

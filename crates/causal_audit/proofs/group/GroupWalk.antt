@@ -10,7 +10,7 @@ use Rattle.causal_audit.specs.NewOrphans.{MayGetOrphan}
 use Rattle.causal_trace.specs.Past.{mentioned_dets}
 use Rattle.causal_audit.specs.Inside.Among.{FirstBreachBy, HasNoOrphanBy, EarliestAmongBy}
 use Rattle.causal_audit.specs.Inside.DeliveryStates.{BreachAt}
-use Rattle.causal_audit.specs.Inside.Group.Walk.{AreCopiesOfGroup, AreDetCopies, AreCopiesAfter, copies_at, is_crash, no_copies, AreHeldBefore, IsLacked, IsSuspect, IsBreachOfPlace, IsWalkStep, position_at, AreStillOpen, HasRow, HaveNoOrphans, IsWalkState, ArePlaces, AreNewlyReached, row, row_of, IsReach, AppliesEntry, IsPlaceAdded, opened_at, RowsAreHeld, IsDeliveredTo, IsHeldBy, CountsEarlier, ArePlacesAt, AreMentionedPlaces, AreMarked}
+use Rattle.causal_audit.specs.Inside.Group.Walk.{AreCopiesOfGroup, AreDetCopies, AreCopiesAfter, copies_at, no_copies, AreHeldBefore, IsLacked, IsSuspect, IsBreachOfPlace, IsWalkStep, position_at, AreStillOpen, HasRow, HaveNoOrphans, IsWalkState, ArePlaces, AreNewlyReached, row, row_of, IsReach, AppliesEntry, IsPlaceAdded, opened_at, RowsAreHeld, IsDeliveredTo, IsHeldBy, CountsEarlier, ArePlacesAt, AreMentionedPlaces, AreMarked}
 use Rattle.causal_audit.specs.Inside.Group.OpenDeliveries.{positions_of, IsDeliveryAt, IsOpenDelivery}
 use Rattle.causal_audit.proofs.AmongLemmas.{among_push, among_wider, among_none}
 use Rattle.causal_audit.proofs.Between.{depends_before, logs_stay, stable_stays}
@@ -24,6 +24,7 @@ use Rattle.causal_audit.specs.declared.group.buffers.WalkBuffers.{WalkBuffers}
 use Rattle.causal_audit.specs.declared.group.reach.ReachSets.{ReachSets}
 use Rattle.causal_audit.proofs.Shown.{parts}
 use Rattle.causal_holders.proofs.Lemmas.Sets.{inserted}
+use Rattle.causal_trace.specs.Laws.{is_crash}
 
 abbrev Sets : Type 0
 Sets = List (FinSet nat_cmp)

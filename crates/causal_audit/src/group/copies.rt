@@ -1,7 +1,8 @@
 //! Where each determinant of a group has copies, by place: in which logs, and whether in stable storage.
 ghost use Rattle.std.specs.Prelude.{◌≡◌, ◌<◌, ◌⊎◌, ℕ, true, false, length};
 ghost use Rattle.std.specs.FinSet as set;
-ghost use Rattle.causal_audit.specs.Inside.Group.Walk.{AreCopiesAfter, copies_at, is_crash, no_copies};
+ghost use Rattle.causal_audit.specs.Inside.Group.Walk.{AreCopiesAfter, copies_at, no_copies};
+ghost use Rattle.causal_trace.specs.Laws.{is_crash};
 
 use crate::delivery_state::stable_after;
 use crate::group::Places;

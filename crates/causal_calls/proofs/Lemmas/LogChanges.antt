@@ -26,7 +26,7 @@ use Rattle.causal_steps.specs.Transit.{TransitParcel}
 use Rattle.causal_node.specs.NodeAcknowledgements.{known_by_item, logged_items, log_with_holders}
 use Rattle.causal_nodes.specs.NodeSteps as theory
 use Rattle.causal_calls.specs.Views.{log_view}
-use Rattle.causal_calls.specs.Parcels.{acknowledged_items}
+use Rattle.causal_calls.specs.Parcels.{items_of_logged}
 use Rattle.causal_calls.proofs.Lemmas.LogViews.{same_log}
 
 -- an acknowledgement is taken
@@ -120,7 +120,7 @@ module _ (log : LogMap) (dets : List Det) (d : Det) where
   first_last : (a b : Bool) → (a && b) ≡ (b && a)
   first_last a b = grind arith
 
-  pub acknowledged_dets : has_item d (acknowledged_items log dets) ≡ (list_has dets d && has_entry d log)
+  pub acknowledged_dets : has_item d (items_of_logged log dets) ≡ (list_has dets d && has_entry d log)
   acknowledged_dets =
       any_kept (λ det. item_of (det, known_of log det)) (λ det. has_entry det log) (λ item. same_det d item.det) (λ det. same_det d det && has_entry det log) (λ det. first_last (has_entry det log) (same_det d det)) dets
       ∙ at_one d (λ det. has_entry det log) dets
@@ -128,7 +128,7 @@ module _ (log : LogMap) (dets : List Det) (d : Det) where
   swapped : (a b e : Bool) → (a && (b && e)) ≡ (b && (a && e))
   swapped a b e = grind arith
 
-  pub acknowledged_holders : (q : ℕ) → item_holder d q (acknowledged_items log dets) ≡ (list_has dets d && (has_entry d log && log_knows_holder d q log))
+  pub acknowledged_holders : (q : ℕ) → item_holder d q (items_of_logged log dets) ≡ (list_has dets d && (has_entry d log && log_knows_holder d q log))
   acknowledged_holders q =
       any_kept (λ det. item_of (det, known_of log det)) (λ det. has_entry det log) (λ item. same_det d item.det && set.contains item.holders q) (λ det. same_det d det && (has_entry det log && log_knows_holder det q log)) (λ det. swapped (has_entry det log) (same_det d det) (log_knows_holder det q log)) dets
       ∙ at_one d (λ det. has_entry det log && log_knows_holder det q log) dets

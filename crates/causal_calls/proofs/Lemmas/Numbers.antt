@@ -1,7 +1,7 @@
 -- The number that a list has for each process, after a change.
 use Rattle.std.proofs.Common.{ℕ, zero, suc, ◌≡◌, ◌<◌, List, [], ◌∷◌, length, max, replicate, refl, arith}
 use Rattle.std.specs.Prelude.{slice_set}
-use Rattle.causal_node.specs.NodeAnswers.{raised}
+use Rattle.causal_node.specs.NodeAnswers.{raised_floors}
 use Rattle.causal_calls.specs.Views.{numbers}
 
 pub set_other : (xs : List ℕ) (i v q : ℕ) → (q ≡ i → ⊥) → numbers (slice_set xs i v) q ≡ numbers xs q
@@ -31,14 +31,14 @@ zeros_length zero = refl
 zeros_length (suc n) = omega (arith, zeros_length n)
 
 -- floors raised to a view of the same length
-pub raised_numbers : (floors view : List ℕ) → length floors ≡ length view → (q : ℕ) → numbers (raised floors view) q ≡ max (numbers floors q) (numbers view q)
+pub raised_numbers : (floors view : List ℕ) → length floors ≡ length view → (q : ℕ) → numbers (raised_floors floors view) q ≡ max (numbers floors q) (numbers view q)
 raised_numbers [] [] h q = refl
 raised_numbers [] (v ∷ vs) h q = absurd (omega (arith, h))
 raised_numbers (x ∷ xs) [] h q = absurd (omega (arith, h))
 raised_numbers (x ∷ xs) (v ∷ vs) h zero = refl
 raised_numbers (x ∷ xs) (v ∷ vs) h (suc q) = raised_numbers xs vs (omega (arith, h)) q
 
-pub raised_length : (floors view : List ℕ) → length floors ≡ length view → length (raised floors view) ≡ length floors
+pub raised_length : (floors view : List ℕ) → length floors ≡ length view → length (raised_floors floors view) ≡ length floors
 raised_length [] view h = refl
 raised_length (x ∷ xs) [] h = absurd (omega (arith, h))
 raised_length (x ∷ xs) (v ∷ vs) h = omega (arith, raised_length xs vs (omega (arith, h)))

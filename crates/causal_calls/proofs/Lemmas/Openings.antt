@@ -3,13 +3,13 @@ use Rattle.std.proofs.Common.{ℕ, ◌≡◌, ◌∙◌, ◌==◌, ◌<◌, Bool
 use Rattle.std.specs.Prelude.{if◌then◌else◌}
 use Rattle.std.proofs.lemmas.Bool.{both_ways}
 use Rattle.causal_node.specs.declared.node.Identity.{Identity}
-use Rattle.causal_node.specs.NodeRecovery.{opened}
+use Rattle.causal_node.specs.NodeRecovery.{opened_node}
 use Rattle.causal_calls.specs.Views.{IsNodeState, IsRecoveryState}
 use Rattle.causal_protocol.proofs.Lemmas.LogMembers.{none_holds, none_entry}
 use Rattle.causal_calls.proofs.Lemmas.Numbers.{set_here, set_length, zeros_length}
 
 -- a node that is opened
-pub opening : (who : Identity) (lane : ℕ) → who.me.0 < who.processes → IsNodeState (opened who lane)
+pub opening : (who : Identity) (lane : ℕ) → who.me.0 < who.processes → IsNodeState (opened_node who lane)
 opening who lane low = record {
   process = low;
   floors = set_length (replicate who.processes 0) who.me.0 lane ∙ zeros_length who.processes;

@@ -2,8 +2,8 @@
 use Rattle.std.specs.Prelude.{◌≢◌, ℕ, List, Option, IfSome, ⊤}
 use Rattle.causal_script.specs.declared.script.Script.{Script}
 use Rattle.causal_script.specs.declared.script.ScriptFault.{ScriptFault}
-use Rattle.causal_script.specs.Spelling.{Spells, script_content}
-use Rattle.causal_script.specs.Faults.{IsFirstFault}
+use Rattle.causal_script.specs.Spelling.{SpellsScript, script_content}
+use Rattle.causal_script.specs.Faults.{IsFirstScriptFault}
 use Rattle.causal_script.specs.declared.script.ScriptFaultKind.TheVariants as kind
 use Rattle.causal_run.specs.declared.fault.RunFault.{RunFault}
 use Rattle.causal_run.specs.Runs.{ExplainsRunFault}
@@ -20,11 +20,11 @@ IsPrintedFor given ended out = IfSome given (λ text. IsScriptAnswer (script_byt
 
 -- the answer to each text whose first error this is; to any text if the error is `NoMemory`
 abbrev pub IsScriptFaultAnswer : ScriptFault → Ended → List ℕ → Type 0
-IsScriptFaultAnswer fault ended out = (text : List ℕ) → (fault.kind ≢ kind.NoMemory → IsFirstFault text fault) → IsScriptAnswer text ended out
+IsScriptFaultAnswer fault ended out = (text : List ℕ) → (fault.kind ≢ kind.NoMemory → IsFirstScriptFault text fault) → IsScriptAnswer text ended out
 
 -- the answer to the text of each script of whose run this fault is true
 abbrev pub IsRefusalAnswer : RunFault → Ended → List ℕ → Type 0
-IsRefusalAnswer fault ended out = (text : List ℕ) (script : Script) → Spells text (script_content script)
+IsRefusalAnswer fault ended out = (text : List ℕ) (script : Script) → SpellsScript text (script_content script)
     → ExplainsRunFault (IsStartOf script) script.commands fault → IsScriptAnswer text ended out
 
 -- the pending messages of an answer, if any, are pending in the run of the bytes read from a reader, if its bytes are known

@@ -11,8 +11,8 @@ use Rattle.causal_script.specs.declared.script.ScriptFaultKind.{ScriptFaultKind}
 use Rattle.causal_script.specs.declared.script.ScriptFaultKind.TheVariants.{Big, Script, NoMemory}
 use Rattle.causal_script.specs.declared.start.Start.{Start}
 use Rattle.causal_script.specs.Lines.{script_lines, count_line_feeds}
-use Rattle.causal_script.specs.Spelling.{max_script, ScriptContent, IsStart, IsRequest, Spells, start_line, command_line}
-use Rattle.causal_script.specs.Faults.{IsInPlace, IsFaultAfterLines, AreSound, IsFirstFault}
+use Rattle.causal_script.specs.Spelling.{max_script, ScriptContent, IsStart, IsRequest, SpellsScript, start_line, command_line}
+use Rattle.causal_script.specs.Faults.{IsInPlace, IsFaultAfterLines, AreSound, IsFirstScriptFault}
 use Rattle.causal_script.specs.Inside.Reading.{parse_request, start_of}
 use Rattle.causal_script.specs.Inside.Place.{IsBigLine, line_or_fault}
 use Rattle.causal_script.proofs.CommandLines.{request_back, commanded, not_commanded, says_request}
@@ -30,13 +30,13 @@ one_list (c ∷ cs) [] e n f g = absurd (let no : command_line c.request ∷ map
 one_list (c ∷ cs) (d ∷ ds) e n f g = grind (arith, same_Some, request_back c.request f.0, request_back d.request g.0, one_list cs ds)
 
 -- a text spells at most one script content
-pub one_plan : (text : List ℕ) (p q : ScriptContent) → Spells text p → Spells text q → p ≡ q
+pub one_plan : (text : List ℕ) (p q : ScriptContent) → SpellsScript text p → SpellsScript text q → p ≡ q
 one_plan text p q a b = grind (arith, same_Some, start_back p.start a.content.start, start_back q.start b.content.start, length_map, one_list)
 
 -- ---- at most one error
 
 -- a text has at most one first error
-pub one_fault : (text : List ℕ) (f g : ScriptFault) → IsFirstFault text f → IsFirstFault text g → f ≡ g
+pub one_fault : (text : List ℕ) (f g : ScriptFault) → IsFirstScriptFault text f → IsFirstScriptFault text g → f ≡ g
 one_fault text f g a b = by_place (cases_lt a.before b.before) (cases_lt b.before a.before) where
   kinds : (k l : ScriptFaultKind) → IsFaultAfterLines text a.before k → IsFaultAfterLines text a.before l → (k ≡ Script → IsFaultAfterLines text a.before Big → ⊥) → (l ≡ Script → IsFaultAfterLines text a.before Big → ⊥) → k ≡ l
   kinds k l x y p q = grind arith
@@ -68,7 +68,7 @@ stands : (s : Start) (cs : List Command) (k : ℕ) → IsStart s → AllByRecurs
 stands s cs k h all = grind (arith, commands_stand)
 
 -- no text both spells a script content and has a first error
-pub not_both : (text : List ℕ) (p : ScriptContent) (f : ScriptFault) → Spells text p → IsFirstFault text f → ⊥
+pub not_both : (text : List ℕ) (p : ScriptContent) (f : ScriptFault) → SpellsScript text p → IsFirstScriptFault text f → ⊥
 not_both text p f a b = by_kind f.kind b.faulty where
   by_kind : (k : ScriptFaultKind) → IsFaultAfterLines text b.before k → ⊥
   by_kind Big h = let over : max_script < length text = h.0 in omega (arith, a.within)
@@ -92,13 +92,13 @@ cases_big text = by_size (cases_lt max_script (length text)) where
   by_size (inr within) = (None, within)
 
 read_on : (text : List ℕ) (big : Option ℕ) (ls : List (List ℕ)) (k : ℕ) → IsBigLine text big → drop (suc k) (script_lines text) ≡ ls → suc k ≤ length (script_lines text) → AreSound text (suc k)
-    → AreRead text ls (suc k) ⊎ ((f : ScriptFault) × IsFirstFault text f)
+    → AreRead text ls (suc k) ⊎ ((f : ScriptFault) × IsFirstScriptFault text f)
 read_on text big [] k bigs rest within sound = grind (arith, line_past (suc k) (script_lines text) rest)
 read_on text big (l ∷ ls) k bigs rest within sound = by_line (λ sounder. read_on text big ls (suc k) bigs here.1 inside sounder) (line_or_fault big (suc k + 1) (parse_request l)) refl where
   here : (slice_get (script_lines text) (suc k) ≡ Some l) × (drop (suc (suc k)) (script_lines text) ≡ ls)
   here = line_here (suc k) (script_lines text) l ls rest
 
-  joined : (r : Request) → IsRequest r → l ≡ command_line r → AreRead text ls (suc (suc k)) ⊎ ((f : ScriptFault) × IsFirstFault text f) → AreRead text (l ∷ ls) (suc k) ⊎ ((f : ScriptFault) × IsFirstFault text f)
+  joined : (r : Request) → IsRequest r → l ≡ command_line r → AreRead text ls (suc (suc k)) ⊎ ((f : ScriptFault) × IsFirstScriptFault text f) → AreRead text (l ∷ ls) (suc k) ⊎ ((f : ScriptFault) × IsFirstScriptFault text f)
   joined r fits is (inr f) = inr f
   joined r fits is (inl more) =
       let c : Command = record { line = suc k + 1; request = r } in
@@ -114,7 +114,7 @@ read_on text big (l ∷ ls) k bigs rest within sound = by_line (λ sounder. read
   inside : suc (suc k) ≤ length (script_lines text)
   inside = grind (arith, drop_all (suc k) (script_lines text))
 
-  by_line : (AreSound text (suc (suc k)) → AreRead text ls (suc (suc k)) ⊎ ((f : ScriptFault) × IsFirstFault text f)) → (r : Result Request ScriptFault) → line_or_fault big (suc k + 1) (parse_request l) ≡ r → AreRead text (l ∷ ls) (suc k) ⊎ ((f : ScriptFault) × IsFirstFault text f)
+  by_line : (AreSound text (suc (suc k)) → AreRead text ls (suc (suc k)) ⊎ ((f : ScriptFault) × IsFirstScriptFault text f)) → (r : Result Request ScriptFault) → line_or_fault big (suc k + 1) (parse_request l) ≡ r → AreRead text (l ∷ ls) (suc k) ⊎ ((f : ScriptFault) × IsFirstScriptFault text f)
   by_line again (Err f) e = inr (f, first_fault text l (suc k) big (parse_request l) f bigs sound here.0 (λ none place. not_commanded l none place) e)
   by_line again (Ok r) e =
       let ok = judged_ok big (suc k + 1) (parse_request l) r e in
@@ -124,7 +124,7 @@ read_on text big (l ∷ ls) k bigs rest within sound = by_line (λ sounder. read
       joined r says.0 says.1 (again sounder)
 
 -- the parsed lines are a script
-whole : (text l : List ℕ) (ls : List (List ℕ)) (s : Start) → script_lines text ≡ l ∷ ls → IsStart s → l ≡ start_line s → AreRead text ls 1 → (p : ScriptContent) × Spells text p
+whole : (text l : List ℕ) (ls : List (List ℕ)) (s : Start) → script_lines text ≡ l ∷ ls → IsStart s → l ≡ start_line s → AreRead text ls 1 → (p : ScriptContent) × SpellsScript text p
 whole text l ls s split fits is read =
     let said : script_lines text ≡ start_line s ∷ map (λ (c : Command). command_line c.request) read.commands = split ∙ ap (λ x. x ∷ ls) is ∙ ap (λ xs. start_line s ∷ xs) read.said in
     let within : length text ≤ max_script = grind (arith, read.sound (count_line_feeds (take max_script text)) Big, feeds_below max_script text) in
@@ -138,16 +138,16 @@ whole text l ls s split fits is read =
     )
 
 -- each text spells a script content or has a first error
-pub one_of_them : (text : List ℕ) → ((p : ScriptContent) × Spells text p) ⊎ ((f : ScriptFault) × IsFirstFault text f)
+pub one_of_them : (text : List ℕ) → ((p : ScriptContent) × SpellsScript text p) ⊎ ((f : ScriptFault) × IsFirstScriptFault text f)
 one_of_them text = by_lines (script_lines text) refl where
   big : (b : Option ℕ) × IsBigLine text b
   big = cases_big text
 
-  ended : (l : List ℕ) (ls : List (List ℕ)) (s : Start) → script_lines text ≡ l ∷ ls → IsStart s → l ≡ start_line s → AreRead text ls 1 ⊎ ((f : ScriptFault) × IsFirstFault text f) → ((p : ScriptContent) × Spells text p) ⊎ ((f : ScriptFault) × IsFirstFault text f)
+  ended : (l : List ℕ) (ls : List (List ℕ)) (s : Start) → script_lines text ≡ l ∷ ls → IsStart s → l ≡ start_line s → AreRead text ls 1 ⊎ ((f : ScriptFault) × IsFirstScriptFault text f) → ((p : ScriptContent) × SpellsScript text p) ⊎ ((f : ScriptFault) × IsFirstScriptFault text f)
   ended l ls s split fits is (inl read) = inl (whole text l ls s split fits is read)
   ended l ls s split fits is (inr f) = inr f
 
-  by_start : (l : List ℕ) (ls : List (List ℕ)) → script_lines text ≡ l ∷ ls → (r : Result Start ScriptFault) → line_or_fault big.0 1 (start_of l) ≡ r → ((p : ScriptContent) × Spells text p) ⊎ ((f : ScriptFault) × IsFirstFault text f)
+  by_start : (l : List ℕ) (ls : List (List ℕ)) → script_lines text ≡ l ∷ ls → (r : Result Start ScriptFault) → line_or_fault big.0 1 (start_of l) ≡ r → ((p : ScriptContent) × SpellsScript text p) ⊎ ((f : ScriptFault) × IsFirstScriptFault text f)
   by_start l ls split (Err f) e =
       let here = line_here 0 (script_lines text) l ls split in
       inr (f, first_fault text l 0 big.0 (start_of l) f big.1 (sound_none text) here.0 (λ none place. not_started l none place) e)
@@ -160,6 +160,6 @@ one_of_them text = by_lines (script_lines text) refl where
       let some : 1 ≤ length (script_lines text) = let count : length (script_lines text) ≡ suc (length ls) = ap length split in omega arith in
       ended l ls s split says.0 says.1 (read_on text big.0 ls 0 big.1 here.1 some sound)
 
-  by_lines : (ls : List (List ℕ)) → script_lines text ≡ ls → ((p : ScriptContent) × Spells text p) ⊎ ((f : ScriptFault) × IsFirstFault text f)
+  by_lines : (ls : List (List ℕ)) → script_lines text ≡ ls → ((p : ScriptContent) × SpellsScript text p) ⊎ ((f : ScriptFault) × IsFirstScriptFault text f)
   by_lines [] e = inr (record { line = 1; kind = Script }, empty_fault text (no_lines text e))
   by_lines (l ∷ ls) e = by_start l ls e (line_or_fault big.0 1 (start_of l)) refl

@@ -3,14 +3,14 @@ use Rattle.std.specs.Prelude.{◌≡◌, ℕ, ◌<◌, ◌≤◌, ◌↔◌, Som
 use Rattle.causal_audit.specs.Inside.Common.{Entry, lane, restarts, AreLegalEntries, IsEventOf, Delivers}
 use Rattle.causal_clock.specs.declared.Event.{Event}
 use Rattle.causal_clock.specs.declared.TheConstants.{OPENED_LANES}
-use Rattle.causal_clock.specs.Timeline.{Timeline, lane_of, send_of}
+use Rattle.causal_clock.specs.Timeline.{Timeline, lane_of, sending_event}
 
 -- the clock has an event for each entry, at its position; two sends or deliveries share a lane of the clock exactly if
 -- they share a lane of one process, and an event receives exactly the send that the delivery at its position delivers
 pub record IsClockOf (past : List Entry) (events : List Event) : Type 0 where
   pub count : length events ≡ length past
   pub same_lane : (i j p q l m : ℕ) → IsEventOf past i p l → IsEventOf past j q m → (lane_of events i ≡ lane_of events j) ↔ ((p ≡ q) × (l ≡ m))
-  pub receives : (j i : ℕ) → j < length past → (send_of events j ≡ Some i) ↔ Delivers past j i
+  pub receives : (j i : ℕ) → j < length past → (sending_event events j ≡ Some i) ↔ Delivers past j i
 
 -- `IsClockOf` holds, and `present` contains the clock's lane of each process's present lane
 pub record IsClockWithLanes (n : ℕ) (past : List Entry) (clock : Timeline) (present : List ℕ) : Type 0 where

@@ -150,11 +150,6 @@ abbrev pub AreCopiesAfter : Entry → Bool → DetCopies → DetCopies → Type 
 AreCopiesAfter e mentioned before after =
     (past : List Entry) (d : Det) → mentioned ≡ list_has (mentioned_dets e) d → AreDetCopies past d before → AreDetCopies (e ∷ past) d after
 
--- whether an entry is a crash
-abbrev pub is_crash : Entry → Bool
-is_crash (Crash who) = true
-is_crash _ = false
-
 -- the copies of a determinant that is neither stable nor in a log
 abbrev pub no_copies : DetCopies
 no_copies = record { holders = empty; stable = false }

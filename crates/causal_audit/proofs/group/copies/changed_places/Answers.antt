@@ -1,5 +1,5 @@
 use Rattle.causal_audit.proofs.Common.{◌≡◌, Bool, true, false, arith, ◌&&◌, ◌⊎◌, not, nat_cmp_total, contains-difference, nat_tests, Entry, Pid, Send, Deliver, Stable, Crash, Restart, Forget, refl}
-use Rattle.causal_audit.specs.Inside.Group.Walk.{is_crash}
+use Rattle.causal_trace.specs.Laws.{is_crash}
 use Rattle.causal_audit.proofs.group.copies.changed_places.Goals as goal
 
 and_missing : (a b : Bool) → (a && not b) ≡ false → (a ≡ false) ⊎ (b ≡ true)

@@ -1,6 +1,6 @@
 use Rattle.causal_protocol.proofs.BeginningKeeps.{openings_are_runs}
 use Rattle.causal_protocol.proofs.StepKeeps as step
-use Rattle.causal_protocol.proofs.laws.steps_preserve_invariant.Goals as goal
+use Rattle.causal_protocol.proofs.laws.requests_preserve_invariant.Goals as goal
 
 pub returns-clause-start : goal.returns-clause-start
 returns-clause-start c = openings_are_runs
