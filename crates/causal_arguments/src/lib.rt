@@ -17,4 +17,4 @@ pub mod subcommand;
 mod values;
 
 pub use arguments::{BAD_USAGE, EarlyExit, parse_command_line};
-pub use subcommand::{CommandLine, Form, Subcommand, Until};
+pub use subcommand::{CommandLine, Subcommand, Until};

@@ -1,14 +1,6 @@
 //! What a command line requests.
+use causal_facts::Form;
 use causal_trace::limits::Limits;
-
-/// How an answer is written.
-#[derive(Clone, Copy)]
-pub enum Form {
-    /// As lines of text.
-    Lines,
-    /// As one JSON object.
-    Json,
-}
 
 /// How far an audit reads.
 #[derive(Clone, Copy)]

@@ -3,7 +3,8 @@ ghost use Rattle.std.specs.Prelude.{◌≤◌, IfOk, IfSome};
 ghost use Rattle.causal_arguments.specs.Workers.{HasWorkersInRange};
 
 use crate::options::{LIVE, program_command};
-use crate::subcommand::{CommandLine, Form, Subcommand, Until};
+use crate::subcommand::{CommandLine, Subcommand, Until};
+use causal_facts::Form;
 use causal_trace::limits::{DEFAULT_ENTRIES, Limits};
 use clap::{ArgMatches, Error};
 use std::alloc::{AllocError, Global};

@@ -3,8 +3,8 @@ use Rattle.std.proofs.Common.{◌≡◌, ◌+◌, ◌<◌, ◌++◌, ◌∙◌, 
 use Rattle.std.proofs.lemmas.List.{drop_more}
 use Rattle.causal_facts.specs.declared.fact.Fact.{Fact}
 use Rattle.causal_facts.specs.Entries.{entry_of}
-use Rattle.causal_replies.specs.Lines.{fact_head}
-use Rattle.causal_replies.specs.Sentences.{IsSentence}
+use Rattle.causal_answers.specs.Lines.{fact_head}
+use Rattle.causal_answers.specs.Sentences.{IsSentence}
 use Rattle.causal_outcomes.specs.declared.map_fault.MapFault.{MapFault}
 use Rattle.causal_commands.specs.declared.placed_lines.PlaceError.{PlaceError}
 use Rattle.causal_commands.specs.declared.placed_lines.PlaceError.TheVariants.{Map, NoMemory}

@@ -3,6 +3,6 @@ pub mod PlacedLines
 pub mod MappedReasons
 pub mod Ranges
 pub mod Questions
-pub mod Replies
 pub mod Answers
+pub mod PrintedAnswers
 pub mod Drawings

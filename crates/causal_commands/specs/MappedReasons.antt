@@ -5,17 +5,17 @@ use Rattle.causal_audit.specs.declared.verdict.Verdict.TheVariants.{Accept}
 use Rattle.causal_audit.specs.declared.judged.Judged.{Judged}
 use Rattle.causal_audit.specs.VerdictLines.{verdict_line}
 use Rattle.causal_facts.specs.declared.fact.Fact.{Fact}
-use Rattle.causal_replies.specs.declared.form.Form.TheVariants.{Lines}
-use Rattle.causal_replies.specs.declared.reply.Reply.{Reply}
-use Rattle.causal_replies.specs.Replies.{IsReplyText}
+use Rattle.causal_facts.specs.declared.form.Form.TheVariants.{Lines}
+use Rattle.causal_answers.specs.declared.answer.Answer.{Answer}
+use Rattle.causal_answers.specs.Answers.{IsAnswerText}
 use Rattle.causal_outcomes.specs.declared.ended.Ended.{Ended}
 use Rattle.causal_outcomes.specs.declared.ended.Ended.TheVariants.{Accepted, Breached, Faulted}
 use Rattle.causal_outcomes.specs.declared.map_fault.MapFault.{MapFault}
 use Rattle.causal_commands.specs.declared.mapped_reason.MappedOutcome.{MappedOutcome}
 use Rattle.causal_outcomes.specs.AnswerWrites.{WritesAnswer}
 use Rattle.causal_outcomes.specs.Merges.{bytes_read}
-use Rattle.causal_commands.specs.PlacedLines.{IsPlacedText, lines, map_fault}
-use Rattle.causal_commands.specs.Replies.{IsExplained, IsFaultReply}
+use Rattle.causal_commands.specs.PlacedLines.{IsPlacedText, whole_lines, map_fault}
+use Rattle.causal_commands.specs.Answers.{IsExplained, IsFaultAnswer}
 
 -- the text spells a trace with this verdict for f, the map has no error, and the output is the verdict's line and those of
 -- the facts that explain it, with the places of the map
@@ -23,7 +23,7 @@ pub record IsMappedReason (most : ℕ) (text map : List ℕ) (f : ℕ) (judged :
   pub facts : List Fact
   pub explained : IsExplained most text f judged facts
   pub faultless : map_fault most map judged.entries facts ≡ None
-  pub placed : IsPlacedText (lines map) facts (verdict_line f judged) out
+  pub placed : IsPlacedText (whole_lines map) facts (verdict_line f judged) out
 
 -- the text spells a trace, and the map has this error for the facts that explain its verdict for f
 pub record IsMapFault (most : ℕ) (text map : List ℕ) (f : ℕ) (fault : MapFault) : Type 0 where
@@ -34,7 +34,7 @@ pub record IsMapFault (most : ℕ) (text map : List ℕ) (f : ℕ) (fault : MapF
 
 -- what is written if an error is found: the line of the text's first error; of an error of the map, nothing
 abbrev pub IsMappedFault : ℕ → List ℕ → List ℕ → ℕ → Option MapFault → List ℕ → Type 0
-IsMappedFault most text map f None out = (reply : Reply) × IsFaultReply most text reply × IsReplyText Lines reply out
+IsMappedFault most text map f None out = (answer : Answer) × IsFaultAnswer most text answer × IsAnswerText Lines answer out
 IsMappedFault most text map f (Some fault) out = IsMapFault most text map f fault × (out ≡ [])
 
 -- the answer to a text and a map for f, by the ending, with the error of the map that is returned

@@ -6,8 +6,8 @@ use Rattle.causal_merge.specs.Maps.{read_place}
 use Rattle.causal_merge.specs.Reading.{max_input_len}
 use Rattle.causal_facts.specs.declared.fact.Fact.{Fact}
 use Rattle.causal_facts.specs.Entries.{entry_of}
-use Rattle.causal_replies.specs.Lines.{AreLines, fact_head}
-use Rattle.causal_replies.specs.Sentences.{IsSentence}
+use Rattle.causal_answers.specs.Lines.{AreLines, fact_head}
+use Rattle.causal_answers.specs.Sentences.{IsSentence}
 use Rattle.causal_outcomes.specs.declared.map_fault.MapFault.{MapFault}
 use Rattle.causal_outcomes.specs.declared.map_fault.MapFault.TheVariants.{Big, Length, Entry}
 
@@ -18,8 +18,8 @@ abbrev pub split_at_line_feeds : List ℕ → List (List ℕ)
 split_at_line_feeds text = slice_split (λ byte. byte == 10) text
 
 -- the lines of a text, each ended by a line feed; bytes after the last line feed are ignored
-abbrev pub lines : List ℕ → List (List ℕ)
-lines text = take (length (split_at_line_feeds text) - 1) (split_at_line_feeds text)
+abbrev pub whole_lines : List ℕ → List (List ℕ)
+whole_lines text = take (length (split_at_line_feeds text) - 1) (split_at_line_feeds text)
 
 -- ---- the place of an entry
 
@@ -59,7 +59,7 @@ fault_of_lines map entries facts = if length map == entries then first_place_fau
 
 -- the same by the text of a map, which may be too long. `most` is the maximum number of entries, which determines the maximum size of a map.
 abbrev pub map_fault : ℕ → List ℕ → ℕ → List Fact → Option MapFault
-map_fault most map entries facts = if nat_lt (max_input_len most) (length map) then Some Big else fault_of_lines (lines map) entries facts
+map_fault most map entries facts = if nat_lt (max_input_len most) (length map) then Some Big else fault_of_lines (whole_lines map) entries facts
 
 -- ---- lines
 

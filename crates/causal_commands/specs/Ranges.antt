@@ -1,8 +1,8 @@
 -- The bounds f for which a run is safe, exceeded, or has an orphan.
 use Rattle.std.specs.Prelude.{ℕ, ◌-◌, nat_lt, if◌then◌else◌, List, [], ◌∷◌, ◌++◌, Option, Some, None}
 use Rattle.causal_explain.specs.declared.range.SafeRange.{SafeRange}
-use Rattle.causal_replies.specs.declared.bounds.Bounds.{Bounds}
-use Rattle.causal_replies.specs.declared.bounds.Bounds.TheVariants.{Exceeded, AcceptFrom, Accept, Orphan}
+use Rattle.causal_answers.specs.declared.bounds.Bounds.{Bounds}
+use Rattle.causal_answers.specs.declared.bounds.Bounds.TheVariants.{Exceeded, AcceptFrom, Accept, Orphan}
 
 -- the bounds below `from`, if there are any
 abbrev pub exceeded_below : ℕ → List Bounds

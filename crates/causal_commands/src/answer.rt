@@ -14,7 +14,7 @@ use std::io::Write;
 /// The line that answers a text, the ending after it is written, and, if it reports an error, that error with its
 /// context.
 #[derive(Drop)]
-pub(crate) struct Answer {
+pub(crate) struct PrintedAnswer {
     pub ended: Ended,
     pub line: Vec<u8>,
     pub refusal: Option<TextRefusal>,
@@ -26,7 +26,7 @@ pub(crate) fn write_answer<O: Write>(
     alloc: Global,
     output: &mut O,
     f: u16,
-    answer: Answer,
+    answer: PrintedAnswer,
 ) -> Outcome<DiagnosedFault>
     requires { WritesWholeAnswer answer.ended }
     ensures written { IsWritten answer result.ended
@@ -36,7 +36,7 @@ pub(crate) fn write_answer<O: Write>(
         → IsDiagnosisFor most given f result.fault }
     ensures never_no_worker { result.ended ≢ Ended.NoWorker }
 {
-    let Answer {
+    let PrintedAnswer {
         ended,
         line,
         refusal: rejected,

@@ -9,14 +9,14 @@ ghost use Rattle.causal_outcomes.specs.Diagnostics.{IsDiagnosisFor};
 ghost use Rattle.causal_commands.specs.Inside.Answers.{IsDrawingAnswerFor, WritesNothing, WritesWholeAnswer, AnswerRefusalIsTrue};
 ghost use Rattle.causal_commands.specs.Inside.Refusals.{ExplainsRefusal, IsTrueRefusal};
 
-use crate::answer::{Answer, ended_of, write_answer};
+use crate::answer::{PrintedAnswer, ended_of, write_answer};
 use crate::response::fault_response;
 use crate::serial_audit::judge_serially;
 use causal_name::NoMemory;
 use causal_outcomes::{DiagnosedFault, Ended, Outcome};
 use causal_picture::Selection;
 use causal_reading::read_by;
-use causal_report::selected_drawing_of;
+use causal_report::selected_picture_with_verdict;
 use causal_trace::limits::Limits;
 use causal_trace::trace::Trace;
 use causal_workers::{AuditFault, Judged, VerdictError};
@@ -62,7 +62,7 @@ fn drawing_answer<I: Read, R: Threads>(
     f: u16,
     workers: u32,
     selection: Selection,
-) -> Result<Answer, Ended>
+) -> Result<PrintedAnswer, Ended>
     requires { (1 ≤ workers) × (workers ≤ 64) }
     ensures ok { IfOk result (λ answer. IsDrawingAnswerFor limits.entries selection
         (I.remaining input.old) f answer.ended answer.line.items) }
@@ -78,7 +78,7 @@ fn drawing_answer<I: Read, R: Threads>(
         Err(unread) => return fault_answer(alloc, VerdictError::Input(unread)),
     };
     match draw_trace(alloc, &trace, f, selection) {
-        Ok(drawn) => Ok(Answer {
+        Ok(drawn) => Ok(PrintedAnswer {
             ended: ended_of(drawn.judged.verdict),
             line: drawn.picture,
             refusal: None,
@@ -88,7 +88,7 @@ fn drawing_answer<I: Read, R: Threads>(
 }
 
 /// Returns the answer to a text with an error, which draws nothing, or the ending if there is nothing to write.
-fn fault_answer(alloc: Global, unjudged: VerdictError) -> Result<Answer, Ended>
+fn fault_answer(alloc: Global, unjudged: VerdictError) -> Result<PrintedAnswer, Ended>
     ensures ok { IfOk result (λ answer. (most : ℕ) (selection : Selection) (text : List ℕ) (f : ℕ)
         → ExplainsRefusal most text unjudged
         → IsDrawingAnswer most selection text f answer.ended answer.line.items) }
@@ -101,7 +101,7 @@ fn fault_answer(alloc: Global, unjudged: VerdictError) -> Result<Answer, Ended>
         → unjudged ≡ VerdictError.Audit AuditFault.NoWorker }
 {
     match fault_response(alloc, unjudged) {
-        Ok(response) => Ok(Answer {
+        Ok(response) => Ok(PrintedAnswer {
             ended: response.ended,
             line: Vec::new(alloc),
             refusal: response.refusal,
@@ -124,6 +124,6 @@ fn draw_trace(alloc: Global, trace: &Trace, f: u16, selection: Selection) -> Res
         → IsDrawn most selection text f drawn.judged drawn.picture.items) }
 {
     let judged = judge_serially(alloc, trace, f)?;
-    let picture = selected_drawing_of(alloc, trace, f, judged.verdict, selection)?;
+    let picture = selected_picture_with_verdict(alloc, trace, f, judged.verdict, selection)?;
     Ok(Drawn { judged, picture })
 }

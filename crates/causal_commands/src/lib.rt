@@ -28,7 +28,7 @@ mod range;
 mod reason;
 /// Whether the recoveries of a trace follow the determinants that survive.
 mod replays;
-/// The reply to the text of a trace, before it is printed.
+/// The answer to the text of a trace, before it is printed.
 mod response;
 /// The audit of a trace by the calling thread alone.
 mod serial_audit;
@@ -37,7 +37,7 @@ mod diagnosis;
 /// The command `audit` within the default limits.
 pub mod stream;
 
-pub use causal_replies::Form;
+pub use causal_facts::Form;
 pub use drawing::answer_drawing;
 pub use mapped_reason::{MappedOutcome, answer_mapped_reason};
 pub use question::{Question, StrayDetail, answer_question};

@@ -7,20 +7,20 @@ ghost use Rattle.causal_outcomes.specs.Diagnostics.{IsDiagnosisFor};
 ghost use Rattle.causal_outcomes.specs.Merges.{ReadsAtMostRecordings};
 ghost use Rattle.causal_commands.specs.MappedReasons.{WritesMappedFor};
 ghost use Rattle.causal_commands.specs.Inside.Answers.{WritesNothing, WritesWholeAnswer};
-ghost use Rattle.causal_commands.specs.PlacedLines.{IsPlacedText, lines, map_fault};
+ghost use Rattle.causal_commands.specs.PlacedLines.{IsPlacedText, whole_lines, map_fault};
 ghost use Rattle.causal_commands.specs.Inside.Placing.{ReturnsPlaced};
 ghost use Rattle.causal_commands.specs.Inside.Refusals.{ExplainsRefusal, IsTrueRefusal, IsTrueRefusalFor};
-ghost use Rattle.causal_commands.specs.Inside.MappedAnswers.{IsFaultAnswer, IsMappedFor, IsPlacedFor, IsPlaced};
+ghost use Rattle.causal_commands.specs.Inside.MappedAnswers.{IsMappedFaultAnswer, IsMappedFor, IsPlacedFor, IsPlaced};
 
-use crate::answer::{Answer, ended_of, write_answer};
+use crate::answer::{PrintedAnswer, ended_of, write_answer};
 use crate::placed_lines::{PlaceError, placed_text};
 use crate::reason::{ExplainedVerdict, explain_trace};
 use crate::response::{fault_response, printed_answer};
+use causal_facts::Form;
 use causal_merge::max_input_len;
 use causal_name::NoMemory;
 use causal_outcomes::{DiagnosedFault, Ended, MapFault, Outcome, ReadFault, read_at_most};
 use causal_reading::read_by;
-use causal_replies::Form;
 use causal_trace::limits::Limits;
 use causal_workers::{AuditFault, Judged, VerdictError, verdict_line};
 use std::alloc::Global;
@@ -77,7 +77,7 @@ pub fn answer_mapped_reason<R: Threads, I: Read, M: Read, O: Write>(
 /// The answer, and the error of the map, if that is the reason for its ending.
 #[derive(Drop)]
 struct MappedAnswer {
-    answer: Answer,
+    answer: PrintedAnswer,
     map_fault: Option<MapFault>,
 }
 
@@ -115,7 +115,7 @@ fn mapped_answer<I: Read, M: Read, R: Threads>(
 
 /// Returns the answer with the first error of a text without verdict, or the ending if there is nothing to write.
 fn fault_answer(alloc: Global, unjudged: VerdictError) -> Result<MappedAnswer, Ended>
-    ensures ok { IfOk result (IsFaultAnswer unjudged) }
+    ensures ok { IfOk result (IsMappedFaultAnswer unjudged) }
     ensures rejected { IfOk result (λ given. (most : ℕ) (text : List ℕ)
         → ExplainsRefusal most text unjudged →
         IfSome given.answer.refusal (IsTrueRefusal most text)) }
@@ -175,7 +175,7 @@ fn placed_answer(
 {
     match placed_reason(alloc, map, limits, f, &known) {
         Ok(line) => Ok(MappedAnswer {
-            answer: Answer {
+            answer: PrintedAnswer {
                 ended: ended_of(known.judged.verdict),
                 line,
                 refusal: None,
@@ -183,7 +183,7 @@ fn placed_answer(
             map_fault: None,
         }),
         Err(PlaceError::Map(fault)) => Ok(MappedAnswer {
-            answer: Answer {
+            answer: PrintedAnswer {
                 ended: Ended::Faulted,
                 line: Vec::new(alloc),
                 refusal: None,
@@ -204,7 +204,7 @@ fn placed_reason(
 ) -> Result<Vec<u8>, PlaceError>
     ensures { ReturnsPlaced (λ out. out.items) result
         (map_fault limits.entries map.now known.now.judged.entries known.now.facts.items)
-        (IsPlacedText (lines map.now) known.now.facts.items (verdict_line f known.now.judged)) }
+        (IsPlacedText (whole_lines map.now) known.now.facts.items (verdict_line f known.now.judged)) }
 {
     let entries = known.judged.entries;
     match placed_text(alloc, limits, map, entries, known.facts.as_slice()) {

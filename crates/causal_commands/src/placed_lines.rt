@@ -1,14 +1,14 @@
 //! The lines of facts, with the places of their entries in recordings.
 ghost use Rattle.std.specs.Prelude.{◌≡◌, ◌++◌, [], ◌∷◌, ℕ, List, map, IfOk, OnOk};
 ghost use Rattle.causal_commands.specs.PlacedLines as placed;
-ghost use Rattle.causal_replies.specs.Lines.{fact_head};
-ghost use Rattle.causal_replies.specs.Sentences.{IsSentence};
+ghost use Rattle.causal_answers.specs.Lines.{fact_head};
+ghost use Rattle.causal_answers.specs.Sentences.{IsSentence};
 ghost use Rattle.causal_commands.specs.Inside.Placing.{ReturnsPlace, ReturnsPlaced, GivesAfter};
 
+use causal_answers::{fact_head, fact_sentence};
 use causal_facts::Fact;
 use causal_merge::{max_input_len, read_place};
 use causal_outcomes::MapFault;
-use causal_replies::{fact_head, fact_sentence};
 use causal_text::TextKind;
 use causal_trace::limits::Limits;
 use std::alloc::{AllocError, Global};
@@ -32,21 +32,21 @@ pub(crate) fn placed_text(
 ) -> Result<Vec<u8>, PlaceError>
     ensures { ReturnsPlaced (λ out. out.items) result
         (placed.map_fault limits.entries map.now entries facts.now)
-        (placed.ArePlacedLines (placed.lines map.now) facts.now) }
+        (placed.ArePlacedLines (placed.whole_lines map.now) facts.now) }
 {
     if map.len() > max_input_len(limits) {
         return Err(PlaceError::Map(MapFault::Big));
     }
-    let Ok(map_lines) = lines(alloc, map) else {
+    let Ok(map_lines) = whole_lines(alloc, map) else {
         return Err(PlaceError::NoMemory);
     };
     placed_by(alloc, map_lines.as_slice(), entries, facts)
 }
 
 /// Returns the lines of a text, each of which ends with a line feed, without these.
-fn lines(alloc: Global, text: &[u8]) -> Result<Vec<&[u8]>, AllocError>
+fn whole_lines(alloc: Global, text: &[u8]) -> Result<Vec<&[u8]>, AllocError>
     ensures { IfOk result (λ found. map (λ line. line.now) found.items
-        ≡ placed.lines text.now) }
+        ≡ placed.whole_lines text.now) }
 {
     let mut found = split_at_line_feeds(alloc, text)?;
     found.pop();

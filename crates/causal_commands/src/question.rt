@@ -1,10 +1,10 @@
 //! Questions on a trace, and their answers, over any reader and writer.
 ghost use Rattle.std.specs.Prelude.{◌≡◌, ◌≤◌, IfOk, IfErr, IfSome, Err};
-ghost use Rattle.causal_commands.specs.Answers.{WritesFor};
+ghost use Rattle.causal_commands.specs.PrintedAnswers.{WritesFor};
 ghost use Rattle.causal_outcomes.specs.Diagnostics.{IsDiagnosisFor};
 ghost use Rattle.causal_commands.specs.Questions as questions;
-ghost use Rattle.causal_commands.specs.Replies.{IsReply};
-ghost use Rattle.causal_commands.specs.Inside.Answers.{IsFaultless, IsOnWholeText, IsReplyFor, IsReplyOrError, RepliesOn, WritesNothing, WritesWholeAnswer, RefusalIsTrue};
+ghost use Rattle.causal_commands.specs.Answers.{IsAnswer};
+ghost use Rattle.causal_commands.specs.Inside.Answers.{IsFaultless, IsOnWholeText, IsAnswerFor, IsAnswerOrError, AnswersOn, WritesNothing, WritesWholeAnswer, RefusalIsTrue};
 
 use crate::answer::write_answer;
 use crate::range::range_response;
@@ -13,9 +13,9 @@ use crate::replays::replays_response;
 use crate::response::{
     Response, fault_response, printed_answer, stream_response, verdict_response,
 };
+use causal_facts::Form;
 use causal_outcomes::{DiagnosedFault, Ended, Outcome};
 use causal_reading::read_by;
-use causal_replies::Form;
 use causal_trace::limits::Limits;
 use causal_trace::trace::Trace;
 use causal_workers::{AuditFault, Gate, Looks, VerdictError, judge_stream, judge_trace};
@@ -139,8 +139,8 @@ fn response_to<I: Read, G: Gate + Sync, R: Threads + Wait + Clock>(
     gate: &G,
 ) -> Result<Response, Ended>
     requires { questions.HasFewWorkers question }
-    ensures ok { IfOk result (λ response. IsReplyFor limits.entries question
-        (I.remaining input.old) response.ended response.reply) }
+    ensures ok { IfOk result (λ response. IsAnswerFor limits.entries question
+        (I.remaining input.old) response.ended response.answer) }
     ensures rejected { RefusalIsTrue limits.entries (I.remaining input.old) result }
     ensures whole_answer { IfOk result (λ response. WritesWholeAnswer response.ended) }
     ensures err { IfErr result WritesNothing }
@@ -148,14 +148,14 @@ fn response_to<I: Read, G: Gate + Sync, R: Threads + Wait + Clock>(
         (I.remaining input.old) (I.remaining input.new) }
     ensures one_worker { result ≡ Err Ended.NoWorker → 2 ≤ questions.workers_of question }
 {
-    match read_reply(rt, alloc, input, limits, question, gate) {
+    match read_answer(rt, alloc, input, limits, question, gate) {
         Ok(response) => Ok(response),
         Err(unjudged) => fault_response(alloc, unjudged),
     }
 }
 
-/// Reads a text, and returns the reply to a question on its trace, or why there is none.
-fn read_reply<I: Read, G: Gate + Sync, R: Threads + Wait + Clock>(
+/// Reads a text, and returns the answer to a question on its trace, or why there is none.
+fn read_answer<I: Read, G: Gate + Sync, R: Threads + Wait + Clock>(
     rt: &R,
     alloc: Global,
     input: &mut I,
@@ -165,7 +165,7 @@ fn read_reply<I: Read, G: Gate + Sync, R: Threads + Wait + Clock>(
 ) -> Result<Response, VerdictError>
     requires { questions.HasFewWorkers question }
     ensures reads { IfSome (I.remaining input.old)
-        (λ text. IsReplyOrError limits.entries question text result) }
+        (λ text. IsAnswerOrError limits.entries question text result) }
     ensures faultless { IfOk result IsFaultless }
     ensures stops { questions.StopsFor limits.entries question
         (I.remaining input.old) (I.remaining input.new) }
@@ -194,7 +194,7 @@ fn read_reply<I: Read, G: Gate + Sync, R: Threads + Wait + Clock>(
     }
 }
 
-/// Returns the reply to a question on a trace that was read whole.
+/// Returns the answer to a question on a trace that was read whole.
 fn trace_response<G: Gate + Sync, R: Threads + Wait>(
     rt: &R,
     alloc: Global,
@@ -204,8 +204,8 @@ fn trace_response<G: Gate + Sync, R: Threads + Wait>(
 ) -> Result<Response, AuditFault>
     requires few { questions.HasFewWorkers question }
     requires whole { IsOnWholeText question }
-    ensures reply { IfOk result (RepliesOn trace.now.recording
-        (λ most text. IsReply most question text)) }
+    ensures answer { IfOk result (AnswersOn trace.now.recording
+        (λ most text. IsAnswer most question text)) }
     ensures faultless { IfOk result IsFaultless }
     ensures one_worker { result ≡ Err AuditFault.NoWorker → 2 ≤ questions.workers_of question }
 {

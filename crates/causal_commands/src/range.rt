@@ -1,26 +1,26 @@
 //! The bounds f for which a run is safe.
 ghost use Rattle.std.specs.Prelude.{◌≡◌, IfOk};
 ghost use Rattle.causal_commands.specs.Ranges as ranges;
-ghost use Rattle.causal_commands.specs.Replies.{IsRangeReply};
-ghost use Rattle.causal_commands.specs.Inside.Answers.{IsFaultless, RepliesOn};
+ghost use Rattle.causal_commands.specs.Answers.{IsRangeAnswer};
+ghost use Rattle.causal_commands.specs.Inside.Answers.{IsFaultless, AnswersOn};
 
 use crate::response::Response;
+use causal_answers::{Answer, Bounds};
 use causal_explain::{SafeRange, safe_range};
 use causal_name::NoMemory;
 use causal_outcomes::Ended;
-use causal_replies::{Bounds, Reply};
 use causal_trace::trace::Trace;
 use std::alloc::{AllocError, Global};
 
-/// Returns the reply with the bounds f for which a trace is safe.
+/// Returns the answer with the bounds f for which a trace is safe.
 pub(crate) fn range_response(alloc: Global, trace: &Trace) -> Result<Response, NoMemory>
-    ensures reply { IfOk result (RepliesOn trace.now.recording IsRangeReply) }
+    ensures answer { IfOk result (AnswersOn trace.now.recording IsRangeAnswer) }
     ensures faultless { IfOk result IsFaultless }
 {
     let range = safe_range(alloc, trace)?;
     Ok(Response {
         ended: Ended::Ranged,
-        reply: Reply::Ranges {
+        answer: Answer::Ranges {
             ranges: ranges_of(alloc, range)?,
         },
         refusal: None,

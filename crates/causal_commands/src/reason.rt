@@ -1,16 +1,16 @@
 //! The verdict on a trace, with the facts that explain it.
 ghost use Rattle.std.specs.Prelude.{ℕ, List, IfOk};
 ghost use Rattle.causal_text.specs.Spelling.{SpellsWithin};
-ghost use Rattle.causal_commands.specs.Replies.{IsExplained, IsReasonReply};
-ghost use Rattle.causal_commands.specs.Inside.Answers.{IsFaultless, RepliesOn};
+ghost use Rattle.causal_commands.specs.Answers.{IsExplained, IsReasonAnswer};
+ghost use Rattle.causal_commands.specs.Inside.Answers.{IsFaultless, AnswersOn};
 
 use crate::answer::ended_of;
 use crate::response::Response;
 use crate::serial_audit::judge_serially;
+use causal_answers::{Answer, Finding};
 use causal_audit::Judged;
 use causal_facts::Fact;
 use causal_name::NoMemory;
-use causal_replies::{Finding, Reply};
 use causal_report::facts_of;
 use causal_trace::trace::Trace;
 use std::alloc::Global;
@@ -22,17 +22,17 @@ pub(crate) struct ExplainedVerdict {
     pub facts: Vec<Fact>,
 }
 
-/// Returns the reply with the verdict on a trace for f and the facts that explain it.
+/// Returns the answer with the verdict on a trace for f and the facts that explain it.
 pub(crate) fn reason_response(alloc: Global, trace: &Trace, f: u16) -> Result<Response, NoMemory>
-    ensures reply { IfOk result (RepliesOn trace.now.recording
-        (λ most text. IsReasonReply most text f)) }
+    ensures answer { IfOk result (AnswersOn trace.now.recording
+        (λ most text. IsReasonAnswer most text f)) }
     ensures faultless { IfOk result IsFaultless }
 {
     let known = explain_trace(alloc, trace, f)?;
     let judged = known.judged;
     Ok(Response {
         ended: ended_of(judged.verdict),
-        reply: Reply::Found {
+        answer: Answer::Found {
             finding: Finding::Verdict { f, judged },
             facts: known.facts,
         },

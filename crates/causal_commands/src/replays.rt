@@ -1,29 +1,29 @@
 //! Whether the recoveries of a trace follow the determinants that survive.
 ghost use Rattle.std.specs.Prelude.{IfOk};
 ghost use Rattle.causal_replays.specs.Strays.{IsFirstStray};
-ghost use Rattle.causal_commands.specs.Replies as replies;
+ghost use Rattle.causal_commands.specs.Answers as answers;
 ghost use Rattle.causal_commands.specs.Inside.Answers.{IsFaultless};
 
 use crate::question::StrayDetail;
 use crate::response::{Response, found};
+use causal_answers::{Answer, Finding};
 use causal_facts::{Fact, Stray};
 use causal_name::NoMemory;
 use causal_outcomes::Ended;
 use causal_replays::first_stray;
-use causal_replies::{Finding, Reply};
 use causal_report::survivor_facts;
 use causal_trace::trace::Trace;
 use std::alloc::Global;
 
-/// Returns the reply that each slot of a trace has at most one surviving determinant at each instant, or the first instant
+/// Returns the answer that each slot of a trace has at most one surviving determinant at each instant, or the first instant
 /// that strays from this.
 pub(crate) fn replays_response(
     alloc: Global,
     trace: &Trace,
     detail: StrayDetail,
 ) -> Result<Response, NoMemory>
-    ensures reply { IfOk result (λ response.
-        replies.IsReplaysOf detail trace.now.recording response.ended response.reply) }
+    ensures answer { IfOk result (λ response.
+        answers.IsReplaysOf detail trace.now.recording response.ended response.answer) }
     ensures faultless { IfOk result IsFaultless }
 {
     match first_stray(alloc, trace)? {
@@ -36,7 +36,7 @@ pub(crate) fn replays_response(
         }
         Some(stray) => Ok(Response {
             ended: Ended::Strayed,
-            reply: Reply::Found {
+            answer: Answer::Found {
                 finding: Finding::Strayed(stray),
                 facts: details_of(alloc, trace, stray, detail)?,
             },
@@ -54,7 +54,7 @@ fn details_of(
 ) -> Result<Vec<Fact>, NoMemory>
     requires { IsFirstStray trace.now.recording stray }
     ensures { IfOk result
-        (λ facts. replies.AreDetails detail trace.now.recording stray facts.items) }
+        (λ facts. answers.AreDetails detail trace.now.recording stray facts.items) }
 {
     match detail {
         StrayDetail::Line => Ok(Vec::new(alloc)),

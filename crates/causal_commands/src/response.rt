@@ -1,42 +1,47 @@
-//! The reply to the text of a trace, before it is printed.
+//! The answer to the text of a trace, before it is printed.
 ghost use Rattle.std.specs.Prelude.{◌≡◌, ℕ, List, [], IfOk, IfErr, Err};
-ghost use Rattle.causal_replies.specs.Replies.{IsReplyText};
+ghost use Rattle.causal_answers.specs.Answers.{IsAnswerText};
 ghost use Rattle.causal_workers.specs.Judgements.{IsJudgementWithin};
 ghost use Rattle.causal_workers.specs.Streaming.{IsStreamVerdict};
 ghost use Rattle.causal_workers.specs.declared.looks.Looks.{Looks};
-ghost use Rattle.causal_commands.specs.Replies.{IsEarlyReply, IsFound, IsVerdictReply};
+ghost use Rattle.causal_commands.specs.Answers.{IsEarlyAnswer, IsFound, IsVerdictAnswer};
 ghost use Rattle.causal_commands.specs.Inside.Answers.{IsFaultless, ReportsFault, WritesNothing};
 
-use crate::answer::{Answer, ended_of};
+use crate::answer::{PrintedAnswer, ended_of};
+use causal_answers::{Answer, Finding, answer_text};
+use causal_facts::Form;
 use causal_name::NoMemory;
 use causal_outcomes::Ended;
-use causal_replies::{Finding, Form, Reply, reply_text};
 use causal_text::{ReadError, TextKind, TextRefusal};
 use causal_workers::{AuditFault, Judged, StreamVerdict, VerdictError};
 use std::alloc::Global;
 
-/// The reply to a text, the ending after it is written, and, if it reports an error, that error with its context.
+/// The answer to a text, the ending after it is written, and, if it reports an error, that error with its context.
 #[derive(Drop)]
 pub(crate) struct Response {
     pub ended: Ended,
-    pub reply: Reply,
+    pub answer: Answer,
     pub refusal: Option<TextRefusal>,
 }
 
-/// Prints a reply, as lines or as JSON.
-pub(crate) fn printed_answer(alloc: Global, form: Form, response: Response) -> Result<Answer, Ended>
-    ensures line { IfOk result (λ answer. IsReplyText form response.reply answer.line.items) }
+/// Prints an answer, as lines or as JSON.
+pub(crate) fn printed_answer(
+    alloc: Global,
+    form: Form,
+    response: Response,
+) -> Result<PrintedAnswer, Ended>
+    ensures line { IfOk result (λ answer. IsAnswerText form response.answer answer.line.items) }
     ensures ended { IfOk result (λ answer. answer.ended ≡ response.ended) }
     ensures rejected { IfOk result (λ answer. answer.refusal ≡ response.refusal) }
     ensures err { IfErr result (λ ended. ended ≡ Ended.NoMemory) }
 {
     let Response {
         ended,
-        reply,
+        answer,
         refusal,
     } = response;
-    match reply_text(alloc, form, &reply) {
-        Ok(line) => Ok(Answer {
+    match answer_text(alloc, form, &answer) {
+        Ok(line) => Ok(PrintedAnswer {
             ended,
             line,
             refusal,
@@ -53,12 +58,12 @@ pub(crate) fn found(
     refusal: Option<TextRefusal>,
 ) -> Response
     ensures ended { result.ended ≡ ended }
-    ensures reply { IsFound finding [] result.reply }
+    ensures answer { IsFound finding [] result.answer }
     ensures refusal { result.refusal ≡ refusal }
 {
     Response {
         ended,
-        reply: Reply::Found {
+        answer: Answer::Found {
             finding,
             facts: Vec::new(alloc),
         },
@@ -66,21 +71,21 @@ pub(crate) fn found(
     }
 }
 
-/// Returns the reply with a verdict.
+/// Returns the answer with a verdict.
 pub(crate) fn verdict_response(alloc: Global, f: u16, judged: Judged) -> Response
-    ensures reply { (most : ℕ) (text : List ℕ) → IsJudgementWithin most text f judged
-        → IsVerdictReply most text f result.ended result.reply }
+    ensures answer { (most : ℕ) (text : List ℕ) → IsJudgementWithin most text f judged
+        → IsVerdictAnswer most text f result.ended result.answer }
     ensures faultless { IsFaultless result }
 {
     let ended = ended_of(judged.verdict);
     found(alloc, ended, Finding::Verdict { f, judged }, None)
 }
 
-/// Returns the reply with an early or whole verdict.
+/// Returns the answer with an early or whole verdict.
 pub(crate) fn stream_response(alloc: Global, f: u16, known: StreamVerdict) -> Response
-    ensures reply { (looks : Looks) (most : ℕ) (text : List ℕ)
+    ensures answer { (looks : Looks) (most : ℕ) (text : List ℕ)
         → IsStreamVerdict looks most text f known
-        → IsEarlyReply looks most text f result.ended result.reply }
+        → IsEarlyAnswer looks most text f result.ended result.answer }
     ensures faultless { IsFaultless result }
 {
     match known {
@@ -99,7 +104,7 @@ pub(crate) fn stream_response(alloc: Global, f: u16, known: StreamVerdict) -> Re
     }
 }
 
-/// Returns the reply with the first error of a text without reply, or the ending if there is nothing to write.
+/// Returns the answer with the first error of a text without answer, or the ending if there is nothing to write.
 pub(crate) fn fault_response(alloc: Global, unjudged: VerdictError) -> Result<Response, Ended>
     ensures ok { IfOk result (ReportsFault unjudged) }
     ensures err { IfErr result WritesNothing }

@@ -3,11 +3,11 @@ ghost use Rattle.std.specs.Prelude.{◌≡◌, ◌≤◌};
 ghost use Rattle.causal_text.specs.Streams.{StopsWithin};
 ghost use Rattle.causal_reading.specs.Reads.{max_read};
 ghost use Rattle.causal_trace.specs.Limits.{default_entries};
-ghost use Rattle.causal_commands.specs.Answers.{WritesFor};
+ghost use Rattle.causal_commands.specs.PrintedAnswers.{WritesFor};
 
 use crate::question::{Question, answer_question};
+use causal_facts::Form;
 use causal_outcomes::Ended;
-use causal_replies::Form;
 use causal_trace::limits::DEFAULT_LIMITS;
 use causal_workers::Gate;
 use std::alloc::Global;

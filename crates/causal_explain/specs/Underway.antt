@@ -47,9 +47,9 @@ send_delivered (Deliver to send rsn listed) = Some send
 send_delivered _ = None
 
 -- the position of the send whose message the entry at a position delivers
-abbrev pub send_of : List Entry → Option ℕ → Option ℕ
-send_of past delivery = option_and_then (λ j. option_and_then send_delivered (entry_at past j)) delivery
+abbrev pub delivered_send : List Entry → Option ℕ → Option ℕ
+delivered_send past delivery = option_and_then (λ j. option_and_then send_delivered (entry_at past j)) delivery
 
 -- the first late delivery of d by a message sent before the one that left d out; None if no message left it out
 abbrev pub FirstUnderway : List Entry → ℕ → Det → Option ℕ → Option ℕ → Type 0
-FirstUnderway past t d unlisted found = MatchOption (send_of past unlisted) (found ≡ None) (λ k. FirstLate past t k d found)
+FirstUnderway past t d unlisted found = MatchOption (delivered_send past unlisted) (found ≡ None) (λ k. FirstLate past t k d found)

@@ -42,7 +42,7 @@ fn is_of_kind(kind: EventKind, entry: &Entry, standings: &[Validity]) -> bool
 }
 
 /// Returns for each entry whether it is of the kind.
-pub(crate) fn marks_of(
+pub(crate) fn events_of_kind(
     alloc: Global,
     kind: EventKind,
     entries: &[Entry],

@@ -4,7 +4,7 @@ ghost use Rattle.causal_trace.specs.Past.{instant};
 ghost use Rattle.causal_explain.specs.Chains.{first_lacking};
 ghost use Rattle.causal_explain.specs.Inside.Marks.{first_in};
 
-use crate::marks::{EventKind, marks_of};
+use crate::marks::{EventKind, events_of_kind};
 use causal_name::{Det, NoMemory};
 use causal_trace::trace::Trace;
 use std::alloc::Global;
@@ -22,7 +22,7 @@ pub(crate) fn first_lacking(
     ensures { IfOk result
         (λ found. found ≡ first_lacking (instant trace.now.recording.past end) det chain.now) }
 {
-    let marks = marks_of(
+    let marks = events_of_kind(
         alloc,
         EventKind::DeliveryWithoutDet,
         &trace.entries()[..end as usize],

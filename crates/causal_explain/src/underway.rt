@@ -6,12 +6,12 @@ ghost use Rattle.causal_trace.specs.declared.entry.Entry.{Entry};
 ghost use Rattle.causal_trace.specs.Dependence.{is_delivery_of};
 ghost use Rattle.causal_trace.specs.Limits.{max_entries};
 ghost use Rattle.causal_trace.specs.Past.{logs};
-ghost use Rattle.causal_explain.specs.Underway.{FirstLate, FirstUnderway, arrives_late, send_of};
+ghost use Rattle.causal_explain.specs.Underway.{FirstLate, FirstUnderway, arrives_late, delivered_send};
 ghost use Rattle.causal_explain.specs.Inside.Transits.{AreInTransit};
 ghost use Rattle.causal_explain.specs.Inside.Validities.{AreValidities};
 
 use crate::holdings::{holder_validity, lists_det, log_has_det};
-use crate::marks::{EventKind, marks_of};
+use crate::marks::{EventKind, events_of_kind};
 use crate::validity::Validity;
 use causal_name::{Det, NoMemory};
 use causal_trace::entry::Entry;
@@ -47,7 +47,7 @@ fn sends_in_transit(alloc: Global, entries: &[Entry], det: Det) -> Result<Vec<bo
     requires { length entries.now ≤ max_entries }
     ensures { IfOk result (λ sends. AreInTransit (reverse entries.now) det sends.items) }
 {
-    let mut sends = marks_of(alloc, EventKind::SendByHolder, entries, det)?;
+    let mut sends = events_of_kind(alloc, EventKind::SendByHolder, entries, det)?;
     unmark_each_delivered(sends.as_mut_slice(), entries);
     Ok(sends)
 }
@@ -128,8 +128,8 @@ fn first_late(
 }
 
 /// Returns the position of the send whose message the entry at a position delivers.
-fn send_of(trace: &Trace, delivery: Option<u32>) -> Option<u32>
-    ensures { result ≡ send_of trace.now.recording.past delivery }
+fn delivered_send(trace: &Trace, delivery: Option<u32>) -> Option<u32>
+    ensures { result ≡ delivered_send trace.now.recording.past delivery }
 {
     match trace.entry(delivery?) {
         Some(Entry::Deliver { send, .. }) => Some(*send),
@@ -152,7 +152,7 @@ pub(crate) fn first_underway(
     requires { end ≤ length trace.now.recording.past }
     ensures { IfOk result (FirstUnderway trace.now.recording.past end det unlisted) }
 {
-    match send_of(trace, unlisted) {
+    match delivered_send(trace, unlisted) {
         Some(before) => first_late(alloc, trace.entries(), end, before, det),
         None => Ok(None),
     }

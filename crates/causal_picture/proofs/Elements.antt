@@ -4,16 +4,16 @@ use Rattle.std.proofs.lemmas.List.{append-nil, take_more}
 use Rattle.std.specs.Prelude.{◌==◌, codes, Option}
 use Rattle.std.specs.List.{list_any}
 use Rattle.causal_picture.specs.declared.focus.Focus.{Focus}
-use Rattle.causal_picture.specs.declared.part.Part.{Part}
-use Rattle.causal_picture.specs.Pictures.{AreElements, HasElements, IsElement, IsFoot, IsGroup, IsHead, IsOpening, opening_text, verdict_text}
+use Rattle.causal_picture.specs.declared.part.DrawnPart.{DrawnPart}
+use Rattle.causal_picture.specs.Pictures.{AreElements, HasElements, IsElement, IsFoot, IsGroup, IsSvgStart, IsGroupStart, opening_text, verdict_text}
 
 -- the start of a group, and the start of its title after it
 pub opening_written : (x y z attributes title : List ℕ) → list_any (λ byte. byte == 60) attributes ≡ false
-    → y ≡ x ++ opening_text attributes [] → z ≡ y ++ title → (added : List ℕ) × IsOpening title added × (z ≡ x ++ added)
+    → y ≡ x ++ opening_text attributes [] → z ≡ y ++ title → (added : List ℕ) × IsGroupStart title added × (z ≡ x ++ added)
 opening_written x y z attributes title closed first last = (opening_text attributes title, (attributes, closed, refl), rw (last, first) (simp append_assoc))
 
 -- a group, from its start to its end
-pub group_written : (x y z w title : List ℕ) → ((added : List ℕ) × IsOpening title added × (y ≡ x ++ added)) → ((added : List ℕ) × (z ≡ y ++ added))
+pub group_written : (x y z w title : List ℕ) → ((added : List ℕ) × IsGroupStart title added × (y ≡ x ++ added)) → ((added : List ℕ) × (z ≡ y ++ added))
     → w ≡ z ++ codes "</g>\n" → (added : List ℕ) × IsGroup title added × (w ≡ x ++ added)
 group_written x y z w title (opening, starts, first) (inside, second) last =
     (opening ++ (inside ++ codes "</g>\n"), (opening, inside, starts, refl), rw (last, second, first) (simp append_assoc))
@@ -31,23 +31,23 @@ foot_written x y z w v start faults focus first second (rest, third) last =
     (start ++ (said ++ (rest ++ codes "</svg>\n")), (start, rest, refl), rw (last, third, second, first) (simp append_assoc))
 
 -- the head, the elements and the foot
-pub picture_written : (x y z w : List ℕ) (faults : ℕ) (focus : Option Focus) (parts : List Part) → ((added : List ℕ) × IsHead added × (y ≡ x ++ added))
+pub picture_written : (x y z w : List ℕ) (faults : ℕ) (focus : Option Focus) (parts : List DrawnPart) → ((added : List ℕ) × IsSvgStart added × (y ≡ x ++ added))
     → ((added : List ℕ) × AreElements parts added × (z ≡ y ++ added)) → ((added : List ℕ) × IsFoot faults focus added × (w ≡ z ++ added))
     → (added : List ℕ) × HasElements faults focus parts added × (w ≡ x ++ added)
 picture_written x y z w faults focus parts (head, starts, first) (body, each, second) (foot, ends, last) =
     (head ++ (body ++ foot), record { head = head; body = body; foot = foot; starts = starts; each = each; ends = ends; whole = refl }, rw (last, second, first) (simp append_assoc))
 
 -- one more element makes up one more part
-pub elements-more : (parts : List Part) (part : Part) (text own : List ℕ) → AreElements parts text → IsElement part own → AreElements (parts ++ (part ∷ [])) (text ++ own)
+pub elements-more : (parts : List DrawnPart) (part : DrawnPart) (text own : List ℕ) → AreElements parts text → IsElement part own → AreElements (parts ++ (part ∷ [])) (text ++ own)
 elements-more [] part text own none is = (own, [], is, refl, rw none (sym (append-nil own)))
 elements-more (p ∷ parts) part text own (first, rest, here, there, whole) is =
     (first, rest ++ own, here, elements-more parts part rest own there is, rw whole (append_assoc first rest own))
 
-take_part : (parts xs : List Part) (i : ℕ) (d : Part) → xs ≡ parts → i < length xs → take (i + 1) parts ≡ take i parts ++ (get_or xs i d ∷ [])
+take_part : (parts xs : List DrawnPart) (i : ℕ) (d : DrawnPart) → xs ≡ parts → i < length xs → take (i + 1) parts ≡ take i parts ++ (get_or xs i d ∷ [])
 take_part parts xs i d same within = rw (sym same) (take_more xs i d within)
 
 -- the element of the next part, after those of the parts before it
-pub part_written : (parts xs : List Part) (i : ℕ) (d : Part) (x y z : List ℕ) → xs ≡ parts → i < length xs
+pub part_written : (parts xs : List DrawnPart) (i : ℕ) (d : DrawnPart) (x y z : List ℕ) → xs ≡ parts → i < length xs
     → ((added : List ℕ) × AreElements (take i parts) added × (y ≡ x ++ added)) → ((own : List ℕ) × IsElement (get_or xs i d) own × (z ≡ y ++ own))
     → (added : List ℕ) × AreElements (take (i + 1) parts) added × (z ≡ x ++ added)
 part_written parts xs i d x y z same within (text, each, first) (own, is, last) = (

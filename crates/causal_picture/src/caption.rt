@@ -9,8 +9,8 @@ use causal_trace::entry::line_at;
 use std::alloc::AllocError;
 
 /// The word of the verdict. Without a focus the run is safe; without an orphan too many processes are down.
-fn verdict_word(focus: Option<&Focus<'_>>) -> &'static str
-    ensures { result.now ≡ pictures.verdict_word (option_copied focus.entry) }
+fn focus_word(focus: Option<&Focus<'_>>) -> &'static str
+    ensures { result.now ≡ pictures.focus_word (option_copied focus.entry) }
 {
     match focus {
         Some(focus) => match &focus.orphan {
@@ -30,7 +30,7 @@ pub fn push_verdict(
     ensures { Adds result (string_bytes out.old) (string_bytes out.new)
         (pictures.verdict_text faults (option_copied focus.entry)) }
 {
-    let word = verdict_word(focus);
+    let word = focus_word(focus);
     write!(out, "{word} f={faults}")
 }
 

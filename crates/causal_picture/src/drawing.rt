@@ -13,7 +13,7 @@ use crate::entry_range::{EntryRange, Grid, grid_around};
 use crate::focus::{Band, Focus, Orphan};
 use crate::layout::is_shown;
 use crate::marks::{Mark, MarkEvent, mark_at, marks_of};
-use crate::part::{End, Link, Part, Side};
+use crate::part::{DrawnPart, LineEnd, Link, Side};
 use crate::resent::is_resent;
 use crate::rows::hidden_of;
 use crate::selection::Selection;
@@ -23,7 +23,7 @@ use causal_trace::Trace;
 use std::alloc::Global;
 
 /// Adds a part.
-fn add(parts: &mut Vec<Part>, part: Part) -> Result<(), NoMemory>
+fn add(parts: &mut Vec<DrawnPart>, part: DrawnPart) -> Result<(), NoMemory>
     ensures { Adds result parts.old.items parts.new.items (part ∷ []) }
 {
     parts.push(part)?;
@@ -31,13 +31,13 @@ fn add(parts: &mut Vec<Part>, part: Part) -> Result<(), NoMemory>
 }
 
 /// Adds the rows of the shown processes.
-fn add_rows(parts: &mut Vec<Part>, grid: &Grid, crash: Holders) -> Result<(), NoMemory>
+fn add_rows(parts: &mut Vec<DrawnPart>, grid: &Grid, crash: Holders) -> Result<(), NoMemory>
     ensures { Adds result parts.old.items parts.new.items (drawn.rows_of_shown grid.now crash) }
 {
     for process in grid.shown.iter() {
         add(
             parts,
-            Part::Row {
+            DrawnPart::Row {
                 process,
                 is_shaded: crash.contains(process),
             },
@@ -64,20 +64,20 @@ fn line_end(marks: &[Mark], process: u8, from: u32) -> Option<&Mark>
 }
 
 /// Where the line of a process from position `from` on ends: at its next crash among the marks of a range.
-fn crash_from(marks: &[Mark], process: u8, from: u32) -> End
+fn crash_from(marks: &[Mark], process: u8, from: u32) -> LineEnd
     ensures { result ≡ drawn.crash_from marks.now process from }
 {
     match line_end(marks, process, from) {
-        Some(mark) => End::Entry {
+        Some(mark) => LineEnd::Entry {
             position: mark.position,
         },
-        None => End::Open,
+        None => LineEnd::Open,
     }
 }
 
 /// Adds the line of a process, unless it is down where the range begins.
 fn add_up(
-    parts: &mut Vec<Part>,
+    parts: &mut Vec<DrawnPart>,
     is_late: bool,
     marks: &[Mark],
     process: u8,
@@ -91,7 +91,7 @@ fn add_up(
     }
     add(
         parts,
-        Part::Up {
+        DrawnPart::Up {
             process,
             is_late,
             to: crash_from(marks, process, 0),
@@ -101,7 +101,7 @@ fn add_up(
 
 /// Adds the lines of the shown processes that are up where a range begins.
 fn add_ups(
-    parts: &mut Vec<Part>,
+    parts: &mut Vec<DrawnPart>,
     trace: &Trace,
     grid: &Grid,
     is_late: bool,
@@ -140,7 +140,7 @@ fn link_of(grid: &Grid, marks: &[Mark], mark: &Mark) -> Link
 
 /// Adds an event with its arrow or line if its process is shown. Reads the entries before it: O(position) time.
 fn add_event(
-    parts: &mut Vec<Part>,
+    parts: &mut Vec<DrawnPart>,
     trace: &Trace,
     grid: &Grid,
     marks: &[Mark],
@@ -154,7 +154,7 @@ fn add_event(
     }
     add(
         parts,
-        Part::Event {
+        DrawnPart::Event {
             mark: *mark,
             is_faint: is_resent(trace, mark),
             link: link_of(grid, marks, mark),
@@ -164,13 +164,13 @@ fn add_event(
 
 /// Adds the events of shown processes, in order.
 fn add_events(
-    parts: &mut Vec<Part>,
+    parts: &mut Vec<DrawnPart>,
     trace: &Trace,
     grid: &Grid,
     marks: &[Mark],
 ) -> Result<(), NoMemory>
     ensures { Adds result parts.old.items parts.new.items
-        (drawn.events_of trace.now.recording grid.now marks.now marks.now) }
+        (drawn.event_parts trace.now.recording grid.now marks.now marks.now) }
 {
     for mark in marks {
         add_event(parts, trace, grid, marks, mark)?;
@@ -189,7 +189,7 @@ fn down_before(trace: &Trace, range: EntryRange) -> Holders
 /// Adds the lines and events of a range.
 fn add_range(
     alloc: Global,
-    parts: &mut Vec<Part>,
+    parts: &mut Vec<DrawnPart>,
     trace: &Trace,
     grid: &Grid,
     is_late: bool,
@@ -206,7 +206,12 @@ fn add_range(
 }
 
 /// Adds the lines and events of both ranges.
-fn add_run(alloc: Global, parts: &mut Vec<Part>, trace: &Trace, grid: &Grid) -> Result<(), NoMemory>
+fn add_run(
+    alloc: Global,
+    parts: &mut Vec<DrawnPart>,
+    trace: &Trace,
+    grid: &Grid,
+) -> Result<(), NoMemory>
     requires { ranges.GridFits (length trace.now.recording.past) grid.now }
     ensures { Adds result parts.old.items parts.new.items
         (drawn.run_parts trace.now.recording grid.now) }
@@ -219,17 +224,22 @@ fn add_run(alloc: Global, parts: &mut Vec<Part>, trace: &Trace, grid: &Grid) -> 
 }
 
 /// Where a band ends.
-fn end_of(to: Option<u32>) -> End
-    ensures { result ≡ drawn.end_of to }
+fn band_end(to: Option<u32>) -> LineEnd
+    ensures { result ≡ drawn.band_end to }
 {
     match to {
-        Some(position) => End::Entry { position },
-        None => End::Open,
+        Some(position) => LineEnd::Entry { position },
+        None => LineEnd::Open,
     }
 }
 
 /// Adds a band if its process is shown.
-fn add_band(parts: &mut Vec<Part>, grid: &Grid, instant: u32, band: Band) -> Result<(), NoMemory>
+fn add_band(
+    parts: &mut Vec<DrawnPart>,
+    grid: &Grid,
+    instant: u32,
+    band: Band,
+) -> Result<(), NoMemory>
     ensures { Adds result parts.old.items parts.new.items (drawn.shown_band grid.now instant band) }
 {
     if !grid.shown.contains(band.process) {
@@ -237,10 +247,10 @@ fn add_band(parts: &mut Vec<Part>, grid: &Grid, instant: u32, band: Band) -> Res
     }
     add(
         parts,
-        Part::Held {
+        DrawnPart::Held {
             process: band.process,
             from: band.from,
-            to: end_of(band.to),
+            to: band_end(band.to),
             instant,
         },
     )
@@ -248,13 +258,13 @@ fn add_band(parts: &mut Vec<Part>, grid: &Grid, instant: u32, band: Band) -> Res
 
 /// Adds the bands of shown processes.
 fn add_bands(
-    parts: &mut Vec<Part>,
+    parts: &mut Vec<DrawnPart>,
     grid: &Grid,
     instant: u32,
     bands: &[Band],
 ) -> Result<(), NoMemory>
     ensures { Adds result parts.old.items parts.new.items
-        (drawn.bands_of grid.now instant bands.now) }
+        (drawn.shown_bands grid.now instant bands.now) }
 {
     for band in bands {
         add_band(parts, grid, instant, *band)?;
@@ -304,18 +314,18 @@ fn chain_marks(
 }
 
 /// Adds the chain, if some of it is shown.
-fn add_chain(parts: &mut Vec<Part>, marks: &[Mark]) -> Result<(), NoMemory>
+fn add_chain(parts: &mut Vec<DrawnPart>, marks: &[Mark]) -> Result<(), NoMemory>
     ensures { Adds result parts.old.items parts.new.items (drawn.chain_part marks.now) }
 {
     if marks.is_empty() {
         return Ok(());
     }
-    add(parts, Part::Chain)
+    add(parts, DrawnPart::Chain)
 }
 
 /// Adds the bands, the chain and the instant of a focus, if there is one.
 fn add_focus(
-    parts: &mut Vec<Part>,
+    parts: &mut Vec<DrawnPart>,
     trace: &Trace,
     grid: &Grid,
     focus: Option<&Focus<'_>>,
@@ -332,21 +342,21 @@ fn add_focus(
     let instant = focus.instant.min(trace.len());
     add_bands(parts, grid, instant, focus.bands)?;
     add_chain(parts, chain)?;
-    add(parts, Part::Instant { instant })
+    add(parts, DrawnPart::Instant { instant })
 }
 
 /// Adds a number of hidden entries, if there are any.
-fn add_hidden(parts: &mut Vec<Part>, side: Side, count: u32) -> Result<(), NoMemory>
+fn add_hidden(parts: &mut Vec<DrawnPart>, side: Side, count: u32) -> Result<(), NoMemory>
     ensures { Adds result parts.old.items parts.new.items (drawn.hidden_entries side count) }
 {
     if count == 0 {
         return Ok(());
     }
-    add(parts, Part::HiddenEntries { side, count })
+    add(parts, DrawnPart::HiddenEntries { side, count })
 }
 
 /// Adds the numbers of hidden entries: before the shown ones, between the ranges and after them.
-fn add_cuts(parts: &mut Vec<Part>, grid: &Grid, entries: u32) -> Result<(), NoMemory>
+fn add_cuts(parts: &mut Vec<DrawnPart>, grid: &Grid, entries: u32) -> Result<(), NoMemory>
     requires { ranges.GridFits entries grid.now }
     ensures { Adds result parts.old.items parts.new.items (drawn.cuts_of grid.now entries) }
 {
@@ -361,13 +371,13 @@ fn add_cuts(parts: &mut Vec<Part>, grid: &Grid, entries: u32) -> Result<(), NoMe
 }
 
 /// Adds a number of hidden processes, if there are any.
-fn add_hidden_processes(parts: &mut Vec<Part>, count: u16) -> Result<(), NoMemory>
+fn add_hidden_processes(parts: &mut Vec<DrawnPart>, count: u16) -> Result<(), NoMemory>
     ensures { Adds result parts.old.items parts.new.items (drawn.hidden_processes count) }
 {
     if count == 0 {
         return Ok(());
     }
-    add(parts, Part::HiddenProcesses { count })
+    add(parts, DrawnPart::HiddenProcesses { count })
 }
 
 /// The crash set of a focus.
@@ -413,7 +423,7 @@ fn parts_of(
     grid: &Grid,
     focus: Option<&Focus<'_>>,
     chain: &[Mark],
-) -> Result<Vec<Part>, NoMemory>
+) -> Result<Vec<DrawnPart>, NoMemory>
     requires fits { ranges.GridFits (length trace.now.recording.past) grid.now }
     requires chain { chain.now
         ≡ drawn.marks_of_focus trace.now.recording.past grid.now (option_copied focus) }
@@ -433,7 +443,7 @@ fn parts_of(
 #[derive(Drop)]
 pub struct Drawing {
     pub grid: Grid,
-    pub parts: Vec<Part>,
+    pub parts: Vec<DrawnPart>,
     /// The marks of the chain's shown entries.
     pub chain: Vec<Mark>,
     pub orphan: Option<Orphan>,

@@ -8,7 +8,7 @@ use crate::drawing::Drawing;
 use crate::event::push_event;
 use crate::frame::{push_cut, push_hidden, push_row, push_up_line};
 use crate::overlay::{push_band, push_chain, push_instant};
-use crate::part::Part;
+use crate::part::DrawnPart;
 use crate::words::push_words;
 use causal_trace::Trace;
 use causal_trace::entry::line_at;
@@ -16,12 +16,12 @@ use std::alloc::AllocError;
 
 /// The attributes of a part's group: an event whose message is sent again is faint, and the chain receives no pointer
 /// events, so the titles of the events below it stay readable.
-fn attributes_of(part: &Part) -> &'static str
+fn attributes_of(part: &DrawnPart) -> &'static str
     ensures { list_any (λ byte. byte == 60) result.now ≡ false }
 {
     match part {
-        Part::Event { is_faint: true, .. } => " opacity='0.4'",
-        Part::Chain => " pointer-events='none'",
+        DrawnPart::Event { is_faint: true, .. } => " opacity='0.4'",
+        DrawnPart::Chain => " pointer-events='none'",
         _ => "",
     }
 }
@@ -35,27 +35,27 @@ fn push_start(out: &mut String, attributes: &str) -> Result<(), AllocError>
 }
 
 /// Appends the start of a part's title.
-fn push_title_start(out: &mut String, part: &Part) -> Result<(), AllocError>
+fn push_title_start(out: &mut String, part: &DrawnPart) -> Result<(), AllocError>
     ensures { Adds result (string_bytes out.old) (string_bytes out.new) (pictures.title_of part.now) }
 {
     match *part {
-        Part::Row { process, .. } => write!(out, "process {process}"),
-        Part::Up { process, .. } => write!(out, "process {process}"),
-        Part::Event { mark, .. } => {
+        DrawnPart::Row { process, .. } => write!(out, "process {process}"),
+        DrawnPart::Up { process, .. } => write!(out, "process {process}"),
+        DrawnPart::Event { mark, .. } => {
             let line = line_at(mark.position);
             write!(out, "line {line}")
         }
-        Part::Held { .. } => Ok(()),
-        Part::Chain => write!(out, "chain"),
-        Part::Instant { instant } => write!(out, "instant {instant}"),
-        Part::HiddenEntries { count, .. } => write!(out, "{count} entries"),
-        Part::HiddenProcesses { count } => write!(out, "{count} processes"),
+        DrawnPart::Held { .. } => Ok(()),
+        DrawnPart::Chain => write!(out, "chain"),
+        DrawnPart::Instant { instant } => write!(out, "instant {instant}"),
+        DrawnPart::HiddenEntries { count, .. } => write!(out, "{count} entries"),
+        DrawnPart::HiddenProcesses { count } => write!(out, "{count} processes"),
     }
 }
 
 /// Appends the start of a part's group, up to the start of its title.
-fn push_opening(out: &mut String, part: &Part) -> Result<(), AllocError>
-    ensures { Writes result out.old out.new (pictures.IsOpening (pictures.title_of part.now)) }
+fn push_opening(out: &mut String, part: &DrawnPart) -> Result<(), AllocError>
+    ensures { Writes result out.old out.new (pictures.IsGroupStart (pictures.title_of part.now)) }
 {
     push_start(out, attributes_of(part))?;
     push_title_start(out, part)
@@ -66,24 +66,24 @@ fn push_inside(
     out: &mut String,
     trace: &Trace,
     drawing: &Drawing,
-    part: &Part,
+    part: &DrawnPart,
 ) -> Result<(), AllocError>
     ensures { Extends result out.old out.new }
 {
     let grid = &drawing.grid;
     match part {
-        Part::Row { process, is_shaded } => push_row(out, grid, *process, *is_shaded),
-        Part::Up {
+        DrawnPart::Row { process, is_shaded } => push_row(out, grid, *process, *is_shaded),
+        DrawnPart::Up {
             process,
             is_late,
             to,
         } => push_up_line(out, grid, *process, *is_late, *to),
-        Part::Event { mark, link, .. } => push_event(out, trace, grid, mark, *link),
-        Part::Held { .. } => Ok(()),
-        Part::Chain => push_chain(out, grid, drawing.chain.as_slice()),
-        Part::Instant { instant } => push_instant(out, grid, *instant, &drawing.orphan),
-        Part::HiddenEntries { side, count } => push_cut(out, grid, *side, *count),
-        Part::HiddenProcesses { count } => push_hidden(out, grid, *count),
+        DrawnPart::Event { mark, link, .. } => push_event(out, trace, grid, mark, *link),
+        DrawnPart::Held { .. } => Ok(()),
+        DrawnPart::Chain => push_chain(out, grid, drawing.chain.as_slice()),
+        DrawnPart::Instant { instant } => push_instant(out, grid, *instant, &drawing.orphan),
+        DrawnPart::HiddenEntries { side, count } => push_cut(out, grid, *side, *count),
+        DrawnPart::HiddenProcesses { count } => push_hidden(out, grid, *count),
     }
 }
 
@@ -92,7 +92,7 @@ fn push_group(
     out: &mut String,
     trace: &Trace,
     drawing: &Drawing,
-    part: &Part,
+    part: &DrawnPart,
 ) -> Result<(), AllocError>
     ensures { Writes result out.old out.new (pictures.IsGroup (pictures.title_of part.now)) }
 {
@@ -106,24 +106,24 @@ fn push_part(
     out: &mut String,
     trace: &Trace,
     drawing: &Drawing,
-    part: &Part,
+    part: &DrawnPart,
 ) -> Result<(), AllocError>
     ensures { Writes result out.old out.new (pictures.IsElement part.now) }
 {
     match part {
-        Part::Held {
+        DrawnPart::Held {
             process,
             from,
             to,
             instant,
         } => push_band(out, &drawing.grid, *process, *from, *to, *instant),
-        Part::Row { .. } => push_group(out, trace, drawing, part),
-        Part::Up { .. } => push_group(out, trace, drawing, part),
-        Part::Event { .. } => push_group(out, trace, drawing, part),
-        Part::Chain => push_group(out, trace, drawing, part),
-        Part::Instant { .. } => push_group(out, trace, drawing, part),
-        Part::HiddenEntries { .. } => push_group(out, trace, drawing, part),
-        Part::HiddenProcesses { .. } => push_group(out, trace, drawing, part),
+        DrawnPart::Row { .. } => push_group(out, trace, drawing, part),
+        DrawnPart::Up { .. } => push_group(out, trace, drawing, part),
+        DrawnPart::Event { .. } => push_group(out, trace, drawing, part),
+        DrawnPart::Chain => push_group(out, trace, drawing, part),
+        DrawnPart::Instant { .. } => push_group(out, trace, drawing, part),
+        DrawnPart::HiddenEntries { .. } => push_group(out, trace, drawing, part),
+        DrawnPart::HiddenProcesses { .. } => push_group(out, trace, drawing, part),
     }
 }
 

@@ -1,6 +1,6 @@
 //! The parts around the events: the head, the processes' rows, the marks for hidden entries.
 ghost use Rattle.std.specs.Prelude.{◌<◌};
-ghost use Rattle.causal_picture.specs.Pictures.{IsHead};
+ghost use Rattle.causal_picture.specs.Pictures.{IsSvgStart};
 ghost use Rattle.causal_picture.specs.Writes.{Extends, Writes};
 
 use crate::entry_range::Grid;
@@ -9,7 +9,7 @@ use crate::layout::{
     bottom_of, column_count, height_of, line_end, range_left, right_of, row_height, width_of,
     x_of_instant, y_of,
 };
-use crate::part::{End, Side};
+use crate::part::{LineEnd, Side};
 use crate::rows::{hidden_of, rows_of};
 use crate::words::push_words;
 use causal_trace::entry::line_at;
@@ -42,7 +42,7 @@ fn push_description(out: &mut String, grid: &Grid, entries: u32) -> Result<(), A
 /// before the end of the arrow's line, outside the delivery's dot. The only variable parts in this file are numbers, so
 /// nothing needs escaping.
 pub fn push_head(out: &mut String, grid: &Grid, entries: u32) -> Result<(), AllocError>
-    ensures { Writes result out.old out.new IsHead }
+    ensures { Writes result out.old out.new IsSvgStart }
 {
     push_words(out, "<svg xmlns='http://www.w3.org/2000/svg'")?;
     push_start(out, grid, entries)
@@ -135,7 +135,7 @@ pub fn push_up_line(
     grid: &Grid,
     process: u8,
     is_late: bool,
-    to: End,
+    to: LineEnd,
 ) -> Result<(), AllocError>
     ensures { Extends result out.old out.new }
 {

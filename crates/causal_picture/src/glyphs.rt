@@ -1,7 +1,7 @@
 //! Glyphs, lines and labels. Text and attributes contain only numbers and the words of this file, so nothing needs
 //! escaping. Attributes are in single quotes.
 ghost use Rattle.std.specs.Prelude.{◌≤◌};
-ghost use Rattle.causal_picture.specs.Pictures.{IsPath};
+ghost use Rattle.causal_picture.specs.Pictures.{IsSvgPath};
 ghost use Rattle.causal_picture.specs.Writes.{Extends, Writes};
 
 use crate::marks::MarkEvent;
@@ -81,7 +81,7 @@ pub fn push_level(
     y: u32,
     stroke: &str,
 ) -> Result<(), AllocError>
-    ensures { Writes result out.old out.new IsPath }
+    ensures { Writes result out.old out.new IsSvgPath }
 {
     write!(out, "<path d='M{from} {y}H{to}' fill='none' {stroke}/>\n")
 }

@@ -4,7 +4,7 @@ ghost use Rattle.causal_picture.specs.Layout as layout;
 ghost use Rattle.causal_picture.specs.EntryRanges as stretches;
 
 use crate::entry_range::{EntryRange, Grid};
-use crate::part::End;
+use crate::part::LineEnd;
 use crate::rows::{rank_of, rows_of};
 
 /// The left end of the processes' lines.
@@ -118,11 +118,11 @@ pub fn range_left(grid: &Grid, is_late: bool) -> u64 {
 
 /// The right end of the line of a process from the entry at a position on: at its next crash, or at the end of the range
 /// of the entry.
-pub fn line_end(grid: &Grid, position: u32, to: End) -> u64 {
+pub fn line_end(grid: &Grid, position: u32, to: LineEnd) -> u64 {
     match to {
-        End::Entry { position: crash } => x_of(grid, crash),
-        End::Open if grid.late.count == 0 || is_within(grid.late, position) => right_of(grid),
-        End::Open => x_of_instant(grid, grid.late.first),
+        LineEnd::Entry { position: crash } => x_of(grid, crash),
+        LineEnd::Open if grid.late.count == 0 || is_within(grid.late, position) => right_of(grid),
+        LineEnd::Open => x_of_instant(grid, grid.late.first),
     }
 }
 

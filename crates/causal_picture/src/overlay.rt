@@ -1,13 +1,13 @@
 //! The parts over the events: the bands, the chain and the instant.
 ghost use Rattle.causal_picture.specs.Writes.{Extends, Writes};
-ghost use Rattle.causal_picture.specs.Pictures.{IsPath};
+ghost use Rattle.causal_picture.specs.Pictures.{IsSvgPath};
 
 use crate::entry_range::Grid;
 use crate::focus::Orphan;
 use crate::glyphs::{Glyph, Label, push_glyph, push_label, push_level, push_upright};
 use crate::layout::{bottom_of, x_of, x_of_instant, y_of};
 use crate::marks::Mark;
-use crate::part::End;
+use crate::part::LineEnd;
 use crate::roles::push_processes;
 use crate::rows::rows_of;
 use crate::words::push_words;
@@ -65,14 +65,14 @@ pub fn push_band(
     grid: &Grid,
     process: u8,
     from: u32,
-    to: End,
+    to: LineEnd,
     instant: u32,
 ) -> Result<(), AllocError>
-    ensures { Writes result out.old out.new IsPath }
+    ensures { Writes result out.old out.new IsSvgPath }
 {
     let end = match to {
-        End::Entry { position } => x_of(grid, position),
-        End::Open => x_of_instant(grid, instant),
+        LineEnd::Entry { position } => x_of(grid, position),
+        LineEnd::Open => x_of_instant(grid, instant),
     };
     push_level(
         out,

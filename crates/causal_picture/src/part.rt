@@ -3,7 +3,7 @@ use crate::marks::Mark;
 
 /// Where a line or a band ends: at the entry at a position, or only with its range or at the instant.
 #[derive(Clone, Copy)]
-pub enum End {
+pub enum LineEnd {
     Entry { position: u32 },
     Open,
 }
@@ -15,7 +15,7 @@ pub enum Link {
     /// The arrow of the delivered message, from its send.
     Arrow,
     /// The line of a process that restarts, to the entry of its next crash; without one, to the end of the range.
-    Line { to: End },
+    Line { to: LineEnd },
 }
 
 /// Where entries are hidden: before the shown ones, between the two ranges, or after them.
@@ -28,7 +28,7 @@ pub enum Side {
 
 /// A part of a picture.
 #[derive(Clone, Copy)]
-pub enum Part {
+pub enum DrawnPart {
     /// A process, shaded if it is in the crash set.
     Row {
         process: u8,
@@ -39,7 +39,7 @@ pub enum Part {
     Up {
         process: u8,
         is_late: bool,
-        to: End,
+        to: LineEnd,
     },
     /// An event, faint if its message is sent again.
     Event {
@@ -51,7 +51,7 @@ pub enum Part {
     Held {
         process: u8,
         from: u32,
-        to: End,
+        to: LineEnd,
         instant: u32,
     },
     /// The chain's shown entries.

@@ -9,11 +9,11 @@ use Rattle.causal_facts.specs.declared.event.ChainEvent.{ChainEvent}
 use Rattle.causal_facts.specs.declared.event.ChainEvent.TheVariants.{Send, Delivery, Other}
 
 -- a send, a delivery, or neither
-abbrev pub event_of : Entry → ChainEvent
-event_of (entry.Send from to ssn) = Send from.0 to.0 ssn
-event_of (entry.Deliver to send rsn listed) = Delivery to.0 send
-event_of _ = Other
+abbrev pub chain_event_of : Entry → ChainEvent
+chain_event_of (entry.Send from to ssn) = Send from.0 to.0 ssn
+chain_event_of (entry.Deliver to send rsn listed) = Delivery to.0 send
+chain_event_of _ = Other
 
 -- the event at a position; `Other` if there is no entry
 abbrev pub event_at : Recording → ℕ → ChainEvent
-event_at r position = option_map_or event_of (entry_at r.past position) Other
+event_at r position = option_map_or chain_event_of (entry_at r.past position) Other

@@ -103,7 +103,7 @@ fn breach_drawing(
 ///
 /// # Errors
 /// `NoMemory` if allocation failed.
-pub fn drawing_of(
+pub fn picture_with_verdict(
     alloc: Global,
     trace: &Trace,
     f: u16,
@@ -112,7 +112,7 @@ pub fn drawing_of(
     requires { IsVerdict trace.now.recording f verdict }
     ensures { IfOk result (λ text. IsDrawing trace.now.recording f verdict text.items) }
 {
-    selected_drawing_of(alloc, trace, f, verdict, Selection::whole())
+    selected_picture_with_verdict(alloc, trace, f, verdict, Selection::whole())
 }
 
 /// Draws the selected part of that diagram: entries around one, and all processes or those that the verdict concerns.
@@ -121,7 +121,7 @@ pub fn drawing_of(
 ///
 /// # Errors
 /// `NoMemory` if allocation failed.
-pub fn selected_drawing_of(
+pub fn selected_picture_with_verdict(
     alloc: Global,
     trace: &Trace,
     f: u16,

@@ -1,4 +1,4 @@
-//! The facts that explain a verdict on a recorded run, and its picture. Begin at [`facts_of`] and [`drawing_of`].
+//! The facts that explain a verdict on a recorded run, and its picture. Begin at [`facts_of`] and [`picture_with_verdict`].
 #![tactic(auto)]
 
 /// The space-time diagram of a trace, with its verdict.
@@ -14,7 +14,7 @@ pub mod strays;
 /// Who has the determinant of a delivery at an instant.
 mod survivors;
 
-pub use drawing::{drawing_of, selected_drawing_of};
+pub use drawing::{picture_with_verdict, selected_picture_with_verdict};
 pub use facts::facts_of;
 pub use reason::line_with_reason;
 pub use strays::survivor_facts;

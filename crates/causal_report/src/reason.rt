@@ -4,9 +4,9 @@ ghost use Rattle.causal_audit.specs.Verdicts.{IsVerdict};
 ghost use Rattle.causal_report.specs.Reasons.{IsReasonText};
 
 use crate::facts::facts_of;
+use causal_answers::facts_text;
 use causal_audit::Verdict;
 use causal_name::NoMemory;
-use causal_replies::facts_text;
 use causal_trace::trace::Trace;
 use std::alloc::Global;
 

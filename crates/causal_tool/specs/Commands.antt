@@ -2,7 +2,7 @@
 use Rattle.std.specs.Prelude.{◌≡◌, ℕ, List, Option}
 use Rattle.causal_outcomes.specs.declared.ended.Ended.{Ended}
 use Rattle.causal_commands.specs.declared.question.Question.TheVariants.{Reason}
-use Rattle.causal_commands.specs.Answers.{WritesFor}
+use Rattle.causal_commands.specs.PrintedAnswers.{WritesFor}
 use Rattle.causal_commands.specs.Drawings.{WritesDrawingFor}
 use Rattle.causal_commands.specs.Questions.{StopsFor, faults_of}
 use Rattle.causal_outcomes.specs.Diagnostics.{IsDiagnosisFor}

@@ -5,10 +5,8 @@ use Rattle.causal_arguments.specs.declared.subcommand.Subcommand.TheVariants.{Au
 use Rattle.causal_arguments.specs.declared.subcommand.Subcommand.TheVariants as command
 use Rattle.causal_arguments.specs.declared.subcommand.Until.TheVariants as until
 use Rattle.causal_workers.specs.declared.looks.Looks.TheVariants.{Checkpoints, Live}
-use Rattle.causal_arguments.specs.declared.subcommand.Form as asked
-use Rattle.causal_arguments.specs.declared.subcommand.Form.TheVariants as asked_as
-use Rattle.causal_replies.specs.declared.form.Form.{Form}
-use Rattle.causal_replies.specs.declared.form.Form.TheVariants.{Lines, Json}
+use Rattle.causal_facts.specs.declared.form.Form.{Form}
+use Rattle.causal_facts.specs.declared.form.Form.TheVariants.{Lines, Json}
 use Rattle.causal_commands.specs.Questions.{HasFewWorkers}
 use Rattle.causal_commands.specs.declared.question.Question.TheVariants.{Verdict, Breach, Reason, Range}
 use Rattle.causal_commands.specs.declared.question.Question.TheVariants as question_on
@@ -18,25 +16,20 @@ use Rattle.causal_outcomes.specs.declared.merge_command.Mapping.TheVariants.{Map
 use Rattle.causal_tool.specs.declared.invocation.Invocation.{Invocation}
 use Rattle.causal_tool.specs.declared.invocation.Invocation.TheVariants.{Trace, Draw, MappedReason, Merge, Run}
 
--- the form of an answer that is requested
-abbrev pub form_of : asked.Form → Form
-form_of asked_as.Lines = Lines
-form_of asked_as.Json = Json
-
 -- what `replays` reports besides a stray: JSON has the survivors too
-abbrev pub detail_of : asked.Form → StrayDetail
-detail_of asked_as.Lines = Line
-detail_of asked_as.Json = WithSurvivors
+abbrev pub stray_detail_of : Form → StrayDetail
+stray_detail_of Lines = Line
+stray_detail_of Json = WithSurvivors
 
 -- what a command requests: `explain` without a bound f requests all bounds
 abbrev pub invocation_of : Subcommand → Invocation
-invocation_of (Audit faults until.End form workers limits) = Trace (Verdict faults workers) (form_of form) limits
-invocation_of (Audit faults until.Breach form workers limits) = Trace (Breach faults workers Checkpoints) (form_of form) limits
-invocation_of (Audit faults until.LiveBreach form workers limits) = Trace (Breach faults workers Live) (form_of form) limits
-invocation_of (Explain (Some faults) form workers limits) = Trace (Reason faults workers) (form_of form) limits
-invocation_of (Explain None form workers limits) = Trace (Range workers) (form_of form) limits
+invocation_of (Audit faults until.End form workers limits) = Trace (Verdict faults workers) form limits
+invocation_of (Audit faults until.Breach form workers limits) = Trace (Breach faults workers Checkpoints) form limits
+invocation_of (Audit faults until.LiveBreach form workers limits) = Trace (Breach faults workers Live) form limits
+invocation_of (Explain (Some faults) form workers limits) = Trace (Reason faults workers) form limits
+invocation_of (Explain None form workers limits) = Trace (Range workers) form limits
 invocation_of (ExplainByMap faults workers limits) = MappedReason faults workers limits
-invocation_of (Replays form workers limits) = Trace (question_on.Replays workers (detail_of form)) (form_of form) limits
+invocation_of (Replays form workers limits) = Trace (question_on.Replays workers (stray_detail_of form)) form limits
 invocation_of (command.Draw faults around only_breach workers limits) = Draw faults workers limits (record { around = around; only_focus = only_breach })
 invocation_of (command.Merge workers limits true) = Merge workers limits Mapped
 invocation_of (command.Merge workers limits false) = Merge workers limits Unmapped

@@ -1,7 +1,7 @@
 //! The call of `causal_commands` that answers a command.
 ghost use Rattle.std.specs.Prelude.{◌≡◌};
 ghost use Rattle.causal_arguments.specs.Workers.{HasWorkersInRange};
-ghost use Rattle.causal_tool.specs.Invocations.{HasWorkerCountInRange, detail_of, form_of, invocation_of};
+ghost use Rattle.causal_tool.specs.Invocations.{HasWorkerCountInRange, stray_detail_of, invocation_of};
 
 use causal_arguments::{Subcommand, Until};
 use causal_commands::{Form, Question, StrayDetail};
@@ -93,7 +93,7 @@ impl Invocation {
 fn audit_invocation(
     faults: u16,
     until: Until,
-    form: causal_arguments::Form,
+    form: Form,
     workers: u32,
     limits: Limits,
 ) -> Invocation
@@ -114,17 +114,12 @@ fn audit_invocation(
     };
     Invocation::Trace {
         question,
-        form: form_of(form),
+        form,
         limits,
     }
 }
 
-fn explain_invocation(
-    faults: Option<u16>,
-    form: causal_arguments::Form,
-    workers: u32,
-    limits: Limits,
-) -> Invocation
+fn explain_invocation(faults: Option<u16>, form: Form, workers: u32, limits: Limits) -> Invocation
     ensures { result ≡ invocation_of (Subcommand.Explain faults form workers limits) }
 {
     let question = match faults {
@@ -133,7 +128,7 @@ fn explain_invocation(
     };
     Invocation::Trace {
         question,
-        form: form_of(form),
+        form,
         limits,
     }
 }
@@ -148,15 +143,15 @@ fn mapped_invocation(faults: u16, workers: u32, limits: Limits) -> Invocation
     }
 }
 
-fn replays_invocation(form: causal_arguments::Form, workers: u32, limits: Limits) -> Invocation
+fn replays_invocation(form: Form, workers: u32, limits: Limits) -> Invocation
     ensures { result ≡ invocation_of (Subcommand.Replays form workers limits) }
 {
     Invocation::Trace {
         question: Question::Replays {
             workers,
-            detail: detail_of(form),
+            detail: stray_detail_of(form),
         },
-        form: form_of(form),
+        form,
         limits,
     }
 }
@@ -196,22 +191,12 @@ fn merge_invocation(workers: u32, limits: Limits, has_map: bool) -> Invocation
     }
 }
 
-/// Returns the form of an answer that is requested.
-fn form_of(form: causal_arguments::Form) -> Form
-    ensures { result ≡ form_of form }
-{
-    match form {
-        causal_arguments::Form::Lines => Form::Lines,
-        causal_arguments::Form::Json => Form::Json,
-    }
-}
-
 /// Returns what `replays` reports besides a stray: JSON has the survivors too.
-fn detail_of(form: causal_arguments::Form) -> StrayDetail
-    ensures { result ≡ detail_of form }
+fn stray_detail_of(form: Form) -> StrayDetail
+    ensures { result ≡ stray_detail_of form }
 {
     match form {
-        causal_arguments::Form::Lines => StrayDetail::Line,
-        causal_arguments::Form::Json => StrayDetail::WithSurvivors,
+        Form::Lines => StrayDetail::Line,
+        Form::Json => StrayDetail::WithSurvivors,
     }
 }

@@ -23,7 +23,7 @@ pub record AreFactsCopied (facts old new : List CFact) (needed : ℕ) : Type 0 w
   pub number : needed ≡ length facts
 
 -- the struct is the verdict on the recording for f, and the facts that explain it are copied out
-pub record IsExplained (r : Recording) (f : ℕ) (verdict : CVerdict) (old new : List CFact) (needed : ℕ) : Type 0 where
+pub record CopiesOutExplanation (r : Recording) (f : ℕ) (verdict : CVerdict) (old new : List CFact) (needed : ℕ) : Type 0 where
   pub judged : Judged
   pub judges : IsJudgedOf r f judged
   pub struct : verdict ≡ c_verdict_of judged
@@ -33,11 +33,11 @@ pub record IsExplained (r : Recording) (f : ℕ) (verdict : CVerdict) (old new :
 
 -- the text spells a trace, whose verdict for f is explained
 abbrev pub IsExplainedText : List ℕ → ℕ → CVerdict → List CFact → List CFact → ℕ → Type 0
-IsExplainedText text f verdict old new needed = (r : Recording) × Spells text r × IsExplained r f verdict old new needed
+IsExplainedText text f verdict old new needed = (r : Recording) × Spells text r × CopiesOutExplanation r f verdict old new needed
 
 -- the complete lines of the bytes spell entries, whose verdict for f is explained
 abbrev pub IsExplainedSoFar : ℕ → List ℕ → ℕ → CVerdict → List CFact → List CFact → ℕ → Type 0
-IsExplainedSoFar most bytes f verdict old new needed = (r : Recording) × SpellsLines most bytes r × IsExplained r f verdict old new needed
+IsExplainedSoFar most bytes f verdict old new needed = (r : Recording) × SpellsLines most bytes r × CopiesOutExplanation r f verdict old new needed
 
 -- the header is not among the complete lines of the bytes
 pub record HasNoHeader (most : ℕ) (bytes : List ℕ) : Type 0 where

@@ -2,7 +2,7 @@
 use Rattle.std.specs.Prelude.{◌≡◌, ℕ, List, flat_map}
 use Rattle.causal_lines.specs.Canonical.{canonical_text}
 use Rattle.causal_merge.specs.declared.fault.MergeFault.{MergeFault}
-use Rattle.causal_merge.specs.Merges.{MergesWithin, IsFirstFaultWithin}
+use Rattle.causal_merge.specs.Merges.{MergesWithin, IsFirstMergeFaultWithin}
 use Rattle.causal_trace.specs.Rows.{Recording}
 use Rattle.nixu.specs.declared.c_merge_fault.CMergeFault.{CMergeFault}
 use Rattle.nixu.specs.declared.c_recording.CRecording.{CRecording}
@@ -21,9 +21,9 @@ IsMergedText most text bytes = (r : Recording) × (torn : List ℕ) × MergesWit
 
 -- the recordings do not merge into a trace of at most `most` entries, and the struct is their first error
 abbrev pub IsFaultOfRecordings : ℕ → List CRecording → CMergeFault → Type 0
-IsFaultOfRecordings most recordings c = (f : MergeFault) × IsFirstFaultWithin most (joined_text recordings) f × (c ≡ c_merge_fault_of (recording_place f.line recordings) f)
+IsFaultOfRecordings most recordings c = (f : MergeFault) × IsFirstMergeFaultWithin most (joined_text recordings) f × (c ≡ c_merge_fault_of (recording_place f.line recordings) f)
 
 -- if the error is one of recordings, it is their first
 abbrev pub IsMergeErrorOf : ℕ → List ℕ → MergeError → Type 0
-IsMergeErrorOf most text (Fault f) = IsFirstFaultWithin most text f
+IsMergeErrorOf most text (Fault f) = IsFirstMergeFaultWithin most text f
 IsMergeErrorOf most text NoMemory = Unit {0}

@@ -4,7 +4,7 @@ ghost use Rattle.nixu.specs.VerdictArrays.{AreVerdictStructs, FirstAreVerdicts, 
 ghost use Rattle.nixu.specs.CVerdicts.{IsVerdictOfText, IsFaultOfText};
 
 use crate::c_verdict::{CVerdict, c_fault_verdict, c_verdict_of};
-use crate::judgement::{TextError, judge_text, judge_trace, parse_trace};
+use crate::judgement::{TextError, judge_text, judgement_of, parse_trace};
 use causal_name::NoMemory;
 use causal_trace::Trace;
 use nixu_boundary::status::{FAULT, MISUSED, NO_MEMORY, OK};
@@ -114,7 +114,7 @@ fn verdicts_of(alloc: Global, trace: &Trace, faults: &[u16]) -> Result<Vec<CVerd
 pub(crate) fn verdict_for(alloc: Global, trace: &Trace, faults: u16) -> Result<CVerdict, NoMemory>
     ensures { IfOk result (IsVerdictStruct trace.now.recording faults) }
 {
-    match judge_trace(alloc, trace, faults) {
+    match judgement_of(alloc, trace, faults) {
         Ok(judged) => Ok(c_verdict_of(&judged)),
         Err(refused) => Err(refused),
     }

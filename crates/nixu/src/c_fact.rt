@@ -70,8 +70,8 @@ fn process_fact(kind: u32, process: u8) -> CFact
 }
 
 /// The struct of a kind, a process and an entry.
-fn process_at(kind: u32, process: u8, entry: u32) -> CFact
-    ensures { result ≡ facts.process_at kind process entry }
+fn process_entry_fact(kind: u32, process: u8, entry: u32) -> CFact
+    ensures { result ≡ facts.process_entry_fact kind process entry }
 {
     CFact {
         entry,
@@ -91,28 +91,37 @@ fn c_fact_of(found: &Fact) -> CFact
     ensures { result ≡ facts.c_fact_of found.now }
 {
     match found {
-        Fact::Down(down) => process_at(1, down.process, down.since),
+        Fact::Down(down) => process_entry_fact(1, down.process, down.since),
         Fact::Delivery { delivery, det } => delivery_fact(*delivery, *det),
         Fact::Cause { instant, cause } => cause_fact(*instant, *cause),
         Fact::Unstable { instant } => at_instant(fact(4), *instant),
-        Fact::Holder(holding) => process_at(5, holding.process, holding.since),
+        Fact::Holder(holding) => process_entry_fact(5, holding.process, holding.since),
         Fact::NoHolder => fact(6),
         Fact::Loss(loss) => loss_fact(*loss),
         Fact::Crash { process } => process_fact(8, *process),
-        Fact::Chain { position, event } => process_at(9, actor_of(*event), *position),
+        Fact::Chain { position, event } => process_entry_fact(9, chain_process(*event), *position),
         Fact::Unlisted {
             position,
             event,
             ..
-        } => with_send(process_at(10, actor_of(*event), *position), send_of(*event)),
+        } => with_send_entry(
+            process_entry_fact(10, chain_process(*event), *position),
+            chain_send(*event),
+        ),
         Fact::Listed => fact(11),
-        Fact::Underway { position, send, to } => with_send(process_at(12, *to, *position), *send),
+        Fact::Underway { position, send, to } => with_send_entry(
+            process_entry_fact(12, *to, *position),
+            *send,
+        ),
         Fact::Orphan { process } => process_fact(13, *process),
-        Fact::Closest(closest) => closest_fact(*closest),
+        Fact::Closest(closest) => closest_struct(*closest),
         Fact::Never => fact(15),
         Fact::Strayed(stray) => strayed_fact(*stray),
         Fact::Logged { delivery, holding } => {
-            of_delivery(process_at(17, holding.process, holding.since), *delivery)
+            of_delivery(
+                process_entry_fact(17, holding.process, holding.since),
+                *delivery,
+            )
         }
         Fact::Stable { delivery } => of_delivery(fact(18), *delivery),
     }
@@ -133,8 +142,8 @@ fn at_instant(of: CFact, instant: u32) -> CFact
 }
 
 /// The struct with a send entry.
-fn with_send(of: CFact, send: u32) -> CFact
-    ensures { result ≡ facts.with_send of send }
+fn with_send_entry(of: CFact, send: u32) -> CFact
+    ensures { result ≡ facts.with_send_entry of send }
 {
     CFact { send, ..of }
 }
@@ -165,13 +174,13 @@ fn cause_fact(instant: u32, cause: Cause) -> CFact
 {
     let last = instant.saturating_sub(1);
     match cause {
-        Cause::Delivery { process, send } => with_send(
-            by_entry(process_at(3, process, last), 1),
+        Cause::Delivery { process, send } => with_send_entry(
+            by_entry(process_entry_fact(3, process, last), 1),
             send,
         ),
-        Cause::Crash { process } => by_entry(process_at(3, process, last), 3),
-        Cause::Restart { process } => by_entry(process_at(3, process, last), 4),
-        Cause::Forgetting { process } => by_entry(process_at(3, process, last), 5),
+        Cause::Crash { process } => by_entry(process_entry_fact(3, process, last), 3),
+        Cause::Restart { process } => by_entry(process_entry_fact(3, process, last), 4),
+        Cause::Forgetting { process } => by_entry(process_entry_fact(3, process, last), 5),
     }
 }
 
@@ -180,7 +189,7 @@ fn loss_fact(loss: Loss) -> CFact
     ensures { result ≡ facts.loss_fact loss }
 {
     by_entry(
-        process_at(7, loss.process, loss.lost),
+        process_entry_fact(7, loss.process, loss.lost),
         kind_of_loss(loss.by),
     )
 }
@@ -196,8 +205,8 @@ fn kind_of_loss(by: LostBy) -> u32
 }
 
 /// The process of an event: the sender of a send, the receiver of a delivery; 0 if it is neither.
-fn actor_of(event: ChainEvent) -> u8
-    ensures { result ≡ facts.actor_of event }
+fn chain_process(event: ChainEvent) -> u8
+    ensures { result ≡ facts.chain_process event }
 {
     match event {
         ChainEvent::Send { from, .. } => from,
@@ -207,8 +216,8 @@ fn actor_of(event: ChainEvent) -> u8
 }
 
 /// The send entry of a delivery; 0 if the event is none.
-fn send_of(event: ChainEvent) -> u32
-    ensures { result ≡ facts.send_of event }
+fn chain_send(event: ChainEvent) -> u32
+    ensures { result ≡ facts.chain_send event }
 {
     match event {
         ChainEvent::Delivery { send, .. } => send,
@@ -217,8 +226,8 @@ fn send_of(event: ChainEvent) -> u32
 }
 
 /// The delivery that has an orphan for the least number of failures.
-fn closest_fact(closest: ClosestFailure) -> CFact
-    ensures { result ≡ facts.closest_fact closest }
+fn closest_struct(closest: ClosestFailure) -> CFact
+    ensures { result ≡ facts.closest_struct closest }
 {
     CFact {
         faults: u32::from(closest.faults),

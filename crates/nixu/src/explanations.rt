@@ -4,14 +4,14 @@ ghost use Rattle.causal_audit.specs.Judgements.{IsJudgedOf};
 ghost use Rattle.causal_text.specs.PushReaders.{HasReceived};
 ghost use Rattle.nixu.specs.CVerdicts.{IsFaultOfText};
 ghost use Rattle.nixu.specs.Entries.{recording_in, OfTrace};
-ghost use Rattle.nixu.specs.Facts.{AreFactsCopied, AreFactsUntouched, HasNoHeader, IsExplained, IsExplainedSoFar, IsExplainedText, AreStructs};
+ghost use Rattle.nixu.specs.Facts.{AreFactsCopied, AreFactsUntouched, HasNoHeader, CopiesOutExplanation, IsExplainedSoFar, IsExplainedText, AreStructs};
 ghost use Rattle.nixu.specs.OpenReaders.{HasReadIn, IsNoReader};
 
 use crate::c_fact::{CFact, c_facts_of};
 use crate::c_verdict::{CVerdict, c_fault_verdict, c_verdict_of};
 use crate::handle::Handle;
 use crate::handle_content::HandleContent;
-use crate::judgement::{TextError, judge_trace, parse_trace};
+use crate::judgement::{TextError, judgement_of, parse_trace};
 use causal_audit::Judged;
 use causal_name::NoMemory;
 use causal_report::facts_of;
@@ -66,7 +66,7 @@ pub extern "C" fn nixu_trace_facts(
     needed: &mut usize,
 ) -> u32
     ensures ok { result ≡ OK → OfTrace trace.old.held.value
-        (λ r. IsExplained r faults verdict.new facts.old facts.new needed.new) }
+        (λ r. CopiesOutExplanation r faults verdict.new facts.old facts.new needed.new) }
     ensures closed { (result ≡ CLOSED) ↔ (recording_in trace.old.held.value ≡ None) }
     ensures trace_unchanged { trace.new.held.value ≡ trace.old.held.value }
     ensures unchanged { result ≢ OK → verdict.new ≡ verdict.old }
@@ -157,7 +157,7 @@ fn write_facts(
     needed: &mut usize,
 ) -> u32
     ensures ok { result ≡ OK
-        → IsExplained trace.now.recording faults verdict.new facts.old facts.new needed.new }
+        → CopiesOutExplanation trace.now.recording faults verdict.new facts.old facts.new needed.new }
     ensures kept { result ≢ OK → verdict.new ≡ verdict.old }
     ensures facts_kept { result ≢ OK
         → AreFactsUntouched facts.old facts.new needed.old needed.new }
@@ -186,7 +186,7 @@ fn explanation_of(alloc: Global, trace: &Trace, faults: u16) -> Result<Explained
     ensures facts { IfOk result (λ found.
         AreStructs trace.now.recording faults found.judged.verdict found.facts.items) }
 {
-    let judged = judge_trace(alloc, trace, faults)?;
+    let judged = judgement_of(alloc, trace, faults)?;
     let found = facts_of(alloc, trace, faults, judged.verdict)?;
     let facts = c_facts_of(alloc, found.as_slice())?;
     Ok(Explained { judged, facts })

@@ -71,7 +71,7 @@ impl Handle {
 }
 
 impl ContentOwner for Handle {
-    type Content = HandleContent;
+    type Payload = HandleContent;
 
     ghost content = { λ h. h.held.value };
 

@@ -51,7 +51,7 @@ pub(crate) fn parse_trace(alloc: Global, text: &[u8]) -> Result<Trace, TextError
 ///
 /// # Errors
 /// `NoMemory` if allocation failed.
-pub(crate) fn judge_trace(
+pub(crate) fn judgement_of(
     alloc: Global,
     trace: &Trace,
     faults: u16,
@@ -74,6 +74,6 @@ pub(crate) fn judge_text(alloc: Global, text: &[u8], faults: u16) -> Result<Judg
     ensures err { IfErr result (IsTextErrorOf text.now) }
 {
     let trace = parse_trace(alloc, text)?;
-    let judged = judge_trace(alloc, &trace, faults)?;
+    let judged = judgement_of(alloc, &trace, faults)?;
     Ok(judged)
 }

@@ -1,6 +1,6 @@
 //! Merging of the recordings of a run's processes, as by the program's `merge` command.
 ghost use Rattle.std.specs.Prelude.{◌≡◌, ◌≢◌, ◌<◌, ◌≤◌, ◌⊎◌, ◌↔◌, ℕ, List, IfOk, IfErr, IfSome};
-ghost use Rattle.causal_merge.specs.Merges.{IsFirstFaultWithin};
+ghost use Rattle.causal_merge.specs.Merges.{IsFirstMergeFaultWithin};
 ghost use Rattle.nixu.specs.CMergeFaults.{merge_number, CopiesOutMergeSentence, IsNoMergeFault};
 ghost use Rattle.nixu.specs.Limits.{IsEntryCount};
 ghost use Rattle.nixu.specs.Merging.{joined_text, IsFaultOfRecordings, IsMergeErrorOf, IsMergedText};
@@ -127,7 +127,7 @@ fn merge_text(alloc: Global, text: &[u8], limits: Limits) -> Result<Vec<u8>, Mer
 /// The error of recordings, or that an allocation failed.
 fn merge_error(fault: MergeFault) -> MergeError
     ensures { (most : ℕ) (text : List ℕ)
-        → (fault.kind ≢ MergeKind.Line TextKind.NoMemory → IsFirstFaultWithin most text fault)
+        → (fault.kind ≢ MergeKind.Line TextKind.NoMemory → IsFirstMergeFaultWithin most text fault)
         → IsMergeErrorOf most text result }
 {
     let number = merge_number(&fault.kind);

@@ -5,10 +5,10 @@ ghost use Rattle.nixu.specs.TextErrors.{IsTextErrorOf};
 ghost use Rattle.nixu_boundary.specs.Buffers.{IsCopiedOut, IsUntouched};
 ghost use Rattle.nixu.specs.Views.{WritesView, IsViewText, IsViewOf, IsViewOfRecording, fault_view};
 
-use crate::judgement::{TextError, judge_trace, parse_trace};
+use crate::judgement::{TextError, judgement_of, parse_trace};
 use causal_audit::{Judged, verdict_line};
 use causal_name::NoMemory;
-use causal_report::{drawing_of, line_with_reason};
+use causal_report::{line_with_reason, picture_with_verdict};
 use causal_text::{TextFault, fault_line};
 use causal_trace::Trace;
 use nixu_boundary::buffer::copy_out;
@@ -139,7 +139,7 @@ fn view_text(alloc: Global, text: &[u8], faults: u16, view: View) -> Result<Vec<
 fn view_of_trace(alloc: Global, trace: &Trace, faults: u16, view: View) -> Result<Vec<u8>, NoMemory>
     ensures { IfOk result (λ bytes. IsViewOfRecording view trace.now.recording faults bytes.items) }
 {
-    match judge_trace(alloc, trace, faults) {
+    match judgement_of(alloc, trace, faults) {
         Ok(judged) => view_of_judged(alloc, trace, faults, &judged, view),
         Err(refused) => Err(refused),
     }
@@ -163,6 +163,6 @@ fn view_of_judged(
             let line = verdict_line(alloc, faults, judged)?;
             line_with_reason(alloc, line, trace, faults, judged.verdict)
         }
-        View::Picture => drawing_of(alloc, trace, faults, judged.verdict),
+        View::Picture => picture_with_verdict(alloc, trace, faults, judged.verdict),
     }
 }

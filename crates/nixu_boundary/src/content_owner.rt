@@ -8,9 +8,9 @@ use std::alloc::Global;
 
 /// A handle: one value in its box if it is open, nothing if it is closed.
 pub trait ContentOwner {
-    type Content: Drop;
+    type Payload: Drop;
 
-    ghost content: { Self → Option Self.Content };
+    ghost content: { Self → Option Self.Payload };
 
     /// Returns whether something is open.
     fn is_open(&self) -> bool
@@ -19,15 +19,15 @@ pub trait ContentOwner {
     /// Puts `next` in the place of what was owned, and returns that. `full` is 1 if `next` has a value, else 0.
     fn replace(
         &mut self,
-        next: Owned<Self::Content, Global>,
+        next: Owned<Self::Payload, Global>,
         full: u32,
-    ) -> Owned<Self::Content, Global>
+    ) -> Owned<Self::Payload, Global>
         requires { full ≡ count_of next.value }
         ensures given { result.value ≡ content self.old }
         ensures left { content self.new ≡ next.value };
 
     /// Returns what was open, if anything, and leaves the handle closed.
-    final fn take(&mut self, alloc: Global) -> Option<Box<Self::Content>>
+    final fn take(&mut self, alloc: Global) -> Option<Box<Self::Payload>>
         ensures given { option_map (λ b. b.value) result ≡ content self.old }
         ensures left { content self.new ≡ None }
     {
@@ -47,7 +47,7 @@ pub trait ContentOwner {
     }
 
     /// Opens a closed handle with this box.
-    final fn fill(&mut self, kept: Box<Self::Content>)
+    final fn fill(&mut self, kept: Box<Self::Payload>)
         requires { content self.old ≡ None }
         ensures { content self.new ≡ Some kept.value }
     {
@@ -57,7 +57,7 @@ pub trait ContentOwner {
     /// Opens a closed handle with this value, in a new box.
     ///
     /// Returns [`OK`]; or [`NO_MEMORY`], and the handle stays closed.
-    final fn keep(&mut self, alloc: Global, kept: Self::Content) -> u32
+    final fn keep(&mut self, alloc: Global, kept: Self::Payload) -> u32
         requires { content self.old ≡ None }
         ensures ok { result ≡ OK → content self.new ≡ Some kept }
         ensures kept { result ≡ NO_MEMORY → content self.new ≡ None }

@@ -4,11 +4,11 @@ use Rattle.causal_wire.specs.declared.fault.WireFault.TheVariants as W
 use Rattle.causal_node.specs.declared.node_fault.NodeFault.TheVariants as N
 use Rattle.causal_endpoint.specs.declared.fault.EndpointFault.{EndpointFault}
 use Rattle.causal_endpoint.specs.declared.fault.EndpointFault.TheVariants as E
-use Rattle.causal_endpoint.specs.Refusals.{reason_of}
+use Rattle.causal_endpoint.specs.Refusals.{endpoint_reason_of}
 use Rattle.nixu_node.specs.Refusals.{refusal_number}
 
 -- `NoMemory` alone has no number
-pub reason_named : (fault : EndpointFault) → (refusal_number fault ≡ 0 → ⊥) → reason_of fault ≡ Some fault
+pub reason_named : (fault : EndpointFault) → (refusal_number fault ≡ 0 → ⊥) → endpoint_reason_of fault ≡ Some fault
 reason_named E.NotMine h = refl
 reason_named E.OwnParcel h = refl
 reason_named E.Long h = refl
@@ -29,7 +29,7 @@ reason_named (E.Node N.Waiting) h = refl
 reason_named (E.Node N.Full) h = refl
 reason_named (E.Node N.NoMemory) h = absurd (h refl)
 
-pub reason_unnamed : (fault : EndpointFault) → refusal_number fault ≡ 0 → reason_of fault ≡ None
+pub reason_unnamed : (fault : EndpointFault) → refusal_number fault ≡ 0 → endpoint_reason_of fault ≡ None
 reason_unnamed (E.Node N.NoMemory) h = refl
 reason_unnamed E.NotMine h = absurd (omega (arith, h))
 reason_unnamed E.OwnParcel h = absurd (omega (arith, h))

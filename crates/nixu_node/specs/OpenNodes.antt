@@ -1,7 +1,7 @@
 -- The node that a handle owns.
 use Rattle.std.specs.Prelude.{◌≡◌, ℕ, Option, Some, None, slice_get}
 use Rattle.causal_protocol.specs.Memory.{SentMessage}
-use Rattle.causal_node.specs.NodeRecovery.{opened}
+use Rattle.causal_node.specs.NodeRecovery.{opened_node}
 use Rattle.nixu_node.specs.declared.c_node.CIdentity.{CIdentity}
 use Rattle.nixu_node.specs.declared.open_node.OpenNode.{OpenNode}
 use Rattle.nixu_node.specs.declared.open_node.Kept.TheVariants as Kepts
@@ -14,7 +14,7 @@ OfNode None IsTrue = ⊥
 
 -- a node that was just opened
 pub record IsOpened (i : CIdentity) (o : OpenNode) : Type 0 where
-  pub endpoint : o.endpoint ≡ record { node = opened (identity_from_c i) i.lane; run = i.run; clock = i.clock }
+  pub endpoint : o.endpoint ≡ record { node = opened_node (identity_from_c i) i.lane; run = i.run; clock = i.clock }
   pub nothing : o.kept ≡ Kepts.Nothing
 
 -- the message of this number was sent to this process

@@ -92,5 +92,5 @@ refusal_sentence E.Clock = codes "the clock is too great"
 refusal_sentence (E.Node fault) = node_sentence fault
 
 -- a refusal has this number, and its sentence is copied out
-abbrev pub CopiesOutSentence : ℕ → List ℕ → List ℕ → ℕ → Type 0
-CopiesOutSentence number old new needed = (0 < number) × ((fault : EndpointFault) × (refusal_number fault ≡ number) × IsCopiedOut (refusal_sentence fault) old new needed)
+abbrev pub CopiesOutRefusalSentence : ℕ → List ℕ → List ℕ → ℕ → Type 0
+CopiesOutRefusalSentence number old new needed = (0 < number) × ((fault : EndpointFault) × (refusal_number fault ≡ number) × IsCopiedOut (refusal_sentence fault) old new needed)

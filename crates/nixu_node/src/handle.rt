@@ -17,22 +17,22 @@ use std::mem;
 /// pointer to a type with a `Vec`, nor have type arguments.
 #[repr(C)]
 #[derive(Drop)]
-pub struct OwnedBox {
+pub struct OwnedNode {
     at: *mut u8,
     alloc: Global,
     pub ghost value: { Option OpenNode } by { coded_option the_row.coded },
 }
 
-impl Model for OwnedBox {
+impl Model for OwnedNode {
     ghost also_owns = { λ h. held_owns (ghosts.dealloc_token h.alloc) the_row h.at h.value };
 }
 
-impl OwnedBox {
-    fn of(owned: Owned<OpenNode, Global>) -> OwnedBox
+impl OwnedNode {
+    fn of(owned: Owned<OpenNode, Global>) -> OwnedNode
         ensures { result.value ≡ owned.value }
     {
         let Owned { at, alloc } = owned;
-        OwnedBox {
+        OwnedNode {
             at: at as *mut u8,
             alloc,
         }
@@ -41,7 +41,7 @@ impl OwnedBox {
     fn into_owned(self) -> Owned<OpenNode, Global>
         ensures { result.value ≡ self.value }
     {
-        let OwnedBox { at, alloc } = self;
+        let OwnedNode { at, alloc } = self;
         Owned {
             at: at as *mut OpenNode,
             alloc,
@@ -53,7 +53,7 @@ impl OwnedBox {
 #[repr(C)]
 #[derive(Drop)]
 pub struct NodeHandle {
-    pub held: OwnedBox,
+    pub held: OwnedNode,
     full: u32,
     ghost is: { full ≡ count_of held.value },
 }
@@ -64,14 +64,14 @@ impl NodeHandle {
         ensures { result.held.value ≡ None }
     {
         NodeHandle {
-            held: OwnedBox::of(Owned::none(alloc)),
+            held: OwnedNode::of(Owned::none(alloc)),
             full: 0,
         }
     }
 }
 
 impl ContentOwner for NodeHandle {
-    type Content = OpenNode;
+    type Payload = OpenNode;
 
     ghost content = { λ h. h.held.value };
 
@@ -85,7 +85,7 @@ impl ContentOwner for NodeHandle {
         ensures left { self.new.held.value ≡ next.value }
     {
         let next = NodeHandle {
-            held: OwnedBox::of(next),
+            held: OwnedNode::of(next),
             full,
         };
         let NodeHandle { held, full: _ } = mem::replace(self, next);

@@ -1,6 +1,6 @@
 //! Opening and closing of nodes.
 ghost use Rattle.std.specs.Prelude.{◌≡◌, ◌≢◌, ◌≤◌, ◌↔◌, None, Some, IsSome};
-ghost use Rattle.causal_node.specs.NodeRecovery.{opened};
+ghost use Rattle.causal_node.specs.NodeRecovery.{opened_node};
 ghost use Rattle.causal_endpoint.specs.Opening.{open_fault};
 ghost use Rattle.nixu_node.specs.OpenNodes.{OfNode, IsOpened};
 ghost use Rattle.nixu_node.specs.Structs.{identity_from_c};

@@ -2,9 +2,9 @@
 #![tactic(auto, using(crate::proofs::Named::reason_named, crate::proofs::Named::reason_unnamed))]
 
 ghost use Rattle.std.specs.Prelude.{◌≡◌, ◌≤◌, ◌<◌, ◌⊎◌, None, Some, IfSome};
-ghost use Rattle.causal_endpoint.specs.Refusals.{reason_of};
+ghost use Rattle.causal_endpoint.specs.Refusals.{endpoint_reason_of};
 ghost use Rattle.nixu_boundary.specs.Buffers.{IsUntouched};
-ghost use Rattle.nixu_node.specs.Refusals.{wire_number, node_number, refusal_number, wire_sentence, node_sentence, refusal_sentence, IsNoRefusal, CopiesOutSentence};
+ghost use Rattle.nixu_node.specs.Refusals.{wire_number, node_number, refusal_number, wire_sentence, node_sentence, refusal_sentence, IsNoRefusal, CopiesOutRefusalSentence};
 
 use causal_endpoint::fault::EndpointFault;
 use causal_name::{MsgName, Pid};
@@ -70,8 +70,8 @@ fn refusal_number(fault: EndpointFault) -> u32
 /// Returns the status of a refusal, and writes its number.
 pub(crate) fn refuse(refused: EndpointFault, fault: &mut u32) -> u32
     ensures fault { result ≡ FAULT →
-        (reason_of refused ≡ Some refused) × (fault.new ≡ refusal_number refused) }
-    ensures no_memory { result ≡ NO_MEMORY → (reason_of refused ≡ None) × (fault.new ≡ fault.old) }
+        (endpoint_reason_of refused ≡ Some refused) × (fault.new ≡ refusal_number refused) }
+    ensures no_memory { result ≡ NO_MEMORY → (endpoint_reason_of refused ≡ None) × (fault.new ≡ fault.old) }
     ensures status { (result ≡ FAULT) ⊎ (result ≡ NO_MEMORY) }
 {
     let number = refusal_number(refused);
@@ -204,7 +204,7 @@ fn refusal_sentence(fault: EndpointFault) -> &'static str
 /// Returns [`OK`]; or [`MISUSED`] if no refusal has the number, and nothing is written. Allocates nothing.
 #[unsafe(no_mangle)]
 pub extern "C" fn nixu_node_fault_text(fault: u32, out: &mut [u8], needed: &mut usize) -> u32
-    ensures ok { result ≡ OK → CopiesOutSentence fault out.old out.new needed.new }
+    ensures ok { result ≡ OK → CopiesOutRefusalSentence fault out.old out.new needed.new }
     ensures misused { result ≡ MISUSED → IsNoRefusal fault }
     ensures unchanged { result ≡ MISUSED → IsUntouched out.old out.new needed.old needed.new }
     ensures status { (result ≡ OK) ⊎ (result ≡ MISUSED) }

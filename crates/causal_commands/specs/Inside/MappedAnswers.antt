@@ -5,7 +5,7 @@ use Rattle.causal_commands.specs.declared.mapped_reason.MappedAnswer.{MappedAnsw
 use Rattle.causal_commands.specs.declared.reason.ExplainedVerdict.{ExplainedVerdict}
 use Rattle.causal_commands.specs.MappedReasons.{IsMappedAnswer}
 use Rattle.causal_outcomes.specs.Merges.{bytes_read}
-use Rattle.causal_commands.specs.Replies.{IsExplained}
+use Rattle.causal_commands.specs.Answers.{IsExplained}
 use Rattle.causal_commands.specs.Inside.Refusals.{ExplainsRefusal}
 
 -- the answer to a text and the bytes that are read of a map
@@ -17,8 +17,8 @@ abbrev pub IsMappedFor : ℕ → Option (List ℕ) → Option (List ℕ) → ℕ
 IsMappedFor most given map f answer = IfSome given (λ text. IfSome map (λ map. IsMappedTo most text map f answer))
 
 -- the answer to each text and map whose error this is
-abbrev pub IsFaultAnswer : VerdictError → MappedAnswer → Type 0
-IsFaultAnswer unjudged given = (most : ℕ) (text map : List ℕ) (f : ℕ) → ExplainsRefusal most text unjudged
+abbrev pub IsMappedFaultAnswer : VerdictError → MappedAnswer → Type 0
+IsMappedFaultAnswer unjudged given = (most : ℕ) (text map : List ℕ) (f : ℕ) → ExplainsRefusal most text unjudged
     → IsMappedAnswer most text map f given.map_fault given.answer.ended given.answer.line.items
 
 -- the answer to each text whose explanation for f this is, and to these bytes of a map

@@ -1,7 +1,7 @@
 use Rattle.std.proofs.Common.{map}
 use Rattle.causal_commands.specs.PlacedLines.{IsPlacedLine}
 use Rattle.causal_commands.proofs.PlaceLemmas.{later_fault, next_fault}
-use Rattle.causal_replies.proofs.Lemmas.LineLists.{line_added}
+use Rattle.causal_answers.proofs.Lemmas.LineLists.{line_added}
 use Rattle.causal_commands.proofs.placed_lines.push_facts.Goals as goal
 
 pub loop-fact-preserved : goal.loop-fact-preserved

@@ -1,5 +1,5 @@
 use Rattle.std.proofs.Common.{sym, subst}
-use Rattle.causal_commands.specs.Answers.{IsAnswer}
+use Rattle.causal_commands.specs.PrintedAnswers.{IsPrintedAnswer}
 use Rattle.causal_commands.specs.Inside.Answers.{WritesNothing, WritesWholeAnswer}
 use Rattle.causal_commands.specs.Inside.Refusals.{IsTrueRefusalFor}
 use Rattle.causal_outcomes.specs.Diagnostics.{IsDiagnosisFor}
@@ -12,14 +12,14 @@ returns-in-Ok-printed_answer-clause-writes g c =
     let answer = c.in-Ok-printed_answer.answer in
     let of = printed c.args.limits.entries c.args.form c.args.question given c.in-Ok.response answer c.in-Ok-printed_answer.ensures.ended c.in-Ok-printed_answer.ensures.line c.in-Ok.ensures.ok in
     let told = subst WritesWholeAnswer (sym c.in-Ok-printed_answer.ensures.ended) c.in-Ok.ensures.whole_answer in
-    writes (λ text. IsAnswer c.args.limits.entries c.args.form c.args.question text) given (g.O.Write.contents c.args.output.now) (g.O.Write.contents c.write_answer.new.output)
+    writes (λ text. IsPrintedAnswer c.args.limits.entries c.args.form c.args.question text) given (g.O.Write.contents c.args.output.now) (g.O.Write.contents c.write_answer.new.output)
     answer c.write_answer.result.ended told of c.write_answer.ensures.written
 
 pub returns-in-Err-clause-writes : goal.returns-in-Err-clause-writes
-returns-in-Err-clause-writes g c = writes_nothing (λ text. IsAnswer c.args.limits.entries c.args.form c.args.question text) (g.I.Read.remaining c.args.input.now) (g.O.Write.contents c.args.output.now) c.in-Err.ended c.in-Err.ensures.err
+returns-in-Err-clause-writes g c = writes_nothing (λ text. IsPrintedAnswer c.args.limits.entries c.args.form c.args.question text) (g.I.Read.remaining c.args.input.now) (g.O.Write.contents c.args.output.now) c.in-Err.ended c.in-Err.ensures.err
 
 pub returns-in-Err-printed_answer-clause-writes : goal.returns-in-Err-printed_answer-clause-writes
-returns-in-Err-printed_answer-clause-writes g c = writes_nothing (λ text. IsAnswer c.args.limits.entries c.args.form c.args.question text) (g.I.Read.remaining c.args.input.now) (g.O.Write.contents c.args.output.now)
+returns-in-Err-printed_answer-clause-writes g c = writes_nothing (λ text. IsPrintedAnswer c.args.limits.entries c.args.form c.args.question text) (g.I.Read.remaining c.args.input.now) (g.O.Write.contents c.args.output.now)
     c.in-Err-printed_answer.ended (subst WritesNothing (sym c.in-Err-printed_answer.ensures.err) tt)
 
 pub returns-in-Ok-printed_answer-clause-fault : goal.returns-in-Ok-printed_answer-clause-fault

@@ -1,6 +1,0 @@
-use Rattle.std.proofs.Common.{◌≡◌, ◌++◌, drop, flat_map, string_bytes}
-use Rattle.causal_replies.specs.Findings.{next_process}
-use Rattle.causal_replies.proofs.members.push_more_processes.Given as goal
-
-abbrev pub invariant-loop-process : goal.invariant-loop-process
-invariant-loop-process l = string_bytes l.fn.out ++ flat_map next_process l.processes ≡ string_bytes l.out ++ flat_map next_process (drop l.process-index l.processes)
