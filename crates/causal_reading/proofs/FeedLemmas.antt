@@ -1,11 +1,9 @@
 -- More bytes of a text, part after part.
-use Rattle.std.proofs.Common.{arith, ◌≡◌, ◌≤◌, ◌*◌, ℕ, List, [], ◌++◌, length, take, drop, Result, Ok, Err, Option, Some, None, ap, sym, subst, ◌∙◌, append_assoc, append-nil, ◌∷◌, Bool, false, refl, true≢false}
-use Rattle.std.specs.Prelude.{IfOk, IfErr, IfSome, max, is_ok, is_err, if◌then◌else◌}
-use Rattle.std.specs.List.{concat}
+use Rattle.std.proofs.Common.{arith, ◌≡◌, ◌≤◌, ◌*◌, ℕ, List, [], ◌++◌, length, take, drop, Result, Ok, Err, Option, Some, None, sym, subst, append_assoc, append-nil}
+use Rattle.std.specs.Prelude.{IfOk, IfErr, IfSome, max}
 use Rattle.std.specs.Io.KnownBytes.{Consumes, Keeps}
 use Rattle.std.proofs.Math.Seq.{take-append_seam}
 use Rattle.std.proofs.lemmas.List.{take-append-drop}
-use Rattle.std.proofs.lemmas.List.Folds.{concat-append}
 use Rattle.std.proofs.KnownBytes.{Consumes-kept, Consumes-nil, Consumes-trans}
 use Rattle.causal_line.specs.declared.text_refusal.TextRefusal.{TextRefusal}
 use Rattle.causal_text.specs.FaultContexts.{IsTrueRefusalWithin, IsTrueRefusalAlways}
@@ -33,36 +31,9 @@ refused_more most b more refusal h rest = subst (λ text. IsTrueRefusalWithin mo
 pub fed_refused : (first : PushReaderState) (front last : List ℕ) (refusal : TextRefusal) → IsFedBy first front (Err refusal) → IsFedBy first (front ++ last) (Err refusal)
 fed_refused first front last refusal before = λ most b s. subst (λ xs. IsTrueRefusalAlways most xs refusal) (append_assoc b front last) (refused_more most (b ++ front) last refusal (before most b s))
 
--- after the bytes in front, a refusal of them and whatever follows
-pub fed_stopped : (first second : PushReaderState) (front last : List ℕ) (refusal : TextRefusal) → IsFedBy first front (Ok second) → ((most : ℕ) (b : List ℕ) → HasReceived most second b → IsTrueRefusalAlways most b refusal)
-    → IsFedBy first (front ++ last) (Err refusal)
-fed_stopped first second front last refusal before stops = fed_refused first front last refusal (λ most b s. stops most (b ++ front) (before most b s))
-
 -- no bytes
 pub fed_none : (reader : PushReaderState) → IsFedBy reader [] (Ok reader)
 fed_none reader = λ most b s. subst (λ xs. HasReceived most reader xs) (sym (append-nil b)) s
-
--- ---- chunks that were parsed before
-
--- the next chunk
-pub next_chunk : (whole done chunk : List ℕ) (now after : List (List ℕ)) → whole ≡ done ++ concat now → now ≡ chunk ∷ after → whole ≡ (done ++ chunk) ++ concat after
-next_chunk whole done chunk now after is next = is ∙ ap (λ xss. done ++ concat xss) next ∙ sym (append_assoc done chunk (concat after))
-
--- one more chunk at the end
-pub chunk_added : (bytes front last : List ℕ) (chunks : List (List ℕ)) → bytes ≡ front ++ (concat chunks ++ []) → bytes ++ last ≡ front ++ (concat (chunks ++ last ∷ []) ++ [])
-chunk_added bytes front last chunks is = grind (arith, concat-append chunks (last ∷ []), append_assoc front (concat chunks) last, append-nil (concat chunks), append-nil last, append-nil (concat chunks ++ last))
-
--- no chunk, but more bytes for which there was no memory
-pub bytes_added : (bytes front held rest last : List ℕ) → bytes ≡ front ++ (held ++ rest) → bytes ++ last ≡ front ++ (held ++ (rest ++ last))
-bytes_added bytes front held rest last is = ap (λ xs. xs ++ last) is ∙ append_assoc front (held ++ rest) last ∙ ap (λ xs. front ++ xs) (append_assoc held rest last)
-
--- one more chunk, if the list of chunks has room for it
-pub chunk_pushed : {X Y : Type 0} → (bytes front rest chunk last : List ℕ) (chunks after : List (List ℕ)) (pushed : Result X Y) (failed : Bool) → bytes ≡ front ++ (concat chunks ++ rest) → rest ≡ [] → chunk ≡ last
-    → after ≡ (if is_ok pushed then chunks ++ chunk ∷ [] else chunks) → failed ≡ is_err pushed
-    → (more : List ℕ) × (bytes ++ last ≡ front ++ (concat after ++ more)) × (failed ≡ false → more ≡ [])
-chunk_pushed bytes front rest chunk last chunks after (Ok x) failed is none same now fails =
-    ([], rw now (subst (λ xs. bytes ++ last ≡ front ++ (concat (chunks ++ xs ∷ []) ++ [])) (sym same) (chunk_added bytes front last chunks (is ∙ ap (λ xs. front ++ (concat chunks ++ xs)) none))), λ _. refl)
-chunk_pushed bytes front rest chunk last chunks after (Err x) failed is none same now fails = (rest ++ last, rw now (bytes_added bytes front (concat chunks) rest last is), λ other. absurd (true≢false (sym fails ∙ other)))
 
 -- ---- the bytes of a source
 

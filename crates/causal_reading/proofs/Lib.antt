@@ -1,2 +1,3 @@
 mod FeedLemmas
 mod LineLemmas
+mod SharingLemmas

@@ -1,4 +1,4 @@
-//! The lengths of the chunks that several workers parse, and where bytes are cut.
+//! How long the chunks are that several workers parse, and where bytes are cut.
 ghost use Rattle.std.specs.Prelude.{◌≡◌, ◌+◌, ◌≤◌, ◌++◌, length};
 ghost use Rattle.causal_line.specs.Lines.{lines};
 
@@ -8,13 +8,14 @@ use causal_text::lines::split_complete;
 /// long as all before it and 4,096 bytes, none is longer.
 pub(crate) const UNDIVIDED: usize = 32_768;
 
-/// The least mean size of the chunks of a piece, in bytes.
+/// About how long a chunk of a text is, in bytes: so long that taking and checking it costs little beside parsing it, and so short
+/// that the workers end a piece at about the same time. Chunks of recorder files are at least so long on average.
 pub(crate) const CHUNK: usize = 8_192;
 
 /// How many bytes at the beginning of a piece show how long its lines are.
 const SAMPLE: usize = 4_096;
 
-/// The lengths of chunks, in percent of the length of the second: that of the first, and how much longer each is than the
+/// The lengths of chunks of recorder files, in percent of the length of the second: that of the first, and how much longer each is than the
 /// one before it from the third on.
 #[derive(Clone, Copy)]
 pub(crate) struct Lengths {
@@ -33,24 +34,12 @@ pub(crate) fn checking_percent(piece: &[u8]) -> usize
 }
 
 impl Lengths {
-    /// Returns the lengths at which workers parse all chunks in the time in which the calling thread parses and checks the
-    /// first.
-    pub(crate) fn at_once(checking: usize) -> Lengths
+    /// Returns the lengths at which each chunk is parsed when the calling thread has checked those before it.
+    pub(crate) fn in_turn(checking: usize) -> Lengths
         requires { checking ≤ 100 }
     {
         Lengths {
             first: 10_000 / (100 + checking),
-            more: 0,
-        }
-    }
-
-    /// Returns the lengths at which each chunk is parsed when the calling thread has checked those before it, if it first
-    /// checks other lines, for `busy` percent of the time in which the second chunk is parsed.
-    pub(crate) fn in_turn(checking: usize, busy: usize) -> Lengths
-        requires { checking ≤ 100 }
-    {
-        Lengths {
-            first: 100_usize.saturating_sub(busy) * 100 / (100 + checking),
             more: checking,
         }
     }

@@ -7,14 +7,18 @@
 
 /// The lengths of chunks.
 mod chunks;
-/// The chunks of a text, in groups.
-mod groups;
 /// Merging recorder files.
 pub mod merging;
+/// Reading chunks while other workers parse them.
+mod readers;
 /// Reading from a byte source or a text in memory.
 pub mod reading;
 /// The chunks of recorder files.
 mod recorded_chunks;
+/// A chunk of a text, which any worker parses.
+mod shared_chunk;
+/// The chunks of a text, which several workers share.
+mod shared_chunks;
 
 pub use merging::{merge_by, merge_mapped_by};
 pub use reading::{read_by, read_trace_by};

@@ -8,7 +8,7 @@ ghost use Rattle.causal_text.specs.Streams.{StopsWithin};
 ghost use Rattle.causal_reading.specs.Reads.{max_read, shared_read};
 ghost use Rattle.causal_reading.specs.Inside.Feeding.{IsBufferSize};
 
-use crate::groups::feed_by;
+use crate::readers::feed_by;
 use causal_text::{PushReader, ReadError, TextFault, TextKind, max_text_len, read_within};
 use causal_trace::limits::Limits;
 use causal_trace::trace::Trace;
@@ -41,15 +41,14 @@ pub(crate) fn shared_read(workers: u32) -> usize
 ///
 /// A read asks for 4,096 bytes at first, and for twice as many after each read that got them all, up to 524,288, or 65,536
 /// for each worker if that is more. What it gets is read at once, so a live source is never waited for. A piece of more
-/// than 32,768 bytes is cut at line feeds into a chunk for each worker, which parse the chunks at the same time; then the
-/// calling thread checks the lines in order. A piece of 131,072 bytes or more, if its lines are short, is cut into two
-/// groups of such chunks: the calling thread checks the lines of the first while the others parse the second. If a thread
-/// cannot start, the calling thread parses its chunk. With one worker no thread starts.
+/// than 32,768 bytes is cut at line feeds into chunks of about 8,192 bytes. Each worker parses the next chunk that nobody
+/// has taken. The calling thread checks the lines in order, and parses chunks only while the next one to check is not
+/// parsed. If a thread cannot start, the others parse its share. With one worker no thread starts.
 ///
 /// Memory, besides that of the trace: the bytes of a read, and about 5 times as much for the parsed lines.
 ///
 /// # Errors
-/// Those of [`read_within`]. `NoMemory` in a worker is returned when the line or chunk has its turn.
+/// Those of [`read_within`]. `NoMemory` for a line in a worker is returned when the line has its turn.
 pub fn read_by<I: Read, R: Threads>(
     rt: &R,
     alloc: Global,
@@ -139,7 +138,7 @@ fn grow_buffer(buffer: &mut Vec<u8>, n: usize, workers: u32)
 /// workers. The result is the same for every number of workers. It reads as much at a time as `read_by`.
 ///
 /// # Errors
-/// Those of `read_trace`. `NoMemory` in a worker is returned when the line or chunk has its turn.
+/// Those of `read_trace`. `NoMemory` for a line in a worker is returned when the line has its turn.
 pub fn read_trace_by<R: Threads>(
     rt: &R,
     alloc: Global,

@@ -23,7 +23,7 @@ pub(crate) fn read_lines_by<R: Threads>(
         return read_here(reader, bytes);
     }
     let chunks = (bytes.len() / CHUNK).min(workers as usize);
-    let lengths = Lengths::in_turn(checking_percent(bytes), 0);
+    let lengths = Lengths::in_turn(checking_percent(bytes));
     read_chunks(rt, alloc, reader, bytes, chunks, lengths)
 }
 
