@@ -15,8 +15,8 @@ pub(crate) const CHUNK: usize = 8_192;
 /// How many bytes at the beginning of a piece show how long its lines are.
 const SAMPLE: usize = 4_096;
 
-/// The lengths of chunks of recorder files, in percent of the length of the second: that of the first, and how much longer each is than the
-/// one before it from the third on.
+/// The lengths of chunks of recorder files, in percent of the length of the second: that of the first, and how much longer
+/// each is than the one before it from the third on.
 #[derive(Clone, Copy)]
 pub(crate) struct Lengths {
     pub first: usize,

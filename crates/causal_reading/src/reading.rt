@@ -41,14 +41,15 @@ pub(crate) fn shared_read(workers: u32) -> usize
 ///
 /// A read asks for 4,096 bytes at first, and for twice as many after each read that got them all, up to 524,288, or 65,536
 /// for each worker if that is more. What it gets is read at once, so a live source is never waited for. A piece of more
-/// than 32,768 bytes is cut at line feeds into chunks of about 8,192 bytes. Each worker parses the next chunk that nobody
+/// than 32,768 bytes is cut at line feeds into chunks of about 8,192 bytes. Each worker parses the next chunk that no other
 /// has taken. The calling thread checks the lines in order, and parses chunks only while the next one to check is not
 /// parsed. If a thread cannot start, the others parse its share. With one worker no thread starts.
 ///
 /// Memory, besides that of the trace: the bytes of a read, and about 5 times as much for the parsed lines.
 ///
 /// # Errors
-/// Those of [`read_within`]. `NoMemory` for a line in a worker is returned when the line has its turn.
+/// Those of [`read_within`]. A chunk for which a worker had no memory is parsed again when it has its turn, and only then
+/// `NoMemory` is returned.
 pub fn read_by<I: Read, R: Threads>(
     rt: &R,
     alloc: Global,
@@ -138,7 +139,8 @@ fn grow_buffer(buffer: &mut Vec<u8>, n: usize, workers: u32)
 /// workers. The result is the same for every number of workers. It reads as much at a time as `read_by`.
 ///
 /// # Errors
-/// Those of `read_trace`. `NoMemory` for a line in a worker is returned when the line has its turn.
+/// Those of `read_trace`. A chunk for which a worker had no memory is parsed again when it has its turn, and only then
+/// `NoMemory` is returned.
 pub fn read_trace_by<R: Threads>(
     rt: &R,
     alloc: Global,

@@ -11,7 +11,7 @@ use causal_text::{PushReader, TextRefusal};
 use std::alloc::Global;
 use std::sync::atomic::{AtomicU64, Ordering};
 
-/// The chunks of a piece, and how many of them are taken: a worker parses the next one that nobody has taken.
+/// The chunks of a piece, and how many of them are taken: a worker parses the next one that no other has taken.
 #[derive(Drop)]
 pub(crate) struct SharedChunks<'a> {
     pub chunks: Vec<SharedChunk<'a>>,
@@ -45,7 +45,7 @@ impl<'a> SharedChunks<'a> {
         })
     }
 
-    /// Parses the next chunk that nobody has taken; returns false if there is none.
+    /// Parses the next chunk that no other has taken; returns false if there is none.
     fn parse_next(&self, alloc: Global) -> bool {
         let next = self.taken.fetch_add(1, Ordering::SeqCst);
         let Some(chunk) = self.chunks.get(next as usize) else {
