@@ -1,5 +1,5 @@
 -- The stage after the lines so far, and the next stage, or the error, of one more line.
-use Rattle.std.specs.Prelude.{ℕ, ◌*◌, ◌&&◌, ◌==◌, List, [], ◌∷◌, ◌++◌, length, map, nat_lt, nat_le, if◌then◌else◌, Option, Some, None, Result, Ok, Err}
+use Rattle.std.specs.Prelude.{◌≡◌, ℕ, ◌*◌, ◌&&◌, ◌==◌, List, [], ◌∷◌, ◌++◌, length, map, nat_lt, nat_le, if◌then◌else◌, Option, Some, None, Result, Ok, Err, IsErr}
 use Rattle.causal_trace.specs.Rows.{Recording, fault_within}
 use Rattle.causal_trace.specs.State.{with_entry, entries_of}
 use Rattle.causal_trace.specs.declared.entry.Entry.{Entry}
@@ -59,6 +59,14 @@ abbrev pub advance_stage : ℕ → Stage → ℕ → List ℕ → Result Stage T
 advance_stage most Opening end line = check_limit most end (parse_line line >>= apply_line most Opening)
 advance_stage most (Within version r) end line = check_limit most end (parse_line line >>= apply_line most (Within version r))
 advance_stage most (Ended version r) end line = Err kind.After
+
+-- the stage after a line of this entry, if it is a legal one
+abbrev pub IsAppliedEntry : ℕ → Stage → ℕ → Entry → Stage → Type 0
+IsAppliedEntry most stage end e next = (line : List ℕ) → parse_line line ≡ Ok (parsed.Entry e) → advance_stage most stage end line ≡ Ok next
+
+-- each line of this entry has an error
+abbrev pub IsRefusedEntry : ℕ → Stage → ℕ → Entry → Type 0
+IsRefusedEntry most stage end e = (line : List ℕ) → parse_line line ≡ Ok (parsed.Entry e) → IsErr (advance_stage most stage end line)
 
 -- the parsed lines up to a stage: the header, the entries in order, and the end line
 abbrev pub lines_up_to : Stage → List ParsedLine

@@ -1,8 +1,8 @@
 //! The stage after the lines so far, and the transition by one more line.
-ghost use Rattle.std.specs.Prelude.{◌≡◌, ◌≤◌, None, IfErr, IfSome, OnOk};
+ghost use Rattle.std.specs.Prelude.{◌≡◌, ◌≤◌, None, IfErr, IfSome, OnErr, OnOk};
 ghost use Rattle.causal_line.specs.Returns.{Returns};
 ghost use Rattle.causal_line.specs.Refusals.{◌at◌, ReturnsTextRefusal, IsContextAt, IsContextOf};
-ghost use Rattle.causal_line.specs.Stages.{max_text_len, longest_text, open_text, apply_line, advance_stage};
+ghost use Rattle.causal_line.specs.Stages.{max_text_len, longest_text, open_text, apply_line, advance_stage, IsAppliedEntry, IsRefusedEntry};
 ghost use Rattle.causal_line.specs.Values.{parse_line};
 ghost use Rattle.causal_line.specs.Versions.{version_of};
 
@@ -245,5 +245,38 @@ pub fn advance_parsed(
     match parsed {
         Ok(parsed_line) => apply_line(alloc, limits, stage, number, parsed_line),
         Err(kind) => Err(refusal_without_context(number, kind)),
+    }
+}
+
+/// Applies a line in place that was parsed before its turn, to this entry, if the entry is legal. Otherwise the stage is
+/// unchanged.
+///
+/// # Errors
+/// The entry; None if an allocation failed.
+pub fn try_push_entry(
+    stage: &mut Stage,
+    limits: Limits,
+    end: usize,
+    entry: Entry,
+) -> Result<(), Option<Entry>>
+    ensures value { OnOk result (IsAppliedEntry limits.entries stage.old end entry stage.new) }
+    ensures few { OnOk result (end ≤ longest_text) }
+    ensures unchanged { OnErr result (stage.new ≡ stage.old) }
+    ensures returned { IfErr result (λ left. IfSome left (λ it. it ≡ entry)) }
+    ensures refused { IfErr result (λ left. IfSome left
+        (λ it. IsRefusedEntry limits.entries stage.old end entry)) }
+{
+    let Stage::Within { version, trace } = stage else {
+        return Err(Some(entry));
+    };
+    if end > max_text_len(limits) {
+        return Err(Some(entry));
+    }
+    if !version.allows(&entry) {
+        return Err(Some(entry));
+    }
+    match trace.try_push(limits, entry) {
+        Ok(()) => Ok(()),
+        Err(refused) => Err(refused.entry),
     }
 }

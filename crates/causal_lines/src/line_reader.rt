@@ -1,5 +1,5 @@
 //! The reader of lines.
-ghost use Rattle.std.specs.Prelude.{◌≡◌, ◌≢◌, ◌+◌, ◌<◌, ◌≤◌, length, None, Some, IfSome, IfNone, IfErr};
+ghost use Rattle.std.specs.Prelude.{◌≡◌, ◌≢◌, ◌+◌, ◌<◌, ◌≤◌, length, None, Some, Ok, IfSome, IfNone, IfErr, IsErr, OnErr, OnOk};
 ghost use Rattle.causal_trace.specs.Rows.{Recording};
 ghost use Rattle.causal_lines.specs.ReadPositions.{start_position, position_after, finish_at, recording_at, IsFaultFrom, HasRoomFor};
 ghost use Rattle.causal_line.specs.Refusals.{ReturnsTextRefusal, IsWithinText, IsContextAt};
@@ -8,9 +8,10 @@ ghost use Rattle.causal_line.specs.Values.{parse_line};
 
 use causal_line::kind::{TextFault, TextKind};
 use causal_line::parsed_line::ParsedLine;
-use causal_line::stage::{Stage, advance_parsed, advance_stage, max_text_len};
+use causal_line::stage::{Stage, advance_parsed, advance_stage, max_text_len, try_push_entry};
 use causal_line::text_refusal::TextRefusal;
 use causal_line::trace_builder::TraceBuilder;
+use causal_trace::entry::Entry;
 use causal_trace::limits::Limits;
 use causal_trace::trace::Trace;
 use std::alloc::Global;
@@ -102,6 +103,31 @@ impl LineReader {
             count: count + 1,
             size: end,
         })
+    }
+
+    /// Reads the next line in place, which was parsed before its turn, to this entry, if the entry is legal. Otherwise the
+    /// reader is unchanged.
+    ///
+    /// # Errors
+    /// The entry; None if an allocation failed.
+    pub fn try_push_entry(
+        &mut self,
+        limits: Limits,
+        line: &[u8],
+        entry: Entry,
+    ) -> Result<(), Option<Entry>>
+        requires { parse_line line.now ≡ Ok (ParsedLine.Entry entry) }
+        ensures value { OnOk result (position_after limits.entries self.old line.now ≡ Ok self.new) }
+        ensures unchanged { OnErr result (self.new ≡ self.old) }
+        ensures returned { IfErr result (λ left. IfSome left (λ it. it ≡ entry)) }
+        ensures refused { IfErr result (λ left. IfSome left
+            (λ it. IsErr (position_after limits.entries self.old line.now))) }
+    {
+        let end = self.size.saturating_add(line.len());
+        try_push_entry(&mut self.stage, limits, end, entry)?;
+        self.count += 1;
+        self.size = end;
+        Ok(())
     }
 
     /// Returns `NoMemory` as the error of the line that is being read.

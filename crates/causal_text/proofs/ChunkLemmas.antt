@@ -31,6 +31,15 @@ Receives first bytes second = (most : ℕ) (b : List ℕ) → HasReceived most f
 pub one_received : (first second third : PushReaderState) (done line : List ℕ) → Receives first done second → Receives second line third → Receives first (done ++ line) third
 one_received first second third done line before then most b s = subst (λ xs. HasReceived most third xs) (append_assoc b done line) (then most (b ++ done) (before most b s))
 
+-- a line that was not read in place, and then was
+pub left_received : (first second third : PushReaderState) (line left : List ℕ) → second ≡ first → left ≡ line → Receives second left third → Receives first line third
+left_received first second third line left same bytes read = subst (λ r. Receives r line third) same (subst (λ xs. Receives second xs third) bytes read)
+
+-- the same, if it was refused
+pub left_refused : (most : ℕ) (first second : PushReaderState) (b line left : List ℕ) (rejected : TextRefusal) → second ≡ first → left ≡ line → HasReceived most first b
+    → (HasReceived most second b → IsTrueRefusalAlways most (b ++ left) rejected) → IsTrueRefusalAlways most (b ++ line) rejected
+left_refused most first second b line left rejected same bytes s h = subst (λ xs. IsTrueRefusalAlways most (b ++ xs) rejected) bytes (h (subst (λ r. HasReceived most r b) (sym same) s))
+
 -- the next line of the chunk
 pub next_line : (whole done : List ℕ) (l : ChunkLine) (now after : List ChunkLine) → whole ≡ done ++ bytes_of now → now ≡ l ∷ after → whole ≡ (done ++ l.bytes.now) ++ bytes_of after
 next_line whole done l now after is next = is ∙ ap (λ ls. done ++ bytes_of ls) next ∙ sym (append_assoc done l.bytes.now (bytes_of after))

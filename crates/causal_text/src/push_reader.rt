@@ -165,6 +165,17 @@ impl PushReader {
         }
     }
 
+    // reads a parsed line in place if it is a legal entry's; otherwise leaves the reader unchanged and returns the line
+    fn try_parsed_line<'a>(&mut self, line: ChunkLine<'a>) -> Option<ChunkLine<'a>>
+        requires { IsParsed line }
+        ensures read { IfNone result ((most : ℕ) (b : List ℕ) → HasReceived most self.old b
+            → HasReceived most self.new (b ++ line.entry.bytes.now)) }
+        ensures unchanged { IfSome result (λ left. self.new ≡ self.old) }
+        ensures left { IfSome result (λ left. IsParsed left × (left.bytes.now ≡ line.entry.bytes.now)) }
+    {
+        self.pieces.try_parsed_line(self.limits, line)
+    }
+
     /// Reads the bytes of a chunk whose lines were parsed before. If a partial line is buffered, the chunk's first line
     /// is its rest, and is parsed again with it.
     ///
@@ -179,6 +190,9 @@ impl PushReader {
         let ParsedChunk { lines, rest } = chunk;
         let mut reader = self;
         for line in lines {
+            let Some(line) = reader.try_parsed_line(line) else {
+                continue;
+            };
             match reader.push_parsed_line(line) {
                 Ok(next) => reader = next,
                 Err(rejected) => return Err(rejected),

@@ -1,5 +1,5 @@
 //! Reading a text, whole or in pieces, up to its end or its first error.
-ghost use Rattle.std.specs.Prelude.{◌≡◌, ◌≢◌, ◌++◌, ◌+◌, ◌<◌, ◌≤◌, List, [], ℕ, length, None, Some, IfOk, IfErr, IfSome, IfNone};
+ghost use Rattle.std.specs.Prelude.{◌≡◌, ◌≢◌, ◌++◌, ◌+◌, ◌<◌, ◌≤◌, List, [], ℕ, length, None, Some, Ok, IfOk, IfErr, IfSome, IfNone};
 ghost use Rattle.causal_trace.specs.Limits.{default_entries};
 ghost use Rattle.causal_trace.specs.Rows.{Recording};
 ghost use Rattle.causal_text.specs.FaultContexts.{HasTrueContextWithin};
@@ -16,6 +16,7 @@ ghost use Rattle.causal_text.specs.Spelling.{Spells, SpellsWithin, IsFirstFault,
 use crate::parsed_chunk::ChunkLine;
 use causal_line::kind::{TextFault, TextKind};
 use causal_line::lines::split_complete;
+use causal_line::parsed_line::ParsedLine;
 use causal_line::text_refusal::TextRefusal;
 use causal_line::trace_builder::TraceBuilder;
 use causal_lines::line_reader::LineReader;
@@ -140,6 +141,39 @@ impl PieceReader {
             lines,
             partial_line,
         })
+    }
+
+    /// Reads a complete line in place that was parsed before its turn, if it is a legal entry's and no partial line is
+    /// buffered. Otherwise leaves the reader unchanged and returns the line, with `NoMemory` if an allocation failed.
+    pub(crate) fn try_parsed_line<'a>(
+        &mut self,
+        limits: Limits,
+        line: ChunkLine<'a>,
+    ) -> Option<ChunkLine<'a>>
+        requires { IsParsed line }
+        ensures read { IfNone result (with_line limits.entries self.old line.entry.bytes.now ≡ Ok self.new) }
+        ensures unchanged { IfSome result (λ left. self.new ≡ self.old) }
+        ensures left { IfSome result (λ left. IsParsed left × (left.bytes.now ≡ line.entry.bytes.now)) }
+    {
+        let ChunkLine { bytes, parsed } = line;
+        if !self.partial_line.is_empty() {
+            return Some(ChunkLine { bytes, parsed });
+        }
+        let entry = match parsed {
+            Ok(ParsedLine::Entry { entry }) => entry,
+            parsed => return Some(ChunkLine { bytes, parsed }),
+        };
+        match self.lines.try_push_entry(limits, bytes, entry) {
+            Ok(()) => None,
+            Err(Some(entry)) => Some(ChunkLine {
+                bytes,
+                parsed: Ok(ParsedLine::Entry { entry }),
+            }),
+            Err(None) => Some(ChunkLine {
+                bytes,
+                parsed: Err(TextKind::NoMemory),
+            }),
+        }
     }
 
     /// Buffers more of a line, unless it follows the end line or exceeds the text's limit.
