@@ -60,7 +60,7 @@ advance_stage most Opening end line = check_limit most end (parse_line line >>= 
 advance_stage most (Within version r) end line = check_limit most end (parse_line line >>= apply_line most (Within version r))
 advance_stage most (Ended version r) end line = Err kind.After
 
--- the stage after a line of this entry, if it is a legal one
+-- each line of this entry leads to this next stage
 abbrev pub IsAppliedEntry : ℕ → Stage → ℕ → Entry → Stage → Type 0
 IsAppliedEntry most stage end e next = (line : List ℕ) → parse_line line ≡ Ok (parsed.Entry e) → advance_stage most stage end line ≡ Ok next
 

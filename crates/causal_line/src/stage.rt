@@ -248,8 +248,8 @@ pub fn advance_parsed(
     }
 }
 
-/// Applies a line in place that was parsed before its turn, to this entry, if the entry is legal. Otherwise the stage is
-/// unchanged.
+/// Applies in place the line of this entry, which was parsed before its turn and ends at byte number `end` of the text, if
+/// the entry is legal. Otherwise the stage is unchanged.
 ///
 /// # Errors
 /// The entry; None if an allocation failed.

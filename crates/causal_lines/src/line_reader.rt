@@ -105,8 +105,8 @@ impl LineReader {
         })
     }
 
-    /// Reads the next line in place, which was parsed before its turn, to this entry, if the entry is legal. Otherwise the
-    /// reader is unchanged.
+    /// Reads in place the line of this entry, which was parsed before its turn, if the entry is legal. Otherwise the reader
+    /// is unchanged.
     ///
     /// # Errors
     /// The entry; None if an allocation failed.
@@ -117,7 +117,8 @@ impl LineReader {
         entry: Entry,
     ) -> Result<(), Option<Entry>>
         requires { parse_line line.now ≡ Ok (ParsedLine.Entry entry) }
-        ensures value { OnOk result (position_after limits.entries self.old line.now ≡ Ok self.new) }
+        ensures value { OnOk result
+            (position_after limits.entries self.old line.now ≡ Ok self.new) }
         ensures unchanged { OnErr result (self.new ≡ self.old) }
         ensures returned { IfErr result (λ left. IfSome left (λ it. it ≡ entry)) }
         ensures refused { IfErr result (λ left. IfSome left

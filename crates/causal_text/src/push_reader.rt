@@ -171,7 +171,8 @@ impl PushReader {
         ensures read { IfNone result ((most : ℕ) (b : List ℕ) → HasReceived most self.old b
             → HasReceived most self.new (b ++ line.entry.bytes.now)) }
         ensures unchanged { IfSome result (λ left. self.new ≡ self.old) }
-        ensures left { IfSome result (λ left. IsParsed left × (left.bytes.now ≡ line.entry.bytes.now)) }
+        ensures left { IfSome result
+            (λ left. IsParsed left × (left.bytes.now ≡ line.entry.bytes.now)) }
     {
         self.pieces.try_parsed_line(self.limits, line)
     }

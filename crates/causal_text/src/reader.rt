@@ -151,9 +151,11 @@ impl PieceReader {
         line: ChunkLine<'a>,
     ) -> Option<ChunkLine<'a>>
         requires { IsParsed line }
-        ensures read { IfNone result (with_line limits.entries self.old line.entry.bytes.now ≡ Ok self.new) }
+        ensures read { IfNone result
+            (with_line limits.entries self.old line.entry.bytes.now ≡ Ok self.new) }
         ensures unchanged { IfSome result (λ left. self.new ≡ self.old) }
-        ensures left { IfSome result (λ left. IsParsed left × (left.bytes.now ≡ line.entry.bytes.now)) }
+        ensures left { IfSome result
+            (λ left. IsParsed left × (left.bytes.now ≡ line.entry.bytes.now)) }
     {
         let ChunkLine { bytes, parsed } = line;
         if !self.partial_line.is_empty() {

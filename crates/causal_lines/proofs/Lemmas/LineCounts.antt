@@ -65,7 +65,7 @@ accepted : (read : Result Stage TextKind) (number : ℕ) (t : Stage) → (read a
 accepted (Ok s) number t h = let same : s ≡ t = cc (h) in rw same refl
 accepted (Err k) number t h = absurd (let fault : TextFault = record { line = number; kind = k } in let no : Err fault ≡ Ok t = h in cc)
 
--- an accepted line is one more line, and the entries are within the limit
+-- a stage that a line leads to has one more line, and its entries are within the limit
 pub Counts-stage : (most : ℕ) (s : Stage) (end : ℕ) (line : List ℕ) (t : Stage) → entries_in s ≤ max_entries → advance_stage most s end line ≡ Ok t → Counts s t
 Counts-stage most Opening end line t few h = Counts-limit most Opening end line t few h
 Counts-stage most (Within version r) end line t few h = Counts-limit most (Within version r) end line t few h
