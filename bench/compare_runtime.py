@@ -4,11 +4,13 @@
 
     bench/compare_runtime.py BEFORE AFTER [--turns 9]
 
-Each folder has the programs `runtime_bench` (of `runtime/`), `runtime_log` and `causal_tool` of one build. A figure is the least of the
-turns; instructions are counted by `valgrind` once, since other work changes them little.
+Each folder has the programs `runtime_bench` (of `runtime/`), `runtime_log` and `causal_tool` of one build. A time is the least of the turns.
+A ratio to plain Rust is the median of the turns' own: the machine's speed changes within a minute, so the least times of two programs may
+come from moments of different speed. Instructions are counted by `valgrind` once, since other work changes them little.
 """
 import argparse
 import os
+import statistics
 import sys
 
 import measure_runtime
@@ -33,10 +35,16 @@ class Builds:
     def program(self, name):
         return [os.path.join(folder, name) for folder in self.folders]
 
+    def each_turn(self, programs, words):
+        """The figures of each program in each turn, one run of each after the other; `words` has the words of each."""
+        found = [[figures(said, program=program) for program, said in zip(programs, words)] for _ in range(self.turns)]
+        if any(None in turn for turn in found):
+            sys.exit(f"no figures: {words}")
+        return found
+
     def in_turn(self, programs, words):
-        """The least figures of each program, one run of each after the other; `words` has the words of each."""
-        turns = [[figures(said, program=program) for program, said in zip(programs, words)] for _ in range(self.turns)]
-        return [least(runs) or sys.exit(f"no figures: {words}") for runs in zip(*turns)]
+        """The least figures of each program."""
+        return [least(runs) for runs in zip(*self.each_turn(programs, words))]
 
     def aim(self, target, most, values):
         worst, row = max(values)
@@ -59,6 +67,11 @@ def short_lists(builds):
     return table(["kind", "n", "µs before", "µs", "/ before", "slowest / fastest before", "slowest / fastest"], rows)
 
 
+def each_listed(turn):
+    """Nanoseconds of a listed determinant, of the two builds and of plain Rust."""
+    return [sum(run[first:]) / run[listed] for run, first, listed in zip(turn, (4, 4, 2), (2, 2, 1))]
+
+
 def long_lists(builds):
     """Deliveries for f of 1, 2, 8 and n: nanoseconds for each listed determinant, beside plain Rust."""
     rows, ratios, plain = [], [], []
@@ -70,10 +83,11 @@ def long_lists(builds):
                 if fault != "n" and f >= n:
                     continue
                 words = ["core", kind, n, f, 1000]
-                told = builds.in_turn(programs, [words, words, words[1:4]])
-                before, after, beside = (sum(run[first:]) / run[listed] for run, first, listed in zip(told, (4, 4, 2), (2, 2, 1)))
-                rows.append((kind, n, f, f"{before:.0f}", f"{after:.0f}", f"{after / before:.2f}", f"{beside:.0f}", f"{after / beside:.2f}"))
-                plain.append((after / beside, f"{kind} of {n} for {f}"))
+                turns = builds.each_turn(programs, [words, words, words[1:4]])
+                before, after, beside = each_listed([least(runs) for runs in zip(*turns)])
+                to_plain = statistics.median(one / other for _, one, other in map(each_listed, turns))
+                rows.append((kind, n, f, f"{before:.0f}", f"{after:.0f}", f"{after / before:.2f}", f"{beside:.0f}", f"{to_plain:.2f}"))
+                plain.append((to_plain, f"{kind} of {n} for {f}"))
                 if fault != "n":
                     ratios.append(after / before)
     builds.aim(f"a listed determinant / before, on average over {len(ratios)} rows for f of 1, 2 and 8", MOST_AVERAGE,

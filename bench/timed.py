@@ -27,6 +27,14 @@ class Measured:
         self.status = None
         self.over = False
 
+    def add(self, other):
+        """Adds the runs of another."""
+        self.walls += other.walls
+        self.users += other.users
+        self.processor += other.processor
+        self.peak = max(self.peak, other.peak)
+        self.line, self.status, self.over = other.line, other.status, self.over or other.over
+
     def best(self):
         return min(self.walls)
 
