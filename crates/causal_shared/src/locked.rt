@@ -177,13 +177,18 @@ impl<S: Stable> Locked<S> {
         ensures state { IfOk result (λ l. locked_state l ≡ new_locked_state (core_run core) k) }
         ensures core { IfOk result (λ l. core_state_of l ≡ core_state core) }
     {
-        let seen = entry_count(&core);
-        let seats = new_seat_records(alloc, k, seen)?;
-        Ok(Locked {
-            core,
-            history: Vec::new(alloc),
-            seats,
-        })
+        match new_seat_records(alloc, k, entry_count(&core)) {
+            Ok(seats) => Ok(Locked {
+                core,
+                history: Vec::new(alloc),
+                seats,
+            }),
+            Err(NoMemory) => {
+                // dropped by a call: an early return that drops the core has a long proof
+                drop(core);
+                Err(NoMemory)
+            }
+        }
     }
 
     /// Law: the history is legal over the core's run, each seat's record fits it, and the trace contains the delivery

@@ -349,9 +349,15 @@ pub(crate) fn finish_core<S: Stable>(
         → HasOtherOpening (locked_state locked).run
         (locked_state locked).history seats.now opening.now.recording faults }
 {
-    if let Some(fault) = finish_fault(&locked, seats, tag, k, faults, opening) {
-        return Err(fault);
+    match finish_fault(&locked, seats, tag, k, faults, opening) {
+        Some(fault) => {
+            // dropped by a call: an early return that drops the locked value has a long proof
+            drop(locked);
+            Err(fault)
+        }
+        None => {
+            let (core, history) = locked.into_parts();
+            Ok(Finished { core, history })
+        }
     }
-    let (core, history) = locked.into_parts();
-    Ok(Finished { core, history })
 }

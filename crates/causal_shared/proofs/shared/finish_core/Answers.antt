@@ -26,29 +26,29 @@ returns-in-Some-clause-mismatch g c = λ n e. c.finish_fault.ensures.mismatch n 
 pub returns-in-Some-clause-opened : goal.returns-in-Some-clause-opened
 returns-in-Some-clause-opened g c = grind (arith, found)
 
-pub returns-clause-safe : goal.returns-clause-safe
-returns-clause-safe g c = invariant_safe (core_run c.into_parts-core.result.0) c.into_parts-core.result.0.invariant_holds
+pub returns-in-None-clause-safe : goal.returns-in-None-clause-safe
+returns-in-None-clause-safe g c = invariant_safe (core_run c.into_parts-core.result.0) c.into_parts-core.result.0.invariant_holds
 
-pub returns-clause-single : goal.returns-clause-single
-returns-clause-single g c = grind (arith, invariant_single)
+pub returns-in-None-clause-single : goal.returns-in-None-clause-single
+returns-in-None-clause-single g c = grind (arith, invariant_single)
 
-pub returns-clause-opening : goal.returns-clause-opening
-returns-clause-opening g c = rw (c.into_parts-core.ensures.run, c.into_parts-core.ensures.history) c.in_default.ensures.settled.begins
+pub returns-in-None-clause-opening : goal.returns-in-None-clause-opening
+returns-in-None-clause-opening g c = rw (c.into_parts-core.ensures.run, c.into_parts-core.ensures.history) c.in-None.ensures.settled.begins
 
-pub returns-clause-seats : goal.returns-clause-seats
-returns-clause-seats g c = rw c.into_parts-core.ensures.history c.in_default.ensures.settled.agree
+pub returns-in-None-clause-seats : goal.returns-in-None-clause-seats
+returns-in-None-clause-seats g c = rw c.into_parts-core.ensures.history c.in-None.ensures.settled.agree
 
-pub returns-clause-others : goal.returns-clause-others
-returns-clause-others g c = rw c.into_parts-core.ensures.history c.in_default.ensures.settled.seated
+pub returns-in-None-clause-others : goal.returns-in-None-clause-others
+returns-in-None-clause-others g c = rw c.into_parts-core.ensures.history c.in-None.ensures.settled.seated
 
-pub returns-clause-total : goal.returns-clause-total
-returns-clause-total g c = grind (arith, total_is)
+pub returns-in-None-clause-total : goal.returns-in-None-clause-total
+returns-in-None-clause-total g c = grind (arith, total_is)
 
-pub returns-clause-missing : goal.returns-clause-missing
-returns-clause-missing g c = grind (arith, ok_err)
+pub returns-in-None-clause-missing : goal.returns-in-None-clause-missing
+returns-in-None-clause-missing g c = grind (arith, ok_err)
 
-pub returns-clause-mismatch : goal.returns-clause-mismatch
-returns-clause-mismatch g c = grind (arith, ok_err)
+pub returns-in-None-clause-mismatch : goal.returns-in-None-clause-mismatch
+returns-in-None-clause-mismatch g c = grind (arith, ok_err)
 
-pub returns-clause-opened : goal.returns-clause-opened
-returns-clause-opened g c = grind (arith, ok_err)
+pub returns-in-None-clause-opened : goal.returns-in-None-clause-opened
+returns-in-None-clause-opened g c = grind (arith, ok_err)
