@@ -113,77 +113,75 @@ const COMMANDS: [CommandSpec; 6] = [
     },
 ];
 
-fn faults<'a>(alloc: Global, is_required: bool) -> Arg<'a> {
-    Arg::new(alloc, "faults")
-        .long("faults")
-        .value_name("F")
-        .help("How many processes may be down at once [0 to 65535]")
-        .required(is_required)
-        .allow_negative_numbers(true)
-        .value_parser(value_parser!(u16))
-}
-
-fn workers_option<'a>(alloc: Global) -> Arg<'a> {
-    number_option(alloc, "workers", "W", 64)
-        .help("How many threads work [1 to 64]")
-        .default_value("1")
-}
-
-fn entries_option<'a>(alloc: Global) -> Arg<'a> {
-    number_option(alloc, "entries", "N", 16_777_216)
-        .help("How many entries the trace may have [1 to 16777216]")
-        .default_value("65536")
-}
-
-/// Returns an option whose value is a number from 1 to `most`.
-fn number_option<'a>(
+/// Returns an option with a value.
+fn valued<'a>(
     alloc: Global,
     name: &'static str,
     letter: &'static str,
-    most: i64,
+    help: &'static str,
 ) -> Arg<'a> {
     Arg::new(alloc, name)
         .long(name)
         .value_name(letter)
-        .allow_negative_numbers(true)
-        .value_parser(value_parser!(u32).range(1..=most))
+        .help(help)
+}
+
+fn faults<'a>(alloc: Global, is_required: bool) -> Arg<'a> {
+    valued(
+        alloc,
+        "faults",
+        "F",
+        "How many processes may be down at once [0 to 65535]",
+    )
+    .required(is_required)
+    .allow_negative_numbers(true)
+    .value_parser(value_parser!(u16))
+}
+
+fn workers_option<'a>(alloc: Global) -> Arg<'a> {
+    let help = "How many threads work [1 to 64]";
+    number_option(valued(alloc, "workers", "W", help), 1, 64).default_value("1")
+}
+
+fn entries_option<'a>(alloc: Global) -> Arg<'a> {
+    let help = "How many entries the trace may have [1 to 16777216]";
+    number_option(valued(alloc, "entries", "N", help), 1, 16_777_216).default_value("65536")
 }
 
 fn around_option<'a>(alloc: Global) -> Arg<'a> {
-    Arg::new(alloc, "around")
-        .long("around")
-        .value_name("LINE")
-        .help("Draws entries around the one of this line of the text [2 to 16777217]")
+    let help = "Draws entries around the one of this line of the text [2 to 16777217]";
+    number_option(valued(alloc, "around", "LINE", help), 2, 16_777_217)
+}
+
+/// Lets the value of an option be a number from `least` to `most`.
+fn number_option(option: Arg<'_>, least: i64, most: i64) -> Arg<'_> {
+    option
         .allow_negative_numbers(true)
-        .value_parser(value_parser!(u32).range(2..=16_777_217))
+        .value_parser(value_parser!(u32).range(least..=most))
 }
 
 fn only_option<'a>(alloc: Global) -> Arg<'a> {
-    Arg::new(alloc, "only")
-        .long("only")
-        .value_name("PART")
-        .help("Draws the processes of the breach alone, and counts the others")
-        .value_parser(ValueParser::Names(&["breach"]))
+    let help = "Draws the processes of the breach alone, and counts the others";
+    valued(alloc, "only", "PART", help).value_parser(ValueParser::Names(&["breach"]))
 }
 
 /// Returns the option that ends an audit at a breach; its value may be left out.
 fn until_breach_option<'a>(alloc: Global) -> Arg<'a> {
-    Arg::new(alloc, "until-breach")
-        .long("until-breach")
-        .value_name("WHEN")
-        .help("Ends at the first breach found, without reading on; live also looks by time")
-        .num_args(0..=1)
-        .require_equals(true)
-        .default_missing_value("checkpoints")
-        .value_parser(ValueParser::Names(&["checkpoints", LIVE]))
+    valued(
+        alloc,
+        "until-breach",
+        "WHEN",
+        "Ends at the first breach found, without reading on; live also looks by time",
+    )
+    .num_args(0..=1)
+    .require_equals(true)
+    .default_missing_value("checkpoints")
+    .value_parser(ValueParser::Names(&["checkpoints", LIVE]))
 }
 
 /// Returns the option that names the file of a map.
 fn map_option<'a>(alloc: Global, help: &'static str) -> Arg<'a> {
-    Arg::new(alloc, "map")
-        .long("map")
-        .value_name("PATH")
-        .help(help)
+    valued(alloc, "map", "PATH", help)
 }
 
 /// Returns the option of a map that is read: for an explanation in lines.
@@ -204,19 +202,15 @@ fn flag<'a>(alloc: Global, name: &'static str, help: &'static str) -> Arg<'a> {
         .action(ArgAction::SetTrue)
 }
 
-/// Returns the argument that names the file that is read.
-fn file_argument<'a>(alloc: Global) -> Arg<'a> {
-    Arg::new(alloc, "file")
-        .value_name("FILE")
-        .help("The file that is read; -, or none, is standard input")
+/// Returns the argument that names what is read.
+fn file_argument<'a>(alloc: Global, help: &'static str) -> Arg<'a> {
+    Arg::new(alloc, "file").value_name("FILE").help(help)
 }
 
 /// Returns the argument that names any number of files.
 fn files_argument<'a>(alloc: Global) -> Arg<'a> {
-    Arg::new(alloc, "file")
-        .value_name("FILE")
-        .help("The files that are read, one after the other; -, or none, is standard input")
-        .num_args(0..)
+    let help = "The files that are read, one after the other; -, or none, is standard input";
+    file_argument(alloc, help).num_args(0..)
 }
 
 fn option<'a>(alloc: Global, given: OptionKind) -> Result<Arg<'a>, AllocError> {
@@ -226,48 +220,56 @@ fn option<'a>(alloc: Global, given: OptionKind) -> Result<Arg<'a>, AllocError> {
         OptionKind::Entries => entries_option(alloc),
         OptionKind::UntilBreach => until_breach_option(alloc),
         OptionKind::Json => flag(alloc, "json", "Answers with one JSON object"),
-        OptionKind::MapRead => map_read_option(alloc)?,
+        OptionKind::MapRead => return map_read_option(alloc),
         OptionKind::MapWritten => map_option(
             alloc,
             "Writes the file, the line and the clock of each entry into this file",
         ),
         OptionKind::Around => around_option(alloc),
         OptionKind::Only => only_option(alloc),
-        OptionKind::File => file_argument(alloc),
+        OptionKind::File => file_argument(
+            alloc,
+            "The file that is read; -, or none, is standard input",
+        ),
         OptionKind::Files => files_argument(alloc),
     })
 }
 
-/// Adds one command to the program's.
-fn add_command<'a>(
-    words: Command<'a>,
-    alloc: Global,
-    described: &CommandSpec,
-) -> Result<Command<'a>, AllocError> {
-    words.subcommand(subcommand_of(alloc, described)?)
+/// Returns the options of one command.
+fn options_of<'a>(alloc: Global, given: &[OptionKind]) -> Result<Vec<Arg<'a>>, AllocError> {
+    let mut options = Vec::new(alloc);
+    for kind in given {
+        options.push(option(alloc, *kind)?)?;
+    }
+    Ok(options)
 }
 
 /// Returns one command with its options.
 fn subcommand_of<'a>(alloc: Global, described: &CommandSpec) -> Result<Command<'a>, AllocError> {
-    let mut words = Command::new(alloc, described.name)
+    let options = options_of(alloc, described.given)?;
+    Command::new(alloc, described.name)
         .about(described.about)
-        .after_help(described.help);
-    for given in described.given {
-        words = words.arg(option(alloc, *given)?)?;
+        .after_help(described.help)
+        .args(options)
+}
+
+/// Returns the commands of the program.
+fn subcommands<'a>(alloc: Global) -> Result<Vec<Command<'a>>, AllocError> {
+    let mut subcommands = Vec::new(alloc);
+    for described in &COMMANDS {
+        subcommands.push(subcommand_of(alloc, described)?)?;
     }
-    Ok(words)
+    Ok(subcommands)
 }
 
 /// Returns the program with its commands.
 pub(crate) fn program_command<'a>(alloc: Global) -> Result<Command<'a>, AllocError> {
-    let mut words = Command::new(alloc, "causal_tool")
+    let subcommands = subcommands(alloc)?;
+    Command::new(alloc, "causal_tool")
         .about(
             "Audits recorded runs of processes that log their messages causally, and records such runs",
         )
         .version("1.0.0")
-        .subcommand_required(true);
-    for described in &COMMANDS {
-        words = add_command(words, alloc, described)?;
-    }
-    Ok(words)
+        .subcommand_required(true)
+        .subcommands(subcommands)
 }
