@@ -11,6 +11,10 @@ use causal_text::{PushReader, TextRefusal};
 use std::alloc::Global;
 use std::sync::atomic::{AtomicU64, Ordering};
 
+/// How much the heap of a thread grows before it parses, in bytes: about what a worker's part of a piece takes once it is parsed,
+/// and less than what the C library returns to the system as soon as it is free.
+const HEAP: usize = 122_880;
+
 /// The chunks of a piece, and how many of them are taken: a worker parses the next one that no other has taken.
 #[derive(Drop)]
 pub(crate) struct SharedChunks<'a> {
@@ -55,8 +59,9 @@ impl<'a> SharedChunks<'a> {
         true
     }
 
-    /// Parses chunks until all are taken.
+    /// Parses chunks until all are taken, in a thread of its own.
     pub(crate) fn parse_rest(&self, alloc: Global) {
+        grow_heap(alloc);
         for _i in 0..self.chunks.len() {
             if !self.parse_next(alloc) {
                 return;
@@ -133,4 +138,10 @@ impl<'a> SharedChunks<'a> {
             Err(refusal) => Err(refusal),
         }
     }
+}
+
+/// Grows the heap of this thread in one step. Otherwise the C library asks the system for it page by page, and the other threads wait
+/// each time. Without memory nothing changes.
+fn grow_heap(alloc: Global) {
+    let _ = Vec::<u8>::with_capacity(alloc, HEAP);
 }
