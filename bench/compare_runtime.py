@@ -74,7 +74,7 @@ def each_listed(turn):
 
 def long_lists(builds):
     """Deliveries for f of 1, 2, 8 and n: nanoseconds for each listed determinant, beside plain Rust."""
-    rows, ratios, plain = [], [], []
+    rows, ratios, plain, plain_least = [], [], [], []
     programs = [*builds.program("runtime_bench"), measure_runtime.YARDSTICK]
     for fault in (1, 2, 8, "n"):
         for kind in KINDS:
@@ -88,11 +88,13 @@ def long_lists(builds):
                 to_plain = statistics.median(one / other for _, one, other in map(each_listed, turns))
                 rows.append((kind, n, f, f"{before:.0f}", f"{after:.0f}", f"{after / before:.2f}", f"{beside:.0f}", f"{to_plain:.2f}"))
                 plain.append((to_plain, f"{kind} of {n} for {f}"))
+                plain_least.append((after / beside, f"{kind} of {n} for {f}"))
                 if fault != "n":
                     ratios.append(after / before)
     builds.aim(f"a listed determinant / before, on average over {len(ratios)} rows for f of 1, 2 and 8", MOST_AVERAGE,
                [(sum(ratios) / len(ratios), "average")])
-    builds.aim("a listed determinant / plain Rust", 1.0, plain)
+    builds.aim("a listed determinant / plain Rust, by the median of turns", 1.0, plain)
+    builds.aim("the same, by the least", 1.0, plain_least)
     return table(["kind", "n", "f", "ns before", "ns", "/ before", "plain ns", "/ plain"], rows)
 
 
