@@ -85,10 +85,6 @@ still_heard heard q p h = by (p == q)
 now_heard : (heard : ℕ → Bool) (q : ℕ) → with_value_at heard q true q ≡ true
 now_heard heard q = ap (λ b. if b then true else heard q) (eq-eqb q q refl)
 
--- the greater of two numbers
-max_low : (a b : ℕ) → a ≤ b → max a b ≡ b
-max_low a b h = omega (arith, h)
-
 below_of : (a b : ℕ) → nat_lt a b ≡ true → a < b
 below_of a b h = grind (arith, h)
 
@@ -229,9 +225,6 @@ module _ (position : ℕ) (s : NodeState) (k : IsNodeState s) where
 
     abbrev fits : IsRoundOf s r y
     fits = is_down.round.2
-
-    kept : IsRecoveryState s.identity (Some (Some r))
-    kept = subst (λ o. IsRecoveryState s.identity o) gathers k.recovery
 
     -- a state with a changed round represents the process with a changed round
     as_round : (change : RoundState → RoundState) (next : NodeRound) → IsRoundOf s (change r) next → Represents (with_recovery s (map_round change s.recovery)) (down_node (with_round x (Some next)))
