@@ -161,9 +161,6 @@ inner o q is other = some_none q (ap (λ o. unwrap_or o None) (sym is ∙ other)
 no_round : {A : Type 0} (q : RoundState) → None ≡ Some (Some q) → A
 no_round q is = absurd (some_none _ (sym is))
 
-same_round : (old : NodeState) (sent : List Sent) → RoundEffect old old sent
-same_round old sent q is = inl (q, is, refl, refl)
-
 reply_rounds : (s : NodeState) (view : List ℕ) (sent : List Sent) → RoundEffect s (node_after_answer s view) sent
 reply_rounds s view sent = by (knows_number s view) s.recovery refl
   where

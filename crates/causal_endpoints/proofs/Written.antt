@@ -53,11 +53,6 @@ pub all_shown : {A : Type 0} (P : A → Type 0) (xs : List A) → ((i : ℕ) (x 
 all_shown P [] h = tt
 all_shown P (x ∷ xs) h = (h 0 x refl, all_shown P xs (λ i y at. h (suc i) y at))
 
-pub all_at : {A : Type 0} (P : A → Type 0) (xs : List A) → AllByRecursion P xs → (i : ℕ) (x : A) → slice_get xs i ≡ Some x → P x
-all_at P [] h i x at = absurd (false≢true (ap is_some at))
-all_at P (y ∷ xs) h zero x at = subst P (ap (λ o. unwrap_or o y) at) h.0
-all_at P (y ∷ xs) h (suc i) x at = all_at P xs h.1 i x at
-
 -- the determinants of what is written
 wire_dets : (source : Pid) (items : List Item) → parcel_dets (map (wire_item source) items) ≡ log_dets_of items
 wire_dets source [] = refl
