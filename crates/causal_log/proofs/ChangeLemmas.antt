@@ -65,10 +65,6 @@ absorbed_elsewhere items from me log = λ q h. all_learned_elsewhere _ log q (ap
 pub marked_elsewhere : (log : LogMap) (det : Det) → DiffersAt (det ∷ []) log (after_mark log det)
 marked_elsewhere log det = λ q h. grind (arith, get_marked log det q, neither)
 
--- a determinant is noted
-pub noted : (f : ℕ) (log : LogMap) (items : List Item) (det : Det) (others changed : List Det) → CarriesBut ((det ∷ others) ++ changed) f log items → CarriesBut (others ++ (changed ++ det ∷ [])) f log items
-noted f log items det others changed right = λ q h. right q (grind (arith, list_any-append, neither, or_from))
-
 -- the items once a determinant that has changed is looked up: `out` comes before it, `later` after it
 module _ (f : ℕ) (log : LogMap) (det : Det) (out rest later : List Item) (before : is_ascending (dets_of out ++ det ∷ []) ≡ true) (after : is_ascending (det ∷ dets_of later) ≡ true) where
   none_ascends : is_ascending (dets_of (out ++ later)) ≡ true

@@ -52,16 +52,6 @@ module _ {V : Type 0} where
   keys_set (e ∷ es) zero x v at = ap (λ o. (unwrap_or o x).0 ∷ keys_of es) (sym at)
   keys_set (e ∷ es) (suc i) x v at = ap (λ ds. e.0 ∷ ds) (keys_set es i x v at)
 
-  -- writing an entry back with its own determinant and another value leaves the keys unchanged
-  pub keys_read : (es : List (Det × V)) (i : ℕ) (x : Det × V) (v : V) → x ≡ get_or es i x → keys_of (set es i (x.0, v)) ≡ keys_of es
-  keys_read [] i x v read = refl
-  keys_read (e ∷ es) zero x v read = ap (λ y. y.0 ∷ keys_of es) read
-  keys_read (e ∷ es) (suc i) x v read = ap (λ ds. e.0 ∷ ds) (keys_read es i x v read)
-
-  -- the entry read at an index is the entry there
-  pub read_is : (es : List (Det × V)) (i : ℕ) (x : Det × V) (d : Det) (was : V) → slice_get es i ≡ Some (d, was) → x ≡ get_or es i x → x ≡ (d, was)
-  read_is es i x d was at read = read ∙ get_or_from_slice_get es i (d, was) x at
-
 -- an empty list is distinct
 pub none_distinct : IsDistinct same_det []
 unfolding IsDistinct

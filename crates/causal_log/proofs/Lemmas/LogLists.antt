@@ -60,10 +60,6 @@ module _ (log : LogMap) (det other : Det) where
   get_mark (Some known) was true is = grind (arith, fin.get-insert dets_total log det (as_stable known) other, dets_total, det_ties other det, same_is other det is)
   get_mark (Some known) was false is = grind (arith, fin.get-insert, dets_total, det_ties)
 
-left : (o : Option Known) → kept_if (λ k. not k.stable) o ≡ cond (unwrap_or o unknown).stable None o
-left None = refl
-left (Some known) = elim known.stable as (λ b. cond (not b) (Some known) None ≡ cond b None (Some known)) [ true ↦ refl | false ↦ refl ]
-
 -- a mark changes only the marked entry
 pub get_marked : (log : LogMap) (det other : Det) → fin.get (after_mark log det) other ≡ cond (same_det other det) (option_map as_stable (fin.get log other)) (fin.get log other)
 get_marked log det other = get_mark log det other (fin.get log det) refl (same_det other det) refl
