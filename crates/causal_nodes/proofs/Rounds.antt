@@ -27,11 +27,6 @@ use Rattle.causal_nodes.proofs.Quiet.{number_up, number_down, gathering_of}
 pub le_self : (a : ℕ) → a ≤ a
 le_self a = omega arith
 
--- a number is the lane or the next one
-least_number : (b : Bool) (l : ℕ) → l ≤ cond b (l + 1) l
-least_number true l = omega arith
-least_number false l = omega arith
-
 greatest_number : (b : Bool) (l : ℕ) → cond b (l + 1) l ≤ l + 1
 greatest_number true l = omega arith
 greatest_number false l = omega arith
