@@ -49,9 +49,6 @@ module _ (n f : ℕ) (past : List Entry) (ms : Memories) (s : IsInvariantState n
   pub invariant : StepInvariant n f past (volatile_of ms)
   invariant = (reachable_safe n f past (volatile_of ms) s.reached).facts
 
-  pub forward : AreForward past
-  forward = (reachable_safe n f past (volatile_of ms) s.reached).forward
-
   pub safe : IsSafeTrace (record { processes = n; past = past }) f
   safe = (reachable_safe n f past (volatile_of ms) s.reached).safe
 
