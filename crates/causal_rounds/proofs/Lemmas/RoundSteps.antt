@@ -127,9 +127,6 @@ module _ (w : RecoveryState) (s y : ℕ) (up : Bool) (r : Round) (at : w.rounds 
   heard_other : (q : ℕ) → (q ≡ y → ⊥) → grown.replied q ≡ r.replied q
   heard_other q away = elim (set_at_cases r.replied y true q) [ inl is ↦ absurd (away is.0) | inr other ↦ other.1 ]
 
-  answered_other : (q : ℕ) → (q ≡ y → ⊥) → grown.answered q ≡ r.answered q
-  answered_other q away = elim (set_at_cases r.answered y up q) [ inl is ↦ absurd (away is.0) | inr other ↦ other.1 ]
-
   answered_more : (q : ℕ) → grown.answered q ≡ true → ((q ≡ y) × (up ≡ true)) ⊎ ((q ≡ y → ⊥) × (r.answered q ≡ true))
   answered_more q h = elim (set_at_cases r.answered y up q) [ inl is ↦ inl (is.0, sym is.1 ∙ h) | inr other ↦ inr (other.0, sym other.1 ∙ h) ]
 
