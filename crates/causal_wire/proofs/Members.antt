@@ -5,7 +5,7 @@ use Rattle.std.specs.Ordering.{nat_cmp}
 use Rattle.std.specs.List.{list_any, range_with_len}
 use Rattle.std.specs.Cmp.{nat_cmp_total, unsigned_tied}
 use Rattle.std.specs.FinSet as set
-use Rattle.std.proofs.lemmas.Bool.{leb-false, ltb-false, lt-leb, le-ltb, false≢true, or_left, or_right}
+use Rattle.std.proofs.lemmas.Bool.{leb-false, ltb-false, lt-leb, le-ltb, false≢true, or_left, or_right, false_from_ne_true}
 use Rattle.std.proofs.lemmas.Bool.Decides.{nat_tests, eqb_tells}
 use Rattle.causal_holders.specs.Members.{ascending}
 use Rattle.causal_wire.specs.declared.fault.WireFault.{WireFault}
@@ -13,10 +13,6 @@ use Rattle.causal_wire.specs.declared.fault.WireFault.TheVariants as faults
 use Rattle.causal_wire.specs.Parcels.{AreOthers}
 use Rattle.causal_wire.specs.Reading.{others_fault, unless, others_of}
 use Rattle.causal_wire.proofs.FieldLaws.{IsBytes, IsBytes-rest, ok_is}
-
-not_true : (b : Bool) → (b ≡ true → ⊥) → b ≡ false
-not_true true k = absurd (k refl)
-not_true false k = refl
 
 both : (a b : Bool) → (a ≡ true → b ≡ true) → (b ≡ true → a ≡ true) → a ≡ b
 both true b f g = sym (f refl)
@@ -128,7 +124,7 @@ listed-passing n source a (suc k) (p ∷ ps) h below =
       | inr t ↦
           let above : a < p = let apart_of : p ≡ a → ⊥ = t.1 in omega (arith, f.from, apart_of) in
           let higher : others_fault n source (a + 1) (p ∷ ps) ≡ no_fault = from_first n source (a + 1) p ps (record { below = f.below; from = omega (arith, above); other = f.other; rest = f.rest }) in
-          let gone : list_any (nat_eq a) (p ∷ ps) ≡ false = not_true (list_any (nat_eq a) (p ∷ ps)) (λ a_in. let l = listed_is n source (a + 1) (p ∷ ps) a higher a_in in absurd (omega (arith, l.0))) in
+          let gone : list_any (nat_eq a) (p ∷ ps) ≡ false = false_from_ne_true (list_any (nat_eq a) (p ∷ ps)) (λ a_in. let l = listed_is n source (a + 1) (p ∷ ps) a higher a_in in absurd (omega (arith, l.0))) in
           ap (λ b. if b then a ∷ passing (a + 1) k (λ q. list_any (nat_eq q) (p ∷ ps)) else passing (a + 1) k (λ q. list_any (nat_eq q) (p ∷ ps))) gone
           ∙ listed-passing n source (a + 1) k (p ∷ ps) higher (λ q q_in. omega (arith, below q q_in))
     ]
@@ -167,7 +163,7 @@ others_take n source listed s fits e =
               ∙ listed-passing n source 0 256 listed none (λ q q_in. omega (arith, bytes_below listed q fits q_in)),
           record {
             processes = λ p h. (listed_is n source 0 listed p none (sym (member-of listed p) ∙ h)).1;
-            others = not_true (set.contains (set.from_list listed) source) (λ h. absurd ((listed_is n source 0 listed source none (sym (member-of listed source) ∙ h)).2 refl));
+            others = false_from_ne_true (set.contains (set.from_list listed) source) (λ h. absurd ((listed_is n source 0 listed source none (sym (member-of listed source) ∙ h)).2 refl));
           },
         ) in
         subst (λ (t : set.FinSet nat_cmp). (ascending t ≡ listed) × AreOthers n source t) (ok_is (set.from_list listed) s k) made
