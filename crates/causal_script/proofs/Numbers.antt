@@ -3,7 +3,7 @@ use Rattle.std.proofs.Common.{◌≡◌, ◌≢◌, ◌⊎◌, ℕ, ◌<◌, ◌
 use Rattle.std.specs.Prelude.{slice_get, ◌&&◌, nat_le}
 use Rattle.std.specs.Str.{all_ascii_digits}
 use Rattle.std.specs.Str.Parse.{digits_value, ParsesUnsigned}
-use Rattle.std.proofs.lemmas.Bool.{eqb-true, eq-eqb}
+use Rattle.std.proofs.lemmas.Bool.{eqb-true, eq-eqb, and_parts}
 use Rattle.std.proofs.lemmas.Bool.Decides.{nat_tests}
 use Rattle.std.proofs.lemmas.Str.Parse.{IsNumeralModel, numerals_by_value, tells_all_ascii_digits, parse_plain}
 use Rattle.std.specs.Prelude.{IsUtf8, if◌then◌else◌, OkIff}
@@ -17,9 +17,6 @@ use Rattle.causal_script.proofs.Cuts.{Lacks, cut_front}
 -- digits spell the number that is their value
 pub own : IsNumeralModel (λ ds. all_ascii_digits ds ≡ true) (digits_value 10)
 own = numerals_by_value (λ ds. all_ascii_digits ds ≡ true) tells_all_ascii_digits
-
-both : (a b : Bool) → (a && b) ≡ true → (a ≡ true) × (b ≡ true)
-both a b h = grind arith
 
 -- digits without a leading zero
 pub record IsPlain (word : List ℕ) : Type 0 where
@@ -48,7 +45,7 @@ unfolding parse_number
 decimal-number_of limit n word small e = by_test (is_plain_number word && leb (digits_value 10 word) limit) refl e where
   by_test : (b : Bool) → (is_plain_number word && leb (digits_value 10 word) limit) ≡ b → cond b (Some (digits_value 10 word)) None ≡ Some n → (word ≡ decimal n) × (n ≤ limit)
   by_test true t e =
-      let parts = both (is_plain_number word) (leb (digits_value 10 word) limit) t in
+      let parts = and_parts (is_plain_number word) (leb (digits_value 10 word) limit) t in
       let value : digits_value 10 word ≡ n = same_Some _ _ e in
       let plain = plain_is word parts.0 in
       let within : digits_value 10 word ≤ limit = let fits : leb (digits_value 10 word) limit ≡ true = parts.1 in grind (arith, nat_tests) in
