@@ -6,6 +6,7 @@ use Rattle.std.specs.FinMap as fin
 use Rattle.std.specs.FinSet as set
 use Rattle.std.proofs.lemmas.Bool.{false≢true, both_ways, or_cases, and_parts, not_from_false}
 use Rattle.std.proofs.lemmas.Bool.Decides.{nat_tests}
+use Rattle.std.proofs.Math.Bool.{and_comm}
 use Rattle.causal_name.specs.declared.Det.{Det}
 use Rattle.causal_name.specs.Names.{det_cmp, same_det}
 use Rattle.causal_name.proofs.Lemmas.DetOrder.{dets_total, exact_dets, det_ties, same_is, same_itself}
@@ -21,13 +22,10 @@ use Rattle.causal_log.proofs.Lemmas.Searches.{any_kept, any_logged, passes}
 use Rattle.causal_protocol.specs.Gathering.{stable_set, without_dets}
 use Rattle.causal_protocol.specs.MemoryQueries.{has_entry, log_knows_holder, log_knows_stable, has_item, item_holder}
 
-swap : (a b : Bool) → (a && b) ≡ (b && a)
-swap a b = grind arith
-
 -- membership in what a log chooses for a message
 module _ (f : ℕ) (log : LogMap) (d : Det) where
   pub chosen_item : has_item d (batch_items f log) ≡ is_in_batch f (fin.get log d)
-  chosen_item = grind (arith, any_kept, swap, any_logged (is_carried f) d log, carried f (fin.get log d))
+  chosen_item = grind (arith, any_kept, and_comm, any_logged (is_carried f) d log, carried f (fin.get log d))
 
   pub chosen_holder : (q : ℕ) → item_holder d q (batch_items f log) ≡ passes (λ k. is_carried f k && set.contains k.holders q) (fin.get log d)
   chosen_holder q =
@@ -52,14 +50,14 @@ passes_stable o = grind arith
 -- membership in the lists of what a log knows to be stable, and of the rest
 pub stable_have : (log : LogMap) (d : Det) → list_has (stable_in log) d ≡ log_knows_stable d log
 stable_have log d =
-    any_kept (λ e. e.0) (λ e. e.1.stable) (same_det d) (λ e. same_det d e.0 && e.1.stable) (λ e. swap e.1.stable (same_det d e.0)) (fin.entries log)
+    any_kept (λ e. e.0) (λ e. e.1.stable) (same_det d) (λ e. same_det d e.0 && e.1.stable) (λ e. and_comm e.1.stable (same_det d e.0)) (fin.entries log)
     ∙ any_logged (λ k. k.stable) d log
     ∙ passes_stable (fin.get log d)
 
 -- a flush writes only what the log has
 pub unstable_logged : (log : LogMap) (d : Det) → list_has (unstable_in log) d ≡ true → has_entry d log ≡ true
 unstable_logged log d h =
-    let kept = any_kept (λ e. e.0) (λ e. not e.1.stable) (same_det d) (λ e. same_det d e.0 && not e.1.stable) (λ e. swap (not e.1.stable) (same_det d e.0)) (fin.entries log) in
+    let kept = any_kept (λ e. e.0) (λ e. not e.1.stable) (same_det d) (λ e. same_det d e.0 && not e.1.stable) (λ e. and_comm (not e.1.stable) (same_det d e.0)) (fin.entries log) in
     grind (arith, kept, any_logged (λ k. not k.stable) d log)
 
 -- a look-up after a mark

@@ -36,10 +36,6 @@ first_none x rest h = grind arith
 pub when_none : (b : Bool) (fault : CoreFault) → fault_if b fault ≡ None → b ≡ false
 when_none b fault h = grind arith
 
--- a test whose negation is false is true
-pub not_not : (b : Bool) → not b ≡ false → b ≡ true
-not_not b h = grind arith
-
 -- an option that is not `None` has a value
 pub is_there : {X : Type 0} (o : Option X) → is_none o ≡ false → (x : X) × (o ≡ Some x)
 is_there o h = grind arith

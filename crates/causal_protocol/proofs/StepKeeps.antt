@@ -3,7 +3,7 @@ use Rattle.std.proofs.Common.{ℕ, zero, suc, ◌≡◌, ◌+◌, ◌<◌, inl, 
 use Rattle.std.specs.Prelude.{◌==◌}
 use Rattle.std.specs.List.{filter_map}
 use Rattle.std.specs.Option.{option_map, option_map_or}
-use Rattle.std.proofs.lemmas.Bool.{false≢true, or_cases, or_left, or_right, and_parts, cond-true, cond-false, ltb-true}
+use Rattle.std.proofs.lemmas.Bool.{false≢true, or_cases, or_left, or_right, and_parts, cond-true, cond-false, ltb-true, not-false}
 use Rattle.std.proofs.lemmas.Bool.Decides.{eqb_tells}
 use Rattle.causal_name.specs.declared.Pid.{Pid}
 use Rattle.causal_name.specs.declared.MsgName.{MsgName}
@@ -33,7 +33,7 @@ use Rattle.causal_protocol.proofs.Places.{at_set, at_within, log_here}
 use Rattle.causal_protocol.proofs.LearnedLogs.{keys_have}
 use Rattle.causal_protocol.proofs.Choices.{unstable_logged, stable_have, marked_entry}
 use Rattle.causal_protocol.proofs.Lemmas.LogMembers.{own_have, items_have}
-use Rattle.causal_protocol.proofs.Refusals.{first_none, when_none, not_not, is_there, kept_for-is, kept_message, only_named, down_counted}
+use Rattle.causal_protocol.proofs.Refusals.{first_none, when_none, is_there, kept_for-is, kept_message, only_named, down_counted}
 use Rattle.causal_protocol.proofs.SoundSteps.{send_sound, was_sent, delivery_sound, stable_sound, forget_sound, crash_sound, restart_sound}
 
 -- the invariant of a state, with the memories that the run makes
@@ -111,7 +111,7 @@ module _ (r : Run) (s : SatisfiesInvariant r) where
       let row2 = first_none (fault_if (is_none (present_at ms q.0)) Faults.Down) _ row1.1 in
       let row3 = first_none (fault_unless_named asked (named_for ms (stable_of r) q)) _ row2.1 in
       let row4 = first_none (fault_if (is_none (sent_message_for ms q asked)) Faults.NotAvailable) _ row3.1 in
-      let low = and_parts (nat_lt q.0 n) (nat_lt source.0 n) (not_not _ (when_none _ Faults.NoProcess row1.0)) in
+      let low = and_parts (nat_lt q.0 n) (nat_lt source.0 n) (not-false _ (when_none _ Faults.NoProcess row1.0)) in
       let up = is_there (present_at ms q.0) (when_none _ Faults.Down row2.0) in
       let kept = is_there (sent_message_for ms q asked) (when_none _ Faults.NotAvailable row4.0) in
       let by = kept_for-is ms q asked kept.0 kept.1 in
