@@ -1,5 +1,6 @@
 -- A world represents each network that nodes reach, and so the network is safe.
 use Rattle.std.proofs.Common.{ℕ, suc, ◌≡◌, ◌<◌, ◌≤◌, inl, inr, false, not, nat_lt, List, [], ◌∷◌, ◌++◌, length, Option, None, refl, sym, ap, subst, ◌∙◌, arith}
+use Rattle.std.proofs.lemmas.Bool.{lt-ltb}
 use Rattle.causal_name.specs.declared.Pid.{Pid}
 use Rattle.causal_name.specs.declared.Det.{Det}
 use Rattle.causal_trace.specs.declared.entry.Entry.{Entry}
@@ -9,7 +10,6 @@ use Rattle.causal_rounds.specs.Rounds.{with_value_at}
 use Rattle.causal_rounds.specs.Acceptance.{by_floor, by_sender}
 use Rattle.causal_world.specs.World.{Packet, World, carrier_of, volatile_of}
 use Rattle.causal_world.specs.Reachable.{IsInitialWorld, IsReachableWorld, opening}
-use Rattle.causal_world.proofs.Lemmas.Functions.{below_is}
 use Rattle.causal_world.proofs.Lemmas.Transit.{is_accepted, in_transit_of, landed_in_transit}
 use Rattle.causal_world.proofs.Lemmas.ReachableWorlds.{worlds_are_safe, worlds_share_no_slot}
 use Rattle.causal_nodes.specs.Node.{Node, lane_or_next}
@@ -98,7 +98,7 @@ opens n f net o = (
 )
   where
     begun : (p : ℕ) → p < suc n → not (nat_lt p (suc n)) ≡ false
-    begun p low = ap not (below_is p (suc n) low)
+    begun p low = ap not (lt-ltb p (suc n) low)
 
     above : (q m : ℕ) → m ≤ q → nat_lt q m ≡ false
     above q m high = grind (arith, high)

@@ -1,7 +1,7 @@
 -- A process crashes, begins a round, gives it up, or comes up.
 use Rattle.std.proofs.Common.{ℕ, suc, ◌+◌, ◌≡◌, ◌<◌, ◌≤◌, inl, inr, Bool, true, false, cond, not, ◌&&◌, ◌||◌, nat_lt, List, ◌∷◌, Option, Some, None, refl, sym, ap, subst, ◌∙◌, arith}
 use Rattle.std.specs.Prelude.{◌⊎◌, ◌==◌}
-use Rattle.std.proofs.lemmas.Bool.{false≢true, both_ways, or_cases, or_left, and_left, and_parts, and_from, eqb-true, cases_lt, cases_eq, cond-true, cond-false}
+use Rattle.std.proofs.lemmas.Bool.{false≢true, both_ways, or_cases, or_left, and_left, and_parts, and_from, eqb-true, cases_lt, cases_eq, cond-true, cond-false, lt-ltb}
 use Rattle.causal_name.specs.declared.Pid.{Pid}
 use Rattle.causal_name.specs.declared.Det.{Det}
 use Rattle.causal_name.specs.Sets.{count_below}
@@ -14,7 +14,7 @@ use Rattle.causal_rounds.proofs.Lemmas.RoundSteps.{set_at_cases}
 use Rattle.causal_world.specs.World.{Packet, World, GatheredFrom, volatile_of}
 use Rattle.causal_world.specs.Steps as world
 use Rattle.causal_world.specs.Reachable.{IsReachableWorld, next_world}
-use Rattle.causal_world.proofs.Lemmas.Functions.{set_at_here, set_at_away, below_is}
+use Rattle.causal_world.proofs.Lemmas.Functions.{set_at_here, set_at_away}
 use Rattle.causal_nodes.specs.Node.{UpNode, NodeRound, DownNode, Node, up_node, down_node, is_node_down}
 use Rattle.causal_nodes.specs.Packets.{Sent, question_packet, WasSent, is_of_round}
 use Rattle.causal_nodes.specs.NodeSteps.{with_round, fallen_node, new_node_round, up_after_restart}
@@ -149,7 +149,7 @@ module _ (n f : ℕ) (net : Network) (w : World) (reach : IsReachableWorld n f w
       above_is q m high = grind (arith, high)
 
       in_view : (q : ℕ) → q < n → full_view q ≡ view q
-      in_view q low_q = cond-true (nat_lt q n) (view q) (number w.rounds q) (below_is q n low_q)
+      in_view q low_q = cond-true (nat_lt q n) (view q) (number w.rounds q) (lt-ltb q n low_q)
 
       out_view : (q : ℕ) → n ≤ q → full_view q ≡ number w.rounds q
       out_view q high = cond-false (nat_lt q n) (view q) (number w.rounds q) (above_is q n high)
@@ -199,7 +199,7 @@ module _ (n f : ℕ) (net : Network) (w : World) (reach : IsReachableWorld n f w
       pub begins : IsWorldOf n f (record { past = net.past; nodes = with_value_at net.nodes me (down_node (with_round x (Some (new_node_round name view)))); sent = question_packet me name view ∷ net.sent; stored = net.stored; floors = net.floors })
       begins = (
         begun,
-        next_world w begun reach (world.begin me full_view absent low before.is_down (in_view me low ∙ own ∙ ap (λ m. m + 1) (sym before.lane)) all_told (λ q low_q. ap not (below_is q (suc n) low_q)) gone),
+        next_world w begun reach (world.begin me full_view absent low before.is_down (in_view me low ∙ own ∙ ap (λ m. m + 1) (sym before.lane)) all_told (λ q low_q. ap not (lt-ltb q (suc n) low_q)) gone),
         record {
           past = rep.past;
           nodes = nodes_and_one n begun (question_packet me name view ∷ net.sent) net.nodes me (down_node (with_round x (Some (new_node_round name view))))
@@ -266,7 +266,7 @@ module _ (n f : ℕ) (net : Network) (w : World) (reach : IsReachableWorld n f w
       where
         by : (b : Bool) → logs w.past me.0 d ≡ b → logs w.past me.0 d ≡ false
         by false h = h
-        by true h = absurd (both_ways (w.rounds.down me.0) (((invariant n f net w reach rep).dets d).logs_up me.0 (or_left _ _ (and_from (nat_lt me.0 n) (logs w.past me.0 d) (below_is me.0 n low) h))) was_down.is_down)
+        by true h = absurd (both_ways (w.rounds.down me.0) (((invariant n f net w reach rep).dets d).logs_up me.0 (or_left _ _ (and_from (nat_lt me.0 n) (logs w.past me.0 d) (lt-ltb me.0 n low) h))) was_down.is_down)
 
     knows_nothing : (d : Det) (q : ℕ) → w.knows_holder me.0 d q ≡ true → ⊥
     knows_nothing d q h = both_ways (logs w.past me.0 d) (logs_nothing d) ((reachable_safe n f w.past (volatile_of n w) (invariant n f net w reach rep).reached).facts.known_logged me.0 d q low h).1

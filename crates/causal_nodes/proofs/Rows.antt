@@ -2,7 +2,7 @@
 use Rattle.std.proofs.Common.{ℕ, ◌+◌, ◌≡◌, ◌<◌, ◌≤◌, Bool, true, false, not, nat_lt, nat_le, List, [], ◌∷◌, length, Some, None, refl, ap, ◌∙◌, arith}
 use Rattle.std.specs.List.{list_any, list_all}
 use Rattle.std.specs.Option.{option_map_or}
-use Rattle.std.proofs.lemmas.Bool.{or_from, or_left, or_right, and_from, eq-eqb, cond-false}
+use Rattle.std.proofs.lemmas.Bool.{or_from, or_left, or_right, and_from, eq-eqb, cond-false, lt-ltb, le-ltb}
 use Rattle.causal_name.specs.declared.Det.{Det}
 use Rattle.causal_name.specs.Names.{same_det, is_ascending}
 use Rattle.causal_name.proofs.Lemmas.DetOrder.{same_itself}
@@ -12,7 +12,6 @@ use Rattle.causal_trace.specs.declared.fault.TraceFault.{TraceFault}
 use Rattle.causal_trace.specs.Limits.{max_entries, max_listed, max_restarts}
 use Rattle.causal_trace.specs.Past.{list_has, is_down, sends, deliveries, message_at, is_sent_to, det_of, is_delivered, has_delivered, listed_by, listed_in, restarts}
 use Rattle.causal_trace.specs.Rows.{exceeds_any_limit, are_delivered, are_delivered_with, rows_within, refusal_rows, first_refusal, first_fault, AreLegalEntries}
-use Rattle.causal_world.proofs.Lemmas.Functions.{below_is}
 
 -- what makes an entry legal, within the limits of a trace
 abbrev pub IsLegalHere : ℕ → List Entry → Entry → Type 0
@@ -48,23 +47,20 @@ no_refusal : (rows : List (Bool × TraceFault)) → NoneHolds rows → first_ref
 no_refusal [] h = refl
 no_refusal (row ∷ rest) h = cond-false row.0 (Some row.1) (first_refusal rest) h.0 ∙ no_refusal rest h.1
 
-not_above : (a b : ℕ) → b ≤ a → nat_lt a b ≡ false
-not_above a b h = grind (arith, h)
-
 not_up_to : (a b : ℕ) → b < a → nat_le a b ≡ false
 not_up_to a b h = grind (arith, h)
 
 module _ (n : ℕ) (past : List Entry) (count : length past + 1 ≤ max_entries) where
   within : (k : ℕ) → listed_in past + k ≤ max_listed → exceeds_any_limit past k ≡ false
-  within k listed = or_from (nat_lt max_entries (length past + 1)) (nat_lt max_listed (listed_in past + k)) (not_above max_entries (length past + 1) count) (not_above max_listed (listed_in past + k) listed)
+  within k listed = or_from (nat_lt max_entries (length past + 1)) (nat_lt max_listed (listed_in past + k)) (le-ltb max_entries (length past + 1) count) (le-ltb max_listed (listed_in past + k) listed)
 
   is_process : (p : ℕ) → p < n → not (nat_lt p n) ≡ false
-  is_process p low = ap not (below_is p n low)
+  is_process p low = ap not (lt-ltb p n low)
 
   legal_if : (e : Entry) → IsLegalHere n past e → listed_in past + length (listed_by e) ≤ max_listed → restarts (e ∷ past) ≤ max_restarts → first_fault n past e ≡ None
   unfolding rows_within
   legal_if (Send from to ssn) h listed lanes =
-      no_refusal (refusal_rows n past (Send from to ssn)) (within 0 listed, (ap not (and_from (nat_lt from.0 n) (nat_lt to.0 n) (below_is from.0 n h.0) (below_is to.0 n h.1)), (h.2, (ap not (eq-eqb ssn (sends past from.0) h.3), tt))))
+      no_refusal (refusal_rows n past (Send from to ssn)) (within 0 listed, (ap not (and_from (nat_lt from.0 n) (nat_lt to.0 n) (lt-ltb from.0 n h.0) (lt-ltb to.0 n h.1)), (h.2, (ap not (eq-eqb ssn (sends past from.0) h.3), tt))))
   legal_if (Deliver to send rsn listed) h few lanes =
       no_refusal (refusal_rows n past (Deliver to send rsn listed))
       (within (length listed) few, (is_process to.0 h.0, (h.1, (ap not h.2, (ap not (eq-eqb rsn (deliveries past to.0) h.3), (h.4, (ap not h.5, (ap not h.6, tt))))))))

@@ -2,7 +2,7 @@
 use Rattle.std.proofs.Common.{ℕ, ◌≡◌, ◌<◌, ◌≤◌, inl, inr, Bool, true, false, cond, ◌||◌, nat_lt, ◌∷◌, Some, refl, sym, ap, subst, ◌∙◌, arith}
 use Rattle.std.specs.Prelude.{◌⊎◌, ◌==◌, max}
 use Rattle.std.proofs.Math.Nat.{le-max_left, le-max_right, max-le}
-use Rattle.std.proofs.lemmas.Bool.{both_ways, or_cases, or_left, or_right, and_left, and_right, and_from, eq-eqb, cases_lt, cases_eq, cond-true, cond-false}
+use Rattle.std.proofs.lemmas.Bool.{both_ways, or_cases, or_left, or_right, and_left, and_right, and_from, eq-eqb, cases_lt, cases_eq, cond-true, cond-false, lt-ltb}
 use Rattle.causal_name.specs.declared.Det.{Det}
 use Rattle.causal_trace.specs.Past.{is_stable}
 use Rattle.causal_rounds.specs.Rounds.{with_value_at, Round, number, with_reply}
@@ -10,7 +10,7 @@ use Rattle.causal_rounds.proofs.Lemmas.RoundSteps.{set_at_cases}
 use Rattle.causal_world.specs.World.{Packet, World}
 use Rattle.causal_world.specs.Steps as world
 use Rattle.causal_world.specs.Reachable.{IsReachableWorld, next_world}
-use Rattle.causal_world.proofs.Lemmas.Functions.{set_at_here, set_at_away, below_is}
+use Rattle.causal_world.proofs.Lemmas.Functions.{set_at_here, set_at_away}
 use Rattle.causal_nodes.specs.Node.{NodeRound, DownNode, down_node}
 use Rattle.causal_nodes.specs.Packets.{Sent, write_packet, written_packet, read_packet, answer_packet, stored_packet, WasSent}
 use Rattle.causal_nodes.specs.NodeSteps.{raised}
@@ -28,7 +28,7 @@ abbrev pub bounded : ℕ → (ℕ → ℕ) → ℕ → ℕ
 bounded n view z = cond (nat_lt z n) (view z) 0
 
 pub bounded_is : (n : ℕ) (view : ℕ → ℕ) (z : ℕ) → z < n → bounded n view z ≡ view z
-bounded_is n view z low = cond-true (nat_lt z n) (view z) 0 (below_is z n low)
+bounded_is n view z low = cond-true (nat_lt z n) (view z) 0 (lt-ltb z n low)
 
 pub bounded_told : (n : ℕ) (w : World) (view : ℕ → ℕ) → IsTold n w view → (z : ℕ) → bounded n view z ≤ number w.rounds z
 bounded_told n w view told z = elim (cases_lt z n) [

@@ -2,7 +2,7 @@
 use Rattle.std.proofs.Common.{ℕ, suc, ◌+◌, ◌≡◌, ◌<◌, ◌≤◌, inl, inr, Bool, true, false, cond, not, ◌&&◌, ◌||◌, nat_lt, List, ◌∷◌, Some, None, refl, sym, ap, subst, ◌∙◌, arith}
 use Rattle.std.specs.Prelude.{◌⊎◌, ◌==◌}
 use Rattle.std.specs.Option.{option_map}
-use Rattle.std.proofs.lemmas.Bool.{both_ways, or_cases, or_left, or_right, and_from, eq-eqb, ne_eqb, cond-true}
+use Rattle.std.proofs.lemmas.Bool.{both_ways, or_cases, or_left, or_right, and_from, eq-eqb, ne_eqb, cond-true, lt-ltb}
 use Rattle.causal_name.specs.declared.Pid.{Pid}
 use Rattle.causal_name.specs.declared.MsgName.{MsgName}
 use Rattle.causal_name.specs.declared.Det.{Det}
@@ -21,7 +21,6 @@ use Rattle.causal_rounds.proofs.Lemmas.RoundSteps.{set_at_cases}
 use Rattle.causal_rounds.proofs.Lemmas.GatheredSteps.{det_step_preserves}
 use Rattle.causal_world.specs.World.{Packet, World, carrier_of, if_carries, volatile_of, det_state_of}
 use Rattle.causal_world.specs.Invariant.{WorldInvariant}
-use Rattle.causal_world.proofs.Lemmas.Functions.{below_is}
 use Rattle.causal_world.proofs.Lemmas.Transit.{in_transit_of, is_accepted, same_brings_nothing}
 use Rattle.causal_world.proofs.Crashes.{up_recovers_nothing}
 
@@ -72,7 +71,7 @@ module _ (n f : ℕ) (w : World) (k : WorldInvariant n f w) (to : Pid) (send rsn
   logs_listed d h q = elim (set_at_cases (logs_before d) to.0 true q) [
     | inl is ↦
         let same : (to.0 == q) ≡ true = eq-eqb to.0 q (sym is.0) in
-        let small : nat_lt q n ≡ true = subst (λ x. nat_lt x n ≡ true) (sym is.0) (below_is to.0 n low) in
+        let small : nat_lt q n ≡ true = subst (λ x. nat_lt x n ≡ true) (sym is.0) (lt-ltb to.0 n low) in
         is.1 ∙ sym (at_to (nat_lt q n) (to.0 == q) (list_has listed d) (logs w.past q d) (q == n && w.stored d) small same h)
     | inr other ↦ let differ : (to.0 == q) ≡ false = ne_eqb to.0 q (λ e. other.0 (sym e)) in other.1 ∙ sym (elsewhere (nat_lt q n) (to.0 == q) (list_has listed d) (logs w.past q d) (q == n && w.stored d) differ)
   ]
@@ -108,7 +107,7 @@ module _ (n f : ℕ) (w : World) (k : WorldInvariant n f w) (to : Pid) (send rsn
         where
           logged : (b : Bool) → logs w.past to.0 d ≡ b → DetInvariant (det_state_of n after d)
           logged true has_d =
-              let small : nat_lt to.0 n ≡ true = below_is to.0 n low in
+              let small : nat_lt to.0 n ≡ true = lt-ltb to.0 n low in
               reach (with_value_at (logs_before d) to.0 true) (recover_before d) (logs_listed d listed_d) (recover_old d (logged_not_new d has_d)) (det_step_preserves (det_state_of n w d) _ (deliver_again to.0 up (inl (or_left _ _ (and_from _ _ small has_d)))) k.rounds (k.dets d))
           logged false lacks = stable (is_stable w.past d) refl
             where

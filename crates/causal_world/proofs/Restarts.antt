@@ -1,7 +1,7 @@
 -- A process to which all others have replied comes up.
 use Rattle.std.proofs.Common.{ℕ, suc, ◌≡◌, ◌<◌, ◌≤◌, ◌+◌, inl, inr, Bool, true, false, not, ◌&&◌, ◌||◌, nat_lt, List, ◌∷◌, Some, None, refl, sym, ap, subst, ◌∙◌, arith}
 use Rattle.std.specs.Prelude.{◌⊎◌, ◌==◌}
-use Rattle.std.proofs.lemmas.Bool.{both_ways, or_cases, or_left, or_right, and_from, eq-eqb, ne_eqb, cond-true, cond-false}
+use Rattle.std.proofs.lemmas.Bool.{both_ways, or_cases, or_left, or_right, and_from, eq-eqb, ne_eqb, cond-true, cond-false, lt-ltb}
 use Rattle.std.proofs.lemmas.Bool.Decides.{eqb_tells}
 use Rattle.causal_name.specs.declared.Pid.{Pid}
 use Rattle.causal_name.specs.declared.Det.{Det}
@@ -20,7 +20,7 @@ use Rattle.causal_rounds.proofs.Lemmas.GatheredSteps.{det_step_preserves}
 use Rattle.causal_rounds.proofs.Lemmas.AcceptanceSteps.{restarts_miss_nothing}
 use Rattle.causal_world.specs.World.{Packet, World, GatheredFrom, carrier_of, is_acceptable, if_carries, volatile_of, det_state_of}
 use Rattle.causal_world.specs.Invariant.{AbsentAreDown, WorldInvariant}
-use Rattle.causal_world.proofs.Lemmas.Functions.{set_at_here, set_at_away, below_is, apart_is}
+use Rattle.causal_world.proofs.Lemmas.Functions.{set_at_here, set_at_away, apart_is}
 use Rattle.causal_world.proofs.Lemmas.Transit.{packet_of, in_transit_of, landed_in_transit, acceptable_is, is_accepted, rounds_bring_nothing}
 
 module _ (n f : ℕ) (w : World) (k : WorldInvariant n f w) (who : Pid) (listed : List Det) (r : Round) (known : ℕ → Det → ℕ → Bool) (marked : ℕ → Det → Bool) (low : who.0 < n) (at : w.rounds.rounds who.0 ≡ Some r)
@@ -55,7 +55,7 @@ module _ (n f : ℕ) (w : World) (k : WorldInvariant n f w) (who : Pid) (listed 
       by : (b : Bool) → logs w.past who.0 d ≡ b → logs w.past who.0 d ≡ false
       by false is = is
       by true is =
-          absurd (both_ways (w.rounds.down who.0) ((k.dets d).logs_up who.0 (or_left _ _ (and_from _ _ (below_is who.0 n low) is))) was_down)
+          absurd (both_ways (w.rounds.down who.0) ((k.dets d).logs_up who.0 (or_left _ _ (and_from _ _ (lt-ltb who.0 n low) is))) was_down)
 
   high_away : (p : ℕ) → suc n ≤ p → p ≡ who.0 → ⊥
   high_away p above is = omega (arith, low, above, is)
@@ -97,7 +97,7 @@ module _ (n f : ℕ) (w : World) (k : WorldInvariant n f w) (who : Pid) (listed 
       logs_stored h = or_right _ _ (and_from _ _ (eq-eqb n n refl) h)
 
       seen : IsLoggedBySome n w.past d ⊎ IsCarried (volatile_of n after) d → ((y : ℕ) × ((det_state_of n w d).logs y ≡ true)) ⊎ ((i : ℕ) × (t : Carrier) × ((det_state_of n w d).carriers i ≡ Some t) × IsAcceptable risen t)
-      seen (inl (y, below, has_d)) = inl (y, or_left _ _ (and_from _ _ (below_is y n below) has_d))
+      seen (inl (y, below, has_d)) = inl (y, or_left _ _ (and_from _ _ (lt-ltb y n below) has_d))
       seen (inr (t, in_transit, has_d)) =
           let found = packet_of n after t in_transit in
           let carries : found.1.parcel.carries d ≡ true = ap (λ (x : TransitParcel). x.carries d) found.4 ∙ has_d in
@@ -111,7 +111,7 @@ module _ (n f : ℕ) (w : World) (k : WorldInvariant n f w) (who : Pid) (listed 
 
       by : (b : Bool) → is_stable w.past d ≡ b → (list_has listed d ≡ true) ⊎ (is_stable w.past d ≡ true)
       by true is = inr is
-      by false is = lists d (restarts_miss_nothing (det_state_of n w d) who.0 r risen k.rounds (k.dets d) at all refl (and_from _ _ (below_is who.0 n low) lost) is (seen there))
+      by false is = lists d (restarts_miss_nothing (det_state_of n w d) who.0 r risen k.rounds (k.dets d) at all refl (and_from _ _ (lt-ltb who.0 n low) lost) is (seen there))
 
   abbrev logs_before : Det → ℕ → Bool
   logs_before d q = (nat_lt q n && logs w.past q d) || (q == n && w.stored d)
@@ -121,7 +121,7 @@ module _ (n f : ℕ) (w : World) (k : WorldInvariant n f w) (who : Pid) (listed 
   logs_after d g here away p = elim (eqb_tells p who.0) [
     | inl is ↦
         let same : (who.0 == p) ≡ true = eq-eqb who.0 p (sym is.1) in
-        let small : nat_lt p n ≡ true = subst (λ x. nat_lt x n ≡ true) (sym is.1) (below_is who.0 n low) in
+        let small : nat_lt p n ≡ true = subst (λ x. nat_lt x n ≡ true) (sym is.1) (lt-ltb who.0 n low) in
         let none : logs w.past p d ≡ false = subst (λ x. logs w.past x d ≡ false) (sym is.1) (logged_nothing d) in
         let apart : (p == n) ≡ false = subst (λ x. (x == n) ≡ false) (sym is.1) (apart_is who.0 n low) in
         ap g is.1 ∙ here ∙ sym (at_who (nat_lt p n) (who.0 == p) (list_has listed d) (logs w.past p d) (p == n) (w.stored d) small same none apart)

@@ -1,7 +1,7 @@
 -- Rounds begin, are given up and get replies.
 use Rattle.std.proofs.Common.{ℕ, suc, ◌≡◌, ◌<◌, ◌≤◌, ◌+◌, inl, inr, Bool, true, false, ◌&&◌, ◌||◌, nat_lt, Some, None, refl, sym, ap, subst, ◌∙◌, arith}
 use Rattle.std.specs.Prelude.{◌⊎◌, ◌==◌}
-use Rattle.std.proofs.lemmas.Bool.{both_ways, or_cases, or_left, or_right, eq-eqb, cond-false}
+use Rattle.std.proofs.lemmas.Bool.{both_ways, or_cases, or_left, or_right, eq-eqb, cond-false, lt-ltb}
 use Rattle.std.proofs.lemmas.Bool.Decides.{eqb_tells}
 use Rattle.causal_name.specs.declared.Det.{Det}
 use Rattle.causal_trace.specs.Past.{logs}
@@ -14,7 +14,7 @@ use Rattle.causal_rounds.proofs.Lemmas.RoundSteps.{set_at_cases, some_is, none_s
 use Rattle.causal_rounds.proofs.Lemmas.GatheredSteps.{det_step_preserves}
 use Rattle.causal_world.specs.World.{Packet, World, GatheredFrom, volatile_of, det_state_of}
 use Rattle.causal_world.specs.Invariant.{AbsentAreDown, ReadsLast, WorldInvariant}
-use Rattle.causal_world.proofs.Lemmas.Functions.{map_set_at, set_at_here, set_at_away, below_is, apart_is}
+use Rattle.causal_world.proofs.Lemmas.Functions.{map_set_at, set_at_here, set_at_away, apart_is}
 use Rattle.causal_world.proofs.Lemmas.Transit.{rounds_bring_nothing}
 
 abbrev with_state : DetState → RecoveryState → (ℕ → Bool) → DetState
@@ -253,7 +253,7 @@ module _ (n f : ℕ) (w : World) (k : WorldInvariant n f w) where
       }
 
       logs_low : (d : Det) → ((nat_lt y n && logs w.past y d) || (y == n && w.stored d)) ≡ logs w.past y d
-      logs_low d = let small : nat_lt y n ≡ true = below_is y n low in let apart : (y == n) ≡ false = apart_is y n low in grind (arith, small, apart)
+      logs_low d = let small : nat_lt y n ≡ true = lt-ltb y n low in let apart : (y == n) ≡ false = apart_is y n low in grind (arith, small, apart)
 
       dets : (d : Det) → DetInvariant (with_state (det_state_of n w d) told (λ q. with_value_at w.gathered s (λ d. w.gathered s d || logs w.past y d) q d))
       dets d = subst (λ (g : ℕ → Bool). DetInvariant (with_state (det_state_of n w d) told g))

@@ -1,7 +1,7 @@
 -- A process sends something.
 use Rattle.std.proofs.Common.{ℕ, ◌≡◌, ◌<◌, ◌≤◌, inl, inr, Bool, true, false, ◌&&◌, ◌||◌, nat_lt, List, ◌∷◌, length, Option, Some, None, refl, sym, ap, subst, ◌∙◌, arith}
 use Rattle.std.specs.Prelude.{◌⊎◌, ◌==◌}
-use Rattle.std.proofs.lemmas.Bool.{and_from, or_left, cond-true, cond-false}
+use Rattle.std.proofs.lemmas.Bool.{and_from, or_left, cond-true, cond-false, lt-ltb}
 use Rattle.causal_name.specs.declared.Pid.{Pid}
 use Rattle.causal_name.specs.declared.Det.{Det}
 use Rattle.causal_name.specs.Sets.{count_below}
@@ -17,7 +17,7 @@ use Rattle.causal_rounds.proofs.Lemmas.GatheredSteps.{det_step_preserves}
 use Rattle.causal_world.specs.World.{Packet, World, GatheredFrom, carrier_of, if_carries, volatile_of, det_state_of}
 use Rattle.causal_world.specs.Steps.{IsSentBy}
 use Rattle.causal_world.specs.Invariant.{StoresRight, WorldInvariant}
-use Rattle.causal_world.proofs.Lemmas.Functions.{map_set_at, set_at_same, below_is}
+use Rattle.causal_world.proofs.Lemmas.Functions.{map_set_at, set_at_same}
 use Rattle.causal_world.proofs.Lemmas.Transit.{one_is_new}
 
 module _ (n f : ℕ) (w : World) (p i : ℕ) (new : Packet) (s : IsSentBy n w p i new) (k : WorldInvariant n f w) where
@@ -46,7 +46,7 @@ module _ (n f : ℕ) (w : World) (p i : ℕ) (new : Packet) (s : IsSentBy n w p 
     where
       by : (b : Bool) → new.parcel.carries d ≡ b → DetInvariant (with_carrier d (det_state_of n w d) (if_carries d (Some new)))
       by true is =
-          let low : nat_lt p n ≡ true = below_is p n s.of_log.process in
+          let low : nat_lt p n ≡ true = lt-ltb p n s.of_log.process in
           let logs_it : ((nat_lt p n && logs w.past p d) || (p == n && w.stored d)) ≡ true = or_left _ _ (and_from _ _ low (s.of_log.logged d is)) in
           subst (λ c. DetInvariant (with_carrier d (det_state_of n w d) c)) (sym (carried d is)) (det_step_preserves (det_state_of n w d) _ (emit p new.to i up logs_it (free d)) k.rounds (k.dets d))
       by false is =

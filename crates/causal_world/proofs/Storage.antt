@@ -1,7 +1,7 @@
 -- Stable storage takes a write, an entry says what is stable, and a process forgets what is stable.
 use Rattle.std.proofs.Common.{ℕ, suc, ◌≡◌, ◌<◌, ◌≤◌, inl, inr, Bool, true, false, not, ◌&&◌, ◌||◌, nat_lt, List, ◌∷◌, Some, None, refl, sym, ap, subst, ◌∙◌, arith}
 use Rattle.std.specs.Prelude.{◌⊎◌, ◌==◌}
-use Rattle.std.proofs.lemmas.Bool.{both_ways, or_cases, or_left, or_right, and_from, and_parts, not_from_false, eqb-true, eq-eqb, ne_eqb, cond-true}
+use Rattle.std.proofs.lemmas.Bool.{both_ways, or_cases, or_left, or_right, and_from, and_parts, not_from_false, eqb-true, eq-eqb, ne_eqb, cond-true, lt-ltb}
 use Rattle.std.proofs.lemmas.Bool.Decides.{eqb_tells}
 use Rattle.causal_name.specs.declared.Pid.{Pid}
 use Rattle.causal_name.specs.declared.Det.{Det}
@@ -23,7 +23,7 @@ use Rattle.causal_rounds.proofs.Lemmas.RoundSteps.{set_at_cases, some_is}
 use Rattle.causal_rounds.proofs.Lemmas.GatheredSteps.{det_step_preserves, restarts_gather_all}
 use Rattle.causal_world.specs.World.{Packet, World, carrier_of, is_acceptable, if_carries, volatile_of, det_state_of}
 use Rattle.causal_world.specs.Invariant.{WorldInvariant}
-use Rattle.causal_world.proofs.Lemmas.Functions.{set_at_here, below_is, apart_is}
+use Rattle.causal_world.proofs.Lemmas.Functions.{set_at_here, apart_is}
 use Rattle.causal_world.proofs.Lemmas.Transit.{packet_of, in_transit_of, landed_in_transit, is_accepted, same_brings_nothing}
 use Rattle.causal_world.proofs.RoundChanges.{round_low}
 use Rattle.causal_world.proofs.Crashes.{up_recovers_nothing}
@@ -114,8 +114,8 @@ module _ (n f : ℕ) (w : World) (k : WorldInvariant n f w) where
         by false is = elim (subst (λ x. HasOrRecovers w.past d x) dest (facts.receivers_have_survivors d (inr (inr (p.parcel, written, carries))))) [
           | inl stable ↦ absurd (both_ways (is_stable w.past d) is stable)
           | inr holds ↦ elim (or_cases (logs w.past s d) (must_recover w.past s d) holds) [
-            | inl has_d ↦ absurd (both_ways (w.rounds.down s) ((k.dets d).logs_up s (or_left _ _ (and_from _ _ (below_is s n low) has_d))) (k.rounds.gathering_are_down s r here))
-            | inr lost ↦ restarts_gather_all (det_state_of n w d) s r k.rounds (k.dets d) here all (and_from _ _ (below_is s n low) lost) is (inr (i, carrier_of p, there d carries, to_up storage_up floor_to))
+            | inl has_d ↦ absurd (both_ways (w.rounds.down s) ((k.dets d).logs_up s (or_left _ _ (and_from _ _ (lt-ltb s n low) has_d))) (k.rounds.gathering_are_down s r here))
+            | inr lost ↦ restarts_gather_all (det_state_of n w d) s r k.rounds (k.dets d) here all (and_from _ _ (lt-ltb s n low) lost) is (inr (i, carrier_of p, there d carries, to_up storage_up floor_to))
           ]
         ]
 

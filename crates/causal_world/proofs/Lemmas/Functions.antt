@@ -22,8 +22,5 @@ set_at_here f p x = elim (set_at_cases f p x p) [ inl is ↦ is.1 | inr other �
 pub set_at_away : {X : Type 0} (f : ℕ → X) (p : ℕ) (x : X) (q : ℕ) → (q ≡ p → ⊥) → with_value_at f p x q ≡ f q
 set_at_away f p x q away = elim (set_at_cases f p x q) [ inl is ↦ absurd (away is.0) | inr other ↦ other.1 ]
 
-pub below_is : (a b : ℕ) → a < b → nat_lt a b ≡ true
-below_is a b h = grind (arith, h)
-
 pub apart_is : (a b : ℕ) → a < b → (a == b) ≡ false
 apart_is a b h = ne_eqb a b (λ e. omega (arith, h, e))
