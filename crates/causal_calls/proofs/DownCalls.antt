@@ -5,7 +5,7 @@ use Rattle.std.specs.Cmp.{nat_cmp_total}
 use Rattle.std.specs.Ordering.{nat_cmp, is_eq}
 use Rattle.std.specs.FinMap as fin
 use Rattle.std.specs.FinSet as set
-use Rattle.std.proofs.lemmas.Bool.{false≢true, or_cases, or_left, or_right, and_from, eqb-true, eq-eqb, both_ways}
+use Rattle.std.proofs.lemmas.Bool.{false≢true, or_cases, or_left, or_right, and_from, eqb-true, eq-eqb, both_ways, ltb-true, not-false}
 use Rattle.std.proofs.lemmas.Bool.Decides.{eqb_tells}
 use Rattle.causal_name.specs.declared.Pid.{Pid}
 use Rattle.causal_name.specs.declared.MsgName.{MsgName}
@@ -34,7 +34,7 @@ use Rattle.causal_calls.specs.Parcels.{log_packet}
 use Rattle.causal_calls.specs.StepLaws.{IsStepOf, IsNoStep}
 use Rattle.causal_calls.proofs.Lemmas.LogViews.{same_log, one_entry, one_holder, one_stable, one_holds, held_has, held_holder, held_stable}
 use Rattle.causal_protocol.proofs.Lemmas.LogMembers.{none_entry, none_holds, none_stable, entry_of_holder}
-use Rattle.causal_calls.proofs.Lemmas.Refusals.{from_not, or_else_none}
+use Rattle.causal_calls.proofs.Lemmas.Refusals.{or_else_none}
 use Rattle.causal_calls.proofs.Lemmas.Numbers.{set_other, set_here, zeros}
 use Rattle.causal_calls.proofs.Lemmas.Refusals.{not_below}
 use Rattle.causal_calls.proofs.UpCalls.{replies_not_up}
@@ -85,13 +85,10 @@ still_heard heard q p h = by (p == q)
 now_heard : (heard : ℕ → Bool) (q : ℕ) → with_value_at heard q true q ≡ true
 now_heard heard q = ap (λ b. if b then true else heard q) (eq-eqb q q refl)
 
-below_of : (a b : ℕ) → nat_lt a b ≡ true → a < b
-below_of a b h = grind (arith, h)
-
 -- a list after a number that is not less is set at one place, if it has the place
 set_number : (xs : List ℕ) (q value p : ℕ) → numbers xs q ≤ value → ((p == q ≡ true) × (p ≡ q)) ⊎ ((p == q ≡ false) × (p ≡ q → ⊥)) → (b : Bool) → nat_lt q (length xs) ≡ b
     → ((p ≡ q) × (numbers (if b then slice_set xs q value else xs) p ≤ value)) ⊎ ((p ≡ q → ⊥) × (numbers (if b then slice_set xs q value else xs) p ≡ numbers xs p))
-set_number xs q value p low (inl same) true within = inl (same.1, subst (λ m. numbers (slice_set xs q value) m ≤ value) (sym same.1) (omega (arith, set_here xs q value (below_of q (length xs) within))))
+set_number xs q value p low (inl same) true within = inl (same.1, subst (λ m. numbers (slice_set xs q value) m ≤ value) (sym same.1) (omega (arith, set_here xs q value (ltb-true q (length xs) within))))
 set_number xs q value p low (inl same) false within = inl (same.1, subst (λ m. numbers xs m ≤ value) (sym same.1) low)
 set_number xs q value p low (inr other) true within = inr (other.1, set_other xs q value p other.1)
 set_number xs q value p low (inr other) false within = inr (other.1, refl)
@@ -384,7 +381,7 @@ module _ (position : ℕ) (s : NodeState) (k : IsNodeState s) where
     restarts reserved legal =
         let done = or_else_none _ _ None (sym (ap node_restart_fault gathers) ∙ legal) in
         let none = no_left _ _ done.0 in
-        let read = from_not _ (no_right _ _ done.0) in
+        let read = not-false _ (no_right _ _ done.0) in
         subst (λ (o : Recovery). IsStepOf position s there None (after_restart_at s o reserved) [] (Restart me (fin.keys (after_restart_at s o reserved).memory.log) ∷ [])) (sym gathers) (record {
           next = up_node (theory.up_after_restart me.0 (x.lane + 1) y);
           step = restart_row x y (fin.keys (restart_log_of me r.log)) (map_ascends (restart_log_of me r.log)) is_down.round.1 (λ q low apart. by q low apart none read (eqb_tells q n)) (λ d. listed_is d ∙ sym (fits.has d));

@@ -4,7 +4,7 @@ use Rattle.std.specs.Prelude.{nat_lt, if◌then◌else◌, slice_set}
 use Rattle.std.specs.List.{list_any}
 use Rattle.std.specs.FinMap as fin
 use Rattle.std.specs.FinSet as set
-use Rattle.std.proofs.lemmas.Bool.{false≢true, or_cases, or_left, or_right, and_parts, and_from, eqb-true, eq-eqb, both_ways}
+use Rattle.std.proofs.lemmas.Bool.{false≢true, or_cases, or_left, or_right, and_parts, and_from, eqb-true, eq-eqb, both_ways, not-false}
 use Rattle.std.proofs.lemmas.List.Folds.{list_any-append}
 use Rattle.causal_name.specs.declared.Pid.{Pid}
 use Rattle.causal_name.specs.declared.MsgName.{MsgName}
@@ -33,14 +33,14 @@ use Rattle.causal_calls.specs.StepLaws.{NamesProcesses}
 use Rattle.causal_calls.proofs.Lemmas.LogViews.{delivered_has, delivered_holder, marked, one_holder, one_holds, held_has, held_holder}
 use Rattle.causal_protocol.proofs.Lemmas.LogMembers.{none_holds, none_entry}
 use Rattle.causal_calls.proofs.Lemmas.LogChanges.{learned, forgotten}
-use Rattle.causal_calls.proofs.Lemmas.Refusals.{from_not, or_else_none}
+use Rattle.causal_calls.proofs.Lemmas.Refusals.{or_else_none}
 use Rattle.causal_calls.proofs.Lemmas.Numbers.{set_other, set_here, set_length, zeros_length, raised_numbers, raised_length}
 use Rattle.causal_calls.proofs.Names.{has_names, inserted_name}
 use Rattle.causal_calls.proofs.DownCalls.{removed}
 
 -- a view that is answered has a number for each process
 sized : (s : NodeState) (asker : Pid) (view : List ℕ) → answer_fault s asker view ≡ None → s.identity.processes ≡ length view
-sized s asker view legal = sym (eqb-true _ _ (from_not _ (or_else_none _ _ _ (or_else_none _ _ _ legal).1).0))
+sized s asker view legal = sym (eqb-true _ _ (not-false _ (or_else_none _ _ _ (or_else_none _ _ _ legal).1).0))
 
 module _ (s : NodeState) (k : IsNodeState s) where
   abbrev me : Pid

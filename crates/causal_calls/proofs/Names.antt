@@ -10,7 +10,7 @@ use Rattle.std.specs.FinMap as fin
 use Rattle.std.specs.FinSet as set
 use Rattle.std.specs.declared.cmp.Ordering.{Ordering}
 use Rattle.std.specs.declared.cmp.Ordering.TheVariants.{Less, Equal, Greater}
-use Rattle.std.proofs.lemmas.Bool.{and_parts, eqb-true, eq-eqb, both_ways}
+use Rattle.std.proofs.lemmas.Bool.{and_parts, eqb-true, eq-eqb, both_ways, not-false}
 use Rattle.causal_name.specs.declared.Pid.{Pid}
 use Rattle.causal_name.specs.declared.MsgName.{MsgName}
 use Rattle.causal_name.specs.declared.Det.{Det}
@@ -30,7 +30,7 @@ use Rattle.causal_node.specs.NodeRecovery.{reply_fault}
 use Rattle.causal_node.specs.NodeAnswers.{raised_floors}
 use Rattle.causal_calls.specs.Views.{numbers}
 use Rattle.causal_calls.specs.StepLaws.{HasLogSingleSlots}
-use Rattle.causal_calls.proofs.Lemmas.Refusals.{from_not, some_none, or_else_none}
+use Rattle.causal_calls.proofs.Lemmas.Refusals.{some_none, or_else_none}
 
 -- names
 pub message_is : (a b : MsgName) → same_message a b ≡ true → a ≡ b
@@ -85,7 +85,7 @@ module _ (me : Pid) (m : Memory) (name : MsgName) (single : HasLogSingleSlots m.
       let there : has_entry least m.log ≡ true = sym (keys_logged m.log least) ∙ found.1 in
       let dest : least.dest ≡ d.dest = (λ i. record { 0 = eqb-true least.dest.0 me.0 slot.0 i }) ∙ sym mine in
       let same : least ≡ d = single least d there has dest (eqb-true least.rsn (length m.received) slot.1 ∙ sym next) in
-      ap message_of (sym same) ∙ message_is (message_of least) name (from_not _ (or_else_none _ _ rest h).0)
+      ap message_of (sym same) ∙ message_is (message_of least) name (not-false _ (or_else_none _ _ rest h).0)
 
   pub named_only : (reserved : Bool) (rest : Option NodeFault) → naming_fault (named_message_by me m None) reserved name rest ≡ None → message_of d ≡ name
   named_only = by_first (first_of_slot me (length m.received) (fin.keys m.log)) refl

@@ -4,7 +4,7 @@ use Rattle.std.specs.Prelude.{◌⊎◌, nat_lt, if◌then◌else◌}
 use Rattle.std.specs.List.{list_any}
 use Rattle.std.specs.FinMap as fin
 use Rattle.std.specs.FinSet as set
-use Rattle.std.proofs.lemmas.Bool.{false≢true, or_cases, or_right, and_parts, and_from, eqb-true, eq-eqb}
+use Rattle.std.proofs.lemmas.Bool.{false≢true, or_cases, or_right, and_parts, and_from, eqb-true, eq-eqb, not-false}
 use Rattle.causal_name.specs.declared.Pid.{Pid}
 use Rattle.causal_name.specs.declared.MsgName.{MsgName}
 use Rattle.causal_name.specs.declared.Det.{Det}
@@ -41,7 +41,7 @@ use Rattle.causal_calls.specs.StepLaws.{HasLogSingleSlots, IsStepOf, IsNoStep}
 use Rattle.causal_calls.proofs.Lemmas.LogViews.{delivered, marked}
 use Rattle.causal_protocol.proofs.Lemmas.LogMembers.{entry_of_holder, own_have, items_have}
 use Rattle.causal_calls.proofs.Lemmas.LogChanges.{learned, acknowledged_dets, acknowledged_holders, forgotten, forgotten_ascends, forgotten_stable, forgotten_made}
-use Rattle.causal_calls.proofs.Lemmas.Refusals.{below_from, not_below, from_not, or_else_none, unless_up_none}
+use Rattle.causal_calls.proofs.Lemmas.Refusals.{below_from, not_below, or_else_none, unless_up_none}
 use Rattle.causal_calls.proofs.Lemmas.Numbers.{raised_numbers}
 use Rattle.causal_calls.proofs.Names.{named_only}
 
@@ -191,7 +191,7 @@ module _ (position : ℕ) (s : NodeState) (k : IsNodeState s) (up : s.recovery �
       → IsStepOf position s here (Some (question_packet asker.0 name (numbers view))) (node_after_answer s view) (answer_packet name (log_packet me.0 s.lane asker.0 log) ∷ []) []
   answers asker name view legal reply =
       let knows = (replies_log (knows_number s view) s.recovery reply).0 in
-      let size : length view ≡ s.identity.processes = eqb-true _ _ (from_not _ (or_else_none _ _ _ (or_else_none _ _ _ legal).1).0) in
+      let size : length view ≡ s.identity.processes = eqb-true _ _ (not-false _ (or_else_none _ _ _ (or_else_none _ _ _ legal).1).0) in
       subst (λ (t : NodeState). IsStepOf position s here (Some (question_packet asker.0 name (numbers view))) t (answer_packet name (log_packet me.0 s.lane asker.0 log) ∷ []) []) (sym (answered view knows)) (record {
         next = up_node (theory.with_floors (up_view s) (theory.raised (numbers s.floors) (numbers view)));
         step = answer_row (up_view s) asker.0 name (numbers view) (log_packet me.0 s.lane asker.0 log) (eqb-true _ _ knows) (log_of_node asker.0) refl refl (λ d. refl);

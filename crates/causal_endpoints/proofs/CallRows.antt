@@ -3,7 +3,7 @@ use Rattle.std.proofs.Common.{ℕ, ◌≡◌, ◌∙◌, ◌==◌, ◌<◌, ◌�
 use Rattle.std.specs.Prelude.{slice_get, if◌then◌else◌}
 use Rattle.std.specs.FinMap as fin
 use Rattle.std.specs.FinSet as set
-use Rattle.std.proofs.lemmas.Bool.{false≢true, both_ways, eqb-true, eq-eqb}
+use Rattle.std.proofs.lemmas.Bool.{false≢true, both_ways, eqb-true, eq-eqb, not-false}
 use Rattle.std.proofs.lemmas.Option.{slice_get_within}
 use Rattle.causal_name.specs.declared.Pid.{Pid}
 use Rattle.causal_name.specs.declared.Det.{Det}
@@ -31,7 +31,7 @@ use Rattle.causal_calls.specs.Views.{numbers, IsRecoveryState}
 use Rattle.causal_calls.specs.Parcels.{message_with, acknowledgement_with, acknowledgement_of, next_message_packet, log_packet}
 use Rattle.causal_calls.specs.Calls.{NodeCall}
 use Rattle.causal_calls.specs.Calls as node
-use Rattle.causal_calls.proofs.Lemmas.Refusals.{from_not, of_round}
+use Rattle.causal_calls.proofs.Lemmas.Refusals.{of_round}
 use Rattle.causal_endpoint.specs.Endpoints.{EndpointState, run_of, head_to, next_clock, with_node}
 use Rattle.causal_endpoint.specs.Items.{wire_item, log_item, wire_entry, log_from}
 use Rattle.causal_endpoint.specs.Resending.{kept_body, resent_bytes, resend_fault}
@@ -312,7 +312,7 @@ calls_are_node_calls back past old new input output entries (receive now b p rec
     let same : p ≡ fits.0 = read_is (read_parcel (run_of old) b) p fits.0 read (ap (read_parcel (run_of old)) fits.2 ∙ back (run_of old) fits.0 k.run fits.1) in
     let dest = or_else_none _ _ _ legal in
     let source = or_else_none _ _ _ dest.1 in
-    let mine : p.0.dest ≡ old.node.identity.me = λ i. record { 0 = eqb-true p.0.dest.0 old.node.identity.me.0 (from_not _ dest.0) i } in
+    let mine : p.0.dest ≡ old.node.identity.me = λ i. record { 0 = eqb-true p.0.dest.0 old.node.identity.me.0 (not-false _ dest.0) i } in
     inl (receives back past old k few now b p.0 p.1 recorded read (subst (λ q. IsParcel (run_of old) q) (sym same) fits.1) mine (λ same_pid_is. false≢true (sym source.0 ∙ eq-eqb p.0.source.0 old.node.identity.me.0 same_pid_is)) source.1 records)
 calls_are_node_calls back past old new input output entries (write dets up logged) k few fits = inl (asks_storage back past old k few old _ (node.write dets up logged) refl)
 calls_are_node_calls back past old new input output entries (stored now dets det up legal has) k few fits = inl (quietly back past old k few _ _ _ _ (node.stored dets det up has) refl)

@@ -9,6 +9,7 @@ use Rattle.std.specs.FinMap as fin
 use Rattle.std.specs.FinMap.Entries.{find, is_sorted, below_all}
 use Rattle.std.specs.FinSet as set
 use Rattle.std.proofs.lemmas.Bool.{false≢true, and_parts, eq-eqb}
+use Rattle.std.proofs.Math.Bool.{and_comm, or_comm}
 use Rattle.causal_name.specs.declared.Det.{Det}
 use Rattle.causal_name.specs.declared.Slot.{Slot}
 use Rattle.causal_name.specs.Names.{det_cmp, same_det, same_pid, is_ascending}
@@ -68,9 +69,6 @@ module _ (log : LogMap) (items : List Item) where
   absorbs : (a b : Bool) → (a || (a && b)) ≡ a
   absorbs a b = grind arith
 
-  turned : (h k : Bool) → (h || k) ≡ (k || h)
-  turned h k = grind arith
-
   no_mark : (s has : Bool) (rest : Bool) → rest ≡ false → (s || (has && rest)) ≡ s
   no_mark s has rest h = grind (arith, h)
 
@@ -88,7 +86,7 @@ module _ (log : LogMap) (items : List Item) where
   learned_holder d q =
       known_all (λ k. set.contains k.holders q) (holds_either q) news log d
       ∙ ap (λ b. log_knows_holder d q log || b) (news_of d (λ item. set.contains item.holders q) (λ k. set.contains k.holders q) (λ item. refl))
-      ∙ turned (log_knows_holder d q log) (has_entry d log && item_holder d q items)
+      ∙ or_comm (log_knows_holder d q log) (has_entry d log && item_holder d q items)
 
   learned_stable : (d : Det) → log_knows_stable d (log_with_holders items log) ≡ log_knows_stable d log
   learned_stable d =
@@ -117,12 +115,9 @@ at_one d P (x ∷ xs) = by (same_det d x) refl (at_one d P xs)
 
 -- what an acknowledgement says
 module _ (log : LogMap) (dets : List Det) (d : Det) where
-  first_last : (a b : Bool) → (a && b) ≡ (b && a)
-  first_last a b = grind arith
-
   pub acknowledged_dets : has_item d (items_of_logged log dets) ≡ (list_has dets d && has_entry d log)
   acknowledged_dets =
-      any_kept (λ det. item_of (det, known_of log det)) (λ det. has_entry det log) (λ item. same_det d item.det) (λ det. same_det d det && has_entry det log) (λ det. first_last (has_entry det log) (same_det d det)) dets
+      any_kept (λ det. item_of (det, known_of log det)) (λ det. has_entry det log) (λ item. same_det d item.det) (λ det. same_det d det && has_entry det log) (λ det. and_comm (has_entry det log) (same_det d det)) dets
       ∙ at_one d (λ det. has_entry det log) dets
 
   swapped : (a b e : Bool) → (a && (b && e)) ≡ (b && (a && e))

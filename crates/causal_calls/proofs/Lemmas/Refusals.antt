@@ -2,16 +2,12 @@
 use Rattle.std.proofs.Common.{ℕ, ◌≡◌, ◌==◌, ◌<◌, ◌≤◌, Bool, true, false, not, Option, Some, None, is_some, refl, ap, arith, true≢false}
 use Rattle.std.specs.Prelude.{nat_lt}
 use Rattle.std.specs.FinSet as set
-use Rattle.std.proofs.lemmas.Bool.{and_parts, eqb-true}
+use Rattle.std.proofs.lemmas.Bool.{and_parts, eqb-true, not-false}
 use Rattle.causal_name.specs.declared.Pid.{Pid}
 use Rattle.causal_node.specs.declared.node_fault.NodeFault.{NodeFault}
 use Rattle.causal_node.specs.NodeStates.{Recovery, RoundState}
 use Rattle.causal_node.specs.NodeRefusals.{unless_up, or_else}
 use Rattle.causal_node.specs.NodeRecovery.{reply_fault}
-
-pub from_not : (b : Bool) → not b ≡ false → b ≡ true
-from_not true h = refl
-from_not false h = absurd (true≢false h)
 
 pub some_none : {X : Type 0} (x : X) → Some x ≡ None → ⊥
 some_none x h = true≢false (ap is_some h)
@@ -30,7 +26,7 @@ pub of_round : (o : Recovery) (name : ℕ) (q : Pid) → reply_fault o name q �
 of_round None name q h = absurd (some_none _ h)
 of_round (Some None) name q h = absurd (some_none _ h)
 of_round (Some (Some r)) name q h =
-    let both = and_parts (r.name == name) (set.contains r.awaited q.0) (from_not _ (or_else_none _ _ None h).0) in
+    let both = and_parts (r.name == name) (set.contains r.awaited q.0) (not-false _ (or_else_none _ _ None h).0) in
     (r, refl, eqb-true r.name name both.0, both.1)
 
 -- numbers
