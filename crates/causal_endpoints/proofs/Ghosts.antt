@@ -1,7 +1,7 @@
 -- Calls of nodes that endpoints need not make: a number that is sent, and what whoever knows of an end says for a process.
 use Rattle.std.proofs.Common.{ℕ, ◌≡◌, ◌∙◌, ◌==◌, ◌<◌, ◌≤◌, ◌+◌, Bool, true, false, not, ◌&&◌, ◌||◌, List, [], ◌∷◌, length, Some, None, inl, inr, replicate, sym, ap, subst, arith}
 use Rattle.std.specs.Prelude.{nat_le, nat_lt, slice_set, if◌then◌else◌}
-use Rattle.std.proofs.lemmas.Bool.{eq-eqb}
+use Rattle.std.proofs.lemmas.Bool.{eq-eqb, ne_eqb, le-ltb, or_from}
 use Rattle.std.proofs.lemmas.Bool.Decides.{eqb_tells}
 use Rattle.causal_name.specs.declared.Pid.{Pid}
 use Rattle.causal_name.specs.Names.{same_pid}
@@ -16,27 +16,18 @@ use Rattle.causal_calls.specs.Views.{numbers, IsNodeState}
 use Rattle.causal_calls.specs.Calls.{NodeCall, answer_number, answer_not_up}
 use Rattle.causal_calls.proofs.Lemmas.Numbers.{set_other, set_here, set_length, zeros}
 
-apart_is : (a b : ℕ) → (a ≡ b → ⊥) → (a == b) ≡ false
-apart_is a b other = elim (eqb_tells a b) [ inl is ↦ absurd (other is.1) | inr apart ↦ apart.0 ]
-
 within_is : (a b : ℕ) → a < b → nat_le b a ≡ false
 within_is a b low = grind (arith, low)
 
-not_less : (a b : ℕ) → b ≤ a → nat_lt a b ≡ false
-not_less a b low = grind (arith, low)
-
 not_itself : (a : ℕ) → (a + 1 == a) ≡ false
 not_itself a = elim (eqb_tells (a + 1) a) [ inl is ↦ absurd (omega (arith, is.1)) | inr other ↦ other.0 ]
-
-neither : (a b : Bool) → a ≡ false → b ≡ false → (a || b) ≡ false
-neither a b h k = grind (arith, h, k)
 
 -- a question that is not refused
 answered : (s : NodeState) (asker : Pid) (view : List ℕ) → asker.0 < s.identity.processes → (asker.0 ≡ s.identity.me.0 → ⊥) → length view ≡ s.identity.processes
     → nat_lt (floor_of view asker) (floor_of s.floors asker) ≡ false → (is_gathering s.recovery && (knows_number s view && nat_lt s.identity.me.0 asker.0)) ≡ false
     → answer_fault s asker view ≡ None
 answered s asker view low other size late waits = λ i.
-    or_else (neither (nat_le s.identity.processes asker.0) (same_pid asker s.identity.me) (within_is asker.0 s.identity.processes low) (apart_is asker.0 s.identity.me.0 other) i) Faults.NoProcess
+    or_else (or_from (nat_le s.identity.processes asker.0) (same_pid asker s.identity.me) (within_is asker.0 s.identity.processes low) (ne_eqb asker.0 s.identity.me.0 other) i) Faults.NoProcess
     (or_else (ap not (eq-eqb (length view) s.identity.processes size) i) Faults.View
     (or_else (late i) Faults.OldLane
     (or_else (waits i) Faults.NotYet None)))
@@ -52,7 +43,7 @@ module _ (position : ℕ) (s : NodeState) (k : IsNodeState s) (asker : Pid) (low
   pub tells_number : NodeCall position s None s (number_packet s.identity.me.0 s.lane ∷ []) []
   tells_number =
       let waits : (is_gathering s.recovery && (knows_number s view && nat_lt s.identity.me.0 asker.0)) ≡ false = ap (λ b. is_gathering s.recovery && (b && nat_lt s.identity.me.0 asker.0)) unknown ∙ never (is_gathering s.recovery) in
-      let late = not_less (numbers view asker.0) (numbers s.floors asker.0) (let same = set_other s.floors s.identity.me.0 (s.lane + 1) asker.0 other in omega (arith, same)) in
+      let late = le-ltb (numbers view asker.0) (numbers s.floors asker.0) (let same = set_other s.floors s.identity.me.0 (s.lane + 1) asker.0 other in omega (arith, same)) in
       subst (λ t. NodeCall position s None t (number_packet s.identity.me.0 s.lane ∷ []) []) (λ i. if unknown i then after_answer_at s view s.recovery else s)
       (answer_number asker view (answered s asker view low other (set_length s.floors s.identity.me.0 (s.lane + 1) ∙ k.floors) late waits) (λ i. if unknown i then reply_at s.recovery else Replies.OwnNumber))
     where
@@ -69,7 +60,7 @@ module _ (position : ℕ) (s : NodeState) (down : s.recovery ≡ Some None) (fre
   says_not_up name view size known =
       let knows : knows_number s view ≡ true = eq-eqb (numbers view s.identity.me.0) s.lane known in
       let waits : (is_gathering s.recovery && (knows_number s view && nat_lt s.identity.me.0 asker.0)) ≡ false = ap (λ (o : Recovery). is_gathering o && (knows_number s view && nat_lt s.identity.me.0 asker.0)) down in
-      let late = not_less (numbers view asker.0) (numbers s.floors asker.0) (omega (arith, no_floor)) in
+      let late = le-ltb (numbers view asker.0) (numbers s.floors asker.0) (omega (arith, no_floor)) in
       let same : node_after_answer s view ≡ s = (λ i. if knows i then after_answer_at s view (down i) else s) ∙ (λ i. record s { recovery = sym down i }) in
       subst (λ t. NodeCall position s (Some (question_packet asker.0 name (numbers view))) t (not_up_packet s.identity.me.0 asker.0 name ∷ []) []) same
       (answer_not_up asker name view (answered s asker view low other size late waits) (λ i. if knows i then reply_at (down i) else Replies.OwnNumber))

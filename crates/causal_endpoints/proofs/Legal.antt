@@ -11,10 +11,7 @@ use Rattle.causal_node.specs.NodeRounds.{unless_gathering, node_question_fault a
 use Rattle.causal_endpoint.specs.declared.fault.EndpointFault.{EndpointFault}
 use Rattle.causal_endpoint.specs.Refusals.{or_else, node_or, clock_fault}
 use Rattle.causal_calls.proofs.Lemmas.Refusals as node
-use Rattle.causal_calls.proofs.Lemmas.Refusals.{below_from}
-
-some_none : {X : Type 0} (x : X) → Some x ≡ None → ⊥
-some_none x h = false≢true (ap (λ o. not (is_some o)) h)
+use Rattle.causal_calls.proofs.Lemmas.Refusals.{below_from, some_none}
 
 pub or_else_none : (test : Bool) (fault : EndpointFault) (rest : Option EndpointFault) → or_else test fault rest ≡ None → (test ≡ false) × (rest ≡ None)
 or_else_none true fault rest h = absurd (some_none fault h)
