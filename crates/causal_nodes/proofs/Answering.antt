@@ -8,11 +8,10 @@ use Rattle.causal_name.specs.declared.Det.{Det}
 use Rattle.causal_trace.specs.Past.{logs, is_stable}
 use Rattle.causal_steps.proofs.Lemmas.Reachable.{reachable_safe}
 use Rattle.causal_rounds.specs.Rounds.{with_value_at, Round, number, with_reply}
-use Rattle.causal_rounds.proofs.Lemmas.RoundSteps.{set_at_cases}
+use Rattle.causal_rounds.proofs.Lemmas.RoundSteps.{set_at_cases, set_at_here, set_at_away}
 use Rattle.causal_world.specs.World.{Packet, World, carrier_of, if_carries, volatile_of}
 use Rattle.causal_world.specs.Steps as world
 use Rattle.causal_world.specs.Reachable.{IsReachableWorld, next_world}
-use Rattle.causal_world.proofs.Lemmas.Functions.{set_at_here, set_at_away}
 use Rattle.causal_nodes.specs.Node.{NodeRound, UpNode, DownNode, up_node, down_node}
 use Rattle.causal_nodes.specs.Packets.{Sent, question_packet, answer_packet, WasSent, is_of_round}
 use Rattle.causal_nodes.specs.NodeSteps.{IsOfNodeLog, raised, with_floors}

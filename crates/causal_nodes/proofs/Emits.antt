@@ -10,12 +10,11 @@ use Rattle.causal_trace.specs.declared.entry.Entry.{Entry}
 use Rattle.causal_trace.specs.declared.entry.Entry.TheVariants.{Send}
 use Rattle.causal_trace.specs.Past.{logs}
 use Rattle.causal_rounds.specs.Rounds.{with_value_at}
-use Rattle.causal_rounds.proofs.Lemmas.RoundSteps.{set_at_cases, none_some}
+use Rattle.causal_rounds.proofs.Lemmas.RoundSteps.{set_at_cases, none_some, set_at_here, set_at_away}
 use Rattle.causal_world.specs.World.{Packet, World}
 use Rattle.causal_world.specs.Steps.{IsSentBy}
 use Rattle.causal_world.specs.Steps as world
 use Rattle.causal_world.specs.Reachable.{IsReachableWorld, next_world}
-use Rattle.causal_world.proofs.Lemmas.Functions.{set_at_here, set_at_away}
 use Rattle.causal_nodes.specs.Node.{UpNode, up_node}
 use Rattle.causal_nodes.specs.Packets.{Sent, message_packet, is_of_round}
 use Rattle.causal_nodes.specs.NodeSteps.{IsOfNodeLog, with_one_sent}

@@ -11,11 +11,10 @@ use Rattle.causal_trace.specs.declared.entry.Entry.{Entry}
 use Rattle.causal_trace.specs.declared.entry.Entry.TheVariants.{Deliver, Stable, Forget}
 use Rattle.causal_trace.specs.Past.{list_has, logs, is_stable, deliveries, message_at, det_from}
 use Rattle.causal_rounds.specs.Rounds.{with_value_at}
-use Rattle.causal_rounds.proofs.Lemmas.RoundSteps.{set_at_cases, some_is}
+use Rattle.causal_rounds.proofs.Lemmas.RoundSteps.{set_at_cases, some_is, set_at_here, set_at_away}
 use Rattle.causal_world.specs.World.{Packet, World}
 use Rattle.causal_world.specs.Steps as world
 use Rattle.causal_world.specs.Reachable.{IsReachableWorld, next_world}
-use Rattle.causal_world.proofs.Lemmas.Functions.{set_at_here, set_at_away}
 use Rattle.causal_nodes.specs.Node.{NodeLog, UpNode, Node, up_node}
 use Rattle.causal_nodes.specs.Packets.{message_packet, acknowledgement_packet, written_packet, WasSent}
 use Rattle.causal_nodes.specs.NodeSteps.{with_node_log, node_log_after_delivery, up_after_delivery, log_after_acknowledgement, log_after_mark, log_without}

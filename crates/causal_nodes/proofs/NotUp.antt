@@ -3,11 +3,10 @@ use Rattle.std.proofs.Common.{ℕ, ◌+◌, ◌≡◌, ◌<◌, inl, inr, Bool, 
 use Rattle.std.specs.Prelude.{◌==◌}
 use Rattle.std.proofs.lemmas.Bool.{and_left, and_right, and_from, eq-eqb, cases_eq}
 use Rattle.causal_rounds.specs.Rounds.{with_value_at, Round, number, with_reply}
-use Rattle.causal_rounds.proofs.Lemmas.RoundSteps.{set_at_cases}
+use Rattle.causal_rounds.proofs.Lemmas.RoundSteps.{set_at_cases, set_at_here, set_at_away}
 use Rattle.causal_world.specs.World.{World}
 use Rattle.causal_world.specs.Steps as world
 use Rattle.causal_world.specs.Reachable.{IsReachableWorld, next_world}
-use Rattle.causal_world.proofs.Lemmas.Functions.{set_at_here, set_at_away}
 use Rattle.causal_nodes.specs.Node.{NodeRound, DownNode, down_node}
 use Rattle.causal_nodes.specs.Packets.{Sent, question_packet, answer_packet, not_up_packet, WasSent}
 use Rattle.causal_nodes.specs.NodeSteps.{with_round}

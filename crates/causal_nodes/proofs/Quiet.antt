@@ -8,6 +8,7 @@ use Rattle.causal_trace.specs.declared.entry.Entry.TheVariants.{Stable}
 use Rattle.causal_trace.specs.Past.{is_stable}
 use Rattle.causal_rounds.specs.Rounds.{with_value_at, Round, RecoveryState, number}
 use Rattle.causal_rounds.proofs.Lemmas.RoundSteps.{set_at_cases}
+use Rattle.causal_rounds.proofs.Lemmas.AcceptanceSteps.{number_up, number_down}
 use Rattle.causal_world.specs.World.{Packet, World}
 use Rattle.causal_world.specs.Steps as world
 use Rattle.causal_world.specs.Reachable.{IsReachableWorld, next_world}
@@ -19,12 +20,6 @@ use Rattle.causal_nodes.proofs.Represents.{PacketFits, ReplyFits, IsToldBy, Gath
 use Rattle.causal_nodes.proofs.Kept.{IsLater, IsUntouched, told_later, packets_and_one, packets_later, gathering_later, node_kept, node_and_one, nodes_and_one}
 use Rattle.causal_nodes.proofs.Context.{IsWorldOf, later_same, message_older, other_is, invariant, down_of}
 use Rattle.causal_nodes.proofs.Replies.{answer_taken, not_up_taken, det_taken, stored_taken}
-
-pub number_up : (w : RecoveryState) (q : ℕ) → w.down q ≡ false → number w q ≡ w.lane q
-number_up w q up = cond-false (w.down q) (w.lane q + 1) (w.lane q) up
-
-pub number_down : (w : RecoveryState) (q : ℕ) → w.down q ≡ true → number w q ≡ w.lane q + 1
-number_down w q down = cond-true (w.down q) (w.lane q + 1) (w.lane q) down
 
 -- a node's number is the world's
 pub number_fits : (n : ℕ) (w : World) (sent : List Sent) (p : ℕ) (node : Node) → NodeFits n w sent p node → lane_or_next node ≡ number w.rounds p

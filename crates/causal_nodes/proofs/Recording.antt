@@ -15,9 +15,8 @@ use Rattle.causal_steps.proofs.Lemmas.Positions.{at_newest, at_older}
 use Rattle.causal_steps.proofs.Lemmas.Reachable.{reachable_safe}
 use Rattle.causal_steps.specs.Transit.{Survives}
 use Rattle.causal_rounds.specs.Rounds.{with_value_at}
-use Rattle.causal_rounds.proofs.Lemmas.RoundSteps.{set_at_cases, some_is}
+use Rattle.causal_rounds.proofs.Lemmas.RoundSteps.{set_at_cases, some_is, set_at_here}
 use Rattle.causal_world.specs.World.{Packet, volatile_of}
-use Rattle.causal_world.proofs.Lemmas.Functions.{set_at_here}
 use Rattle.causal_nodes.specs.Node.{NodeLog, UpNode, NodeRound, DownNode, Node, up_node, down_node, lane_or_next}
 use Rattle.causal_nodes.specs.Packets.{Sent, message_packet, acknowledgement_packet, write_packet, written_packet, question_packet, answer_packet, not_up_packet, read_packet, stored_packet, number_packet, WasSent, WasTaken}
 use Rattle.causal_nodes.specs.NodeSteps.{raised, with_node_log, with_floors, with_one_sent, up_after_delivery, log_after_acknowledgement, log_after_mark, log_without, with_round, fallen_node, new_node_round, after_answer, with_heard, round_with_stored, up_after_restart, NodeStep, send_row, deliver_row, acknowledge_row, learn_row, write_row, mark_row, forget_row, answer_row, tell_row, hear_number_row, begin_row, not_up_row, give_up_row, hear_answer_row, hear_not_up_row, read_row, take_stored_row, hear_stored_row, restart_row}

@@ -11,8 +11,8 @@ use Rattle.causal_trace.specs.declared.entry.Entry.{Entry}
 use Rattle.causal_trace.specs.declared.entry.Entry.TheVariants.{Send, Deliver, Crash, Restart}
 use Rattle.causal_trace.specs.Past.{list_has, det_from}
 use Rattle.causal_rounds.specs.Rounds.{with_value_at}
+use Rattle.causal_rounds.proofs.Lemmas.RoundSteps.{set_at_away}
 use Rattle.causal_world.specs.World.{Packet}
-use Rattle.causal_world.proofs.Lemmas.Functions.{set_at_away}
 use Rattle.causal_nodes.specs.Node.{UpNode, NodeRound, DownNode, Node, up_node, down_node}
 use Rattle.causal_nodes.specs.Packets.{Sent, message_packet, question_packet, answer_packet, read_packet, stored_packet, WasSent, WasTaken, is_of_round}
 use Rattle.causal_nodes.specs.NodeSteps.{NodeStep, IsOfNodeLog, empty_log, with_one_sent, with_floors, raised, up_after_delivery, with_round, fallen_node, new_node_round, after_answer, with_heard, up_after_restart, send_row, deliver_row, answer_row, begin_row, hear_answer_row, read_row, hear_stored_row, restart_row}

@@ -10,11 +10,11 @@ use Rattle.causal_trace.specs.declared.entry.Entry.TheVariants.{Crash, Restart}
 use Rattle.causal_trace.specs.Past.{list_has, is_down, logs, is_stable, deliveries}
 use Rattle.causal_steps.proofs.Lemmas.Reachable.{reachable_safe}
 use Rattle.causal_rounds.specs.Rounds.{with_value_at, Round, number, new_round}
-use Rattle.causal_rounds.proofs.Lemmas.RoundSteps.{set_at_cases}
+use Rattle.causal_rounds.proofs.Lemmas.RoundSteps.{set_at_cases, set_at_here, set_at_away}
+use Rattle.causal_rounds.proofs.Lemmas.AcceptanceSteps.{number_up, number_down}
 use Rattle.causal_world.specs.World.{Packet, World, GatheredFrom, volatile_of}
 use Rattle.causal_world.specs.Steps as world
 use Rattle.causal_world.specs.Reachable.{IsReachableWorld, next_world}
-use Rattle.causal_world.proofs.Lemmas.Functions.{set_at_here, set_at_away}
 use Rattle.causal_nodes.specs.Node.{UpNode, NodeRound, DownNode, Node, up_node, down_node, is_node_down}
 use Rattle.causal_nodes.specs.Packets.{Sent, question_packet, WasSent, is_of_round}
 use Rattle.causal_nodes.specs.NodeSteps.{with_round, fallen_node, new_node_round, up_after_restart}
@@ -22,7 +22,7 @@ use Rattle.causal_nodes.specs.Network.{Network}
 use Rattle.causal_nodes.proofs.Represents.{ReplyFits, GatheringFits, UpFits, DownFits, NodeFits, Represents}
 use Rattle.causal_nodes.proofs.Kept.{IsLater, IsUntouched, told_later, packets_and_one, packets_later, node_kept, node_and_one, nodes_and_one}
 use Rattle.causal_nodes.proofs.Context.{IsWorldOf, message_older, same_is, other_is, away_or, invariant, down_of, up_in_past}
-use Rattle.causal_nodes.proofs.Quiet.{number_up, number_down, gathering_of}
+use Rattle.causal_nodes.proofs.Quiet.{gathering_of}
 
 pub le_self : (a : ℕ) → a ≤ a
 le_self a = omega arith

@@ -14,11 +14,11 @@ use Rattle.causal_rounds.specs.Rounds.{with_value_at, RecoveryState, RoundStep, 
 use Rattle.causal_rounds.specs.Gathered.{DetState, DetInvariant}
 use Rattle.causal_rounds.specs.Gathered as det
 use Rattle.causal_rounds.specs.Acceptance.{by_floor}
-use Rattle.causal_rounds.proofs.Lemmas.RoundSteps.{set_at_cases, round_step_preserves}
+use Rattle.causal_rounds.proofs.Lemmas.RoundSteps.{set_at_cases, round_step_preserves, set_at_away}
 use Rattle.causal_rounds.proofs.Lemmas.GatheredSteps.{det_step_preserves}
 use Rattle.causal_world.specs.World.{Packet, World, carrier_of, volatile_of, det_state_of}
 use Rattle.causal_world.specs.Invariant.{AbsentAreDown, WorldInvariant}
-use Rattle.causal_world.proofs.Lemmas.Functions.{set_at_away, apart_is}
+use Rattle.causal_world.proofs.Lemmas.Functions.{apart_is}
 use Rattle.causal_world.proofs.Lemmas.Transit.{in_transit_of, is_accepted, rounds_bring_nothing, same_brings_nothing}
 
 module _ (n f : ℕ) (w : World) (k : WorldInvariant n f w) where

@@ -10,11 +10,11 @@ use Rattle.causal_steps.specs.Reachable.{next_state}
 use Rattle.causal_rounds.specs.Rounds.{with_value_at, Round, RecoveryState, RoundStep, number, new_round, with_reply, begin, give_up, answer, refuse, not_up}
 use Rattle.causal_rounds.specs.Gathered.{DetState, DetInvariant, DetStep}
 use Rattle.causal_rounds.specs.Gathered as det
-use Rattle.causal_rounds.proofs.Lemmas.RoundSteps.{set_at_cases, some_is, none_some, round_step_preserves}
+use Rattle.causal_rounds.proofs.Lemmas.RoundSteps.{set_at_cases, some_is, none_some, round_step_preserves, set_at_here, set_at_away}
 use Rattle.causal_rounds.proofs.Lemmas.GatheredSteps.{det_step_preserves}
 use Rattle.causal_world.specs.World.{Packet, World, GatheredFrom, volatile_of, det_state_of}
 use Rattle.causal_world.specs.Invariant.{AbsentAreDown, ReadsLast, WorldInvariant}
-use Rattle.causal_world.proofs.Lemmas.Functions.{map_set_at, set_at_here, set_at_away, apart_is}
+use Rattle.causal_world.proofs.Lemmas.Functions.{map_set_at, apart_is}
 use Rattle.causal_world.proofs.Lemmas.Transit.{rounds_bring_nothing}
 
 abbrev with_state : DetState → RecoveryState → (ℕ → Bool) → DetState

@@ -19,11 +19,11 @@ use Rattle.causal_rounds.specs.Rounds.{with_value_at, Round}
 use Rattle.causal_rounds.specs.Gathered.{Carrier, DetState, DetInvariant, take, record_stable, to_up}
 use Rattle.causal_rounds.specs.Gathered as det
 use Rattle.causal_rounds.specs.Acceptance.{by_floor}
-use Rattle.causal_rounds.proofs.Lemmas.RoundSteps.{set_at_cases, some_is}
+use Rattle.causal_rounds.proofs.Lemmas.RoundSteps.{set_at_cases, some_is, set_at_here}
 use Rattle.causal_rounds.proofs.Lemmas.GatheredSteps.{det_step_preserves, restarts_gather_all}
 use Rattle.causal_world.specs.World.{Packet, World, carrier_of, is_acceptable, if_carries, volatile_of, det_state_of}
 use Rattle.causal_world.specs.Invariant.{WorldInvariant}
-use Rattle.causal_world.proofs.Lemmas.Functions.{set_at_here, apart_is}
+use Rattle.causal_world.proofs.Lemmas.Functions.{apart_is}
 use Rattle.causal_world.proofs.Lemmas.Transit.{packet_of, in_transit_of, landed_in_transit, is_accepted, same_brings_nothing}
 use Rattle.causal_world.proofs.RoundChanges.{round_low}
 use Rattle.causal_world.proofs.Crashes.{up_recovers_nothing}

@@ -1,8 +1,8 @@
 -- Each step of a process preserves the invariant of the world.
 use Rattle.std.proofs.Common.{Some, refl}
+use Rattle.causal_rounds.proofs.Lemmas.RoundSteps.{set_at_here}
 use Rattle.causal_world.specs.Steps.{send, crash, begin, give_up, answer, refuse, not_up, deliver, restart, acknowledge, learn, land, read, write_entry, confirm, forget}
 use Rattle.causal_world.specs.Invariant.{WorldStepsPreserve}
-use Rattle.causal_world.proofs.Lemmas.Functions.{set_at_here}
 use Rattle.causal_world.proofs.Sends.{acknowledge_preserves, send_preserves}
 use Rattle.causal_world.proofs.RoundChanges.{begin_preserves, give_up_preserves, not_up_preserves, answered_preserves, refuse_preserves, read_preserves}
 use Rattle.causal_world.proofs.Crashes.{crash_preserves, learn_preserves, confirm_preserves}

@@ -6,20 +6,14 @@ use Rattle.std.proofs.lemmas.Bool.Decides.{eqb_tells}
 use Rattle.causal_rounds.specs.Rounds.{with_value_at, Round, RecoveryState, number, new_round, with_reply, crash, begin, give_up, answer, refuse, not_up, restart, RoundInvariant}
 use Rattle.causal_rounds.specs.Gathered.{Carrier, DetState, MayComplete, DetInvariant, IsInTransitAfter, to_up, to_new, from_up, to_round}
 use Rattle.causal_rounds.specs.Acceptance.{IsAcceptable, by_floor, by_sender, by_round, AcceptanceNeedsSending, RestartsMissNothing}
-use Rattle.causal_rounds.proofs.Lemmas.RoundSteps.{set_at_cases, some_is, none_some}
+use Rattle.causal_rounds.proofs.Lemmas.RoundSteps.{set_at_cases, some_is, none_some, set_at_here, set_at_away}
 use Rattle.causal_rounds.proofs.Lemmas.GatheredSteps.{restarts_gather_all}
 
-here : {X : Type 0} (f : ℕ → X) (p : ℕ) (x : X) → with_value_at f p x p ≡ x
-here f p x = cond-true (p == p) x (f p) (eq-eqb p p refl)
+pub number_up : (w : RecoveryState) (q : ℕ) → w.down q ≡ false → number w q ≡ w.lane q
+number_up w q up = cond-false (w.down q) (w.lane q + 1) (w.lane q) up
 
-away : {X : Type 0} (f : ℕ → X) (p : ℕ) (x : X) (q : ℕ) → (q ≡ p → ⊥) → with_value_at f p x q ≡ f q
-away f p x q other = elim (set_at_cases f p x q) [ inl is ↦ absurd (other is.0) | inr fact ↦ fact.1 ]
-
-up_number : (w : RecoveryState) (q : ℕ) → w.down q ≡ false → number w q ≡ w.lane q
-up_number w q up = cond-false (w.down q) (w.lane q + 1) (w.lane q) up
-
-down_number : (w : RecoveryState) (q : ℕ) → w.down q ≡ true → number w q ≡ w.lane q + 1
-down_number w q down = cond-true (w.down q) (w.lane q + 1) (w.lane q) down
+pub number_down : (w : RecoveryState) (q : ℕ) → w.down q ≡ true → number w q ≡ w.lane q + 1
+number_down w q down = cond-true (w.down q) (w.lane q + 1) (w.lane q) down
 
 module _ (w : RecoveryState) (h : RoundInvariant w) (t : Carrier) (low : t.lane ≤ w.lane t.from) where
   -- p goes down
@@ -38,15 +32,15 @@ module _ (w : RecoveryState) (h : RoundInvariant w) (t : Carrier) (low : t.lane 
         by false is =
             let not_s : p ≡ s → ⊥ = λ me. both_ways (w.down p) up (subst (λ x. w.down x ≡ true) (sym me) (h.gathering_are_down s r at)) in
             let fits = fitting p not_s is in
-            let now = down_number fallen p (here w.down p true) in
-            let then = up_number w p up in
+            let now = number_down fallen p (set_at_here w.down p true) in
+            let then = number_up w p up in
             let seen = h.views_told s p r at in
             absurd (omega (arith, fits, now, then, seen))
 
     was_open : (s : ℕ) (r : Round) → w.rounds s ≡ Some r → MayComplete fallen s r → MayComplete w s r
     was_open s r at fitting q other no_reply =
         let not_p : q ≡ p → ⊥ = λ is. both_ways (r.replied q) no_reply (subst (λ x. r.replied x ≡ true) (sym is) (had_replied s r at fitting)) in
-        sym (ap (λ (b : Bool). cond b (w.lane q + 1) (w.lane q)) (away w.down p true q not_p)) ∙ fitting q other no_reply
+        sym (ap (λ (b : Bool). cond b (w.lane q + 1) (w.lane q)) (set_at_away w.down p true q not_p)) ∙ fitting q other no_reply
 
     before_crash : IsAcceptable fallen t → IsAcceptable w t
     before_crash (by_floor is_up floor) = by_floor (was_up t.to is_up) floor
@@ -54,7 +48,7 @@ module _ (w : RecoveryState) (h : RoundInvariant w) (t : Carrier) (low : t.lane 
       where
         by : (b : Bool) → w.down t.to ≡ b → IsAcceptable w t
         by true is = by_sender is (was_up t.from sender) lane
-        by false is = by_floor is (let floor = h.floors_told t.to t.from in let count = up_number w t.from (was_up t.from sender) in omega (arith, floor, count, lane))
+        by false is = by_floor is (let floor = h.floors_told t.to t.from in let count = number_up w t.from (was_up t.from sender) in omega (arith, floor, count, lane))
     before_crash (by_round o down at fitting replied_q view) = by_round o (h.gathering_are_down t.to o at) at (was_open t.to o at fitting) replied_q view
 
   before_begin : (s : ℕ) (view : ℕ → ℕ) (absent : ℕ → Bool) → ((q : ℕ) → absent q ≡ true → (w.down q ≡ true) × (w.rounds q ≡ None) × (view q ≡ w.lane q + 1))
@@ -98,11 +92,11 @@ module _ (w : RecoveryState) (h : RoundInvariant w) (t : Carrier) (low : t.lane 
       where
         by : (b : Bool) → w.down t.from ≡ b → t.from ≡ y → IsAcceptable w t
         by false is_up me =
-            let count = up_number w t.from is_up in
+            let count = number_up w t.from is_up in
             let number_here : number w t.from ≡ r.view t.from = subst (λ x. number w x ≡ r.view x) (sym me) fits in
             by_sender down is_up (omega (arith, count, number_here, above, low))
         by true is_down me =
-            let count = down_number w t.from is_down in
+            let count = number_down w t.from is_down in
             let number_here : number w t.from ≡ r.view t.from = subst (λ x. number w x ≡ r.view x) (sym me) fits in
             absurd (omega (arith, count, number_here, above, low))
 
@@ -122,7 +116,7 @@ module _ (w : RecoveryState) (h : RoundInvariant w) (t : Carrier) (low : t.lane 
   before_answer y s r floors up at fits rise (by_round o down there fitting replied_q above) = elim (set_at_cases w.rounds s (Some (with_reply r y true)) t.to) [
     | inl is ↦
         let same : with_reply r y true ≡ o = some_is (with_reply r y true) o (sym is.1 ∙ there) in
-        to_asker y s r at true (up_number w y up ∙ sym fits) is.0 down (as_round y s r at true (up_number w y up ∙ sym fits) t.to o is.0 same fitting) (ap (λ (x : Round). x.replied t.from) same ∙ replied_q) (subst (λ (x : Round). x.view t.from ≤ t.lane) (sym same) above)
+        to_asker y s r at true (number_up w y up ∙ sym fits) is.0 down (as_round y s r at true (number_up w y up ∙ sym fits) t.to o is.0 same fitting) (ap (λ (x : Round). x.replied t.from) same ∙ replied_q) (subst (λ (x : Round). x.view t.from ≤ t.lane) (sym same) above)
     | inr other ↦ by_round o down (sym other.1 ∙ there) fitting replied_q above
   ]
 
@@ -135,7 +129,7 @@ module _ (w : RecoveryState) (h : RoundInvariant w) (t : Carrier) (low : t.lane 
     | inr not_y ↦ elim (set_at_cases w.rounds s (Some (with_reply r y false)) t.to) [
       | inl is ↦
           let same : with_reply r y false ≡ o = some_is (with_reply r y false) o (sym is.1 ∙ sym not_y.1 ∙ there) in
-          to_asker y s r at false (down_number w y is_down ∙ sym fits) is.0 down (as_round y s r at false (down_number w y is_down ∙ sym fits) t.to o is.0 same fitting) (ap (λ (x : Round). x.replied t.from) same ∙ replied_q) (subst (λ (x : Round). x.view t.from ≤ t.lane) (sym same) above)
+          to_asker y s r at false (number_down w y is_down ∙ sym fits) is.0 down (as_round y s r at false (number_down w y is_down ∙ sym fits) t.to o is.0 same fitting) (ap (λ (x : Round). x.replied t.from) same ∙ replied_q) (subst (λ (x : Round). x.view t.from ≤ t.lane) (sym same) above)
       | inr other ↦ by_round o down (sym other.1 ∙ sym not_y.1 ∙ there) fitting replied_q above
     ]
   ]
@@ -150,14 +144,14 @@ module _ (w : RecoveryState) (h : RoundInvariant w) (t : Carrier) (low : t.lane 
 
     number_same : (q : ℕ) → number risen q ≡ number w q
     number_same q = elim (eqb_tells q s) [
-      | inl is ↦ subst (λ x. number risen x ≡ number w x) (sym is.1) (up_number risen s (here w.down s false) ∙ here w.lane s (w.lane s + 1) ∙ sym (down_number w s down_s))
-      | inr other ↦ ap (λ (b : Bool). cond b (risen.lane q + 1) (risen.lane q)) (away w.down s false q other.1) ∙ ap (λ l. cond (w.down q) (l + 1) l) (away w.lane s (w.lane s + 1) q other.1)
+      | inl is ↦ subst (λ x. number risen x ≡ number w x) (sym is.1) (number_up risen s (set_at_here w.down s false) ∙ set_at_here w.lane s (w.lane s + 1) ∙ sym (number_down w s down_s))
+      | inr other ↦ ap (λ (b : Bool). cond b (risen.lane q + 1) (risen.lane q)) (set_at_away w.down s false q other.1) ∙ ap (λ l. cond (w.down q) (l + 1) l) (set_at_away w.lane s (w.lane s + 1) q other.1)
     ]
 
     -- nothing was sent by the new lane of s
     not_new : t.from ≡ s → t.lane ≡ with_value_at w.lane s (w.lane s + 1) t.from → ⊥
     not_new is lane =
-        let new : t.lane ≡ w.lane s + 1 = lane ∙ ap (with_value_at w.lane s (w.lane s + 1)) is ∙ here w.lane s (w.lane s + 1) in
+        let new : t.lane ≡ w.lane s + 1 = lane ∙ ap (with_value_at w.lane s (w.lane s + 1)) is ∙ set_at_here w.lane s (w.lane s + 1) in
         let old : t.lane ≤ w.lane s = subst (λ x. t.lane ≤ w.lane x) is low in
         omega (arith, new, old)
 
@@ -178,15 +172,15 @@ module _ (w : RecoveryState) (h : RoundInvariant w) (t : Carrier) (low : t.lane 
       | inl is ↦
           let above : r.view t.from ≤ t.lane = subst (λ g. g t.from ≤ t.lane) is.1 floor in
           by_round r (subst (λ x. w.down x ≡ true) (sym is.0) down_s) (ap w.rounds is.0 ∙ at) (λ q other no_reply. absurd (both_ways (r.replied q) no_reply (all q (λ me. other (me ∙ sym is.0))))) (in_view above) above
-      | inr other ↦ by_floor (sym (away w.down s false t.to other.0) ∙ is_up) (subst (λ g. g t.from ≤ t.lane) other.1 floor)
+      | inr other ↦ by_floor (sym (set_at_away w.down s false t.to other.0) ∙ is_up) (subst (λ g. g t.from ≤ t.lane) other.1 floor)
     ]
     before_restart (by_sender down is_up lane) = elim (eqb_tells t.from s) [
       | inl is ↦ absurd (not_new is.1 lane)
-      | inr other ↦ by_sender (still_down t.to down).1 (sym (away w.down s false t.from other.1) ∙ is_up) (lane ∙ away w.lane s (w.lane s + 1) t.from other.1)
+      | inr other ↦ by_sender (still_down t.to down).1 (sym (set_at_away w.down s false t.from other.1) ∙ is_up) (lane ∙ set_at_away w.lane s (w.lane s + 1) t.from other.1)
     ]
     before_restart (by_round o down there fitting replied_q above) =
         let old = still_down t.to down in
-        by_round o old.1 (sym (away w.rounds s None t.to old.0) ∙ there) (λ q other no_reply. sym (number_same q) ∙ fitting q other no_reply) replied_q above
+        by_round o old.1 (sym (set_at_away w.rounds s None t.to old.0) ∙ there) (λ q other no_reply. sym (number_same q) ∙ fitting q other no_reply) replied_q above
 
 before_refuse : (w : RecoveryState) (t : Carrier) (y : ℕ) (floors : ℕ → ℕ) → ((z : ℕ) → w.floors y z ≤ floors z) → IsAcceptable (record { lane = w.lane; down = w.down; floors = with_value_at w.floors y floors; rounds = w.rounds }) t → IsAcceptable w t
 before_refuse w t y floors rise (by_floor up floor) = by_floor up (elim (set_at_cases w.floors y floors t.to) [
@@ -217,14 +211,14 @@ module _ (a : DetState) (s : ℕ) (r : Round) (h : RoundInvariant a.state) (k : 
   in_transit : (i : ℕ) (t : Carrier) → a.carriers i ≡ Some t → IsAcceptable after t → IsInTransitAfter a s r t
   in_transit i t there (by_floor is_up floor) = elim (set_at_cases a.state.floors s r.view t.to) [
     | inl is ↦ to_new is.0 (subst (λ g. g t.from ≤ t.lane) is.1 floor)
-    | inr other ↦ to_up (sym (away a.state.down s false t.to other.0) ∙ is_up) (subst (λ g. g t.from ≤ t.lane) other.1 floor)
+    | inr other ↦ to_up (sym (set_at_away a.state.down s false t.to other.0) ∙ is_up) (subst (λ g. g t.from ≤ t.lane) other.1 floor)
   ]
   in_transit i t there (by_sender down is_up lane) = elim (eqb_tells t.from s) [
     | inl is ↦
-        let new : t.lane ≡ a.state.lane s + 1 = lane ∙ ap after.lane is.1 ∙ here a.state.lane s (a.state.lane s + 1) in
+        let new : t.lane ≡ a.state.lane s + 1 = lane ∙ ap after.lane is.1 ∙ set_at_here a.state.lane s (a.state.lane s + 1) in
         let old : t.lane ≤ a.state.lane s = subst (λ x. t.lane ≤ a.state.lane x) is.1 (k.lanes i t there) in
         absurd (omega (arith, new, old))
-    | inr other ↦ from_up (sym (away a.state.down s false t.from other.1) ∙ is_up) (lane ∙ away a.state.lane s (a.state.lane s + 1) t.from other.1)
+    | inr other ↦ from_up (sym (set_at_away a.state.down s false t.from other.1) ∙ is_up) (lane ∙ set_at_away a.state.lane s (a.state.lane s + 1) t.from other.1)
   ]
   in_transit i t there (by_round o down at_o fitting replied_q above) = elim (set_at_cases a.state.rounds s None t.to) [
     | inl is ↦ absurd (none_some o (sym is.1 ∙ at_o))

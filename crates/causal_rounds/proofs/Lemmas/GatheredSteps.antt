@@ -5,7 +5,7 @@ use Rattle.std.proofs.lemmas.Bool.{both_ways, or_left, or_right, eq-eqb, cond-tr
 use Rattle.std.proofs.lemmas.Bool.Decides.{eqb_tells}
 use Rattle.causal_rounds.specs.Rounds.{with_value_at, Round, number, new_round, with_reply, RoundInvariant}
 use Rattle.causal_rounds.specs.Gathered.{Carrier, DetState, MayComplete, HasFromLane, emit, take, deliver_again, deliver_as_new, forget, record_stable, crash, begin, give_up, answer, refuse, not_up, restart, DetInvariant, DetStepsPreserve, IsInTransitAfter, to_up, to_new, from_up, to_round, RestartsGatherAll}
-use Rattle.causal_rounds.proofs.Lemmas.RoundSteps.{set_at_cases, some_is, none_some}
+use Rattle.causal_rounds.proofs.Lemmas.RoundSteps.{set_at_cases, some_is, none_some, set_at_here, set_at_away}
 
 abbrev Result : DetState → ℕ → Round → Type 0
 Result a s r = (a.gathered s ≡ true) ⊎ ((z : ℕ) × (r.replied z ≡ false) × (a.logs z ≡ true))
@@ -17,12 +17,6 @@ more f p q h = elim (set_at_cases f p true q) [ inl is ↦ is.1 | inr other ↦ 
 -- one process less logs it
 less : (f : ℕ → Bool) (p q : ℕ) → with_value_at f p false q ≡ true → (q ≡ p → ⊥) × (f q ≡ true)
 less f p q h = elim (set_at_cases f p false q) [ inl is ↦ absurd (both_ways (with_value_at f p false q) is.1 h) | inr other ↦ (other.0, sym other.1 ∙ h) ]
-
-here : {X : Type 0} (f : ℕ → X) (p : ℕ) (x : X) → with_value_at f p x p ≡ x
-here f p x = cond-true (p == p) x (f p) (eq-eqb p p refl)
-
-away : {X : Type 0} (f : ℕ → X) (p : ℕ) (x : X) (q : ℕ) → (q ≡ p → ⊥) → with_value_at f p x q ≡ f q
-away f p x q other = elim (set_at_cases f p x q) [ inl is ↦ absurd (other is.0) | inr fact ↦ fact.1 ]
 
 -- if the view is not above the lane from which something came, something sent from the lane of the view carries it
 at_view : (a : DetState) → RoundInvariant a.state → DetInvariant a → (s : ℕ) (r : Round) → a.state.rounds s ≡ Some r → (i : ℕ) (t : Carrier) → a.carriers i ≡ Some t → r.replied t.from ≡ true → r.view t.from ≤ t.lane → HasFromLane a t.from (r.view t.from)
@@ -141,7 +135,7 @@ module _ (a : DetState) (p : ℕ) (up : a.state.down p ≡ false) (h : RoundInva
       by false is =
           let not_s : p ≡ s → ⊥ = λ me. both_ways (a.state.down p) up (subst (λ x. a.state.down x ≡ true) (sym me) (h.gathering_are_down s r at)) in
           let fits = fitting p not_s is in
-          let now : number fallen.state p ≡ a.state.lane p + 1 = cond-true (fallen.state.down p) (a.state.lane p + 1) (a.state.lane p) (here a.state.down p true) in
+          let now : number fallen.state p ≡ a.state.lane p + 1 = cond-true (fallen.state.down p) (a.state.lane p + 1) (a.state.lane p) (set_at_here a.state.down p true) in
           let then : number a.state p ≡ a.state.lane p = cond-false (a.state.down p) (a.state.lane p + 1) (a.state.lane p) up in
           let low = h.views_told s p r at in
           absurd (omega (arith, fits, now, then, low))
@@ -149,28 +143,28 @@ module _ (a : DetState) (p : ℕ) (up : a.state.down p ≡ false) (h : RoundInva
   was_open : (s : ℕ) (r : Round) → a.state.rounds s ≡ Some r → MayComplete fallen.state s r → MayComplete a.state s r
   was_open s r at fitting q other no_reply =
       let not_p : q ≡ p → ⊥ = λ is. both_ways (r.replied q) no_reply (subst (λ x. r.replied x ≡ true) (sym is) (had_replied s r at fitting)) in
-      let same : number fallen.state q ≡ number a.state q = ap (λ (b : Bool). cond b (a.state.lane q + 1) (a.state.lane q)) (away a.state.down p true q not_p) in
+      let same : number fallen.state q ≡ number a.state q = ap (λ (b : Bool). cond b (a.state.lane q + 1) (a.state.lane q)) (set_at_away a.state.down p true q not_p) in
       sym same ∙ fitting q other no_reply
 
   fall_preserves : DetInvariant fallen
   fall_preserves = record {
-    logs_up = λ q has_it. let old = less a.logs p q has_it in away a.state.down p true q old.0 ∙ k.logs_up q old.1;
+    logs_up = λ q has_it. let old = less a.logs p q has_it in set_at_away a.state.down p true q old.0 ∙ k.logs_up q old.1;
     recovering_are_down = λ q must. elim (set_at_cases a.must_recover p (a.logs p) q) [
-      | inl is ↦ subst (λ x. with_value_at a.state.down p true x ≡ true) (sym is.0) (here a.state.down p true)
-      | inr other ↦ away a.state.down p true q other.0 ∙ k.recovering_are_down q (sym other.1 ∙ must)
+      | inl is ↦ subst (λ x. with_value_at a.state.down p true x ≡ true) (sym is.0) (set_at_here a.state.down p true)
+      | inr other ↦ set_at_away a.state.down p true q other.0 ∙ k.recovering_are_down q (sym other.1 ∙ must)
     ];
     lanes = k.lanes;
     sent = λ i t there is_up lane. elim (set_at_cases a.state.down p true t.from) [
       | inl is ↦ absurd (both_ways (with_value_at a.state.down p true t.from) is_up is.1)
-      | inr other ↦ elim (k.sent i t there (sym other.1 ∙ is_up) lane) [ inl has_it ↦ inl (away a.logs p false t.from other.0 ∙ has_it) | inr stable ↦ inr stable ]
+      | inr other ↦ elim (k.sent i t there (sym other.1 ∙ is_up) lane) [ inl has_it ↦ inl (set_at_away a.logs p false t.from other.0 ∙ has_it) | inr stable ↦ inr stable ]
     ];
     gathers = λ s q r at fitting must unstable replied_q has_d.
         let not_p : s ≡ p → ⊥ = λ me. both_ways (a.state.down p) up (subst (λ x. a.state.down x ≡ true) me (h.gathering_are_down s r at)) in
-        let old_must = sym (away a.must_recover p (a.logs p) s not_p) ∙ must in
+        let old_must = sym (set_at_away a.must_recover p (a.logs p) s not_p) ∙ must in
         let had : HasFromLane a q (r.view q) = elim has_d [ inl logs_it ↦ inl (less a.logs p q logs_it).1 | inr thing ↦ inr thing ] in
         elim (k.gathers s q r at (was_open s r at fitting) old_must unstable replied_q had) [
           | inl got ↦ inl got
-          | inr (z, no_reply, has_it) ↦ inr (z, no_reply, away a.logs p false z (λ is. both_ways (r.replied z) no_reply (subst (λ x. r.replied x ≡ true) (sym is) (had_replied s r at fitting))) ∙ has_it)
+          | inr (z, no_reply, has_it) ↦ inr (z, no_reply, set_at_away a.logs p false z (λ is. both_ways (r.replied z) no_reply (subst (λ x. r.replied x ≡ true) (sym is) (had_replied s r at fitting))) ∙ has_it)
         ];
   }
 
@@ -194,7 +188,7 @@ module _ (a : DetState) (s : ℕ) (view : ℕ → ℕ) (absent : ℕ → Bool) (
             | inl logs_d ↦ both_ways (a.state.down q) (k.logs_up q logs_d) fact.0
             | inr (i, t, there, from, lane) ↦ (let low = k.lanes i t there in let low_q : t.lane ≤ a.state.lane q = subst (λ x. t.lane ≤ a.state.lane x) from low in omega (arith, low_q, lane, next))
           ])
-      | inr other ↦ elim (k.gathers p q r (sym other.1 ∙ at) fitting must unstable replied_q has_d) [ inl got ↦ inl (away a.gathered s false p other.0 ∙ got) | inr rest ↦ inr rest ]
+      | inr other ↦ elim (k.gathers p q r (sym other.1 ∙ at) fitting must unstable replied_q has_d) [ inl got ↦ inl (set_at_away a.gathered s false p other.0 ∙ got) | inr rest ↦ inr rest ]
     ];
   }
 
@@ -220,10 +214,10 @@ module _ (a : DetState) (y s : ℕ) (r : Round) (floors : ℕ → ℕ) (up : a.s
   answered = record { state = record { lane = a.state.lane; down = a.state.down; floors = with_value_at a.state.floors y floors; rounds = with_value_at a.state.rounds s (Some told) }; logs = a.logs; must_recover = a.must_recover; stable = a.stable; carriers = a.carriers; gathered = with_value_at a.gathered s (a.gathered s || a.logs y) }
 
   got_old : a.gathered s ≡ true → answered.gathered s ≡ true
-  got_old got = here a.gathered s (a.gathered s || a.logs y) ∙ or_left (a.gathered s) (a.logs y) got
+  got_old got = set_at_here a.gathered s (a.gathered s || a.logs y) ∙ or_left (a.gathered s) (a.logs y) got
 
   got_new : a.logs y ≡ true → answered.gathered s ≡ true
-  got_new has_it = here a.gathered s (a.gathered s || a.logs y) ∙ or_right (a.gathered s) (a.logs y) has_it
+  got_new has_it = set_at_here a.gathered s (a.gathered s || a.logs y) ∙ or_right (a.gathered s) (a.logs y) has_it
 
   open_before : MayComplete a.state s told → MayComplete a.state s r
   open_before fitting q other no_reply = elim (set_at_cases r.replied y true q) [
@@ -257,7 +251,7 @@ module _ (a : DetState) (y s : ℕ) (r : Round) (floors : ℕ → ℕ) (up : a.s
     sent = k.sent;
     gathers = λ p q o there fitting must unstable replied_q has_d. elim (set_at_cases a.state.rounds s (Some told) p) [
       | inl is ↦ by p is.0 q o (some_is told o (sym is.1 ∙ there)) fitting must unstable replied_q has_d
-      | inr other ↦ elim (k.gathers p q o (sym other.1 ∙ there) fitting must unstable replied_q has_d) [ inl got ↦ inl (away a.gathered s (a.gathered s || a.logs y) p other.0 ∙ got) | inr rest ↦ inr rest ]
+      | inr other ↦ elim (k.gathers p q o (sym other.1 ∙ there) fitting must unstable replied_q has_d) [ inl got ↦ inl (set_at_away a.gathered s (a.gathered s || a.logs y) p other.0 ∙ got) | inr rest ↦ inr rest ]
     ];
   }
     where
@@ -333,17 +327,17 @@ module _ (a : DetState) (s : ℕ) (r : Round) (at : a.state.rounds s ≡ Some r)
 
   number_same : (q : ℕ) → number risen.state q ≡ number a.state q
   number_same q = elim (eqb_tells q s) [
-    | inl is ↦ subst (λ x. number risen.state x ≡ number a.state x) (sym is.1) (cond-false (risen.state.down s) (risen.state.lane s + 1) (risen.state.lane s) (here a.state.down s false) ∙ here a.state.lane s (a.state.lane s + 1) ∙ sym (cond-true (a.state.down s) (a.state.lane s + 1) (a.state.lane s) down_before))
-    | inr other ↦ ap (λ (b : Bool). cond b (risen.state.lane q + 1) (risen.state.lane q)) (away a.state.down s false q other.1) ∙ ap (λ l. cond (a.state.down q) (l + 1) l) (away a.state.lane s (a.state.lane s + 1) q other.1)
+    | inl is ↦ subst (λ x. number risen.state x ≡ number a.state x) (sym is.1) (cond-false (risen.state.down s) (risen.state.lane s + 1) (risen.state.lane s) (set_at_here a.state.down s false) ∙ set_at_here a.state.lane s (a.state.lane s + 1) ∙ sym (cond-true (a.state.down s) (a.state.lane s + 1) (a.state.lane s) down_before))
+    | inr other ↦ ap (λ (b : Bool). cond b (risen.state.lane q + 1) (risen.state.lane q)) (set_at_away a.state.down s false q other.1) ∙ ap (λ l. cond (a.state.down q) (l + 1) l) (set_at_away a.state.lane s (a.state.lane s + 1) q other.1)
   ]
 
   risen_preserves : DetInvariant risen
   risen_preserves = record {
     logs_up = λ q has_it. elim (set_at_cases a.logs s (a.gathered s) q) [
-      | inl is ↦ subst (λ x. with_value_at a.state.down s false x ≡ false) (sym is.0) (here a.state.down s false)
-      | inr other ↦ away a.state.down s false q other.0 ∙ k.logs_up q (sym other.1 ∙ has_it)
+      | inl is ↦ subst (λ x. with_value_at a.state.down s false x ≡ false) (sym is.0) (set_at_here a.state.down s false)
+      | inr other ↦ set_at_away a.state.down s false q other.0 ∙ k.logs_up q (sym other.1 ∙ has_it)
     ];
-    recovering_are_down = λ q must. let old = less a.must_recover s q must in away a.state.down s false q old.0 ∙ k.recovering_are_down q old.1;
+    recovering_are_down = λ q must. let old = less a.must_recover s q must in set_at_away a.state.down s false q old.0 ∙ k.recovering_are_down q old.1;
     lanes = λ i t there. let low = k.lanes i t there in elim (set_at_cases a.state.lane s (a.state.lane s + 1) t.from) [
       | inl is ↦ subst (λ l. t.lane ≤ l) (sym is.1) (let below : t.lane ≤ a.state.lane s = subst (λ x. t.lane ≤ a.state.lane x) is.0 low in omega (arith, below))
       | inr other ↦ subst (λ l. t.lane ≤ l) (sym other.1) low
@@ -351,10 +345,10 @@ module _ (a : DetState) (s : ℕ) (r : Round) (at : a.state.rounds s ≡ Some r)
     sent = λ i t there up lane. elim (eqb_tells t.from s) [
       | inl is ↦
           let below : t.lane ≤ a.state.lane s = subst (λ x. t.lane ≤ a.state.lane x) is.1 (k.lanes i t there) in
-          let new : t.lane ≡ a.state.lane s + 1 = lane ∙ ap risen.state.lane is.1 ∙ here a.state.lane s (a.state.lane s + 1) in
+          let new : t.lane ≡ a.state.lane s + 1 = lane ∙ ap risen.state.lane is.1 ∙ set_at_here a.state.lane s (a.state.lane s + 1) in
           absurd (omega (arith, below, new))
-      | inr other ↦ elim (k.sent i t there (sym (away a.state.down s false t.from other.1) ∙ up) (lane ∙ away a.state.lane s (a.state.lane s + 1) t.from other.1)) [
-        | inl has_it ↦ inl (away a.logs s (a.gathered s) t.from other.1 ∙ has_it)
+      | inr other ↦ elim (k.sent i t there (sym (set_at_away a.state.down s false t.from other.1) ∙ up) (lane ∙ set_at_away a.state.lane s (a.state.lane s + 1) t.from other.1)) [
+        | inl has_it ↦ inl (set_at_away a.logs s (a.gathered s) t.from other.1 ∙ has_it)
         | inr stable ↦ inr stable
       ]
     ];
@@ -362,10 +356,10 @@ module _ (a : DetState) (s : ℕ) (r : Round) (at : a.state.rounds s ≡ Some r)
         let old_round : (p ≡ s → ⊥) × (a.state.rounds p ≡ Some o) = elim (set_at_cases a.state.rounds s None p) [ inl is ↦ absurd (none_some o (sym is.1 ∙ there)) | inr other ↦ (other.0, sym other.1 ∙ there) ] in
         let unheard_s : o.replied s ≡ false = h.one_way s p r o at old_round.1 (all p old_round.0) in
         let not_q : q ≡ s → ⊥ = λ is. both_ways (o.replied s) unheard_s (subst (λ x. o.replied x ≡ true) is replied_q) in
-        let had : HasFromLane a q (o.view q) = elim has_d [ inl logs_it ↦ inl (sym (away a.logs s (a.gathered s) q not_q) ∙ logs_it) | inr thing ↦ inr thing ] in
+        let had : HasFromLane a q (o.view q) = elim has_d [ inl logs_it ↦ inl (sym (set_at_away a.logs s (a.gathered s) q not_q) ∙ logs_it) | inr thing ↦ inr thing ] in
         elim (k.gathers p q o old_round.1 (λ x other no_reply. sym (number_same x) ∙ fitting x other no_reply) (less a.must_recover s p must).1 unstable replied_q had) [
           | inl got ↦ inl got
-          | inr (z, no_reply, has_it) ↦ inr (z, no_reply, away a.logs s (a.gathered s) z (not_s z has_it) ∙ has_it)
+          | inr (z, no_reply, has_it) ↦ inr (z, no_reply, set_at_away a.logs s (a.gathered s) z (not_s z has_it) ∙ has_it)
         ];
   }
 

@@ -9,6 +9,14 @@ use Rattle.causal_rounds.specs.Rounds.{with_value_at, Round, RecoveryState, numb
 pub set_at_cases : {X : Type 0} (f : ℕ → X) (p : ℕ) (x : X) (q : ℕ) → ((q ≡ p) × (with_value_at f p x q ≡ x)) ⊎ ((q ≡ p → ⊥) × (with_value_at f p x q ≡ f q))
 set_at_cases f p x q = elim (eqb_tells q p) [ inl is ↦ inl (is.1, cond-true (q == p) x (f q) is.0) | inr other ↦ inr (other.1, cond-false (q == p) x (f q) other.0) ]
 
+-- the value at p is the new one
+pub set_at_here : {X : Type 0} (f : ℕ → X) (p : ℕ) (x : X) → with_value_at f p x p ≡ x
+set_at_here f p x = cond-true (p == p) x (f p) (eq-eqb p p refl)
+
+-- the others are as they were
+pub set_at_away : {X : Type 0} (f : ℕ → X) (p : ℕ) (x : X) (q : ℕ) → (q ≡ p → ⊥) → with_value_at f p x q ≡ f q
+set_at_away f p x q other = elim (set_at_cases f p x q) [ inl is ↦ absurd (other is.0) | inr fact ↦ fact.1 ]
+
 pub some_is : {X : Type 0} (x y : X) → Some x ≡ Some y → x ≡ y
 some_is x y h = cc
 

@@ -16,11 +16,5 @@ map_set_at g f p x q = elim (set_at_cases f p x q) [
 pub set_at_same : {X : Type 0} (f : ℕ → X) (p : ℕ) (x : X) (q : ℕ) → f p ≡ x → with_value_at f p x q ≡ f q
 set_at_same f p x q was = elim (set_at_cases f p x q) [ inl is ↦ is.1 ∙ sym was ∙ ap f (sym is.0) | inr other ↦ other.1 ]
 
-pub set_at_here : {X : Type 0} (f : ℕ → X) (p : ℕ) (x : X) → with_value_at f p x p ≡ x
-set_at_here f p x = elim (set_at_cases f p x p) [ inl is ↦ is.1 | inr other ↦ absurd (other.0 refl) ]
-
-pub set_at_away : {X : Type 0} (f : ℕ → X) (p : ℕ) (x : X) (q : ℕ) → (q ≡ p → ⊥) → with_value_at f p x q ≡ f q
-set_at_away f p x q away = elim (set_at_cases f p x q) [ inl is ↦ absurd (away is.0) | inr other ↦ other.1 ]
-
 pub apart_is : (a b : ℕ) → a < b → (a == b) ≡ false
 apart_is a b h = ne_eqb a b (λ e. omega (arith, h, e))
