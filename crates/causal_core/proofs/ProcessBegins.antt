@@ -18,13 +18,14 @@ use Rattle.causal_protocol.specs.Memory.{Memories, new_memory, present_at}
 use Rattle.causal_protocol.specs.Run.{Run, memories, memories_of}
 use Rattle.causal_protocol.specs.Runs.{HaveBegunBelow}
 use Rattle.causal_protocol.specs.Steps.{append_all, sends_of}
+use Rattle.causal_protocol.proofs.Lemmas.StepAppends.{length-pushed}
 use Rattle.causal_core.specs.Boxes.{BoxesBegan}
 use Rattle.causal_core.specs.Inside.MemoryInvariant.{MatchesEntries, MatchesEntriesAt, IsRunData}
 use Rattle.causal_core.specs.Inside.Begins.{run_after_begin, CanBegin, Begins, HaveBegun}
 use Rattle.causal_core.specs.Starts.{with_beginning, with_beginnings, opening}
 use Rattle.causal_core.specs.View.{RunDataState, receivers, sent_bodies}
 use Rattle.causal_core.specs.Inside.Memories.{keep_all}
-use Rattle.causal_core.proofs.RuntimeSend.{memories_sends, are_sends, receivers_below, receivers_long, addressed_few, pushed_length, sends_length}
+use Rattle.causal_core.proofs.RuntimeSend.{memories_sends, are_sends, receivers_below, receivers_long, addressed_few, sends_length}
 use Rattle.causal_core.proofs.BoxLemmas.{Began-push}
 use Rattle.causal_core.proofs.UpAfterStep.{sends_up}
 use Rattle.causal_core.proofs.StoreEntries.{sends_unstable}
@@ -71,7 +72,7 @@ beginnings_last n p (s ∷ sends) sent past = grind (arith, beginnings_last n (p
 
 -- it records at most eight entries
 beginning_short : (n p : ℕ) (sent : List Outgoing) (past : List Entry) → length sent ≤ 8 → length (with_beginning n p sent past) ≤ length past + 8
-beginning_short n p sent past few = grind (arith, pushed_length, sends_length, receivers_long, addressed_few)
+beginning_short n p sent past few = grind (arith, length-pushed, sends_length, receivers_long, addressed_few)
 
 set_after : {X : Type 0} (xs rest : List X) (x y : X) (k : ℕ) → k ≡ length xs → slice_set (xs ++ x ∷ rest) k y ≡ (xs ++ y ∷ []) ++ rest
 set_after {X = X} xs rest x y k is = ap (λ i. slice_set (xs ++ x ∷ rest) i y) is ∙ by xs

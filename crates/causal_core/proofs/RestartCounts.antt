@@ -20,13 +20,14 @@ use Rattle.causal_log.specs.Logs.{LogMap, after_learn, after_learn_all}
 use Rattle.causal_log.specs.Stores.{DetSet, with_det, set_has, count_in}
 use Rattle.causal_log.proofs.Lemmas.Searches.{or_nothing, any_map, any_dets}
 use Rattle.causal_log.proofs.Lemmas.Ascents.{ascending_tail, first_before, map_ascends}
+use Rattle.causal_log.proofs.Lemmas.StoreSets.{stored}
 use Rattle.causal_protocol.specs.Memory.{Memory, Memories}
 use Rattle.causal_protocol.specs.Gathering.{with_logs_of, with_held, with_stored, restart_log}
 use Rattle.causal_core.specs.Inside.Gathers.{is_logged}
 use Rattle.causal_memory.specs.declared.process_memory.ProcessMemory.{ProcessMemory}
 use Rattle.causal_memory.specs.ProcessMemories.{memory_of}
 use Rattle.causal_core.specs.Inside.Memories.{memories_in}
-use Rattle.causal_core.proofs.StoreEntries.{has_with}
+use Rattle.causal_core.proofs.StoreEntries.{same_unit}
 
 -- a determinant is among the keys of a map exactly if the map has a value for it
 pub keys_have : {X : Type 0} (m : fin.FinMap det_cmp X) (d : Det) → list_any (same_det d) (fin.keys m) ≡ is_some (fin.get m d)
@@ -71,7 +72,7 @@ with_all (d ∷ ds) s = with_all ds (with_det s d)
 all_have : (ds : List Det) (s : DetSet) (d : Det) → set_has (with_all ds s) d ≡ (set_has s d || list_any (same_det d) ds)
 unfolding with_all
 all_have [] s d = or_nothing (set_has s d)
-all_have (x ∷ ds) s d = grind (arith, all_have ds (with_det s x) d, has_with)
+all_have (x ∷ ds) s d = grind (arith, all_have ds (with_det s x) d, stored)
 
 -- two tests that agree on each element select equally many
 same_count : {X : Type 0} (same : X → X → Bool) → ((x : X) → same x x ≡ true) → (P Q : X → Bool) (xs : List X) → ((x : X) → list_any (same x) xs ≡ true → P x ≡ Q x) → length (filter P xs) ≡ length (filter Q xs)
@@ -90,7 +91,7 @@ all_count (d ∷ ds) s h =
     let rest = all_count ds (with_det s d) (ascending_tail d ds h) in
     let others : length (filter (λ x. not (set_has (with_det s d) x)) ds) ≡ length (filter (λ x. not (set_has s x)) ds) =
     same_count same_det same_itself (λ x. not (set_has (with_det s d) x)) (λ x. not (set_has s x)) ds
-    (λ x there. ap not (has_with s d x ∙ ap (λ b. b || set_has s x) (before_apart d x (first_before d ds x h there)))) in
+    (λ x there. ap not (stored s d x ∙ ap (λ b. b || set_has s x) (before_apart d x (first_before d ds x h there)))) in
     let one : count_in (with_det s d) ≡ cond (set_has s d) (count_in s) (count_in s + 1) = fin.len-insert dets_total s d tt in
     by (set_has s d) (filter (λ x. not (set_has s x)) ds) (count_in (with_all ds (with_det s d))) (rest ∙ (λ i. one i + others i))
   where
@@ -137,9 +138,6 @@ count_down ms s = ap count_in (every_down ms s)
 pub count_more : (ms : Memories) (m : Memory) (s : DetSet) → count_all (ms ++ Some m ∷ []) s ≡ count_all ms s + count_by (λ d. not (set_has s d || is_logged ms d)) (fin.keys m.log)
 unfolding count_all
 count_more ms m s = grind (arith, every_last, all_count, map_ascends, every_has, length-filter)
-
-same_unit : (a b : Option (Unit {0})) → is_some a ≡ is_some b → a ≡ b
-same_unit a b h = grind arith
 
 -- the entries of a map, with their values dropped
 module _ {X : Type 0} where

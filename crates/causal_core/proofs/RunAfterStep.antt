@@ -3,6 +3,7 @@ use Rattle.std.proofs.Common.{ℕ, ◌≡◌, ◌<◌, ◌∙◌, false, List, [
 use Rattle.causal_name.specs.declared.Pid.{Pid}
 use Rattle.causal_name.specs.declared.MsgName.{MsgName}
 use Rattle.causal_name.specs.declared.Det.{Det}
+use Rattle.causal_log.proofs.Lemmas.StoreSets.{stored}
 use Rattle.causal_trace.specs.declared.entry.Entry.TheVariants.{Stable, Crash}
 use Rattle.causal_trace.specs.Past.{is_stable}
 use Rattle.causal_protocol.specs.declared.request.CoreFault.{CoreFault}
@@ -16,7 +17,7 @@ use Rattle.causal_core.proofs.UpAfterStep.{delivery_up, changed_up}
 use Rattle.causal_log.specs.Logs.{after_mark}
 use Rattle.causal_log.specs.Stores.{DetSet, with_det, set_has}
 use Rattle.causal_protocol.specs.Memory.{with_log}
-use Rattle.causal_core.proofs.StoreEntries.{has_with, sends_unstable}
+use Rattle.causal_core.proofs.StoreEntries.{sends_unstable}
 
 -- a refused crash does not change the run
 pub crash_refused : (r next : Run) (p : Pid) (fault : CoreFault) → Steps r (Requests.Crash p) (Replies.Refused fault) next → next ≡ r
@@ -49,7 +50,7 @@ stable_filled r next p det run = ap (λ x. map is_some (memories_of x)) run ∙ 
 
 -- a store that contains exactly what is stable still does after that determinant is stored
 pub stable_stored : (r next : Run) (p : Pid) (det : Det) (old new : DetSet) → next ≡ extend_run r (Requests.Flush p) (Stable det ∷ []) → new ≡ with_det old det → ((d : Det) → set_has old d ≡ is_stable r.recording.past d) → (d : Det) → set_has new d ≡ is_stable next.recording.past d
-stable_stored r next p det old new run put stored d = grind (arith, has_with)
+stable_stored r next p det old new run put holds d = grind (arith, stored)
 
 -- a delivery and its sends change neither which processes are up nor what is stable
 module _ (r mid next : Run) (q source : Pid) (ssn : ℕ) (m : MsgName) (k : ℕ) (tos : List Pid) (same : mid ≡ r) (run : next ≡ extend_run mid (Requests.Deliver q source ssn) (delivery_entry mid q m ∷ sends_of q k tos)) where

@@ -73,11 +73,6 @@ pub pushed_last : (es : List Entry) (e : Entry) (past : List Entry) → append_a
 pushed_last [] e past = refl
 pushed_last (x ∷ es) e past = pushed_last es e (x ∷ past)
 
--- the past grows by the number of appended entries
-pub pushed_length : (es past : List Entry) → length (append_all es past) ≡ length es + length past
-pushed_length [] past = omega arith
-pushed_length (e ∷ es) past = let rest = pushed_length es (e ∷ past) in omega (arith, rest)
-
 -- one more send of a step
 pub addressed_more : (n : ℕ) (sends : List Outgoing) (s : Outgoing) → sends_to_processes n (sends ++ s ∷ []) ≡ sends_to_processes n sends ++ cond (nat_lt s.to.0 n) (s ∷ []) []
 addressed_more n [] s = refl

@@ -7,23 +7,20 @@ use Rattle.causal_name.specs.declared.Det.{Det}
 use Rattle.causal_name.specs.Names.{same_det}
 use Rattle.causal_name.proofs.Lemmas.DetOrder.{dets_total, exact_dets, det_ties}
 use Rattle.causal_log.specs.Stores.{DetSet, with_det, set_has}
+use Rattle.causal_log.proofs.Lemmas.StoreSets.{stored}
 use Rattle.causal_trace.specs.declared.entry.Entry.{Entry}
 use Rattle.causal_trace.specs.declared.entry.Entry.TheVariants.{Send}
 use Rattle.causal_trace.specs.Past.{is_stable}
 use Rattle.causal_protocol.specs.Gathering.{stable_set}
 use Rattle.causal_protocol.specs.Steps.{append_all, sends_of}
 
--- one more member
-pub has_with : (s : DetSet) (det d : Det) → set_has (with_det s det) d ≡ (same_det d det || set_has s d)
-has_with s det d = grind (arith, fin.get-insert, dets_total, det_ties)
-
 -- the set of the stable entries contains what is stable
 pub has_stable : (past : List Entry) (d : Det) → set_has (stable_set past) d ≡ is_stable past d
 unfolding stable_set
 has_stable [] d = grind (arith, fin.get-empty)
-has_stable (each ∷ others) d = grind (arith, has_stable others, has_with)
+has_stable (each ∷ others) d = grind (arith, has_stable others, stored)
 
-same_unit : (a b : Option (Unit {0})) → is_some a ≡ is_some b → a ≡ b
+pub same_unit : (a b : Option (Unit {0})) → is_some a ≡ is_some b → a ≡ b
 same_unit a b h = grind arith
 
 -- a store that contains exactly what is stable is that set

@@ -12,11 +12,12 @@ use Rattle.causal_name.specs.declared.Pid.{Pid}
 use Rattle.causal_process.specs.declared.message.Outgoing.{Outgoing}
 use Rattle.causal_log.specs.Logs.{dets_of}
 use Rattle.causal_protocol.specs.Steps.{sends_of}
+use Rattle.causal_protocol.proofs.Lemmas.StepAppends.{length-pushed}
 use Rattle.causal_core.specs.Inside.DeliveryRecords.{keep_sends, with_sends}
 use Rattle.causal_core.specs.View.{sends_to_processes, receivers, sent_bodies}
 use Rattle.causal_memory.specs.ProcessMemories.{memory_of, bodies_of}
 use Rattle.causal_core.specs.Inside.Memories.{keep_all}
-use Rattle.causal_core.proofs.RuntimeSend.{addressed_more, keep_more, sends_more, kept_length, sends_length, pushed_last, pushed_length}
+use Rattle.causal_core.proofs.RuntimeSend.{addressed_more, keep_more, sends_more, kept_length, sends_length, pushed_last}
 use Rattle.causal_core.proofs.sends.append_sends.Goals as goal
 use Rattle.causal_core.proofs.sends.append_sends.Goals.{After-record_send-arg-then-from-n-1}
 
@@ -43,7 +44,7 @@ ssn : (c : After-record_send-arg-then-from-n-1) → length (memory_of c.loop-out
 ssn c = ap (λ m. length m.sent) c.loop-outgoing.invariant.memory ∙ kept_length _ _ (tos c) (memory_of c.args.process_memory.now)
 
 position : (c : After-record_send-arg-then-from-n-1) → length c.loop-outgoing.trace.recording.past ≡ length c.args.trace.now.recording.past + length (tos c)
-position c = grind (arith, pushed_length, sends_length)
+position c = grind (arith, length-pushed, sends_length)
 
 pub loop-outgoing-preserved-then-from-n : goal.loop-outgoing-preserved-then-from-n
 loop-outgoing-preserved-then-from-n c = let at = (goal.at.loop-outgoing-preserved-then-from-n c).After-record_send-arg-then-from-n-1 in
