@@ -27,9 +27,9 @@ use Rattle.causal_node.specs.NodeRecovery.{ask_fault, node_restart_fault, new_ro
 use Rattle.causal_node.specs.NodeAnswers.{answer_fault, node_after_answer, after_answer_at, knows_number, round_reply}
 use Rattle.causal_nodes.specs.Node.{NodeRound, DownNode, Node, up_node, down_node}
 use Rattle.causal_nodes.specs.Packets.{Sent, question_packet, answer_packet, not_up_packet, read_packet, stored_packet, number_packet}
-use Rattle.causal_nodes.specs.NodeSteps.{NodeStep, hear_number_row, begin_row, not_up_row, give_up_row, hear_answer_row, hear_not_up_row, read_row, take_stored_row, hear_stored_row, restart_row, with_round, fallen_node, new_node_round, with_heard, round_with_stored}
+use Rattle.causal_nodes.specs.NodeSteps.{hear_number_row, begin_row, not_up_row, give_up_row, hear_answer_row, hear_not_up_row, read_row, take_stored_row, hear_stored_row, restart_row, with_round, fallen_node, new_node_round, with_heard, round_with_stored}
 use Rattle.causal_nodes.specs.NodeSteps as theory
-use Rattle.causal_calls.specs.Views.{numbers, log_view, RepresentsAt, Represents, IsRoundOf, IsDownView, IsNodeState, IsRecoveryState}
+use Rattle.causal_calls.specs.Views.{numbers, log_view, RepresentsAt, Represents, IsRoundOf, IsDownView, IsNodeState}
 use Rattle.causal_calls.specs.Parcels.{log_packet}
 use Rattle.causal_calls.specs.StepLaws.{IsStepOf, IsNoStep}
 use Rattle.causal_calls.proofs.Lemmas.LogViews.{same_log, one_entry, one_holder, one_stable, one_holds, held_has, held_holder, held_stable}

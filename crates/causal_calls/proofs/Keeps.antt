@@ -1,5 +1,5 @@
 -- Each call of a node keeps what is true of its states, and what it sends names only processes.
-use Rattle.std.proofs.Common.{ℕ, ◌≡◌, ◌∙◌, ◌==◌, ◌<◌, Bool, true, false, not, ◌&&◌, ◌||◌, List, [], ◌∷◌, length, max, Some, None, inl, inr, replicate, refl, sym, ap, subst, arith}
+use Rattle.std.proofs.Common.{ℕ, ◌≡◌, ◌∙◌, ◌==◌, ◌<◌, Bool, true, false, not, ◌&&◌, ◌||◌, List, [], ◌∷◌, length, max, Some, None, inl, inr, refl, sym, ap, subst, arith}
 use Rattle.std.specs.Prelude.{nat_lt, if◌then◌else◌, slice_set}
 use Rattle.std.specs.List.{list_any}
 use Rattle.std.specs.FinMap as fin
@@ -18,10 +18,9 @@ use Rattle.causal_log.proofs.Lemmas.KnowledgeGrows.{united_holders}
 use Rattle.causal_log.proofs.Lemmas.LogLists.{keys_logged}
 use Rattle.causal_protocol.specs.MemoryQueries.{has_entry, log_knows_holder}
 use Rattle.causal_protocol.specs.Memory.{with_log}
-use Rattle.causal_node.specs.declared.node.Identity.{Identity}
 use Rattle.causal_node.specs.NodeStates.{NodeState, Recovery, RoundState, floor_of, with_memory}
 use Rattle.causal_node.specs.NodeSteps.{node_after_delivery}
-use Rattle.causal_node.specs.NodeRecovery.{new_round_state, with_recovery, map_round, with_log_of, without_awaited, after_not_up, after_number, node_after_stored, node_after_read, after_restart_at, restart_log_of, opened_node, processes_below}
+use Rattle.causal_node.specs.NodeRecovery.{new_round_state, with_recovery, map_round, with_log_of, without_awaited, after_not_up, after_number, node_after_stored, node_after_read, after_restart_at, restart_log_of, processes_below}
 use Rattle.causal_node.specs.NodeAcknowledgements.{log_with_holders, after_acknowledgement}
 use Rattle.causal_node.specs.NodeForgetting.{next_slot, node_after_forget}
 use Rattle.causal_node.specs.NodeAnswers.{answer_fault, node_after_answer, after_answer_at, knows_number}
@@ -31,10 +30,10 @@ use Rattle.causal_calls.specs.Views.{HasHoldersBelow, IsNodeState, IsRecoverySta
 use Rattle.causal_calls.specs.Parcels.{message_with, acknowledgement_with}
 use Rattle.causal_calls.specs.StepLaws.{NamesProcesses}
 use Rattle.causal_calls.proofs.Lemmas.LogViews.{delivered_has, delivered_holder, marked, one_holder, one_holds, held_has, held_holder}
-use Rattle.causal_protocol.proofs.Lemmas.LogMembers.{none_holds, none_entry}
+use Rattle.causal_protocol.proofs.Lemmas.LogMembers.{none_holds}
 use Rattle.causal_calls.proofs.Lemmas.LogChanges.{learned, forgotten}
 use Rattle.causal_calls.proofs.Lemmas.Refusals.{or_else_none}
-use Rattle.causal_calls.proofs.Lemmas.Numbers.{set_other, set_here, set_length, zeros_length, raised_numbers, raised_length}
+use Rattle.causal_calls.proofs.Lemmas.Numbers.{set_other, set_length, raised_numbers, raised_length}
 use Rattle.causal_calls.proofs.Names.{has_names, inserted_name}
 use Rattle.causal_calls.proofs.DownCalls.{removed}
 

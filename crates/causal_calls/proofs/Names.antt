@@ -1,13 +1,11 @@
 -- The names that a node has received, and the message that its log names for the next delivery.
-use Rattle.std.proofs.Common.{ℕ, zero, suc, ◌≡◌, ◌∙◌, ◌==◌, ◌<◌, Bool, true, false, not, ◌&&◌, ◌||◌, List, [], ◌∷◌, length, max, replicate, Option, Some, None, is_some, refl, sym, ap, arith, true≢false}
-use Rattle.std.specs.Prelude.{slice_set}
+use Rattle.std.proofs.Common.{◌≡◌, ◌∙◌, ◌==◌, Bool, true, ◌&&◌, ◌||◌, List, [], ◌∷◌, length, Option, Some, None, refl, sym, ap, arith}
 use Rattle.std.specs.List.{list_any}
 use Rattle.std.specs.Option.{option_map}
 use Rattle.std.specs.BTreeMap.{is_at}
 use Rattle.std.specs.BTreeSet.{insert_key}
 use Rattle.std.specs.Ordering.{nat_cmp, is_eq, ordering_then, match_ordering}
 use Rattle.std.specs.FinMap as fin
-use Rattle.std.specs.FinSet as set
 use Rattle.std.specs.declared.cmp.Ordering.{Ordering}
 use Rattle.std.specs.declared.cmp.Ordering.TheVariants.{Less, Equal, Greater}
 use Rattle.std.proofs.lemmas.Bool.{and_parts, eqb-true, eq-eqb, both_ways, not-false}
@@ -24,13 +22,10 @@ use Rattle.causal_protocol.specs.Memory.{Memory}
 use Rattle.causal_protocol.specs.MemoryQueries.{has_entry}
 use Rattle.causal_memory.specs.Namings.{named_message_by}
 use Rattle.causal_node.specs.declared.node_fault.NodeFault.{NodeFault}
-use Rattle.causal_node.specs.NodeStates.{Recovery, RoundState, has_name}
-use Rattle.causal_node.specs.NodeRefusals.{unless_up, or_else, naming_fault}
-use Rattle.causal_node.specs.NodeRecovery.{reply_fault}
-use Rattle.causal_node.specs.NodeAnswers.{raised_floors}
-use Rattle.causal_calls.specs.Views.{numbers}
+use Rattle.causal_node.specs.NodeStates.{has_name}
+use Rattle.causal_node.specs.NodeRefusals.{naming_fault}
 use Rattle.causal_calls.specs.StepLaws.{HasLogSingleSlots}
-use Rattle.causal_calls.proofs.Lemmas.Refusals.{some_none, or_else_none}
+use Rattle.causal_calls.proofs.Lemmas.Refusals.{or_else_none}
 
 -- names
 pub message_is : (a b : MsgName) → same_message a b ≡ true → a ≡ b

@@ -1,6 +1,6 @@
 -- The calls of a node that is up are steps of a process that is up.
-use Rattle.std.proofs.Common.{ℕ, ◌≡◌, ◌∙◌, ◌<◌, ◌≤◌, Bool, true, false, not, ◌||◌, List, [], ◌∷◌, ◌++◌, length, Option, Some, None, is_some, unwrap_or, inl, inr, length-append, refl, sym, ap, subst, arith}
-use Rattle.std.specs.Prelude.{◌⊎◌, nat_lt, if◌then◌else◌}
+use Rattle.std.proofs.Common.{ℕ, ◌≡◌, ◌∙◌, ◌<◌, Bool, true, false, ◌||◌, List, [], ◌∷◌, ◌++◌, length, Option, Some, None, is_some, unwrap_or, inl, inr, length-append, refl, sym, ap, subst}
+use Rattle.std.specs.Prelude.{◌⊎◌, if◌then◌else◌}
 use Rattle.std.specs.List.{list_any}
 use Rattle.std.specs.FinMap as fin
 use Rattle.std.specs.FinSet as set
@@ -33,7 +33,7 @@ use Rattle.causal_node.specs.NodeForgetting.{next_slot, node_after_forget}
 use Rattle.causal_node.specs.NodeAnswers.{answer_fault, node_after_answer, after_answer_at, knows_number, raised_floors, with_floors, round_reply, reply_at}
 use Rattle.causal_nodes.specs.Node.{Node, up_node}
 use Rattle.causal_nodes.specs.Packets.{message_packet, acknowledgement_packet, write_packet, written_packet, question_packet, answer_packet}
-use Rattle.causal_nodes.specs.NodeSteps.{NodeStep, send_row, deliver_row, acknowledge_row, learn_row, write_row, mark_row, forget_row, answer_row, IsOfNodeLog, with_one_sent, with_node_log, log_after_acknowledgement, log_after_mark, log_without}
+use Rattle.causal_nodes.specs.NodeSteps.{send_row, deliver_row, acknowledge_row, learn_row, write_row, mark_row, forget_row, answer_row, IsOfNodeLog, with_one_sent, with_node_log, log_after_acknowledgement, log_after_mark, log_without}
 use Rattle.causal_nodes.specs.NodeSteps as theory
 use Rattle.causal_calls.specs.Views.{numbers, up_view, RepresentsAt, Represents, IsNodeState, log_view}
 use Rattle.causal_calls.specs.Parcels.{message_with, next_message_packet, acknowledgement_with, items_of_logged, acknowledgement_of, log_packet, write_of}

@@ -1,5 +1,5 @@
 -- A node that is opened is in a state that calls reach.
-use Rattle.std.proofs.Common.{ℕ, ◌≡◌, ◌∙◌, ◌==◌, ◌<◌, Bool, true, false, Some, None, replicate, refl, sym, subst}
+use Rattle.std.proofs.Common.{ℕ, ◌∙◌, ◌==◌, ◌<◌, Bool, true, false, Some, None, replicate, refl, sym, subst}
 use Rattle.std.specs.Prelude.{if◌then◌else◌}
 use Rattle.std.proofs.lemmas.Bool.{both_ways}
 use Rattle.causal_node.specs.declared.node.Identity.{Identity}
