@@ -1,12 +1,10 @@
 -- The store, described by the stable entries.
 use Rattle.std.proofs.Common.{arith, ℕ, ◌≡◌, ◌∙◌, List, [], ◌∷◌, Option, is_some, refl, sym}
-use Rattle.std.specs.Prelude.{◌||◌}
 use Rattle.std.specs.FinMap as fin
 use Rattle.causal_name.specs.declared.Pid.{Pid}
 use Rattle.causal_name.specs.declared.Det.{Det}
-use Rattle.causal_name.specs.Names.{same_det}
-use Rattle.causal_name.proofs.Lemmas.DetOrder.{dets_total, exact_dets, det_ties}
-use Rattle.causal_log.specs.Stores.{DetSet, with_det, set_has}
+use Rattle.causal_name.proofs.Lemmas.DetOrder.{dets_total, exact_dets}
+use Rattle.causal_log.specs.Stores.{DetSet, set_has}
 use Rattle.causal_log.proofs.Lemmas.StoreSets.{stored}
 use Rattle.causal_trace.specs.declared.entry.Entry.{Entry}
 use Rattle.causal_trace.specs.declared.entry.Entry.TheVariants.{Send}

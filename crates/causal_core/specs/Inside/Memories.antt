@@ -1,5 +1,5 @@
 -- The memories of the processes: their protocol view, kept bodies and reserved capacities.
-use Rattle.std.specs.Prelude.{◌-◌, ℕ, ◌+◌, ◌≤◌, List, [], ◌∷◌, map, Option, unwrap_or, slice_get}
+use Rattle.std.specs.Prelude.{ℕ, ◌+◌, ◌≤◌, List, [], ◌∷◌, map, Option, unwrap_or, slice_get}
 use Rattle.std.specs.Option.{option_map, option_map_or}
 use Rattle.std.specs.FinMap as fin
 use Rattle.causal_name.specs.declared.Pid.{Pid}
