@@ -1,5 +1,5 @@
 -- The moves at one process after the other.
-use Rattle.std.proofs.Common.{◌≡◌, ℕ, ◌+◌, ◌-◌, ◌<◌, List, [], ◌∷◌, ◌++◌, suc, refl, append_assoc, arith, flat_map}
+use Rattle.std.proofs.Common.{◌≡◌, ℕ, ◌+◌, ◌-◌, ◌<◌, List, ◌∷◌, ◌++◌, suc, refl, append_assoc, arith, flat_map}
 use Rattle.std.specs.List.{range_with_len}
 use Rattle.causal_protocol.specs.declared.request.Request.{Request}
 

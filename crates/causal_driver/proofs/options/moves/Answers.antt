@@ -1,4 +1,4 @@
-use Rattle.std.proofs.Common.{◌<◌, ◌+◌, arith}
+use Rattle.std.proofs.Common.{arith}
 use Rattle.causal_core.specs.CoreView.{core_run}
 use Rattle.causal_driver.specs.Options.{moves_of, moves}
 use Rattle.causal_driver.proofs.MoveLemmas.{moves_at_next}
