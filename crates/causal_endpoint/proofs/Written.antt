@@ -1,5 +1,5 @@
 -- What an endpoint writes: its process is not among the other holders, and there are fewer than 2^32 elements.
-use Rattle.std.proofs.Common.{◌≡◌, ℕ, zero, suc, ◌+◌, ◌<◌, ◌≤◌, ◌^◌, true, false, not, List, [], ◌∷◌, ◌++◌, length, map, filter, take, Option, Some, None, slice_get, is_some, unwrap_or, true≢false, refl, arith, ◌∙◌, ap, sym}
+use Rattle.std.proofs.Common.{◌≡◌, ℕ, zero, suc, ◌+◌, ◌<◌, ◌≤◌, ◌^◌, false, not, List, [], ◌∷◌, ◌++◌, length, map, filter, take, Option, Some, None, slice_get, is_some, unwrap_or, true≢false, refl, arith, ◌∙◌, ap, sym}
 use Rattle.std.specs.Prelude.{◌&&◌}
 use Rattle.std.specs.Option.{option_map}
 use Rattle.std.specs.FinMap as fin

@@ -1,6 +1,5 @@
 -- The calls of an endpoint that recovers, and its questions.
 use Rattle.std.specs.Prelude.{ℕ, unwrap_or, List, Option, Some}
-use Rattle.std.specs.FinMap as fin
 use Rattle.causal_name.specs.declared.Pid.{Pid}
 use Rattle.causal_name.specs.declared.Det.{Det}
 use Rattle.causal_name.specs.declared.MsgName.{MsgName}
