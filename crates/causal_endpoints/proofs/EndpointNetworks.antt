@@ -30,7 +30,7 @@ use Rattle.causal_nodes.specs.Network.{HasFreshName}
 use Rattle.causal_calls.specs.Views.{numbers}
 use Rattle.causal_calls.specs.Parcels.{message_with}
 use Rattle.causal_calls.specs.Calls.{NodeCall}
-use Rattle.causal_calls.specs.Systems.{System, identity_of, is_recovering, IsNewSystem, IsReachableSystem, SystemsAreSafe, SystemsShareNoSlot}
+use Rattle.causal_calls.specs.Systems.{System, identity_of, is_recovering, IsReachableSystem, SystemsAreSafe, SystemsShareNoSlot}
 use Rattle.causal_calls.specs.Systems as nodes
 use Rattle.causal_calls.proofs.Lemmas.Openings.{opening}
 use Rattle.causal_endpoint.specs.Endpoints.{EndpointState, run_of}
