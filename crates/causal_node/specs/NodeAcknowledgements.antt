@@ -1,5 +1,5 @@
 -- Acknowledgements: to whom a node sends one, and the holders that it learns from one.
-use Rattle.std.specs.Prelude.{ℕ, Bool, false, not, nat_lt, is_some, List, map, filter, Option, None}
+use Rattle.std.specs.Prelude.{ℕ, false, not, nat_lt, is_some, List, map, filter, Option, None}
 use Rattle.std.specs.FinMap as fin
 use Rattle.causal_name.specs.declared.Pid.{Pid}
 use Rattle.causal_name.specs.declared.Det.{Det}

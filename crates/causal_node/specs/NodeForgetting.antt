@@ -1,5 +1,5 @@
 -- A node forgets what is known to be stable, except of deliveries that it has still to make.
-use Rattle.std.specs.Prelude.{List, length, Option, None}
+use Rattle.std.specs.Prelude.{length, Option, None}
 use Rattle.causal_name.specs.declared.Slot.{Slot}
 use Rattle.causal_log.specs.Logs.{after_forget as log_after_forget}
 use Rattle.causal_protocol.specs.Memory.{with_log}

@@ -1,6 +1,5 @@
 -- Why a node refuses a call: the first of its rows of faults that applies, decided without memory.
 use Rattle.std.specs.Prelude.{ℕ, Bool, not, nat_lt, nat_le, List, length, Option, Some, None, if◌then◌else◌}
-use Rattle.std.specs.FinMap as fin
 use Rattle.causal_name.specs.declared.Pid.{Pid}
 use Rattle.causal_name.specs.declared.MsgName.{MsgName}
 use Rattle.causal_name.specs.Names.{same_message}

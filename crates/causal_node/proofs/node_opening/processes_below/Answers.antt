@@ -1,5 +1,4 @@
-use Rattle.std.proofs.Common.{arith, ap, ◌∙◌}
-use Rattle.std.specs.FinSet as set
+use Rattle.std.proofs.Common.{arith}
 use Rattle.causal_node.specs.NodeRecovery.{processes_below}
 use Rattle.causal_node.proofs.node_opening.processes_below.Goals as goal
 
