@@ -1,12 +1,12 @@
 -- Steps that leave the world unchanged: a number is sent or learned, a reply is taken, stable storage is asked.
 use Rattle.std.proofs.Common.{ℕ, ◌+◌, ◌≡◌, ◌<◌, ◌≤◌, inl, inr, Bool, true, false, List, ◌∷◌, Some, refl, sym, ap, subst, ◌∙◌, arith}
 use Rattle.std.specs.Prelude.{◌==◌}
-use Rattle.std.proofs.lemmas.Bool.{or_left, or_right, and_left, cond-true, cond-false}
+use Rattle.std.proofs.lemmas.Bool.{or_left, or_right, and_left}
 use Rattle.causal_name.specs.declared.Det.{Det}
 use Rattle.causal_name.specs.Names.{same_det}
 use Rattle.causal_trace.specs.declared.entry.Entry.TheVariants.{Stable}
 use Rattle.causal_trace.specs.Past.{is_stable}
-use Rattle.causal_rounds.specs.Rounds.{with_value_at, Round, RecoveryState, number}
+use Rattle.causal_rounds.specs.Rounds.{with_value_at, Round, number}
 use Rattle.causal_rounds.proofs.Lemmas.RoundSteps.{set_at_cases}
 use Rattle.causal_rounds.proofs.Lemmas.AcceptanceSteps.{number_up, number_down}
 use Rattle.causal_world.specs.World.{Packet, World}
