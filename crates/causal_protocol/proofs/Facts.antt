@@ -6,7 +6,6 @@ use Rattle.causal_name.specs.declared.Det.{Det}
 use Rattle.causal_holders.proofs.Lemmas.MemberCounts.{count_below-within}
 use Rattle.causal_trace.specs.declared.entry.Entry.{Entry}
 use Rattle.causal_trace.specs.Past.{is_down, logs}
-use Rattle.causal_trace.specs.Dependence.{AreForward}
 use Rattle.causal_trace.specs.Judgement.{IsSafeTrace}
 use Rattle.causal_steps.specs.Recovery.{must_recover, counts_as_holder, IsRecoverable, HasOrRecovers}
 use Rattle.causal_steps.specs.Transit.{TransitParcel, IsInTransit, Survives}
