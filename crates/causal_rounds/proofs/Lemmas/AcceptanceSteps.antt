@@ -1,7 +1,6 @@
 -- Nothing becomes acceptable except by being sent.
 use Rattle.std.proofs.Common.{ℕ, ◌≡◌, ◌≤◌, ◌+◌, inl, inr, Bool, true, false, cond, Some, None, refl, sym, ap, subst, ◌∙◌, arith}
-use Rattle.std.specs.Prelude.{◌==◌}
-use Rattle.std.proofs.lemmas.Bool.{both_ways, eq-eqb, cond-true, cond-false}
+use Rattle.std.proofs.lemmas.Bool.{both_ways, cond-true, cond-false}
 use Rattle.std.proofs.lemmas.Bool.Decides.{eqb_tells}
 use Rattle.causal_rounds.specs.Rounds.{with_value_at, Round, RecoveryState, number, new_round, with_reply, crash, begin, give_up, answer, refuse, not_up, restart, RoundInvariant}
 use Rattle.causal_rounds.specs.Gathered.{Carrier, DetState, MayComplete, DetInvariant, IsInTransitAfter, to_up, to_new, from_up, to_round}

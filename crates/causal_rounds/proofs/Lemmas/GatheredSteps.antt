@@ -1,7 +1,7 @@
 -- Each step preserves the invariant of one determinant.
 use Rattle.std.proofs.Common.{ℕ, ◌≡◌, ◌≤◌, ◌+◌, inl, inr, Bool, true, false, cond, Some, None, refl, sym, ap, subst, ◌∙◌, arith}
 use Rattle.std.specs.Prelude.{◌⊎◌, ◌==◌, ◌||◌}
-use Rattle.std.proofs.lemmas.Bool.{both_ways, or_left, or_right, eq-eqb, cond-true, cond-false}
+use Rattle.std.proofs.lemmas.Bool.{both_ways, or_left, or_right, cond-true, cond-false}
 use Rattle.std.proofs.lemmas.Bool.Decides.{eqb_tells}
 use Rattle.causal_rounds.specs.Rounds.{with_value_at, Round, number, new_round, with_reply, RoundInvariant}
 use Rattle.causal_rounds.specs.Gathered.{Carrier, DetState, MayComplete, HasFromLane, emit, take, deliver_again, deliver_as_new, forget, record_stable, crash, begin, give_up, answer, refuse, not_up, restart, DetInvariant, DetStepsPreserve, IsInTransitAfter, to_up, to_new, from_up, to_round, RestartsGatherAll}
