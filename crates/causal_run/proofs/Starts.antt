@@ -6,7 +6,6 @@ use Rattle.std.proofs.lemmas.List.FromFn.{map-range_with_len_more, length-map-ra
 use Rattle.causal_process.specs.declared.message.Input.{Input}
 use Rattle.causal_process.specs.declared.message.Input.TheVariants.{Begin}
 use Rattle.causal_process.specs.declared.message.Outgoing.{Outgoing}
-use Rattle.causal_trace.specs.Rows.{Recording}
 use Rattle.causal_protocol.specs.Run.{Run}
 use Rattle.causal_core.specs.Boxes.{BoxesBegan, box_answers, prepend_answer}
 use Rattle.causal_core.specs.View.{sent_bodies}
