@@ -8,7 +8,7 @@ use Rattle.causal_trace.specs.Past.{logs}
 use Rattle.causal_steps.specs.Steps.{silent, learns}
 use Rattle.causal_steps.specs.Reachable.{next_state}
 use Rattle.causal_rounds.specs.Rounds.{with_value_at, Round, RecoveryState, RoundStep, number, new_round, with_reply, begin, give_up, answer, refuse, not_up}
-use Rattle.causal_rounds.specs.Gathered.{DetState, DetInvariant, DetStep}
+use Rattle.causal_rounds.specs.Gathered.{DetState, DetInvariant}
 use Rattle.causal_rounds.specs.Gathered as det
 use Rattle.causal_rounds.proofs.Lemmas.RoundSteps.{set_at_cases, some_is, none_some, round_step_preserves, set_at_here, set_at_away}
 use Rattle.causal_rounds.proofs.Lemmas.GatheredSteps.{det_step_preserves}

@@ -16,7 +16,7 @@ use Rattle.causal_steps.specs.Steps.{silent, learns, writes, forgets}
 use Rattle.causal_steps.specs.Reachable.{next_state}
 use Rattle.causal_steps.proofs.Lemmas.Reachable.{reachable_safe}
 use Rattle.causal_rounds.specs.Rounds.{with_value_at, Round}
-use Rattle.causal_rounds.specs.Gathered.{Carrier, DetState, DetInvariant, take, record_stable, to_up}
+use Rattle.causal_rounds.specs.Gathered.{DetState, DetInvariant, take, record_stable, to_up}
 use Rattle.causal_rounds.specs.Gathered as det
 use Rattle.causal_rounds.specs.Acceptance.{by_floor}
 use Rattle.causal_rounds.proofs.Lemmas.RoundSteps.{set_at_cases, some_is, set_at_here}
