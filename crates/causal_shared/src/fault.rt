@@ -7,7 +7,7 @@ use causal_protocol::request::{CoreFault, FlushFault};
 use thiserror::Error;
 
 /// The error of an item call of the locked value.
-#[derive(Clone, Copy, PartialEq, Eq, Debug, Error)]
+#[derive(Clone, Copy, Debug, Error)]
 pub enum LockedFault {
     /// The history could not grow. The core was not called.
     #[error("the call could not be recorded")]
