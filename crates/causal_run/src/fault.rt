@@ -10,7 +10,7 @@ use std::alloc::AllocFailed;
 use thiserror::Error;
 
 /// Why a script's run returned no trace.
-#[derive(Clone, Copy, PartialEq, Eq, Debug, Error)]
+#[derive(Clone, Copy, Debug, Error)]
 pub enum RunFault {
     /// The command of this line was refused; for a flush that failed before it finished, with the fault that ended it.
     #[error("line {line} is refused: {fault}")]
