@@ -23,7 +23,7 @@ pub struct Call {
 }
 
 /// Why driving ended.
-#[derive(Clone, Copy, Debug, PartialEq, Eq)]
+#[derive(Clone, Copy)]
 pub enum End {
     /// All processes are up, and nothing can be delivered.
     Quiet,
