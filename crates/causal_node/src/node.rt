@@ -19,7 +19,7 @@ use std::collections::BTreeSet;
 use std::marker::Model;
 
 /// Which process of a run a node is.
-#[derive(Clone, Copy, Debug, PartialEq, Eq)]
+#[derive(Clone, Copy)]
 pub struct Identity {
     /// The number of processes.
     pub processes: u16,

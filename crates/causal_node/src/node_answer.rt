@@ -10,7 +10,7 @@ use causal_name::{NoMemory, Pid};
 use std::alloc::Global;
 
 /// The reply to a question.
-#[derive(Clone, Copy, Debug, PartialEq, Eq)]
+#[derive(Clone, Copy)]
 pub enum RoundReply {
     /// The process is up: its log goes to the asker.
     Log,
