@@ -31,33 +31,33 @@ HasFromLane a q lane = (a.logs q ≡ true) ⊎ ((i : ℕ) × (t : Carrier) × (a
 pub data DetStep (a : DetState) : DetState → Type 0 where
   -- p sends something that carries it
   emit : (p to i : ℕ) → a.state.down p ≡ false → a.logs p ≡ true → a.carriers i ≡ None
-      → DetStep a (record { state = a.state; logs = a.logs; must_recover = a.must_recover; stable = a.stable; carriers = with_value_at a.carriers i (Some (record { from = p; lane = a.state.lane p; to = to })); gathered = a.gathered })
+      → DetStep a (record a { carriers = with_value_at a.carriers i (Some (record { from = p; lane = a.state.lane p; to = to })) })
   -- y takes what carries it, from a lane that it does not refuse
   take : (y i : ℕ) (t : Carrier) → a.state.down y ≡ false → a.carriers i ≡ Some t → a.state.floors y t.from ≤ t.lane
-      → DetStep a (record { state = a.state; logs = with_value_at a.logs y true; must_recover = a.must_recover; stable = a.stable; carriers = a.carriers; gathered = a.gathered })
+      → DetStep a (record a { logs = with_value_at a.logs y true })
   -- y delivers it: it logged it, or it was stable; or y delivers it as new, and then nobody has to recover it any
   -- more
   deliver_again : (y : ℕ) → a.state.down y ≡ false → (a.logs y ≡ true) ⊎ (a.stable ≡ true)
-      → DetStep a (record { state = a.state; logs = with_value_at a.logs y true; must_recover = a.must_recover; stable = a.stable; carriers = a.carriers; gathered = a.gathered })
+      → DetStep a (record a { logs = with_value_at a.logs y true })
   deliver_as_new : (y : ℕ) → a.state.down y ≡ false
-      → DetStep a (record { state = a.state; logs = with_value_at a.logs y true; must_recover = λ p. false; stable = a.stable; carriers = a.carriers; gathered = a.gathered })
+      → DetStep a (record a { logs = with_value_at a.logs y true; must_recover = λ p. false })
   forget : (y : ℕ) → a.stable ≡ true
-      → DetStep a (record { state = a.state; logs = with_value_at a.logs y false; must_recover = a.must_recover; stable = a.stable; carriers = a.carriers; gathered = a.gathered })
-  record_stable : DetStep a (record { state = a.state; logs = a.logs; must_recover = a.must_recover; stable = true; carriers = a.carriers; gathered = a.gathered })
+      → DetStep a (record a { logs = with_value_at a.logs y false })
+  record_stable : DetStep a (record a { stable = true })
   crash : (p : ℕ) → a.state.down p ≡ false
-      → DetStep a (record { state = record { lane = a.state.lane; down = with_value_at a.state.down p true; floors = a.state.floors; rounds = a.state.rounds }; logs = with_value_at a.logs p false; must_recover = with_value_at a.must_recover p (a.logs p); stable = a.stable; carriers = a.carriers; gathered = a.gathered })
+      → DetStep a (record a { state = record a.state { down = with_value_at a.state.down p true }; logs = with_value_at a.logs p false; must_recover = with_value_at a.must_recover p (a.logs p) })
   begin : (s : ℕ) (view : ℕ → ℕ) (absent : ℕ → Bool) → ((q : ℕ) → absent q ≡ true → (a.state.down q ≡ true) × (view q ≡ a.state.lane q + 1))
-      → DetStep a (record { state = record { lane = a.state.lane; down = a.state.down; floors = a.state.floors; rounds = with_value_at a.state.rounds s (Some (new_round view absent)) }; logs = a.logs; must_recover = a.must_recover; stable = a.stable; carriers = a.carriers; gathered = with_value_at a.gathered s false })
+      → DetStep a (record a { state = record a.state { rounds = with_value_at a.state.rounds s (Some (new_round view absent)) }; gathered = with_value_at a.gathered s false })
   give_up : (s : ℕ)
-      → DetStep a (record { state = record { lane = a.state.lane; down = a.state.down; floors = a.state.floors; rounds = with_value_at a.state.rounds s None }; logs = a.logs; must_recover = a.must_recover; stable = a.stable; carriers = a.carriers; gathered = a.gathered })
+      → DetStep a (record a { state = record a.state { rounds = with_value_at a.state.rounds s None } })
   answer : (y s : ℕ) (r : Round) (floors : ℕ → ℕ) → a.state.down y ≡ false → a.state.rounds s ≡ Some r → r.view y ≡ a.state.lane y
-      → DetStep a (record { state = record { lane = a.state.lane; down = a.state.down; floors = with_value_at a.state.floors y floors; rounds = with_value_at a.state.rounds s (Some (with_reply r y true)) }; logs = a.logs; must_recover = a.must_recover; stable = a.stable; carriers = a.carriers; gathered = with_value_at a.gathered s (a.gathered s || a.logs y) })
+      → DetStep a (record a { state = record a.state { floors = with_value_at a.state.floors y floors; rounds = with_value_at a.state.rounds s (Some (with_reply r y true)) }; gathered = with_value_at a.gathered s (a.gathered s || a.logs y) })
   refuse : (y : ℕ) (floors : ℕ → ℕ)
-      → DetStep a (record { state = record { lane = a.state.lane; down = a.state.down; floors = with_value_at a.state.floors y floors; rounds = a.state.rounds }; logs = a.logs; must_recover = a.must_recover; stable = a.stable; carriers = a.carriers; gathered = a.gathered })
+      → DetStep a (record a { state = record a.state { floors = with_value_at a.state.floors y floors } })
   not_up : (q s : ℕ) (r : Round) → a.state.down q ≡ true → (q ≡ s → ⊥) → a.state.rounds s ≡ Some r → r.view q ≡ a.state.lane q + 1
-      → DetStep a (record { state = record { lane = a.state.lane; down = a.state.down; floors = a.state.floors; rounds = with_value_at (with_value_at a.state.rounds s (Some (with_reply r q false))) q None }; logs = a.logs; must_recover = a.must_recover; stable = a.stable; carriers = a.carriers; gathered = a.gathered })
+      → DetStep a (record a { state = record a.state { rounds = with_value_at (with_value_at a.state.rounds s (Some (with_reply r q false))) q None } })
   restart : (s : ℕ) (r : Round) → a.state.rounds s ≡ Some r → ((q : ℕ) → (q ≡ s → ⊥) → r.replied q ≡ true)
-      → DetStep a (record { state = record { lane = with_value_at a.state.lane s (a.state.lane s + 1); down = with_value_at a.state.down s false; floors = with_value_at a.state.floors s r.view; rounds = with_value_at a.state.rounds s None }; logs = with_value_at a.logs s (a.gathered s); must_recover = with_value_at a.must_recover s false; stable = a.stable; carriers = a.carriers; gathered = a.gathered })
+      → DetStep a (record a { state = record { lane = with_value_at a.state.lane s (a.state.lane s + 1); down = with_value_at a.state.down s false; floors = with_value_at a.state.floors s r.view; rounds = with_value_at a.state.rounds s None }; logs = with_value_at a.logs s (a.gathered s); must_recover = with_value_at a.must_recover s false })
 
 -- the invariant of one determinant
 pub record DetInvariant (a : DetState) : Type 0 where

@@ -35,21 +35,21 @@ with_reply r q up = record { view = r.view; replied = with_value_at r.replied q 
 
 -- what a recovery does to the rounds
 pub data RoundStep (w : RecoveryState) : RecoveryState → Type 0 where
-  crash : (p : ℕ) → w.down p ≡ false → RoundStep w (record { lane = w.lane; down = with_value_at w.down p true; floors = w.floors; rounds = w.rounds })
+  crash : (p : ℕ) → w.down p ≡ false → RoundStep w (record w { down = with_value_at w.down p true })
   begin : (s : ℕ) (view : ℕ → ℕ) (absent : ℕ → Bool) → w.down s ≡ true → view s ≡ w.lane s + 1 → ((q : ℕ) → view q ≤ number w q) → absent s ≡ false
       → ((q : ℕ) → absent q ≡ true → (w.down q ≡ true) × (w.rounds q ≡ None) × (view q ≡ w.lane q + 1))
-      → RoundStep w (record { lane = w.lane; down = w.down; floors = w.floors; rounds = with_value_at w.rounds s (Some (new_round view absent)) })
-  give_up : (s : ℕ) → RoundStep w (record { lane = w.lane; down = w.down; floors = w.floors; rounds = with_value_at w.rounds s None })
+      → RoundStep w (record w { rounds = with_value_at w.rounds s (Some (new_round view absent)) })
+  give_up : (s : ℕ) → RoundStep w (record w { rounds = with_value_at w.rounds s None })
   -- y, which is up, answers s, and refuses from now on what is below the view
   answer : (y s : ℕ) (r : Round) (floors : ℕ → ℕ) → w.down y ≡ false → w.rounds s ≡ Some r → r.view y ≡ w.lane y
       → ((z : ℕ) → w.floors y z ≤ floors z) → ((z : ℕ) → r.view z ≤ floors z) → ((z : ℕ) → floors z ≤ number w z)
-      → RoundStep w (record { lane = w.lane; down = w.down; floors = with_value_at w.floors y floors; rounds = with_value_at w.rounds s (Some (with_reply r y true)) })
+      → RoundStep w (record w { floors = with_value_at w.floors y floors; rounds = with_value_at w.rounds s (Some (with_reply r y true)) })
   -- y, which is up, refuses more: it answers a question of a round that was given up
   refuse : (y : ℕ) (floors : ℕ → ℕ) → w.down y ≡ false → ((z : ℕ) → w.floors y z ≤ floors z) → ((z : ℕ) → floors z ≤ number w z)
-      → RoundStep w (record { lane = w.lane; down = w.down; floors = with_value_at w.floors y floors; rounds = w.rounds })
+      → RoundStep w (record w { floors = with_value_at w.floors y floors })
   -- q, which is not up, says so to s, and gives up its own round
   not_up : (q s : ℕ) (r : Round) → w.down q ≡ true → (q ≡ s → ⊥) → w.rounds s ≡ Some r → r.view q ≡ w.lane q + 1
-      → RoundStep w (record { lane = w.lane; down = w.down; floors = w.floors; rounds = with_value_at (with_value_at w.rounds s (Some (with_reply r q false))) q None })
+      → RoundStep w (record w { rounds = with_value_at (with_value_at w.rounds s (Some (with_reply r q false))) q None })
   -- all others have replied to s, and it comes up
   restart : (s : ℕ) (r : Round) → w.rounds s ≡ Some r → ((q : ℕ) → (q ≡ s → ⊥) → r.replied q ≡ true)
       → RoundStep w (record { lane = with_value_at w.lane s (w.lane s + 1); down = with_value_at w.down s false; floors = with_value_at w.floors s r.view; rounds = with_value_at w.rounds s None })

@@ -18,7 +18,7 @@ module _ (w : RecoveryState) (h : RoundInvariant w) (t : Carrier) (low : t.lane 
   -- p goes down
   module _ (p : ℕ) (up : w.down p ≡ false) where
     abbrev fallen : RecoveryState
-    fallen = record { lane = w.lane; down = with_value_at w.down p true; floors = w.floors; rounds = w.rounds }
+    fallen = record w { down = with_value_at w.down p true }
 
     was_up : (q : ℕ) → with_value_at w.down p true q ≡ false → w.down q ≡ false
     was_up q is = elim (set_at_cases w.down p true q) [ inl me ↦ absurd (both_ways (with_value_at w.down p true q) is me.1) | inr other ↦ sym other.1 ∙ is ]
@@ -51,7 +51,7 @@ module _ (w : RecoveryState) (h : RoundInvariant w) (t : Carrier) (low : t.lane 
     before_crash (by_round o down at fitting replied_q view) = by_round o (h.gathering_are_down t.to o at) at (was_open t.to o at fitting) replied_q view
 
   before_begin : (s : ℕ) (view : ℕ → ℕ) (absent : ℕ → Bool) → ((q : ℕ) → absent q ≡ true → (w.down q ≡ true) × (w.rounds q ≡ None) × (view q ≡ w.lane q + 1))
-      → IsAcceptable (record { lane = w.lane; down = w.down; floors = w.floors; rounds = with_value_at w.rounds s (Some (new_round view absent)) }) t → IsAcceptable w t
+      → IsAcceptable (record w { rounds = with_value_at w.rounds s (Some (new_round view absent)) }) t → IsAcceptable w t
   before_begin s view absent gone (by_floor up floor) = by_floor up floor
   before_begin s view absent gone (by_sender down up lane) = by_sender down up lane
   before_begin s view absent gone (by_round o down at fitting replied_q above) = elim (set_at_cases w.rounds s (Some (new_round view absent)) t.to) [
@@ -63,7 +63,7 @@ module _ (w : RecoveryState) (h : RoundInvariant w) (t : Carrier) (low : t.lane 
     | inr other ↦ by_round o down (sym other.1 ∙ at) fitting replied_q above
   ]
 
-  before_end : (s : ℕ) → IsAcceptable (record { lane = w.lane; down = w.down; floors = w.floors; rounds = with_value_at w.rounds s None }) t → IsAcceptable w t
+  before_end : (s : ℕ) → IsAcceptable (record w { rounds = with_value_at w.rounds s None }) t → IsAcceptable w t
   before_end s (by_floor up floor) = by_floor up floor
   before_end s (by_sender down up lane) = by_sender down up lane
   before_end s (by_round o down at fitting replied_q above) = elim (set_at_cases w.rounds s None t.to) [
@@ -103,7 +103,7 @@ module _ (w : RecoveryState) (h : RoundInvariant w) (t : Carrier) (low : t.lane 
     as_round p o is same fitting = subst (λ (x : Round). MayComplete w s x) (sym same) (subst (λ x. MayComplete w x o) is fitting)
 
   before_answer : (y s : ℕ) (r : Round) (floors : ℕ → ℕ) → w.down y ≡ false → w.rounds s ≡ Some r → r.view y ≡ w.lane y → ((z : ℕ) → w.floors y z ≤ floors z)
-      → IsAcceptable (record { lane = w.lane; down = w.down; floors = with_value_at w.floors y floors; rounds = with_value_at w.rounds s (Some (with_reply r y true)) }) t → IsAcceptable w t
+      → IsAcceptable (record w { floors = with_value_at w.floors y floors; rounds = with_value_at w.rounds s (Some (with_reply r y true)) }) t → IsAcceptable w t
   before_answer y s r floors up at fits rise (by_floor is_up floor) = elim (set_at_cases w.floors y floors t.to) [
     | inl is ↦
         let above : floors t.from ≤ t.lane = subst (λ g. g t.from ≤ t.lane) is.1 floor in
@@ -120,7 +120,7 @@ module _ (w : RecoveryState) (h : RoundInvariant w) (t : Carrier) (low : t.lane 
   ]
 
   before_not_up : (y s : ℕ) (r : Round) → w.down y ≡ true → w.rounds s ≡ Some r → r.view y ≡ w.lane y + 1
-      → IsAcceptable (record { lane = w.lane; down = w.down; floors = w.floors; rounds = with_value_at (with_value_at w.rounds s (Some (with_reply r y false))) y None }) t → IsAcceptable w t
+      → IsAcceptable (record w { rounds = with_value_at (with_value_at w.rounds s (Some (with_reply r y false))) y None }) t → IsAcceptable w t
   before_not_up y s r is_down at fits (by_floor is_up floor) = by_floor is_up floor
   before_not_up y s r is_down at fits (by_sender down is_up lane) = by_sender down is_up lane
   before_not_up y s r is_down at fits (by_round o down there fitting replied_q above) = elim (set_at_cases (with_value_at w.rounds s (Some (with_reply r y false))) y None t.to) [
@@ -181,7 +181,7 @@ module _ (w : RecoveryState) (h : RoundInvariant w) (t : Carrier) (low : t.lane 
         let old = still_down t.to down in
         by_round o old.1 (sym (set_at_away w.rounds s None t.to old.0) ∙ there) (λ q other no_reply. sym (number_same q) ∙ fitting q other no_reply) replied_q above
 
-before_refuse : (w : RecoveryState) (t : Carrier) (y : ℕ) (floors : ℕ → ℕ) → ((z : ℕ) → w.floors y z ≤ floors z) → IsAcceptable (record { lane = w.lane; down = w.down; floors = with_value_at w.floors y floors; rounds = w.rounds }) t → IsAcceptable w t
+before_refuse : (w : RecoveryState) (t : Carrier) (y : ℕ) (floors : ℕ → ℕ) → ((z : ℕ) → w.floors y z ≤ floors z) → IsAcceptable (record w { floors = with_value_at w.floors y floors }) t → IsAcceptable w t
 before_refuse w t y floors rise (by_floor up floor) = by_floor up (elim (set_at_cases w.floors y floors t.to) [
   | inl is ↦
       let more = rise t.from in

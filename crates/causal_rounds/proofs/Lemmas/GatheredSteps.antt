@@ -36,7 +36,7 @@ at_view a h k s r at i t there replied_q above = by (r.answered t.from) refl
 -- y alone logs more, and a round to which it has replied learns of it
 module _ (a : DetState) (y : ℕ) (up : a.state.down y ≡ false) (k : DetInvariant a) where
   abbrev logged : DetState
-  logged = record { state = a.state; logs = with_value_at a.logs y true; must_recover = a.must_recover; stable = a.stable; carriers = a.carriers; gathered = a.gathered }
+  logged = record a { logs = with_value_at a.logs y true }
 
   weaker : (s : ℕ) (r : Round) → Result a s r → Result logged s r
   weaker s r (inl got) = inl got
@@ -101,7 +101,7 @@ module _ (a : DetState) (p to i : ℕ) (up : a.state.down p ≡ false) (has_it :
   new = record { from = p; lane = a.state.lane p; to = to }
 
   abbrev emitted : DetState
-  emitted = record { state = a.state; logs = a.logs; must_recover = a.must_recover; stable = a.stable; carriers = with_value_at a.carriers i (Some new); gathered = a.gathered }
+  emitted = record a { carriers = with_value_at a.carriers i (Some new) }
 
   which : (j : ℕ) (t : Carrier) → with_value_at a.carriers i (Some new) j ≡ Some t → (new ≡ t) ⊎ (a.carriers j ≡ Some t)
   which j t h = elim (set_at_cases a.carriers i (Some new) j) [ inl is ↦ inl (some_is new t (sym is.1 ∙ h)) | inr other ↦ inr (sym other.1 ∙ h) ]
@@ -124,7 +124,7 @@ module _ (a : DetState) (p to i : ℕ) (up : a.state.down p ≡ false) (has_it :
 -- p goes down
 module _ (a : DetState) (p : ℕ) (up : a.state.down p ≡ false) (h : RoundInvariant a.state) (k : DetInvariant a) where
   abbrev fallen : DetState
-  fallen = record { state = record { lane = a.state.lane; down = with_value_at a.state.down p true; floors = a.state.floors; rounds = a.state.rounds }; logs = with_value_at a.logs p false; must_recover = with_value_at a.must_recover p (a.logs p); stable = a.stable; carriers = a.carriers; gathered = a.gathered }
+  fallen = record a { state = record a.state { down = with_value_at a.state.down p true }; logs = with_value_at a.logs p false; must_recover = with_value_at a.must_recover p (a.logs p) }
 
   -- p has replied to a round that may still complete
   had_replied : (s : ℕ) (r : Round) → a.state.rounds s ≡ Some r → MayComplete fallen.state s r → r.replied p ≡ true
@@ -171,7 +171,7 @@ module _ (a : DetState) (p : ℕ) (up : a.state.down p ≡ false) (h : RoundInva
 -- a round begins
 module _ (a : DetState) (s : ℕ) (view : ℕ → ℕ) (absent : ℕ → Bool) (gone : (q : ℕ) → absent q ≡ true → (a.state.down q ≡ true) × (view q ≡ a.state.lane q + 1)) (k : DetInvariant a) where
   abbrev started : DetState
-  started = record { state = record { lane = a.state.lane; down = a.state.down; floors = a.state.floors; rounds = with_value_at a.state.rounds s (Some (new_round view absent)) }; logs = a.logs; must_recover = a.must_recover; stable = a.stable; carriers = a.carriers; gathered = with_value_at a.gathered s false }
+  started = record a { state = record a.state { rounds = with_value_at a.state.rounds s (Some (new_round view absent)) }; gathered = with_value_at a.gathered s false }
 
   start_preserves : DetInvariant started
   start_preserves = record {
@@ -193,7 +193,7 @@ module _ (a : DetState) (s : ℕ) (view : ℕ → ℕ) (absent : ℕ → Bool) (
   }
 
 -- a round is given up
-end_preserves : (a : DetState) (s : ℕ) → DetInvariant a → DetInvariant (record { state = record { lane = a.state.lane; down = a.state.down; floors = a.state.floors; rounds = with_value_at a.state.rounds s None }; logs = a.logs; must_recover = a.must_recover; stable = a.stable; carriers = a.carriers; gathered = a.gathered })
+end_preserves : (a : DetState) (s : ℕ) → DetInvariant a → DetInvariant (record a { state = record a.state { rounds = with_value_at a.state.rounds s None } })
 end_preserves a s k = record {
   logs_up = k.logs_up;
   recovering_are_down = k.recovering_are_down;
@@ -211,7 +211,7 @@ module _ (a : DetState) (y s : ℕ) (r : Round) (floors : ℕ → ℕ) (up : a.s
   told = with_reply r y true
 
   abbrev answered : DetState
-  answered = record { state = record { lane = a.state.lane; down = a.state.down; floors = with_value_at a.state.floors y floors; rounds = with_value_at a.state.rounds s (Some told) }; logs = a.logs; must_recover = a.must_recover; stable = a.stable; carriers = a.carriers; gathered = with_value_at a.gathered s (a.gathered s || a.logs y) }
+  answered = record a { state = record a.state { floors = with_value_at a.state.floors y floors; rounds = with_value_at a.state.rounds s (Some told) }; gathered = with_value_at a.gathered s (a.gathered s || a.logs y) }
 
   got_old : a.gathered s ≡ true → answered.gathered s ≡ true
   got_old got = set_at_here a.gathered s (a.gathered s || a.logs y) ∙ or_left (a.gathered s) (a.logs y) got
@@ -266,7 +266,7 @@ module _ (a : DetState) (y s : ℕ) (r : Round) (down : a.state.down y ≡ true)
   said = with_reply r y false
 
   abbrev silent : DetState
-  silent = record { state = record { lane = a.state.lane; down = a.state.down; floors = a.state.floors; rounds = with_value_at (with_value_at a.state.rounds s (Some said)) y None }; logs = a.logs; must_recover = a.must_recover; stable = a.stable; carriers = a.carriers; gathered = a.gathered }
+  silent = record a { state = record a.state { rounds = with_value_at (with_value_at a.state.rounds s (Some said)) y None } }
 
   still_open : MayComplete a.state s said → MayComplete a.state s r
   still_open fitting q other no_reply = elim (set_at_cases r.replied y true q) [
@@ -316,7 +316,7 @@ module _ (a : DetState) (y s : ℕ) (r : Round) (down : a.state.down y ≡ true)
 -- s comes up
 module _ (a : DetState) (s : ℕ) (r : Round) (at : a.state.rounds s ≡ Some r) (all : (q : ℕ) → (q ≡ s → ⊥) → r.replied q ≡ true) (h : RoundInvariant a.state) (k : DetInvariant a) where
   abbrev risen : DetState
-  risen = record { state = record { lane = with_value_at a.state.lane s (a.state.lane s + 1); down = with_value_at a.state.down s false; floors = with_value_at a.state.floors s r.view; rounds = with_value_at a.state.rounds s None }; logs = with_value_at a.logs s (a.gathered s); must_recover = with_value_at a.must_recover s false; stable = a.stable; carriers = a.carriers; gathered = a.gathered }
+  risen = record a { state = record { lane = with_value_at a.state.lane s (a.state.lane s + 1); down = with_value_at a.state.down s false; floors = with_value_at a.state.floors s r.view; rounds = with_value_at a.state.rounds s None }; logs = with_value_at a.logs s (a.gathered s); must_recover = with_value_at a.must_recover s false }
 
   down_before : a.state.down s ≡ true
   down_before = h.gathering_are_down s r at

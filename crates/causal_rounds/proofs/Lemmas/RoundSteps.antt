@@ -26,7 +26,7 @@ none_some x h = cc
 -- a crash
 module _ (w : RecoveryState) (p : ℕ) (up : w.down p ≡ false) (k : RoundInvariant w) where
   abbrev crashed : RecoveryState
-  crashed = record { lane = w.lane; down = with_value_at w.down p true; floors = w.floors; rounds = w.rounds }
+  crashed = record w { down = with_value_at w.down p true }
 
   stays_down : (q : ℕ) → w.down q ≡ true → with_value_at w.down p true q ≡ true
   stays_down q h = elim (set_at_cases w.down p true q) [ inl is ↦ is.1 | inr other ↦ other.1 ∙ h ]
@@ -54,7 +54,7 @@ module _ (w : RecoveryState) (p : ℕ) (up : w.down p ≡ false) (k : RoundInvar
 -- a round begins, or is given up: a round that is there is an old one, or the new one of s
 module _ (w : RecoveryState) (s : ℕ) (k : RoundInvariant w) where
   abbrev without : RecoveryState
-  without = record { lane = w.lane; down = w.down; floors = w.floors; rounds = with_value_at w.rounds s None }
+  without = record w { rounds = with_value_at w.rounds s None }
 
   left : (q : ℕ) (r : Round) → with_value_at w.rounds s None q ≡ Some r → w.rounds q ≡ Some r
   left q r h = elim (set_at_cases w.rounds s None q) [ inl is ↦ absurd (none_some r (sym is.1 ∙ h)) | inr other ↦ sym other.1 ∙ h ]
@@ -76,7 +76,7 @@ module _ (w : RecoveryState) (s : ℕ) (k : RoundInvariant w) where
 module _ (w : RecoveryState) (s : ℕ) (view : ℕ → ℕ) (is_down : w.down s ≡ true) (mine : view s ≡ w.lane s + 1) (low : (q : ℕ) → view q ≤ number w q) (absent : ℕ → Bool) (there : absent s ≡ false)
     (gone : (q : ℕ) → absent q ≡ true → (w.down q ≡ true) × (w.rounds q ≡ None) × (view q ≡ w.lane q + 1)) (k : RoundInvariant w) where
   abbrev begun : RecoveryState
-  begun = record { lane = w.lane; down = w.down; floors = w.floors; rounds = with_value_at w.rounds s (Some (new_round view absent)) }
+  begun = record w { rounds = with_value_at w.rounds s (Some (new_round view absent)) }
 
   which : (p : ℕ) (r : Round) → with_value_at w.rounds s (Some (new_round view absent)) p ≡ Some r → ((p ≡ s) × (new_round view absent ≡ r)) ⊎ (w.rounds p ≡ Some r)
   which p r h = elim (set_at_cases w.rounds s (Some (new_round view absent)) p) [ inl is ↦ inl (is.0, some_is (new_round view absent) r (sym is.1 ∙ h)) | inr other ↦ inr (sym other.1 ∙ h) ]
@@ -150,7 +150,7 @@ module _ (w : RecoveryState) (y s : ℕ) (r : Round) (new_floors : ℕ → ℕ) 
   told = with_reply r y true
 
   abbrev told_world : RecoveryState
-  told_world = record { lane = w.lane; down = w.down; floors = with_value_at w.floors y new_floors; rounds = with_value_at w.rounds s (Some told) }
+  told_world = record w { floors = with_value_at w.floors y new_floors; rounds = with_value_at w.rounds s (Some told) }
 
   -- a process with a round is not y
   has_none : (p : ℕ) (o : Round) → w.rounds p ≡ Some o → p ≡ y → ⊥
@@ -265,7 +265,7 @@ module _ (w : RecoveryState) (y s : ℕ) (r : Round) (is_down : w.down y ≡ tru
   said_rounds = with_value_at (with_value_at w.rounds s (Some said)) y None
 
   abbrev said_world : RecoveryState
-  said_world = record { lane = w.lane; down = w.down; floors = w.floors; rounds = said_rounds }
+  said_world = record w { rounds = said_rounds }
 
   -- y has no round
   seen : (p : ℕ) (o : Round) → said_rounds p ≡ Some o → (p ≡ y → ⊥) × (((p ≡ s) × (said ≡ o)) ⊎ (w.rounds p ≡ Some o))
@@ -399,7 +399,7 @@ module _ (w : RecoveryState) (s : ℕ) (r : Round) (at : w.rounds s ≡ Some r) 
   }
 
 -- y refuses more
-refuse_preserves : (w : RecoveryState) (y : ℕ) (floors : ℕ → ℕ) → ((z : ℕ) → w.floors y z ≤ floors z) → ((z : ℕ) → floors z ≤ number w z) → RoundInvariant w → RoundInvariant (record { lane = w.lane; down = w.down; floors = with_value_at w.floors y floors; rounds = w.rounds })
+refuse_preserves : (w : RecoveryState) (y : ℕ) (floors : ℕ → ℕ) → ((z : ℕ) → w.floors y z ≤ floors z) → ((z : ℕ) → floors z ≤ number w z) → RoundInvariant w → RoundInvariant (record w { floors = with_value_at w.floors y floors })
 refuse_preserves w y floors rise below k = record {
   gathering_are_down = k.gathering_are_down;
   own_view = k.own_view;
