@@ -24,9 +24,8 @@ writers_before (suc k) (e ∷ past) writers = writers_before k past (older_write
 
 -- the run before its k newest entries
 abbrev pub run_before : ℕ → Run → Run
-run_before k r = record {
+run_before k r = record r {
   recording = record { processes = r.recording.processes; past = drop k r.recording.past };
-  faults = r.faults;
   writers = writers_before k r.recording.past r.writers;
 }
 

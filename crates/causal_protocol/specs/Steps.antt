@@ -32,9 +32,8 @@ writers_of _ appended = []
 
 -- the run with these entries of a request appended
 abbrev pub extend_run : Run → Request → List Entry → Run
-extend_run r request appended = record {
+extend_run r request appended = record r {
   recording = record { processes = r.recording.processes; past = append_all appended r.recording.past };
-  faults = r.faults;
   writers = writers_of request appended ++ r.writers;
 }
 
