@@ -54,10 +54,7 @@ is_named_for me dets m = list_any (λ d. same_pid d.dest me && is_at (message_cm
 
 -- the node after its restart with the log that a round has gathered, and these reserved names
 abbrev pub node_after_restart : NodeState → LogMap → List MsgName → NodeState
-node_after_restart n log reserved = record {
-  identity = n.identity;
-  lane = n.lane;
-  floors = n.floors;
+node_after_restart n log reserved = record n {
   memory = new_memory (restart_log_of n.identity.me log);
   bodies = [];
   received_names = [];

@@ -91,7 +91,7 @@ floor_of floors p = unwrap_or (slice_get floors p.0) 0
 
 -- the node with another memory, which keeps these bodies
 abbrev pub with_memory : NodeState → Memory → List (List ℕ) → NodeState
-with_memory n m bodies = record { identity = n.identity; lane = n.lane; floors = n.floors; memory = m; bodies = bodies; received_names = n.received_names; reserved_names = n.reserved_names; recovery = n.recovery }
+with_memory n m bodies = record n { memory = m; bodies = bodies }
 
 -- the cached batch is what messages carry; the numbers of processes, and of messages sent and received, are within limits
 pub record IsNode (who : Identity) (next_batch : Option (List Item)) (m : Memory) : Type 0 where

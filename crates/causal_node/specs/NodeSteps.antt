@@ -14,15 +14,9 @@ use Rattle.causal_node.specs.NodeStates.{NodeState, with_memory}
 
 -- the node after the delivery of a message with this name and piggyback
 abbrev pub node_after_delivery : NodeState → MsgName → List Item → NodeState
-node_after_delivery n name items = record {
-  identity = n.identity;
-  lane = n.lane;
-  floors = n.floors;
+node_after_delivery n name items = record n {
   memory = with_received items (det_from n.identity.me (length n.memory.received) name) n.memory;
-  bodies = n.bodies;
   received_names = insert_key message_cmp n.received_names name;
-  reserved_names = n.reserved_names;
-  recovery = n.recovery;
 }
 
 -- its determinant has the next number; it lists that and what the message carries
