@@ -39,9 +39,8 @@ replicate_more (x ∷ es) e p = ap (λ ps. p ∷ ps) (replicate_more es e p)
 
 -- one more entry of a flush
 pub flushed_more : (r : Run) (p : Pid) (es : List Entry) (e : Entry) → extend_run (extend_run r (Requests.Flush p) es) (Requests.Flush p) (e ∷ []) ≡ extend_run r (Requests.Flush p) (es ++ e ∷ [])
-flushed_more r p es e = λ i. record {
+flushed_more r p es e = λ i. record r {
   recording = record { processes = r.recording.processes; past = sym (pushed_last es e r.recording.past) i };
-  faults = r.faults;
   writers = sym (replicate_more es e p) i ++ r.writers;
 }
 

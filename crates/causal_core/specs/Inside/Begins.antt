@@ -14,7 +14,7 @@ use Rattle.causal_trace.specs.Limits.{max_entries, max_processes}
 
 -- the run after process p begins with these sends
 abbrev pub run_after_begin : Run → ℕ → List Outgoing → Run
-run_after_begin r p sends = record { recording = record { processes = r.recording.processes; past = with_beginning r.recording.processes p sends r.recording.past }; faults = r.faults; writers = r.writers }
+run_after_begin r p sends = record r { recording = record { processes = r.recording.processes; past = with_beginning r.recording.processes p sends r.recording.past } }
 
 -- the next process, p, can begin: it has done nothing yet, and the entries are far enough from their limit for its
 -- sends
