@@ -31,7 +31,7 @@ drop-writers ws writers m n is = ap (λ m. drop m (ws ++ writers)) is ∙ drop-a
 
 -- a run with another past and other writers
 abbrev run_with : Run → List Entry → List Pid → Run
-run_with r past writers = record { recording = record { processes = r.recording.processes; past = past }; faults = r.faults; writers = writers }
+run_with r past writers = record r { recording = record { processes = r.recording.processes; past = past }; writers = writers }
 
 same_runs : (r : Run) (past past' : List Entry) (writers writers' : List Pid) → past ≡ past' → writers ≡ writers' → run_with r past writers ≡ run_with r past' writers'
 same_runs r past past' writers writers' same same' = ap (λ (p : List Entry). run_with r p writers) same ∙ ap (λ (w : List Pid). run_with r past' w) same'

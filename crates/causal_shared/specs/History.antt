@@ -19,9 +19,8 @@ run_length r = length r.recording.past
 
 -- the run without its k newest entries; the writers of the remaining stable entries remain
 abbrev pub drop_newest : ℕ → Run → Run
-drop_newest k r = record {
+drop_newest k r = record r {
   recording = record { processes = r.recording.processes; past = drop k r.recording.past };
-  faults = r.faults;
   writers = drop (count_by is_stable_entry (take k r.recording.past)) r.writers;
 }
 
