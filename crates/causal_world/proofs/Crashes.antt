@@ -34,18 +34,14 @@ module _ (n f : ℕ) (w : World) (k : WorldInvariant n f w) where
 
   module _ (who : Pid) (low : who.0 < n) (up : is_down w.past who.0 ≡ false) (few : count_below n (is_down w.past) < f) where
     abbrev fallen : RecoveryState
-    fallen = record { lane = w.rounds.lane; down = with_value_at w.rounds.down who.0 true; floors = w.rounds.floors; rounds = w.rounds.rounds }
+    fallen = record w.rounds { down = with_value_at w.rounds.down who.0 true }
 
     abbrev after : World
-    after = record {
+    after = record w {
       past = Crash who ∷ w.past;
       rounds = fallen;
       knows_holder = λ p d q. not (who.0 == p) && w.knows_holder p d q;
       knows_stable = λ p d. not (who.0 == p) && w.knows_stable p d;
-      packets = w.packets;
-      gathered = w.gathered;
-      stored = w.stored;
-      landed = w.landed;
     }
 
     was_up : w.rounds.down who.0 ≡ false
@@ -99,16 +95,7 @@ module _ (n f : ℕ) (w : World) (k : WorldInvariant n f w) where
         (λ j. record { state = fallen; logs = λ p. logs_after d p j; must_recover = λ p. recover_after d p j; stable = (det_state_of n w d).stable; carriers = (det_state_of n w d).carriers; gathered = (det_state_of n w d).gathered })
         (det_step_preserves (det_state_of n w d) _ (det.crash who.0 was_up) k.rounds (k.dets d))
 
-    pub crash_preserves : WorldInvariant n f (record {
-      past = Crash who ∷ w.past;
-      rounds = record { lane = w.rounds.lane; down = with_value_at w.rounds.down who.0 true; floors = w.rounds.floors; rounds = w.rounds.rounds };
-      knows_holder = λ p d q. not (who.0 == p) && w.knows_holder p d q;
-      knows_stable = λ p d. not (who.0 == p) && w.knows_stable p d;
-      packets = w.packets;
-      gathered = w.gathered;
-      stored = w.stored;
-      landed = w.landed;
-    })
+    pub crash_preserves : WorldInvariant n f after
     crash_preserves = record {
       reached = next_state w.past (Crash who ∷ w.past) (volatile_of n w) (volatile_of n after) k.reached (crashes who (record {
         few = few;
@@ -137,16 +124,16 @@ module _ (n f : ℕ) (w : World) (k : WorldInvariant n f w) where
   pub learn_preserves : (p i : ℕ) (t : Packet) (known : ℕ → Det → ℕ → Bool) → w.rounds.down p ≡ false → w.packets i ≡ Some t → t.to ≡ p → w.rounds.floors p t.parcel.from ≤ t.lane
       → ((x : ℕ) (d : Det) (q : ℕ) → known x d q ≡ true → (w.knows_holder x d q ≡ true) ⊎ ((x ≡ p) × (logs w.past p d ≡ true) × (t.parcel.names_holder d q ≡ true)))
       → ((x : ℕ) (d : Det) (q : ℕ) → w.knows_holder x d q ≡ true → known x d q ≡ true)
-      → WorldInvariant n f (record { past = w.past; rounds = w.rounds; knows_holder = known; knows_stable = w.knows_stable; packets = w.packets; gathered = w.gathered; stored = w.stored; landed = w.landed })
+      → WorldInvariant n f (record w { knows_holder = known })
   learn_preserves p i t known up at to floor new keeps = record {
-    reached = next_state w.past w.past (volatile_of n w) (volatile_of n (record { past = w.past; rounds = w.rounds; knows_holder = known; knows_stable = w.knows_stable; packets = w.packets; gathered = w.gathered; stored = w.stored; landed = w.landed })) k.reached (silent (learns p (record {
+    reached = next_state w.past w.past (volatile_of n w) (volatile_of n (record w { knows_holder = known })) k.reached (silent (learns p (record {
       new_holders = λ x d q h. elim (new x d q h) [
         | inl old ↦ inl old
         | inr (is, logs_d, named) ↦ inr (is, logs_d, (t.parcel, in_transit_of n w i t at (is_accepted (suc n) w.rounds (carrier_of t) (by_floor (ap w.rounds.down to ∙ up) (subst (λ y. w.rounds.floors y t.parcel.from ≤ t.lane) (sym to) floor))), named))
       ];
       keeps_holders = keeps;
       new_stable = λ x d h. inl h;
-      nothing_new = same_brings_nothing n w (record { past = w.past; rounds = w.rounds; knows_holder = known; knows_stable = w.knows_stable; packets = w.packets; gathered = w.gathered; stored = w.stored; landed = w.landed }) refl (λ j. refl) (λ j. refl);
+      nothing_new = same_brings_nothing n w (record w { knows_holder = known }) refl (λ j. refl) (λ j. refl);
     })));
     rounds = k.rounds;
     dets = k.dets;
@@ -161,13 +148,13 @@ module _ (n f : ℕ) (w : World) (k : WorldInvariant n f w) where
   }
 
   pub confirm_preserves : (marked : ℕ → Det → Bool) → ((x : ℕ) (d : Det) → marked x d ≡ true → (w.knows_stable x d ≡ true) ⊎ (is_stable w.past d ≡ true))
-      → WorldInvariant n f (record { past = w.past; rounds = w.rounds; knows_holder = w.knows_holder; knows_stable = marked; packets = w.packets; gathered = w.gathered; stored = w.stored; landed = w.landed })
+      → WorldInvariant n f (record w { knows_stable = marked })
   confirm_preserves marked new = record {
-    reached = next_state w.past w.past (volatile_of n w) (volatile_of n (record { past = w.past; rounds = w.rounds; knows_holder = w.knows_holder; knows_stable = marked; packets = w.packets; gathered = w.gathered; stored = w.stored; landed = w.landed })) k.reached (silent (learns 0 (record {
+    reached = next_state w.past w.past (volatile_of n w) (volatile_of n (record w { knows_stable = marked })) k.reached (silent (learns 0 (record {
       new_holders = λ x d q h. inl h;
       keeps_holders = λ x d q h. h;
       new_stable = new;
-      nothing_new = same_brings_nothing n w (record { past = w.past; rounds = w.rounds; knows_holder = w.knows_holder; knows_stable = marked; packets = w.packets; gathered = w.gathered; stored = w.stored; landed = w.landed }) refl (λ j. refl) (λ j. refl);
+      nothing_new = same_brings_nothing n w (record w { knows_stable = marked }) refl (λ j. refl) (λ j. refl);
     })));
     rounds = k.rounds;
     dets = k.dets;

@@ -34,7 +34,7 @@ module _ (n f : ℕ) (w : World) (k : WorldInvariant n f w) (to : Pid) (send rsn
   own = det_from to rsn message
 
   abbrev after : World
-  after = record { past = Deliver to send rsn listed ∷ w.past; rounds = w.rounds; knows_holder = known; knows_stable = w.knows_stable; packets = w.packets; gathered = w.gathered; stored = w.stored; landed = w.landed }
+  after = record w { past = Deliver to send rsn listed ∷ w.past; knows_holder = known }
 
   own_det : det_of w.past e ≡ Some own
   own_det = ap (λ x. option_map (det_from to rsn) x) sent
@@ -133,7 +133,7 @@ module _ (n f : ℕ) (w : World) (k : WorldInvariant n f w) (to : Pid) (send rsn
   pub deliver_preserves : ((x : ℕ) (d : Det) (q : ℕ) → known x d q ≡ true → (w.knows_holder x d q ≡ true) ⊎ ((to.0 ≡ x) × (list_has listed d ≡ true) × ((p.parcel.names_holder d q ≡ true) ⊎ (q ≡ to.0))))
       → ((d : Det) → list_has listed d ≡ true → known to.0 d to.0 ≡ true)
       → ((x : ℕ) (d : Det) (q : ℕ) → w.knows_holder x d q ≡ true → known x d q ≡ true)
-      → WorldInvariant n f (record { past = Deliver to send rsn listed ∷ w.past; rounds = w.rounds; knows_holder = known; knows_stable = w.knows_stable; packets = w.packets; gathered = w.gathered; stored = w.stored; landed = w.landed })
+      → WorldInvariant n f after
   deliver_preserves new itself keeps = record {
     reached = next_state w.past (Deliver to send rsn listed ∷ w.past) (volatile_of n w) (volatile_of n after) k.reached (delivers to send rsn listed (record {
       process = low;

@@ -46,15 +46,9 @@ abbrev view : ℕ → ℕ
 view q = number crashed.rounds q
 
 abbrev begun : World
-begun = record {
-  past = crashed.past;
-  rounds = record { lane = crashed.rounds.lane; down = crashed.rounds.down; floors = crashed.rounds.floors; rounds = with_value_at crashed.rounds.rounds 1 (Some (new_round view absent)) };
-  knows_holder = crashed.knows_holder;
-  knows_stable = crashed.knows_stable;
-  packets = crashed.packets;
+begun = record crashed {
+  rounds = record crashed.rounds { rounds = with_value_at crashed.rounds.rounds 1 (Some (new_round view absent)) };
   gathered = with_value_at crashed.gathered 1 (λ d. false);
-  stored = crashed.stored;
-  landed = crashed.landed;
 }
 
 abbrev round : Round
@@ -64,27 +58,16 @@ abbrev empty_answer : Packet
 empty_answer = record { parcel = record { from = 0; send = None; carries = λ d. false; names_holder = λ d q. false; names_stable = λ d. false }; lane = 0; to = 1 }
 
 abbrev answered : World
-answered = record {
-  past = begun.past;
-  rounds = record { lane = begun.rounds.lane; down = begun.rounds.down; floors = with_value_at begun.rounds.floors 0 view; rounds = with_value_at begun.rounds.rounds 1 (Some (with_reply round 0 true)) };
-  knows_holder = begun.knows_holder;
-  knows_stable = begun.knows_stable;
+answered = record begun {
+  rounds = record begun.rounds { floors = with_value_at begun.rounds.floors 0 view; rounds = with_value_at begun.rounds.rounds 1 (Some (with_reply round 0 true)) };
   packets = with_value_at begun.packets 0 (Some empty_answer);
   gathered = with_value_at begun.gathered 1 (λ d. begun.gathered 1 d || logs begun.past 0 d);
-  stored = begun.stored;
-  landed = begun.landed;
 }
 
 abbrev was_read : World
-was_read = record {
-  past = answered.past;
-  rounds = record { lane = answered.rounds.lane; down = answered.rounds.down; floors = with_value_at answered.rounds.floors 2 view; rounds = with_value_at answered.rounds.rounds 1 (Some (with_reply (with_reply round 0 true) 2 true)) };
-  knows_holder = answered.knows_holder;
-  knows_stable = answered.knows_stable;
-  packets = answered.packets;
+was_read = record answered {
+  rounds = record answered.rounds { floors = with_value_at answered.rounds.floors 2 view; rounds = with_value_at answered.rounds.rounds 1 (Some (with_reply (with_reply round 0 true) 2 true)) };
   gathered = with_value_at answered.gathered 1 (λ d. answered.gathered 1 d || answered.stored d);
-  stored = answered.stored;
-  landed = answered.landed;
 }
 
 starts : IsReachableWorld 2 1 first_world

@@ -30,7 +30,7 @@ module _ (n f : ℕ) (w : World) (k : WorldInvariant n f w) (who : Pid) (listed 
   risen = record { lane = with_value_at w.rounds.lane who.0 (w.rounds.lane who.0 + 1); down = with_value_at w.rounds.down who.0 false; floors = with_value_at w.rounds.floors who.0 r.view; rounds = with_value_at w.rounds.rounds who.0 None }
 
   abbrev after : World
-  after = record { past = Restart who listed ∷ w.past; rounds = risen; knows_holder = known; knows_stable = marked; packets = w.packets; gathered = w.gathered; stored = w.stored; landed = w.landed }
+  after = record w { past = Restart who listed ∷ w.past; rounds = risen; knows_holder = known; knows_stable = marked }
 
   all : (q : ℕ) → (q ≡ who.0 → ⊥) → r.replied q ≡ true
   all q other = by (nat_lt q (suc n)) refl
@@ -194,16 +194,7 @@ module _ (n f : ℕ) (w : World) (k : WorldInvariant n f w) (who : Pid) (listed 
       → ((d : Det) → list_has listed d ≡ true → known who.0 d who.0 ≡ true)
       → ((x : ℕ) (d : Det) (q : ℕ) → w.knows_holder x d q ≡ true → known x d q ≡ true)
       → ((x : ℕ) (d : Det) → marked x d ≡ true → (w.knows_stable x d ≡ true) ⊎ (is_stable w.past d ≡ true))
-      → WorldInvariant n f (record {
-        past = Restart who listed ∷ w.past;
-        rounds = record { lane = with_value_at w.rounds.lane who.0 (w.rounds.lane who.0 + 1); down = with_value_at w.rounds.down who.0 false; floors = with_value_at w.rounds.floors who.0 r.view; rounds = with_value_at w.rounds.rounds who.0 None };
-        knows_holder = known;
-        knows_stable = marked;
-        packets = w.packets;
-        gathered = w.gathered;
-        stored = w.stored;
-        landed = w.landed;
-      })
+      → WorldInvariant n f after
   restart_preserves new itself keeps marks = record {
     reached = next_state w.past (Restart who listed ∷ w.past) (volatile_of n w) (volatile_of n after) k.reached (restarts who listed (record {
       process = low;

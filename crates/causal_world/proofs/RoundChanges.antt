@@ -18,7 +18,7 @@ use Rattle.causal_world.proofs.Lemmas.Functions.{map_set_at, apart_is}
 use Rattle.causal_world.proofs.Lemmas.Transit.{rounds_bring_nothing}
 
 abbrev with_state : DetState → RecoveryState → (ℕ → Bool) → DetState
-with_state a rounds gathered = record { state = rounds; logs = a.logs; must_recover = a.must_recover; stable = a.stable; carriers = a.carriers; gathered = gathered }
+with_state a rounds gathered = record a { state = rounds; gathered = gathered }
 
 module _ (n f : ℕ) (w : World) (k : WorldInvariant n f w) where
   -- a step of the rounds without an entry
@@ -26,13 +26,13 @@ module _ (n f : ℕ) (w : World) (k : WorldInvariant n f w) where
       → ((d : Det) → DetInvariant (with_state (det_state_of n w d) rounds (λ q. gathered q d)))
       → ((s : ℕ) (r : Round) (d : Det) → rounds.rounds s ≡ Some r → gathered s d ≡ true → GatheredFrom w s r d ⊎ (w.stored d ≡ true))
       → rounds.rounds n ≡ None → ReadsLast n rounds gathered w.stored
-      → WorldInvariant n f (record { past = w.past; rounds = rounds; knows_holder = w.knows_holder; knows_stable = w.knows_stable; packets = w.packets; gathered = gathered; stored = w.stored; landed = w.landed })
+      → WorldInvariant n f (record w { rounds = rounds; gathered = gathered })
   rounds_preserve rounds gathered step absent down lane dets from no_round reads = record {
-    reached = next_state w.past w.past (volatile_of n w) (volatile_of n (record { past = w.past; rounds = rounds; knows_holder = w.knows_holder; knows_stable = w.knows_stable; packets = w.packets; gathered = gathered; stored = w.stored; landed = w.landed })) k.reached (silent (learns 0 (record {
+    reached = next_state w.past w.past (volatile_of n w) (volatile_of n (record w { rounds = rounds; gathered = gathered })) k.reached (silent (learns 0 (record {
       new_holders = λ r d q h. inl h;
       keeps_holders = λ r d q h. h;
       new_stable = λ r d h. inl h;
-      nothing_new = rounds_bring_nothing n w (record { past = w.past; rounds = rounds; knows_holder = w.knows_holder; knows_stable = w.knows_stable; packets = w.packets; gathered = gathered; stored = w.stored; landed = w.landed }) step k.rounds absent (λ i. refl) (λ i. refl) k.lanes;
+      nothing_new = rounds_bring_nothing n w (record w { rounds = rounds; gathered = gathered }) step k.rounds absent (λ i. refl) (λ i. refl) k.lanes;
     })));
     rounds = round_step_preserves w.rounds rounds step k.rounds;
     dets = dets;
@@ -65,21 +65,15 @@ module _ (n f : ℕ) (w : World) (k : WorldInvariant n f w) where
 
   pub begin_preserves : (s : ℕ) (view : ℕ → ℕ) (absent : ℕ → Bool) → s < n → w.rounds.down s ≡ true → view s ≡ w.rounds.lane s + 1 → ((q : ℕ) → view q ≤ number w.rounds q)
       → ((q : ℕ) → q < suc n → absent q ≡ false) → ((q : ℕ) → suc n ≤ q → (absent q ≡ true) × (view q ≡ w.rounds.lane q + 1))
-      → WorldInvariant n f (record {
-        past = w.past;
-        rounds = record { lane = w.rounds.lane; down = w.rounds.down; floors = w.rounds.floors; rounds = with_value_at w.rounds.rounds s (Some (new_round view absent)) };
-        knows_holder = w.knows_holder;
-        knows_stable = w.knows_stable;
-        packets = w.packets;
+      → WorldInvariant n f (record w {
+        rounds = record w.rounds { rounds = with_value_at w.rounds.rounds s (Some (new_round view absent)) };
         gathered = with_value_at w.gathered s (λ d. false);
-        stored = w.stored;
-        landed = w.landed;
       })
   begin_preserves s view absent low down own told present gone = rounds_preserve begun (with_value_at w.gathered s (λ d. false)) (begin s view absent down own told (present s (omega (arith, low))) far) absent_still (λ q. refl) (λ q. refl) dets from
       (set_at_away w.rounds.rounds s (Some (new_round view absent)) n (not_storage s low) ∙ k.storage.no_round) reads
     where
       begun : RecoveryState
-      begun = record { lane = w.rounds.lane; down = w.rounds.down; floors = w.rounds.floors; rounds = with_value_at w.rounds.rounds s (Some (new_round view absent)) }
+      begun = record w.rounds { rounds = with_value_at w.rounds.rounds s (Some (new_round view absent)) }
 
       high : (q : ℕ) → absent q ≡ true → suc n ≤ q
       high q is = by (nat_lt q (suc n)) refl
@@ -124,13 +118,13 @@ module _ (n f : ℕ) (w : World) (k : WorldInvariant n f w) where
         | inr other ↦ k.gathered_from t r d (sym (set_at_away w.rounds.rounds s (Some (new_round view absent)) t other.0) ∙ at) (sym (ap (λ (g : Det → Bool). g d) other.1) ∙ h)
       ]
 
-  pub give_up_preserves : (s : ℕ) → WorldInvariant n f (record { past = w.past; rounds = record { lane = w.rounds.lane; down = w.rounds.down; floors = w.rounds.floors; rounds = with_value_at w.rounds.rounds s None }; knows_holder = w.knows_holder; knows_stable = w.knows_stable; packets = w.packets; gathered = w.gathered; stored = w.stored; landed = w.landed })
+  pub give_up_preserves : (s : ℕ) → WorldInvariant n f (record w { rounds = record w.rounds { rounds = with_value_at w.rounds.rounds s None } })
   give_up_preserves s = rounds_preserve ended w.gathered (give_up s) absent_still (λ q. refl) (λ q. refl) (λ d. det_step_preserves (det_state_of n w d) _ (det.give_up s) k.rounds (k.dets d)) (λ t r d at h. k.gathered_from t r d (old t r at) h)
       (elim (set_at_cases w.rounds.rounds s None n) [ inl is ↦ is.1 | inr other ↦ other.1 ∙ k.storage.no_round ])
       (record { last = λ t r q at done low other. k.reads.last t r q (old t r at) done low other; own_gathered = λ t r d at done stored dest. k.reads.own_gathered t r d (old t r at) done stored dest })
     where
       ended : RecoveryState
-      ended = record { lane = w.rounds.lane; down = w.rounds.down; floors = w.rounds.floors; rounds = with_value_at w.rounds.rounds s None }
+      ended = record w.rounds { rounds = with_value_at w.rounds.rounds s None }
 
       old : (t : ℕ) (r : Round) → with_value_at w.rounds.rounds s None t ≡ Some r → w.rounds.rounds t ≡ Some r
       old t r at = elim (set_at_cases w.rounds.rounds s None t) [ inl is ↦ absurd (none_some r (sym is.1 ∙ at)) | inr other ↦ sym other.1 ∙ at ]
@@ -143,9 +137,9 @@ module _ (n f : ℕ) (w : World) (k : WorldInvariant n f w) where
       }
 
   pub refuse_preserves : (y : ℕ) (floors : ℕ → ℕ) → w.rounds.down y ≡ false → ((z : ℕ) → w.rounds.floors y z ≤ floors z) → ((z : ℕ) → floors z ≤ number w.rounds z)
-      → WorldInvariant n f (record { past = w.past; rounds = record { lane = w.rounds.lane; down = w.rounds.down; floors = with_value_at w.rounds.floors y floors; rounds = w.rounds.rounds }; knows_holder = w.knows_holder; knows_stable = w.knows_stable; packets = w.packets; gathered = w.gathered; stored = w.stored; landed = w.landed })
+      → WorldInvariant n f (record w { rounds = record w.rounds { floors = with_value_at w.rounds.floors y floors } })
   refuse_preserves y floors up rise below =
-      rounds_preserve (record { lane = w.rounds.lane; down = w.rounds.down; floors = with_value_at w.rounds.floors y floors; rounds = w.rounds.rounds }) w.gathered (refuse y floors up rise below)
+      rounds_preserve (record w.rounds { floors = with_value_at w.rounds.floors y floors }) w.gathered (refuse y floors up rise below)
       (record { down = k.absent.down; no_round = k.absent.no_round; replied = k.absent.replied }) (λ q. refl) (λ q. refl) (λ d. det_step_preserves (det_state_of n w d) _ (det.refuse y floors) k.rounds (k.dets d)) k.gathered_from k.storage.no_round
       (record { last = k.reads.last; own_gathered = k.reads.own_gathered })
 
@@ -169,16 +163,7 @@ module _ (n f : ℕ) (w : World) (k : WorldInvariant n f w) where
   reads_before s y r o up q low is at done low_q other = subst (λ (x : Round). x.replied q ≡ true) is (more_replied r y q (k.reads.last s r q at (done_before s y r o up low is done) low_q other))
 
   pub not_up_preserves : (q s : ℕ) (r : Round) → q < n → w.rounds.down q ≡ true → (q ≡ s → ⊥) → w.rounds.rounds s ≡ Some r → r.view q ≡ w.rounds.lane q + 1
-      → WorldInvariant n f (record {
-        past = w.past;
-        rounds = record { lane = w.rounds.lane; down = w.rounds.down; floors = w.rounds.floors; rounds = with_value_at (with_value_at w.rounds.rounds s (Some (with_reply r q false))) q None };
-        knows_holder = w.knows_holder;
-        knows_stable = w.knows_stable;
-        packets = w.packets;
-        gathered = w.gathered;
-        stored = w.stored;
-        landed = w.landed;
-      })
+      → WorldInvariant n f (record w { rounds = record w.rounds { rounds = with_value_at (with_value_at w.rounds.rounds s (Some (with_reply r q false))) q None } })
   not_up_preserves q s r low down other at fits = rounds_preserve said w.gathered (not_up q s r down other at fits) absent_still (λ q. refl) (λ q. refl) (λ d. det_step_preserves (det_state_of n w d) _ (det.not_up q s r down other at fits) k.rounds (k.dets d)) from
       (set_at_away (with_value_at w.rounds.rounds s (Some (with_reply r q false))) q None n (not_storage q low) ∙ set_at_away w.rounds.rounds s (Some (with_reply r q false)) n (not_storage s (round_low s r at)) ∙ k.storage.no_round)
       (record {
@@ -187,7 +172,7 @@ module _ (n f : ℕ) (w : World) (k : WorldInvariant n f w) where
       })
     where
       said : RecoveryState
-      said = record { lane = w.rounds.lane; down = w.rounds.down; floors = w.rounds.floors; rounds = with_value_at (with_value_at w.rounds.rounds s (Some (with_reply r q false))) q None }
+      said = record w.rounds { rounds = with_value_at (with_value_at w.rounds.rounds s (Some (with_reply r q false))) q None }
 
       seen : (t : ℕ) (o : Round) → said.rounds t ≡ Some o → ((t ≡ s) × (with_reply r q false ≡ o)) ⊎ (w.rounds.rounds t ≡ Some o)
       seen t o there = elim (set_at_cases (with_value_at w.rounds.rounds s (Some (with_reply r q false))) q None t) [
@@ -215,15 +200,9 @@ module _ (n f : ℕ) (w : World) (k : WorldInvariant n f w) where
   pub answered_preserves : (y s i : ℕ) (r : Round) (floors : ℕ → ℕ) (new : Packet) → y < n → w.rounds.down y ≡ false → w.rounds.rounds s ≡ Some r → r.view y ≡ w.rounds.lane y
       → ((z : ℕ) → w.rounds.floors y z ≤ floors z) → ((z : ℕ) → r.view z ≤ floors z) → ((z : ℕ) → floors z ≤ number w.rounds z)
       → w.packets i ≡ Some new → new.to ≡ s → new.parcel.from ≡ y → new.lane ≡ w.rounds.lane y → ((d : Det) → new.parcel.carries d ≡ logs w.past y d)
-      → WorldInvariant n f (record {
-        past = w.past;
-        rounds = record { lane = w.rounds.lane; down = w.rounds.down; floors = with_value_at w.rounds.floors y floors; rounds = with_value_at w.rounds.rounds s (Some (with_reply r y true)) };
-        knows_holder = w.knows_holder;
-        knows_stable = w.knows_stable;
-        packets = w.packets;
+      → WorldInvariant n f (record w {
+        rounds = record w.rounds { floors = with_value_at w.rounds.floors y floors; rounds = with_value_at w.rounds.rounds s (Some (with_reply r y true)) };
         gathered = with_value_at w.gathered s (λ d. w.gathered s d || logs w.past y d);
-        stored = w.stored;
-        landed = w.landed;
       })
   answered_preserves y s i r floors new low up at fits rise above below there to sender lane whole =
       rounds_preserve told (with_value_at w.gathered s (λ d. w.gathered s d || logs w.past y d)) (answer y s r floors up at fits rise above below) absent_still (λ q. refl) (λ q. refl) dets from
@@ -240,7 +219,7 @@ module _ (n f : ℕ) (w : World) (k : WorldInvariant n f w) where
       })
     where
       told : RecoveryState
-      told = record { lane = w.rounds.lane; down = w.rounds.down; floors = with_value_at w.rounds.floors y floors; rounds = with_value_at w.rounds.rounds s (Some (with_reply r y true)) }
+      told = record w.rounds { floors = with_value_at w.rounds.floors y floors; rounds = with_value_at w.rounds.rounds s (Some (with_reply r y true)) }
 
       seen : (t : ℕ) (o : Round) → told.rounds t ≡ Some o → ((t ≡ s) × (with_reply r y true ≡ o)) ⊎ ((t ≡ s → ⊥) × (w.rounds.rounds t ≡ Some o))
       seen t o is_there = elim (set_at_cases w.rounds.rounds s (Some (with_reply r y true)) t) [ inl is ↦ inl (is.0, some_is (with_reply r y true) o (sym is.1 ∙ is_there)) | inr old ↦ inr (old.0, sym old.1 ∙ is_there) ]
@@ -283,15 +262,9 @@ module _ (n f : ℕ) (w : World) (k : WorldInvariant n f w) where
   -- stable storage answers the round of s, to which all others have replied
   pub read_preserves : (s : ℕ) (r : Round) (floors : ℕ → ℕ) → w.rounds.rounds s ≡ Some r → ((q : ℕ) → q < n → (q ≡ s → ⊥) → r.replied q ≡ true)
       → ((z : ℕ) → w.rounds.floors n z ≤ floors z) → ((z : ℕ) → r.view z ≤ floors z) → ((z : ℕ) → floors z ≤ number w.rounds z)
-      → WorldInvariant n f (record {
-        past = w.past;
-        rounds = record { lane = w.rounds.lane; down = w.rounds.down; floors = with_value_at w.rounds.floors n floors; rounds = with_value_at w.rounds.rounds s (Some (with_reply r n true)) };
-        knows_holder = w.knows_holder;
-        knows_stable = w.knows_stable;
-        packets = w.packets;
+      → WorldInvariant n f (record w {
+        rounds = record w.rounds { floors = with_value_at w.rounds.floors n floors; rounds = with_value_at w.rounds.rounds s (Some (with_reply r n true)) };
         gathered = with_value_at w.gathered s (λ d. w.gathered s d || w.stored d);
-        stored = w.stored;
-        landed = w.landed;
       })
   read_preserves s r floors at all rise above below =
       rounds_preserve told (with_value_at w.gathered s (λ d. w.gathered s d || w.stored d)) (answer n s r floors k.storage.up at fits rise above below) absent_still (λ q. refl) (λ q. refl) dets from
@@ -308,7 +281,7 @@ module _ (n f : ℕ) (w : World) (k : WorldInvariant n f w) where
       })
     where
       told : RecoveryState
-      told = record { lane = w.rounds.lane; down = w.rounds.down; floors = with_value_at w.rounds.floors n floors; rounds = with_value_at w.rounds.rounds s (Some (with_reply r n true)) }
+      told = record w.rounds { floors = with_value_at w.rounds.floors n floors; rounds = with_value_at w.rounds.rounds s (Some (with_reply r n true)) }
 
       fits : r.view n ≡ w.rounds.lane n
       fits =

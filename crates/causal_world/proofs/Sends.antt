@@ -23,10 +23,10 @@ use Rattle.causal_world.proofs.Lemmas.Transit.{one_is_new}
 module _ (n f : ℕ) (w : World) (p i : ℕ) (new : Packet) (s : IsSentBy n w p i new) (k : WorldInvariant n f w) where
   -- the world with the packet, after these entries, which say nothing new of logs
   abbrev sent : List Entry → World
-  sent next = record { past = next; rounds = w.rounds; knows_holder = w.knows_holder; knows_stable = w.knows_stable; packets = with_value_at w.packets i (Some new); gathered = w.gathered; stored = w.stored; landed = w.landed }
+  sent next = record w { past = next; packets = with_value_at w.packets i (Some new) }
 
   abbrev with_carrier : Det → DetState → Option Carrier → DetState
-  with_carrier d a c = record { state = a.state; logs = a.logs; must_recover = a.must_recover; stable = a.stable; carriers = with_value_at a.carriers i c; gathered = a.gathered }
+  with_carrier d a c = record a { carriers = with_value_at a.carriers i c }
 
   free : (d : Det) → (det_state_of n w d).carriers i ≡ None
   free d = ap (if_carries d) s.free
@@ -83,7 +83,7 @@ module _ (n f : ℕ) (w : World) (p i : ℕ) (new : Packet) (s : IsSentBy n w p 
   from_still t r d at h = elim (k.gathered_from t r d at h) [ inl old ↦ inl (old.0, old.1, still old.0 old.1 old.2, old.3, old.4, old.5, old.6) | inr stored ↦ inr stored ]
 
   -- something that is no message
-  pub acknowledge_preserves : new.parcel.send ≡ None → WorldInvariant n f (record { past = w.past; rounds = w.rounds; knows_holder = w.knows_holder; knows_stable = w.knows_stable; packets = with_value_at w.packets i (Some new); gathered = w.gathered; stored = w.stored; landed = w.landed })
+  pub acknowledge_preserves : new.parcel.send ≡ None → WorldInvariant n f (record w { packets = with_value_at w.packets i (Some new) })
   acknowledge_preserves none = record {
     reached = next_state w.past w.past (volatile_of n w) (volatile_of n (sent w.past)) k.reached (silent (emits p new.parcel s.of_log none (record { holders = λ x d q. refl; stable = λ x d h. h }) (one_is_new n w (sent w.past) i new refl (λ j. refl) (λ j. refl))));
     rounds = k.rounds;
@@ -100,7 +100,7 @@ module _ (n f : ℕ) (w : World) (p i : ℕ) (new : Packet) (s : IsSentBy n w p 
 
   -- a message
   pub send_preserves : (from to : Pid) (ssn : ℕ) → from.0 ≡ p → new.parcel.send ≡ Some (length w.past) → ((d : Det) → logs w.past p d ≡ true → (new.parcel.carries d ≡ true) ⊎ ((w.knows_stable p d ≡ true) ⊎ (f < count_below n (w.knows_holder p d))))
-      → WorldInvariant n f (record { past = Send from to ssn ∷ w.past; rounds = w.rounds; knows_holder = w.knows_holder; knows_stable = w.knows_stable; packets = with_value_at w.packets i (Some new); gathered = w.gathered; stored = w.stored; landed = w.landed })
+      → WorldInvariant n f (record w { past = Send from to ssn ∷ w.past; packets = with_value_at w.packets i (Some new) })
   send_preserves from to ssn is position left_out = record {
     reached = next_state w.past (Send from to ssn ∷ w.past) (volatile_of n w) (volatile_of n (sent (Send from to ssn ∷ w.past))) k.reached (sends from to ssn new.parcel (subst (λ x. IsSendStep n f w.past x (volatile_of n w) (volatile_of n (sent (Send from to ssn ∷ w.past))) new.parcel) (sym is) (record {
       of_log = s.of_log;

@@ -42,7 +42,7 @@ module _ (n f : ℕ) (w : World) (k : WorldInvariant n f w) where
   -- storage takes a write
   module _ (i : ℕ) (p : Packet) (at : w.packets i ≡ Some p) (to : p.to ≡ n) (floor : w.rounds.floors n p.parcel.from ≤ p.lane) where
     abbrev after : World
-    after = record { past = w.past; rounds = w.rounds; knows_holder = w.knows_holder; knows_stable = w.knows_stable; packets = w.packets; gathered = w.gathered; stored = λ d. w.stored d || p.parcel.carries d; landed = with_value_at w.landed i true }
+    after = record w { stored = λ d. w.stored d || p.parcel.carries d; landed = with_value_at w.landed i true }
 
     storage_up : w.rounds.down p.to ≡ false
     storage_up = ap w.rounds.down to ∙ k.storage.up
@@ -119,7 +119,7 @@ module _ (n f : ℕ) (w : World) (k : WorldInvariant n f w) where
           ]
         ]
 
-    pub land_preserves : WorldInvariant n f (record { past = w.past; rounds = w.rounds; knows_holder = w.knows_holder; knows_stable = w.knows_stable; packets = w.packets; gathered = w.gathered; stored = λ d. w.stored d || p.parcel.carries d; landed = with_value_at w.landed i true })
+    pub land_preserves : WorldInvariant n f after
     land_preserves = record {
       reached = next_state w.past w.past (volatile_of n w) (volatile_of n after) k.reached (silent (learns 0 (record { new_holders = λ x d q h. inl h; keeps_holders = λ x d q h. h; new_stable = λ x d h. inl h; nothing_new = nothing_new })));
       rounds = k.rounds;
@@ -152,7 +152,7 @@ module _ (n f : ℕ) (w : World) (k : WorldInvariant n f w) where
 
   -- what is stored is recorded as stable
   pub write_preserves : (det : Det) (marked : ℕ → Det → Bool) → w.stored det ≡ true → ((x : ℕ) (d : Det) → marked x d ≡ true → (w.knows_stable x d ≡ true) ⊎ (same_det d det ≡ true))
-      → WorldInvariant n f (record { past = Stable det ∷ w.past; rounds = w.rounds; knows_holder = w.knows_holder; knows_stable = marked; packets = w.packets; gathered = w.gathered; stored = w.stored; landed = w.landed })
+      → WorldInvariant n f (record w { past = Stable det ∷ w.past; knows_stable = marked })
   write_preserves det marked stored new = record {
     reached = next_state w.past (Stable det ∷ w.past) (volatile_of n w) (volatile_of n written_world) k.reached (writes det (record {
       survived = (let from = k.stores.stored_from det stored in inr (inr (from.1.parcel, landed_in_transit n w from.0 from.1 from.2 from.3, from.4)));
@@ -177,7 +177,7 @@ module _ (n f : ℕ) (w : World) (k : WorldInvariant n f w) where
   }
     where
       written_world : World
-      written_world = record { past = Stable det ∷ w.past; rounds = w.rounds; knows_holder = w.knows_holder; knows_stable = marked; packets = w.packets; gathered = w.gathered; stored = w.stored; landed = w.landed }
+      written_world = record w { past = Stable det ∷ w.past; knows_stable = marked }
 
       with_stable : Det → Bool → DetState
       with_stable d b = record { state = w.rounds; logs = (det_state_of n w d).logs; must_recover = (det_state_of n w d).must_recover; stable = b; carriers = (det_state_of n w d).carriers; gathered = (det_state_of n w d).gathered }
@@ -192,15 +192,10 @@ module _ (n f : ℕ) (w : World) (k : WorldInvariant n f w) where
   -- a process forgets
   module _ (who : Pid) (listed : List Det) (low : who.0 < n) (known : (d : Det) → list_has listed d ≡ true → w.knows_stable who.0 d ≡ true) (spares : (d : Det) → list_has listed d ≡ true → d.dest.0 ≡ who.0 → d.rsn < deliveries w.past who.0) where
     abbrev lessened : World
-    lessened = record {
+    lessened = record w {
       past = Forget who listed ∷ w.past;
-      rounds = w.rounds;
       knows_holder = λ p d q. not (who.0 == p && list_has listed d) && w.knows_holder p d q;
       knows_stable = λ p d. not (who.0 == p && list_has listed d) && w.knows_stable p d;
-      packets = w.packets;
-      gathered = w.gathered;
-      stored = w.stored;
-      landed = w.landed;
     }
 
     abbrev with_less : Det → (ℕ → Bool) → DetState
@@ -245,16 +240,7 @@ module _ (n f : ℕ) (w : World) (k : WorldInvariant n f w) where
             let next_who : deliveries w.past who.0 ≤ d.rsn = subst (λ x. deliveries w.past x ≤ d.rsn) (sym same) next in
             absurd (omega (arith, before, next_who))
 
-    pub forget_preserves : WorldInvariant n f (record {
-      past = Forget who listed ∷ w.past;
-      rounds = w.rounds;
-      knows_holder = λ p d q. not (who.0 == p && list_has listed d) && w.knows_holder p d q;
-      knows_stable = λ p d. not (who.0 == p && list_has listed d) && w.knows_stable p d;
-      packets = w.packets;
-      gathered = w.gathered;
-      stored = w.stored;
-      landed = w.landed;
-    })
+    pub forget_preserves : WorldInvariant n f lessened
     forget_preserves = record {
       reached = next_state w.past (Forget who listed ∷ w.past) (volatile_of n w) (volatile_of n lessened) k.reached (forgets who listed (record {
         process = low;
