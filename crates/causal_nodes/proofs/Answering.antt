@@ -77,15 +77,9 @@ module _ (n f : ℕ) (net : Network) (w : World) (reach : IsReachableWorld n f w
   floor = raised (w.rounds.floors me.0) (bounded n view)
 
   abbrev again : World
-  again = record {
-    past = w.past;
-    rounds = record { lane = w.rounds.lane; down = w.rounds.down; floors = with_value_at w.rounds.floors me.0 floor; rounds = w.rounds.rounds };
-    knows_holder = w.knows_holder;
-    knows_stable = w.knows_stable;
+  again = record w {
+    rounds = record w.rounds { floors = with_value_at w.rounds.floors me.0 floor };
     packets = with_value_at w.packets i (Some new);
-    gathered = w.gathered;
-    stored = w.stored;
-    landed = w.landed;
   }
 
   later_again : IsLater w again
@@ -235,15 +229,10 @@ module _ (n f : ℕ) (net : Network) (w : World) (reach : IsReachableWorld n f w
       new_floors = raised (w.rounds.floors me.0) r.view
 
       abbrev told : World
-      told = record {
-        past = w.past;
-        rounds = record { lane = w.rounds.lane; down = w.rounds.down; floors = with_value_at w.rounds.floors me.0 new_floors; rounds = with_value_at w.rounds.rounds s (Some (with_reply r me.0 true)) };
-        knows_holder = w.knows_holder;
-        knows_stable = w.knows_stable;
+      told = record w {
+        rounds = record w.rounds { floors = with_value_at w.rounds.floors me.0 new_floors; rounds = with_value_at w.rounds.rounds s (Some (with_reply r me.0 true)) };
         packets = with_value_at w.packets i (Some new);
         gathered = with_value_at w.gathered s (λ d. w.gathered s d || logs w.past me.0 d);
-        stored = w.stored;
-        landed = w.landed;
       }
 
       later_told : IsLater w told

@@ -29,7 +29,7 @@ module _ (n f : ℕ) (net : Network) (w : World) (reach : IsReachableWorld n f w
   i = rep.free.0
 
   abbrev pub with_packet : List Entry → World
-  with_packet past = record { past = past; rounds = w.rounds; knows_holder = w.knows_holder; knows_stable = w.knows_stable; packets = with_value_at w.packets i (Some new); gathered = w.gathered; stored = w.stored; landed = w.landed }
+  with_packet past = record w { past = past; packets = with_value_at w.packets i (Some new) }
 
   pub is_free : w.packets i ≡ None
   is_free = rep.free.1 i (omega arith)

@@ -26,7 +26,7 @@ use Rattle.causal_nodes.proofs.Context.{IsWorldOf, message_older, own_or, away_o
 module _ (n f : ℕ) (net : Network) (w : World) (reach : IsReachableWorld n f w) (rep : Represents n net w) (me : Pid) (low : me.0 < n) (a : UpNode) (fits : UpFits n w me.0 a) where
   -- the world with other entries and other knowledge
   abbrev with_knowledge : List Entry → (ℕ → Det → ℕ → Bool) → (ℕ → Det → Bool) → World
-  with_knowledge past holders stables = record { past = past; rounds = w.rounds; knows_holder = holders; knows_stable = stables; packets = w.packets; gathered = w.gathered; stored = w.stored; landed = w.landed }
+  with_knowledge past holders stables = record w { past = past; knows_holder = holders; knows_stable = stables }
 
   -- the network after a step of me that sends nothing
   abbrev after_step : Node → List Entry → Network

@@ -77,16 +77,7 @@ module _ (n f : ℕ) (net : Network) (w : World) (reach : IsReachableWorld n f w
     fits = sym (found.2.replies (question_packet s name view) was (and_from (s == s) (name == nr.name) (eq-eqb s s refl) (eq-eqb name nr.name same_name)) me low) ∙ own ∙ ap (λ m. m + 1) (sym before.lane)
 
     abbrev heard : World
-    heard = record {
-      past = w.past;
-      rounds = record { lane = w.rounds.lane; down = w.rounds.down; floors = w.rounds.floors; rounds = with_value_at (with_value_at w.rounds.rounds s (Some (with_reply r me false))) me None };
-      knows_holder = w.knows_holder;
-      knows_stable = w.knows_stable;
-      packets = w.packets;
-      gathered = w.gathered;
-      stored = w.stored;
-      landed = w.landed;
-    }
+    heard = record w { rounds = record w.rounds { rounds = with_value_at (with_value_at w.rounds.rounds s (Some (with_reply r me false))) me None } }
 
     later_heard : IsLater w heard
     later_heard = record { numbers = λ q. le_self (number w.rounds q); packets = λ i t at. at; stable = λ d h. h; stored = λ d h. h; messages = λ send m h. h }

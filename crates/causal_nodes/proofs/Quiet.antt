@@ -120,7 +120,7 @@ module _ (n f : ℕ) (net : Network) (w : World) (reach : IsReachableWorld n f w
 
       module _ (dets : Det → Bool) (det : Det) (was : WasSent net.sent (stored_packet me nr.name dets)) (has_det : dets det ≡ true) where
         abbrev recorded : World
-        recorded = record { past = Stable det ∷ w.past; rounds = w.rounds; knows_holder = w.knows_holder; knows_stable = w.knows_stable; packets = w.packets; gathered = w.gathered; stored = w.stored; landed = w.landed }
+        recorded = record w { past = Stable det ∷ w.past }
 
         later : IsLater w recorded
         later = record { numbers = λ q. omega arith; packets = λ i t at. at; stable = λ d h. or_right (same_det d det) (is_stable w.past d) h; stored = λ d h. h; messages = message_older (Stable det) w.past }

@@ -49,15 +49,11 @@ module _ (n f : ℕ) (net : Network) (w : World) (reach : IsReachableWorld n f w
 
   module _ (who : Pid) (low : who.0 < n) (a : UpNode) (fits : UpFits n w who.0 a) (few : count_below n (λ q. is_node_down (net.nodes q)) < f) where
     abbrev fallen : World
-    fallen = record {
+    fallen = record w {
       past = Crash who ∷ w.past;
-      rounds = record { lane = w.rounds.lane; down = with_value_at w.rounds.down who.0 true; floors = w.rounds.floors; rounds = w.rounds.rounds };
+      rounds = record w.rounds { down = with_value_at w.rounds.down who.0 true };
       knows_holder = λ p d q. not (who.0 == p) && w.knows_holder p d q;
       knows_stable = λ p d. not (who.0 == p) && w.knows_stable p d;
-      packets = w.packets;
-      gathered = w.gathered;
-      stored = w.stored;
-      landed = w.landed;
     }
 
     few_down : count_below n (is_down w.past) < f
@@ -104,15 +100,9 @@ module _ (n f : ℕ) (net : Network) (w : World) (reach : IsReachableWorld n f w
 
     -- the world with another round of me
     abbrev pub with_own_round : Option Round → (ℕ → Det → Bool) → World
-    with_own_round o gathered = record {
-      past = w.past;
-      rounds = record { lane = w.rounds.lane; down = w.rounds.down; floors = w.rounds.floors; rounds = with_value_at w.rounds.rounds me o };
-      knows_holder = w.knows_holder;
-      knows_stable = w.knows_stable;
-      packets = w.packets;
+    with_own_round o gathered = record w {
+      rounds = record w.rounds { rounds = with_value_at w.rounds.rounds me o };
       gathered = gathered;
-      stored = w.stored;
-      landed = w.landed;
     }
 
     pub later_round : (o : Option Round) (gathered : ℕ → Det → Bool) → IsLater w (with_own_round o gathered)
@@ -233,7 +223,7 @@ module _ (n f : ℕ) (net : Network) (w : World) (reach : IsReachableWorld n f w
     marked = with_value_at w.knows_stable me.0 node.log.stable
 
     abbrev risen : World
-    risen = record {
+    risen = record w {
       past = Restart me listed ∷ w.past;
       rounds = record {
         lane = with_value_at w.rounds.lane me.0 (w.rounds.lane me.0 + 1);
@@ -243,10 +233,6 @@ module _ (n f : ℕ) (net : Network) (w : World) (reach : IsReachableWorld n f w
       };
       knows_holder = known;
       knows_stable = marked;
-      packets = w.packets;
-      gathered = w.gathered;
-      stored = w.stored;
-      landed = w.landed;
     }
 
     n_is_other : n ≡ me.0 → ⊥

@@ -44,7 +44,7 @@ module _ (n f : ℕ) (net : Network) (w : World) (reach : IsReachableWorld n f w
     written = rep.packets (write_packet p) was
 
     abbrev after : World
-    after = record { past = w.past; rounds = w.rounds; knows_holder = w.knows_holder; knows_stable = w.knows_stable; packets = w.packets; gathered = w.gathered; stored = λ d. w.stored d || p.parcel.carries d; landed = with_value_at w.landed written.0.0 true }
+    after = record w { stored = λ d. w.stored d || p.parcel.carries d; landed = with_value_at w.landed written.0.0 true }
 
     later : IsLater w after
     later = record { numbers = λ q. omega arith; packets = λ i t at. at; stable = λ d h. h; stored = λ d h. or_left (w.stored d) (p.parcel.carries d) h; messages = λ send m h. h }
@@ -82,16 +82,7 @@ module _ (n f : ℕ) (net : Network) (w : World) (reach : IsReachableWorld n f w
     fence = raised (w.rounds.floors n) (bounded n view)
 
     abbrev fenced : World
-    fenced = record {
-      past = w.past;
-      rounds = record { lane = w.rounds.lane; down = w.rounds.down; floors = with_value_at w.rounds.floors n fence; rounds = w.rounds.rounds };
-      knows_holder = w.knows_holder;
-      knows_stable = w.knows_stable;
-      packets = w.packets;
-      gathered = w.gathered;
-      stored = w.stored;
-      landed = w.landed;
-    }
+    fenced = record w { rounds = record w.rounds { floors = with_value_at w.rounds.floors n fence } }
 
     later_fenced : IsLater w fenced
     later_fenced = record { numbers = λ q. le_self (number w.rounds q); packets = λ i t at. at; stable = λ d h. h; stored = λ d h. h; messages = λ send m h. h }
@@ -179,15 +170,9 @@ module _ (n f : ℕ) (net : Network) (w : World) (reach : IsReachableWorld n f w
         raised_fence = raised (w.rounds.floors n) r.view
 
         abbrev after_reply : World
-        after_reply = record {
-          past = w.past;
-          rounds = record { lane = w.rounds.lane; down = w.rounds.down; floors = with_value_at w.rounds.floors n raised_fence; rounds = with_value_at w.rounds.rounds s (Some (with_reply r n true)) };
-          knows_holder = w.knows_holder;
-          knows_stable = w.knows_stable;
-          packets = w.packets;
+        after_reply = record w {
+          rounds = record w.rounds { floors = with_value_at w.rounds.floors n raised_fence; rounds = with_value_at w.rounds.rounds s (Some (with_reply r n true)) };
           gathered = with_value_at w.gathered s (λ d. w.gathered s d || w.stored d);
-          stored = w.stored;
-          landed = w.landed;
         }
 
         later_reply : IsLater w after_reply

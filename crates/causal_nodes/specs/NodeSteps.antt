@@ -24,13 +24,13 @@ empty_log = record { has = λ d. false; holder = λ d q. false; stable = λ d. f
 
 -- a memory with another log, or with other floors
 abbrev pub with_node_log : UpNode → NodeLog → UpNode
-with_node_log a log = record { lane = a.lane; log = log; floors = a.floors; sent = a.sent; received = a.received }
+with_node_log a log = record a { log = log }
 
 abbrev pub with_floors : UpNode → (ℕ → ℕ) → UpNode
-with_floors a floors = record { lane = a.lane; log = a.log; floors = floors; sent = a.sent; received = a.received }
+with_floors a floors = record a { floors = floors }
 
 abbrev pub with_one_sent : UpNode → UpNode
-with_one_sent a = record { lane = a.lane; log = a.log; floors = a.floors; sent = a.sent + 1; received = a.received }
+with_one_sent a = record a { sent = a.sent + 1 }
 
 -- the log of p after a delivery that lists these: it knows the holders that the message names, and that p is one
 abbrev pub node_log_after_delivery : ℕ → List Det → TransitParcel → NodeLog → NodeLog
@@ -41,11 +41,8 @@ node_log_after_delivery p listed t log = record {
 }
 
 abbrev pub up_after_delivery : ℕ → MsgName → List Det → TransitParcel → UpNode → UpNode
-up_after_delivery p name listed t a = record {
-  lane = a.lane;
+up_after_delivery p name listed t a = record a {
   log = node_log_after_delivery p listed t a.log;
-  floors = a.floors;
-  sent = a.sent;
   received = a.received ++ name ∷ [];
 }
 
@@ -76,9 +73,7 @@ new_node_round name view = record { name = name; view = view; heard = λ q. fals
 
 -- a round after a reply: an answer, one that brings nothing, and one of stable storage, whole or in part
 abbrev pub after_answer : ℕ → TransitParcel → NodeRound → NodeRound
-after_answer from t r = record {
-  name = r.name;
-  view = r.view;
+after_answer from t r = record r {
   heard = with_value_at r.heard from true;
   gathered = record {
     has = λ d. r.gathered.has d || t.carries d;
@@ -88,13 +83,10 @@ after_answer from t r = record {
 }
 
 abbrev pub with_heard : ℕ → NodeRound → NodeRound
-with_heard from r = record { name = r.name; view = r.view; heard = with_value_at r.heard from true; gathered = r.gathered }
+with_heard from r = record r { heard = with_value_at r.heard from true }
 
 abbrev pub round_with_stored : Det → NodeRound → NodeRound
-round_with_stored det r = record {
-  name = r.name;
-  view = r.view;
-  heard = r.heard;
+round_with_stored det r = record r {
   gathered = record {
     has = λ d. r.gathered.has d || same_det d det;
     holder = r.gathered.holder;
