@@ -100,18 +100,16 @@ with_nodes w past nodes packets = record { past = past; nodes = nodes; sent = pa
 
 -- a system after a call of an endpoint, and after a crash
 abbrev after_output : EndpointSystem → Pid → EndpointState → Output → List Entry → EndpointSystem
-after_output w me e output entries = record {
+after_output w me e output entries = record w {
   past = entries ++ w.past;
   endpoints = with_value_at w.endpoints me.0 e;
   sent = output.bytes ++ w.sent;
   requests = output.to_storage ++ w.requests;
-  stored = w.stored;
-  floors = w.floors;
   names = with_value_at w.names me.0 (output.names ++ w.names me.0);
 }
 
 abbrev after_fall : EndpointSystem → Pid → ℕ → EndpointSystem
-after_fall w who clock = record { past = Crash who ∷ w.past; endpoints = with_value_at w.endpoints who.0 (opened_after (w.endpoints who.0) clock); sent = w.sent; requests = w.requests; stored = w.stored; floors = w.floors; names = w.names }
+after_fall w who clock = record w { past = Crash who ∷ w.past; endpoints = with_value_at w.endpoints who.0 (opened_after (w.endpoints who.0) clock) }
 
 -- the packet of a parcel was sent, and the number of its source
 record IsParcelSent (n f run : ℕ) (packets : List Sent) (b : List ℕ) : Type 0 where
@@ -503,7 +501,7 @@ module _ (back : ReadsBack) (calls : EndpointCallsAreNodeCalls) (keeps : Endpoin
         → IsReachableSystem n f (record { past = w.past; nodes = nodes_of w.endpoints; sent = j ∷ sys.packets; stored = stored; floors = floors })
         → SystemFacts n f (record { past = w.past; nodes = nodes_of w.endpoints; sent = j ∷ sys.packets; stored = stored; floors = floors })
         → IsOfDets n j → ((d : Det) → stored d ≡ true → IsDet n d)
-        → IsSystemOf n f run (record { past = w.past; endpoints = w.endpoints; sent = w.sent; requests = j ∷ w.requests; stored = stored; floors = floors; names = w.names })
+        → IsSystemOf n f run (record w { requests = j ∷ w.requests; stored = stored; floors = floors })
     after_storage j stored floors other reached facts dets all = record {
       packets = j ∷ sys.packets;
       reached = reached;

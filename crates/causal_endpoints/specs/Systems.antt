@@ -57,46 +57,29 @@ pub data EndpointEvent (n f : ℕ) (w : EndpointSystem) : EndpointSystem → Typ
       → EndpointCall w.past (w.endpoints me.0) input e output entries
       → HasCountedLog e
       → ((name : ℕ) → IsListed output.names name → IsListed (w.names me.0) name → ⊥)
-      → EndpointEvent n f w (record {
+      → EndpointEvent n f w (record w {
         past = entries ++ w.past;
         endpoints = with_value_at w.endpoints me.0 e;
         sent = output.bytes ++ w.sent;
         requests = output.to_storage ++ w.requests;
-        stored = w.stored;
-        floors = w.floors;
         names = with_value_at w.names me.0 (output.names ++ w.names me.0);
       })
   crash_event : (who : Pid) (clock : ℕ) → who.0 < n → (w.endpoints who.0).node.recovery ≡ None
       → count_below n (λ q. is_recovering (w.endpoints q).node) < f
       → (w.endpoints who.0).node.lane + 1 < 2 ^ 32 → clock < 2 ^ 62
-      → EndpointEvent n f w (record {
+      → EndpointEvent n f w (record w {
         past = Crash who ∷ w.past;
         endpoints = with_value_at w.endpoints who.0 (opened_after (w.endpoints who.0) clock);
-        sent = w.sent;
-        requests = w.requests;
-        stored = w.stored;
-        floors = w.floors;
-        names = w.names;
       })
   store_event : (p : Packet) → IsListed w.requests (write_packet p) → w.floors p.parcel.from ≤ p.lane
-      → EndpointEvent n f w (record {
-        past = w.past;
-        endpoints = w.endpoints;
-        sent = w.sent;
+      → EndpointEvent n f w (record w {
         requests = written_packet p.parcel.carries ∷ w.requests;
         stored = λ d. w.stored d || p.parcel.carries d;
-        floors = w.floors;
-        names = w.names;
       })
   read_event : (s name : ℕ) (view : ℕ → ℕ) → IsListed w.requests (read_packet s name view)
-      → EndpointEvent n f w (record {
-        past = w.past;
-        endpoints = w.endpoints;
-        sent = w.sent;
+      → EndpointEvent n f w (record w {
         requests = stored_packet s name w.stored ∷ w.requests;
-        stored = w.stored;
         floors = raised w.floors view;
-        names = w.names;
       })
 
 -- n endpoints of a run are opened in lane 0; nothing was sent or stored
