@@ -15,6 +15,7 @@ use Rattle.std.specs.FinMap.Entries.{put, by_order}
 use Rattle.std.specs.Ordering.{is_eq}
 use Rattle.std.specs.declared.cmp.Ordering.{Ordering}
 use Rattle.std.specs.declared.cmp.Ordering.TheVariants.{Less, Equal, Greater}
+use Rattle.std.proofs.lemmas.Bool.{eqb-true, eq-eqb}
 use Rattle.causal_name.specs.declared.Det.{Det}
 use Rattle.causal_name.specs.Names.{det_cmp, same_det, is_before, is_ascending}
 use Rattle.causal_name.proofs.Lemmas.DetOrder.{dets_total, exact_dets, det_ties, same_is, same_itself}
@@ -141,12 +142,6 @@ rank_at [] i d h at = absurd (true≢false (sym (ap is_some at)))
 rank_at (e ∷ ds) zero d h at = grind (arith, not_itself, none_before)
 rank_at (e ∷ ds) (suc i) d h at = grind (arith, first_before e ds d h (any_passes_from_place (same_det d) ds i d at (same_itself d)), rank_at ds i d (ascending_tail e ds h) at)
 
-number_is : (a b : ℕ) → (a == b) ≡ true → a ≡ b
-number_is a b h = grind (arith, nat_tests)
-
-same_number : (a b : ℕ) → a ≡ b → (a == b) ≡ true
-same_number a b h = grind (arith, nat_tests)
-
 -- a determinant, if there is one, with what is known of it
 abbrev pub with_known : LogMap → Option Det → Option (Det × Known)
 with_known log None = None
@@ -180,11 +175,11 @@ module _ (es : List (Det × Known)) (distinct : IsDistinct same_det (keys_of es)
       by None none None at = refl
       by None none (Some d) at =
           let there = same_members es d ∙ any_passes_from_place (same_det d) keys n d at (same_itself d) in
-          absurd (true≢false (sym (same_number (length (filter (λ x. is_before x.0 d) es)) n (rank_order n d at)) ∙ none_fits (λ x. has_rank es n x) (keys_of es) d none there))
+          absurd (true≢false (sym (eq-eqb (length (filter (λ x. is_before x.0 d) es)) n (rank_order n d at)) ∙ none_fits (λ x. has_rank es n x) (keys_of es) d none there))
       by (Some d) found r at =
           let two = first_fits (λ x. has_rank es n x) (keys_of es) d found in
           let there = index_of_member d keys (sym (same_members es d) ∙ two.1) in
-          let place = sym (rank_order there.0 d there.1) ∙ number_is (length (filter (λ x. is_before x.0 d) es)) n two.0 in
+          let place = sym (rank_order there.0 d there.1) ∙ eqb-true (length (filter (λ x. is_before x.0 d) es)) n two.0 in
           sym there.1 ∙ ap (slice_get keys) place ∙ at
 
   -- with what is known of it, the determinant of rank n is the entry at index n

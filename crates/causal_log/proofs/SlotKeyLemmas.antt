@@ -1,6 +1,6 @@
 -- Entries keyed by slot and number: look-ups find each determinant, and all determinants of a slot.
 use Rattle.std.proofs.Common.{ℕ, zero, suc, ◌≡◌, ◌∙◌, ◌⊎◌, inl, inr, ◌<◌, ◌≤◌, ◌+◌, ◌||◌, ◌==◌, Bool, true, false, cond, All, Contains, Option, Some, None, IfSome, is_some, unwrap_or, List, filter, [], ◌∷◌, ◌++◌, length, set, slice_get, get_or, true≢false, refl, sym, ap, subst, arith}
-use Rattle.std.proofs.lemmas.Bool.{cases_eq, false_from_ne_true, or_cases}
+use Rattle.std.proofs.lemmas.Bool.{cases_eq, false_from_ne_true, or_cases, eqb-true}
 use Rattle.std.proofs.lemmas.List.{map-append, get_or-map, length-map, length_push}
 use Rattle.std.proofs.lemmas.List.Folds.{list_any-append}
 use Rattle.std.proofs.lemmas.Map.Keys.{IsDistinct-push}
@@ -24,7 +24,7 @@ use Rattle.causal_log.specs.declared.known.Known.{Known}
 use Rattle.causal_log.specs.declared.table.SlotKey.{SlotKey}
 use Rattle.causal_log.specs.Slots.{is_of_slot}
 use Rattle.causal_log.specs.Inside.Ranks.{IsAmong, IsLeastOfSlot, lesser_det}
-use Rattle.causal_log.specs.Inside.KeyWords.{number_is, same_slot_key_is}
+use Rattle.causal_log.specs.Inside.KeyWords.{same_slot_key_is}
 use Rattle.causal_log.specs.Inside.Tables.{HasSlotKey, IsNotLater, is_later, slot_key, same_slot_key}
 use Rattle.causal_log.proofs.EntryLemmas.{below}
 use Rattle.causal_log.proofs.Lemmas.Ascents.{before_trans}
@@ -40,7 +40,7 @@ pub slot_key_equiv : IsEquivalence same_slot_key
 slot_key_equiv = record { refl = same_slot_key_itself; symm = same_slot_key_turned; congr = λ p q r h. ap (λ x. same_slot_key x r) (same_slot_key_is p q h) }
 
 slot_is : (slot : Slot) (q : Det) → is_of_slot slot.dest slot.rsn q ≡ true → slot_of q ≡ slot
-slot_is slot q h = grind (arith, both, number_is)
+slot_is slot q h = grind (arith, both, eqb-true)
 
 slot_fits : (slot : Slot) (q : Det) → slot ≡ slot_of q → is_of_slot slot.dest slot.rsn q ≡ true
 slot_fits slot q h = grind (arith, nat_tests)
