@@ -19,7 +19,6 @@ use Rattle.causal_log.specs.Inside.BatchCache.{item_entries, carried_knowledge, 
 use Rattle.causal_log.proofs.MergeLemmas.{carried_of, carried_unmarked, recognized, found_chosen, found_append, none_found, none_front, none_back, glue, without, raise, dets_append, before_later}
 use Rattle.causal_log.proofs.Lemmas.KnowledgeGrows.{get_learned, told_keys}
 use Rattle.causal_log.proofs.Lemmas.LogLists.{get_marked}
-use Rattle.causal_log.proofs.Lemmas.Searches.{both}
 
 -- if a disjunction is false, both parts are
 neither : (a b : Bool) → (a || b) ≡ false → (a ≡ false) × (b ≡ false)

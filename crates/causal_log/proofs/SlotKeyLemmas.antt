@@ -1,5 +1,5 @@
 -- Entries keyed by slot and number: look-ups find each determinant, and all determinants of a slot.
-use Rattle.std.proofs.Common.{ℕ, zero, suc, ◌≡◌, ◌∙◌, ◌⊎◌, inl, inr, ◌<◌, ◌≤◌, ◌+◌, ◌||◌, ◌==◌, Bool, true, false, cond, All, Contains, Option, Some, None, IfSome, is_some, unwrap_or, List, filter, [], ◌∷◌, ◌++◌, length, set, slice_get, get_or, true≢false, refl, sym, ap, subst, arith}
+use Rattle.std.proofs.Common.{ℕ, zero, suc, ◌≡◌, ◌∙◌, ◌⊎◌, inl, inr, ◌<◌, ◌≤◌, ◌+◌, ◌||◌, Bool, true, false, cond, All, Contains, Option, Some, None, IfSome, is_some, unwrap_or, List, filter, [], ◌∷◌, ◌++◌, length, set, slice_get, get_or, true≢false, refl, sym, ap, subst, arith}
 use Rattle.std.proofs.lemmas.Bool.{cases_eq, false_from_ne_true, or_cases, eqb-true}
 use Rattle.std.proofs.lemmas.List.{map-append, get_or-map, length-map, length_push}
 use Rattle.std.proofs.lemmas.List.Folds.{list_any-append}

@@ -1,5 +1,5 @@
 -- The determinants of a log as lists: those known to be stable, and the others.
-use Rattle.std.proofs.Common.{arith, ◌≡◌, ◌∙◌, ◌+◌, Bool, true, not, ◌&&◌, map, filter, length, Option, Some, None, is_some, unwrap_or, ap, sym, refl, false, cond, ℕ, slice_get}
+use Rattle.std.proofs.Common.{arith, ◌≡◌, ◌∙◌, ◌+◌, Bool, true, not, ◌&&◌, map, filter, length, Option, Some, None, is_some, ap, sym, refl, false, cond, ℕ, slice_get}
 use Rattle.std.proofs.Math.Bool.{and_comm}
 use Rattle.std.specs.List.{list_any}
 use Rattle.std.specs.FinMap as fin
@@ -9,11 +9,11 @@ use Rattle.std.proofs.lemmas.List.Filters.{length-filter_both}
 use Rattle.causal_name.specs.declared.Det.{Det}
 use Rattle.causal_name.specs.Names.{same_det, is_ascending}
 use Rattle.causal_log.specs.declared.known.Known.{Known}
-use Rattle.causal_log.specs.Knowledge.{unknown, as_stable}
+use Rattle.causal_log.specs.Knowledge.{as_stable}
 use Rattle.causal_log.specs.Logs.{LogMap, known_of, stable_in, unstable_in, after_drop_stable, mark, after_mark}
 use Rattle.causal_log.proofs.EntryLemmas.{own_entries}
 use Rattle.causal_log.proofs.Lemmas.Ascents.{filter_ascends}
-use Rattle.causal_log.proofs.Lemmas.Searches.{any_map, any_kept, any_dets, any_logged, passes, find_kept, kept_if, shown, shown_found, found_shown}
+use Rattle.causal_log.proofs.Lemmas.Searches.{any_map, any_kept, any_dets, any_logged, passes, find_kept, shown, shown_found, found_shown}
 use Rattle.std.specs.Option.{option_map}
 use Rattle.causal_name.proofs.Lemmas.DetOrder.{dets_total, det_ties, same_is}
 
