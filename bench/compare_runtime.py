@@ -4,9 +4,10 @@
 
     bench/compare_runtime.py BEFORE AFTER [--turns 9]
 
-Each folder has the programs `runtime_bench` (of `runtime/`), `runtime_log` and `causal_tool` of one build. A time is the least of the turns.
-A ratio to plain Rust is the median of the turns' own: the machine's speed changes within a minute, so the least times of two programs may
-come from moments of different speed. Instructions are counted by `valgrind` once, since other work changes them little.
+Each folder has the programs `runtime_bench` (of `runtime/`), `runtime_log` and `causal_tool` of one build. A time is the median of the turns.
+A ratio of times is the median of the turns' own, for each target: the machine's speed changes within a minute, so two programs are compared
+only within a turn, in which every other time the second runs first. The ratio of the least times is printed beside it. Instructions are
+counted by `valgrind` once, since other work changes them little.
 """
 import argparse
 import os
@@ -15,7 +16,7 @@ import sys
 
 import measure_runtime
 import run_scripts
-from measure_runtime import KINDS, SIZES, figures, instructions, least, written
+from measure_runtime import KINDS, SIZES, figures, instructions, written
 
 MOST_AVERAGE, MOST_PACE, MOST_DELIVERY, MOST_RUN, MOST_PICKED = 1.35, 2.2, 1.2, 2.2, 1.3
 KEYS = (256, 1_024, 2_048, 8_192)
@@ -37,34 +38,52 @@ class Builds:
 
     def each_turn(self, programs, words):
         """The figures of each program in each turn, one run of each after the other; `words` has the words of each."""
-        found = [[figures(said, program=program) for program, said in zip(programs, words)] for _ in range(self.turns)]
+        found = []
+        for turn in range(self.turns):
+            runs = list(zip(programs, words))
+            told = [figures(said, program=program) for program, said in (runs[::-1] if turn % 2 else runs)]
+            found.append(told[::-1] if turn % 2 else told)
         if any(None in turn for turn in found):
             sys.exit(f"no figures: {words}")
         return found
-
-    def in_turn(self, programs, words):
-        """The least figures of each program."""
-        return [least(runs) for runs in zip(*self.each_turn(programs, words))]
 
     def aim(self, target, most, values):
         worst, row = max(values)
         self.targets.append((target, most, f"{worst:.2f} ({row})", "yes" if worst <= most else "no"))
 
 
+def ratio_of(times, one, other):
+    """The median of the turns' own ratios of two times, and the ratio of the least."""
+    return statistics.median(turn[one] / turn[other] for turn in times), min(turn[one] for turn in times) / min(turn[other] for turn in times)
+
+
+def medians(times):
+    return [statistics.median(each) for each in zip(*times)]
+
+
+def pace_of(runs):
+    """How much longer the slowest thousand deliveries take than the fastest, by the medians of each."""
+    whole = medians([run[4 : 4 + run[1] // 1000] for run in runs])
+    return max(whole) / min(whole)
+
+
 def short_lists(builds):
     """Deliveries for f = 0, and the slowest thousand beside the fastest."""
-    rows, times, paces = [], [], []
+    rows, times, leasts, paces = [], [], [], []
     for kind in KINDS:
         for n in SIZES:
-            told = builds.in_turn(builds.program("runtime_bench"), [["core", kind, n, 0, 1000]] * 2)
-            each = [sum(run[4:]) / run[1] / 1e3 for run in told]
-            pace = [max(whole) / min(whole) for whole in (run[4 : 4 + run[1] // 1000] for run in told)]
-            rows.append((kind, n, *(f"{x:.3f}" for x in each), f"{each[1] / each[0]:.2f}", *(f"{x:.2f}" for x in pace)))
-            times.append((each[1] / each[0], f"{kind} of {n}"))
+            turns = builds.each_turn(builds.program("runtime_bench"), [["core", kind, n, 0, 1000]] * 2)
+            each = [[sum(run[4:]) / run[1] / 1e3 for run in turn] for turn in turns]
+            ratio, least = ratio_of(each, 1, 0)
+            pace = [pace_of(runs) for runs in zip(*turns)]
+            rows.append((kind, n, *(f"{x:.3f}" for x in medians(each)), f"{ratio:.2f}", f"{least:.2f}", *(f"{x:.2f}" for x in pace)))
+            times.append((ratio, f"{kind} of {n}"))
+            leasts.append((least, f"{kind} of {n}"))
             paces.append((pace[1], f"{kind} of {n}"))
     builds.aim("f = 0: a delivery / before", MOST_DELIVERY, times)
+    builds.aim("the same, by the least", MOST_DELIVERY, leasts)
     builds.aim("f = 0: the slowest thousand / the fastest", MOST_PACE, paces)
-    return table(["kind", "n", "µs before", "µs", "/ before", "slowest / fastest before", "slowest / fastest"], rows)
+    return table(["kind", "n", "µs before", "µs", "/ before", "by the least", "slowest / fastest before", "slowest / fastest"], rows)
 
 
 def each_listed(turn):
@@ -83,19 +102,19 @@ def long_lists(builds):
                 if fault != "n" and f >= n:
                     continue
                 words = ["core", kind, n, f, 1000]
-                turns = builds.each_turn(programs, [words, words, words[1:4]])
-                before, after, beside = each_listed([least(runs) for runs in zip(*turns)])
-                to_plain = statistics.median(one / other for _, one, other in map(each_listed, turns))
-                rows.append((kind, n, f, f"{before:.0f}", f"{after:.0f}", f"{after / before:.2f}", f"{beside:.0f}", f"{to_plain:.2f}"))
+                times = [each_listed(turn) for turn in builds.each_turn(programs, [words, words, words[1:4]])]
+                before, after, beside = medians(times)
+                (to_before, _), (to_plain, by_least) = ratio_of(times, 1, 0), ratio_of(times, 1, 2)
+                rows.append((kind, n, f, f"{before:.0f}", f"{after:.0f}", f"{to_before:.2f}", f"{beside:.0f}", f"{to_plain:.2f}", f"{by_least:.2f}"))
                 plain.append((to_plain, f"{kind} of {n} for {f}"))
-                plain_least.append((after / beside, f"{kind} of {n} for {f}"))
+                plain_least.append((by_least, f"{kind} of {n} for {f}"))
                 if fault != "n":
-                    ratios.append(after / before)
+                    ratios.append(to_before)
     builds.aim(f"a listed determinant / before, on average over {len(ratios)} rows for f of 1, 2 and 8", MOST_AVERAGE,
                [(sum(ratios) / len(ratios), "average")])
-    builds.aim("a listed determinant / plain Rust, by the median of turns", 1.0, plain)
+    builds.aim("a listed determinant / plain Rust", 1.0, plain)
     builds.aim("the same, by the least", 1.0, plain_least)
-    return table(["kind", "n", "f", "ns before", "ns", "/ before", "plain ns", "/ plain"], rows)
+    return table(["kind", "n", "f", "ns before", "ns", "/ before", "plain ns", "/ plain", "by the least"], rows)
 
 
 def scripts(builds):
@@ -120,10 +139,10 @@ def collisions(builds):
     rows, ratios = [], []
     program = builds.program("runtime_log")[1]
     for count in KEYS:
-        told = builds.in_turn([program], [["keys", count]])[0]
-        each = [took / many for many, took in zip(told[::2], told[1::2])]
-        rows.append((f"{count:,}", *(f"{x:.1f}" for x in each)))
-        ratios += [(each[1] / each[0], f"alike, {count:,}"), (each[3] / each[4], f"seeded, {count:,}")]
+        turns = [turn[0] for turn in builds.each_turn([program], [["keys", count]])]
+        times = [[took / many for many, took in zip(turn[::2], turn[1::2])] for turn in turns]
+        rows.append((f"{count:,}", *(f"{x:.1f}" for x in medians(times))))
+        ratios += [(ratio_of(times, 1, 0)[0], f"alike, {count:,}"), (ratio_of(times, 3, 4)[0], f"seeded, {count:,}")]
     builds.aim("picked and colliding / spread, with a seed", MOST_PICKED, ratios)
     return table(["determinants", "spread", "alike", "picked", "seeded", "spread, seeded"], rows)
 
