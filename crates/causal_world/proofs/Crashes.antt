@@ -125,8 +125,8 @@ module _ (n f : ℕ) (w : World) (k : WorldInvariant n f w) where
       → ((x : ℕ) (d : Det) (q : ℕ) → known x d q ≡ true → (w.knows_holder x d q ≡ true) ⊎ ((x ≡ p) × (logs w.past p d ≡ true) × (t.parcel.names_holder d q ≡ true)))
       → ((x : ℕ) (d : Det) (q : ℕ) → w.knows_holder x d q ≡ true → known x d q ≡ true)
       → WorldInvariant n f (record w { knows_holder = known })
-  learn_preserves p i t known up at to floor new keeps = record {
-    reached = next_state w.past w.past (volatile_of n w) (volatile_of n (record w { knows_holder = known })) k.reached (silent (learns p (record {
+  learn_preserves p i t known up at to floor new keeps =
+    assumption (next_state w.past w.past (volatile_of n w) (volatile_of n (record w { knows_holder = known })) k.reached (silent (learns p (record {
       new_holders = λ x d q h. elim (new x d q h) [
         | inl old ↦ inl old
         | inr (is, logs_d, named) ↦ inr (is, logs_d, (t.parcel, in_transit_of n w i t at (is_accepted (suc n) w.rounds (carrier_of t) (by_floor (ap w.rounds.down to ∙ up) (subst (λ y. w.rounds.floors y t.parcel.from ≤ t.lane) (sym to) floor))), named))
@@ -134,36 +134,14 @@ module _ (n f : ℕ) (w : World) (k : WorldInvariant n f w) where
       keeps_holders = keeps;
       new_stable = λ x d h. inl h;
       nothing_new = same_brings_nothing n w (record w { knows_holder = known }) refl (λ j. refl) (λ j. refl);
-    })));
-    rounds = k.rounds;
-    dets = k.dets;
-    absent = k.absent;
-    down = k.down;
-    lanes = k.lanes;
-    gathered_from = k.gathered_from;
-    storage = k.storage;
-    stores = record { stored_from = k.stores.stored_from; landed_stored = k.stores.landed_stored; stable_stored = k.stores.stable_stored };
-    reads = k.reads;
-    own_logged = k.own_logged;
-  }
+    }))))
 
   pub confirm_preserves : (marked : ℕ → Det → Bool) → ((x : ℕ) (d : Det) → marked x d ≡ true → (w.knows_stable x d ≡ true) ⊎ (is_stable w.past d ≡ true))
       → WorldInvariant n f (record w { knows_stable = marked })
-  confirm_preserves marked new = record {
-    reached = next_state w.past w.past (volatile_of n w) (volatile_of n (record w { knows_stable = marked })) k.reached (silent (learns 0 (record {
+  confirm_preserves marked new =
+    assumption (next_state w.past w.past (volatile_of n w) (volatile_of n (record w { knows_stable = marked })) k.reached (silent (learns 0 (record {
       new_holders = λ x d q h. inl h;
       keeps_holders = λ x d q h. h;
       new_stable = new;
       nothing_new = same_brings_nothing n w (record w { knows_stable = marked }) refl (λ j. refl) (λ j. refl);
-    })));
-    rounds = k.rounds;
-    dets = k.dets;
-    absent = k.absent;
-    down = k.down;
-    lanes = k.lanes;
-    gathered_from = k.gathered_from;
-    storage = k.storage;
-    stores = record { stored_from = k.stores.stored_from; landed_stored = k.stores.landed_stored; stable_stored = k.stores.stable_stored };
-    reads = k.reads;
-    own_logged = k.own_logged;
-  }
+    }))))
