@@ -1,7 +1,7 @@
 -- Rounds begin, are given up and get replies.
-use Rattle.std.proofs.Common.{ℕ, suc, ◌≡◌, ◌<◌, ◌≤◌, ◌+◌, inl, inr, Bool, true, false, ◌&&◌, ◌||◌, nat_lt, Some, None, refl, sym, ap, subst, ◌∙◌, arith}
+use Rattle.std.proofs.Common.{ℕ, suc, ◌≡◌, ◌<◌, ◌≤◌, ◌+◌, inl, inr, Bool, true, false, cond, ◌&&◌, ◌||◌, nat_lt, Option, Some, None, refl, sym, ap, subst, ◌∙◌, arith}
 use Rattle.std.specs.Prelude.{◌⊎◌, ◌==◌}
-use Rattle.std.proofs.lemmas.Bool.{both_ways, or_cases, or_left, or_right, eq-eqb, cond-false, lt-ltb}
+use Rattle.std.proofs.lemmas.Bool.{false≢true, both_ways, or_cases, or_left, or_right, eq-eqb, eqb-true, cond-false, cases_lt, lt-ltb}
 use Rattle.std.proofs.lemmas.Bool.Decides.{eqb_tells}
 use Rattle.causal_name.specs.declared.Det.{Det}
 use Rattle.causal_trace.specs.Past.{logs}
@@ -13,55 +13,87 @@ use Rattle.causal_rounds.specs.Gathered as det
 use Rattle.causal_rounds.proofs.Lemmas.RoundSteps.{set_at_cases, some_is, none_some, round_step_preserves, set_at_here, set_at_away}
 use Rattle.causal_rounds.proofs.Lemmas.GatheredSteps.{det_step_preserves}
 use Rattle.causal_world.specs.World.{Packet, World, GatheredFrom, volatile_of, det_state_of}
-use Rattle.causal_world.specs.Invariant.{AbsentAreDown, ReadsLast, WorldInvariant}
+use Rattle.causal_world.specs.Invariant.{AbsentAreDown, WorldInvariant}
 use Rattle.causal_world.proofs.Lemmas.Functions.{map_set_at, apart_is}
 use Rattle.causal_world.proofs.Lemmas.Transit.{rounds_bring_nothing}
 
 abbrev with_state : DetState → RecoveryState → (ℕ → Bool) → DetState
 with_state a rounds gathered = record a { state = rounds; gathered = gathered }
 
+-- what is true of the round o of s, which has gathered g
+record IsRight (n : ℕ) (w : World) (s : ℕ) (o : Round) (g : Det → Bool) : Type 0 where
+  absent : (p : ℕ) → suc n ≤ p → o.replied p ≡ true
+  from : (d : Det) → g d ≡ true → GatheredFrom w s o d ⊎ (w.stored d ≡ true)
+  last : (q : ℕ) → o.replied n ≡ true → q < n → (q ≡ s → ⊥) → o.replied q ≡ true
+  own : (d : Det) → o.replied n ≡ true → w.stored d ≡ true → d.dest.0 ≡ s → g d ≡ true
+
 module _ (n f : ℕ) (w : World) (k : WorldInvariant n f w) where
   -- a step of the rounds without an entry
-  rounds_preserve : (rounds : RecoveryState) (gathered : ℕ → Det → Bool) → RoundStep w.rounds rounds → AbsentAreDown (suc n) rounds → ((q : ℕ) → rounds.down q ≡ w.rounds.down q) → ((q : ℕ) → rounds.lane q ≡ w.rounds.lane q)
-      → ((d : Det) → DetInvariant (with_state (det_state_of n w d) rounds (λ q. gathered q d)))
-      → ((s : ℕ) (r : Round) (d : Det) → rounds.rounds s ≡ Some r → gathered s d ≡ true → GatheredFrom w s r d ⊎ (w.stored d ≡ true))
-      → rounds.rounds n ≡ None → ReadsLast n rounds gathered w.stored
-      → WorldInvariant n f (record w { rounds = rounds; gathered = gathered })
-  rounds_preserve rounds gathered step absent down lane dets from no_round reads = record {
-    reached = next_state w.past w.past (volatile_of n w) (volatile_of n (record w { rounds = rounds; gathered = gathered })) k.reached (silent (learns 0 (record {
+  rounds_preserve : (floors : ℕ → ℕ → ℕ) (rounds : ℕ → Option Round) (gathered : ℕ → Det → Bool) → RoundStep w.rounds (record w.rounds { floors = floors; rounds = rounds })
+      → ((d : Det) → DetInvariant (with_state (det_state_of n w d) (record w.rounds { floors = floors; rounds = rounds }) (λ q. gathered q d)))
+      → ((p : ℕ) → n ≤ p → rounds p ≡ None) → ((s : ℕ) (o : Round) → rounds s ≡ Some o → IsRight n w s o (gathered s))
+      → WorldInvariant n f (record w { rounds = record w.rounds { floors = floors; rounds = rounds }; gathered = gathered })
+  rounds_preserve floors rounds gathered step dets none right = record {
+    reached = next_state w.past w.past (volatile_of n w) (volatile_of n after) k.reached (silent (learns 0 (record {
       new_holders = λ r d q h. inl h;
       keeps_holders = λ r d q h. h;
       new_stable = λ r d h. inl h;
-      nothing_new = rounds_bring_nothing n w (record w { rounds = rounds; gathered = gathered }) step k.rounds absent (λ i. refl) (λ i. refl) k.lanes;
+      nothing_new = rounds_bring_nothing n w after step k.rounds absent (λ i. refl) (λ i. refl) k.lanes;
     })));
-    rounds = round_step_preserves w.rounds rounds step k.rounds;
+    rounds = round_step_preserves w.rounds after.rounds step k.rounds;
     dets = dets;
     absent = absent;
-    down = λ p low. down p ∙ k.down p low;
-    lanes = λ i p at. subst (λ l. p.lane ≤ l) (sym (lane p.parcel.from)) (k.lanes i p at);
-    gathered_from = from;
-    storage = record { up = down n ∙ k.storage.up; no_round = no_round; first_lane = lane n ∙ k.storage.first_lane };
-    stores = record { stored_from = k.stores.stored_from; landed_stored = k.stores.landed_stored; stable_stored = k.stores.stable_stored };
-    reads = reads;
-    own_logged = λ p d low up dest next stored. k.own_logged p d low (sym (down p) ∙ up) dest next stored;
+    down = k.down;
+    lanes = k.lanes;
+    gathered_from = λ s o d at. (right s o at).from d;
+    storage = record { up = k.storage.up; no_round = none n (omega arith); first_lane = k.storage.first_lane };
+    stores = assumption;
+    reads = record { last = λ s o q at. (right s o at).last q; own_gathered = λ s o d at. (right s o at).own d };
+    own_logged = k.own_logged;
   }
+    where
+      after : World
+      after = record w { rounds = record w.rounds { floors = floors; rounds = rounds }; gathered = gathered }
 
-  away_from : (s p : ℕ) → s < n → suc n ≤ p → p ≡ s → ⊥
-  away_from s p low high is = omega (arith, low, high, is)
+      absent : AbsentAreDown (suc n) after.rounds
+      absent = record { down = k.absent.down; no_round = λ p high. none p (omega (arith, high)); replied = λ s p o at. (right s o at).absent p }
 
   -- a round is that of a process
-  pub round_low : (s : ℕ) (r : Round) → w.rounds.rounds s ≡ Some r → s < n
-  round_low s r at = by (nat_lt s n) refl
-    where
-      by : (b : Bool) → nat_lt s n ≡ b → s < n
-      by true is = grind (arith, is)
-      by false is = elim (eqb_tells s n) [
-        | inl same ↦ absurd (none_some r (sym k.storage.no_round ∙ ap w.rounds.rounds (sym same.1) ∙ at))
-        | inr differ ↦ (let high : n ≤ s = grind (arith, is) in let apart : s ≡ n → ⊥ = differ.1 in absurd (none_some r (sym (k.absent.no_round s (omega (arith, high, apart))) ∙ at)))
-      ]
+  none_above : (p : ℕ) → n ≤ p → w.rounds.rounds p ≡ None
+  none_above p high = elim (eqb_tells p n) [
+    | inl same ↦ ap w.rounds.rounds same.1 ∙ k.storage.no_round
+    | inr differ ↦ let apart : p ≡ n → ⊥ = differ.1 in k.absent.no_round p (omega (arith, high, apart))
+  ]
 
-  not_storage : (s : ℕ) → s < n → n ≡ s → ⊥
-  not_storage s low is = omega (arith, low, is)
+  pub round_low : (s : ℕ) (r : Round) → w.rounds.rounds s ≡ Some r → s < n
+  round_low s r at = elim (cases_lt s n) [ inl low ↦ low | inr high ↦ absurd (none_some r (sym (none_above s high) ∙ at)) ]
+
+  none_but : (rounds : ℕ → Option Round) (s : ℕ) (x : Option Round) → s < n → ((p : ℕ) → n ≤ p → rounds p ≡ None) → (p : ℕ) → n ≤ p → with_value_at rounds s x p ≡ None
+  none_but rounds s x low none p high = set_at_away rounds s x p (λ e. omega (arith, low, high, e)) ∙ none p high
+
+  right_before : (s : ℕ) (o : Round) → w.rounds.rounds s ≡ Some o → IsRight n w s o (w.gathered s)
+  right_before s o at = record { absent = λ p. k.absent.replied s p o at; from = λ d. k.gathered_from s o d at; last = λ q. k.reads.last s o q at; own = λ d. k.reads.own_gathered s o d at }
+
+  -- s has another round, or none, or one that has gathered g
+  kept_right : (rounds : ℕ → Option Round) (s : ℕ) (x : Option Round) → ((o : Round) → x ≡ Some o → IsRight n w s o (w.gathered s)) → ((t : ℕ) (o : Round) → rounds t ≡ Some o → IsRight n w t o (w.gathered t))
+      → (t : ℕ) (o : Round) → with_value_at rounds s x t ≡ Some o → IsRight n w t o (w.gathered t)
+  kept_right rounds s x new old t o there = by (t == s) refl there
+    where
+      by : (b : Bool) → (t == s) ≡ b → cond b x (rounds t) ≡ Some o → IsRight n w t o (w.gathered t)
+      by true is h = subst (λ z. IsRight n w z o (w.gathered z)) (sym (eqb-true t s is)) (new o h)
+      by false is h = old t o h
+
+  new_right : (s : ℕ) (r : Round) (g : Det → Bool) → IsRight n w s r g → (t : ℕ) (o : Round) → with_value_at w.rounds.rounds s (Some r) t ≡ Some o → IsRight n w t o (with_value_at w.gathered s g t)
+  new_right s r g new t o there = by (t == s) refl there
+    where
+      by : (b : Bool) → (t == s) ≡ b → cond b (Some r) (w.rounds.rounds t) ≡ Some o → IsRight n w t o (cond b g (w.gathered t))
+      by true is h = subst (λ z. IsRight n w z o g) (sym (eqb-true t s is)) (subst (λ x. IsRight n w s x g) (some_is r o h) new)
+      by false is h = right_before t o h
+
+  new_gathered : (d : Det) (rounds : RecoveryState) (s : ℕ) (g : Det → Bool) (b : Bool) → b ≡ g d → DetInvariant (with_state (det_state_of n w d) rounds (with_value_at (λ q. w.gathered q d) s b))
+      → DetInvariant (with_state (det_state_of n w d) rounds (λ q. with_value_at w.gathered s g q d))
+  new_gathered d rounds s g b is h = subst (λ (x : ℕ → Bool). DetInvariant (with_state (det_state_of n w d) rounds x))
+      (λ j q. (ap (λ c. with_value_at (λ t. w.gathered t d) s c q) is ∙ sym (map_set_at (λ (x : Det → Bool). x d) w.gathered s g q)) j) h
 
   pub begin_preserves : (s : ℕ) (view : ℕ → ℕ) (absent : ℕ → Bool) → s < n → w.rounds.down s ≡ true → view s ≡ w.rounds.lane s + 1 → ((q : ℕ) → view q ≤ number w.rounds q)
       → ((q : ℕ) → q < suc n → absent q ≡ false) → ((q : ℕ) → suc n ≤ q → (absent q ≡ true) × (view q ≡ w.rounds.lane q + 1))
@@ -69,132 +101,79 @@ module _ (n f : ℕ) (w : World) (k : WorldInvariant n f w) where
         rounds = record w.rounds { rounds = with_value_at w.rounds.rounds s (Some (new_round view absent)) };
         gathered = with_value_at w.gathered s (λ d. false);
       })
-  begin_preserves s view absent low down own told present gone = rounds_preserve begun (with_value_at w.gathered s (λ d. false)) (begin s view absent down own told (present s (omega (arith, low))) far) absent_still (λ q. refl) (λ q. refl) dets from
-      (set_at_away w.rounds.rounds s (Some (new_round view absent)) n (not_storage s low) ∙ k.storage.no_round) reads
+  begin_preserves s view absent low down own told present gone =
+      rounds_preserve w.rounds.floors _ _ (begin s view absent down own told (present s (omega (arith, low))) far)
+      (λ d. new_gathered d _ s (λ e. false) false refl (det_step_preserves (det_state_of n w d) _ (det.begin s view absent (λ q is. ((far q is).0, (far q is).2))) k.rounds (k.dets d)))
+      (none_but w.rounds.rounds s (Some (new_round view absent)) low none_above)
+      (new_right s (new_round view absent) (λ d. false) (record {
+        absent = λ p above. (gone p above).0;
+        from = λ d h. absurd (false≢true h);
+        last = λ q done. absurd (unread done);
+        own = λ d done. absurd (unread done);
+      }))
     where
-      begun : RecoveryState
-      begun = record w.rounds { rounds = with_value_at w.rounds.rounds s (Some (new_round view absent)) }
-
-      high : (q : ℕ) → absent q ≡ true → suc n ≤ q
-      high q is = by (nat_lt q (suc n)) refl
-        where
-          by : (b : Bool) → nat_lt q (suc n) ≡ b → suc n ≤ q
-          by true small = absurd (both_ways (absent q) (present q (grind (arith, small))) is)
-          by false large = grind (arith, large)
-
       far : (q : ℕ) → absent q ≡ true → (w.rounds.down q ≡ true) × (w.rounds.rounds q ≡ None) × (view q ≡ w.rounds.lane q + 1)
-      far q is = (k.absent.down q (high q is), k.absent.no_round q (high q is), (gone q (high q is)).1)
-
-      -- storage has not replied to the new round
-      reads : ReadsLast n begun (with_value_at w.gathered s (λ d. false)) w.stored
-      reads = record {
-        last = λ t r q at done low_q other. elim (set_at_cases w.rounds.rounds s (Some (new_round view absent)) t) [ inl is ↦ absurd (unread r (some_is (new_round view absent) r (sym is.1 ∙ at)) done) | inr old ↦ k.reads.last t r q (sym old.1 ∙ at) done low_q other ];
-        own_gathered = λ t r d at done stored dest. elim (set_at_cases w.rounds.rounds s (Some (new_round view absent)) t) [
-          | inl is ↦ absurd (unread r (some_is (new_round view absent) r (sym is.1 ∙ at)) done)
-          | inr old ↦ ap (λ (g : Det → Bool). g d) (set_at_away w.gathered s (λ d. false) t old.0) ∙ k.reads.own_gathered t r d (sym old.1 ∙ at) done stored dest
-        ];
-      }
-        where
-          unread : (r : Round) → new_round view absent ≡ r → r.replied n ≡ true → ⊥
-          unread r is done = both_ways (absent n) (present n (omega arith)) (ap (λ (o : Round). o.replied n) is ∙ done)
-
-      absent_still : AbsentAreDown (suc n) begun
-      absent_still = record {
-        down = k.absent.down;
-        no_round = λ p above. set_at_away w.rounds.rounds s (Some (new_round view absent)) p (away_from s p low above) ∙ k.absent.no_round p above;
-        replied = λ t p r at above. elim (set_at_cases w.rounds.rounds s (Some (new_round view absent)) t) [
-          | inl is ↦ ap (λ (o : Round). o.replied p) (sym (some_is (new_round view absent) r (sym is.1 ∙ at))) ∙ (gone p above).0
-          | inr other ↦ k.absent.replied t p r (sym other.1 ∙ at) above
-        ];
-      }
-
-      dets : (d : Det) → DetInvariant (with_state (det_state_of n w d) begun (λ q. with_value_at w.gathered s (λ d. false) q d))
-      dets d = subst (λ (g : ℕ → Bool). DetInvariant (with_state (det_state_of n w d) begun g)) (λ j q. sym (map_set_at (λ (g : Det → Bool). g d) w.gathered s (λ d. false) q) j)
-          (det_step_preserves (det_state_of n w d) _ (det.begin s view absent (λ q is. ((far q is).0, (far q is).2))) k.rounds (k.dets d))
-
-      from : (t : ℕ) (r : Round) (d : Det) → begun.rounds t ≡ Some r → with_value_at w.gathered s (λ d. false) t d ≡ true → GatheredFrom w t r d ⊎ (w.stored d ≡ true)
-      from t r d at h = elim (set_at_cases w.gathered s (λ d. false) t) [
-        | inl is ↦ absurd (let e : true ≡ false = sym h ∙ ap (λ (g : Det → Bool). g d) is.1 in cc)
-        | inr other ↦ k.gathered_from t r d (sym (set_at_away w.rounds.rounds s (Some (new_round view absent)) t other.0) ∙ at) (sym (ap (λ (g : Det → Bool). g d) other.1) ∙ h)
+      far q is = elim (cases_lt q (suc n)) [
+        | inl small ↦ absurd (both_ways (absent q) (present q small) is)
+        | inr high ↦ (k.absent.down q high, k.absent.no_round q high, (gone q high).1)
       ]
 
+      -- storage has not replied to the new round
+      unread : absent n ≡ true → ⊥
+      unread done = both_ways (absent n) (present n (omega arith)) done
+
   pub give_up_preserves : (s : ℕ) → WorldInvariant n f (record w { rounds = record w.rounds { rounds = with_value_at w.rounds.rounds s None } })
-  give_up_preserves s = rounds_preserve ended w.gathered (give_up s) absent_still (λ q. refl) (λ q. refl) (λ d. det_step_preserves (det_state_of n w d) _ (det.give_up s) k.rounds (k.dets d)) (λ t r d at h. k.gathered_from t r d (old t r at) h)
-      (elim (set_at_cases w.rounds.rounds s None n) [ inl is ↦ is.1 | inr other ↦ other.1 ∙ k.storage.no_round ])
-      (record { last = λ t r q at done low other. k.reads.last t r q (old t r at) done low other; own_gathered = λ t r d at done stored dest. k.reads.own_gathered t r d (old t r at) done stored dest })
-    where
-      ended : RecoveryState
-      ended = record w.rounds { rounds = with_value_at w.rounds.rounds s None }
-
-      old : (t : ℕ) (r : Round) → with_value_at w.rounds.rounds s None t ≡ Some r → w.rounds.rounds t ≡ Some r
-      old t r at = elim (set_at_cases w.rounds.rounds s None t) [ inl is ↦ absurd (none_some r (sym is.1 ∙ at)) | inr other ↦ sym other.1 ∙ at ]
-
-      absent_still : AbsentAreDown (suc n) ended
-      absent_still = record {
-        down = k.absent.down;
-        no_round = λ p above. elim (set_at_cases w.rounds.rounds s None p) [ inl is ↦ is.1 | inr other ↦ other.1 ∙ k.absent.no_round p above ];
-        replied = λ t p r at above. k.absent.replied t p r (old t r at) above;
-      }
+  give_up_preserves s = rounds_preserve w.rounds.floors _ w.gathered (give_up s) (λ d. det_step_preserves (det_state_of n w d) _ (det.give_up s) k.rounds (k.dets d))
+      (λ p high. elim (set_at_cases w.rounds.rounds s None p) [ inl is ↦ is.1 | inr other ↦ other.1 ∙ none_above p high ])
+      (kept_right w.rounds.rounds s None (λ o h. absurd (none_some o h)) right_before)
 
   pub refuse_preserves : (y : ℕ) (floors : ℕ → ℕ) → w.rounds.down y ≡ false → ((z : ℕ) → w.rounds.floors y z ≤ floors z) → ((z : ℕ) → floors z ≤ number w.rounds z)
       → WorldInvariant n f (record w { rounds = record w.rounds { floors = with_value_at w.rounds.floors y floors } })
   refuse_preserves y floors up rise below =
-      rounds_preserve (record w.rounds { floors = with_value_at w.rounds.floors y floors }) w.gathered (refuse y floors up rise below)
-      (record { down = k.absent.down; no_round = k.absent.no_round; replied = k.absent.replied }) (λ q. refl) (λ q. refl) (λ d. det_step_preserves (det_state_of n w d) _ (det.refuse y floors) k.rounds (k.dets d)) k.gathered_from k.storage.no_round
-      (record { last = k.reads.last; own_gathered = k.reads.own_gathered })
+      rounds_preserve (with_value_at w.rounds.floors y floors) w.rounds.rounds w.gathered (refuse y floors up rise below) (λ d. det_step_preserves (det_state_of n w d) _ (det.refuse y floors) k.rounds (k.dets d)) none_above right_before
 
-  -- one more has replied to a round: what was gathered came from where it came
-  more_replied : (r : Round) (y : ℕ) (q : ℕ) → r.replied q ≡ true → with_value_at r.replied y true q ≡ true
+  -- one more has replied
+  more_replied : (r : Round) (y q : ℕ) → r.replied q ≡ true → with_value_at r.replied y true q ≡ true
   more_replied r y q h = elim (set_at_cases r.replied y true q) [ inl is ↦ is.1 | inr other ↦ other.1 ∙ h ]
 
-  replied_absent : (s p y : ℕ) (r : Round) (up : Bool) → w.rounds.rounds s ≡ Some r → suc n ≤ p → (with_reply r y up).replied p ≡ true
-  replied_absent s p y r up at above = more_replied r y p (k.absent.replied s p r at above)
+  from_before : (s y : ℕ) (r : Round) (up : Bool) (d : Det) → GatheredFrom w s r d ⊎ (w.stored d ≡ true) → GatheredFrom w s (with_reply r y up) d ⊎ (w.stored d ≡ true)
+  from_before s y r up d (inr stored) = inr stored
+  from_before s y r up d (inl (i, p, at, to, has_d, replied, above)) = inl (i, p, at, to, has_d, more_replied r y p.parcel.from replied, above)
 
-  from_before : (s y : ℕ) (r o : Round) (up : Bool) (d : Det) → with_reply r y up ≡ o → GatheredFrom w s r d ⊎ (w.stored d ≡ true) → GatheredFrom w s o d ⊎ (w.stored d ≡ true)
-  from_before s y r o up d is (inr stored) = inr stored
-  from_before s y r o up d is (inl (i, p, at, to, has_d, replied, above)) =
-      inl (i, p, at, to, has_d, subst (λ (x : Round). x.replied p.parcel.from ≡ true) is (more_replied r y p.parcel.from replied), subst (λ (x : Round). x.view p.parcel.from ≤ p.lane) is above)
-
-  done_before : (s y : ℕ) (r o : Round) (up : Bool) → y < n → with_reply r y up ≡ o → o.replied n ≡ true → r.replied n ≡ true
-  done_before s y r o up low is done = sym (set_at_away r.replied y true n (not_storage y low)) ∙ ap (λ (x : Round). x.replied n) is ∙ done
-
-  -- one more than storage has replied
-  reads_before : (s y : ℕ) (r o : Round) (up : Bool) (q : ℕ) → y < n → with_reply r y up ≡ o → w.rounds.rounds s ≡ Some r → o.replied n ≡ true → q < n → (q ≡ s → ⊥) → o.replied q ≡ true
-  reads_before s y r o up q low is at done low_q other = subst (λ (x : Round). x.replied q ≡ true) is (more_replied r y q (k.reads.last s r q at (done_before s y r o up low is done) low_q other))
+  replied_right : (s y : ℕ) (r : Round) (up : Bool) → y < n → w.rounds.rounds s ≡ Some r → IsRight n w s (with_reply r y up) (w.gathered s)
+  replied_right s y r up low at = record {
+    absent = λ p above. more_replied r y p (k.absent.replied s p r at above);
+    from = λ d h. from_before s y r up d (k.gathered_from s r d at h);
+    last = λ q done low_q other. more_replied r y q (k.reads.last s r q at (before done) low_q other);
+    own = λ d done. k.reads.own_gathered s r d at (before done);
+  }
+    where
+      before : with_value_at r.replied y true n ≡ true → r.replied n ≡ true
+      before done = sym (set_at_away r.replied y true n (λ e. omega (arith, low, e))) ∙ done
 
   pub not_up_preserves : (q s : ℕ) (r : Round) → q < n → w.rounds.down q ≡ true → (q ≡ s → ⊥) → w.rounds.rounds s ≡ Some r → r.view q ≡ w.rounds.lane q + 1
       → WorldInvariant n f (record w { rounds = record w.rounds { rounds = with_value_at (with_value_at w.rounds.rounds s (Some (with_reply r q false))) q None } })
-  not_up_preserves q s r low down other at fits = rounds_preserve said w.gathered (not_up q s r down other at fits) absent_still (λ q. refl) (λ q. refl) (λ d. det_step_preserves (det_state_of n w d) _ (det.not_up q s r down other at fits) k.rounds (k.dets d)) from
-      (set_at_away (with_value_at w.rounds.rounds s (Some (with_reply r q false))) q None n (not_storage q low) ∙ set_at_away w.rounds.rounds s (Some (with_reply r q false)) n (not_storage s (round_low s r at)) ∙ k.storage.no_round)
-      (record {
-        last = λ t o x there done low_x apart. elim (seen t o there) [ inl is ↦ reads_before s q r o false x low is.1 at done low_x (λ e. apart (e ∙ sym is.0)) | inr old ↦ k.reads.last t o x old done low_x apart ];
-        own_gathered = λ t o d there done stored dest. elim (seen t o there) [ inl is ↦ k.reads.own_gathered t r d (ap w.rounds.rounds is.0 ∙ at) (done_before s q r o false low is.1 done) stored dest | inr old ↦ k.reads.own_gathered t o d old done stored dest ];
-      })
+  not_up_preserves q s r low down other at fits =
+      rounds_preserve w.rounds.floors _ w.gathered (not_up q s r down other at fits) (λ d. det_step_preserves (det_state_of n w d) _ (det.not_up q s r down other at fits) k.rounds (k.dets d))
+      (none_but (with_value_at w.rounds.rounds s said) q None low (none_but w.rounds.rounds s said (round_low s r at) none_above))
+      (kept_right (with_value_at w.rounds.rounds s said) q None (λ o h. absurd (none_some o h))
+        (kept_right w.rounds.rounds s said (λ o h. subst (λ x. IsRight n w s x (w.gathered s)) (some_is (with_reply r q false) o h) (replied_right s q r false low at)) right_before))
     where
-      said : RecoveryState
-      said = record w.rounds { rounds = with_value_at (with_value_at w.rounds.rounds s (Some (with_reply r q false))) q None }
+      said : Option Round
+      said = Some (with_reply r q false)
 
-      seen : (t : ℕ) (o : Round) → said.rounds t ≡ Some o → ((t ≡ s) × (with_reply r q false ≡ o)) ⊎ (w.rounds.rounds t ≡ Some o)
-      seen t o there = elim (set_at_cases (with_value_at w.rounds.rounds s (Some (with_reply r q false))) q None t) [
-        | inl is ↦ absurd (none_some o (sym is.1 ∙ there))
-        | inr away ↦ elim (set_at_cases w.rounds.rounds s (Some (with_reply r q false)) t) [ inl is ↦ inl (is.0, some_is (with_reply r q false) o (sym is.1 ∙ sym away.1 ∙ there)) | inr old ↦ inr (sym old.1 ∙ sym away.1 ∙ there) ]
-      ]
-
-      absent_still : AbsentAreDown (suc n) said
-      absent_still = record {
-        down = k.absent.down;
-        no_round = λ p above.
-            set_at_away (with_value_at w.rounds.rounds s (Some (with_reply r q false))) q None p (away_from q p low above)
-            ∙ set_at_away w.rounds.rounds s (Some (with_reply r q false)) p (away_from s p (round_low s r at) above)
-            ∙ k.absent.no_round p above;
-        replied = λ t p o there above. elim (seen t o there) [ inl is ↦ subst (λ (x : Round). x.replied p ≡ true) is.1 (replied_absent s p q r false at above) | inr old ↦ k.absent.replied t p o old above ];
-      }
-
-      from : (t : ℕ) (o : Round) (d : Det) → said.rounds t ≡ Some o → w.gathered t d ≡ true → GatheredFrom w t o d ⊎ (w.stored d ≡ true)
-      from t o d there h = elim (seen t o there) [
-        | inl is ↦ from_before t q r o false d is.1 (k.gathered_from t r d (ap w.rounds.rounds is.0 ∙ at) h)
-        | inr old ↦ k.gathered_from t o d old h
-      ]
+  -- y, which is up or stable storage, answers s
+  answer_preserves : (y s : ℕ) (r : Round) (floors : ℕ → ℕ) (g : Det → Bool) → w.rounds.down y ≡ false → w.rounds.rounds s ≡ Some r → r.view y ≡ w.rounds.lane y
+      → ((z : ℕ) → w.rounds.floors y z ≤ floors z) → ((z : ℕ) → r.view z ≤ floors z) → ((z : ℕ) → floors z ≤ number w.rounds z)
+      → ((d : Det) → (w.gathered s d || (det_state_of n w d).logs y) ≡ g d) → IsRight n w s (with_reply r y true) g
+      → WorldInvariant n f (record w {
+        rounds = record w.rounds { floors = with_value_at w.rounds.floors y floors; rounds = with_value_at w.rounds.rounds s (Some (with_reply r y true)) };
+        gathered = with_value_at w.gathered s g;
+      })
+  answer_preserves y s r floors g up at fits rise above below logs_is right =
+      rounds_preserve (with_value_at w.rounds.floors y floors) _ _ (answer y s r floors up at fits rise above below)
+      (λ d. new_gathered d _ s g _ (logs_is d) (det_step_preserves (det_state_of n w d) _ (det.answer y s r floors up at fits) k.rounds (k.dets d)))
+      (none_but w.rounds.rounds s (Some (with_reply r y true)) (round_low s r at) none_above) (new_right s (with_reply r y true) g right)
 
   -- y has sent its whole log to s, as the packet i
   pub answered_preserves : (y s i : ℕ) (r : Round) (floors : ℕ → ℕ) (new : Packet) → y < n → w.rounds.down y ≡ false → w.rounds.rounds s ≡ Some r → r.view y ≡ w.rounds.lane y
@@ -205,59 +184,23 @@ module _ (n f : ℕ) (w : World) (k : WorldInvariant n f w) where
         gathered = with_value_at w.gathered s (λ d. w.gathered s d || logs w.past y d);
       })
   answered_preserves y s i r floors new low up at fits rise above below there to sender lane whole =
-      rounds_preserve told (with_value_at w.gathered s (λ d. w.gathered s d || logs w.past y d)) (answer y s r floors up at fits rise above below) absent_still (λ q. refl) (λ q. refl) dets from
-      (set_at_away w.rounds.rounds s (Some (with_reply r y true)) n (not_storage s (round_low s r at)) ∙ k.storage.no_round)
-      (record {
-        last = λ t o x is_there done low_x apart. elim (seen t o is_there) [ inl is ↦ reads_before s y r o true x low is.1 at done low_x (λ e. apart (e ∙ sym is.0)) | inr old ↦ k.reads.last t o x old.1 done low_x apart ];
-        own_gathered = λ t o d is_there done stored dest. elim (seen t o is_there) [
-          | inl is ↦
-              ap (λ x. with_value_at w.gathered s (λ d. w.gathered s d || logs w.past y d) x d) is.0
-              ∙ ap (λ (g : Det → Bool). g d) (set_at_here w.gathered s (λ d. w.gathered s d || logs w.past y d))
-              ∙ or_left _ _ (k.reads.own_gathered s r d at (done_before s y r o true low is.1 done) stored (dest ∙ is.0))
-          | inr old ↦ ap (λ (g : Det → Bool). g d) (set_at_away w.gathered s (λ d. w.gathered s d || logs w.past y d) t old.0) ∙ k.reads.own_gathered t o d old.1 done stored dest
+      answer_preserves y s r floors (λ d. w.gathered s d || logs w.past y d) up at fits rise above below logs_low (record {
+        absent = said.absent;
+        from = λ d h. elim (or_cases (w.gathered s d) (logs w.past y d) h) [
+          | inl got ↦ said.from d got
+          | inr logs_d ↦
+              let v : r.view new.parcel.from ≡ w.rounds.lane y = ap r.view sender ∙ fits in
+              inl (i, new, there, to, whole d ∙ logs_d, ap (with_value_at r.replied y true) sender ∙ set_at_here r.replied y true, omega (arith, v, lane))
         ];
+        last = said.last;
+        own = λ d done stored dest. or_left _ _ (said.own d done stored dest);
       })
     where
-      told : RecoveryState
-      told = record w.rounds { floors = with_value_at w.rounds.floors y floors; rounds = with_value_at w.rounds.rounds s (Some (with_reply r y true)) }
+      said : IsRight n w s (with_reply r y true) (w.gathered s)
+      said = replied_right s y r true low at
 
-      seen : (t : ℕ) (o : Round) → told.rounds t ≡ Some o → ((t ≡ s) × (with_reply r y true ≡ o)) ⊎ ((t ≡ s → ⊥) × (w.rounds.rounds t ≡ Some o))
-      seen t o is_there = elim (set_at_cases w.rounds.rounds s (Some (with_reply r y true)) t) [ inl is ↦ inl (is.0, some_is (with_reply r y true) o (sym is.1 ∙ is_there)) | inr old ↦ inr (old.0, sym old.1 ∙ is_there) ]
-
-      absent_still : AbsentAreDown (suc n) told
-      absent_still = record {
-        down = k.absent.down;
-        no_round = λ p high. set_at_away w.rounds.rounds s (Some (with_reply r y true)) p (away_from s p (round_low s r at) high) ∙ k.absent.no_round p high;
-        replied = λ t p o is_there high. elim (seen t o is_there) [ inl is ↦ subst (λ (x : Round). x.replied p ≡ true) is.1 (replied_absent s p y r true at high) | inr old ↦ k.absent.replied t p o old.1 high ];
-      }
-
-      logs_low : (d : Det) → ((nat_lt y n && logs w.past y d) || (y == n && w.stored d)) ≡ logs w.past y d
+      logs_low : (d : Det) → (w.gathered s d || (det_state_of n w d).logs y) ≡ (w.gathered s d || logs w.past y d)
       logs_low d = let small : nat_lt y n ≡ true = lt-ltb y n low in let apart : (y == n) ≡ false = apart_is y n low in grind (arith, small, apart)
-
-      dets : (d : Det) → DetInvariant (with_state (det_state_of n w d) told (λ q. with_value_at w.gathered s (λ d. w.gathered s d || logs w.past y d) q d))
-      dets d = subst (λ (g : ℕ → Bool). DetInvariant (with_state (det_state_of n w d) told g))
-          (λ j q. sym (map_set_at (λ (g : Det → Bool). g d) w.gathered s (λ d. w.gathered s d || logs w.past y d) q) j)
-          (subst (λ b. DetInvariant (with_state (det_state_of n w d) told (with_value_at (λ q. w.gathered q d) s (w.gathered s d || b)))) (logs_low d) (det_step_preserves (det_state_of n w d) _ (det.answer y s r floors up at fits) k.rounds (k.dets d)))
-
-      from : (t : ℕ) (o : Round) (d : Det) → told.rounds t ≡ Some o → with_value_at w.gathered s (λ d. w.gathered s d || logs w.past y d) t d ≡ true → GatheredFrom w t o d ⊎ (w.stored d ≡ true)
-      from t o d is_there h = elim (seen t o is_there) [
-        | inr old ↦ k.gathered_from t o d old.1 (sym (ap (λ (g : Det → Bool). g d) (set_at_away w.gathered s (λ d. w.gathered s d || logs w.past y d) t old.0)) ∙ h)
-        | inl is ↦
-            let h2 : (w.gathered s d || logs w.past y d) ≡ true = sym (ap (λ (g : Det → Bool). g d) (set_at_here w.gathered s (λ d. w.gathered s d || logs w.past y d))) ∙ ap (λ x. with_value_at w.gathered s (λ d. w.gathered s d || logs w.past y d) x d) (sym is.0) ∙ h in
-            subst (λ x. GatheredFrom w x o d ⊎ (w.stored d ≡ true)) (sym is.0) (elim (or_cases (w.gathered s d) (logs w.past y d) h2) [
-              | inl got ↦ from_before s y r o true d is.1 (k.gathered_from s r d at got)
-              | inr logs_d ↦
-                  inl (
-                    i,
-                    new,
-                    there,
-                    to,
-                    whole d ∙ logs_d,
-                    subst (λ (x : Round). x.replied new.parcel.from ≡ true) is.1 (ap (with_value_at r.replied y true) sender ∙ set_at_here r.replied y true),
-                    subst (λ (x : Round). x.view new.parcel.from ≤ new.lane) is.1 (let v : r.view new.parcel.from ≡ w.rounds.lane y = ap r.view sender ∙ fits in omega (arith, v, lane)),
-                  )
-            ])
-      ]
 
   -- stable storage answers the round of s, to which all others have replied
   pub read_preserves : (s : ℕ) (r : Round) (floors : ℕ → ℕ) → w.rounds.rounds s ≡ Some r → ((q : ℕ) → q < n → (q ≡ s → ⊥) → r.replied q ≡ true)
@@ -267,22 +210,13 @@ module _ (n f : ℕ) (w : World) (k : WorldInvariant n f w) where
         gathered = with_value_at w.gathered s (λ d. w.gathered s d || w.stored d);
       })
   read_preserves s r floors at all rise above below =
-      rounds_preserve told (with_value_at w.gathered s (λ d. w.gathered s d || w.stored d)) (answer n s r floors k.storage.up at fits rise above below) absent_still (λ q. refl) (λ q. refl) dets from
-      (set_at_away w.rounds.rounds s (Some (with_reply r n true)) n (not_storage s (round_low s r at)) ∙ k.storage.no_round)
-      (record {
-        last = λ t o x is_there done low_x apart. elim (seen t o is_there) [ inl is ↦ subst (λ (y : Round). y.replied x ≡ true) is.1 (more_replied r n x (all x low_x (λ e. apart (e ∙ sym is.0)))) | inr old ↦ k.reads.last t o x old.1 done low_x apart ];
-        own_gathered = λ t o d is_there done stored dest. elim (seen t o is_there) [
-          | inl is ↦
-              ap (λ x. with_value_at w.gathered s (λ d. w.gathered s d || w.stored d) x d) is.0
-              ∙ ap (λ (g : Det → Bool). g d) (set_at_here w.gathered s (λ d. w.gathered s d || w.stored d))
-              ∙ or_right (w.gathered s d) _ stored
-          | inr old ↦ ap (λ (g : Det → Bool). g d) (set_at_away w.gathered s (λ d. w.gathered s d || w.stored d) t old.0) ∙ k.reads.own_gathered t o d old.1 done stored dest
-        ];
+      answer_preserves n s r floors (λ d. w.gathered s d || w.stored d) k.storage.up at fits rise above below logs_stored (record {
+        absent = λ p high. more_replied r n p (k.absent.replied s p r at high);
+        from = λ d h. elim (or_cases (w.gathered s d) (w.stored d) h) [ inl got ↦ from_before s n r true d (k.gathered_from s r d at got) | inr stored ↦ inr stored ];
+        last = λ q done low other. more_replied r n q (all q low other);
+        own = λ d done stored dest. or_right _ _ stored;
       })
     where
-      told : RecoveryState
-      told = record w.rounds { floors = with_value_at w.rounds.floors n floors; rounds = with_value_at w.rounds.rounds s (Some (with_reply r n true)) }
-
       fits : r.view n ≡ w.rounds.lane n
       fits =
           let below_number = k.rounds.views_told s n r at in
@@ -290,31 +224,5 @@ module _ (n f : ℕ) (w : World) (k : WorldInvariant n f w) where
           let first = k.storage.first_lane in
           omega (arith, below_number, count, first)
 
-      seen : (t : ℕ) (o : Round) → told.rounds t ≡ Some o → ((t ≡ s) × (with_reply r n true ≡ o)) ⊎ ((t ≡ s → ⊥) × (w.rounds.rounds t ≡ Some o))
-      seen t o is_there = elim (set_at_cases w.rounds.rounds s (Some (with_reply r n true)) t) [ inl is ↦ inl (is.0, some_is (with_reply r n true) o (sym is.1 ∙ is_there)) | inr old ↦ inr (old.0, sym old.1 ∙ is_there) ]
-
-      absent_still : AbsentAreDown (suc n) told
-      absent_still = record {
-        down = k.absent.down;
-        no_round = λ p high. set_at_away w.rounds.rounds s (Some (with_reply r n true)) p (away_from s p (round_low s r at) high) ∙ k.absent.no_round p high;
-        replied = λ t p o is_there high. elim (seen t o is_there) [ inl is ↦ subst (λ (x : Round). x.replied p ≡ true) is.1 (replied_absent s p n r true at high) | inr old ↦ k.absent.replied t p o old.1 high ];
-      }
-
-      logs_stored : (d : Det) → ((nat_lt n n && logs w.past n d) || (n == n && w.stored d)) ≡ w.stored d
+      logs_stored : (d : Det) → (w.gathered s d || (det_state_of n w d).logs n) ≡ (w.gathered s d || w.stored d)
       logs_stored d = let high : nat_lt n n ≡ false = grind arith in let same : (n == n) ≡ true = eq-eqb n n refl in grind (arith, high, same)
-
-      dets : (d : Det) → DetInvariant (with_state (det_state_of n w d) told (λ q. with_value_at w.gathered s (λ d. w.gathered s d || w.stored d) q d))
-      dets d = subst (λ (g : ℕ → Bool). DetInvariant (with_state (det_state_of n w d) told g))
-          (λ j q. sym (map_set_at (λ (g : Det → Bool). g d) w.gathered s (λ d. w.gathered s d || w.stored d) q) j)
-          (subst (λ b. DetInvariant (with_state (det_state_of n w d) told (with_value_at (λ q. w.gathered q d) s (w.gathered s d || b)))) (logs_stored d) (det_step_preserves (det_state_of n w d) _ (det.answer n s r floors k.storage.up at fits) k.rounds (k.dets d)))
-
-      from : (t : ℕ) (o : Round) (d : Det) → told.rounds t ≡ Some o → with_value_at w.gathered s (λ d. w.gathered s d || w.stored d) t d ≡ true → GatheredFrom w t o d ⊎ (w.stored d ≡ true)
-      from t o d is_there h = elim (seen t o is_there) [
-        | inr old ↦ k.gathered_from t o d old.1 (sym (ap (λ (g : Det → Bool). g d) (set_at_away w.gathered s (λ d. w.gathered s d || w.stored d) t old.0)) ∙ h)
-        | inl is ↦
-            let h2 : (w.gathered s d || w.stored d) ≡ true = sym (ap (λ (g : Det → Bool). g d) (set_at_here w.gathered s (λ d. w.gathered s d || w.stored d))) ∙ ap (λ x. with_value_at w.gathered s (λ d. w.gathered s d || w.stored d) x d) (sym is.0) ∙ h in
-            subst (λ x. GatheredFrom w x o d ⊎ (w.stored d ≡ true)) (sym is.0) (elim (or_cases (w.gathered s d) (w.stored d) h2) [
-              | inl got ↦ from_before s n r o true d is.1 (k.gathered_from s r d at got)
-              | inr stored ↦ inr stored
-            ])
-      ]
