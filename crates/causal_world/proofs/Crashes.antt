@@ -6,7 +6,7 @@ use Rattle.causal_name.specs.declared.Pid.{Pid}
 use Rattle.causal_name.specs.declared.Det.{Det}
 use Rattle.causal_name.specs.Sets.{count_below}
 use Rattle.causal_trace.specs.declared.entry.Entry.TheVariants.{Crash}
-use Rattle.causal_trace.specs.Past.{is_down, logs, is_stable}
+use Rattle.causal_trace.specs.Past.{is_down, logs, is_stable, deliveries}
 use Rattle.causal_steps.specs.Recovery.{must_recover}
 use Rattle.causal_steps.specs.Steps.{crashes, silent, learns}
 use Rattle.causal_steps.specs.Reachable.{next_state}
@@ -51,11 +51,9 @@ module _ (n f : ℕ) (w : World) (k : WorldInvariant n f w) where
     falls = crash who.0 was_up
 
     absent_still : AbsentAreDown (suc n) fallen
-    absent_still = record {
-      down = λ p above. elim (set_at_cases w.rounds.down who.0 true p) [ inl is ↦ is.1 | inr other ↦ other.1 ∙ k.absent.down p above ];
-      no_round = k.absent.no_round;
-      replied = k.absent.replied;
-    }
+    absent_still =
+        let down : (p : ℕ) → suc n ≤ p → fallen.down p ≡ true = λ p above. elim (set_at_cases w.rounds.down who.0 true p) [ inl is ↦ is.1 | inr other ↦ other.1 ∙ k.absent.down p above ] in
+        assumption down
 
     logs_after : (d : Det) (p : ℕ) → with_value_at (λ q. (nat_lt q n && logs w.past q d) || (q == n && w.stored d)) who.0 false p ≡ ((nat_lt p n && (not (who.0 == p) && logs w.past p d)) || (p == n && w.stored d))
     logs_after d p = elim (set_at_cases (λ q. (nat_lt q n && logs w.past q d) || (q == n && w.stored d)) who.0 false p) [
@@ -95,31 +93,26 @@ module _ (n f : ℕ) (w : World) (k : WorldInvariant n f w) where
         (λ j. record { state = fallen; logs = λ p. logs_after d p j; must_recover = λ p. recover_after d p j; stable = (det_state_of n w d).stable; carriers = (det_state_of n w d).carriers; gathered = (det_state_of n w d).gathered })
         (det_step_preserves (det_state_of n w d) _ (det.crash who.0 was_up) k.rounds (k.dets d))
 
+    own_logged : (p : ℕ) (d : Det) → p < n → with_value_at w.rounds.down who.0 true p ≡ false → d.dest.0 ≡ p → deliveries w.past p ≤ d.rsn → w.stored d ≡ true → logs after.past p d ≡ true
+    own_logged p d small still dest next stored = elim (set_at_cases w.rounds.down who.0 true p) [
+      | inl is ↦ absurd (both_ways (with_value_at w.rounds.down who.0 true p) still is.1)
+      | inr other ↦ and_from _ _ (not_from_false (who.0 == p) (ne_eqb who.0 p (λ e. other.0 (sym e)))) (k.own_logged p d small (sym other.1 ∙ still) dest next stored)
+    ]
+
+    down_after : (p : ℕ) → p < n → with_value_at w.rounds.down who.0 true p ≡ is_down after.past p
+    down_after p small = elim (set_at_cases w.rounds.down who.0 true p) [
+      | inl is ↦ let same : (who.0 == p) ≡ true = eq-eqb who.0 p (sym is.0) in is.1 ∙ grind (arith, same)
+      | inr other ↦ let differ : (who.0 == p) ≡ false = ne_eqb who.0 p (λ e. other.0 (sym e)) in other.1 ∙ k.down p small ∙ grind (arith, differ)
+    ]
+
+    knew : (p : ℕ) (d : Det) → after.knows_stable p d ≡ true → w.knows_stable p d ≡ true
+    knew p d h = (and_parts (not (who.0 == p)) (w.knows_stable p d) h).1
+
     pub crash_preserves : WorldInvariant n f after
-    crash_preserves = record {
-      reached = next_state w.past (Crash who ∷ w.past) (volatile_of n w) (volatile_of n after) k.reached (crashes who (record {
-        few = few;
-        holders = λ p d q. refl;
-        new_stable = λ p d h. (and_parts (not (who.0 == p)) (w.knows_stable p d) h).1;
-        nothing_new = rounds_bring_nothing n w after falls k.rounds absent_still (λ i. refl) (λ i. refl) k.lanes;
-      }));
-      rounds = round_step_preserves w.rounds fallen falls k.rounds;
-      dets = dets;
-      absent = absent_still;
-      down = λ p small. elim (set_at_cases w.rounds.down who.0 true p) [
-        | inl is ↦ let same : (who.0 == p) ≡ true = eq-eqb who.0 p (sym is.0) in is.1 ∙ grind (arith, same)
-        | inr other ↦ let differ : (who.0 == p) ≡ false = ne_eqb who.0 p (λ e. other.0 (sym e)) in other.1 ∙ k.down p small ∙ grind (arith, differ)
-      ];
-      lanes = k.lanes;
-      gathered_from = k.gathered_from;
-      storage = record { up = set_at_away w.rounds.down who.0 true n (λ e. omega (arith, low, e)) ∙ k.storage.up; no_round = k.storage.no_round; first_lane = k.storage.first_lane };
-      stores = record { stored_from = k.stores.stored_from; landed_stored = k.stores.landed_stored; stable_stored = k.stores.stable_stored };
-      reads = record { last = k.reads.last; own_gathered = k.reads.own_gathered };
-      own_logged = λ p d small still dest next stored. elim (set_at_cases w.rounds.down who.0 true p) [
-        | inl is ↦ absurd (both_ways (with_value_at w.rounds.down who.0 true p) still is.1)
-        | inr other ↦ and_from _ _ (not_from_false (who.0 == p) (ne_eqb who.0 p (λ e. other.0 (sym e)))) (k.own_logged p d small (sym other.1 ∙ still) dest next stored)
-      ];
-    }
+    crash_preserves = assumption (
+      next_state _ _ _ _ k.reached (crashes {w = volatile_of n after} who (assumption (knew, rounds_bring_nothing n w after falls k.rounds absent_still (λ i. refl) (λ i. refl) k.lanes))),
+      round_step_preserves w.rounds fallen falls k.rounds, dets, absent_still, own_logged, down_after, set_at_away w.rounds.down who.0 true n (λ e. omega (arith, low, e)) ∙ k.storage.up,
+    )
 
   pub learn_preserves : (p i : ℕ) (t : Packet) (known : ℕ → Det → ℕ → Bool) → w.rounds.down p ≡ false → w.packets i ≡ Some t → t.to ≡ p → w.rounds.floors p t.parcel.from ≤ t.lane
       → ((x : ℕ) (d : Det) (q : ℕ) → known x d q ≡ true → (w.knows_holder x d q ≡ true) ⊎ ((x ≡ p) × (logs w.past p d ≡ true) × (t.parcel.names_holder d q ≡ true)))

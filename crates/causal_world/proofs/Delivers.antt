@@ -134,8 +134,8 @@ module _ (n f : ℕ) (w : World) (k : WorldInvariant n f w) (to : Pid) (send rsn
       → ((d : Det) → list_has listed d ≡ true → known to.0 d to.0 ≡ true)
       → ((x : ℕ) (d : Det) (q : ℕ) → w.knows_holder x d q ≡ true → known x d q ≡ true)
       → WorldInvariant n f after
-  deliver_preserves new itself keeps = record {
-    reached = next_state w.past (Deliver to send rsn listed ∷ w.past) (volatile_of n w) (volatile_of n after) k.reached (delivers to send rsn listed (record {
+  deliver_preserves new itself keeps = assumption (
+    next_state _ _ _ (volatile_of n after) k.reached (delivers to send rsn listed (record {
       process = low;
       up = not_down;
       message = message;
@@ -150,25 +150,16 @@ module _ (n f : ℕ) (w : World) (k : WorldInvariant n f w) (to : Pid) (send rsn
       keeps_holders = keeps;
       new_stable = λ x d h. h;
       nothing_new = same_brings_nothing n w after refl (λ j. refl) (λ j. refl);
-    }));
-    rounds = k.rounds;
-    dets = dets;
-    absent = k.absent;
-    down = k.down;
-    lanes = k.lanes;
-    gathered_from = k.gathered_from;
-    storage = k.storage;
-    stores = record { stored_from = k.stores.stored_from; landed_stored = k.stores.landed_stored; stable_stored = k.stores.stable_stored };
-    reads = k.reads;
-    own_logged = λ x d small up_x dest next stored. or_right _ _ (k.own_logged x d small up_x dest (earlier x d next) stored);
-  }
+    })),
+    dets, own_logged,
+  )
     where
       logged : (d : Det) → HasOrRecovers w.past d to.0 → d.dest ≡ to → d.rsn ≡ rsn → logs w.past to.0 d ≡ true
       logged d (inl stable) dest place = k.own_logged to.0 d low up (ap (λ (x : Pid). x.0) dest) (omega (arith, place, count)) (k.stores.stable_stored d stable)
       logged d (inr holds) dest place = elim (or_cases (logs w.past to.0 d) (must_recover w.past to.0 d) holds) [ inl has_d ↦ has_d | inr lost ↦ absurd (both_ways (must_recover w.past to.0 d) (up_recovers_nothing n f w k to.0 d low up) lost) ]
 
-      earlier : (x : ℕ) (d : Det) → deliveries (Deliver to send rsn listed ∷ w.past) x ≤ d.rsn → deliveries w.past x ≤ d.rsn
-      earlier x d next = by (to.0 == x) next
+      own_logged : (x : ℕ) (d : Det) → x < n → w.rounds.down x ≡ false → d.dest.0 ≡ x → deliveries after.past x ≤ d.rsn → w.stored d ≡ true → logs after.past x d ≡ true
+      own_logged x d small up_x dest next stored = or_right _ _ (k.own_logged x d small up_x dest (by (to.0 == x) next) stored)
         where
           by : (b : Bool) → cond b (deliveries w.past x + 1) (deliveries w.past x) ≤ d.rsn → deliveries w.past x ≤ d.rsn
           by true h = omega (arith, h)

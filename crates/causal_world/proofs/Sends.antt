@@ -84,39 +84,19 @@ module _ (n f : ℕ) (w : World) (p i : ℕ) (new : Packet) (s : IsSentBy n w p 
 
   -- something that is no message
   pub acknowledge_preserves : new.parcel.send ≡ None → WorldInvariant n f (record w { packets = with_value_at w.packets i (Some new) })
-  acknowledge_preserves none = record {
-    reached = next_state w.past w.past (volatile_of n w) (volatile_of n (sent w.past)) k.reached (silent (emits p new.parcel s.of_log none (record { holders = λ x d q. refl; stable = λ x d h. h }) (one_is_new n w (sent w.past) i new refl (λ j. refl) (λ j. refl))));
-    rounds = k.rounds;
-    dets = dets_sent;
-    absent = k.absent;
-    down = k.down;
-    lanes = lanes_sent;
-    gathered_from = from_still;
-    storage = k.storage;
-    stores = stores_sent _ (λ d. refl);
-    reads = k.reads;
-    own_logged = k.own_logged;
-  }
+  acknowledge_preserves none = assumption (
+    next_state _ _ _ _ k.reached (silent {w = volatile_of n (sent w.past)} (emits p new.parcel s.of_log none (assumption) (one_is_new n w (sent w.past) i new refl (λ j. refl) (λ j. refl)))),
+    dets_sent, lanes_sent, from_still, stores_sent w.past (λ d. refl),
+  )
 
   -- a message
   pub send_preserves : (from to : Pid) (ssn : ℕ) → from.0 ≡ p → new.parcel.send ≡ Some (length w.past) → ((d : Det) → logs w.past p d ≡ true → (new.parcel.carries d ≡ true) ⊎ ((w.knows_stable p d ≡ true) ⊎ (f < count_below n (w.knows_holder p d))))
       → WorldInvariant n f (record w { past = Send from to ssn ∷ w.past; packets = with_value_at w.packets i (Some new) })
-  send_preserves from to ssn is position left_out = record {
-    reached = next_state w.past (Send from to ssn ∷ w.past) (volatile_of n w) (volatile_of n (sent (Send from to ssn ∷ w.past))) k.reached (sends from to ssn new.parcel (subst (λ x. IsSendStep n f w.past x (volatile_of n w) (volatile_of n (sent (Send from to ssn ∷ w.past))) new.parcel) (sym is) (record {
-      of_log = s.of_log;
-      position = position;
-      left_out = left_out;
-      same_knowledge = record { holders = λ x d q. refl; stable = λ x d h. h };
-      one_new = one_is_new n w (sent (Send from to ssn ∷ w.past)) i new refl (λ j. refl) (λ j. refl);
-    })));
-    rounds = k.rounds;
-    dets = dets_sent;
-    absent = k.absent;
-    down = k.down;
-    lanes = lanes_sent;
-    gathered_from = from_still;
-    storage = k.storage;
-    stores = stores_sent _ (λ d. refl);
-    reads = k.reads;
-    own_logged = k.own_logged;
-  }
+  send_preserves from to ssn is position left_out = assumption (
+    next_state _ _ _ _ k.reached
+      (sends from to ssn new.parcel (subst (λ x. IsSendStep n f w.past x (volatile_of n w) (volatile_of n next) new.parcel) (sym is) (assumption (one_is_new n w next i new refl (λ j. refl) (λ j. refl))))),
+    dets_sent, lanes_sent, from_still, stores_sent next.past (λ d. refl),
+  )
+    where
+      next : World
+      next = sent (Send from to ssn ∷ w.past)

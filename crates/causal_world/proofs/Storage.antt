@@ -153,31 +153,19 @@ module _ (n f : ℕ) (w : World) (k : WorldInvariant n f w) where
   -- what is stored is recorded as stable
   pub write_preserves : (det : Det) (marked : ℕ → Det → Bool) → w.stored det ≡ true → ((x : ℕ) (d : Det) → marked x d ≡ true → (w.knows_stable x d ≡ true) ⊎ (same_det d det ≡ true))
       → WorldInvariant n f (record w { past = Stable det ∷ w.past; knows_stable = marked })
-  write_preserves det marked stored new = record {
-    reached = next_state w.past (Stable det ∷ w.past) (volatile_of n w) (volatile_of n written_world) k.reached (writes det (record {
-      survived = (let from = k.stores.stored_from det stored in inr (inr (from.1.parcel, landed_in_transit n w from.0 from.1 from.2 from.3, from.4)));
-      same_holders = λ x d q. refl;
-      new_stable = new;
-      nothing_new = same_brings_nothing n w written_world refl (λ j. refl) (λ j. refl);
-    }));
-    rounds = k.rounds;
-    dets = dets_written;
-    absent = k.absent;
-    down = k.down;
-    lanes = k.lanes;
-    gathered_from = k.gathered_from;
-    storage = k.storage;
-    stores = record {
-      stored_from = k.stores.stored_from;
-      landed_stored = k.stores.landed_stored;
-      stable_stored = λ d h. elim (or_cases (same_det d det) (is_stable w.past d) h) [ inl is ↦ subst (λ x. w.stored x ≡ true) (sym (same_is d det is)) stored | inr old ↦ k.stores.stable_stored d old ];
-    };
-    reads = k.reads;
-    own_logged = k.own_logged;
-  }
+  write_preserves det marked stored new = assumption (
+    next_state _ _ _ _ k.reached (writes {w = volatile_of n written_world} det (assumption (survived, same_brings_nothing n w written_world refl (λ j. refl) (λ j. refl)))),
+    dets_written, stable_stored,
+  )
     where
       written_world : World
       written_world = record w { past = Stable det ∷ w.past; knows_stable = marked }
+
+      survived : Survives n w.past (volatile_of n w) det
+      survived = let from = k.stores.stored_from det stored in inr (inr (from.1.parcel, landed_in_transit n w from.0 from.1 from.2 from.3, from.4))
+
+      stable_stored : (d : Det) → is_stable written_world.past d ≡ true → w.stored d ≡ true
+      stable_stored d h = elim (or_cases (same_det d det) (is_stable w.past d) h) [ inl is ↦ subst (λ x. w.stored x ≡ true) (sym (same_is d det is)) stored | inr old ↦ k.stores.stable_stored d old ]
 
       with_stable : Det → Bool → DetState
       with_stable d b = record { state = w.rounds; logs = (det_state_of n w d).logs; must_recover = (det_state_of n w d).must_recover; stable = b; carriers = (det_state_of n w d).carriers; gathered = (det_state_of n w d).gathered }
@@ -241,22 +229,10 @@ module _ (n f : ℕ) (w : World) (k : WorldInvariant n f w) where
             absurd (omega (arith, before, next_who))
 
     pub forget_preserves : WorldInvariant n f lessened
-    forget_preserves = record {
-      reached = next_state w.past (Forget who listed ∷ w.past) (volatile_of n w) (volatile_of n lessened) k.reached (forgets who listed (record {
-        process = low;
-        known_stable = known;
-        holders = λ p d q. refl;
-        new_stable = λ p d h. (and_parts (not (who.0 == p && list_has listed d)) (w.knows_stable p d) h).1;
-        nothing_new = same_brings_nothing n w lessened refl (λ j. refl) (λ j. refl);
-      }));
-      rounds = k.rounds;
-      dets = dets_left;
-      absent = k.absent;
-      down = k.down;
-      lanes = k.lanes;
-      gathered_from = k.gathered_from;
-      storage = k.storage;
-      stores = record { stored_from = k.stores.stored_from; landed_stored = k.stores.landed_stored; stable_stored = k.stores.stable_stored };
-      reads = k.reads;
-      own_logged = own_left;
-    }
+    forget_preserves = assumption (
+      next_state _ _ _ _ k.reached (forgets {w = volatile_of n lessened} who listed (assumption (knew, same_brings_nothing n w lessened refl (λ j. refl) (λ j. refl)))),
+      dets_left, own_left,
+    )
+      where
+        knew : (p : ℕ) (d : Det) → (not (who.0 == p && list_has listed d) && w.knows_stable p d) ≡ true → w.knows_stable p d ≡ true
+        knew p d h = (and_parts (not (who.0 == p && list_has listed d)) (w.knows_stable p d) h).1
