@@ -18,7 +18,7 @@ use Rattle.causal_nodes.specs.NodeSteps.{IsOfNodeLog, raised, with_floors}
 use Rattle.causal_nodes.specs.Network.{Network}
 use Rattle.causal_nodes.proofs.Represents.{IsTold, ReplyFits, IsToldBy, GatheringFits, RoundFits, UpFits, DownFits, NodeFits, IsOutOf, is_in_round, Represents}
 use Rattle.causal_nodes.proofs.Kept.{IsLater, IsUntouched, told_later, packets_and_one, gathering_later, node_kept, node_out_and_one, out_of_all, out_of_other, round_in, nodes_and_one}
-use Rattle.causal_nodes.proofs.Context.{IsWorldOf, other_is, invariant, up_of, down_of}
+use Rattle.causal_nodes.proofs.Context.{floors_kept, IsWorldOf, other_is, invariant, up_of, down_of}
 use Rattle.causal_nodes.proofs.Replies.{still_true}
 use Rattle.causal_nodes.proofs.Quiet.{gathering_of}
 use Rattle.causal_nodes.proofs.Rounds.{le_self}
@@ -86,40 +86,24 @@ module _ (n f : ℕ) (net : Network) (w : World) (reach : IsReachableWorld n f w
   later_again = record { numbers = λ q. le_self (number w.rounds q); packets = still n f net w reach rep me low a fits new of_log; stable = λ d h. h; stored = λ d h. h; messages = λ send m h. h }
 
   same_again : (q : ℕ) → (q ≡ me.0 → ⊥) → IsUntouched w again q
-  same_again q other = record {
-    is_down = refl;
-    lane = refl;
-    floors = λ z. ap (λ (g : ℕ → ℕ). g z) (set_at_away w.rounds.floors me.0 floor q other);
-    round = refl;
-    gathered = λ d. refl;
-    holders = λ d h. refl;
-    stables = λ d. refl;
-    logged = λ d. refl;
-    received = refl;
-  }
+  same_again q other = assumption (set_at_away w.rounds.floors me.0 floor q other)
 
   mine_again : UpFits n again me.0 node
-  mine_again = record {
-    is_up = fits.is_up;
-    lane = fits.lane;
-    log = record { has = fits.log.has; holder = fits.log.holder; stable = fits.log.stable };
-    floors = λ z low_z. ap (λ (g : ℕ → ℕ). g z) (set_at_here w.rounds.floors me.0 floor) ∙ (λ j. max (fits.floors z low_z j) (bounded_is n view z low_z j));
-    received = fits.received;
-  }
+  mine_again =
+      let floors : (z : ℕ) → z < n → again.rounds.floors me.0 z ≡ node.floors z = λ z low_z. (λ j. set_at_here w.rounds.floors me.0 floor j z) ∙ (λ j. max (fits.floors z low_z j) (bounded_is n view z low_z j)) in
+      assumption (floors, fits)
 
   answers_again : ((q : ℕ) → q < n → (q ≡ me.0 → ⊥) → NodeFits n again (reply ∷ net.sent) q (net.nodes q)) → IsWorldOf n f after_step
   answers_again others = (
     again,
     next_world sent again (next_world w sent reach (world.acknowledge me.0 i new (is_sent n f net w reach rep me low a fits new of_log) no_message))
         (world.refuse me.0 floor fits.is_up (λ z. le-max_left (w.rounds.floors me.0 z) (bounded n view z)) (λ z. max-le ((invariant n f net w reach rep).rounds.floors_told me.0 z) (bounded_told n w view question.1 z))),
-    record {
-      past = rep.past;
-      nodes = nodes_and_one n again (reply ∷ net.sent) net.nodes me.0 (up_node node) mine_again others;
-      packets = packets_and_one n w again later_again net.sent reply rep.packets ((i, set_at_here w.packets i (Some new), from_low), true_marks, named_carried);
-      stored = rep.stored;
-      floors = λ z low_z. ap (λ (g : ℕ → ℕ). g z) (set_at_away w.rounds.floors me.0 floor n (λ e. omega (arith, low, e))) ∙ rep.floors z low_z;
-      free = free_after n f net w reach rep me low a fits new of_log;
-    },
+    assumption (
+      nodes_and_one n again (reply ∷ net.sent) net.nodes me.0 (up_node node) mine_again others,
+      packets_and_one n w again later_again net.sent reply rep.packets ((i, set_at_here w.packets i (Some new), from_low), true_marks, named_carried),
+      floors_kept n f net w reach rep again.rounds.floors (set_at_away w.rounds.floors me.0 floor n (λ e. omega (arith, low, e))),
+      free_after n f net w reach rep me low a fits new of_log,
+    ),
   )
 
   kept_again : (q : ℕ) → q < n → (q ≡ me.0 → ⊥) → NodeFits n again net.sent q (net.nodes q)
@@ -269,17 +253,9 @@ module _ (n f : ℕ) (net : Network) (w : World) (reach : IsReachableWorld n f w
           (ap (with_value_at r.replied me.0 true) of_log.from ∙ set_at_here r.replied me.0 true, ap (with_value_at r.answered me.0 true) of_log.from ∙ set_at_here r.answered me.0 true, lane_is)
 
       same_told : (q : ℕ) → (q ≡ me.0 → ⊥) → (q ≡ s → ⊥) → IsUntouched w told q
-      same_told q not_me not_s = record {
-        is_down = refl;
-        lane = refl;
-        floors = λ z. ap (λ (g : ℕ → ℕ). g z) (set_at_away w.rounds.floors me.0 new_floors q not_me);
-        round = set_at_away w.rounds.rounds s (Some (with_reply r me.0 true)) q not_s;
-        gathered = λ d. ap (λ (g : Det → Bool). g d) (set_at_away w.gathered s (λ e. w.gathered s e || logs w.past me.0 e) q not_s);
-        holders = λ d h. refl;
-        stables = λ d. refl;
-        logged = λ d. refl;
-        received = refl;
-      }
+      same_told q not_me not_s = assumption (
+        set_at_away w.rounds.floors me.0 new_floors q not_me, set_at_away w.rounds.rounds s (Some (with_reply r me.0 true)) q not_s, set_at_away w.gathered s (λ e. w.gathered s e || logs w.past me.0 e) q not_s,
+      )
 
       others_told : (q : ℕ) → q < n → (q ≡ me.0 → ⊥) → NodeFits n told (reply ∷ net.sent) q (net.nodes q)
       others_told q low_q not_me = elim (cases_eq q s) [
@@ -288,27 +264,21 @@ module _ (n f : ℕ) (net : Network) (w : World) (reach : IsReachableWorld n f w
       ]
 
       mine_told : UpFits n told me.0 node
-      mine_told = record {
-        is_up = fits.is_up;
-        lane = fits.lane;
-        log = record { has = fits.log.has; holder = fits.log.holder; stable = fits.log.stable };
-        floors = λ z low_z. ap (λ (g : ℕ → ℕ). g z) (set_at_here w.rounds.floors me.0 new_floors) ∙ (λ j. max (fits.floors z low_z j) (sym (views z low_z) j));
-        received = fits.received;
-      }
+      mine_told =
+          let floors : (z : ℕ) → z < n → told.rounds.floors me.0 z ≡ node.floors z = λ z low_z. (λ j. set_at_here w.rounds.floors me.0 new_floors j z) ∙ (λ j. max (fits.floors z low_z j) (sym (views z low_z) j)) in
+          assumption (floors, fits)
 
       answers_first : IsWorldOf n f after_step
       answers_first = (
         told,
         next_world w told reach (world.answer me.0 s i r new_floors new low fits.is_up found.1 view_is (λ z. le-max_left (w.rounds.floors me.0 z) (r.view z)) (λ z. le-max_right (w.rounds.floors me.0 z) (r.view z))
             (λ z. max-le ((invariant n f net w reach rep).rounds.floors_told me.0 z) ((invariant n f net w reach rep).rounds.views_told s z r found.1)) (is_sent n f net w reach rep me low a fits new of_log) to no_message carries_logs),
-        record {
-          past = rep.past;
-          nodes = nodes_and_one n told (reply ∷ net.sent) net.nodes me.0 (up_node node) mine_told others_told;
-          packets = packets_and_one n w told later_told net.sent reply rep.packets ((i, set_at_here w.packets i (Some new), from_low), true_marks, named_carried);
-          stored = rep.stored;
-          floors = λ z low_z. ap (λ (g : ℕ → ℕ). g z) (set_at_away w.rounds.floors me.0 new_floors n (λ e. omega (arith, low, e))) ∙ rep.floors z low_z;
-          free = free_after n f net w reach rep me low a fits new of_log;
-        },
+        assumption (
+          nodes_and_one n told (reply ∷ net.sent) net.nodes me.0 (up_node node) mine_told others_told,
+          packets_and_one n w told later_told net.sent reply rep.packets ((i, set_at_here w.packets i (Some new), from_low), true_marks, named_carried),
+          floors_kept n f net w reach rep told.rounds.floors (set_at_away w.rounds.floors me.0 new_floors n (λ e. omega (arith, low, e))),
+          free_after n f net w reach rep me low a fits new of_log,
+        ),
       )
 
     answers_in_round : IsWorldOf n f after_step

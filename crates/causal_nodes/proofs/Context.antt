@@ -34,8 +34,8 @@ later_same w = record { numbers = λ q. omega arith; packets = λ i p at. at; st
 pub own_or : (b l x y : Bool) → b ≡ true → x ≡ y → (l || x) ≡ ((b && l) || y)
 own_or b l x y hb hx = grind (arith, hb, hx)
 
-pub away_or : (b l y : Bool) → b ≡ false → ((b && l) || y) ≡ y
-away_or b l y hb = grind (arith, hb)
+pub away_or : {A : Type 0} (b : Bool) (l y : A → Bool) → b ≡ false → (d : A) → ((b && l d) || y d) ≡ y d
+away_or b l y hb d = grind (arith, hb)
 
 pub same_is : (p : ℕ) → (p == p) ≡ true
 same_is p = eq-eqb p p refl
@@ -52,6 +52,9 @@ module _ (n f : ℕ) (net : Network) (w : World) (reach : IsReachableWorld n f w
 
   pub down_of : (p : ℕ) (x : DownNode) → p < n → net.nodes p ≡ down_node x → DownFits n w net.sent p x
   down_of p x low is = subst (λ y. NodeFits n w net.sent p y) is (rep.nodes p low)
+
+  pub floors_kept : (x : ℕ → ℕ → ℕ) → x n ≡ w.rounds.floors n → (z : ℕ) → z < n → x n z ≡ net.floors z
+  floors_kept x same z low = (λ j. same j z) ∙ rep.floors z low
 
   pub up_in_past : (p : ℕ) → p < n → w.rounds.down p ≡ false → is_down w.past p ≡ false
   up_in_past p low up = sym (invariant.down p low) ∙ up

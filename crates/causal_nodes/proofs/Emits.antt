@@ -67,18 +67,15 @@ module _ (n f : ℕ) (net : Network) (w : World) (reach : IsReachableWorld n f w
   emits_silently k k_fits no_round none = (
     with_packet w.past,
     next_world w (with_packet w.past) reach (world.acknowledge me.0 i new is_sent none),
-    record {
-      past = rep.past;
-      nodes = nodes_and_one n (with_packet w.past) (k ∷ net.sent) net.nodes me.0 (up_node a) mine (λ q low_q other. others q low_q);
-      packets = packets_and_one n w (with_packet w.past) silent_later net.sent k rep.packets k_fits;
-      stored = rep.stored;
-      floors = rep.floors;
-      free = free_after;
-    },
+    assumption (
+      nodes_and_one n (with_packet w.past) (k ∷ net.sent) net.nodes me.0 (up_node a) mine (λ q low_q other. others q low_q),
+      packets_and_one n w (with_packet w.past) silent_later net.sent k rep.packets k_fits,
+      free_after,
+    ),
   )
     where
       same : (q : ℕ) → IsUntouched w (with_packet w.past) q
-      same q = record { is_down = refl; lane = refl; floors = λ z. refl; round = refl; gathered = λ d. refl; holders = λ d h. refl; stables = λ d. refl; logged = λ d. refl; received = refl }
+      same q = assumption
 
       mine : UpFits n (with_packet w.past) me.0 a
       mine = node_kept n w (with_packet w.past) silent_later me.0 (same me.0) net.sent (up_node a) fits
@@ -112,7 +109,7 @@ module _ (n f : ℕ) (net : Network) (w : World) (reach : IsReachableWorld n f w
     later = record { numbers = λ q. omega arith; packets = still; stable = λ d h. h; stored = λ d h. h; messages = message_older entry w.past }
 
     same : (q : ℕ) → IsUntouched w after q
-    same q = record { is_down = refl; lane = refl; floors = λ z. refl; round = refl; gathered = λ d. refl; holders = λ d h. refl; stables = λ d. refl; logged = λ d. refl; received = refl }
+    same q = assumption
 
     mine : UpFits n after me.0 (with_one_sent a)
     mine = let old : UpFits n after me.0 a = node_kept n w after later me.0 (same me.0) net.sent (up_node a) fits in record { is_up = old.is_up; lane = old.lane; log = old.log; floors = old.floors; received = old.received }
@@ -121,13 +118,11 @@ module _ (n f : ℕ) (net : Network) (w : World) (reach : IsReachableWorld n f w
     sends = (
       after,
       next_world w after reach (world.send me to a.sent i new is_sent at_length left_out_known),
-      record {
-        past = ap (λ t. entry ∷ t) rep.past;
-        nodes = nodes_and_one n after (message_packet name new ∷ net.sent) net.nodes me.0 (up_node (with_one_sent a)) mine
-            (λ q low_q other. node_and_one n after net.sent (message_packet name new) q (λ round. refl) (net.nodes q) (node_kept n w after later q (same q) net.sent (net.nodes q) (rep.nodes q low_q)));
-        packets = packets_and_one n w after later net.sent (message_packet name new) rep.packets (new_packet (entry ∷ w.past), (length w.past, at_length, message_newest entry w.past));
-        stored = rep.stored;
-        floors = rep.floors;
-        free = free_after;
-      },
+      assumption (
+        ap (λ t. entry ∷ t) rep.past,
+        nodes_and_one n after (message_packet name new ∷ net.sent) net.nodes me.0 (up_node (with_one_sent a)) mine
+            (λ q low_q other. node_and_one n after net.sent (message_packet name new) q (λ round. refl) (net.nodes q) (node_kept n w after later q (same q) net.sent (net.nodes q) (rep.nodes q low_q))),
+        packets_and_one n w after later net.sent (message_packet name new) rep.packets (new_packet (entry ∷ w.past), (length w.past, at_length, message_newest entry w.past)),
+        free_after,
+      ),
     )

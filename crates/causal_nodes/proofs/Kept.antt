@@ -24,11 +24,11 @@ pub record IsLater (w x : World) : Type 0 where
 pub record IsUntouched (w x : World) (q : ℕ) : Type 0 where
   pub is_down : x.rounds.down q ≡ w.rounds.down q
   pub lane : x.rounds.lane q ≡ w.rounds.lane q
-  pub floors : (z : ℕ) → x.rounds.floors q z ≡ w.rounds.floors q z
+  pub floors : x.rounds.floors q ≡ w.rounds.floors q
   pub round : x.rounds.rounds q ≡ w.rounds.rounds q
-  pub gathered : (d : Det) → x.gathered q d ≡ w.gathered q d
-  pub holders : (d : Det) (h : ℕ) → x.knows_holder q d h ≡ w.knows_holder q d h
-  pub stables : (d : Det) → x.knows_stable q d ≡ w.knows_stable q d
+  pub gathered : x.gathered q ≡ w.gathered q
+  pub holders : x.knows_holder q ≡ w.knows_holder q
+  pub stables : x.knows_stable q ≡ w.knows_stable q
   pub logged : (d : Det) → logs x.past q d ≡ logs w.past q d
   pub received : deliveries x.past q ≡ deliveries w.past q
 
@@ -108,21 +108,21 @@ module _ (n : ℕ) (w x : World) (later : IsLater w x) where
 
   module _ (q : ℕ) (same : IsUntouched w x q) where
     pub log_kept : (a : UpNode) → LogFits w q a.log → LogFits x q a.log
-    log_kept a h = record { has = λ d. h.has d ∙ sym (same.logged d); holder = λ d p. h.holder d p ∙ sym (same.holders d p); stable = λ d. h.stable d ∙ sym (same.stables d) }
+    log_kept a h = record { has = λ d. h.has d ∙ sym (same.logged d); holder = λ d p. h.holder d p ∙ (λ j. sym same.holders j d p); stable = λ d. h.stable d ∙ (λ j. sym same.stables j d) }
 
     pub node_kept : (sent : List Sent) (node : Node) → NodeFits n w sent q node → NodeFits n x sent q node
     node_kept sent (up_node a) h = record {
       is_up = same.is_down ∙ h.is_up;
       lane = same.lane ∙ h.lane;
       log = log_kept a h.log;
-      floors = λ z low. same.floors z ∙ h.floors z low;
+      floors = λ z low. (λ j. same.floors j z) ∙ h.floors z low;
       received = h.received ∙ sym same.received;
     }
     node_kept sent (down_node y) h = record { is_down = same.is_down ∙ h.is_down; lane = same.lane ∙ h.lane; told = told_later y.told h.told; round = round_kept y.round h.round }
       where
         round_kept : (o : Option NodeRound) → RoundFits n w sent q o → RoundFits n x sent q o
         round_kept None at = same.round ∙ at
-        round_kept (Some nr) h = (h.0, same.round ∙ h.1, gathering_later q same.gathered sent nr h.0 h.2)
+        round_kept (Some nr) h = (h.0, same.round ∙ h.1, gathering_later q (λ d j. same.gathered j d) sent nr h.0 h.2)
 
 -- one packet more, which is not of the round that s is in
 module _ (n : ℕ) (w : World) (sent : List Sent) (new : Sent) (s : ℕ) where

@@ -35,14 +35,10 @@ module _ (n f : ℕ) (net : Network) (w : World) (reach : IsReachableWorld n f w
   represents : (past next : List Entry) (holders : ℕ → Det → ℕ → Bool) (stables : ℕ → Det → Bool) (node : Node) → past ≡ next → IsLater w (with_knowledge past holders stables)
       → NodeFits n (with_knowledge past holders stables) net.sent me.0 node → ((q : ℕ) → (q ≡ me.0 → ⊥) → IsUntouched w (with_knowledge past holders stables) q)
       → Represents n (after_step node next) (with_knowledge past holders stables)
-  represents past next holders stables node is later mine same = record {
-    past = is;
-    nodes = nodes_and_one n (with_knowledge past holders stables) net.sent net.nodes me.0 node mine (λ q low_q other. node_kept n w (with_knowledge past holders stables) later q (same q other) net.sent (net.nodes q) (rep.nodes q low_q));
-    packets = packets_later n w (with_knowledge past holders stables) later net.sent rep.packets;
-    stored = rep.stored;
-    floors = rep.floors;
-    free = rep.free;
-  }
+  represents past next holders stables node is later mine same = assumption (
+    nodes_and_one n (with_knowledge past holders stables) net.sent net.nodes me.0 node mine (λ q low_q other. node_kept n w (with_knowledge past holders stables) later q (same q other) net.sent (net.nodes q) (rep.nodes q low_q)),
+    packets_later n w (with_knowledge past holders stables) later net.sent rep.packets,
+  )
 
   module _ (name : MsgName) (p : Packet) (send : ℕ) (listed : List Det) (was : WasSent net.sent (message_packet name p)) (mine : p.to ≡ me.0) (floor : a.floors p.parcel.from ≤ p.lane) (at_send : p.parcel.send ≡ Some send)
       (only : (d : Det) → a.log.has d ≡ true → d.dest ≡ me → d.rsn ≡ length a.received → message_of d ≡ name)
@@ -92,17 +88,11 @@ module _ (n f : ℕ) (net : Network) (w : World) (reach : IsReachableWorld n f w
     later = record { numbers = λ q. omega arith; packets = λ i t at. at; stable = λ d h. h; stored = λ d h. h; messages = message_older entry w.past }
 
     same : (q : ℕ) → (q ≡ me.0 → ⊥) → IsUntouched w after q
-    same q other = record {
-      is_down = refl;
-      lane = refl;
-      floors = λ z. refl;
-      round = refl;
-      gathered = λ d. refl;
-      holders = λ d h. ap (λ (g : Det → ℕ → Bool). g d h) (set_at_away w.knows_holder me.0 log.holder q other);
-      stables = λ d. refl;
-      logged = λ d. away_or (me.0 == q) (list_has listed d) (logs w.past q d) (other_is me.0 q other);
-      received = cond-false (me.0 == q) (deliveries w.past q + 1) (deliveries w.past q) (other_is me.0 q other);
-    }
+    same q other = assumption (
+      set_at_away w.knows_holder me.0 log.holder q other,
+      away_or (me.0 == q) (list_has listed) (logs w.past q) (other_is me.0 q other),
+      cond-false (me.0 == q) (deliveries w.past q + 1) (deliveries w.past q) (other_is me.0 q other),
+    )
 
     own : UpFits n after me.0 (up_after_delivery me.0 name listed p.parcel a)
     own = record {
@@ -160,7 +150,7 @@ module _ (n f : ℕ) (net : Network) (w : World) (reach : IsReachableWorld n f w
       represents w.past net.past knows w.knows_stable (up_node (with_node_log a learned)) rep.past
           (record { numbers = λ q. omega arith; packets = λ i t at. at; stable = λ d h. h; stored = λ d h. h; messages = λ send m h. h })
           (record { is_up = fits.is_up; lane = fits.lane; log = record { has = fits.log.has; holder = λ d q. sym (ap (λ (g : Det → ℕ → Bool). g d q) (set_at_here w.knows_holder me.0 learned.holder)); stable = fits.log.stable }; floors = fits.floors; received = fits.received })
-          (λ q other. record { is_down = refl; lane = refl; floors = λ z. refl; round = refl; gathered = λ d. refl; holders = λ d h. ap (λ (g : Det → ℕ → Bool). g d h) (set_at_away w.knows_holder me.0 learned.holder q other); stables = λ d. refl; logged = λ d. refl; received = refl }),
+          (λ q other. assumption (set_at_away w.knows_holder me.0 learned.holder q other)),
     )
 
   module _ (dets : Det → Bool) (det : Det) (was : WasSent net.sent (written_packet dets)) (has_det : dets det ≡ true) where
@@ -192,7 +182,7 @@ module _ (n f : ℕ) (net : Network) (w : World) (reach : IsReachableWorld n f w
       represents (Stable det ∷ w.past) (Stable det ∷ net.past) w.knows_holder marks (up_node (with_node_log a marked)) (ap (λ t. Stable det ∷ t) rep.past)
           (record { numbers = λ q. omega arith; packets = λ i t at. at; stable = λ d h. or_right (same_det d det) (is_stable w.past d) h; stored = λ d h. h; messages = message_older (Stable det) w.past })
           (record { is_up = fits.is_up; lane = fits.lane; log = record { has = fits.log.has; holder = fits.log.holder; stable = λ d. sym (ap (λ (g : Det → Bool). g d) (set_at_here w.knows_stable me.0 marked.stable)) }; floors = fits.floors; received = fits.received })
-          (λ q other. record { is_down = refl; lane = refl; floors = λ z. refl; round = refl; gathered = λ d. refl; holders = λ d h. refl; stables = λ d. ap (λ (g : Det → Bool). g d) (set_at_away w.knows_stable me.0 marked.stable q other); logged = λ d. refl; received = refl }),
+          (λ q other. assumption (set_at_away w.knows_stable me.0 marked.stable q other)),
     )
 
   module _ (listed : List Det) (known_stable : (d : Det) → list_has listed d ≡ true → a.log.stable d ≡ true) (repeated : (d : Det) → list_has listed d ≡ true → d.dest.0 ≡ me.0 → d.rsn < length a.received) where
@@ -228,15 +218,9 @@ module _ (n f : ℕ) (net : Network) (w : World) (reach : IsReachableWorld n f w
             floors = fits.floors;
             received = fits.received;
           })
-          (λ q other. record {
-            is_down = refl;
-            lane = refl;
-            floors = λ z. refl;
-            round = refl;
-            gathered = λ d. refl;
-            holders = λ d h. not_away (me.0 == q) (list_has listed d) (w.knows_holder q d h) (other_is me.0 q other);
-            stables = λ d. not_away (me.0 == q) (list_has listed d) (w.knows_stable q d) (other_is me.0 q other);
-            logged = λ d. not_away (me.0 == q) (list_has listed d) (logs w.past q d) (other_is me.0 q other);
-            received = refl;
-          }),
+          (λ q other.
+            let holders : shorter.knows_holder q ≡ w.knows_holder q = λ j d h. not_away (me.0 == q) (list_has listed d) (w.knows_holder q d h) (other_is me.0 q other) j in
+            let stables : shorter.knows_stable q ≡ w.knows_stable q = λ j d. not_away (me.0 == q) (list_has listed d) (w.knows_stable q d) (other_is me.0 q other) j in
+            let logged : (d : Det) → logs shorter.past q d ≡ logs w.past q d = λ d. not_away (me.0 == q) (list_has listed d) (logs w.past q d) (other_is me.0 q other) in
+            assumption)
     )

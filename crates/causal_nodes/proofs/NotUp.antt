@@ -51,15 +51,11 @@ module _ (n f : ℕ) (net : Network) (w : World) (reach : IsReachableWorld n f w
     unheard = (
       alone,
       next_world w alone reach (world.give_up me),
-      record {
-        past = rep.past;
-        nodes = nodes_and_one n alone (new ∷ net.sent) net.nodes me (down_node (with_round x None)) (record { is_down = before.is_down; lane = before.lane; told = told_later n w alone later_alone x.told before.told; round = set_at_here w.rounds.rounds me None })
-            (λ q low_q other. node_out_and_one n alone net.sent new q (net.nodes q) (not_of_any q) (node_kept n w alone later_alone q (untouched_round n f net w reach rep me low x is None w.gathered q other (λ d. refl)) net.sent (net.nodes q) (rep.nodes q low_q)));
-        packets = packets_and_one n w alone later_alone net.sent new rep.packets low;
-        stored = rep.stored;
-        floors = rep.floors;
-        free = rep.free;
-      },
+      assumption (
+        nodes_and_one n alone (new ∷ net.sent) net.nodes me (down_node (with_round x None)) (record { is_down = before.is_down; lane = before.lane; told = told_later n w alone later_alone x.told before.told; round = set_at_here w.rounds.rounds me None })
+            (λ q low_q other. node_out_and_one n alone net.sent new q (net.nodes q) (not_of_any q) (node_kept n w alone later_alone q (untouched_round n f net w reach rep me low x is None w.gathered q other refl) net.sent (net.nodes q) (rep.nodes q low_q))),
+        packets_and_one n w alone later_alone net.sent new rep.packets low,
+      ),
     )
 
   -- s is in that round
@@ -112,17 +108,7 @@ module _ (n f : ℕ) (net : Network) (w : World) (reach : IsReachableWorld n f w
     })
 
     same : (q : ℕ) → (q ≡ me → ⊥) → (q ≡ s → ⊥) → IsUntouched w heard q
-    same q not_me not_s = record {
-      is_down = refl;
-      lane = refl;
-      floors = λ z. refl;
-      round = set_at_away (with_value_at w.rounds.rounds s (Some (with_reply r me false))) me None q not_me ∙ set_at_away w.rounds.rounds s (Some (with_reply r me false)) q not_s;
-      gathered = λ d. refl;
-      holders = λ d h. refl;
-      stables = λ d. refl;
-      logged = λ d. refl;
-      received = refl;
-    }
+    same q not_me not_s = assumption (set_at_away (with_value_at w.rounds.rounds s (Some (with_reply r me false))) me None q not_me ∙ set_at_away w.rounds.rounds s (Some (with_reply r me false)) q not_s)
 
     others : (q : ℕ) → q < n → (q ≡ me → ⊥) → NodeFits n heard (new ∷ net.sent) q (net.nodes q)
     others q low_q not_me = elim (cases_eq q s) [
@@ -134,16 +120,12 @@ module _ (n f : ℕ) (net : Network) (w : World) (reach : IsReachableWorld n f w
     counted = (
       heard,
       next_world w heard reach (world.not_up me s r low before.is_down (λ e. apart (sym e)) found.1 fits),
-      record {
-        past = rep.past;
-        nodes = nodes_and_one n heard (new ∷ net.sent) net.nodes me (down_node (with_round x None))
+      assumption (
+        nodes_and_one n heard (new ∷ net.sent) net.nodes me (down_node (with_round x None))
             (record { is_down = before.is_down; lane = before.lane; told = told_later n w heard later_heard x.told before.told; round = set_at_here (with_value_at w.rounds.rounds s (Some (with_reply r me false))) me None })
-            others;
-        packets = packets_and_one n w heard later_heard net.sent new rep.packets low;
-        stored = rep.stored;
-        floors = rep.floors;
-        free = rep.free;
-      },
+            others,
+        packets_and_one n w heard later_heard net.sent new rep.packets low,
+      ),
     )
 
   pub says_not_up : IsWorldOf n f after_step

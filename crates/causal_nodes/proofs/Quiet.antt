@@ -54,14 +54,10 @@ module _ (n f : ℕ) (net : Network) (w : World) (reach : IsReachableWorld n f w
   quiet_and_one node new mine out fits = (
     w,
     reach,
-    record {
-      past = rep.past;
-      nodes = nodes_and_one n w (new ∷ net.sent) net.nodes me node mine (λ q low_q other. node_and_one n w net.sent new q (out q other) (net.nodes q) (rep.nodes q low_q));
-      packets = packets_and_one n w w (later_same w) net.sent new rep.packets fits;
-      stored = rep.stored;
-      floors = rep.floors;
-      free = rep.free;
-    },
+    assumption (
+      nodes_and_one n w (new ∷ net.sent) net.nodes me node mine (λ q low_q other. node_and_one n w net.sent new q (out q other) (net.nodes q) (rep.nodes q low_q)),
+      packets_and_one n w w (later_same w) net.sent new rep.packets fits,
+    ),
   )
 
   pub tells : IsWorldOf n f (after_step (net.nodes me) (number_packet me (lane_or_next (net.nodes me)) ∷ net.sent))
@@ -126,7 +122,7 @@ module _ (n f : ℕ) (net : Network) (w : World) (reach : IsReachableWorld n f w
         later = record { numbers = λ q. omega arith; packets = λ i t at. at; stable = λ d h. or_right (same_det d det) (is_stable w.past d) h; stored = λ d h. h; messages = message_older (Stable det) w.past }
 
         same : (q : ℕ) → IsUntouched w recorded q
-        same q = record { is_down = refl; lane = refl; floors = λ z. refl; round = refl; gathered = λ d. refl; holders = λ d h. refl; stables = λ d. refl; logged = λ d. refl; received = refl }
+        same q = assumption
 
         mine : DownFits n recorded net.sent me (with_round x (Some (round_with_stored det nr)))
         mine = record {
@@ -144,12 +140,9 @@ module _ (n f : ℕ) (net : Network) (w : World) (reach : IsReachableWorld n f w
         takes_stored = (
           recorded,
           next_world w recorded reach (world.write_entry det w.knows_stable ((rep.packets (stored_packet me nr.name dets) was) det has_det) (λ y d h. inl h)),
-          record {
-            past = ap (λ t. Stable det ∷ t) rep.past;
-            nodes = nodes_and_one n recorded net.sent net.nodes me (down_node (with_round x (Some (round_with_stored det nr)))) mine (λ q low_q other. node_kept n w recorded later q (same q) net.sent (net.nodes q) (rep.nodes q low_q));
-            packets = packets_later n w recorded later net.sent rep.packets;
-            stored = rep.stored;
-            floors = rep.floors;
-            free = rep.free;
-          },
+          assumption (
+            ap (λ t. Stable det ∷ t) rep.past,
+            nodes_and_one n recorded net.sent net.nodes me (down_node (with_round x (Some (round_with_stored det nr)))) mine (λ q low_q other. node_kept n w recorded later q (same q) net.sent (net.nodes q) (rep.nodes q low_q)),
+            packets_later n w recorded later net.sent rep.packets,
+          ),
         )

@@ -182,7 +182,7 @@ module _ (n f : ℕ) (net : Network) (c : Counts n net) (h : IsWorldOf n f net) 
         ascending,
         all_from listed (is_delivered (delivery ∷ net.past)) (λ d has. logged_delivered n f (next_of (up_node receiver) [] (delivery ∷ [])) next me.0 receiver low (set_at_here net.nodes me.0 (up_node receiver)) d (or_left (list_has listed d) (a.log.has d) has)),
       )
-          (mine.0, has_now) (λ q other. (refl, λ m. away_or (me.0 == q) (is_message (message_at net.past send) m) (has_delivered net.past q m) (other_is me.0 q other))) (messages_older delivery net.past net.sent c.messages)
+          (mine.0, has_now) (λ q other. (refl, away_or (me.0 == q) (is_message (message_at net.past send)) (has_delivered net.past q) (other_is me.0 q other))) (messages_older delivery net.past net.sent c.messages)
 
     quiet_up : (node : UpNode) → node.sent ≡ a.sent → node.received ≡ a.received → NodeCounts net.past me.0 (up_node node)
     quiet_up node sent received = (sent ∙ mine.0, λ m had. ap (λ names. list_any (same_message m) names) received ∙ mine.1 m had)

@@ -21,7 +21,7 @@ use Rattle.causal_nodes.specs.NodeSteps.{with_round, fallen_node, new_node_round
 use Rattle.causal_nodes.specs.Network.{Network}
 use Rattle.causal_nodes.proofs.Represents.{ReplyFits, GatheringFits, UpFits, DownFits, NodeFits, Represents}
 use Rattle.causal_nodes.proofs.Kept.{IsLater, IsUntouched, told_later, packets_and_one, packets_later, node_kept, node_and_one, nodes_and_one}
-use Rattle.causal_nodes.proofs.Context.{IsWorldOf, message_older, same_is, other_is, away_or, invariant, down_of, up_in_past}
+use Rattle.causal_nodes.proofs.Context.{floors_kept, IsWorldOf, message_older, same_is, other_is, away_or, invariant, down_of, up_in_past}
 use Rattle.causal_nodes.proofs.Quiet.{gathering_of}
 
 pub le_self : (a : ℕ) → a ≤ a
@@ -72,26 +72,23 @@ module _ (n f : ℕ) (net : Network) (w : World) (reach : IsReachableWorld n f w
     crashes = (
       fallen,
       next_world w fallen reach (world.crash who low (up_in_past n f net w reach rep who.0 low fits.is_up) few_down),
-      record {
-        past = ap (λ t. Crash who ∷ t) rep.past;
-        nodes = nodes_and_one n fallen net.sent net.nodes who.0 (down_node (fallen_node a.lane))
+      assumption (
+        ap (λ t. Crash who ∷ t) rep.past,
+        nodes_and_one n fallen net.sent net.nodes who.0 (down_node (fallen_node a.lane))
             (record { is_down = set_at_here w.rounds.down who.0 true; lane = fits.lane; told = λ z low_z. omega arith; round = no_round who.0 fits.is_up })
             (λ q low_q other. node_kept n w fallen later_fallen q (record {
               is_down = set_at_away w.rounds.down who.0 true q other;
               lane = refl;
-              floors = λ z. refl;
+              floors = refl;
               round = refl;
-              gathered = λ d. refl;
-              holders = λ d h. not_away (who.0 == q) (w.knows_holder q d h) (other_is who.0 q other);
-              stables = λ d. not_away (who.0 == q) (w.knows_stable q d) (other_is who.0 q other);
+              gathered = refl;
+              holders = λ j d h. not_away (who.0 == q) (w.knows_holder q d h) (other_is who.0 q other) j;
+              stables = λ j d. not_away (who.0 == q) (w.knows_stable q d) (other_is who.0 q other) j;
               logged = λ d. not_away (who.0 == q) (logs w.past q d) (other_is who.0 q other);
               received = refl;
-            }) net.sent (net.nodes q) (rep.nodes q low_q));
-        packets = packets_later n w fallen later_fallen net.sent rep.packets;
-        stored = rep.stored;
-        floors = rep.floors;
-        free = rep.free;
-      },
+            }) net.sent (net.nodes q) (rep.nodes q low_q)),
+        packets_later n w fallen later_fallen net.sent rep.packets,
+      ),
     )
 
   module _ (me : ℕ) (low : me < n) (x : DownNode) (is : net.nodes me ≡ down_node x) where
@@ -108,23 +105,19 @@ module _ (n f : ℕ) (net : Network) (w : World) (reach : IsReachableWorld n f w
     pub later_round : (o : Option Round) (gathered : ℕ → Det → Bool) → IsLater w (with_own_round o gathered)
     later_round o gathered = record { numbers = λ q. le_self (number w.rounds q); packets = λ i t at. at; stable = λ d h. h; stored = λ d h. h; messages = λ send m h. h }
 
-    pub untouched_round : (o : Option Round) (gathered : ℕ → Det → Bool) (q : ℕ) → (q ≡ me → ⊥) → ((d : Det) → gathered q d ≡ w.gathered q d) → IsUntouched w (with_own_round o gathered) q
-    untouched_round o gathered q other same = record { is_down = refl; lane = refl; floors = λ z. refl; round = set_at_away w.rounds.rounds me o q other; gathered = same; holders = λ d h. refl; stables = λ d. refl; logged = λ d. refl; received = refl }
+    pub untouched_round : (o : Option Round) (gathered : ℕ → Det → Bool) (q : ℕ) → (q ≡ me → ⊥) → gathered q ≡ w.gathered q → IsUntouched w (with_own_round o gathered) q
+    untouched_round o gathered q other same = assumption (set_at_away w.rounds.rounds me o q other)
 
     pub gives_up : IsWorldOf n f (record { past = net.past; nodes = with_value_at net.nodes me (down_node (fallen_node x.lane)); sent = net.sent; stored = net.stored; floors = net.floors })
     gives_up = (
       with_own_round None w.gathered,
       next_world w (with_own_round None w.gathered) reach (world.give_up me),
-      record {
-        past = rep.past;
-        nodes = nodes_and_one n (with_own_round None w.gathered) net.sent net.nodes me (down_node (fallen_node x.lane))
+      assumption (
+        nodes_and_one n (with_own_round None w.gathered) net.sent net.nodes me (down_node (fallen_node x.lane))
             (record { is_down = before.is_down; lane = before.lane; told = λ z low_z. omega arith; round = set_at_here w.rounds.rounds me None })
-            (λ q low_q other. node_kept n w (with_own_round None w.gathered) (later_round None w.gathered) q (untouched_round None w.gathered q other (λ d. refl)) net.sent (net.nodes q) (rep.nodes q low_q));
-        packets = packets_later n w (with_own_round None w.gathered) (later_round None w.gathered) net.sent rep.packets;
-        stored = rep.stored;
-        floors = rep.floors;
-        free = rep.free;
-      },
+            (λ q low_q other. node_kept n w (with_own_round None w.gathered) (later_round None w.gathered) q (untouched_round None w.gathered q other refl) net.sent (net.nodes q) (rep.nodes q low_q)),
+        packets_later n w (with_own_round None w.gathered) (later_round None w.gathered) net.sent rep.packets,
+      ),
     )
 
     module _ (name : ℕ) (view : ℕ → ℕ) (own : view me ≡ x.lane + 1) (heard_of : (q : ℕ) → (q ≡ me → ⊥) → view q ≤ x.told q) (fresh : (k : Sent) → WasSent net.sent k → is_of_round k me name ≡ false) where
@@ -190,17 +183,13 @@ module _ (n f : ℕ) (net : Network) (w : World) (reach : IsReachableWorld n f w
       begins = (
         begun,
         next_world w begun reach (world.begin me full_view absent low before.is_down (in_view me low ∙ own ∙ ap (λ m. m + 1) (sym before.lane)) all_told (λ q low_q. ap not (lt-ltb q (suc n) low_q)) gone),
-        record {
-          past = rep.past;
-          nodes = nodes_and_one n begun (question_packet me name view ∷ net.sent) net.nodes me (down_node (with_round x (Some (new_node_round name view))))
+        assumption (
+          nodes_and_one n begun (question_packet me name view ∷ net.sent) net.nodes me (down_node (with_round x (Some (new_node_round name view))))
               (record { is_down = before.is_down; lane = before.lane; told = told_later n w begun (later_round (Some (new_round full_view absent)) empty) x.told before.told; round = (new_round full_view absent, set_at_here w.rounds.rounds me (Some (new_round full_view absent)), gathering) })
               (λ q low_q other. node_and_one n begun net.sent (question_packet me name view) q (λ round. and_left (me == q) (name == round) (other_is me q other)) (net.nodes q)
-              (node_kept n w begun (later_round (Some (new_round full_view absent)) empty) q (untouched_round (Some (new_round full_view absent)) empty q other (λ d. ap (λ (g : Det → Bool). g d) (set_at_away w.gathered me (λ d. false) q other))) net.sent (net.nodes q) (rep.nodes q low_q)));
-          packets = packets_and_one n w begun (later_round (Some (new_round full_view absent)) empty) net.sent (question_packet me name view) rep.packets (low, view_told);
-          stored = rep.stored;
-          floors = rep.floors;
-          free = rep.free;
-        },
+              (node_kept n w begun (later_round (Some (new_round full_view absent)) empty) q (untouched_round (Some (new_round full_view absent)) empty q other (set_at_away w.gathered me (λ d. false) q other)) net.sent (net.nodes q) (rep.nodes q low_q))),
+          packets_and_one n w begun (later_round (Some (new_round full_view absent)) empty) net.sent (question_packet me name view) rep.packets (low, view_told),
+        ),
       )
 
   module _ (me : Pid) (low : me.0 < n) (x : DownNode) (is : net.nodes me.0 ≡ down_node x) (nr : NodeRound) (has_round : x.round ≡ Some nr) (listed : List Det) (all : (q : ℕ) → q < suc n → (q ≡ me.0 → ⊥) → nr.heard q ≡ true) (lists : (d : Det) → list_has listed d ≡ nr.gathered.has d) where
@@ -317,26 +306,21 @@ module _ (n f : ℕ) (net : Network) (w : World) (reach : IsReachableWorld n f w
       received = sym (cond-true (me.0 == me.0) 0 (deliveries w.past me.0) (same_is me.0));
     }
 
+    same : (q : ℕ) → (q ≡ me.0 → ⊥) → IsUntouched w risen q
+    same q other = assumption (
+      set_at_away w.rounds.down me.0 false q other, set_at_away w.rounds.lane me.0 (w.rounds.lane me.0 + 1) q other, set_at_away w.rounds.floors me.0 r.view q other, set_at_away w.rounds.rounds me.0 None q other,
+      set_at_away w.knows_holder me.0 node.log.holder q other, set_at_away w.knows_stable me.0 node.log.stable q other,
+      away_or (me.0 == q) (list_has listed) (logs w.past q) (other_is me.0 q other), cond-false (me.0 == q) 0 (deliveries w.past q) (other_is me.0 q other),
+    )
+
     pub restarts : IsWorldOf n f (record { past = Restart me listed ∷ net.past; nodes = with_value_at net.nodes me.0 (up_node node); sent = net.sent; stored = net.stored; floors = net.floors })
     restarts = (
       risen,
       next_world w risen reach (world.restart me listed r known marked low found.1 all_replied (λ d h. inl (lists d ∙ storage.1 d h)) (λ d h dest. lists d ∙ storage.1 d h) from new_known itself keeps marks),
-      record {
-        past = ap (λ t. Restart me listed ∷ t) rep.past;
-        nodes = nodes_and_one n risen net.sent net.nodes me.0 (up_node node) mine (λ q low_q other. node_kept n w risen later_risen q (record {
-          is_down = set_at_away w.rounds.down me.0 false q other;
-          lane = set_at_away w.rounds.lane me.0 (w.rounds.lane me.0 + 1) q other;
-          floors = λ z. ap (λ (g : ℕ → ℕ). g z) (set_at_away w.rounds.floors me.0 r.view q other);
-          round = set_at_away w.rounds.rounds me.0 None q other;
-          gathered = λ d. refl;
-          holders = λ d h. ap (λ (g : Det → ℕ → Bool). g d h) (set_at_away w.knows_holder me.0 node.log.holder q other);
-          stables = λ d. ap (λ (g : Det → Bool). g d) (set_at_away w.knows_stable me.0 node.log.stable q other);
-          logged = λ d. away_or (me.0 == q) (list_has listed d) (logs w.past q d) (other_is me.0 q other);
-          received = cond-false (me.0 == q) 0 (deliveries w.past q) (other_is me.0 q other);
-        }) net.sent (net.nodes q) (rep.nodes q low_q));
-        packets = packets_later n w risen later_risen net.sent rep.packets;
-        stored = rep.stored;
-        floors = λ z low_z. ap (λ (g : ℕ → ℕ). g z) (set_at_away w.rounds.floors me.0 r.view n n_is_other) ∙ rep.floors z low_z;
-        free = rep.free;
-      },
+      assumption (
+        ap (λ t. Restart me listed ∷ t) rep.past,
+        nodes_and_one n risen net.sent net.nodes me.0 (up_node node) mine (λ q low_q other. node_kept n w risen later_risen q (same q other) net.sent (net.nodes q) (rep.nodes q low_q)),
+        packets_later n w risen later_risen net.sent rep.packets,
+        floors_kept n f net w reach rep risen.rounds.floors (set_at_away w.rounds.floors me.0 r.view n n_is_other),
+      ),
     )

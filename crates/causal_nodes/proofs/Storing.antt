@@ -56,7 +56,7 @@ module _ (n f : ℕ) (net : Network) (w : World) (reach : IsReachableWorld n f w
       record {
         past = rep.past;
         nodes = λ q low_q. node_and_one n after net.sent (written_packet p.parcel.carries) q (λ round. refl) (net.nodes q)
-            (node_kept n w after later q (record { is_down = refl; lane = refl; floors = λ z. refl; round = refl; gathered = λ d. refl; holders = λ d h. refl; stables = λ d. refl; logged = λ d. refl; received = refl }) net.sent (net.nodes q) (rep.nodes q low_q));
+            (node_kept n w after later q (assumption) net.sent (net.nodes q) (rep.nodes q low_q));
         packets = packets_and_one n w after later net.sent (written_packet p.parcel.carries) rep.packets (λ d h. or_right (w.stored d) (p.parcel.carries d) h);
         stored = λ d. ap (λ b. b || p.parcel.carries d) (rep.stored d);
         floors = rep.floors;
@@ -88,30 +88,14 @@ module _ (n f : ℕ) (net : Network) (w : World) (reach : IsReachableWorld n f w
     later_fenced = record { numbers = λ q. le_self (number w.rounds q); packets = λ i t at. at; stable = λ d h. h; stored = λ d h. h; messages = λ send m h. h }
 
     kept : (q : ℕ) → q < n → NodeFits n fenced net.sent q (net.nodes q)
-    kept q low_q = node_kept n w fenced later_fenced q (record {
-      is_down = refl;
-      lane = refl;
-      floors = λ z. ap (λ (g : ℕ → ℕ). g z) (set_at_away w.rounds.floors n fence q (λ e. omega (arith, low_q, e)));
-      round = refl;
-      gathered = λ d. refl;
-      holders = λ d h. refl;
-      stables = λ d. refl;
-      logged = λ d. refl;
-      received = refl;
-    }) net.sent (net.nodes q) (rep.nodes q low_q)
+    kept q low_q = node_kept n w fenced later_fenced q (assumption (set_at_away w.rounds.floors n fence q (λ e. omega (arith, low_q, e)))) net.sent (net.nodes q) (rep.nodes q low_q)
 
     only_fences : ((q : ℕ) → q < n → NodeFits n fenced (new ∷ net.sent) q (net.nodes q)) → IsWorldOf n f after_read
     only_fences nodes = (
       fenced,
       next_world w fenced reach (world.refuse n fence (invariant n f net w reach rep).storage.up (λ z. le-max_left (w.rounds.floors n z) (bounded n view z)) (λ z. max-le ((invariant n f net w reach rep).rounds.floors_told n z) (bounded_told n w view question.1 z))),
-      record {
-        past = rep.past;
-        nodes = nodes;
-        packets = packets_and_one n w fenced later_fenced net.sent new rep.packets (λ d h. rep.stored d ∙ h);
-        stored = rep.stored;
-        floors = λ z low_z. ap (λ (g : ℕ → ℕ). g z) (set_at_here w.rounds.floors n fence) ∙ (λ j. max (rep.floors z low_z j) (bounded_is n view z low_z j));
-        free = rep.free;
-      },
+      let floors : (z : ℕ) → z < n → fenced.rounds.floors n z ≡ raised net.floors view z = λ z low_z. (λ j. set_at_here w.rounds.floors n fence j z) ∙ (λ j. max (rep.floors z low_z j) (bounded_is n view z low_z j)) in
+      assumption (packets_and_one n w fenced later_fenced net.sent new rep.packets (λ d h. rep.stored d ∙ h)),
     )
 
     unread : is_in_round name (net.nodes s) ≡ false → IsWorldOf n f after_read
@@ -194,17 +178,9 @@ module _ (n f : ℕ) (net : Network) (w : World) (reach : IsReachableWorld n f w
             (set_at_here r.replied n true, λ d h. elim (in_either d h) [ inl old ↦ covered d old | inr stored ↦ inr (sym (rep.stored d) ∙ stored) ])
 
         same : (q : ℕ) → q < n → (q ≡ s → ⊥) → IsUntouched w after_reply q
-        same q low_q other = record {
-          is_down = refl;
-          lane = refl;
-          floors = λ z. ap (λ (g : ℕ → ℕ). g z) (set_at_away w.rounds.floors n raised_fence q (λ e. omega (arith, low_q, e)));
-          round = set_at_away w.rounds.rounds s (Some (with_reply r n true)) q other;
-          gathered = λ d. ap (λ (g : Det → Bool). g d) (set_at_away w.gathered s (λ e. w.gathered s e || w.stored e) q other);
-          holders = λ d h. refl;
-          stables = λ d. refl;
-          logged = λ d. refl;
-          received = refl;
-        }
+        same q low_q other = assumption (
+          set_at_away w.rounds.floors n raised_fence q (λ e. omega (arith, low_q, e)), set_at_away w.rounds.rounds s (Some (with_reply r n true)) q other, set_at_away w.gathered s (λ e. w.gathered s e || w.stored e) q other,
+        )
 
         nodes : (q : ℕ) → q < n → NodeFits n after_reply (new ∷ net.sent) q (net.nodes q)
         nodes q low_q = elim (cases_eq q s) [
@@ -217,14 +193,8 @@ module _ (n f : ℕ) (net : Network) (w : World) (reach : IsReachableWorld n f w
           after_reply,
           next_world w after_reply reach (world.read s r raised_fence found.1 (λ q low_q other. found.2.heard q low_q (its_read.1 q low_q other)) (λ z. le-max_left (w.rounds.floors n z) (r.view z)) (λ z. le-max_right (w.rounds.floors n z) (r.view z))
               (λ z. max-le ((invariant n f net w reach rep).rounds.floors_told n z) ((invariant n f net w reach rep).rounds.views_told s z r found.1))),
-          record {
-            past = rep.past;
-            nodes = nodes;
-            packets = packets_and_one n w after_reply later_reply net.sent new rep.packets (λ d h. rep.stored d ∙ h);
-            stored = rep.stored;
-            floors = λ z low_z. ap (λ (g : ℕ → ℕ). g z) (set_at_here w.rounds.floors n raised_fence) ∙ (λ j. max (rep.floors z low_z j) (sym (its_read.0 z low_z) j));
-            free = rep.free;
-          },
+          let floors : (z : ℕ) → z < n → after_reply.rounds.floors n z ≡ raised net.floors view z = λ z low_z. (λ j. set_at_here w.rounds.floors n raised_fence j z) ∙ (λ j. max (rep.floors z low_z j) (sym (its_read.0 z low_z) j)) in
+          assumption (nodes, packets_and_one n w after_reply later_reply net.sent new rep.packets (λ d h. rep.stored d ∙ h)),
         )
 
       read_in_round : IsWorldOf n f after_read
