@@ -2,7 +2,7 @@
 use Rattle.std.proofs.Common.{ℕ, ◌≡◌, ◌<◌, ◌≤◌, inl, inr, Bool, true, false, ◌&&◌, ◌||◌, nat_lt, ◌∷◌, Some, None, refl, sym, ap, subst, ◌∙◌, arith}
 use Rattle.std.specs.Prelude.{◌⊎◌, ◌==◌, max}
 use Rattle.std.proofs.Math.Nat.{le-max_left, le-max_right, max-le}
-use Rattle.std.proofs.lemmas.Bool.{both_ways, or_cases, and_left, and_right, and_parts, and_from, eq-eqb, eqb-true, cases_eq, cond-true}
+use Rattle.std.proofs.lemmas.Bool.{both_ways, or_cases, and_parts, and_from, eq-eqb, eqb-true, cases_eq, cond-true, cases_Bool, true_from_ne_false}
 use Rattle.causal_name.specs.declared.Pid.{Pid}
 use Rattle.causal_name.specs.declared.Det.{Det}
 use Rattle.causal_trace.specs.Past.{logs, is_stable}
@@ -16,11 +16,11 @@ use Rattle.causal_nodes.specs.Node.{NodeRound, UpNode, DownNode, up_node, down_n
 use Rattle.causal_nodes.specs.Packets.{Sent, question_packet, answer_packet, WasSent, is_of_round}
 use Rattle.causal_nodes.specs.NodeSteps.{IsOfNodeLog, raised, with_floors}
 use Rattle.causal_nodes.specs.Network.{Network}
-use Rattle.causal_nodes.proofs.Represents.{IsTold, ReplyFits, IsToldBy, GatheringFits, RoundFits, UpFits, DownFits, NodeFits, IsOutOf, is_in_round, Represents}
-use Rattle.causal_nodes.proofs.Kept.{IsLater, IsUntouched, told_later, packets_and_one, gathering_later, node_kept, node_out_and_one, out_of_all, out_of_other, round_in, nodes_and_one}
-use Rattle.causal_nodes.proofs.Context.{floors_kept, IsWorldOf, other_is, invariant, up_of, down_of}
+use Rattle.causal_nodes.proofs.Represents.{IsTold, IsToldBy, GatheringFits, UpFits, NodeFits, IsOutOf, is_in_round, Represents}
+use Rattle.causal_nodes.proofs.Kept.{IsLater, IsUntouched, packets_and_one, gathering_later, node_kept, node_out_and_one, out_of_rest, out_of_each, gathering_more, round_in, nodes_and_one}
+use Rattle.causal_nodes.proofs.Context.{floors_kept, IsWorldOf, invariant, up_of, down_of}
 use Rattle.causal_nodes.proofs.Replies.{still_true}
-use Rattle.causal_nodes.proofs.Quiet.{gathering_of}
+use Rattle.causal_nodes.proofs.Quiet.{gathering_of, gathers_still}
 use Rattle.causal_nodes.proofs.Rounds.{le_self}
 use Rattle.causal_nodes.proofs.Replied.{gathering_replied}
 use Rattle.causal_nodes.proofs.Storing.{bounded, bounded_is, bounded_told}
@@ -55,7 +55,7 @@ module _ (n f : ℕ) (net : Network) (w : World) (reach : IsReachableWorld n f w
   of_round_is q round h = ap (λ z. (z == q) && (name == round)) to ∙ h
 
   not_of : (q : ℕ) → (q ≡ s → ⊥) → IsOutOf reply q (net.nodes q)
-  not_of q other = out_of_all reply q (λ round. of_round_is q round (and_left (s == q) (name == round) (other_is s q other))) (net.nodes q)
+  not_of = out_of_rest reply s name net.nodes of_round_is
 
   true_marks : (d : Det) → new.parcel.names_stable d ≡ true → is_stable w.past d ≡ true
   true_marks d h = (reachable_safe n f w.past (volatile_of n w) (invariant n f net w reach rep).reached).facts.known_stable_true me.0 d low (sym (fits.log.stable d) ∙ of_log.known_stable d h)
@@ -110,13 +110,7 @@ module _ (n f : ℕ) (net : Network) (w : World) (reach : IsReachableWorld n f w
   kept_again q low_q other = node_kept n w again later_again q (same_again q other) net.sent (net.nodes q) (rep.nodes q low_q)
 
   unasked : is_in_round name (net.nodes s) ≡ false → IsWorldOf n f after_step
-  unasked out = answers_again (λ q low_q other. node_out_and_one n again net.sent reply q (net.nodes q) (not_of_any q) (kept_again q low_q other))
-    where
-      not_of_any : (q : ℕ) → IsOutOf reply q (net.nodes q)
-      not_of_any q = elim (cases_eq q s) [
-        | inl here ↦ subst (λ z. IsOutOf reply z (net.nodes z)) (sym here) (out_of_other reply s name (λ round h. of_round_is s round (and_right (s == s) (name == round) h)) (net.nodes s) out)
-        | inr other ↦ not_of q other
-      ]
+  unasked out = answers_again (λ q low_q other. node_out_and_one n again net.sent reply q (net.nodes q) (out_of_each reply s name net.nodes of_round_is out q) (kept_again q low_q other))
 
   -- s is in that round
   module _ (y : DownNode) (nr : NodeRound) (at_s : net.nodes s ≡ down_node y) (has_round : y.round ≡ Some nr) (same_name : name ≡ nr.name) where
@@ -125,9 +119,6 @@ module _ (n f : ℕ) (net : Network) (w : World) (reach : IsReachableWorld n f w
 
     abbrev r : Round
     r = found.0
-
-    asked : DownFits n w net.sent s y
-    asked = down_of n f net w reach rep s y question.0 at_s
 
     views : (z : ℕ) → z < n → view z ≡ r.view z
     views = found.2.replies (question_packet s name view) was (and_from (s == s) (name == nr.name) (eq-eqb s s refl) (eq-eqb name nr.name same_name))
@@ -143,24 +134,12 @@ module _ (n f : ℕ) (net : Network) (w : World) (reach : IsReachableWorld n f w
     lane_is = let e : r.view new.parcel.from ≡ r.view me.0 = ap r.view of_log.from in let v = view_is in let l = of_log.lane in let m = fits.lane in omega (arith, e, v, l, m)
 
     apart : s ≡ me.0 → ⊥
-    apart e = both_ways (w.rounds.down s) (ap w.rounds.down e ∙ fits.is_up) asked.is_down
-
-    of_s : (x : World) → IsLater w x → x.rounds.down s ≡ w.rounds.down s → x.rounds.lane s ≡ w.rounds.lane s → (o : Round) → x.rounds.rounds s ≡ Some o → GatheringFits n x (reply ∷ net.sent) s nr o → NodeFits n x (reply ∷ net.sent) s (net.nodes s)
-    of_s x later down lane o at g = subst (λ z. NodeFits n x (reply ∷ net.sent) s z) (sym at_s) (record {
-      is_down = down ∙ asked.is_down;
-      lane = lane ∙ asked.lane;
-      told = told_later n w x later y.told asked.told;
-      round = subst (λ z. RoundFits n x (reply ∷ net.sent) s z) (sym has_round) (o, at, g);
-    })
+    apart e = both_ways (w.rounds.down s) (ap w.rounds.down e ∙ fits.is_up) (down_of n f net w reach rep s y question.0 at_s).is_down
 
     -- it has answered that round before: what it said then it still logs, or it is stable
     module _ (replied : r.replied me.0 ≡ true) where
       answered : r.answered me.0 ≡ true
-      answered = by (r.answered me.0) refl
-        where
-          by : (b : Bool) → r.answered me.0 ≡ b → r.answered me.0 ≡ true
-          by true h = h
-          by false h = absurd (both_ways (w.rounds.down me.0) fits.is_up ((invariant n f net w reach rep).rounds.still_down s me.0 r found.1 replied h).0)
+      answered = true_from_ne_false (r.answered me.0) (λ h. both_ways (w.rounds.down me.0) fits.is_up ((invariant n f net w reach rep).rounds.still_down s me.0 r found.1 replied h).0)
 
       said : (d : Det) → IsToldBy w net.sent s nr r d me.0 → (new.parcel.carries d ≡ true) ⊎ (is_stable w.past d ≡ true)
       said d b =
@@ -176,34 +155,17 @@ module _ (n f : ℕ) (net : Network) (w : World) (reach : IsReachableWorld n f w
             | inr stored ↦ absurd (let e : q ≡ n = eqb-true q n (and_parts (q == n) (w.stored d) stored).0 in omega (arith, low, is, e))
           ]
 
-      told_again : (d : Det) (z : ℕ) → IsToldBy w net.sent s nr r d z → IsToldBy w (reply ∷ net.sent) s nr r d z
-      told_again d z b = record {
-        answered = b.answered;
-        packet = b.packet;
-        answers = λ p sent_p to_s from. elim sent_p [ inl is ↦ by p (answers_are name nr.name new p is) from | inr old ↦ b.answers p old to_s from ];
-        taken = b.taken;
-      }
+      gathering_again : GatheringFits n w (reply ∷ net.sent) s nr r
+      gathering_again = gathering_more n w net.sent reply s nr r (λ d z b p is to_s from. by d z b p (answers_are name nr.name new p is) from) (λ of. (from_is r.replied ∙ replied, from_is r.answered ∙ answered, lane_is)) found.2
         where
-          by : (p : Packet) → new ≡ p → p.parcel.from ≡ z → (p.parcel.carries d ≡ true) ⊎ (is_stable w.past d ≡ true)
-          by p is from =
+          by : (d : Det) (z : ℕ) → IsToldBy w net.sent s nr r d z → (p : Packet) → new ≡ p → p.parcel.from ≡ z → (p.parcel.carries d ≡ true) ⊎ (is_stable w.past d ≡ true)
+          by d z b p is from =
               let z_is : z ≡ me.0 = sym from ∙ ap (λ (q : Packet). q.parcel.from) (sym is) ∙ of_log.from in
               subst (λ (q : Packet). (q.parcel.carries d ≡ true) ⊎ (is_stable w.past d ≡ true)) is (said d (subst (λ q. IsToldBy w net.sent s nr r d q) z_is b))
 
-      gathering_again : GatheringFits n w (reply ∷ net.sent) s nr r
-      gathering_again = let g = found.2 in record {
-        view = g.view;
-        heard = g.heard;
-        gathered = g.gathered;
-        holders = g.holders;
-        stable = g.stable;
-        storage = g.storage;
-        told = λ d has. elim (g.told d has) [ inl b ↦ inl (b.0, b.1, told_again d b.0 b.2) | inr stored ↦ inr stored ];
-        replies = λ k sent_k of. elim sent_k [ inl is ↦ subst (λ z. ReplyFits n w s nr r z) is (from_is r.replied ∙ replied, from_is r.answered ∙ answered, lane_is) | inr old ↦ g.replies k old of ];
-      }
-
       answered_before : IsWorldOf n f after_step
       answered_before = answers_again (λ q low_q not_me. elim (cases_eq q s) [
-        | inl here ↦ subst (λ z. NodeFits n again (reply ∷ net.sent) z (net.nodes z)) (sym here) (of_s again later_again refl refl r found.1 (gathering_later n w again later_again s (λ d. refl) (reply ∷ net.sent) nr r gathering_again))
+        | inl here ↦ subst (λ z. NodeFits n again (reply ∷ net.sent) z (net.nodes z)) (sym here) (gathers_still n f net w reach rep s question.0 y at_s nr has_round again (reply ∷ net.sent) r later_again refl refl found.1 (gathering_later n w again later_again s (λ d. refl) (reply ∷ net.sent) nr r gathering_again))
         | inr other ↦ node_out_and_one n again net.sent reply q (net.nodes q) (not_of q other) (kept_again q low_q not_me)
       ])
 
@@ -259,7 +221,7 @@ module _ (n f : ℕ) (net : Network) (w : World) (reach : IsReachableWorld n f w
 
       others_told : (q : ℕ) → q < n → (q ≡ me.0 → ⊥) → NodeFits n told (reply ∷ net.sent) q (net.nodes q)
       others_told q low_q not_me = elim (cases_eq q s) [
-        | inl here ↦ subst (λ z. NodeFits n told (reply ∷ net.sent) z (net.nodes z)) (sym here) (of_s told later_told refl refl (with_reply r me.0 true) (set_at_here w.rounds.rounds s (Some (with_reply r me.0 true))) replied)
+        | inl here ↦ subst (λ z. NodeFits n told (reply ∷ net.sent) z (net.nodes z)) (sym here) (gathers_still n f net w reach rep s question.0 y at_s nr has_round told (reply ∷ net.sent) (with_reply r me.0 true) later_told refl refl (set_at_here w.rounds.rounds s (Some (with_reply r me.0 true))) replied)
         | inr other ↦ node_out_and_one n told net.sent reply q (net.nodes q) (not_of q other) (node_kept n w told later_told q (same_told q not_me other) net.sent (net.nodes q) (rep.nodes q low_q))
       ]
 
@@ -282,15 +244,7 @@ module _ (n f : ℕ) (net : Network) (w : World) (reach : IsReachableWorld n f w
       )
 
     answers_in_round : IsWorldOf n f after_step
-    answers_in_round = by (r.replied me.0) refl
-      where
-        by : (b : Bool) → r.replied me.0 ≡ b → IsWorldOf n f after_step
-        by true h = answered_before h
-        by false h = answers_first h
+    answers_in_round = elim (cases_Bool (r.replied me.0)) [ inl h ↦ answered_before h | inr h ↦ answers_first h ]
 
   pub answers : IsWorldOf n f after_step
-  answers = by (is_in_round name (net.nodes s)) refl
-    where
-      by : (b : Bool) → is_in_round name (net.nodes s) ≡ b → IsWorldOf n f after_step
-      by false out = unasked out
-      by true h = let found = round_in name (net.nodes s) h in answers_in_round found.0 found.1 found.2 found.3 found.4
+  answers = elim (cases_Bool (is_in_round name (net.nodes s))) [ inl h ↦ let i = round_in name (net.nodes s) h in answers_in_round i.0 i.1 i.2 i.3 i.4 | inr out ↦ unasked out ]

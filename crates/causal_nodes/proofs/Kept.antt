@@ -1,7 +1,7 @@
 -- What stays true of nodes and packets while others make steps.
-use Rattle.std.proofs.Common.{ℕ, ◌≡◌, ◌<◌, ◌≤◌, inl, inr, true, false, List, ◌∷◌, Option, Some, None, refl, sym, ap, subst, ◌∙◌, arith}
+use Rattle.std.proofs.Common.{ℕ, ◌≡◌, ◌<◌, ◌≤◌, inl, inr, true, false, List, ◌∷◌, Option, Some, None, refl, sym, ap, subst, ◌∙◌, arith, Bool, ◌&&◌}
 use Rattle.std.specs.Prelude.{◌⊎◌, ◌==◌}
-use Rattle.std.proofs.lemmas.Bool.{false≢true, both_ways, and_from, eq-eqb, eqb-true}
+use Rattle.std.proofs.lemmas.Bool.{false≢true, both_ways, and_from, and_left, and_right, cases_eq, eq-eqb, ne_eqb, eqb-true}
 use Rattle.causal_name.specs.declared.MsgName.{MsgName}
 use Rattle.causal_name.specs.declared.Det.{Det}
 use Rattle.causal_trace.specs.Past.{logs, is_stable, deliveries, message_at}
@@ -31,6 +31,23 @@ pub record IsUntouched (w x : World) (q : ℕ) : Type 0 where
   pub stables : x.knows_stable q ≡ w.knows_stable q
   pub logged : (d : Det) → logs x.past q d ≡ logs w.past q d
   pub received : deliveries x.past q ≡ deliveries w.past q
+
+-- a packet of a round is still one of it when more have replied, and more was heard and taken
+module _ (n : ℕ) (w x : World) (s : ℕ) (nr more : NodeRound) (r : Round) (replied answered : ℕ → Bool) (still_replied : (z : ℕ) → r.replied z ≡ true → replied z ≡ true)
+    (still_answered : (z : ℕ) → r.answered z ≡ true → answered z ≡ true) (still_silent : (z : ℕ) → r.replied z ≡ true → r.answered z ≡ false → answered z ≡ false)
+    (heard : (q : ℕ) → nr.heard q ≡ true → more.heard q ≡ true) (has : (d : Det) → nr.gathered.has d ≡ true → more.gathered.has d ≡ true)
+    (gathered : r.replied n ≡ true → (d : Det) → x.gathered s d ≡ true → w.gathered s d ≡ true) where
+  pub reply_kept : (k : Sent) → ReplyFits n w s nr r k → ReplyFits n x s more (record { view = r.view; replied = replied; answered = answered }) k
+  reply_kept (message_packet name p) h = tt
+  reply_kept (acknowledgement_packet p) h = tt
+  reply_kept (write_packet p) h = tt
+  reply_kept (written_packet dets) h = tt
+  reply_kept (question_packet from name view) h = h
+  reply_kept (answer_packet name p) h = (still_replied p.parcel.from h.0, still_answered p.parcel.from h.1, h.2)
+  reply_kept (not_up_packet from to name) h = (still_replied from h.0, still_silent from h.0 h.1)
+  reply_kept (read_packet from name view) h = (h.0, λ q low other. heard q (h.1 q low other))
+  reply_kept (stored_packet to name dets) h = (still_replied n h.0, λ d now. elim (h.1 d (gathered h.0 d now)) [ inl old ↦ inl (has d old) | inr told ↦ inr told ])
+  reply_kept (number_packet from m) h = tt
 
 module _ (n : ℕ) (w x : World) (later : IsLater w x) where
   pub packet_later : (p : Packet) → IsPacket n w p → IsPacket n x p
@@ -82,18 +99,6 @@ module _ (n : ℕ) (w x : World) (later : IsLater w x) where
   all_told_later sent s nr r d (inr h) = inr (h.0, later.stored d h.1)
 
   module _ (s : ℕ) (same : (d : Det) → x.gathered s d ≡ w.gathered s d) where
-    pub reply_later : (nr : NodeRound) (r : Round) (k : Sent) → ReplyFits n w s nr r k → ReplyFits n x s nr r k
-    reply_later nr r (message_packet name p) h = tt
-    reply_later nr r (acknowledgement_packet p) h = tt
-    reply_later nr r (write_packet p) h = tt
-    reply_later nr r (written_packet dets) h = tt
-    reply_later nr r (question_packet from name view) h = h
-    reply_later nr r (answer_packet name p) h = h
-    reply_later nr r (not_up_packet from to name) h = h
-    reply_later nr r (read_packet from name view) h = h
-    reply_later nr r (stored_packet to name dets) h = (h.0, λ d has. h.1 d (sym (same d) ∙ has))
-    reply_later nr r (number_packet from m) h = tt
-
     pub gathering_later : (sent : List Sent) (nr : NodeRound) (r : Round) → GatheringFits n w sent s nr r → GatheringFits n x sent s nr r
     gathering_later sent nr r g = record {
       view = g.view;
@@ -103,7 +108,7 @@ module _ (n : ℕ) (w x : World) (later : IsLater w x) where
       stable = λ d has. later.stable d (g.stable d has);
       storage = λ heard. let old = g.storage heard in (old.0, λ d has. old.1 d (sym (same d) ∙ has));
       told = λ d has. all_told_later sent s nr r d (g.told d (sym (same d) ∙ has));
-      replies = λ k was of. reply_later nr r k (g.replies k was of);
+      replies = λ k was of. reply_kept n w x s nr nr r r.replied r.answered (λ z h. h) (λ z h. h) (λ z h silent. silent) (λ q h. h) (λ d h. h) (λ h d has. sym (same d) ∙ has) k (g.replies k was of);
     }
 
   module _ (q : ℕ) (same : IsUntouched w x q) where
@@ -130,25 +135,24 @@ module _ (n : ℕ) (w : World) (sent : List Sent) (new : Sent) (s : ℕ) where
   not_its_answer name other p is to =
       both_ways (is_of_round new s name) other (ap (λ k. is_of_round k s name) is ∙ and_from (p.to == s) (name == name) (eq-eqb p.to s to) (eq-eqb name name refl))
 
-  told_by_and_one : (nr : NodeRound) → is_of_round new s nr.name ≡ false → (r : Round) (d : Det) (y : ℕ) → IsToldBy w sent s nr r d y → IsToldBy w (new ∷ sent) s nr r d y
-  told_by_and_one nr other r d y h = record {
-    answered = h.answered;
-    packet = h.packet;
-    answers = λ p was to from. elim was [ inl is ↦ absurd (not_its_answer nr.name other p is to) | inr old ↦ h.answers p old to from ];
-    taken = h.taken;
-  }
+  -- a packet more: if it is an answer, it has what was told, or that is stable
+  module _ (nr : NodeRound) (r : Round) (answer : (d : Det) (y : ℕ) → IsToldBy w sent s nr r d y → (p : Packet) → new ≡ answer_packet nr.name p → p.to ≡ s → p.parcel.from ≡ y → (p.parcel.carries d ≡ true) ⊎ (is_stable w.past d ≡ true))
+      (fits : is_of_round new s nr.name ≡ true → ReplyFits n w s nr r new) where
+    told_by_more : (d : Det) (y : ℕ) → IsToldBy w sent s nr r d y → IsToldBy w (new ∷ sent) s nr r d y
+    told_by_more d y b =
+        let answers : (p : Packet) → WasSent (new ∷ sent) (answer_packet nr.name p) → p.to ≡ s → p.parcel.from ≡ y → (p.parcel.carries d ≡ true) ⊎ (is_stable w.past d ≡ true)
+          = λ p was to from. elim was [ inl is ↦ answer d y b p is to from | inr old ↦ b.answers p old to from ] in
+        assumption
+
+    pub gathering_more : GatheringFits n w sent s nr r → GatheringFits n w (new ∷ sent) s nr r
+    gathering_more g =
+        let told : (d : Det) → w.gathered s d ≡ true → Told n w (new ∷ sent) s nr r d = λ d has. elim (g.told d has) [ inl b ↦ inl (b.0, b.1, told_by_more d b.0 b.2) | inr h ↦ inr h ] in
+        let replies : (k : Sent) → WasSent (new ∷ sent) k → is_of_round k s nr.name ≡ true → ReplyFits n w s nr r k
+          = λ k was of. elim was [ inl is ↦ subst (λ y. ReplyFits n w s nr r y) is (fits (ap (λ y. is_of_round y s nr.name) is ∙ of)) | inr old ↦ g.replies k old of ] in
+        assumption
 
   pub gathering_and_one : (nr : NodeRound) → is_of_round new s nr.name ≡ false → (r : Round) → GatheringFits n w sent s nr r → GatheringFits n w (new ∷ sent) s nr r
-  gathering_and_one nr other r g = record {
-    view = g.view;
-    heard = g.heard;
-    gathered = g.gathered;
-    holders = g.holders;
-    stable = g.stable;
-    storage = g.storage;
-    told = λ d has. elim (g.told d has) [ inl h ↦ inl (h.0, h.1, told_by_and_one nr other r d h.0 h.2) | inr h ↦ inr h ];
-    replies = λ k was of. elim was [ inl is ↦ absurd (both_ways (is_of_round new s nr.name) other (ap (λ y. is_of_round y s nr.name) is ∙ of)) | inr old ↦ g.replies k old of ];
-  }
+  gathering_and_one nr other r g = gathering_more nr r (λ d y b p is to from. absurd (not_its_answer nr.name other p is to)) (λ of. absurd (both_ways (is_of_round new s nr.name) other of)) g
 
   pub round_out_and_one : (o : Option NodeRound) → IsOutOfRound new s o → RoundFits n w sent s o → RoundFits n w (new ∷ sent) s o
   round_out_and_one None other at = at
@@ -174,6 +178,17 @@ out_of_other new s name other (down_node y) out = by y.round out
     by : (o : Option NodeRound) → names_round name o ≡ false → IsOutOfRound new s o
     by None out = tt
     by (Some nr) out = other nr.name out
+
+-- a packet of this round of s, while s is in another one, or for the others
+module _ (new : Sent) (s name : ℕ) (nodes : ℕ → Node) (of : (q x : ℕ) → ((s == q) && (name == x)) ≡ false → is_of_round new q x ≡ false) where
+  pub out_of_rest : (q : ℕ) → (q ≡ s → ⊥) → IsOutOf new q (nodes q)
+  out_of_rest q other = out_of_all new q (λ round. of q round (and_left (s == q) (name == round) (ne_eqb s q (λ e. other (sym e))))) (nodes q)
+
+  pub out_of_each : is_in_round name (nodes s) ≡ false → (q : ℕ) → IsOutOf new q (nodes q)
+  out_of_each out q = elim (cases_eq q s) [
+    | inl here ↦ subst (λ z. IsOutOf new z (nodes z)) (sym here) (out_of_other new s name (λ round h. of s round (and_right (s == s) (name == round) h)) (nodes s) out)
+    | inr other ↦ out_of_rest q other
+  ]
 
 pub node_and_one : (n : ℕ) (w : World) (sent : List Sent) (new : Sent) (s : ℕ) → ((name : ℕ) → is_of_round new s name ≡ false) → (node : Node) → NodeFits n w sent s node → NodeFits n w (new ∷ sent) s node
 node_and_one n w sent new s other node h = node_out_and_one n w sent new s node (out_of_all new s other node) h

@@ -1,7 +1,7 @@
 -- A process that is down says so.
-use Rattle.std.proofs.Common.{ℕ, ◌+◌, ◌≡◌, ◌<◌, inl, inr, Bool, true, false, ◌∷◌, Some, None, refl, sym, ap, subst, ◌∙◌, arith}
+use Rattle.std.proofs.Common.{ℕ, ◌+◌, ◌≡◌, ◌<◌, inl, inr, true, false, ◌∷◌, Some, None, refl, sym, ap, subst, ◌∙◌, arith}
 use Rattle.std.specs.Prelude.{◌==◌}
-use Rattle.std.proofs.lemmas.Bool.{and_left, and_right, and_from, eq-eqb, cases_eq}
+use Rattle.std.proofs.lemmas.Bool.{and_from, eq-eqb, cases_eq, cases_Bool}
 use Rattle.causal_rounds.specs.Rounds.{with_value_at, Round, number, with_reply}
 use Rattle.causal_rounds.proofs.Lemmas.RoundSteps.{set_at_cases, set_at_here, set_at_away}
 use Rattle.causal_world.specs.World.{World}
@@ -11,10 +11,10 @@ use Rattle.causal_nodes.specs.Node.{NodeRound, DownNode, down_node}
 use Rattle.causal_nodes.specs.Packets.{Sent, question_packet, answer_packet, not_up_packet, WasSent}
 use Rattle.causal_nodes.specs.NodeSteps.{with_round}
 use Rattle.causal_nodes.specs.Network.{Network}
-use Rattle.causal_nodes.proofs.Represents.{IsTold, GatheringFits, RoundFits, DownFits, NodeFits, IsOutOf, is_in_round, Represents}
-use Rattle.causal_nodes.proofs.Kept.{IsLater, IsUntouched, told_later, packets_and_one, node_kept, node_out_and_one, out_of_all, out_of_other, round_in, nodes_and_one}
-use Rattle.causal_nodes.proofs.Context.{IsWorldOf, other_is, invariant, down_of}
-use Rattle.causal_nodes.proofs.Quiet.{gathering_of}
+use Rattle.causal_nodes.proofs.Represents.{IsTold, GatheringFits, DownFits, NodeFits, IsOutOf, is_in_round, Represents}
+use Rattle.causal_nodes.proofs.Kept.{IsLater, IsUntouched, told_later, packets_and_one, node_kept, node_out_and_one, out_of_rest, out_of_each, round_in, nodes_and_one}
+use Rattle.causal_nodes.proofs.Context.{IsWorldOf, invariant, down_of}
+use Rattle.causal_nodes.proofs.Quiet.{gathering_of, gathers_still}
 use Rattle.causal_nodes.proofs.Rounds.{le_self, with_own_round, later_round, untouched_round}
 use Rattle.causal_nodes.proofs.Replied.{gathering_replied}
 
@@ -34,7 +34,7 @@ module _ (n f : ℕ) (net : Network) (w : World) (reach : IsReachableWorld n f w
 
   -- the reply is of a round of s
   not_of : (q : ℕ) → (q ≡ s → ⊥) → IsOutOf new q (net.nodes q)
-  not_of q other = out_of_all new q (λ round. and_left (s == q) (name == round) (other_is s q other)) (net.nodes q)
+  not_of = out_of_rest new s name net.nodes (λ q round h. h)
 
   -- s is not in that round any more
   module _ (out : is_in_round name (net.nodes s) ≡ false) where
@@ -44,16 +44,13 @@ module _ (n f : ℕ) (net : Network) (w : World) (reach : IsReachableWorld n f w
     later_alone : IsLater w alone
     later_alone = later_round n f net w reach rep me low x is None w.gathered
 
-    not_of_any : (q : ℕ) → IsOutOf new q (net.nodes q)
-    not_of_any q = elim (cases_eq q s) [ inl here ↦ subst (λ z. IsOutOf new z (net.nodes z)) (sym here) (out_of_other new s name (λ round h. and_right (s == s) (name == round) h) (net.nodes s) out) | inr other ↦ not_of q other ]
-
     unheard : IsWorldOf n f after_step
     unheard = (
       alone,
       next_world w alone reach (world.give_up me),
       assumption (
         nodes_and_one n alone (new ∷ net.sent) net.nodes me (down_node (with_round x None)) (record { is_down = before.is_down; lane = before.lane; told = told_later n w alone later_alone x.told before.told; round = set_at_here w.rounds.rounds me None })
-            (λ q low_q other. node_out_and_one n alone net.sent new q (net.nodes q) (not_of_any q) (node_kept n w alone later_alone q (untouched_round n f net w reach rep me low x is None w.gathered q other refl) net.sent (net.nodes q) (rep.nodes q low_q))),
+            (λ q low_q other. node_out_and_one n alone net.sent new q (net.nodes q) (out_of_each new s name net.nodes (λ z round h. h) out q) (node_kept n w alone later_alone q (untouched_round n f net w reach rep me low x is None w.gathered q other refl) net.sent (net.nodes q) (rep.nodes q low_q))),
         packets_and_one n w alone later_alone net.sent new rep.packets low,
       ),
     )
@@ -65,9 +62,6 @@ module _ (n f : ℕ) (net : Network) (w : World) (reach : IsReachableWorld n f w
 
     abbrev r : Round
     r = found.0
-
-    asked : DownFits n w net.sent s y
-    asked = down_of n f net w reach rep s y question.0 at_s
 
     fits : r.view me ≡ w.rounds.lane me + 1
     fits = sym (found.2.replies (question_packet s name view) was (and_from (s == s) (name == nr.name) (eq-eqb s s refl) (eq-eqb name nr.name same_name)) me low) ∙ own ∙ ap (λ m. m + 1) (sym before.lane)
@@ -100,12 +94,7 @@ module _ (n f : ℕ) (net : Network) (w : World) (reach : IsReachableWorld n f w
     round_of_s = set_at_away (with_value_at w.rounds.rounds s (Some (with_reply r me false))) me None s apart ∙ set_at_here w.rounds.rounds s (Some (with_reply r me false))
 
     of_s : NodeFits n heard (new ∷ net.sent) s (net.nodes s)
-    of_s = subst (λ node. NodeFits n heard (new ∷ net.sent) s node) (sym at_s) (record {
-      is_down = asked.is_down;
-      lane = asked.lane;
-      told = told_later n w heard later_heard y.told asked.told;
-      round = subst (λ o. RoundFits n heard (new ∷ net.sent) s o) (sym has_round) (with_reply r me false, round_of_s, replied);
-    })
+    of_s = gathers_still n f net w reach rep s question.0 y at_s nr has_round heard (new ∷ net.sent) (with_reply r me false) later_heard refl refl round_of_s replied
 
     same : (q : ℕ) → (q ≡ me → ⊥) → (q ≡ s → ⊥) → IsUntouched w heard q
     same q not_me not_s = assumption (set_at_away (with_value_at w.rounds.rounds s (Some (with_reply r me false))) me None q not_me ∙ set_at_away w.rounds.rounds s (Some (with_reply r me false)) q not_s)
@@ -129,8 +118,4 @@ module _ (n f : ℕ) (net : Network) (w : World) (reach : IsReachableWorld n f w
     )
 
   pub says_not_up : IsWorldOf n f after_step
-  says_not_up = by (is_in_round name (net.nodes s)) refl
-    where
-      by : (b : Bool) → is_in_round name (net.nodes s) ≡ b → IsWorldOf n f after_step
-      by false out = unheard out
-      by true h = let i = round_in name (net.nodes s) h in counted i.0 i.1 i.2 i.3 i.4
+  says_not_up = elim (cases_Bool (is_in_round name (net.nodes s))) [ inl h ↦ let i = round_in name (net.nodes s) h in counted i.0 i.1 i.2 i.3 i.4 | inr out ↦ unheard out ]

@@ -16,8 +16,8 @@ use Rattle.causal_nodes.specs.Node.{NodeRound, DownNode, Node, up_node, down_nod
 use Rattle.causal_nodes.specs.Packets.{Sent, answer_packet, not_up_packet, read_packet, stored_packet, number_packet, WasSent, is_of_round}
 use Rattle.causal_nodes.specs.NodeSteps.{with_round, after_answer, with_heard, round_with_stored}
 use Rattle.causal_nodes.specs.Network.{Network}
-use Rattle.causal_nodes.proofs.Represents.{PacketFits, ReplyFits, IsToldBy, GatheringFits, RoundFits, DownFits, NodeFits, Represents}
-use Rattle.causal_nodes.proofs.Kept.{IsLater, IsUntouched, told_later, packets_and_one, packets_later, gathering_later, node_kept, node_and_one, nodes_and_one}
+use Rattle.causal_nodes.proofs.Represents.{IsTold, PacketFits, ReplyFits, GatheringFits, RoundFits, DownFits, NodeFits, Represents}
+use Rattle.causal_nodes.proofs.Kept.{IsLater, IsUntouched, told_later, packets_and_one, packets_later, gathering_later, gathering_more, node_kept, node_and_one, nodes_and_one}
 use Rattle.causal_nodes.proofs.Context.{IsWorldOf, later_same, message_older, other_is, invariant, down_of}
 use Rattle.causal_nodes.proofs.Replies.{answer_taken, not_up_taken, det_taken, stored_taken}
 
@@ -28,19 +28,7 @@ number_fits n w sent p (down_node x) h = ap (λ m. m + 1) (sym h.lane) ∙ sym (
 
 -- one packet more that is of the round of s, and no answer
 pub gathering_and_reply : (n : ℕ) (w : World) (sent : List Sent) (s : ℕ) (nr : NodeRound) (r : Round) (new : Sent) → ((name : ℕ) (p : Packet) → new ≡ answer_packet name p → ⊥) → ReplyFits n w s nr r new → GatheringFits n w sent s nr r → GatheringFits n w (new ∷ sent) s nr r
-gathering_and_reply n w sent s nr r new no_answer fits g = record {
-  view = g.view;
-  heard = g.heard;
-  gathered = g.gathered;
-  holders = g.holders;
-  stable = g.stable;
-  storage = g.storage;
-  told = λ d has. elim (g.told d has) [ inl b ↦ inl (b.0, b.1, told_by d b.0 b.2) | inr stored ↦ inr stored ];
-  replies = λ k was of. elim was [ inl is ↦ subst (λ y. ReplyFits n w s nr r y) is fits | inr old ↦ g.replies k old of ];
-}
-  where
-    told_by : (d : Det) (y : ℕ) → IsToldBy w sent s nr r d y → IsToldBy w (new ∷ sent) s nr r d y
-    told_by d y b = record { answered = b.answered; packet = b.packet; answers = λ p was to from. elim was [ inl is ↦ absurd (no_answer nr.name p is) | inr old ↦ b.answers p old to from ]; taken = b.taken }
+gathering_and_reply n w sent s nr r new no_answer fits g = gathering_more n w sent new s nr r (λ d y b p is to from. absurd (no_answer nr.name p is)) (λ of. fits) g
 
 module _ (n f : ℕ) (net : Network) (w : World) (reach : IsReachableWorld n f w) (rep : Represents n net w) (me : ℕ) (low : me < n) where
   -- the network after a step of me without an entry
@@ -70,20 +58,26 @@ module _ (n f : ℕ) (net : Network) (w : World) (reach : IsReachableWorld n f w
     mine_before = down_of n f net w reach rep me x low is
 
     pub hears_number : (q m : ℕ) → WasSent net.sent (number_packet q m) → IsWorldOf n f (after_step (down_node (record { lane = x.lane; told = with_value_at x.told q m; round = x.round })) net.sent)
-    hears_number q m was = quiet (down_node (record { lane = x.lane; told = with_value_at x.told q m; round = x.round })) (record {
-      is_down = mine_before.is_down;
-      lane = mine_before.lane;
-      told = λ z low_z. elim (set_at_cases x.told q m z) [
-        | inl here ↦ subst (λ v. v ≤ number w.rounds z) (sym here.1) (subst (λ y. m ≤ number w.rounds y) (sym here.0) (rep.packets (number_packet q m) was))
-        | inr other ↦ subst (λ v. v ≤ number w.rounds z) (sym other.1) (mine_before.told z low_z)
-      ];
-      round = mine_before.round;
-    })
+    hears_number q m was =
+        let told : IsTold n w (with_value_at x.told q m) = λ z low_z. elim (set_at_cases x.told q m z) [
+          | inl here ↦ subst (λ v. v ≤ number w.rounds z) (sym here.1) (subst (λ y. m ≤ number w.rounds y) (sym here.0) (rep.packets (number_packet q m) was))
+          | inr other ↦ subst (λ v. v ≤ number w.rounds z) (sym other.1) (mine_before.told z low_z)
+        ] in
+        quiet (down_node (record { lane = x.lane; told = with_value_at x.told q m; round = x.round })) (assumption (told, mine_before))
 
     module _ (nr : NodeRound) (has_round : x.round ≡ Some nr) where
       -- the round of the world
       pub gathering_of : (r : Round) × (w.rounds.rounds me ≡ Some r) × GatheringFits n w net.sent me nr r
       gathering_of = subst (λ o. RoundFits n w net.sent me o) has_round mine_before.round
+
+      -- me in this round after another step
+      pub gathers_still : (next : World) (sent : List Sent) (o : Round) → IsLater w next → next.rounds.down me ≡ w.rounds.down me → next.rounds.lane me ≡ w.rounds.lane me → next.rounds.rounds me ≡ Some o → GatheringFits n next sent me nr o → NodeFits n next sent me (net.nodes me)
+      gathers_still next sent o later down lane at g = subst (λ node. NodeFits n next sent me node) (sym is) (record {
+        is_down = down ∙ mine_before.is_down;
+        lane = lane ∙ mine_before.lane;
+        told = told_later n w next later x.told mine_before.told;
+        round = subst (λ z. RoundFits n next sent me z) (sym has_round) (o, at, g);
+      })
 
       with_gathering : (more : NodeRound) → GatheringFits n w net.sent me more gathering_of.0 → DownFits n w net.sent me (with_round x (Some more))
       with_gathering more g = record { is_down = mine_before.is_down; lane = mine_before.lane; told = mine_before.told; round = (gathering_of.0, gathering_of.1, g) }
@@ -101,16 +95,8 @@ module _ (n f : ℕ) (net : Network) (w : World) (reach : IsReachableWorld n f w
 
       pub asks_storage : ((q : ℕ) → q < n → (q ≡ me → ⊥) → nr.heard q ≡ true) → IsWorldOf n f (after_step (down_node x) (read_packet me nr.name nr.view ∷ net.sent))
       asks_storage all = quiet_and_one (down_node x) (read_packet me nr.name nr.view)
-          (record {
-            is_down = mine_before.is_down;
-            lane = mine_before.lane;
-            told = mine_before.told;
-            round = subst (λ o. RoundFits n w (read_packet me nr.name nr.view ∷ net.sent) me o) (sym has_round) (
-              gathering_of.0,
-              gathering_of.1,
-              gathering_and_reply n w net.sent me nr gathering_of.0 (read_packet me nr.name nr.view) (λ name p e. absurd (let h : read_packet me nr.name nr.view ≡ answer_packet name p = e in cc)) (gathering_of.2.view, all) gathering_of.2,
-            );
-          })
+          (subst (λ node. NodeFits n w (read_packet me nr.name nr.view ∷ net.sent) me node) is (gathers_still w _ gathering_of.0 (later_same w) refl refl gathering_of.1
+            (gathering_and_reply n w net.sent me nr gathering_of.0 (read_packet me nr.name nr.view) (λ name p e. absurd (let h : read_packet me nr.name nr.view ≡ answer_packet name p = e in cc)) (gathering_of.2.view, all) gathering_of.2)))
           (λ q other name. and_left (me == q) (nr.name == name) (other_is me q other))
           (low, λ z low_z. let e = gathering_of.2.view z low_z in let t = (invariant n f net w reach rep).rounds.views_told me z gathering_of.0 gathering_of.1 in omega (arith, e, t))
 

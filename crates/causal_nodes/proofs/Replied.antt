@@ -5,9 +5,9 @@ use Rattle.causal_name.specs.declared.Det.{Det}
 use Rattle.causal_rounds.specs.Rounds.{Round, with_reply}
 use Rattle.causal_world.specs.World.{Packet, World}
 use Rattle.causal_nodes.specs.Node.{NodeRound}
-use Rattle.causal_nodes.specs.Packets.{Sent, message_packet, acknowledgement_packet, write_packet, written_packet, question_packet, answer_packet, not_up_packet, read_packet, stored_packet, number_packet}
+use Rattle.causal_nodes.specs.Packets.{Sent, answer_packet}
 use Rattle.causal_nodes.proofs.Represents.{ReplyFits, IsToldBy, Told, GatheringFits}
-use Rattle.causal_nodes.proofs.Kept.{IsLater, or_stable_later}
+use Rattle.causal_nodes.proofs.Kept.{reply_kept, IsLater, or_stable_later}
 use Rattle.causal_nodes.proofs.Replies.{still_true}
 
 module _ (n : ℕ) (w x : World) (later : IsLater w x) (sent : List Sent) (new : Sent) (s : ℕ) (nr : NodeRound) (r : Round) (y : ℕ) (up : Bool) (g : GatheringFits n w sent s nr r)
@@ -22,16 +22,7 @@ module _ (n : ℕ) (w x : World) (later : IsLater w x) (sent : List Sent) (new :
   more z h = still_true r.replied y z h
 
   reply_after : (k : Sent) → ReplyFits n w s nr r k → ReplyFits n x s nr after k
-  reply_after (message_packet name p) h = tt
-  reply_after (acknowledgement_packet p) h = tt
-  reply_after (write_packet p) h = tt
-  reply_after (written_packet dets) h = tt
-  reply_after (question_packet from name view) h = h
-  reply_after (answer_packet name p) h = (more p.parcel.from h.0, keep_answered p.parcel.from h.1, h.2)
-  reply_after (not_up_packet from to name) h = (more from h.0, keep_silent from h.0 h.1)
-  reply_after (read_packet from name view) h = h
-  reply_after (stored_packet to name dets) h = (more n h.0, λ d has. h.1 d (none_after_read h.0 d has))
-  reply_after (number_packet from m) h = tt
+  reply_after = reply_kept n w x s nr nr r after.replied after.answered more keep_answered keep_silent (λ q h. h) (λ d h. h) none_after_read
 
   told_by : (d : Det) (z : ℕ) → IsToldBy w sent s nr r d z → IsToldBy x (new ∷ sent) s nr after d z
   told_by d z b = record {

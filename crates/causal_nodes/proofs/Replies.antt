@@ -9,8 +9,9 @@ use Rattle.causal_rounds.specs.Rounds.{with_value_at, Round}
 use Rattle.causal_rounds.proofs.Lemmas.RoundSteps.{set_at_cases}
 use Rattle.causal_world.specs.World.{Packet, World}
 use Rattle.causal_nodes.specs.Node.{NodeRound}
-use Rattle.causal_nodes.specs.Packets.{Sent, message_packet, acknowledgement_packet, write_packet, written_packet, question_packet, answer_packet, not_up_packet, read_packet, stored_packet, number_packet, WasSent}
+use Rattle.causal_nodes.specs.Packets.{Sent, answer_packet, not_up_packet, stored_packet, WasSent}
 use Rattle.causal_nodes.specs.NodeSteps.{after_answer, with_heard, round_with_stored}
+use Rattle.causal_nodes.proofs.Kept.{reply_kept}
 use Rattle.causal_nodes.proofs.Represents.{IsPacket, ReplyFits, IsToldBy, GatheringFits}
 
 -- a test that holds still holds after another number was added
@@ -20,16 +21,7 @@ still_true f y q h = elim (set_at_cases f y true q) [ inl is ↦ is.1 | inr othe
 module _ (n : ℕ) (w : World) (sent : List Sent) (s : ℕ) (nr : NodeRound) (r : Round) (g : GatheringFits n w sent s nr r) where
   module _ (more : NodeRound) (heard : (q : ℕ) → nr.heard q ≡ true → more.heard q ≡ true) (has : (d : Det) → nr.gathered.has d ≡ true → more.gathered.has d ≡ true) where
     reply_more : (k : Sent) → ReplyFits n w s nr r k → ReplyFits n w s more r k
-    reply_more (message_packet name p) h = tt
-    reply_more (acknowledgement_packet p) h = tt
-    reply_more (write_packet p) h = tt
-    reply_more (written_packet dets) h = tt
-    reply_more (question_packet from name view) h = h
-    reply_more (answer_packet name p) h = h
-    reply_more (not_up_packet from to name) h = h
-    reply_more (read_packet from name view) h = (h.0, λ q low other. heard q (h.1 q low other))
-    reply_more (stored_packet to name dets) h = (h.0, λ d gathered. elim (h.1 d gathered) [ inl old ↦ inl (has d old) | inr told ↦ inr told ])
-    reply_more (number_packet from m) h = tt
+    reply_more = reply_kept n w w s nr more r r.replied r.answered (λ z h. h) (λ z h. h) (λ z h silent. silent) heard has (λ h d now. now)
 
   -- an answer
   module _ (p : Packet) (was : WasSent sent (answer_packet nr.name p)) (to : p.to ≡ s) (packet : IsPacket n w p) (stable : (d : Det) → p.parcel.names_stable d ≡ true → is_stable w.past d ≡ true)

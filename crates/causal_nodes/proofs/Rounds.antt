@@ -1,7 +1,7 @@
 -- A process crashes, begins a round, gives it up, or comes up.
 use Rattle.std.proofs.Common.{ℕ, suc, ◌+◌, ◌≡◌, ◌<◌, ◌≤◌, inl, inr, Bool, true, false, cond, not, ◌&&◌, ◌||◌, nat_lt, List, ◌∷◌, Option, Some, None, refl, sym, ap, subst, ◌∙◌, arith}
 use Rattle.std.specs.Prelude.{◌⊎◌, ◌==◌}
-use Rattle.std.proofs.lemmas.Bool.{false≢true, both_ways, or_cases, or_left, and_left, and_parts, and_from, eqb-true, cases_lt, cases_eq, cond-true, cond-false, lt-ltb}
+use Rattle.std.proofs.lemmas.Bool.{false≢true, both_ways, or_cases, or_left, and_left, and_parts, and_from, eqb-true, cases_lt, cases_eq, cond-true, cond-false, lt-ltb, false_from_ne_true}
 use Rattle.causal_name.specs.declared.Pid.{Pid}
 use Rattle.causal_name.specs.declared.Det.{Det}
 use Rattle.causal_name.specs.Sets.{count_below}
@@ -237,11 +237,7 @@ module _ (n f : ℕ) (net : Network) (w : World) (reach : IsReachableWorld n f w
     ]
 
     logs_nothing : (d : Det) → logs w.past me.0 d ≡ false
-    logs_nothing d = by (logs w.past me.0 d) refl
-      where
-        by : (b : Bool) → logs w.past me.0 d ≡ b → logs w.past me.0 d ≡ false
-        by false h = h
-        by true h = absurd (both_ways (w.rounds.down me.0) (((invariant n f net w reach rep).dets d).logs_up me.0 (or_left _ _ (and_from (nat_lt me.0 n) (logs w.past me.0 d) (lt-ltb me.0 n low) h))) was_down.is_down)
+    logs_nothing d = false_from_ne_true (logs w.past me.0 d) (λ h. both_ways (w.rounds.down me.0) (((invariant n f net w reach rep).dets d).logs_up me.0 (or_left _ _ (and_from (nat_lt me.0 n) (logs w.past me.0 d) (lt-ltb me.0 n low) h))) was_down.is_down)
 
     knows_nothing : (d : Det) (q : ℕ) → w.knows_holder me.0 d q ≡ true → ⊥
     knows_nothing d q h = both_ways (logs w.past me.0 d) (logs_nothing d) ((reachable_safe n f w.past (volatile_of n w) (invariant n f net w reach rep).reached).facts.known_logged me.0 d q low h).1

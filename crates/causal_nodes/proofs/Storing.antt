@@ -2,7 +2,7 @@
 use Rattle.std.proofs.Common.{ℕ, ◌≡◌, ◌<◌, ◌≤◌, inl, inr, Bool, true, false, cond, ◌||◌, nat_lt, ◌∷◌, Some, refl, sym, ap, subst, ◌∙◌, arith}
 use Rattle.std.specs.Prelude.{◌⊎◌, ◌==◌, max}
 use Rattle.std.proofs.Math.Nat.{le-max_left, le-max_right, max-le}
-use Rattle.std.proofs.lemmas.Bool.{both_ways, or_cases, or_left, or_right, and_left, and_right, and_from, eq-eqb, cases_lt, cases_eq, cond-true, cond-false, lt-ltb}
+use Rattle.std.proofs.lemmas.Bool.{both_ways, or_cases, or_left, or_right, and_from, eq-eqb, cases_lt, cases_eq, cases_Bool, cond-true, cond-false, lt-ltb}
 use Rattle.causal_name.specs.declared.Det.{Det}
 use Rattle.causal_trace.specs.Past.{is_stable}
 use Rattle.causal_rounds.specs.Rounds.{with_value_at, Round, number, with_reply}
@@ -14,11 +14,11 @@ use Rattle.causal_nodes.specs.Node.{NodeRound, DownNode, down_node}
 use Rattle.causal_nodes.specs.Packets.{Sent, write_packet, written_packet, read_packet, answer_packet, stored_packet, WasSent}
 use Rattle.causal_nodes.specs.NodeSteps.{raised}
 use Rattle.causal_nodes.specs.Network.{Network}
-use Rattle.causal_nodes.proofs.Represents.{IsPacket, IsTold, Told, GatheringFits, RoundFits, DownFits, NodeFits, IsOutOf, is_in_round, Represents}
-use Rattle.causal_nodes.proofs.Kept.{IsLater, IsUntouched, told_later, packets_and_one, gathering_later, node_kept, node_and_one, node_out_and_one, out_of_all, out_of_other, round_in}
-use Rattle.causal_nodes.proofs.Context.{IsWorldOf, other_is, invariant, down_of}
+use Rattle.causal_nodes.proofs.Represents.{IsPacket, IsTold, Told, GatheringFits, NodeFits, IsOutOf, is_in_round, Represents}
+use Rattle.causal_nodes.proofs.Kept.{IsLater, IsUntouched, packets_and_one, gathering_later, node_kept, node_and_one, node_out_and_one, out_of_rest, out_of_each, round_in}
+use Rattle.causal_nodes.proofs.Context.{IsWorldOf, invariant}
 use Rattle.causal_nodes.proofs.Replies.{still_true}
-use Rattle.causal_nodes.proofs.Quiet.{gathering_of, gathering_and_reply}
+use Rattle.causal_nodes.proofs.Quiet.{gathering_of, gathers_still, gathering_and_reply}
 use Rattle.causal_nodes.proofs.Rounds.{le_self}
 use Rattle.causal_nodes.proofs.Replied.{gathering_replied}
 
@@ -75,7 +75,7 @@ module _ (n f : ℕ) (net : Network) (w : World) (reach : IsReachableWorld n f w
     after_read = record { past = net.past; nodes = net.nodes; sent = new ∷ net.sent; stored = net.stored; floors = raised net.floors view }
 
     not_of : (q : ℕ) → (q ≡ s → ⊥) → IsOutOf new q (net.nodes q)
-    not_of q other = out_of_all new q (λ round. and_left (s == q) (name == round) (other_is s q other)) (net.nodes q)
+    not_of = out_of_rest new s name net.nodes (λ q round h. h)
 
     -- storage refuses more, and no round counts it
     abbrev fence : ℕ → ℕ
@@ -99,10 +99,7 @@ module _ (n f : ℕ) (net : Network) (w : World) (reach : IsReachableWorld n f w
     )
 
     unread : is_in_round name (net.nodes s) ≡ false → IsWorldOf n f after_read
-    unread out = only_fences (λ q low_q. node_out_and_one n fenced net.sent new q (net.nodes q) (not_of_any q) (kept q low_q))
-      where
-        not_of_any : (q : ℕ) → IsOutOf new q (net.nodes q)
-        not_of_any q = elim (cases_eq q s) [ inl here ↦ subst (λ z. IsOutOf new z (net.nodes z)) (sym here) (out_of_other new s name (λ round h. and_right (s == s) (name == round) h) (net.nodes s) out) | inr other ↦ not_of q other ]
+    unread out = only_fences (λ q low_q. node_out_and_one n fenced net.sent new q (net.nodes q) (out_of_each new s name net.nodes (λ z round h. h) out q) (kept q low_q))
 
     -- s is in that round
     module _ (y : DownNode) (nr : NodeRound) (at_s : net.nodes s ≡ down_node y) (has_round : y.round ≡ Some nr) (same_name : name ≡ nr.name) where
@@ -111,9 +108,6 @@ module _ (n f : ℕ) (net : Network) (w : World) (reach : IsReachableWorld n f w
 
       abbrev r : Round
       r = found.0
-
-      asked : DownFits n w net.sent s y
-      asked = down_of n f net w reach rep s y question.0 at_s
 
       its_read : ((z : ℕ) → z < n → view z ≡ r.view z) × ((q : ℕ) → q < n → (q ≡ s → ⊥) → nr.heard q ≡ true)
       its_read = found.2.replies (read_packet s name view) was (and_from (s == s) (name == nr.name) (eq-eqb s s refl) (eq-eqb name nr.name same_name))
@@ -133,18 +127,10 @@ module _ (n f : ℕ) (net : Network) (w : World) (reach : IsReachableWorld n f w
               elim (told.taken (its_read.1 b.0 b.1 other)) [ inl has ↦ inl has | inr stable ↦ inr (stored_if_stable stable) ]
           by (inr stored) = inr (sym (rep.stored d) ∙ stored.1)
 
-      of_s : (x : World) → IsLater w x → x.rounds.down s ≡ w.rounds.down s → x.rounds.lane s ≡ w.rounds.lane s → (o : Round) → x.rounds.rounds s ≡ Some o → GatheringFits n x (new ∷ net.sent) s nr o → NodeFits n x (new ∷ net.sent) s (net.nodes s)
-      of_s x later down lane o at g = subst (λ node. NodeFits n x (new ∷ net.sent) s node) (sym at_s) (record {
-        is_down = down ∙ asked.is_down;
-        lane = lane ∙ asked.lane;
-        told = told_later n w x later y.told asked.told;
-        round = subst (λ z. RoundFits n x (new ∷ net.sent) s z) (sym has_round) (o, at, g);
-      })
-
       -- it has replied to it before
       read_again : r.replied n ≡ true → IsWorldOf n f after_read
       read_again replied = only_fences (λ q low_q. elim (cases_eq q s) [
-        | inl here ↦ subst (λ z. NodeFits n fenced (new ∷ net.sent) z (net.nodes z)) (sym here) (of_s fenced later_fenced refl refl r found.1
+        | inl here ↦ subst (λ z. NodeFits n fenced (new ∷ net.sent) z (net.nodes z)) (sym here) (gathers_still n f net w reach rep s question.0 y at_s nr has_round fenced (new ∷ net.sent) r later_fenced refl refl found.1
             (gathering_and_reply n fenced net.sent s nr r new (λ nm p e. absurd (let c : stored_packet s name net.stored ≡ answer_packet nm p = e in cc)) (replied, covered) (gathering_later n w fenced later_fenced s (λ d. refl) net.sent nr r found.2)))
         | inr other ↦ node_out_and_one n fenced net.sent new q (net.nodes q) (not_of q other) (kept q low_q)
       ])
@@ -184,7 +170,7 @@ module _ (n f : ℕ) (net : Network) (w : World) (reach : IsReachableWorld n f w
 
         nodes : (q : ℕ) → q < n → NodeFits n after_reply (new ∷ net.sent) q (net.nodes q)
         nodes q low_q = elim (cases_eq q s) [
-          | inl here ↦ subst (λ z. NodeFits n after_reply (new ∷ net.sent) z (net.nodes z)) (sym here) (of_s after_reply later_reply refl refl (with_reply r n true) (set_at_here w.rounds.rounds s (Some (with_reply r n true))) replied)
+          | inl here ↦ subst (λ z. NodeFits n after_reply (new ∷ net.sent) z (net.nodes z)) (sym here) (gathers_still n f net w reach rep s question.0 y at_s nr has_round after_reply (new ∷ net.sent) (with_reply r n true) later_reply refl refl (set_at_here w.rounds.rounds s (Some (with_reply r n true))) replied)
           | inr other ↦ node_out_and_one n after_reply net.sent new q (net.nodes q) (not_of q other) (node_kept n w after_reply later_reply q (same q low_q other) net.sent (net.nodes q) (rep.nodes q low_q))
         ]
 
@@ -198,15 +184,7 @@ module _ (n f : ℕ) (net : Network) (w : World) (reach : IsReachableWorld n f w
         )
 
       read_in_round : IsWorldOf n f after_read
-      read_in_round = by (r.replied n) refl
-        where
-          by : (b : Bool) → r.replied n ≡ b → IsWorldOf n f after_read
-          by true h = read_again h
-          by false h = read_first h
+      read_in_round = elim (cases_Bool (r.replied n)) [ inl h ↦ read_again h | inr h ↦ read_first h ]
 
     pub tells_stored : IsWorldOf n f after_read
-    tells_stored = by (is_in_round name (net.nodes s)) refl
-      where
-        by : (b : Bool) → is_in_round name (net.nodes s) ≡ b → IsWorldOf n f after_read
-        by false out = unread out
-        by true h = let i = round_in name (net.nodes s) h in read_in_round i.0 i.1 i.2 i.3 i.4
+    tells_stored = elim (cases_Bool (is_in_round name (net.nodes s))) [ inl h ↦ let i = round_in name (net.nodes s) h in read_in_round i.0 i.1 i.2 i.3 i.4 | inr out ↦ unread out ]
