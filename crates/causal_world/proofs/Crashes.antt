@@ -1,7 +1,8 @@
 -- A process crashes, and a process learns who holds what it logs.
 use Rattle.std.proofs.Common.{ℕ, suc, ◌≡◌, ◌<◌, ◌≤◌, inl, inr, Bool, true, false, not, ◌&&◌, ◌||◌, nat_lt, ◌∷◌, Some, refl, sym, ap, subst, ◌∙◌, arith}
 use Rattle.std.specs.Prelude.{◌⊎◌, ◌==◌}
-use Rattle.std.proofs.lemmas.Bool.{both_ways, and_parts, and_from, not_from_false, eq-eqb, ne_eqb}
+use Rattle.std.proofs.lemmas.Bool.{both_ways, and_parts, and_from, not_from_false, eq-eqb, ne_eqb, lt-ltb, false_from_ne_true}
+use Rattle.std.proofs.lemmas.Bool.Decides.{eqb_tells}
 use Rattle.causal_name.specs.declared.Pid.{Pid}
 use Rattle.causal_name.specs.declared.Det.{Det}
 use Rattle.causal_name.specs.Sets.{count_below}
@@ -18,19 +19,13 @@ use Rattle.causal_rounds.proofs.Lemmas.RoundSteps.{set_at_cases, round_step_pres
 use Rattle.causal_rounds.proofs.Lemmas.GatheredSteps.{det_step_preserves}
 use Rattle.causal_world.specs.World.{Packet, World, carrier_of, volatile_of, det_state_of}
 use Rattle.causal_world.specs.Invariant.{AbsentAreDown, WorldInvariant}
-use Rattle.causal_world.proofs.Lemmas.Functions.{apart_is}
+use Rattle.causal_world.proofs.Lemmas.Functions.{set_at_is, apart_is}
 use Rattle.causal_world.proofs.Lemmas.Transit.{in_transit_of, is_accepted, rounds_bring_nothing, same_brings_nothing}
 
 module _ (n f : ℕ) (w : World) (k : WorldInvariant n f w) where
   -- a process that is up has nothing to recover
   pub up_recovers_nothing : (p : ℕ) (d : Det) → p < n → w.rounds.down p ≡ false → must_recover w.past p d ≡ false
-  up_recovers_nothing p d low up = by (must_recover w.past p d) refl
-    where
-      by : (b : Bool) → must_recover w.past p d ≡ b → must_recover w.past p d ≡ false
-      by false is = is
-      by true is =
-          let small : nat_lt p n ≡ true = grind (arith, low) in
-          absurd (both_ways (w.rounds.down p) up ((k.dets d).recovering_are_down p (and_from _ _ small is)))
+  up_recovers_nothing p d low up = false_from_ne_true (must_recover w.past p d) (λ is. both_ways (w.rounds.down p) up ((k.dets d).recovering_are_down p (and_from _ _ (lt-ltb p n low) is)))
 
   module _ (who : Pid) (low : who.0 < n) (up : is_down w.past who.0 ≡ false) (few : count_below n (is_down w.past) < f) where
     abbrev fallen : RecoveryState
@@ -55,38 +50,12 @@ module _ (n f : ℕ) (w : World) (k : WorldInvariant n f w) where
         let down : (p : ℕ) → suc n ≤ p → fallen.down p ≡ true = λ p above. elim (set_at_cases w.rounds.down who.0 true p) [ inl is ↦ is.1 | inr other ↦ other.1 ∙ k.absent.down p above ] in
         assumption down
 
-    logs_after : (d : Det) (p : ℕ) → with_value_at (λ q. (nat_lt q n && logs w.past q d) || (q == n && w.stored d)) who.0 false p ≡ ((nat_lt p n && (not (who.0 == p) && logs w.past p d)) || (p == n && w.stored d))
-    logs_after d p = elim (set_at_cases (λ q. (nat_lt q n && logs w.past q d) || (q == n && w.stored d)) who.0 false p) [
-      | inl is ↦
-          let same : (who.0 == p) ≡ true = eq-eqb who.0 p (sym is.0) in
-          let apart : (p == n) ≡ false = subst (λ x. (x == n) ≡ false) (sym is.0) (apart_is who.0 n low) in
-          is.1 ∙ sym (at_who (nat_lt p n) (who.0 == p) (logs w.past p d) (p == n) (w.stored d) same apart)
-      | inr other ↦ let differ : (who.0 == p) ≡ false = ne_eqb who.0 p (λ e. other.0 (sym e)) in other.1 ∙ sym (elsewhere (nat_lt p n) (who.0 == p) (logs w.past p d) ((p == n) && w.stored d) differ)
-    ]
-      where
-        at_who : (a b c d e : Bool) → b ≡ true → d ≡ false → ((a && (not b && c)) || (d && e)) ≡ false
-        at_who a b c d e hb hd = grind (arith, hb, hd)
+    logs_after : (d : Det) (p : ℕ) → with_value_at (det_state_of n w d).logs who.0 false p ≡ (det_state_of n after d).logs p
+    logs_after d = set_at_is (det_state_of n w d).logs (det_state_of n after d).logs who.0 false (let apart = apart_is who.0 n low in grind (arith, eqb_tells who.0 who.0, apart)) (λ q other. grind (arith, eqb_tells who.0 q, other))
 
-        elsewhere : (a b c d : Bool) → b ≡ false → ((a && (not b && c)) || d) ≡ ((a && c) || d)
-        elsewhere a b c d hb = grind (arith, hb)
-
-    recover_after : (d : Det) (p : ℕ) → with_value_at (λ q. nat_lt q n && must_recover w.past q d) who.0 ((nat_lt who.0 n && logs w.past who.0 d) || (who.0 == n && w.stored d)) p ≡ (nat_lt p n && ((who.0 == p && logs w.past p d) || must_recover w.past p d))
-    recover_after d p = elim (set_at_cases (λ q. nat_lt q n && must_recover w.past q d) who.0 ((nat_lt who.0 n && logs w.past who.0 d) || (who.0 == n && w.stored d)) p) [
-      | inl is ↦
-          let same : (who.0 == p) ≡ true = eq-eqb who.0 p (sym is.0) in
-          let none : must_recover w.past p d ≡ false = subst (λ q. must_recover w.past q d ≡ false) (sym is.0) (up_recovers_nothing who.0 d low was_up) in
-          is.1 ∙ ap lost (sym is.0) ∙ recovered (nat_lt p n) (who.0 == p) (logs w.past p d) (must_recover w.past p d) ((p == n) && w.stored d) same none (stored_apart p is.0)
-      | inr other ↦ let differ : (who.0 == p) ≡ false = ne_eqb who.0 p (λ e. other.0 (sym e)) in other.1 ∙ grind (arith, differ)
-    ]
-      where
-        lost : ℕ → Bool
-        lost q = (nat_lt q n && logs w.past q d) || (q == n && w.stored d)
-
-        stored_apart : (q : ℕ) → q ≡ who.0 → ((q == n) && w.stored d) ≡ false
-        stored_apart q is = let apart : (q == n) ≡ false = subst (λ x. (x == n) ≡ false) (sym is) (apart_is who.0 n low) in ap (λ b. b && w.stored d) apart
-
-        recovered : (a b c d e : Bool) → b ≡ true → d ≡ false → e ≡ false → ((a && c) || e) ≡ (a && ((b && c) || d))
-        recovered a b c d e hb hd he = grind (arith, hb, hd, he)
+    recover_after : (d : Det) (p : ℕ) → with_value_at (det_state_of n w d).must_recover who.0 ((det_state_of n w d).logs who.0) p ≡ (det_state_of n after d).must_recover p
+    recover_after d = set_at_is (det_state_of n w d).must_recover (det_state_of n after d).must_recover who.0 ((det_state_of n w d).logs who.0)
+        (let apart = apart_is who.0 n low in let none = up_recovers_nothing who.0 d low was_up in grind (arith, eqb_tells who.0 who.0, apart, none)) (λ q other. grind (arith, eqb_tells who.0 q, other))
 
     dets : (d : Det) → DetInvariant (det_state_of n after d)
     dets d = subst (λ (a : DetState). DetInvariant a)

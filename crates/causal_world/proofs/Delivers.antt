@@ -2,7 +2,8 @@
 use Rattle.std.proofs.Common.{ℕ, suc, ◌+◌, ◌≡◌, ◌<◌, ◌≤◌, inl, inr, Bool, true, false, cond, not, ◌&&◌, ◌||◌, nat_lt, List, ◌∷◌, Some, None, refl, sym, ap, subst, ◌∙◌, arith}
 use Rattle.std.specs.Prelude.{◌⊎◌, ◌==◌}
 use Rattle.std.specs.Option.{option_map}
-use Rattle.std.proofs.lemmas.Bool.{both_ways, or_cases, or_left, or_right, and_from, eq-eqb, ne_eqb, cond-true, lt-ltb}
+use Rattle.std.proofs.lemmas.Bool.{both_ways, or_cases, or_left, or_right, and_from, eq-eqb, ne_eqb, cond-true, lt-ltb, false_from_ne_true}
+use Rattle.std.proofs.lemmas.Bool.Decides.{eqb_tells}
 use Rattle.causal_name.specs.declared.Pid.{Pid}
 use Rattle.causal_name.specs.declared.MsgName.{MsgName}
 use Rattle.causal_name.specs.declared.Det.{Det}
@@ -21,6 +22,7 @@ use Rattle.causal_rounds.proofs.Lemmas.RoundSteps.{set_at_cases}
 use Rattle.causal_rounds.proofs.Lemmas.GatheredSteps.{det_step_preserves}
 use Rattle.causal_world.specs.World.{Packet, World, carrier_of, if_carries, volatile_of, det_state_of}
 use Rattle.causal_world.specs.Invariant.{WorldInvariant}
+use Rattle.causal_world.proofs.Lemmas.Functions.{set_at_is}
 use Rattle.causal_world.proofs.Lemmas.Transit.{in_transit_of, is_accepted, same_brings_nothing}
 use Rattle.causal_world.proofs.Crashes.{up_recovers_nothing}
 
@@ -67,26 +69,11 @@ module _ (n f : ℕ) (w : World) (k : WorldInvariant n f w) (to : Pid) (send rsn
   recover_before d q = nat_lt q n && must_recover w.past q d
 
   -- what the receiver logs afterwards, and what is still to be recovered
-  logs_listed : (d : Det) → list_has listed d ≡ true → (q : ℕ) → with_value_at (logs_before d) to.0 true q ≡ ((nat_lt q n && ((to.0 == q && list_has listed d) || logs w.past q d)) || (q == n && w.stored d))
-  logs_listed d h q = elim (set_at_cases (logs_before d) to.0 true q) [
-    | inl is ↦
-        let same : (to.0 == q) ≡ true = eq-eqb to.0 q (sym is.0) in
-        let small : nat_lt q n ≡ true = subst (λ x. nat_lt x n ≡ true) (sym is.0) (lt-ltb to.0 n low) in
-        is.1 ∙ sym (at_to (nat_lt q n) (to.0 == q) (list_has listed d) (logs w.past q d) (q == n && w.stored d) small same h)
-    | inr other ↦ let differ : (to.0 == q) ≡ false = ne_eqb to.0 q (λ e. other.0 (sym e)) in other.1 ∙ sym (elsewhere (nat_lt q n) (to.0 == q) (list_has listed d) (logs w.past q d) (q == n && w.stored d) differ)
-  ]
-    where
-      at_to : (a b c x e : Bool) → a ≡ true → b ≡ true → c ≡ true → ((a && ((b && c) || x)) || e) ≡ true
-      at_to a b c x e ha hb hc = grind (arith, ha, hb, hc)
+  logs_listed : (d : Det) → list_has listed d ≡ true → (q : ℕ) → with_value_at (logs_before d) to.0 true q ≡ (det_state_of n after d).logs q
+  logs_listed d h = set_at_is (logs_before d) (det_state_of n after d).logs to.0 true (let small = lt-ltb to.0 n low in grind (arith, eqb_tells to.0 to.0, small, h)) (λ q other. grind (arith, eqb_tells to.0 q, other))
 
-      elsewhere : (a b c x e : Bool) → b ≡ false → ((a && ((b && c) || x)) || e) ≡ ((a && x) || e)
-      elsewhere a b c x e hb = grind (arith, hb)
-
-  logs_unlisted : (d : Det) → list_has listed d ≡ false → (q : ℕ) → logs_before d q ≡ ((nat_lt q n && ((to.0 == q && list_has listed d) || logs w.past q d)) || (q == n && w.stored d))
-  logs_unlisted d h q = sym (unlisted (nat_lt q n) (to.0 == q) (list_has listed d) (logs w.past q d) (q == n && w.stored d) h)
-    where
-      unlisted : (a b c x e : Bool) → c ≡ false → ((a && ((b && c) || x)) || e) ≡ ((a && x) || e)
-      unlisted a b c x e hc = grind (arith, hc)
+  logs_unlisted : (d : Det) → list_has listed d ≡ false → (q : ℕ) → logs_before d q ≡ (det_state_of n after d).logs q
+  logs_unlisted d h q = grind (arith, h)
 
   recover_old : (d : Det) → delivers_as_new w.past to.0 e d ≡ false → (q : ℕ) → recover_before d q ≡ (nat_lt q n && (not (delivers_as_new w.past to.0 e d) && must_recover w.past q d))
   recover_old d old q = ap (λ b. nat_lt q n && (not b && must_recover w.past q d)) (sym old)
@@ -124,11 +111,10 @@ module _ (n f : ℕ) (w : World) (k : WorldInvariant n f w) (to : Pid) (send rsn
 
       by : (b : Bool) → list_has listed d ≡ b → DetInvariant (det_state_of n after d)
       by true is = mine_or_carried (same_det own d) refl is
-      by false is = reach (logs_before d) (recover_before d) (logs_unlisted d is) (recover_old d (other_not_new d (differs (same_det own d) refl))) (k.dets d)
+      by false is = reach (logs_before d) (recover_before d) (logs_unlisted d is) (recover_old d (other_not_new d differs)) (k.dets d)
         where
-          differs : (b : Bool) → same_det own d ≡ b → same_det own d ≡ false
-          differs false is2 = is2
-          differs true is2 = absurd (both_ways (list_has listed d) is (lists d ∙ or_left _ _ (subst (λ x. same_det x own ≡ true) (same_is own d is2) (same_itself own))))
+          differs : same_det own d ≡ false
+          differs = false_from_ne_true (same_det own d) (λ same. both_ways (list_has listed d) is (lists d ∙ or_left _ _ (subst (λ x. same_det x own ≡ true) (same_is own d same) (same_itself own))))
 
   pub deliver_preserves : ((x : ℕ) (d : Det) (q : ℕ) → known x d q ≡ true → (w.knows_holder x d q ≡ true) ⊎ ((to.0 ≡ x) × (list_has listed d ≡ true) × ((p.parcel.names_holder d q ≡ true) ⊎ (q ≡ to.0))))
       → ((d : Det) → list_has listed d ≡ true → known to.0 d to.0 ≡ true)

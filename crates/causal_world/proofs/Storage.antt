@@ -1,7 +1,7 @@
 -- Stable storage takes a write, an entry says what is stable, and a process forgets what is stable.
 use Rattle.std.proofs.Common.{ℕ, suc, ◌≡◌, ◌<◌, ◌≤◌, inl, inr, Bool, true, false, not, ◌&&◌, ◌||◌, nat_lt, List, ◌∷◌, Some, None, refl, sym, ap, subst, ◌∙◌, arith}
 use Rattle.std.specs.Prelude.{◌⊎◌, ◌==◌}
-use Rattle.std.proofs.lemmas.Bool.{both_ways, or_cases, or_left, or_right, and_from, and_parts, not_from_false, eqb-true, eq-eqb, ne_eqb, cond-true, lt-ltb}
+use Rattle.std.proofs.lemmas.Bool.{both_ways, or_cases, or_left, or_right, and_from, and_parts, not_from_false, eqb-true, eq-eqb, ne_eqb, cond-true, lt-ltb, false_from_ne_true, cases_lt, cases_eq}
 use Rattle.std.proofs.lemmas.Bool.Decides.{eqb_tells}
 use Rattle.causal_name.specs.declared.Pid.{Pid}
 use Rattle.causal_name.specs.declared.Det.{Det}
@@ -23,7 +23,7 @@ use Rattle.causal_rounds.proofs.Lemmas.RoundSteps.{set_at_cases, some_is, set_at
 use Rattle.causal_rounds.proofs.Lemmas.GatheredSteps.{det_step_preserves, restarts_gather_all}
 use Rattle.causal_world.specs.World.{Packet, World, carrier_of, is_acceptable, if_carries, volatile_of, det_state_of}
 use Rattle.causal_world.specs.Invariant.{WorldInvariant}
-use Rattle.causal_world.proofs.Lemmas.Functions.{apart_is}
+use Rattle.causal_world.proofs.Lemmas.Functions.{set_at_is, apart_is}
 use Rattle.causal_world.proofs.Lemmas.Transit.{packet_of, in_transit_of, landed_in_transit, is_accepted, same_brings_nothing}
 use Rattle.causal_world.proofs.RoundChanges.{round_low}
 use Rattle.causal_world.proofs.Crashes.{up_recovers_nothing}
@@ -70,20 +70,11 @@ module _ (n f : ℕ) (w : World) (k : WorldInvariant n f w) where
     abbrev with_logs : Det → (ℕ → Bool) → DetState
     with_logs d g = record { state = w.rounds; logs = g; must_recover = (det_state_of n w d).must_recover; stable = is_stable w.past d; carriers = (det_state_of n w d).carriers; gathered = (det_state_of n w d).gathered }
 
-    logs_landed : (d : Det) → p.parcel.carries d ≡ true → (q : ℕ) → with_value_at (det_state_of n w d).logs n true q ≡ ((nat_lt q n && logs w.past q d) || (q == n && (w.stored d || p.parcel.carries d)))
-    logs_landed d h q = elim (set_at_cases (det_state_of n w d).logs n true q) [
-      | inl is ↦ is.1 ∙ sym (or_right _ _ (and_from _ _ (eq-eqb q n is.0) (or_right _ _ h)))
-      | inr other ↦ other.1 ∙ elsewhere (nat_lt q n && logs w.past q d) (q == n) (w.stored d) (p.parcel.carries d) (ne_eqb q n other.0)
-    ]
-      where
-        elsewhere : (a b c e : Bool) → b ≡ false → (a || (b && c)) ≡ (a || (b && (c || e)))
-        elsewhere a b c e hb = grind (arith, hb)
+    logs_landed : (d : Det) → p.parcel.carries d ≡ true → (q : ℕ) → with_value_at (det_state_of n w d).logs n true q ≡ (det_state_of n after d).logs q
+    logs_landed d h = set_at_is (det_state_of n w d).logs (det_state_of n after d).logs n true (grind (arith, eqb_tells n n, h)) (λ q other. grind (arith, eqb_tells q n, other))
 
-    logs_same : (d : Det) → p.parcel.carries d ≡ false → (q : ℕ) → (det_state_of n w d).logs q ≡ ((nat_lt q n && logs w.past q d) || (q == n && (w.stored d || p.parcel.carries d)))
-    logs_same d h q = same (nat_lt q n && logs w.past q d) (q == n) (w.stored d) (p.parcel.carries d) h
-      where
-        same : (a b c e : Bool) → e ≡ false → (a || (b && c)) ≡ (a || (b && (c || e)))
-        same a b c e he = grind (arith, he)
+    logs_same : (d : Det) → p.parcel.carries d ≡ false → (q : ℕ) → (det_state_of n w d).logs q ≡ (det_state_of n after d).logs q
+    logs_same d h q = grind (arith, h)
 
     dets : (d : Det) → DetInvariant (det_state_of n after d)
     dets d = by (p.parcel.carries d) refl
@@ -100,14 +91,10 @@ module _ (n f : ℕ) (w : World) (k : WorldInvariant n f w) where
         low = round_low n f w k s r here
 
         all : (q : ℕ) → (q ≡ s → ⊥) → r.replied q ≡ true
-        all q other = below (nat_lt q n) refl
-          where
-            below : (b : Bool) → nat_lt q n ≡ b → r.replied q ≡ true
-            below true is = k.reads.last s r q here done (grind (arith, is)) other
-            below false is = elim (eqb_tells q n) [
-              | inl same ↦ ap r.replied same.1 ∙ done
-              | inr differ ↦ k.absent.replied s q r here (let high : n ≤ q = grind (arith, is) in let apart : q ≡ n → ⊥ = differ.1 in omega (arith, high, apart))
-            ]
+        all q other = elim (cases_lt q n) [
+          | inl below ↦ k.reads.last s r q here done below other
+          | inr high ↦ elim (cases_eq q n) [ inl same ↦ ap r.replied same ∙ done | inr apart ↦ k.absent.replied s q r here (omega (arith, high, apart)) ]
+        ]
 
         by : (b : Bool) → is_stable w.past d ≡ b → w.gathered s d ≡ true
         by true is = k.reads.own_gathered s r d here done (k.stores.stable_stored d is) dest
@@ -189,25 +176,11 @@ module _ (n f : ℕ) (w : World) (k : WorldInvariant n f w) where
     abbrev with_less : Det → (ℕ → Bool) → DetState
     with_less d g = record { state = w.rounds; logs = g; must_recover = (det_state_of n w d).must_recover; stable = is_stable w.past d; carriers = (det_state_of n w d).carriers; gathered = (det_state_of n w d).gathered }
 
-    logs_forgotten : (d : Det) → list_has listed d ≡ true → (q : ℕ) → with_value_at (det_state_of n w d).logs who.0 false q ≡ ((nat_lt q n && (not (who.0 == q && list_has listed d) && logs w.past q d)) || (q == n && w.stored d))
-    logs_forgotten d h q = elim (set_at_cases (det_state_of n w d).logs who.0 false q) [
-      | inl is ↦
-          let apart : (q == n) ≡ false = subst (λ x. (x == n) ≡ false) (sym is.0) (apart_is who.0 n low) in
-          is.1 ∙ sym (gone (nat_lt q n) (who.0 == q) (list_has listed d) (logs w.past q d) (q == n) (w.stored d) (eq-eqb who.0 q (sym is.0)) h apart)
-      | inr other ↦ other.1 ∙ sym (elsewhere (nat_lt q n) (who.0 == q) (list_has listed d) (logs w.past q d) (q == n && w.stored d) (ne_eqb who.0 q (λ e. other.0 (sym e))))
-    ]
-      where
-        gone : (a b c x e g : Bool) → b ≡ true → c ≡ true → e ≡ false → ((a && (not (b && c) && x)) || (e && g)) ≡ false
-        gone a b c x e g hb hc he = grind (arith, hb, hc, he)
+    logs_forgotten : (d : Det) → list_has listed d ≡ true → (q : ℕ) → with_value_at (det_state_of n w d).logs who.0 false q ≡ (det_state_of n lessened d).logs q
+    logs_forgotten d h = set_at_is (det_state_of n w d).logs (det_state_of n lessened d).logs who.0 false (let apart = apart_is who.0 n low in grind (arith, eqb_tells who.0 who.0, apart, h)) (λ q other. grind (arith, eqb_tells who.0 q, other))
 
-        elsewhere : (a b c x e : Bool) → b ≡ false → ((a && (not (b && c) && x)) || e) ≡ ((a && x) || e)
-        elsewhere a b c x e hb = grind (arith, hb)
-
-    logs_left : (d : Det) → list_has listed d ≡ false → (q : ℕ) → (det_state_of n w d).logs q ≡ ((nat_lt q n && (not (who.0 == q && list_has listed d) && logs w.past q d)) || (q == n && w.stored d))
-    logs_left d h q = sym (left (nat_lt q n) (who.0 == q) (list_has listed d) (logs w.past q d) (q == n && w.stored d) h)
-      where
-        left : (a b c x e : Bool) → c ≡ false → ((a && (not (b && c) && x)) || e) ≡ ((a && x) || e)
-        left a b c x e hc = grind (arith, hc)
+    logs_left : (d : Det) → list_has listed d ≡ false → (q : ℕ) → (det_state_of n w d).logs q ≡ (det_state_of n lessened d).logs q
+    logs_left d h q = grind (arith, h)
 
     dets_left : (d : Det) → DetInvariant (det_state_of n lessened d)
     dets_left d = by (list_has listed d) refl
@@ -217,16 +190,15 @@ module _ (n f : ℕ) (w : World) (k : WorldInvariant n f w) where
         by false is = subst (λ (g : ℕ → Bool). DetInvariant (with_less d g)) (λ j q. logs_left d is q j) (k.dets d)
 
     own_left : (p : ℕ) (d : Det) → p < n → w.rounds.down p ≡ false → d.dest.0 ≡ p → deliveries w.past p ≤ d.rsn → w.stored d ≡ true → (not (who.0 == p && list_has listed d) && logs w.past p d) ≡ true
-    own_left p d small up dest next stored = by (who.0 == p && list_has listed d) refl
+    own_left p d small up dest next stored = and_from _ _ (not_from_false _ (false_from_ne_true (who.0 == p && list_has listed d) repeated)) (k.own_logged p d small up dest next stored)
       where
-        by : (b : Bool) → (who.0 == p && list_has listed d) ≡ b → (not (who.0 == p && list_has listed d) && logs w.past p d) ≡ true
-        by false is = and_from _ _ (not_from_false (who.0 == p && list_has listed d) is) (k.own_logged p d small up dest next stored)
-        by true is =
+        repeated : (who.0 == p && list_has listed d) ≡ true → ⊥
+        repeated is =
             let parts = and_parts (who.0 == p) (list_has listed d) is in
             let same : who.0 ≡ p = eqb-true who.0 p parts.0 in
             let before = spares d parts.1 (dest ∙ sym same) in
             let next_who : deliveries w.past who.0 ≤ d.rsn = subst (λ x. deliveries w.past x ≤ d.rsn) (sym same) next in
-            absurd (omega (arith, before, next_who))
+            omega (arith, before, next_who)
 
     pub forget_preserves : WorldInvariant n f lessened
     forget_preserves = assumption (
