@@ -31,15 +31,11 @@ first_world = record {
 }
 
 abbrev crashed : World
-crashed = record {
+crashed = record first_world {
   past = Crash second ∷ [];
-  rounds = record { lane = λ p. 0; down = with_value_at absent 1 true; floors = λ p q. 0; rounds = λ p. None };
+  rounds = record first_world.rounds { down = with_value_at absent 1 true };
   knows_holder = λ p d q. not (1 == p) && false;
   knows_stable = λ p d. not (1 == p) && false;
-  packets = λ i. None;
-  gathered = λ s d. false;
-  stored = λ d. false;
-  landed = λ i. false;
 }
 
 abbrev view : ℕ → ℕ
@@ -71,20 +67,10 @@ was_read = record answered {
 }
 
 starts : IsReachableWorld 2 1 first_world
-starts = opening first_world (record {
-  past = refl;
-  up = λ p low. grind (arith, low);
-  storage = refl;
-  absent = λ p high. grind (arith, high);
-  lanes = λ p. refl;
-  floors = λ p q. refl;
-  no_rounds = λ p. refl;
-  no_holders = λ p d q. refl;
-  no_stable = λ p d. refl;
-  no_packets = λ i. refl;
-  nothing_stored = λ d. refl;
-  nothing_landed = λ i. refl;
-})
+starts =
+    let up : (p : ℕ) → p < 2 → absent p ≡ false = λ p low. grind (arith, low) in
+    let gone : (p : ℕ) → suc 2 ≤ p → absent p ≡ true = λ p high. grind (arith, high) in
+    opening first_world assumption
 
 crashes : IsReachableWorld 2 1 crashed
 crashes = next_world first_world crashed starts (crash second (omega arith) refl (omega arith))

@@ -1,7 +1,7 @@
 -- A process to which all others have replied comes up.
 use Rattle.std.proofs.Common.{ℕ, suc, ◌≡◌, ◌<◌, ◌≤◌, ◌+◌, inl, inr, Bool, true, false, not, ◌&&◌, ◌||◌, nat_lt, List, ◌∷◌, Some, None, refl, sym, ap, subst, ◌∙◌, arith}
 use Rattle.std.specs.Prelude.{◌⊎◌, ◌==◌}
-use Rattle.std.proofs.lemmas.Bool.{both_ways, or_cases, or_left, or_right, and_from, eq-eqb, ne_eqb, cond-true, cond-false, lt-ltb}
+use Rattle.std.proofs.lemmas.Bool.{both_ways, or_cases, or_left, or_right, and_from, eq-eqb, ne_eqb, cond-true, cond-false, lt-ltb, false_from_ne_true, cases_lt}
 use Rattle.std.proofs.lemmas.Bool.Decides.{eqb_tells}
 use Rattle.causal_name.specs.declared.Pid.{Pid}
 use Rattle.causal_name.specs.declared.Det.{Det}
@@ -20,7 +20,7 @@ use Rattle.causal_rounds.proofs.Lemmas.GatheredSteps.{det_step_preserves}
 use Rattle.causal_rounds.proofs.Lemmas.AcceptanceSteps.{restarts_miss_nothing}
 use Rattle.causal_world.specs.World.{Packet, World, GatheredFrom, carrier_of, is_acceptable, if_carries, volatile_of, det_state_of}
 use Rattle.causal_world.specs.Invariant.{AbsentAreDown, WorldInvariant}
-use Rattle.causal_world.proofs.Lemmas.Functions.{apart_is}
+use Rattle.causal_world.proofs.Lemmas.Functions.{set_at_is, set_at_same, apart_is}
 use Rattle.causal_world.proofs.Lemmas.Transit.{packet_of, in_transit_of, landed_in_transit, acceptable_is, is_accepted, rounds_bring_nothing}
 
 module _ (n f : ℕ) (w : World) (k : WorldInvariant n f w) (who : Pid) (listed : List Det) (r : Round) (known : ℕ → Det → ℕ → Bool) (marked : ℕ → Det → Bool) (low : who.0 < n) (at : w.rounds.rounds who.0 ≡ Some r)
@@ -33,11 +33,7 @@ module _ (n f : ℕ) (w : World) (k : WorldInvariant n f w) (who : Pid) (listed 
   after = record w { past = Restart who listed ∷ w.past; rounds = risen; knows_holder = known; knows_stable = marked }
 
   all : (q : ℕ) → (q ≡ who.0 → ⊥) → r.replied q ≡ true
-  all q other = by (nat_lt q (suc n)) refl
-    where
-      by : (b : Bool) → nat_lt q (suc n) ≡ b → r.replied q ≡ true
-      by true is = all_low q (grind (arith, is)) other
-      by false is = k.absent.replied who.0 q r at (grind (arith, is))
+  all q other = elim (cases_lt q (suc n)) [ inl small ↦ all_low q small other | inr high ↦ k.absent.replied who.0 q r at high ]
 
   rises : RoundStep w.rounds risen
   rises = restart who.0 r at all
@@ -50,12 +46,7 @@ module _ (n f : ℕ) (w : World) (k : WorldInvariant n f w) (who : Pid) (listed 
 
   -- a process that is down logs nothing
   logged_nothing : (d : Det) → logs w.past who.0 d ≡ false
-  logged_nothing d = by (logs w.past who.0 d) refl
-    where
-      by : (b : Bool) → logs w.past who.0 d ≡ b → logs w.past who.0 d ≡ false
-      by false is = is
-      by true is =
-          absurd (both_ways (w.rounds.down who.0) ((k.dets d).logs_up who.0 (or_left _ _ (and_from _ _ (lt-ltb who.0 n low) is))) was_down)
+  logged_nothing d = false_from_ne_true (logs w.past who.0 d) (λ is. both_ways (w.rounds.down who.0) ((k.dets d).logs_up who.0 (or_left _ _ (and_from _ _ (lt-ltb who.0 n low) is))) was_down)
 
   high_away : (p : ℕ) → suc n ≤ p → p ≡ who.0 → ⊥
   high_away p above is = omega (arith, low, above, is)
@@ -117,28 +108,13 @@ module _ (n f : ℕ) (w : World) (k : WorldInvariant n f w) (who : Pid) (listed 
   logs_before d q = (nat_lt q n && logs w.past q d) || (q == n && w.stored d)
 
   -- a function that differs from what is logged only in that the process logs what it lists
-  logs_after : (d : Det) (g : ℕ → Bool) → g who.0 ≡ list_has listed d → ((q : ℕ) → (q ≡ who.0 → ⊥) → g q ≡ logs_before d q) → (p : ℕ) → g p ≡ ((nat_lt p n && ((who.0 == p && list_has listed d) || logs w.past p d)) || (p == n && w.stored d))
-  logs_after d g here away p = elim (eqb_tells p who.0) [
-    | inl is ↦
-        let same : (who.0 == p) ≡ true = eq-eqb who.0 p (sym is.1) in
-        let small : nat_lt p n ≡ true = subst (λ x. nat_lt x n ≡ true) (sym is.1) (lt-ltb who.0 n low) in
-        let none : logs w.past p d ≡ false = subst (λ x. logs w.past x d ≡ false) (sym is.1) (logged_nothing d) in
-        let apart : (p == n) ≡ false = subst (λ x. (x == n) ≡ false) (sym is.1) (apart_is who.0 n low) in
-        ap g is.1 ∙ here ∙ sym (at_who (nat_lt p n) (who.0 == p) (list_has listed d) (logs w.past p d) (p == n) (w.stored d) small same none apart)
-    | inr other ↦ let differ : (who.0 == p) ≡ false = ne_eqb who.0 p (λ e. other.1 (sym e)) in away p other.1 ∙ sym (elsewhere (nat_lt p n) (who.0 == p) (list_has listed d) (logs w.past p d) (p == n && w.stored d) differ)
-  ]
-    where
-      at_who : (a b c x e g : Bool) → a ≡ true → b ≡ true → x ≡ false → e ≡ false → ((a && ((b && c) || x)) || (e && g)) ≡ c
-      at_who a b c x e g ha hb hx he = grind (arith, ha, hb, hx, he)
+  logs_after : (d : Det) (g : ℕ → Bool) → g who.0 ≡ list_has listed d → ((q : ℕ) → (q ≡ who.0 → ⊥) → g q ≡ logs_before d q) → (p : ℕ) → g p ≡ (det_state_of n after d).logs p
+  logs_after d g here away p = sym (set_at_same g who.0 (list_has listed d) p here) ∙ set_at_is g (det_state_of n after d).logs who.0 (list_has listed d)
+      (let small = lt-ltb who.0 n low in let none = logged_nothing d in let apart = apart_is who.0 n low in grind (arith, eqb_tells who.0 who.0, small, none, apart))
+      (λ q other. sym (away q other ∙ grind (arith, eqb_tells who.0 q, other))) p
 
-      elsewhere : (a b c x e : Bool) → b ≡ false → ((a && ((b && c) || x)) || e) ≡ ((a && x) || e)
-      elsewhere a b c x e hb = grind (arith, hb)
-
-  recover_after : (d : Det) (p : ℕ) → with_value_at (λ q. nat_lt q n && must_recover w.past q d) who.0 false p ≡ (nat_lt p n && (not (who.0 == p) && must_recover w.past p d))
-  recover_after d p = elim (set_at_cases (λ q. nat_lt q n && must_recover w.past q d) who.0 false p) [
-    | inl is ↦ let same : (who.0 == p) ≡ true = eq-eqb who.0 p (sym is.0) in is.1 ∙ grind (arith, same)
-    | inr other ↦ let differ : (who.0 == p) ≡ false = ne_eqb who.0 p (λ e. other.0 (sym e)) in other.1 ∙ grind (arith, differ)
-  ]
+  recover_after : (d : Det) (p : ℕ) → with_value_at (det_state_of n w d).must_recover who.0 false p ≡ (det_state_of n after d).must_recover p
+  recover_after d = set_at_is (det_state_of n w d).must_recover (det_state_of n after d).must_recover who.0 false (grind (arith, eqb_tells who.0 who.0)) (λ q other. grind (arith, eqb_tells who.0 q, other))
 
   abbrev risen_det : Det → (ℕ → Bool) → DetState
   risen_det d g = record { state = risen; logs = g; must_recover = with_value_at (λ q. nat_lt q n && must_recover w.past q d) who.0 false; stable = is_stable w.past d; carriers = (det_state_of n w d).carriers; gathered = (det_state_of n w d).gathered }

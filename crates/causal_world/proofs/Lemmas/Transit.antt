@@ -1,7 +1,7 @@
 -- What is in transit in a world, and that steps bring nothing into transit but what is sent.
 use Rattle.std.proofs.Common.{ℕ, suc, ◌≡◌, ◌<◌, ◌≤◌, inl, inr, Bool, true, false, cond, not, ◌&&◌, ◌||◌, nat_lt, nat_le, Option, Some, None, refl, sym, ap, subst, ◌∙◌, arith}
 use Rattle.std.specs.Prelude.{◌⊎◌, ◌==◌}
-use Rattle.std.proofs.lemmas.Bool.{false≢true, both_ways, or_cases, or_left, or_right, and_from, and_parts, eqb-true, eq-eqb, cond-true, cond-false, not_from_false}
+use Rattle.std.proofs.lemmas.Bool.{false≢true, both_ways, or_cases, or_left, or_right, and_from, and_parts, eqb-true, eq-eqb, cond-true, cond-false, not_from_false, false_from_ne_true, cases_lt}
 use Rattle.std.proofs.lemmas.Bool.Decides.{eqb_tells}
 use Rattle.causal_name.specs.Sets.{any_below}
 use Rattle.causal_holders.proofs.Lemmas.MemberCounts.{any_below-found, any_below-from}
@@ -23,26 +23,19 @@ module _ (n : ℕ) (w : RecoveryState) where
   open_is : (s : ℕ) (r : Round) → ((q : ℕ) → n ≤ q → r.replied q ≡ true) → is_open n w s r ≡ true → MayComplete w s r
   open_is s r absent h q other no_reply = elim (eqb_tells (number w q) (r.view q)) [
     | inl same ↦ same.1
-    | inr differ ↦ absurd (elim (under (nat_lt q n) refl) [
+    | inr differ ↦ absurd (elim (cases_lt q n) [
       | inl low ↦ both_ways (any_below n (is_apart w s r)) (negated h) (any_below-from n (is_apart w s r) q low (grind (arith, eqb_tells q s, no_reply, differ)))
       | inr high ↦ both_ways (r.replied q) no_reply (absent q high)
     ])
   ]
     where
-      under : (b : Bool) → nat_lt q n ≡ b → (q < n) ⊎ (n ≤ q)
-      under b is = grind arith
-
       negated : not (any_below n (is_apart w s r)) ≡ true → any_below n (is_apart w s r) ≡ false
       negated h = grind arith
 
   is_opened : (s : ℕ) (r : Round) → MayComplete w s r → is_open n w s r ≡ true
-  is_opened s r opened = by (any_below n (is_apart w s r)) refl
-    where
-      by : (b : Bool) → any_below n (is_apart w s r) ≡ b → not b ≡ true
-      by false is = refl
-      by true is =
-          let found = any_below-found n (is_apart w s r) is in
-          absurd (grind (arith, found.2, eqb_tells found.0 s, opened found.0, eqb_tells (number w found.0) (r.view found.0)))
+  is_opened s r opened = ap not (false_from_ne_true (any_below n (is_apart w s r)) (λ is.
+      let found = any_below-found n (is_apart w s r) is in
+      grind (arith, found.2, eqb_tells found.0 s, opened found.0, eqb_tells (number w found.0) (r.view found.0))))
 
   -- the test of what is acceptable
   pub acceptable_is : AbsentAreDown n w → (t : Carrier) → is_acceptable n w t ≡ true → IsAcceptable w t
