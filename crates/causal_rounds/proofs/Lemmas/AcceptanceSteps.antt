@@ -1,18 +1,12 @@
 -- Nothing becomes acceptable except by being sent.
-use Rattle.std.proofs.Common.{ℕ, ◌≡◌, ◌≤◌, ◌+◌, inl, inr, Bool, true, false, cond, Some, None, refl, sym, ap, subst, ◌∙◌, arith}
-use Rattle.std.proofs.lemmas.Bool.{both_ways, cond-true, cond-false}
+use Rattle.std.proofs.Common.{ℕ, ◌≡◌, ◌≤◌, ◌+◌, inl, inr, Bool, true, false, Some, None, refl, sym, ap, subst, ◌∙◌, arith}
+use Rattle.std.proofs.lemmas.Bool.{both_ways, cases_Bool}
 use Rattle.std.proofs.lemmas.Bool.Decides.{eqb_tells}
 use Rattle.causal_rounds.specs.Rounds.{with_value_at, Round, RecoveryState, number, new_round, with_reply, crash, begin, give_up, answer, refuse, not_up, restart, RoundInvariant}
 use Rattle.causal_rounds.specs.Gathered.{Carrier, DetState, MayComplete, DetInvariant, IsInTransitAfter, to_up, to_new, from_up, to_round}
 use Rattle.causal_rounds.specs.Acceptance.{IsAcceptable, by_floor, by_sender, by_round, AcceptanceNeedsSending, RestartsMissNothing}
-use Rattle.causal_rounds.proofs.Lemmas.RoundSteps.{set_at_cases, some_is, none_some, set_at_here, set_at_away}
-use Rattle.causal_rounds.proofs.Lemmas.GatheredSteps.{restarts_gather_all}
-
-pub number_up : (w : RecoveryState) (q : ℕ) → w.down q ≡ false → number w q ≡ w.lane q
-number_up w q up = cond-false (w.down q) (w.lane q + 1) (w.lane q) up
-
-pub number_down : (w : RecoveryState) (q : ℕ) → w.down q ≡ true → number w q ≡ w.lane q + 1
-number_down w q down = cond-true (w.down q) (w.lane q + 1) (w.lane q) down
+use Rattle.causal_rounds.proofs.Lemmas.RoundSteps.{set_at_cases, some_is, none_some, set_at_here, set_at_away, fewer, number_up, number_down, number_risen}
+use Rattle.causal_rounds.proofs.Lemmas.GatheredSteps.{was_open, restarts_gather_all}
 
 module _ (w : RecoveryState) (h : RoundInvariant w) (t : Carrier) (low : t.lane ≤ w.lane t.from) where
   -- p goes down
@@ -20,35 +14,13 @@ module _ (w : RecoveryState) (h : RoundInvariant w) (t : Carrier) (low : t.lane 
     abbrev fallen : RecoveryState
     fallen = record w { down = with_value_at w.down p true }
 
-    was_up : (q : ℕ) → with_value_at w.down p true q ≡ false → w.down q ≡ false
-    was_up q is = elim (set_at_cases w.down p true q) [ inl me ↦ absurd (both_ways (with_value_at w.down p true q) is me.1) | inr other ↦ sym other.1 ∙ is ]
-
-    had_replied : (s : ℕ) (r : Round) → w.rounds s ≡ Some r → MayComplete fallen s r → r.replied p ≡ true
-    had_replied s r at fitting = by (r.replied p) refl
-      where
-        by : (b : Bool) → r.replied p ≡ b → r.replied p ≡ true
-        by true is = is
-        by false is =
-            let not_s : p ≡ s → ⊥ = λ me. both_ways (w.down p) up (subst (λ x. w.down x ≡ true) (sym me) (h.gathering_are_down s r at)) in
-            let fits = fitting p not_s is in
-            let now = number_down fallen p (set_at_here w.down p true) in
-            let then = number_up w p up in
-            let seen = h.views_told s p r at in
-            absurd (omega (arith, fits, now, then, seen))
-
-    was_open : (s : ℕ) (r : Round) → w.rounds s ≡ Some r → MayComplete fallen s r → MayComplete w s r
-    was_open s r at fitting q other no_reply =
-        let not_p : q ≡ p → ⊥ = λ is. both_ways (r.replied q) no_reply (subst (λ x. r.replied x ≡ true) (sym is) (had_replied s r at fitting)) in
-        sym (ap (λ (b : Bool). cond b (w.lane q + 1) (w.lane q)) (set_at_away w.down p true q not_p)) ∙ fitting q other no_reply
-
     before_crash : IsAcceptable fallen t → IsAcceptable w t
-    before_crash (by_floor is_up floor) = by_floor (was_up t.to is_up) floor
-    before_crash (by_sender down sender lane) = by (w.down t.to) refl
-      where
-        by : (b : Bool) → w.down t.to ≡ b → IsAcceptable w t
-        by true is = by_sender is (was_up t.from sender) lane
-        by false is = by_floor is (let floor = h.floors_told t.to t.from in let count = number_up w t.from (was_up t.from sender) in omega (arith, floor, count, lane))
-    before_crash (by_round o down at fitting replied_q view) = by_round o (h.gathering_are_down t.to o at) at (was_open t.to o at fitting) replied_q view
+    before_crash (by_floor is_up floor) = by_floor (fewer w.down p t.to is_up) floor
+    before_crash (by_sender down sender lane) = elim (cases_Bool (w.down t.to)) [
+      | inl is ↦ by_sender is (fewer w.down p t.from sender) lane
+      | inr is ↦ by_floor is (let floor = h.floors_told t.to t.from in let count = number_up w t.from (fewer w.down p t.from sender) in omega (arith, floor, count, lane))
+    ]
+    before_crash (by_round o down at fitting replied_q view) = by_round o (h.gathering_are_down t.to o at) at (was_open w p up h t.to o at fitting) replied_q view
 
   before_begin : (s : ℕ) (view : ℕ → ℕ) (absent : ℕ → Bool) → ((q : ℕ) → absent q ≡ true → (w.down q ≡ true) × (w.rounds q ≡ None) × (view q ≡ w.lane q + 1))
       → IsAcceptable (record w { rounds = with_value_at w.rounds s (Some (new_round view absent)) }) t → IsAcceptable w t
@@ -85,19 +57,14 @@ module _ (w : RecoveryState) (h : RoundInvariant w) (t : Carrier) (low : t.lane 
     -- to s, from a process that had replied, or from this one
     to_asker : t.to ≡ s → w.down t.to ≡ true → MayComplete w s told → told.replied t.from ≡ true → r.view t.from ≤ t.lane → IsAcceptable w t
     to_asker is down fitting replied_q above = elim (set_at_cases r.replied y true t.from) [
-      | inl me ↦ by (w.down t.from) refl me.0
+      | inl me ↦
+          let number_here : number w t.from ≡ r.view t.from = subst (λ x. number w x ≡ r.view x) (sym me.0) fits in
+          elim (cases_Bool (w.down t.from)) [
+            | inl is_down ↦ let count = number_down w t.from is_down in absurd (omega (arith, count, number_here, above, low))
+            | inr is_up ↦ let count = number_up w t.from is_up in by_sender down is_up (omega (arith, count, number_here, above, low))
+          ]
       | inr old ↦ by_round r down (ap w.rounds is ∙ at) (subst (λ x. MayComplete w x r) (sym is) (open_before fitting)) (sym old.1 ∙ replied_q) above
     ]
-      where
-        by : (b : Bool) → w.down t.from ≡ b → t.from ≡ y → IsAcceptable w t
-        by false is_up me =
-            let count = number_up w t.from is_up in
-            let number_here : number w t.from ≡ r.view t.from = subst (λ x. number w x ≡ r.view x) (sym me) fits in
-            by_sender down is_up (omega (arith, count, number_here, above, low))
-        by true is_down me =
-            let count = number_down w t.from is_down in
-            let number_here : number w t.from ≡ r.view t.from = subst (λ x. number w x ≡ r.view x) (sym me) fits in
-            absurd (omega (arith, count, number_here, above, low))
 
     as_round : (p : ℕ) (o : Round) → p ≡ s → told ≡ o → MayComplete w p o → MayComplete w s told
     as_round p o is same fitting = subst (λ (x : Round). MayComplete w s x) (sym same) (subst (λ x. MayComplete w x o) is fitting)
@@ -141,12 +108,6 @@ module _ (w : RecoveryState) (h : RoundInvariant w) (t : Carrier) (low : t.lane 
     down_s : w.down s ≡ true
     down_s = h.gathering_are_down s r at
 
-    number_same : (q : ℕ) → number risen q ≡ number w q
-    number_same q = elim (eqb_tells q s) [
-      | inl is ↦ subst (λ x. number risen x ≡ number w x) (sym is.1) (number_up risen s (set_at_here w.down s false) ∙ set_at_here w.lane s (w.lane s + 1) ∙ sym (number_down w s down_s))
-      | inr other ↦ ap (λ (b : Bool). cond b (risen.lane q + 1) (risen.lane q)) (set_at_away w.down s false q other.1) ∙ ap (λ l. cond (w.down q) (l + 1) l) (set_at_away w.lane s (w.lane s + 1) q other.1)
-    ]
-
     -- nothing was sent by the new lane of s
     not_new : t.from ≡ s → t.lane ≡ with_value_at w.lane s (w.lane s + 1) t.from → ⊥
     not_new is lane =
@@ -179,7 +140,7 @@ module _ (w : RecoveryState) (h : RoundInvariant w) (t : Carrier) (low : t.lane 
     ]
     before_restart (by_round o down there fitting replied_q above) =
         let old = still_down t.to down in
-        by_round o old.1 (sym (set_at_away w.rounds s None t.to old.0) ∙ there) (λ q other no_reply. sym (number_same q) ∙ fitting q other no_reply) replied_q above
+        by_round o old.1 (sym (set_at_away w.rounds s None t.to old.0) ∙ there) (λ q other no_reply. sym (number_risen w risen s refl refl down_s q) ∙ fitting q other no_reply) replied_q above
 
 before_refuse : (w : RecoveryState) (t : Carrier) (y : ℕ) (floors : ℕ → ℕ) → ((z : ℕ) → w.floors y z ≤ floors z) → IsAcceptable (record w { floors = with_value_at w.floors y floors }) t → IsAcceptable w t
 before_refuse w t y floors rise (by_floor up floor) = by_floor up (elim (set_at_cases w.floors y floors t.to) [

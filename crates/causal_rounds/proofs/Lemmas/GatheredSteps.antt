@@ -1,18 +1,18 @@
 -- Each step preserves the invariant of one determinant.
 use Rattle.std.proofs.Common.{ℕ, ◌≡◌, ◌≤◌, ◌+◌, inl, inr, Bool, true, false, cond, Some, None, refl, sym, ap, subst, ◌∙◌, arith}
 use Rattle.std.specs.Prelude.{◌⊎◌, ◌==◌, ◌||◌}
-use Rattle.std.proofs.lemmas.Bool.{both_ways, or_left, or_right, cond-true, cond-false}
+use Rattle.std.proofs.lemmas.Bool.{both_ways, or_left, or_right, cases_Bool, true_from_ne_false}
 use Rattle.std.proofs.lemmas.Bool.Decides.{eqb_tells}
-use Rattle.causal_rounds.specs.Rounds.{with_value_at, Round, number, new_round, with_reply, RoundInvariant}
+use Rattle.causal_rounds.specs.Rounds.{with_value_at, Round, RecoveryState, number, new_round, with_reply, RoundInvariant}
 use Rattle.causal_rounds.specs.Gathered.{Carrier, DetState, MayComplete, HasFromLane, emit, take, deliver_again, deliver_as_new, forget, record_stable, crash, begin, give_up, answer, refuse, not_up, restart, DetInvariant, DetStepsPreserve, IsInTransitAfter, to_up, to_new, from_up, to_round, RestartsGatherAll}
-use Rattle.causal_rounds.proofs.Lemmas.RoundSteps.{set_at_cases, some_is, none_some, set_at_here, set_at_away}
+use Rattle.causal_rounds.proofs.Lemmas.RoundSteps.{set_at_cases, some_is, none_some, set_at_here, set_at_away, more, number_up, number_down, number_risen}
 
 abbrev Result : DetState → ℕ → Round → Type 0
 Result a s r = (a.gathered s ≡ true) ⊎ ((z : ℕ) × (r.replied z ≡ false) × (a.logs z ≡ true))
 
--- one process more logs it
-more : (f : ℕ → Bool) (p q : ℕ) → f q ≡ true → with_value_at f p true q ≡ true
-more f p q h = elim (set_at_cases f p true q) [ inl is ↦ is.1 | inr other ↦ other.1 ∙ h ]
+-- what the invariant says of rounds
+abbrev Gathers : DetState → Type 0
+Gathers a = (s q : ℕ) (r : Round) → a.state.rounds s ≡ Some r → MayComplete a.state s r → a.must_recover s ≡ true → a.stable ≡ false → r.replied q ≡ true → HasFromLane a q (r.view q) → Result a s r
 
 -- one process less logs it
 less : (f : ℕ → Bool) (p q : ℕ) → with_value_at f p false q ≡ true → (q ≡ p → ⊥) × (f q ≡ true)
@@ -20,18 +20,17 @@ less f p q h = elim (set_at_cases f p false q) [ inl is ↦ absurd (both_ways (w
 
 -- if the view is not above the lane from which something came, something sent from the lane of the view carries it
 at_view : (a : DetState) → RoundInvariant a.state → DetInvariant a → (s : ℕ) (r : Round) → a.state.rounds s ≡ Some r → (i : ℕ) (t : Carrier) → a.carriers i ≡ Some t → r.replied t.from ≡ true → r.view t.from ≤ t.lane → HasFromLane a t.from (r.view t.from)
-at_view a h k s r at i t there replied_q above = by (r.answered t.from) refl
-  where
-    by : (b : Bool) → r.answered t.from ≡ b → HasFromLane a t.from (r.view t.from)
-    by true is =
-        let same = h.same_lane s t.from r at replied_q is in
-        let low = k.lanes i t there in
-        let lane : t.lane ≡ r.view t.from = omega (arith, same, low, above) in
-        inr (i, t, there, refl, lane)
-    by false is =
-        let same = (h.still_down s t.from r at replied_q is).1 in
-        let low = k.lanes i t there in
-        absurd (omega (arith, same, low, above))
+at_view a h k s r at i t there replied_q above = elim (cases_Bool (r.answered t.from)) [
+  | inl is ↦
+      let same = h.same_lane s t.from r at replied_q is in
+      let low = k.lanes i t there in
+      let lane : t.lane ≡ r.view t.from = omega (arith, same, low, above) in
+      inr (i, t, there, refl, lane)
+  | inr is ↦
+      let same = (h.still_down s t.from r at replied_q is).1 in
+      let low = k.lanes i t there in
+      absurd (omega (arith, same, low, above))
+]
 
 -- y alone logs more, and a round to which it has replied learns of it
 module _ (a : DetState) (y : ℕ) (up : a.state.down y ≡ false) (k : DetInvariant a) where
@@ -64,11 +63,7 @@ taken : (a : DetState) (y i : ℕ) (t : Carrier) → a.state.down y ≡ false �
 taken a y i t up there floor h k s r at fitting must unstable replied_q = by (r.replied t.from) refl (eqb_tells t.from s)
   where
     answered : r.answered y ≡ true
-    answered = from (r.answered y) refl
-      where
-        from : (b : Bool) → r.answered y ≡ b → r.answered y ≡ true
-        from true is = is
-        from false is = absurd (both_ways (a.state.down y) up (h.still_down s y r at replied_q is).0)
+    answered = true_from_ne_false (r.answered y) (λ is. both_ways (a.state.down y) up (h.still_down s y r at replied_q is).0)
 
     above : r.view t.from ≤ t.lane
     above = let low = h.refuses s y t.from r at answered up in omega (arith, low, floor)
@@ -80,20 +75,19 @@ taken a y i t up there floor h k s r at fitting must unstable replied_q = by (r.
         let low = k.lanes i t there in
         let mine : r.view t.from ≡ a.state.lane t.from + 1 = subst (λ x. r.view x ≡ a.state.lane x + 1) (sym me.1) own in
         absurd (omega (arith, mine, low, above))
-    by false is (inr other) = up_or_not (a.state.down t.from) refl
-      where
-        up_or_not : (b : Bool) → a.state.down t.from ≡ b → Result a s r
-        up_or_not true down =
-            let count : number a.state t.from ≡ a.state.lane t.from + 1 = cond-true (a.state.down t.from) (a.state.lane t.from + 1) (a.state.lane t.from) down in
-            let fits = fitting t.from other.1 is in
-            let low = k.lanes i t there in
-            absurd (omega (arith, count, fits, low, above))
-        up_or_not false is_up =
-            let count : number a.state t.from ≡ a.state.lane t.from = cond-false (a.state.down t.from) (a.state.lane t.from + 1) (a.state.lane t.from) is_up in
-            let fits = fitting t.from other.1 is in
-            let low = k.lanes i t there in
-            let lane : t.lane ≡ a.state.lane t.from = omega (arith, count, fits, low, above) in
-            elim (k.sent i t there is_up lane) [ inl has_it ↦ inr (t.from, is, has_it) | inr stable ↦ absurd (both_ways a.stable unstable stable) ]
+    by false is (inr other) = elim (cases_Bool (a.state.down t.from)) [
+      | inl down ↦
+          let count = number_down a.state t.from down in
+          let fits = fitting t.from other.1 is in
+          let low = k.lanes i t there in
+          absurd (omega (arith, count, fits, low, above))
+      | inr is_up ↦
+          let count = number_up a.state t.from is_up in
+          let fits = fitting t.from other.1 is in
+          let low = k.lanes i t there in
+          let lane : t.lane ≡ a.state.lane t.from = omega (arith, count, fits, low, above) in
+          elim (k.sent i t there is_up lane) [ inl has_it ↦ inr (t.from, is, has_it) | inr stable ↦ absurd (both_ways a.stable unstable stable) ]
+    ]
 
 -- p sends something
 module _ (a : DetState) (p to i : ℕ) (up : a.state.down p ≡ false) (has_it : a.logs p ≡ true) (free : a.carriers i ≡ None) (k : DetInvariant a) where
@@ -121,30 +115,25 @@ module _ (a : DetState) (p to i : ℕ) (up : a.state.down p ≡ false) (has_it :
     ];
   }
 
--- p goes down
+-- p goes down: it has replied to a round that may still complete
+module _ (w : RecoveryState) (p : ℕ) (up : w.down p ≡ false) (h : RoundInvariant w) (s : ℕ) (r : Round) (at : w.rounds s ≡ Some r) (fitting : MayComplete (record w { down = with_value_at w.down p true }) s r) where
+  pub had_replied : r.replied p ≡ true
+  had_replied = true_from_ne_false (r.replied p) (λ is.
+      let not_s : p ≡ s → ⊥ = λ me. both_ways (w.down p) up (subst (λ x. w.down x ≡ true) (sym me) (h.gathering_are_down s r at)) in
+      let fits = fitting p not_s is in
+      let now = number_down (record w { down = with_value_at w.down p true }) p (set_at_here w.down p true) in
+      let then = number_up w p up in
+      let low = h.views_told s p r at in
+      omega (arith, fits, now, then, low))
+
+  pub was_open : MayComplete w s r
+  was_open q other no_reply =
+      let not_p : q ≡ p → ⊥ = λ is. both_ways (r.replied q) no_reply (subst (λ x. r.replied x ≡ true) (sym is) had_replied) in
+      sym (ap (λ (b : Bool). cond b (w.lane q + 1) (w.lane q)) (set_at_away w.down p true q not_p)) ∙ fitting q other no_reply
+
 module _ (a : DetState) (p : ℕ) (up : a.state.down p ≡ false) (h : RoundInvariant a.state) (k : DetInvariant a) where
   abbrev fallen : DetState
   fallen = record a { state = record a.state { down = with_value_at a.state.down p true }; logs = with_value_at a.logs p false; must_recover = with_value_at a.must_recover p (a.logs p) }
-
-  -- p has replied to a round that may still complete
-  had_replied : (s : ℕ) (r : Round) → a.state.rounds s ≡ Some r → MayComplete fallen.state s r → r.replied p ≡ true
-  had_replied s r at fitting = by (r.replied p) refl
-    where
-      by : (b : Bool) → r.replied p ≡ b → r.replied p ≡ true
-      by true is = is
-      by false is =
-          let not_s : p ≡ s → ⊥ = λ me. both_ways (a.state.down p) up (subst (λ x. a.state.down x ≡ true) (sym me) (h.gathering_are_down s r at)) in
-          let fits = fitting p not_s is in
-          let now : number fallen.state p ≡ a.state.lane p + 1 = cond-true (fallen.state.down p) (a.state.lane p + 1) (a.state.lane p) (set_at_here a.state.down p true) in
-          let then : number a.state p ≡ a.state.lane p = cond-false (a.state.down p) (a.state.lane p + 1) (a.state.lane p) up in
-          let low = h.views_told s p r at in
-          absurd (omega (arith, fits, now, then, low))
-
-  was_open : (s : ℕ) (r : Round) → a.state.rounds s ≡ Some r → MayComplete fallen.state s r → MayComplete a.state s r
-  was_open s r at fitting q other no_reply =
-      let not_p : q ≡ p → ⊥ = λ is. both_ways (r.replied q) no_reply (subst (λ x. r.replied x ≡ true) (sym is) (had_replied s r at fitting)) in
-      let same : number fallen.state q ≡ number a.state q = ap (λ (b : Bool). cond b (a.state.lane q + 1) (a.state.lane q)) (set_at_away a.state.down p true q not_p) in
-      sym same ∙ fitting q other no_reply
 
   fall_preserves : DetInvariant fallen
   fall_preserves = record {
@@ -162,9 +151,9 @@ module _ (a : DetState) (p : ℕ) (up : a.state.down p ≡ false) (h : RoundInva
         let not_p : s ≡ p → ⊥ = λ me. both_ways (a.state.down p) up (subst (λ x. a.state.down x ≡ true) me (h.gathering_are_down s r at)) in
         let old_must = sym (set_at_away a.must_recover p (a.logs p) s not_p) ∙ must in
         let had : HasFromLane a q (r.view q) = elim has_d [ inl logs_it ↦ inl (less a.logs p q logs_it).1 | inr thing ↦ inr thing ] in
-        elim (k.gathers s q r at (was_open s r at fitting) old_must unstable replied_q had) [
+        elim (k.gathers s q r at (was_open a.state p up h s r at fitting) old_must unstable replied_q had) [
           | inl got ↦ inl got
-          | inr (z, no_reply, has_it) ↦ inr (z, no_reply, set_at_away a.logs p false z (λ is. both_ways (r.replied z) no_reply (subst (λ x. r.replied x ≡ true) (sym is) (had_replied s r at fitting))) ∙ has_it)
+          | inr (z, no_reply, has_it) ↦ inr (z, no_reply, set_at_away a.logs p false z (λ is. both_ways (r.replied z) no_reply (subst (λ x. r.replied x ≡ true) (sym is) (had_replied a.state p up h s r at fitting))) ∙ has_it)
         ];
   }
 
@@ -174,36 +163,28 @@ module _ (a : DetState) (s : ℕ) (view : ℕ → ℕ) (absent : ℕ → Bool) (
   started = record a { state = record a.state { rounds = with_value_at a.state.rounds s (Some (new_round view absent)) }; gathered = with_value_at a.gathered s false }
 
   start_preserves : DetInvariant started
-  start_preserves = record {
-    logs_up = k.logs_up;
-    recovering_are_down = k.recovering_are_down;
-    lanes = k.lanes;
-    sent = k.sent;
-    gathers = λ p q r at fitting must unstable replied_q has_d. elim (set_at_cases a.state.rounds s (Some (new_round view absent)) p) [
-      | inl is ↦
-          let same : new_round view absent ≡ r = some_is (new_round view absent) r (sym is.1 ∙ at) in
-          let fact = gone q (ap (λ (o : Round). o.replied q) same ∙ replied_q) in
-          let next : r.view q ≡ a.state.lane q + 1 = sym (ap (λ (o : Round). o.view q) same) ∙ fact.1 in
-          absurd (elim has_d [
-            | inl logs_d ↦ both_ways (a.state.down q) (k.logs_up q logs_d) fact.0
-            | inr (i, t, there, from, lane) ↦ (let low = k.lanes i t there in let low_q : t.lane ≤ a.state.lane q = subst (λ x. t.lane ≤ a.state.lane x) from low in omega (arith, low_q, lane, next))
-          ])
-      | inr other ↦ elim (k.gathers p q r (sym other.1 ∙ at) fitting must unstable replied_q has_d) [ inl got ↦ inl (set_at_away a.gathered s false p other.0 ∙ got) | inr rest ↦ inr rest ]
-    ];
-  }
+  start_preserves =
+      let gathers : Gathers started = λ p q r at fitting must unstable replied_q has_d. elim (set_at_cases a.state.rounds s (Some (new_round view absent)) p) [
+        | inl is ↦
+            let same : new_round view absent ≡ r = some_is (new_round view absent) r (sym is.1 ∙ at) in
+            let fact = gone q (ap (λ (o : Round). o.replied q) same ∙ replied_q) in
+            let next : r.view q ≡ a.state.lane q + 1 = sym (ap (λ (o : Round). o.view q) same) ∙ fact.1 in
+            absurd (elim has_d [
+              | inl logs_d ↦ both_ways (a.state.down q) (k.logs_up q logs_d) fact.0
+              | inr (i, t, there, from, lane) ↦ (let low = k.lanes i t there in let low_q : t.lane ≤ a.state.lane q = subst (λ x. t.lane ≤ a.state.lane x) from low in omega (arith, low_q, lane, next))
+            ])
+        | inr other ↦ elim (k.gathers p q r (sym other.1 ∙ at) fitting must unstable replied_q has_d) [ inl got ↦ inl (set_at_away a.gathered s false p other.0 ∙ got) | inr rest ↦ inr rest ]
+      ] in
+      assumption
 
 -- a round is given up
 end_preserves : (a : DetState) (s : ℕ) → DetInvariant a → DetInvariant (record a { state = record a.state { rounds = with_value_at a.state.rounds s None } })
-end_preserves a s k = record {
-  logs_up = k.logs_up;
-  recovering_are_down = k.recovering_are_down;
-  lanes = k.lanes;
-  sent = k.sent;
-  gathers = λ p q r at fitting must unstable replied_q has_d. elim (set_at_cases a.state.rounds s None p) [
-    | inl is ↦ absurd (none_some r (sym is.1 ∙ at))
-    | inr other ↦ k.gathers p q r (sym other.1 ∙ at) fitting must unstable replied_q has_d
-  ];
-}
+end_preserves a s k =
+    let gathers : Gathers (record a { state = record a.state { rounds = with_value_at a.state.rounds s None } }) = λ p q r at fitting must unstable replied_q has_d. elim (set_at_cases a.state.rounds s None p) [
+      | inl is ↦ absurd (none_some r (sym is.1 ∙ at))
+      | inr other ↦ k.gathers p q r (sym other.1 ∙ at) fitting must unstable replied_q has_d
+    ] in
+    assumption
 
 -- y answers s
 module _ (a : DetState) (y s : ℕ) (r : Round) (floors : ℕ → ℕ) (up : a.state.down y ≡ false) (at : a.state.rounds s ≡ Some r) (fits : r.view y ≡ a.state.lane y) (k : DetInvariant a) where
@@ -221,7 +202,7 @@ module _ (a : DetState) (y s : ℕ) (r : Round) (floors : ℕ → ℕ) (up : a.s
 
   open_before : MayComplete a.state s told → MayComplete a.state s r
   open_before fitting q other no_reply = elim (set_at_cases r.replied y true q) [
-    | inl is ↦ subst (λ x. number a.state x ≡ r.view x) (sym is.0) (cond-false (a.state.down y) (a.state.lane y + 1) (a.state.lane y) up ∙ sym fits)
+    | inl is ↦ subst (λ x. number a.state x ≡ r.view x) (sym is.0) (number_up a.state y up ∙ sym fits)
     | inr fact ↦ fitting q other (fact.1 ∙ no_reply)
   ]
 
@@ -244,16 +225,12 @@ module _ (a : DetState) (y s : ℕ) (r : Round) (floors : ℕ → ℕ) (up : a.s
   ]
 
   answered_preserves : DetInvariant answered
-  answered_preserves = record {
-    logs_up = k.logs_up;
-    recovering_are_down = k.recovering_are_down;
-    lanes = k.lanes;
-    sent = k.sent;
-    gathers = λ p q o there fitting must unstable replied_q has_d. elim (set_at_cases a.state.rounds s (Some told) p) [
-      | inl is ↦ by p is.0 q o (some_is told o (sym is.1 ∙ there)) fitting must unstable replied_q has_d
-      | inr other ↦ elim (k.gathers p q o (sym other.1 ∙ there) fitting must unstable replied_q has_d) [ inl got ↦ inl (set_at_away a.gathered s (a.gathered s || a.logs y) p other.0 ∙ got) | inr rest ↦ inr rest ]
-    ];
-  }
+  answered_preserves =
+      let gathers : Gathers answered = λ p q o there fitting must unstable replied_q has_d. elim (set_at_cases a.state.rounds s (Some told) p) [
+        | inl is ↦ by p is.0 q o (some_is told o (sym is.1 ∙ there)) fitting must unstable replied_q has_d
+        | inr other ↦ elim (k.gathers p q o (sym other.1 ∙ there) fitting must unstable replied_q has_d) [ inl got ↦ inl (set_at_away a.gathered s (a.gathered s || a.logs y) p other.0 ∙ got) | inr rest ↦ inr rest ]
+      ] in
+      assumption
     where
       by : (p : ℕ) → p ≡ s → (q : ℕ) (o : Round) → told ≡ o → MayComplete a.state p o → a.must_recover p ≡ true → a.stable ≡ false → o.replied q ≡ true → HasFromLane a q (o.view q) → Result answered p o
       by p is q o same fitting must unstable replied_q has_d =
@@ -270,7 +247,7 @@ module _ (a : DetState) (y s : ℕ) (r : Round) (down : a.state.down y ≡ true)
 
   still_open : MayComplete a.state s said → MayComplete a.state s r
   still_open fitting q other no_reply = elim (set_at_cases r.replied y true q) [
-    | inl is ↦ subst (λ x. number a.state x ≡ r.view x) (sym is.0) (cond-true (a.state.down y) (a.state.lane y + 1) (a.state.lane y) down ∙ sym fits)
+    | inl is ↦ subst (λ x. number a.state x ≡ r.view x) (sym is.0) (number_down a.state y down ∙ sym fits)
     | inr fact ↦ fitting q other (fact.1 ∙ no_reply)
   ]
 
@@ -294,19 +271,15 @@ module _ (a : DetState) (y s : ℕ) (r : Round) (down : a.state.down y ≡ true)
   ]
 
   said_preserves : DetInvariant silent
-  said_preserves = record {
-    logs_up = k.logs_up;
-    recovering_are_down = k.recovering_are_down;
-    lanes = k.lanes;
-    sent = k.sent;
-    gathers = λ p q o there fitting must unstable replied_q has_d. elim (set_at_cases (with_value_at a.state.rounds s (Some said)) y None p) [
-      | inl is ↦ absurd (none_some o (sym is.1 ∙ there))
-      | inr not_y ↦ elim (set_at_cases a.state.rounds s (Some said) p) [
-        | inl is ↦ by p is.0 q o (some_is said o (sym is.1 ∙ sym not_y.1 ∙ there)) fitting must unstable replied_q has_d
-        | inr other ↦ k.gathers p q o (sym other.1 ∙ sym not_y.1 ∙ there) fitting must unstable replied_q has_d
-      ]
-    ];
-  }
+  said_preserves =
+      let gathers : Gathers silent = λ p q o there fitting must unstable replied_q has_d. elim (set_at_cases (with_value_at a.state.rounds s (Some said)) y None p) [
+        | inl is ↦ absurd (none_some o (sym is.1 ∙ there))
+        | inr not_y ↦ elim (set_at_cases a.state.rounds s (Some said) p) [
+          | inl is ↦ by p is.0 q o (some_is said o (sym is.1 ∙ sym not_y.1 ∙ there)) fitting must unstable replied_q has_d
+          | inr other ↦ k.gathers p q o (sym other.1 ∙ sym not_y.1 ∙ there) fitting must unstable replied_q has_d
+        ]
+      ] in
+      assumption
     where
       by : (p : ℕ) → p ≡ s → (q : ℕ) (o : Round) → said ≡ o → MayComplete a.state p o → a.must_recover p ≡ true → a.stable ≡ false → o.replied q ≡ true → HasFromLane a q (o.view q) → Result a p o
       by p is q o same fitting must unstable replied_q has_d =
@@ -324,12 +297,6 @@ module _ (a : DetState) (s : ℕ) (r : Round) (at : a.state.rounds s ≡ Some r)
   -- the process that logged it was not s
   not_s : (q : ℕ) → a.logs q ≡ true → q ≡ s → ⊥
   not_s q has_it is = both_ways (a.state.down q) (k.logs_up q has_it) (subst (λ x. a.state.down x ≡ true) (sym is) down_before)
-
-  number_same : (q : ℕ) → number risen.state q ≡ number a.state q
-  number_same q = elim (eqb_tells q s) [
-    | inl is ↦ subst (λ x. number risen.state x ≡ number a.state x) (sym is.1) (cond-false (risen.state.down s) (risen.state.lane s + 1) (risen.state.lane s) (set_at_here a.state.down s false) ∙ set_at_here a.state.lane s (a.state.lane s + 1) ∙ sym (cond-true (a.state.down s) (a.state.lane s + 1) (a.state.lane s) down_before))
-    | inr other ↦ ap (λ (b : Bool). cond b (risen.state.lane q + 1) (risen.state.lane q)) (set_at_away a.state.down s false q other.1) ∙ ap (λ l. cond (a.state.down q) (l + 1) l) (set_at_away a.state.lane s (a.state.lane s + 1) q other.1)
-  ]
 
   risen_preserves : DetInvariant risen
   risen_preserves = record {
@@ -357,7 +324,7 @@ module _ (a : DetState) (s : ℕ) (r : Round) (at : a.state.rounds s ≡ Some r)
         let unheard_s : o.replied s ≡ false = h.one_way s p r o at old_round.1 (all p old_round.0) in
         let not_q : q ≡ s → ⊥ = λ is. both_ways (o.replied s) unheard_s (subst (λ x. o.replied x ≡ true) is replied_q) in
         let had : HasFromLane a q (o.view q) = elim has_d [ inl logs_it ↦ inl (sym (set_at_away a.logs s (a.gathered s) q not_q) ∙ logs_it) | inr thing ↦ inr thing ] in
-        elim (k.gathers p q o old_round.1 (λ x other no_reply. sym (number_same x) ∙ fitting x other no_reply) (less a.must_recover s p must).1 unstable replied_q had) [
+        elim (k.gathers p q o old_round.1 (λ x other no_reply. sym (number_risen a.state risen.state s refl refl down_before x) ∙ fitting x other no_reply) (less a.must_recover s p must).1 unstable replied_q had) [
           | inl got ↦ inl got
           | inr (z, no_reply, has_it) ↦ inr (z, no_reply, set_at_away a.logs s (a.gathered s) z (not_s z has_it) ∙ has_it)
         ];
@@ -389,23 +356,21 @@ module _ (a : DetState) (s : ℕ) (r : Round) (at : a.state.rounds s ≡ Some r)
     has_in_transit i t there (to_up up floor) =
         let not_me : t.to ≡ s → ⊥ = λ is. both_ways (a.state.down t.to) up (subst (λ x. a.state.down x ≡ true) (sym is) down_before) in
         let replied_q = all t.to not_me in
-        from_above i t there (by replied_q (r.answered t.to) refl)
-      where
-        by : r.replied t.to ≡ true → (b : Bool) → r.answered t.to ≡ b → r.view t.from ≤ t.lane
-        by replied_q true is = let low = h.refuses s t.to t.from r at is up in omega (arith, low, floor)
-        by replied_q false is = absurd (both_ways (a.state.down t.to) up (h.still_down s t.to r at replied_q is).0)
+        from_above i t there (elim (cases_Bool (r.answered t.to)) [
+          | inl is ↦ let low = h.refuses s t.to t.from r at is up in omega (arith, low, floor)
+          | inr is ↦ absurd (both_ways (a.state.down t.to) up (h.still_down s t.to r at replied_q is).0)
+        ])
     has_in_transit i t there (from_up up lane) =
         let not_me : t.from ≡ s → ⊥ = λ is. both_ways (a.state.down t.from) up (subst (λ x. a.state.down x ≡ true) (sym is) down_before) in
         let replied_q = all t.from not_me in
         elim (k.sent i t there up lane) [ inl has_it ↦ has_gathered t.from not_me (inl has_it) | inr stable ↦ absurd (both_ways a.stable unstable stable) ]
-    has_in_transit i t there (to_round o not_me round replied_q above) = by (o.answered t.from) refl
-      where
-        by : (b : Bool) → o.answered t.from ≡ b → a.gathered s ≡ true
-        by true is = let low = h.ordered t.to s t.from o r round at (all t.to not_me) is in from_above i t there (omega (arith, low, above))
-        by false is =
-            let up = (h.still_down t.to t.from o round replied_q is).1 in
-            let low = k.lanes i t there in
-            absurd (omega (arith, up, low, above))
+    has_in_transit i t there (to_round o not_me round replied_q above) = elim (cases_Bool (o.answered t.from)) [
+      | inl is ↦ let low = h.ordered t.to s t.from o r round at (all t.to not_me) is in from_above i t there (omega (arith, low, above))
+      | inr is ↦
+          let up = (h.still_down t.to t.from o round replied_q is).1 in
+          let low = k.lanes i t there in
+          absurd (omega (arith, up, low, above))
+    ]
 
 pub det_step_preserves : DetStepsPreserve
 det_step_preserves a b (emit p to i up has_it free) h k = emit_preserves a p to i up has_it free k
@@ -436,13 +401,7 @@ det_step_preserves a b (crash p up) h k = fall_preserves a p up h k
 det_step_preserves a b (begin s view absent gone) h k = start_preserves a s view absent gone k
 det_step_preserves a b (give_up s) h k = end_preserves a s k
 det_step_preserves a b (answer y s r floors up at fits) h k = answered_preserves a y s r floors up at fits k
-det_step_preserves a b (refuse y floors) h k = record {
-  logs_up = k.logs_up;
-  recovering_are_down = k.recovering_are_down;
-  lanes = k.lanes;
-  sent = k.sent;
-  gathers = k.gathers;
-}
+det_step_preserves a b (refuse y floors) h k = assumption
 det_step_preserves a b (not_up q s r down other at fits) h k = said_preserves a q s r down other at fits k
 det_step_preserves a b (restart s r at all) h k = risen_preserves a s r at all h k
 

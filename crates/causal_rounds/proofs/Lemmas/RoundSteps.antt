@@ -1,7 +1,7 @@
 -- Each step preserves the invariant of the rounds.
 use Rattle.std.proofs.Common.{ℕ, ◌≡◌, ◌≤◌, ◌+◌, inl, inr, Bool, true, false, cond, Option, Some, None, refl, sym, ap, subst, ◌∙◌, arith}
 use Rattle.std.specs.Prelude.{◌⊎◌, ◌==◌}
-use Rattle.std.proofs.lemmas.Bool.{both_ways, eq-eqb, cond-true, cond-false, cases_Bool}
+use Rattle.std.proofs.lemmas.Bool.{both_ways, eq-eqb, cond-true, cond-false, cases_Bool, false_from_ne_true}
 use Rattle.std.proofs.lemmas.Bool.Decides.{eqb_tells}
 use Rattle.causal_rounds.specs.Rounds.{with_value_at, Round, RecoveryState, number, new_round, with_reply, crash, begin, give_up, answer, refuse, not_up, restart, RoundInvariant, RoundStepsPreserve}
 
@@ -23,31 +23,38 @@ some_is x y h = cc
 pub none_some : {X : Type 0} (x : X) → None ≡ Some x → ⊥
 none_some x h = cc
 
+-- a test that holds of q still holds when it holds of p too
+pub more : (f : ℕ → Bool) (p q : ℕ) → f q ≡ true → with_value_at f p true q ≡ true
+more f p q h = elim (set_at_cases f p true q) [ inl is ↦ is.1 | inr other ↦ other.1 ∙ h ]
+
+pub fewer : (f : ℕ → Bool) (p q : ℕ) → with_value_at f p true q ≡ false → f q ≡ false
+fewer f p q h = false_from_ne_true (f q) (λ is. both_ways (with_value_at f p true q) h (more f p q is))
+
+pub number_up : (w : RecoveryState) (q : ℕ) → w.down q ≡ false → number w q ≡ w.lane q
+number_up w q up = cond-false (w.down q) (w.lane q + 1) (w.lane q) up
+
+pub number_down : (w : RecoveryState) (q : ℕ) → w.down q ≡ true → number w q ≡ w.lane q + 1
+number_down w q down = cond-true (w.down q) (w.lane q + 1) (w.lane q) down
+
 -- a crash
 module _ (w : RecoveryState) (p : ℕ) (up : w.down p ≡ false) (k : RoundInvariant w) where
   abbrev crashed : RecoveryState
   crashed = record w { down = with_value_at w.down p true }
 
-  stays_down : (q : ℕ) → w.down q ≡ true → with_value_at w.down p true q ≡ true
-  stays_down q h = elim (set_at_cases w.down p true q) [ inl is ↦ is.1 | inr other ↦ other.1 ∙ h ]
-
-  was_up : (q : ℕ) → with_value_at w.down p true q ≡ false → w.down q ≡ false
-  was_up q h = elim (set_at_cases w.down p true q) [ inl is ↦ absurd (both_ways (with_value_at w.down p true q) h is.1) | inr other ↦ sym other.1 ∙ h ]
-
-  more : (q : ℕ) → number w q ≤ number crashed q
-  more q = grind (arith, cases_Bool (w.down q), stays_down q, cond-true, cond-false)
+  higher : (q : ℕ) → number w q ≤ number crashed q
+  higher q = grind (arith, cases_Bool (w.down q), more w.down p q, cond-true, cond-false)
 
   crash_preserves : RoundInvariant crashed
   crash_preserves = record {
-    gathering_are_down = λ s r at. stays_down s (k.gathering_are_down s r at);
+    gathering_are_down = λ s r at. more w.down p s (k.gathering_are_down s r at);
     own_view = k.own_view;
-    views_told = λ s q r at. omega (arith, k.views_told s q r at, more q);
-    floors_told = λ y q. omega (arith, k.floors_told y q, more q);
+    views_told = λ s q r at. omega (arith, k.views_told s q r at, higher q);
+    floors_told = λ y q. omega (arith, k.floors_told y q, higher q);
     one_way = k.one_way;
     same_lane = k.same_lane;
-    still_down = λ s q r at replied_q quiet. let old = k.still_down s q r at replied_q quiet in (stays_down q old.0, old.1);
+    still_down = λ s q r at replied_q quiet. let old = k.still_down s q r at replied_q quiet in (more w.down p q old.0, old.1);
     answers_are_replies = k.answers_are_replies;
-    refuses = λ s y z r at was here. k.refuses s y z r at was (was_up y here);
+    refuses = λ s y z r at was here. k.refuses s y z r at was (fewer w.down p y here);
     ordered = k.ordered;
   }
 
@@ -89,11 +96,7 @@ module _ (w : RecoveryState) (s : ℕ) (view : ℕ → ℕ) (is_down : w.down s 
   absent_round q o is at = none_some o (sym (gone q is).1 ∙ at)
 
   present : (q : ℕ) (o : Round) → w.rounds q ≡ Some o → absent q ≡ false
-  present q o at = by (absent q) refl
-    where
-      by : (b : Bool) → absent q ≡ b → absent q ≡ false
-      by true is = absurd (absent_round q o is at)
-      by false is = is
+  present q o at = false_from_ne_true (absent q) (λ is. absent_round q o is at)
 
   unanswered : (r : Round) (q : ℕ) → new_round view absent ≡ r → r.answered q ≡ false
   unanswered r q is = sym (ap (λ (o : Round). o.answered q) is)
@@ -133,7 +136,7 @@ module _ (w : RecoveryState) (s y : ℕ) (up : Bool) (r : Round) (at : w.rounds 
   heard_more q h = elim (set_at_cases r.replied y true q) [ inl is ↦ inl is.0 | inr other ↦ inr (sym other.1 ∙ h) ]
 
   heard_other : (q : ℕ) → (q ≡ y → ⊥) → grown.replied q ≡ r.replied q
-  heard_other q away = elim (set_at_cases r.replied y true q) [ inl is ↦ absurd (away is.0) | inr other ↦ other.1 ]
+  heard_other = set_at_away r.replied y true
 
   answered_more : (q : ℕ) → grown.answered q ≡ true → ((q ≡ y) × (up ≡ true)) ⊎ ((q ≡ y → ⊥) × (r.answered q ≡ true))
   answered_more q h = elim (set_at_cases r.answered y up q) [ inl is ↦ inl (is.0, sym is.1 ∙ h) | inr other ↦ inr (other.0, sym other.1 ∙ h) ]
@@ -346,6 +349,13 @@ module _ (w : RecoveryState) (y s : ℕ) (r : Round) (is_down : w.down y ≡ tru
     ordered = said_order;
   }
 
+-- the number of a process that comes up is the one that it had told
+pub number_risen : (w x : RecoveryState) (s : ℕ) → x.lane ≡ with_value_at w.lane s (w.lane s + 1) → x.down ≡ with_value_at w.down s false → w.down s ≡ true → (q : ℕ) → number x q ≡ number w q
+number_risen w x s lane down was q = (λ j. cond (down j q) (lane j q + 1) (lane j q)) ∙ elim (eqb_tells q s) [
+  | inl is ↦ grind (arith, set_at_cases w.lane s (w.lane s + 1) q, set_at_cases w.down s false q, is, was)
+  | inr other ↦ (λ j. cond (set_at_away w.down s false q other.1 j) (set_at_away w.lane s (w.lane s + 1) q other.1 j + 1) (set_at_away w.lane s (w.lane s + 1) q other.1 j))
+]
+
 -- all others have replied to s, and it comes up
 module _ (w : RecoveryState) (s : ℕ) (r : Round) (at : w.rounds s ≡ Some r) (all : (q : ℕ) → (q ≡ s → ⊥) → r.replied q ≡ true) (k : RoundInvariant w) where
   abbrev come : RecoveryState
@@ -358,68 +368,45 @@ module _ (w : RecoveryState) (s : ℕ) (r : Round) (at : w.rounds s ≡ Some r) 
   unheard_s : (p : ℕ) (o : Round) → with_value_at w.rounds s None p ≡ Some o → o.replied s ≡ false
   unheard_s p o h = let old = others p o h in k.one_way s p r o at old.1 (all p old.0)
 
-  same_lane : (q : ℕ) → (q ≡ s → ⊥) → come.lane q ≡ w.lane q
-  same_lane q away = elim (set_at_cases w.lane s (w.lane s + 1) q) [ inl is ↦ absurd (away is.0) | inr other ↦ other.1 ]
-
-  same_down : (q : ℕ) → (q ≡ s → ⊥) → come.down q ≡ w.down q
-  same_down q away = elim (set_at_cases w.down s false q) [ inl is ↦ absurd (away is.0) | inr other ↦ other.1 ]
-
-  same_number : (q : ℕ) → number come q ≡ number w q
-  same_number q = elim (eqb_tells q s) [
-    | inl is ↦ subst (λ x. number come x ≡ number w x) (sym is.1) here
-    | inr other ↦ ap (λ (b : Bool). cond b (come.lane q + 1) (come.lane q)) (same_down q other.1) ∙ ap (λ l. cond (w.down q) (l + 1) l) (same_lane q other.1)
-  ]
-    where
-      here : number come s ≡ number w s
-      here =
-          cond-false (come.down s) (come.lane s + 1) (come.lane s) (cond-true (s == s) false (w.down s) (eq-eqb s s refl))
-          ∙ cond-true (s == s) (w.lane s + 1) (w.lane s) (eq-eqb s s refl)
-          ∙ sym (cond-true (w.down s) (w.lane s + 1) (w.lane s) (k.gathering_are_down s r at))
-
   -- a process that has replied is not s
   had_not_replied : (p q : ℕ) (o : Round) → with_value_at w.rounds s None p ≡ Some o → o.replied q ≡ true → q ≡ s → ⊥
   had_not_replied p q o there replied_q is = both_ways (o.replied s) (unheard_s p o there) (subst (λ x. o.replied x ≡ true) is replied_q)
 
   restart_preserves : RoundInvariant come
   restart_preserves = record {
-    gathering_are_down = λ p o there. let old = others p o there in same_down p old.0 ∙ k.gathering_are_down p o old.1;
-    own_view = λ p o there. let old = others p o there in let fact = k.own_view p o old.1 in (fact.0, fact.1 ∙ ap (λ l. l + 1) (sym (same_lane p old.0)));
-    views_told = λ p q o there. subst (λ m. o.view q ≤ m) (sym (same_number q)) (k.views_told p q o (others p o there).1);
-    floors_told = λ p q. subst (λ m. come.floors p q ≤ m) (sym (same_number q)) (elim (set_at_cases w.floors s r.view p) [ inl is ↦ subst (λ g. g q ≤ number w q) (sym is.1) (k.views_told s q r at) | inr other ↦ subst (λ g. g q ≤ number w q) (sym other.1) (k.floors_told p q) ]);
+    gathering_are_down = λ p o there. let old = others p o there in set_at_away w.down s false p old.0 ∙ k.gathering_are_down p o old.1;
+    own_view = λ p o there. let old = others p o there in let fact = k.own_view p o old.1 in (fact.0, fact.1 ∙ ap (λ l. l + 1) (sym (set_at_away w.lane s (w.lane s + 1) p old.0)));
+    views_told = λ p q o there. subst (λ m. o.view q ≤ m) (sym (number_risen w come s refl refl (k.gathering_are_down s r at) q)) (k.views_told p q o (others p o there).1);
+    floors_told = λ p q. subst (λ m. come.floors p q ≤ m) (sym (number_risen w come s refl refl (k.gathering_are_down s r at) q)) (elim (set_at_cases w.floors s r.view p) [ inl is ↦ subst (λ g. g q ≤ number w q) (sym is.1) (k.views_told s q r at) | inr other ↦ subst (λ g. g q ≤ number w q) (sym other.1) (k.floors_told p q) ]);
     one_way = λ p q a o here there. k.one_way p q a o (others p a here).1 (others q o there).1;
-    same_lane = λ p q a here replied_q was. same_lane q (had_not_replied p q a here replied_q) ∙ k.same_lane p q a (others p a here).1 replied_q was;
-    still_down = λ p q a here replied_q quiet. let fact = k.still_down p q a (others p a here).1 replied_q quiet in let away = had_not_replied p q a here replied_q in (same_down q away ∙ fact.0, ap (λ l. l + 1) (same_lane q away) ∙ fact.1);
+    same_lane = λ p q a here replied_q was. set_at_away w.lane s (w.lane s + 1) q (had_not_replied p q a here replied_q) ∙ k.same_lane p q a (others p a here).1 replied_q was;
+    still_down = λ p q a here replied_q quiet. let fact = k.still_down p q a (others p a here).1 replied_q quiet in let away = had_not_replied p q a here replied_q in (set_at_away w.down s false q away ∙ fact.0, ap (λ l. l + 1) (set_at_away w.lane s (w.lane s + 1) q away) ∙ fact.1);
     answers_are_replies = λ p q a here was. k.answers_are_replies p q a (others p a here).1 was;
     refuses = λ p q z a here was up.
         let old = (others p a here).1 in
         let away = had_not_replied p q a here (k.answers_are_replies p q a old was) in
-        let before = k.refuses p q z a old was (sym (same_down q away) ∙ up) in
+        let before = k.refuses p q z a old was (sym (set_at_away w.down s false q away) ∙ up) in
         elim (set_at_cases w.floors s r.view q) [ inl is ↦ absurd (away is.0) | inr other ↦ subst (λ g. a.view z ≤ g z) (sym other.1) before ];
     ordered = λ p z q a o here there. k.ordered p z q a o (others p a here).1 (others z o there).1;
   }
 
 -- y refuses more
 refuse_preserves : (w : RecoveryState) (y : ℕ) (floors : ℕ → ℕ) → ((z : ℕ) → w.floors y z ≤ floors z) → ((z : ℕ) → floors z ≤ number w z) → RoundInvariant w → RoundInvariant (record w { floors = with_value_at w.floors y floors })
-refuse_preserves w y floors rise below k = record {
-  gathering_are_down = k.gathering_are_down;
-  own_view = k.own_view;
-  views_told = k.views_told;
-  floors_told = λ p q. elim (set_at_cases w.floors y floors p) [ inl is ↦ subst (λ g. g q ≤ number w q) (sym is.1) (below q) | inr other ↦ subst (λ g. g q ≤ number w q) (sym other.1) (k.floors_told p q) ];
-  one_way = k.one_way;
-  same_lane = k.same_lane;
-  still_down = k.still_down;
-  answers_are_replies = k.answers_are_replies;
-  refuses = λ s p z r at was up. elim (set_at_cases w.floors y floors p) [
-    | inl is ↦
-        let old = k.refuses s p z r at was up in
-        let here : w.floors p z ≡ w.floors y z = ap (λ x. w.floors x z) is.0 in
-        let more = rise z in
-        let new : with_value_at w.floors y floors p z ≡ floors z = ap (λ (g : ℕ → ℕ). g z) is.1 in
-        omega (arith, old, here, more, new)
-    | inr other ↦ subst (λ g. r.view z ≤ g z) (sym other.1) (k.refuses s p z r at was up)
-  ];
-  ordered = k.ordered;
-}
+refuse_preserves w y floors rise below k =
+    let floors_told : (p q : ℕ) → with_value_at w.floors y floors p q ≤ number w q = λ p q. elim (set_at_cases w.floors y floors p) [
+      | inl is ↦ subst (λ g. g q ≤ number w q) (sym is.1) (below q)
+      | inr other ↦ subst (λ g. g q ≤ number w q) (sym other.1) (k.floors_told p q)
+    ] in
+    let refuses : (s p z : ℕ) (r : Round) → w.rounds s ≡ Some r → r.answered p ≡ true → w.down p ≡ false → r.view z ≤ with_value_at w.floors y floors p z = λ s p z r at was up. elim (set_at_cases w.floors y floors p) [
+      | inl is ↦
+          let old = k.refuses s p z r at was up in
+          let here : w.floors p z ≡ w.floors y z = ap (λ x. w.floors x z) is.0 in
+          let more = rise z in
+          let new : with_value_at w.floors y floors p z ≡ floors z = ap (λ (g : ℕ → ℕ). g z) is.1 in
+          omega (arith, old, here, more, new)
+      | inr other ↦ subst (λ g. r.view z ≤ g z) (sym other.1) (k.refuses s p z r at was up)
+    ] in
+    assumption
 
 pub round_step_preserves : RoundStepsPreserve
 round_step_preserves w next (crash p up) k = crash_preserves w p up k
