@@ -8,7 +8,7 @@ use Rattle.causal_name.specs.declared.Det.{Det}
 use Rattle.causal_trace.specs.Past.{logs, is_stable}
 use Rattle.causal_steps.proofs.Lemmas.Reachable.{reachable_safe}
 use Rattle.causal_rounds.specs.Rounds.{with_value_at, Round, number, with_reply}
-use Rattle.causal_rounds.proofs.Lemmas.RoundSteps.{set_at_cases, set_at_here, set_at_away}
+use Rattle.causal_rounds.proofs.Lemmas.RoundSteps.{set_at_cases, set_at_here, set_at_away, still_true}
 use Rattle.causal_world.specs.World.{Packet, World, carrier_of, if_carries, volatile_of}
 use Rattle.causal_world.specs.Steps as world
 use Rattle.causal_world.specs.Reachable.{IsReachableWorld, next_world}
@@ -19,7 +19,6 @@ use Rattle.causal_nodes.specs.Network.{Network}
 use Rattle.causal_nodes.proofs.Represents.{IsTold, IsToldBy, GatheringFits, UpFits, NodeFits, IsOutOf, is_in_round, Represents}
 use Rattle.causal_nodes.proofs.Kept.{IsLater, IsUntouched, packets_and_one, gathering_later, node_kept, node_out_and_one, out_of_rest, out_of_each, gathering_more, round_in, nodes_and_one}
 use Rattle.causal_nodes.proofs.Context.{floors_kept, IsWorldOf, invariant, up_of, down_of}
-use Rattle.causal_nodes.proofs.Replies.{still_true}
 use Rattle.causal_nodes.proofs.Quiet.{gathering_of, gathers_still}
 use Rattle.causal_nodes.proofs.Rounds.{le_self}
 use Rattle.causal_nodes.proofs.Replied.{gathering_replied}

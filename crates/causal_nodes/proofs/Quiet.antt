@@ -7,8 +7,7 @@ use Rattle.causal_name.specs.Names.{same_det}
 use Rattle.causal_trace.specs.declared.entry.Entry.TheVariants.{Stable}
 use Rattle.causal_trace.specs.Past.{is_stable}
 use Rattle.causal_rounds.specs.Rounds.{with_value_at, Round, number}
-use Rattle.causal_rounds.proofs.Lemmas.RoundSteps.{set_at_cases}
-use Rattle.causal_rounds.proofs.Lemmas.AcceptanceSteps.{number_up, number_down}
+use Rattle.causal_rounds.proofs.Lemmas.RoundSteps.{set_at_cases, number_up, number_down}
 use Rattle.causal_world.specs.World.{Packet, World}
 use Rattle.causal_world.specs.Steps as world
 use Rattle.causal_world.specs.Reachable.{IsReachableWorld, next_world}

@@ -3,12 +3,12 @@ use Rattle.std.proofs.Common.{ℕ, ◌≡◌, inl, inr, Bool, true, false, List,
 use Rattle.std.specs.Prelude.{◌⊎◌}
 use Rattle.causal_name.specs.declared.Det.{Det}
 use Rattle.causal_rounds.specs.Rounds.{Round, with_reply}
+use Rattle.causal_rounds.proofs.Lemmas.RoundSteps.{still_true}
 use Rattle.causal_world.specs.World.{Packet, World}
 use Rattle.causal_nodes.specs.Node.{NodeRound}
 use Rattle.causal_nodes.specs.Packets.{Sent, answer_packet}
 use Rattle.causal_nodes.proofs.Represents.{ReplyFits, IsToldBy, Told, GatheringFits}
 use Rattle.causal_nodes.proofs.Kept.{reply_kept, IsLater, or_stable_later}
-use Rattle.causal_nodes.proofs.Replies.{still_true}
 
 module _ (n : ℕ) (w x : World) (later : IsLater w x) (sent : List Sent) (new : Sent) (s : ℕ) (nr : NodeRound) (r : Round) (y : ℕ) (up : Bool) (g : GatheringFits n w sent s nr r)
     (keep_answered : (z : ℕ) → r.answered z ≡ true → (with_reply r y up).answered z ≡ true) (keep_silent : (z : ℕ) → r.replied z ≡ true → r.answered z ≡ false → (with_reply r y up).answered z ≡ false)

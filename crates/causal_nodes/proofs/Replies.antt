@@ -6,17 +6,13 @@ use Rattle.causal_name.specs.declared.Det.{Det}
 use Rattle.causal_name.specs.Names.{same_det}
 use Rattle.causal_trace.specs.Past.{is_stable}
 use Rattle.causal_rounds.specs.Rounds.{with_value_at, Round}
-use Rattle.causal_rounds.proofs.Lemmas.RoundSteps.{set_at_cases}
+use Rattle.causal_rounds.proofs.Lemmas.RoundSteps.{set_at_cases, still_true}
 use Rattle.causal_world.specs.World.{Packet, World}
 use Rattle.causal_nodes.specs.Node.{NodeRound}
 use Rattle.causal_nodes.specs.Packets.{Sent, answer_packet, not_up_packet, stored_packet, WasSent}
 use Rattle.causal_nodes.specs.NodeSteps.{after_answer, with_heard, round_with_stored}
 use Rattle.causal_nodes.proofs.Kept.{reply_kept}
 use Rattle.causal_nodes.proofs.Represents.{IsPacket, ReplyFits, IsToldBy, GatheringFits}
-
--- a test that holds still holds after another number was added
-pub still_true : (f : ℕ → Bool) (y q : ℕ) → f q ≡ true → with_value_at f y true q ≡ true
-still_true f y q h = elim (set_at_cases f y true q) [ inl is ↦ is.1 | inr other ↦ other.1 ∙ h ]
 
 module _ (n : ℕ) (w : World) (sent : List Sent) (s : ℕ) (nr : NodeRound) (r : Round) (g : GatheringFits n w sent s nr r) where
   module _ (more : NodeRound) (heard : (q : ℕ) → nr.heard q ≡ true → more.heard q ≡ true) (has : (d : Det) → nr.gathered.has d ≡ true → more.gathered.has d ≡ true) where

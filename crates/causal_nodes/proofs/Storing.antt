@@ -6,7 +6,7 @@ use Rattle.std.proofs.lemmas.Bool.{both_ways, or_cases, or_left, or_right, and_f
 use Rattle.causal_name.specs.declared.Det.{Det}
 use Rattle.causal_trace.specs.Past.{is_stable}
 use Rattle.causal_rounds.specs.Rounds.{with_value_at, Round, number, with_reply}
-use Rattle.causal_rounds.proofs.Lemmas.RoundSteps.{set_at_cases, set_at_here, set_at_away}
+use Rattle.causal_rounds.proofs.Lemmas.RoundSteps.{set_at_cases, set_at_here, set_at_away, still_true}
 use Rattle.causal_world.specs.World.{Packet, World}
 use Rattle.causal_world.specs.Steps as world
 use Rattle.causal_world.specs.Reachable.{IsReachableWorld, next_world}
@@ -17,7 +17,6 @@ use Rattle.causal_nodes.specs.Network.{Network}
 use Rattle.causal_nodes.proofs.Represents.{IsPacket, IsTold, Told, GatheringFits, NodeFits, IsOutOf, is_in_round, Represents}
 use Rattle.causal_nodes.proofs.Kept.{IsLater, IsUntouched, packets_and_one, gathering_later, node_kept, node_and_one, node_out_and_one, out_of_rest, out_of_each, round_in}
 use Rattle.causal_nodes.proofs.Context.{IsWorldOf, invariant}
-use Rattle.causal_nodes.proofs.Replies.{still_true}
 use Rattle.causal_nodes.proofs.Quiet.{gathering_of, gathers_still, gathering_and_reply}
 use Rattle.causal_nodes.proofs.Rounds.{le_self}
 use Rattle.causal_nodes.proofs.Replied.{gathering_replied}

@@ -10,7 +10,7 @@ use Rattle.causal_steps.specs.Reachable.{next_state}
 use Rattle.causal_rounds.specs.Rounds.{with_value_at, Round, RecoveryState, RoundStep, number, new_round, with_reply, begin, give_up, answer, refuse, not_up}
 use Rattle.causal_rounds.specs.Gathered.{DetState, DetInvariant}
 use Rattle.causal_rounds.specs.Gathered as det
-use Rattle.causal_rounds.proofs.Lemmas.RoundSteps.{set_at_cases, some_is, none_some, round_step_preserves, set_at_here, set_at_away}
+use Rattle.causal_rounds.proofs.Lemmas.RoundSteps.{set_at_cases, some_is, none_some, round_step_preserves, set_at_here, set_at_away, still_true}
 use Rattle.causal_rounds.proofs.Lemmas.GatheredSteps.{det_step_preserves}
 use Rattle.causal_world.specs.World.{Packet, World, GatheredFrom, volatile_of, det_state_of}
 use Rattle.causal_world.specs.Invariant.{AbsentAreDown, WorldInvariant}
@@ -132,19 +132,15 @@ module _ (n f : ℕ) (w : World) (k : WorldInvariant n f w) where
   refuse_preserves y floors up rise below =
       rounds_preserve (with_value_at w.rounds.floors y floors) w.rounds.rounds w.gathered (refuse y floors up rise below) (λ d. det_step_preserves (det_state_of n w d) _ (det.refuse y floors) k.rounds (k.dets d)) none_above right_before
 
-  -- one more has replied
-  more_replied : (r : Round) (y q : ℕ) → r.replied q ≡ true → with_value_at r.replied y true q ≡ true
-  more_replied r y q h = elim (set_at_cases r.replied y true q) [ inl is ↦ is.1 | inr other ↦ other.1 ∙ h ]
-
   from_before : (s y : ℕ) (r : Round) (up : Bool) (d : Det) → GatheredFrom w s r d ⊎ (w.stored d ≡ true) → GatheredFrom w s (with_reply r y up) d ⊎ (w.stored d ≡ true)
   from_before s y r up d (inr stored) = inr stored
-  from_before s y r up d (inl (i, p, at, to, has_d, replied, above)) = inl (i, p, at, to, has_d, more_replied r y p.parcel.from replied, above)
+  from_before s y r up d (inl (i, p, at, to, has_d, replied, above)) = inl (i, p, at, to, has_d, still_true r.replied y p.parcel.from replied, above)
 
   replied_right : (s y : ℕ) (r : Round) (up : Bool) → y < n → w.rounds.rounds s ≡ Some r → IsRight n w s (with_reply r y up) (w.gathered s)
   replied_right s y r up low at = record {
-    absent = λ p above. more_replied r y p (k.absent.replied s p r at above);
+    absent = λ p above. still_true r.replied y p (k.absent.replied s p r at above);
     from = λ d h. from_before s y r up d (k.gathered_from s r d at h);
-    last = λ q done low_q other. more_replied r y q (k.reads.last s r q at (before done) low_q other);
+    last = λ q done low_q other. still_true r.replied y q (k.reads.last s r q at (before done) low_q other);
     own = λ d done. k.reads.own_gathered s r d at (before done);
   }
     where
@@ -211,9 +207,9 @@ module _ (n f : ℕ) (w : World) (k : WorldInvariant n f w) where
       })
   read_preserves s r floors at all rise above below =
       answer_preserves n s r floors (λ d. w.gathered s d || w.stored d) k.storage.up at fits rise above below logs_stored (record {
-        absent = λ p high. more_replied r n p (k.absent.replied s p r at high);
+        absent = λ p high. still_true r.replied n p (k.absent.replied s p r at high);
         from = λ d h. elim (or_cases (w.gathered s d) (w.stored d) h) [ inl got ↦ from_before s n r true d (k.gathered_from s r d at got) | inr stored ↦ inr stored ];
-        last = λ q done low other. more_replied r n q (all q low other);
+        last = λ q done low other. still_true r.replied n q (all q low other);
         own = λ d done stored dest. or_right _ _ stored;
       })
     where

@@ -5,7 +5,7 @@ use Rattle.std.proofs.lemmas.Bool.{both_ways, or_left, or_right, cases_Bool, tru
 use Rattle.std.proofs.lemmas.Bool.Decides.{eqb_tells}
 use Rattle.causal_rounds.specs.Rounds.{with_value_at, Round, RecoveryState, number, new_round, with_reply, RoundInvariant}
 use Rattle.causal_rounds.specs.Gathered.{Carrier, DetState, MayComplete, HasFromLane, emit, take, deliver_again, deliver_as_new, forget, record_stable, crash, begin, give_up, answer, refuse, not_up, restart, DetInvariant, DetStepsPreserve, IsInTransitAfter, to_up, to_new, from_up, to_round, RestartsGatherAll}
-use Rattle.causal_rounds.proofs.Lemmas.RoundSteps.{set_at_cases, some_is, none_some, set_at_here, set_at_away, more, number_up, number_down, number_risen}
+use Rattle.causal_rounds.proofs.Lemmas.RoundSteps.{set_at_cases, some_is, none_some, set_at_here, set_at_away, still_true, number_up, number_down, number_risen}
 
 abbrev Result : DetState → ℕ → Round → Type 0
 Result a s r = (a.gathered s ≡ true) ⊎ ((z : ℕ) × (r.replied z ≡ false) × (a.logs z ≡ true))
@@ -39,7 +39,7 @@ module _ (a : DetState) (y : ℕ) (up : a.state.down y ≡ false) (k : DetInvari
 
   weaker : (s : ℕ) (r : Round) → Result a s r → Result logged s r
   weaker s r (inl got) = inl got
-  weaker s r (inr (z, no_reply, has_it)) = inr (z, no_reply, more a.logs y z has_it)
+  weaker s r (inr (z, no_reply, has_it)) = inr (z, no_reply, still_true a.logs y z has_it)
 
   -- if what y logs now follows from what was
   logged_preserves : ((s : ℕ) (r : Round) → a.state.rounds s ≡ Some r → MayComplete a.state s r → a.must_recover s ≡ true → a.stable ≡ false → r.replied y ≡ true → Result a s r) → DetInvariant logged
@@ -47,7 +47,7 @@ module _ (a : DetState) (y : ℕ) (up : a.state.down y ≡ false) (k : DetInvari
     logs_up = λ p h. elim (set_at_cases a.logs y true p) [ inl is ↦ subst (λ x. a.state.down x ≡ false) (sym is.0) up | inr other ↦ k.logs_up p (sym other.1 ∙ h) ];
     recovering_are_down = k.recovering_are_down;
     lanes = k.lanes;
-    sent = λ i t there is_up lane. elim (k.sent i t there is_up lane) [ inl has_it ↦ inl (more a.logs y t.from has_it) | inr stable ↦ inr stable ];
+    sent = λ i t there is_up lane. elim (k.sent i t there is_up lane) [ inl has_it ↦ inl (still_true a.logs y t.from has_it) | inr stable ↦ inr stable ];
     gathers = λ s q r at fitting must unstable replied_q has_it. elim has_it [
       | inl logs_it ↦ elim (set_at_cases a.logs y true q) [
         | inl is ↦ weaker s r (found s r at fitting must unstable (subst (λ x. r.replied x ≡ true) is.0 replied_q))
@@ -380,7 +380,7 @@ det_step_preserves a b (deliver_as_new y up) h k = record {
   logs_up = λ p has_it. elim (set_at_cases a.logs y true p) [ inl is ↦ subst (λ x. a.state.down x ≡ false) (sym is.0) up | inr other ↦ k.logs_up p (sym other.1 ∙ has_it) ];
   recovering_are_down = λ p must. absurd (both_ways false refl must);
   lanes = k.lanes;
-  sent = λ i t there is_up lane. elim (k.sent i t there is_up lane) [ inl has_it ↦ inl (more a.logs y t.from has_it) | inr stable ↦ inr stable ];
+  sent = λ i t there is_up lane. elim (k.sent i t there is_up lane) [ inl has_it ↦ inl (still_true a.logs y t.from has_it) | inr stable ↦ inr stable ];
   gathers = λ s q r at fitting must unstable replied_q has_d. absurd (both_ways false refl must);
 }
 det_step_preserves a b (forget y stable) h k = record {

@@ -24,11 +24,11 @@ pub none_some : {X : Type 0} (x : X) → None ≡ Some x → ⊥
 none_some x h = cc
 
 -- a test that holds of q still holds when it holds of p too
-pub more : (f : ℕ → Bool) (p q : ℕ) → f q ≡ true → with_value_at f p true q ≡ true
-more f p q h = elim (set_at_cases f p true q) [ inl is ↦ is.1 | inr other ↦ other.1 ∙ h ]
+pub still_true : (f : ℕ → Bool) (p q : ℕ) → f q ≡ true → with_value_at f p true q ≡ true
+still_true f p q h = elim (set_at_cases f p true q) [ inl is ↦ is.1 | inr other ↦ other.1 ∙ h ]
 
 pub fewer : (f : ℕ → Bool) (p q : ℕ) → with_value_at f p true q ≡ false → f q ≡ false
-fewer f p q h = false_from_ne_true (f q) (λ is. both_ways (with_value_at f p true q) h (more f p q is))
+fewer f p q h = false_from_ne_true (f q) (λ is. both_ways (with_value_at f p true q) h (still_true f p q is))
 
 pub number_up : (w : RecoveryState) (q : ℕ) → w.down q ≡ false → number w q ≡ w.lane q
 number_up w q up = cond-false (w.down q) (w.lane q + 1) (w.lane q) up
@@ -42,17 +42,17 @@ module _ (w : RecoveryState) (p : ℕ) (up : w.down p ≡ false) (k : RoundInvar
   crashed = record w { down = with_value_at w.down p true }
 
   higher : (q : ℕ) → number w q ≤ number crashed q
-  higher q = grind (arith, cases_Bool (w.down q), more w.down p q, cond-true, cond-false)
+  higher q = grind (arith, cases_Bool (w.down q), still_true w.down p q, cond-true, cond-false)
 
   crash_preserves : RoundInvariant crashed
   crash_preserves = record {
-    gathering_are_down = λ s r at. more w.down p s (k.gathering_are_down s r at);
+    gathering_are_down = λ s r at. still_true w.down p s (k.gathering_are_down s r at);
     own_view = k.own_view;
     views_told = λ s q r at. omega (arith, k.views_told s q r at, higher q);
     floors_told = λ y q. omega (arith, k.floors_told y q, higher q);
     one_way = k.one_way;
     same_lane = k.same_lane;
-    still_down = λ s q r at replied_q quiet. let old = k.still_down s q r at replied_q quiet in (more w.down p q old.0, old.1);
+    still_down = λ s q r at replied_q quiet. let old = k.still_down s q r at replied_q quiet in (still_true w.down p q old.0, old.1);
     answers_are_replies = k.answers_are_replies;
     refuses = λ s y z r at was here. k.refuses s y z r at was (fewer w.down p y here);
     ordered = k.ordered;
