@@ -1,5 +1,5 @@
 -- A world represents each network that nodes reach, and so the network is safe.
-use Rattle.std.proofs.Common.{ℕ, suc, ◌≡◌, ◌<◌, ◌≤◌, inl, inr, false, not, nat_lt, List, [], ◌∷◌, ◌++◌, length, Option, None, refl, sym, ap, subst, ◌∙◌, arith}
+use Rattle.std.proofs.Common.{true, ℕ, suc, ◌≡◌, ◌<◌, ◌≤◌, inl, inr, false, not, nat_lt, List, [], ◌∷◌, ◌++◌, length, Option, None, refl, sym, ap, subst, ◌∙◌, arith}
 use Rattle.std.proofs.lemmas.Bool.{lt-ltb}
 use Rattle.causal_name.specs.declared.Pid.{Pid}
 use Rattle.causal_name.specs.declared.Det.{Det}
@@ -104,20 +104,10 @@ opens n f net o = (
     above q m high = grind (arith, high)
 
     first : IsInitialWorld n (first_world n)
-    first = record {
-      past = refl;
-      up = λ p low. begun p (omega (arith, low));
-      storage = begun n (omega arith);
-      absent = λ p high. ap not (above p (suc n) high);
-      lanes = λ p. refl;
-      floors = λ p q. refl;
-      no_rounds = λ p. refl;
-      no_holders = λ p d q. refl;
-      no_stable = λ p d. refl;
-      no_packets = λ i. refl;
-      nothing_stored = λ d. refl;
-      nothing_landed = λ i. refl;
-    }
+    first =
+        let up : (p : ℕ) → p < n → (first_world n).rounds.down p ≡ false = λ p low. begun p (omega (arith, low)) in
+        let absent : (p : ℕ) → suc n ≤ p → (first_world n).rounds.down p ≡ true = λ p high. ap not (above p (suc n) high) in
+        assumption (begun n (omega arith))
 
 pub world_of : (n f : ℕ) (net : Network) → IsReachableNetwork n f net → IsWorldOf n f net
 world_of n f net (new_network same o) = opens n f net o

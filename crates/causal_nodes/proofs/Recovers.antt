@@ -16,7 +16,7 @@ use Rattle.causal_world.specs.World.{Packet}
 use Rattle.causal_nodes.specs.Node.{UpNode, NodeRound, DownNode, Node, up_node, down_node}
 use Rattle.causal_nodes.specs.Packets.{Sent, message_packet, question_packet, answer_packet, read_packet, stored_packet, WasSent, WasTaken, is_of_round}
 use Rattle.causal_nodes.specs.NodeSteps.{NodeStep, IsOfNodeLog, empty_log, with_one_sent, with_floors, raised, up_after_delivery, with_round, fallen_node, new_node_round, after_answer, with_heard, up_after_restart, send_row, deliver_row, answer_row, begin_row, hear_answer_row, read_row, hear_stored_row, restart_row}
-use Rattle.causal_nodes.specs.Network.{Network, HasFreshName, step_event, crash_event, read_event, IsReachableNetwork, new_network, next_network, NodesRecover}
+use Rattle.causal_nodes.specs.Network.{IsNewNode, Network, HasFreshName, step_event, crash_event, read_event, IsReachableNetwork, new_network, next_network, NodesRecover}
 
 abbrev after_step : Network → ℕ → Node → List Sent → List Entry → Network
 after_step net p node emitted entries = record { past = entries ++ net.past; nodes = with_value_at net.nodes p node; sent = emitted ++ net.sent; stored = net.stored; floors = net.floors }
@@ -31,14 +31,10 @@ one_fresh sent k fresh new (inl is) = subst (λ y. HasFreshName sent y) is fresh
 one_fresh sent k fresh new (inr was) = absurd was
 
 or_false : (b : Bool) → (b || false) ≡ b
-or_false true = refl
-or_false false = refl
+or_false b = grind arith
 
 turned : (a b : Bool) → (a || (b || false)) ≡ (b || a)
-turned true true = refl
-turned true false = refl
-turned false true = refl
-turned false false = refl
+turned a b = grind arith
 
 abbrev first : Pid
 first = record { 0 = 0 }
@@ -53,13 +49,9 @@ abbrev start : Network
 start = record { past = []; nodes = λ p. up_node new_node; sent = []; stored = λ d. false; floors = λ q. 0 }
 
 starts : IsReachableNetwork 2 1 start
-starts = new_network start (record {
-  past = refl;
-  nodes = λ p low. (new_node, refl, record { lane = refl; empty = λ d. refl; no_holders = λ d q. refl; no_stable = λ d. refl; floors = λ q. refl; sent = refl; received = refl });
-  sent = refl;
-  stored = λ d. refl;
-  floors = λ q. refl;
-})
+starts =
+    let nodes : (p : ℕ) → p < 2 → (a : UpNode) × (start.nodes p ≡ up_node a) × IsNewNode a = λ p low. (new_node, refl, assumption) in
+    new_network start assumption
 
 -- the first process sends a message
 abbrev message : Packet

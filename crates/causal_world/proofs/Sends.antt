@@ -1,7 +1,7 @@
 -- A process sends something.
 use Rattle.std.proofs.Common.{ℕ, ◌≡◌, ◌<◌, ◌≤◌, inl, inr, Bool, true, false, ◌&&◌, ◌||◌, nat_lt, List, ◌∷◌, length, Option, Some, None, refl, sym, ap, subst, ◌∙◌, arith}
 use Rattle.std.specs.Prelude.{◌⊎◌, ◌==◌}
-use Rattle.std.proofs.lemmas.Bool.{and_from, or_left, cond-true, cond-false, lt-ltb}
+use Rattle.std.proofs.lemmas.Bool.{and_from, or_left, cond-true, cond-false, lt-ltb, cases_Bool}
 use Rattle.causal_name.specs.declared.Pid.{Pid}
 use Rattle.causal_name.specs.declared.Det.{Det}
 use Rattle.causal_name.specs.Sets.{count_below}
@@ -42,22 +42,17 @@ module _ (n f : ℕ) (w : World) (p i : ℕ) (new : Packet) (s : IsSentBy n w p 
 
   -- of each determinant its carrier is new, if the packet carries it
   sent_det : (d : Det) → DetInvariant (with_carrier d (det_state_of n w d) (if_carries d (Some new)))
-  sent_det d = by (new.parcel.carries d) refl
-    where
-      by : (b : Bool) → new.parcel.carries d ≡ b → DetInvariant (with_carrier d (det_state_of n w d) (if_carries d (Some new)))
-      by true is =
-          let low : nat_lt p n ≡ true = lt-ltb p n s.of_log.process in
-          let logs_it : ((nat_lt p n && logs w.past p d) || (p == n && w.stored d)) ≡ true = or_left _ _ (and_from _ _ low (s.of_log.logged d is)) in
-          subst (λ c. DetInvariant (with_carrier d (det_state_of n w d) c)) (sym (carried d is)) (det_step_preserves (det_state_of n w d) _ (emit p new.to i up logs_it (free d)) k.rounds (k.dets d))
-      by false is =
-          subst (λ c. DetInvariant (with_carrier d (det_state_of n w d) c)) (sym (uncarried d is))
-          (subst (λ (g : ℕ → Option Carrier). DetInvariant (record { state = w.rounds; logs = (det_state_of n w d).logs; must_recover = (det_state_of n w d).must_recover; stable = is_stable w.past d; carriers = g; gathered = λ q. w.gathered q d })) (λ j q. sym (set_at_same (det_state_of n w d).carriers i None q (free d)) j) (k.dets d))
+  sent_det d = elim (cases_Bool (new.parcel.carries d)) [
+    | inl is ↦
+        let logs_it : (det_state_of n w d).logs p ≡ true = or_left _ _ (and_from _ _ (lt-ltb p n s.of_log.process) (s.of_log.logged d is)) in
+        subst (λ c. DetInvariant (with_carrier d (det_state_of n w d) c)) (sym (carried d is)) (det_step_preserves (det_state_of n w d) _ (emit p new.to i up logs_it (free d)) k.rounds (k.dets d))
+    | inr is ↦
+        subst (λ c. DetInvariant (with_carrier d (det_state_of n w d) c)) (sym (uncarried d is))
+        (subst (λ (g : ℕ → Option Carrier). DetInvariant (record (det_state_of n w d) { carriers = g })) (λ j q. sym (set_at_same (det_state_of n w d).carriers i None q (free d)) j) (k.dets d))
+  ]
 
-  same_carriers : (d : Det) (q : ℕ) → if_carries d (with_value_at w.packets i (Some new) q) ≡ with_value_at (det_state_of n w d).carriers i (if_carries d (Some new)) q
-  same_carriers d q = map_set_at (if_carries d) w.packets i (Some new) q
-
-  dets_sent : (d : Det) → DetInvariant (record { state = w.rounds; logs = (det_state_of n w d).logs; must_recover = (det_state_of n w d).must_recover; stable = is_stable w.past d; carriers = λ q. if_carries d (with_value_at w.packets i (Some new) q); gathered = λ q. w.gathered q d })
-  dets_sent d = subst (λ (g : ℕ → Option Carrier). DetInvariant (record { state = w.rounds; logs = (det_state_of n w d).logs; must_recover = (det_state_of n w d).must_recover; stable = is_stable w.past d; carriers = g; gathered = λ q. w.gathered q d })) (λ j q. sym (same_carriers d q) j) (sent_det d)
+  dets_sent : (d : Det) → DetInvariant (det_state_of n (sent w.past) d)
+  dets_sent d = subst (λ (g : ℕ → Option Carrier). DetInvariant (record (det_state_of n w d) { carriers = g })) (λ j q. sym (map_set_at (if_carries d) w.packets i (Some new) q) j) (sent_det d)
 
   lanes_sent : (j : ℕ) (x : Packet) → with_value_at w.packets i (Some new) j ≡ Some x → x.lane ≤ w.rounds.lane x.parcel.from
   lanes_sent j x at = elim (set_at_cases w.packets i (Some new) j) [

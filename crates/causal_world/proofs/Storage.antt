@@ -1,7 +1,7 @@
 -- Stable storage takes a write, an entry says what is stable, and a process forgets what is stable.
 use Rattle.std.proofs.Common.{ℕ, suc, ◌≡◌, ◌<◌, ◌≤◌, inl, inr, Bool, true, false, not, ◌&&◌, ◌||◌, nat_lt, List, ◌∷◌, Some, None, refl, sym, ap, subst, ◌∙◌, arith}
 use Rattle.std.specs.Prelude.{◌⊎◌, ◌==◌}
-use Rattle.std.proofs.lemmas.Bool.{both_ways, or_cases, or_left, or_right, and_from, and_parts, not_from_false, eqb-true, eq-eqb, ne_eqb, cond-true, lt-ltb, false_from_ne_true, cases_lt, cases_eq}
+use Rattle.std.proofs.lemmas.Bool.{both_ways, or_cases, or_left, or_right, and_from, and_parts, not_from_false, eqb-true, eq-eqb, ne_eqb, cond-true, lt-ltb, false_from_ne_true, cases_lt, cases_eq, cases_Bool}
 use Rattle.std.proofs.lemmas.Bool.Decides.{eqb_tells}
 use Rattle.causal_name.specs.declared.Pid.{Pid}
 use Rattle.causal_name.specs.declared.Det.{Det}
@@ -77,15 +77,23 @@ module _ (n f : ℕ) (w : World) (k : WorldInvariant n f w) where
     logs_same d h q = grind (arith, h)
 
     dets : (d : Det) → DetInvariant (det_state_of n after d)
-    dets d = by (p.parcel.carries d) refl
-      where
-        by : (b : Bool) → p.parcel.carries d ≡ b → DetInvariant (det_state_of n after d)
-        by true is = subst (λ (g : ℕ → Bool). DetInvariant (with_logs d g)) (λ j q. logs_landed d is q j) (det_step_preserves (det_state_of n w d) _ (take n i (carrier_of p) k.storage.up (there d is) floor) k.rounds (k.dets d))
-        by false is = subst (λ (g : ℕ → Bool). DetInvariant (with_logs d g)) (λ j q. logs_same d is q j) (k.dets d)
+    dets d = elim (cases_Bool (p.parcel.carries d)) [
+      | inl is ↦ subst (λ (g : ℕ → Bool). DetInvariant (with_logs d g)) (λ j q. logs_landed d is q j) (det_step_preserves (det_state_of n w d) _ (take n i (carrier_of p) k.storage.up (there d is) floor) k.rounds (k.dets d))
+      | inr is ↦ subst (λ (g : ℕ → Bool). DetInvariant (with_logs d g)) (λ j q. logs_same d is q j) (k.dets d)
+    ]
 
     -- a round to which storage has replied has gathered what is written of its process's own deliveries
     gathered_own : (s : ℕ) (r : Round) (d : Det) → w.rounds.rounds s ≡ Some r → r.replied n ≡ true → p.parcel.carries d ≡ true → d.dest.0 ≡ s → w.gathered s d ≡ true
-    gathered_own s r d here done carries dest = by (is_stable w.past d) refl
+    gathered_own s r d here done carries dest = elim (subst (λ x. HasOrRecovers w.past d x) dest (facts.receivers_have_survivors d (inr (inr (p.parcel, written, carries))))) [
+      | inl stable ↦ k.reads.own_gathered s r d here done (k.stores.stable_stored d stable) dest
+      | inr holds ↦ elim (cases_Bool (is_stable w.past d)) [
+        | inl stable ↦ k.reads.own_gathered s r d here done (k.stores.stable_stored d stable) dest
+        | inr is ↦ elim (or_cases (logs w.past s d) (must_recover w.past s d) holds) [
+          | inl has_d ↦ absurd (both_ways (w.rounds.down s) ((k.dets d).logs_up s (or_left _ _ (and_from _ _ (lt-ltb s n low) has_d))) (k.rounds.gathering_are_down s r here))
+          | inr lost ↦ restarts_gather_all (det_state_of n w d) s r k.rounds (k.dets d) here all (and_from _ _ (lt-ltb s n low) lost) is (inr (i, carrier_of p, there d carries, to_up storage_up floor_to))
+        ]
+      ]
+    ]
       where
         low : s < n
         low = round_low n f w k s r here
@@ -94,16 +102,6 @@ module _ (n f : ℕ) (w : World) (k : WorldInvariant n f w) where
         all q other = elim (cases_lt q n) [
           | inl below ↦ k.reads.last s r q here done below other
           | inr high ↦ elim (cases_eq q n) [ inl same ↦ ap r.replied same ∙ done | inr apart ↦ k.absent.replied s q r here (omega (arith, high, apart)) ]
-        ]
-
-        by : (b : Bool) → is_stable w.past d ≡ b → w.gathered s d ≡ true
-        by true is = k.reads.own_gathered s r d here done (k.stores.stable_stored d is) dest
-        by false is = elim (subst (λ x. HasOrRecovers w.past d x) dest (facts.receivers_have_survivors d (inr (inr (p.parcel, written, carries))))) [
-          | inl stable ↦ absurd (both_ways (is_stable w.past d) is stable)
-          | inr holds ↦ elim (or_cases (logs w.past s d) (must_recover w.past s d) holds) [
-            | inl has_d ↦ absurd (both_ways (w.rounds.down s) ((k.dets d).logs_up s (or_left _ _ (and_from _ _ (lt-ltb s n low) has_d))) (k.rounds.gathering_are_down s r here))
-            | inr lost ↦ restarts_gather_all (det_state_of n w d) s r k.rounds (k.dets d) here all (and_from _ _ (lt-ltb s n low) lost) is (inr (i, carrier_of p, there d carries, to_up storage_up floor_to))
-          ]
         ]
 
     pub land_preserves : WorldInvariant n f after
@@ -158,11 +156,10 @@ module _ (n f : ℕ) (w : World) (k : WorldInvariant n f w) where
       with_stable d b = record { state = w.rounds; logs = (det_state_of n w d).logs; must_recover = (det_state_of n w d).must_recover; stable = b; carriers = (det_state_of n w d).carriers; gathered = (det_state_of n w d).gathered }
 
       dets_written : (d : Det) → DetInvariant (with_stable d (same_det d det || is_stable w.past d))
-      dets_written d = by (same_det d det) refl
-        where
-          by : (b : Bool) → same_det d det ≡ b → DetInvariant (with_stable d (same_det d det || is_stable w.past d))
-          by true is = subst (λ b. DetInvariant (with_stable d b)) (sym (or_left (same_det d det) (is_stable w.past d) is)) (det_step_preserves (det_state_of n w d) _ record_stable k.rounds (k.dets d))
-          by false is = subst (λ b. DetInvariant (with_stable d b)) (ap (λ b. b || is_stable w.past d) (sym is)) (k.dets d)
+      dets_written d = elim (cases_Bool (same_det d det)) [
+        | inl is ↦ subst (λ b. DetInvariant (with_stable d b)) (sym (or_left (same_det d det) (is_stable w.past d) is)) (det_step_preserves (det_state_of n w d) _ record_stable k.rounds (k.dets d))
+        | inr is ↦ subst (λ b. DetInvariant (with_stable d b)) (ap (λ b. b || is_stable w.past d) (sym is)) (k.dets d)
+      ]
 
   -- a process forgets
   module _ (who : Pid) (listed : List Det) (low : who.0 < n) (known : (d : Det) → list_has listed d ≡ true → w.knows_stable who.0 d ≡ true) (spares : (d : Det) → list_has listed d ≡ true → d.dest.0 ≡ who.0 → d.rsn < deliveries w.past who.0) where
@@ -183,11 +180,10 @@ module _ (n f : ℕ) (w : World) (k : WorldInvariant n f w) where
     logs_left d h q = grind (arith, h)
 
     dets_left : (d : Det) → DetInvariant (det_state_of n lessened d)
-    dets_left d = by (list_has listed d) refl
-      where
-        by : (b : Bool) → list_has listed d ≡ b → DetInvariant (det_state_of n lessened d)
-        by true is = subst (λ (g : ℕ → Bool). DetInvariant (with_less d g)) (λ j q. logs_forgotten d is q j) (det_step_preserves (det_state_of n w d) _ (det.forget who.0 (facts.known_stable_true who.0 d low (known d is))) k.rounds (k.dets d))
-        by false is = subst (λ (g : ℕ → Bool). DetInvariant (with_less d g)) (λ j q. logs_left d is q j) (k.dets d)
+    dets_left d = elim (cases_Bool (list_has listed d)) [
+      | inl is ↦ subst (λ (g : ℕ → Bool). DetInvariant (with_less d g)) (λ j q. logs_forgotten d is q j) (det_step_preserves (det_state_of n w d) _ (det.forget who.0 (facts.known_stable_true who.0 d low (known d is))) k.rounds (k.dets d))
+      | inr is ↦ subst (λ (g : ℕ → Bool). DetInvariant (with_less d g)) (λ j q. logs_left d is q j) (k.dets d)
+    ]
 
     own_left : (p : ℕ) (d : Det) → p < n → w.rounds.down p ≡ false → d.dest.0 ≡ p → deliveries w.past p ≤ d.rsn → w.stored d ≡ true → (not (who.0 == p && list_has listed d) && logs w.past p d) ≡ true
     own_left p d small up dest next stored = and_from _ _ (not_from_false _ (false_from_ne_true (who.0 == p && list_has listed d) repeated)) (k.own_logged p d small up dest next stored)
