@@ -147,6 +147,80 @@ module _ (w : RecoveryState) (s y : ℕ) (up : Bool) (r : Round) (at : w.rounds 
     | inr other ↦ inr (sym (heard_other q other.0) ∙ h, sym other.1 ∙ quiet)
   ]
 
+  -- whatever the floors: y has no round
+  module _ (rounds : ℕ → Option Round) (not_s : s ≡ y → ⊥) (seen : (p : ℕ) (o : Round) → rounds p ≡ Some o → (p ≡ y → ⊥) × (((p ≡ s) × (grown ≡ o)) ⊎ (w.rounds p ≡ Some o)))
+      (as_up : up ≡ true → (w.down y ≡ false) × (w.lane y ≡ r.view y)) (as_down : up ≡ false → (w.down y ≡ true) × (w.lane y + 1 ≡ r.view y)) where
+    self_unheard : grown.replied s ≡ false
+    self_unheard = heard_other s not_s ∙ (k.own_view s r at).0
+
+    reply_one_way : (p q : ℕ) (a o : Round) → rounds p ≡ Some a → rounds q ≡ Some o → a.replied q ≡ true → o.replied p ≡ false
+    reply_one_way p q a o here there replied_q = elim (seen p a here).1 [
+      | inl new ↦ elim (heard_more q (ap (λ (x : Round). x.replied q) new.1 ∙ replied_q)) [
+        | inl is ↦ absurd ((seen q o there).0 is)
+        | inr before ↦ elim (seen q o there).1 [
+          | inl other ↦ absurd (both_ways (r.replied s) (k.own_view s r at).0 (subst (λ x. r.replied x ≡ true) other.0 before))
+          | inr old ↦ subst (λ x. o.replied x ≡ false) (sym new.0) (k.one_way s q r o at old before)
+        ]
+      ]
+      | inr here_old ↦ elim (seen q o there).1 [
+        | inl new ↦ subst (λ (x : Round). x.replied p ≡ false) new.1 (heard_other p (seen p a here).0 ∙ k.one_way p s a r here_old at (subst (λ x. a.replied x ≡ true) new.0 replied_q))
+        | inr old ↦ k.one_way p q a o here_old old replied_q
+      ]
+    ]
+
+    reply_order : (p z q : ℕ) (a o : Round) → rounds p ≡ Some a → rounds z ≡ Some o → o.replied p ≡ true → a.answered q ≡ true → o.view q ≤ a.view q
+    reply_order p z q a o here there replied_q was = elim (seen p a here).1 [
+      | inl new ↦ elim (seen z o there).1 [
+        | inl other ↦ absurd (both_ways (grown.replied s) self_unheard (subst (λ x. grown.replied x ≡ true) new.0 (ap (λ (x : Round). x.replied p) other.1 ∙ replied_q)))
+        | inr old ↦ subst (λ (x : Round). o.view q ≤ x.view q) new.1 (elim (answered_more q (ap (λ (x : Round). x.answered q) new.1 ∙ was)) [
+          | inl is ↦ subst (λ x. o.view x ≤ r.view x) (sym is.0) (let told = k.views_told z y o old in let fact = as_up is.1 in let here_number = number_up w y fact.0 in let lane = fact.1 in omega (arith, told, here_number, lane))
+          | inr before ↦ k.ordered s z q r o at old (subst (λ x. o.replied x ≡ true) new.0 replied_q) before.1
+        ])
+      ]
+      | inr here_old ↦ elim (seen z o there).1 [
+        | inl new ↦ elim (heard_more p (ap (λ (x : Round). x.replied p) new.1 ∙ replied_q)) [
+          | inl is ↦ absurd ((seen p a here).0 is)
+          | inr before ↦ subst (λ (x : Round). x.view q ≤ a.view q) new.1 (k.ordered p s q a r here_old at before was)
+        ]
+        | inr old ↦ k.ordered p z q a o here_old old replied_q was
+      ]
+    ]
+
+    reply_preserves : (floors : ℕ → ℕ → ℕ) → ((p q : ℕ) → floors p q ≤ number w q) → ((p q z : ℕ) (a : Round) → rounds p ≡ Some a → a.answered q ≡ true → w.down q ≡ false → a.view z ≤ floors q z) → RoundInvariant (record w { floors = floors; rounds = rounds })
+    reply_preserves floors told refuses = record {
+      gathering_are_down = λ p o there. elim (seen p o there).1 [ inl is ↦ subst (λ q. w.down q ≡ true) (sym is.0) (k.gathering_are_down s r at) | inr old ↦ k.gathering_are_down p o old ];
+      own_view = λ p o there. elim (seen p o there).1 [
+        | inl is ↦ subst (λ q. (o.replied q ≡ false) × (o.view q ≡ w.lane q + 1)) (sym is.0) (subst (λ (x : Round). (x.replied s ≡ false) × (x.view s ≡ w.lane s + 1)) is.1 (self_unheard, (k.own_view s r at).1))
+        | inr old ↦ k.own_view p o old
+      ];
+      views_told = λ p q o there. elim (seen p o there).1 [ inl is ↦ subst (λ (x : Round). x.view q ≤ number w q) is.1 (k.views_told s q r at) | inr old ↦ k.views_told p q o old ];
+      floors_told = told;
+      one_way = reply_one_way;
+      same_lane = λ p q a here replied_q was. elim (seen p a here).1 [
+        | inl new ↦ subst (λ (x : Round). w.lane q ≡ x.view q) new.1 (elim (answered_more q (ap (λ (x : Round). x.answered q) new.1 ∙ was)) [
+          | inl is ↦ subst (λ x. w.lane x ≡ r.view x) (sym is.0) (as_up is.1).1
+          | inr old ↦ k.same_lane s q r at (k.answers_are_replies s q r at old.1) old.1
+        ])
+        | inr old ↦ k.same_lane p q a old replied_q was
+      ];
+      still_down = λ p q a here replied_q quiet. elim (seen p a here).1 [
+        | inl new ↦ subst (λ (x : Round). (w.down q ≡ true) × (w.lane q + 1 ≡ x.view q)) new.1 (elim (silent_more q (ap (λ (x : Round). x.replied q) new.1 ∙ replied_q) (ap (λ (x : Round). x.answered q) new.1 ∙ quiet)) [
+          | inl is ↦ subst (λ x. (w.down x ≡ true) × (w.lane x + 1 ≡ r.view x)) (sym is.0) (as_down is.1)
+          | inr old ↦ k.still_down s q r at old.0 old.1
+        ])
+        | inr old ↦ k.still_down p q a old replied_q quiet
+      ];
+      answers_are_replies = λ p q a here was. elim (seen p a here).1 [
+        | inl new ↦ sym (ap (λ (x : Round). x.replied q) new.1) ∙ elim (answered_more q (ap (λ (x : Round). x.answered q) new.1 ∙ was)) [
+          | inl is ↦ cond-true (q == y) true (r.replied q) (eq-eqb q y is.0)
+          | inr old ↦ heard_other q old.0 ∙ k.answers_are_replies s q r at old.1
+        ]
+        | inr old ↦ k.answers_are_replies p q a old was
+      ];
+      refuses = refuses;
+      ordered = reply_order;
+    }
+
 -- y, which is up, answers s
 module _ (w : RecoveryState) (y s : ℕ) (r : Round) (new_floors : ℕ → ℕ) (up : w.down y ≡ false) (at : w.rounds s ≡ Some r) (fits : r.view y ≡ w.lane y) (rise : (z : ℕ) → w.floors y z ≤ new_floors z) (above : (z : ℕ) → r.view z ≤ new_floors z) (low : (z : ℕ) → new_floors z ≤ number w z) (k : RoundInvariant w) where
   abbrev told : Round
@@ -165,29 +239,8 @@ module _ (w : RecoveryState) (y s : ℕ) (r : Round) (new_floors : ℕ → ℕ) 
   found : (p : ℕ) (o : Round) → with_value_at w.rounds s (Some told) p ≡ Some o → ((p ≡ s) × (told ≡ o)) ⊎ (w.rounds p ≡ Some o)
   found p o h = elim (set_at_cases w.rounds s (Some told) p) [ inl is ↦ inl (is.0, some_is told o (sym is.1 ∙ h)) | inr other ↦ inr (sym other.1 ∙ h) ]
 
-  self_answered : told.replied s ≡ false
-  self_answered = heard_other w s y true r at k s not_s ∙ (k.own_view s r at).0
-
-  answer_self : (p : ℕ) (o : Round) → with_value_at w.rounds s (Some told) p ≡ Some o → (o.replied p ≡ false) × (o.view p ≡ w.lane p + 1)
-  answer_self p o there = elim (found p o there) [
-    | inl is ↦ subst (λ q. (o.replied q ≡ false) × (o.view q ≡ w.lane q + 1)) (sym is.0) (subst (λ (x : Round). (x.replied s ≡ false) × (x.view s ≡ w.lane s + 1)) is.1 (self_answered, (k.own_view s r at).1))
-    | inr old ↦ k.own_view p o old
-  ]
-
-  answer_one_way : (p q : ℕ) (a o : Round) → with_value_at w.rounds s (Some told) p ≡ Some a → with_value_at w.rounds s (Some told) q ≡ Some o → a.replied q ≡ true → o.replied p ≡ false
-  answer_one_way p q a o here there replied_q = elim (found p a here) [
-    | inl new ↦ elim (heard_more w s y true r at k q (ap (λ (x : Round). x.replied q) new.1 ∙ replied_q)) [
-      | inl is ↦ elim (found q o there) [ inl other ↦ absurd (not_s (sym other.0 ∙ is)) | inr old ↦ absurd (has_none q o old is) ]
-      | inr before ↦ elim (found q o there) [
-        | inl other ↦ absurd (both_ways (r.replied s) (k.own_view s r at).0 (subst (λ x. r.replied x ≡ true) other.0 before))
-        | inr old ↦ subst (λ x. o.replied x ≡ false) (sym new.0) (k.one_way s q r o at old before)
-      ]
-    ]
-    | inr here_old ↦ elim (found q o there) [
-      | inl new ↦ subst (λ (x : Round). x.replied p ≡ false) new.1 (heard_other w s y true r at k p (λ is. has_none p a here_old is) ∙ k.one_way p s a r here_old at (subst (λ x. a.replied x ≡ true) new.0 replied_q))
-      | inr old ↦ k.one_way p q a o here_old old replied_q
-    ]
-  ]
+  found_away : (p : ℕ) (o : Round) → with_value_at w.rounds s (Some told) p ≡ Some o → (p ≡ y → ⊥) × (((p ≡ s) × (told ≡ o)) ⊎ (w.rounds p ≡ Some o))
+  found_away p o there = elim (found p o there) [ inl is ↦ (λ e. not_s (sym is.0 ∙ e), inl is) | inr old ↦ (has_none p o old, inr old) ]
 
   floors_rise : (p z : ℕ) → w.floors p z ≤ with_value_at w.floors y new_floors p z
   floors_rise p z = elim (set_at_cases w.floors y new_floors p) [
@@ -207,57 +260,10 @@ module _ (w : RecoveryState) (y s : ℕ) (r : Round) (new_floors : ℕ → ℕ) 
     | inr old ↦ omega (arith, k.refuses p q z a old was is_up, floors_rise q z)
   ]
 
-  answer_order : (p z q : ℕ) (a o : Round) → with_value_at w.rounds s (Some told) p ≡ Some a → with_value_at w.rounds s (Some told) z ≡ Some o → o.replied p ≡ true → a.answered q ≡ true → o.view q ≤ a.view q
-  answer_order p z q a o here there replied_q was = elim (found p a here) [
-    | inl new ↦ elim (found z o there) [
-      | inl other ↦ absurd (both_ways (told.replied s) self_answered (subst (λ x. told.replied x ≡ true) new.0 (ap (λ (x : Round). x.replied p) other.1 ∙ replied_q)))
-      | inr old ↦
-          let hears_s : o.replied s ≡ true = subst (λ x. o.replied x ≡ true) new.0 replied_q in
-          subst (λ (x : Round). o.view q ≤ x.view q) new.1 (elim (answered_more w s y true r at k q (ap (λ (x : Round). x.answered q) new.1 ∙ was)) [
-            | inl is ↦ subst (λ x. o.view x ≤ r.view x) (sym is.0) (let seen = k.views_told z y o old in let here_number : number w y ≡ w.lane y = cond-false (w.down y) (w.lane y + 1) (w.lane y) up in omega (arith, seen, here_number, fits))
-            | inr before ↦ k.ordered s z q r o at old hears_s before.1
-          ])
-    ]
-    | inr here_old ↦ elim (found z o there) [
-      | inl new ↦ elim (heard_more w s y true r at k p (ap (λ (x : Round). x.replied p) new.1 ∙ replied_q)) [
-        | inl is ↦ absurd (has_none p a here_old is)
-        | inr before ↦ subst (λ (x : Round). x.view q ≤ a.view q) new.1 (k.ordered p s q a r here_old at before was)
-      ]
-      | inr old ↦ k.ordered p z q a o here_old old replied_q was
-    ]
-  ]
-
   answer_preserves : RoundInvariant told_world
-  answer_preserves = record {
-    gathering_are_down = λ p o there. elim (found p o there) [ inl is ↦ subst (λ q. w.down q ≡ true) (sym is.0) (k.gathering_are_down s r at) | inr old ↦ k.gathering_are_down p o old ];
-    own_view = answer_self;
-    views_told = λ p q o there. elim (found p o there) [ inl is ↦ subst (λ (x : Round). x.view q ≤ number w q) is.1 (k.views_told s q r at) | inr old ↦ k.views_told p q o old ];
-    floors_told = λ p q. elim (set_at_cases w.floors y new_floors p) [ inl is ↦ subst (λ g. g q ≤ number w q) (sym is.1) (low q) | inr other ↦ subst (λ g. g q ≤ number w q) (sym other.1) (k.floors_told p q) ];
-    one_way = answer_one_way;
-    same_lane = λ p q a here replied_q was. elim (found p a here) [
-      | inl new ↦ subst (λ (x : Round). w.lane q ≡ x.view q) new.1 (elim (answered_more w s y true r at k q (ap (λ (x : Round). x.answered q) new.1 ∙ was)) [
-        | inl is ↦ subst (λ x. w.lane x ≡ r.view x) (sym is.0) (sym fits)
-        | inr old ↦ k.same_lane s q r at (k.answers_are_replies s q r at old.1) old.1
-      ])
-      | inr old ↦ k.same_lane p q a old replied_q was
-    ];
-    still_down = λ p q a here replied_q quiet. elim (found p a here) [
-      | inl new ↦ subst (λ (x : Round). (w.down q ≡ true) × (w.lane q + 1 ≡ x.view q)) new.1 (elim (silent_more w s y true r at k q (ap (λ (x : Round). x.replied q) new.1 ∙ replied_q) (ap (λ (x : Round). x.answered q) new.1 ∙ quiet)) [
-        | inl is ↦ absurd (both_ways true is.1 refl)
-        | inr old ↦ k.still_down s q r at old.0 old.1
-      ])
-      | inr old ↦ k.still_down p q a old replied_q quiet
-    ];
-    answers_are_replies = λ p q a here was. elim (found p a here) [
-      | inl new ↦ sym (ap (λ (x : Round). x.replied q) new.1) ∙ elim (answered_more w s y true r at k q (ap (λ (x : Round). x.answered q) new.1 ∙ was)) [
-        | inl is ↦ cond-true (q == y) true (r.replied q) (eq-eqb q y is.0)
-        | inr old ↦ heard_other w s y true r at k q old.0 ∙ k.answers_are_replies s q r at old.1
-      ]
-      | inr old ↦ k.answers_are_replies p q a old was
-    ];
-    refuses = answer_refuses;
-    ordered = answer_order;
-  }
+  answer_preserves = reply_preserves w s y true r at k (with_value_at w.rounds s (Some told)) not_s found_away (λ e. (up, sym fits)) (λ e. absurd (both_ways true e refl)) (with_value_at w.floors y new_floors)
+      (λ p q. elim (set_at_cases w.floors y new_floors p) [ inl is ↦ subst (λ g. g q ≤ number w q) (sym is.1) (low q) | inr other ↦ subst (λ g. g q ≤ number w q) (sym other.1) (k.floors_told p q) ])
+      answer_refuses
 
 -- y, which is not up, says so to s
 module _ (w : RecoveryState) (y s : ℕ) (r : Round) (is_down : w.down y ≡ true) (other_one : y ≡ s → ⊥) (at : w.rounds s ≡ Some r) (fits : r.view y ≡ w.lane y + 1) (k : RoundInvariant w) where
@@ -277,77 +283,16 @@ module _ (w : RecoveryState) (y s : ℕ) (r : Round) (is_down : w.down y ≡ tru
     | inr away ↦ (away.0, elim (set_at_cases w.rounds s (Some said) p) [ inl is ↦ inl (is.0, some_is said o (sym is.1 ∙ sym away.1 ∙ h)) | inr other ↦ inr (sym other.1 ∙ sym away.1 ∙ h) ])
   ]
 
-  self_not_up : said.replied s ≡ false
-  self_not_up = heard_other w s y false r at k s (λ is. other_one (sym is)) ∙ (k.own_view s r at).0
-
-  said_one_way : (p q : ℕ) (a o : Round) → said_rounds p ≡ Some a → said_rounds q ≡ Some o → a.replied q ≡ true → o.replied p ≡ false
-  said_one_way p q a o here there replied_q = elim (seen p a here).1 [
-    | inl new ↦ elim (heard_more w s y false r at k q (ap (λ (x : Round). x.replied q) new.1 ∙ replied_q)) [
-      | inl is ↦ absurd ((seen q o there).0 is)
-      | inr before ↦ elim (seen q o there).1 [
-        | inl other ↦ absurd (both_ways (r.replied s) (k.own_view s r at).0 (subst (λ x. r.replied x ≡ true) other.0 before))
-        | inr old ↦ subst (λ x. o.replied x ≡ false) (sym new.0) (k.one_way s q r o at old before)
-      ]
-    ]
-    | inr here_old ↦ elim (seen q o there).1 [
-      | inl new ↦ subst (λ (x : Round). x.replied p ≡ false) new.1 (heard_other w s y false r at k p (seen p a here).0 ∙ k.one_way p s a r here_old at (subst (λ x. a.replied x ≡ true) new.0 replied_q))
-      | inr old ↦ k.one_way p q a o here_old old replied_q
-    ]
-  ]
-
   -- a process that has answered did so before
   old_answer : (q : ℕ) → said.answered q ≡ true → r.answered q ≡ true
   old_answer q was = elim (answered_more w s y false r at k q was) [ inl is ↦ absurd (both_ways false refl is.1) | inr old ↦ old.1 ]
 
-  said_order : (p z q : ℕ) (a o : Round) → said_rounds p ≡ Some a → said_rounds z ≡ Some o → o.replied p ≡ true → a.answered q ≡ true → o.view q ≤ a.view q
-  said_order p z q a o here there replied_q was = elim (seen p a here).1 [
-    | inl new ↦ elim (seen z o there).1 [
-      | inl other ↦ absurd (both_ways (said.replied s) self_not_up (subst (λ x. said.replied x ≡ true) new.0 (ap (λ (x : Round). x.replied p) other.1 ∙ replied_q)))
-      | inr old ↦ subst (λ (x : Round). o.view q ≤ x.view q) new.1 (k.ordered s z q r o at old (subst (λ x. o.replied x ≡ true) new.0 replied_q) (old_answer q (ap (λ (x : Round). x.answered q) new.1 ∙ was)))
-    ]
-    | inr here_old ↦ elim (seen z o there).1 [
-      | inl new ↦ elim (heard_more w s y false r at k p (ap (λ (x : Round). x.replied p) new.1 ∙ replied_q)) [
-        | inl is ↦ absurd ((seen p a here).0 is)
-        | inr before ↦ subst (λ (x : Round). x.view q ≤ a.view q) new.1 (k.ordered p s q a r here_old at before was)
-      ]
-      | inr old ↦ k.ordered p z q a o here_old old replied_q was
-    ]
-  ]
-
   not_up_preserves : RoundInvariant said_world
-  not_up_preserves = record {
-    gathering_are_down = λ p o there. elim (seen p o there).1 [ inl is ↦ subst (λ q. w.down q ≡ true) (sym is.0) (k.gathering_are_down s r at) | inr old ↦ k.gathering_are_down p o old ];
-    own_view = λ p o there. elim (seen p o there).1 [
-      | inl is ↦ subst (λ q. (o.replied q ≡ false) × (o.view q ≡ w.lane q + 1)) (sym is.0) (subst (λ (x : Round). (x.replied s ≡ false) × (x.view s ≡ w.lane s + 1)) is.1 (self_not_up, (k.own_view s r at).1))
-      | inr old ↦ k.own_view p o old
-    ];
-    views_told = λ p q o there. elim (seen p o there).1 [ inl is ↦ subst (λ (x : Round). x.view q ≤ number w q) is.1 (k.views_told s q r at) | inr old ↦ k.views_told p q o old ];
-    floors_told = k.floors_told;
-    one_way = said_one_way;
-    same_lane = λ p q a here replied_q was. elim (seen p a here).1 [
-      | inl new ↦ let old = old_answer q (ap (λ (x : Round). x.answered q) new.1 ∙ was) in subst (λ (x : Round). w.lane q ≡ x.view q) new.1 (k.same_lane s q r at (k.answers_are_replies s q r at old) old)
-      | inr old ↦ k.same_lane p q a old replied_q was
-    ];
-    still_down = λ p q a here replied_q quiet. elim (seen p a here).1 [
-      | inl new ↦ subst (λ (x : Round). (w.down q ≡ true) × (w.lane q + 1 ≡ x.view q)) new.1 (elim (silent_more w s y false r at k q (ap (λ (x : Round). x.replied q) new.1 ∙ replied_q) (ap (λ (x : Round). x.answered q) new.1 ∙ quiet)) [
-        | inl is ↦ subst (λ x. (w.down x ≡ true) × (w.lane x + 1 ≡ r.view x)) (sym is.0) (is_down, sym fits)
-        | inr old ↦ k.still_down s q r at old.0 old.1
+  not_up_preserves = reply_preserves w s y false r at k said_rounds (λ is. other_one (sym is)) seen (λ e. absurd (both_ways false refl e)) (λ e. (is_down, sym fits)) w.floors k.floors_told
+      (λ p q z a here was up. elim (seen p a here).1 [
+        | inl new ↦ subst (λ (x : Round). x.view z ≤ w.floors q z) new.1 (k.refuses s q z r at (old_answer q (ap (λ (x : Round). x.answered q) new.1 ∙ was)) up)
+        | inr old ↦ k.refuses p q z a old was up
       ])
-      | inr old ↦ k.still_down p q a old replied_q quiet
-    ];
-    answers_are_replies = λ p q a here was. elim (seen p a here).1 [
-      | inl new ↦ sym (ap (λ (x : Round). x.replied q) new.1) ∙ elim (answered_more w s y false r at k q (ap (λ (x : Round). x.answered q) new.1 ∙ was)) [
-        | inl is ↦ absurd (both_ways false refl is.1)
-        | inr old ↦ heard_other w s y false r at k q old.0 ∙ k.answers_are_replies s q r at old.1
-      ]
-      | inr old ↦ k.answers_are_replies p q a old was
-    ];
-    refuses = λ p q z a here was up. elim (seen p a here).1 [
-      | inl new ↦ subst (λ (x : Round). x.view z ≤ w.floors q z) new.1 (k.refuses s q z r at (old_answer q (ap (λ (x : Round). x.answered q) new.1 ∙ was)) up)
-      | inr old ↦ k.refuses p q z a old was up
-    ];
-    ordered = said_order;
-  }
 
 -- the number of a process that comes up is the one that it had told
 pub number_risen : (w x : RecoveryState) (s : ℕ) → x.lane ≡ with_value_at w.lane s (w.lane s + 1) → x.down ≡ with_value_at w.down s false → w.down s ≡ true → (q : ℕ) → number x q ≡ number w q
