@@ -1,5 +1,5 @@
 -- Each step preserves the invariant of one determinant.
-use Rattle.std.proofs.Common.{ℕ, ◌≡◌, ◌≤◌, ◌+◌, inl, inr, Bool, true, false, cond, Some, None, refl, sym, ap, subst, ◌∙◌, arith}
+use Rattle.std.proofs.Common.{ℕ, ◌≡◌, ◌≤◌, ◌+◌, inl, inr, Bool, true, false, cond, Option, Some, None, refl, sym, ap, subst, ◌∙◌, arith}
 use Rattle.std.specs.Prelude.{◌⊎◌, ◌==◌, ◌||◌}
 use Rattle.std.proofs.lemmas.Bool.{both_ways, or_left, or_right, cases_Bool, true_from_ne_false}
 use Rattle.std.proofs.lemmas.Bool.Decides.{eqb_tells}
@@ -186,105 +186,79 @@ end_preserves a s k =
     ] in
     assumption
 
--- y answers s
-module _ (a : DetState) (y s : ℕ) (r : Round) (floors : ℕ → ℕ) (up : a.state.down y ≡ false) (at : a.state.rounds s ≡ Some r) (fits : r.view y ≡ a.state.lane y) (k : DetInvariant a) where
-  abbrev told : Round
-  told = with_reply r y true
+-- y has replied to s, up or not: what it logs, or has sent from the lane of the view, is gathered now
+module _ (a : DetState) (y s : ℕ) (up : Bool) (r : Round) (floors : ℕ → ℕ → ℕ) (rounds : ℕ → Option Round) (gathered : ℕ → Bool) (at : a.state.rounds s ≡ Some r) (k : DetInvariant a)
+    (seen : (p : ℕ) (o : Round) → rounds p ≡ Some o → ((p ≡ s) × (with_reply r y up ≡ o)) ⊎ (a.state.rounds p ≡ Some o)) (count : number a.state y ≡ r.view y)
+    (old : (p : ℕ) → a.gathered p ≡ true → gathered p ≡ true) (had : a.stable ≡ false → HasFromLane a y (r.view y) → gathered s ≡ true) where
+  abbrev grown : Round
+  grown = with_reply r y up
 
-  abbrev answered : DetState
-  answered = record a { state = record a.state { floors = with_value_at a.state.floors y floors; rounds = with_value_at a.state.rounds s (Some told) }; gathered = with_value_at a.gathered s (a.gathered s || a.logs y) }
+  abbrev replied : DetState
+  replied = record a { state = record a.state { floors = floors; rounds = rounds }; gathered = gathered }
 
-  got_old : a.gathered s ≡ true → answered.gathered s ≡ true
-  got_old got = set_at_here a.gathered s (a.gathered s || a.logs y) ∙ or_left (a.gathered s) (a.logs y) got
-
-  got_new : a.logs y ≡ true → answered.gathered s ≡ true
-  got_new has_it = set_at_here a.gathered s (a.gathered s || a.logs y) ∙ or_right (a.gathered s) (a.logs y) has_it
-
-  open_before : MayComplete a.state s told → MayComplete a.state s r
+  open_before : MayComplete a.state s grown → MayComplete a.state s r
   open_before fitting q other no_reply = elim (set_at_cases r.replied y true q) [
-    | inl is ↦ subst (λ x. number a.state x ≡ r.view x) (sym is.0) (number_up a.state y up ∙ sym fits)
+    | inl is ↦ subst (λ x. number a.state x ≡ r.view x) (sym is.0) count
     | inr fact ↦ fitting q other (fact.1 ∙ no_reply)
   ]
 
-  now : (q : ℕ) → MayComplete a.state s told → a.must_recover s ≡ true → a.stable ≡ false → told.replied q ≡ true → HasFromLane a q (r.view q) → Result answered s told
+  now : (q : ℕ) → MayComplete a.state s grown → a.must_recover s ≡ true → a.stable ≡ false → grown.replied q ≡ true → HasFromLane a q (r.view q) → Result replied s grown
   now q fitting must unstable replied_q has_d = elim (set_at_cases r.replied y true q) [
-    | inl is ↦ elim has_d [
-      | inl logs_it ↦ inl (got_new (subst (λ x. a.logs x ≡ true) is.0 logs_it))
-      | inr (i, t, there, from, lane) ↦
-          let who : t.from ≡ y = from ∙ is.0 in
-          let at_lane : t.lane ≡ a.state.lane t.from = lane ∙ ap r.view is.0 ∙ fits ∙ ap a.state.lane (sym who) in
-          elim (k.sent i t there (subst (λ x. a.state.down x ≡ false) (sym who) up) at_lane) [ inl has_it ↦ inl (got_new (subst (λ x. a.logs x ≡ true) who has_it)) | inr stable ↦ absurd (both_ways a.stable unstable stable) ]
-    ]
+    | inl is ↦ inl (had unstable (subst (λ x. HasFromLane a x (r.view x)) is.0 has_d))
     | inr fact ↦ elim (k.gathers s q r at (open_before fitting) must unstable (sym fact.1 ∙ replied_q) has_d) [
-      | inl got ↦ inl (got_old got)
+      | inl got ↦ inl (old s got)
       | inr (z, no_reply, has_it) ↦ elim (set_at_cases r.replied y true z) [
-        | inl is ↦ inl (got_new (subst (λ x. a.logs x ≡ true) is.0 has_it))
+        | inl is ↦ inl (had unstable (inl (subst (λ x. a.logs x ≡ true) is.0 has_it)))
         | inr other ↦ inr (z, other.1 ∙ no_reply, has_it)
       ]
     ]
   ]
 
-  answered_preserves : DetInvariant answered
-  answered_preserves =
-      let gathers : Gathers answered = λ p q o there fitting must unstable replied_q has_d. elim (set_at_cases a.state.rounds s (Some told) p) [
-        | inl is ↦ by p is.0 q o (some_is told o (sym is.1 ∙ there)) fitting must unstable replied_q has_d
-        | inr other ↦ elim (k.gathers p q o (sym other.1 ∙ there) fitting must unstable replied_q has_d) [ inl got ↦ inl (set_at_away a.gathered s (a.gathered s || a.logs y) p other.0 ∙ got) | inr rest ↦ inr rest ]
+  reply_preserves : DetInvariant replied
+  reply_preserves =
+      let gathers : Gathers replied = λ p q o there fitting must unstable replied_q has_d. elim (seen p o there) [
+        | inl is ↦ by p is.0 q o is.1 fitting must unstable replied_q has_d
+        | inr before ↦ elim (k.gathers p q o before fitting must unstable replied_q has_d) [ inl got ↦ inl (old p got) | inr rest ↦ inr rest ]
       ] in
       assumption
     where
-      by : (p : ℕ) → p ≡ s → (q : ℕ) (o : Round) → told ≡ o → MayComplete a.state p o → a.must_recover p ≡ true → a.stable ≡ false → o.replied q ≡ true → HasFromLane a q (o.view q) → Result answered p o
+      by : (p : ℕ) → p ≡ s → (q : ℕ) (o : Round) → grown ≡ o → MayComplete a.state p o → a.must_recover p ≡ true → a.stable ≡ false → o.replied q ≡ true → HasFromLane a q (o.view q) → Result replied p o
       by p is q o same fitting must unstable replied_q has_d =
-          subst (λ x. Result answered x o) (sym is) (subst (λ (x : Round). Result answered s x) same
+          subst (λ x. Result replied x o) (sym is) (subst (λ (x : Round). Result replied s x) same
           (now q (subst (λ (x : Round). MayComplete a.state s x) (sym same) (subst (λ x. MayComplete a.state x o) is fitting)) (subst (λ x. a.must_recover x ≡ true) is must) unstable (ap (λ (x : Round). x.replied q) same ∙ replied_q) (subst (λ (x : Round). HasFromLane a q (x.view q)) (sym same) has_d)))
+
+-- y answers s
+module _ (a : DetState) (y s : ℕ) (r : Round) (floors : ℕ → ℕ) (up : a.state.down y ≡ false) (at : a.state.rounds s ≡ Some r) (fits : r.view y ≡ a.state.lane y) (k : DetInvariant a) where
+  abbrev told : Round
+  told = with_reply r y true
+
+  answered_preserves : DetInvariant (record a { state = record a.state { floors = with_value_at a.state.floors y floors; rounds = with_value_at a.state.rounds s (Some told) }; gathered = with_value_at a.gathered s (a.gathered s || a.logs y) })
+  answered_preserves = reply_preserves a y s true r (with_value_at a.state.floors y floors) (with_value_at a.state.rounds s (Some told)) (with_value_at a.gathered s (a.gathered s || a.logs y)) at k
+      (λ p o h. elim (set_at_cases a.state.rounds s (Some told) p) [ inl is ↦ inl (is.0, some_is told o (sym is.1 ∙ h)) | inr other ↦ inr (sym other.1 ∙ h) ])
+      (number_up a.state y up ∙ sym fits)
+      (λ p got. elim (set_at_cases a.gathered s (a.gathered s || a.logs y) p) [ inl is ↦ is.1 ∙ or_left _ _ (ap a.gathered (sym is.0) ∙ got) | inr other ↦ other.1 ∙ got ])
+      (λ unstable has_d. set_at_here a.gathered s (a.gathered s || a.logs y) ∙ or_right (a.gathered s) _ (elim has_d [
+        | inl logs_it ↦ logs_it
+        | inr (i, t, there, from, lane) ↦ elim (k.sent i t there (ap a.state.down from ∙ up) (lane ∙ fits ∙ ap a.state.lane (sym from))) [ inl has_it ↦ subst (λ x. a.logs x ≡ true) from has_it | inr stable ↦ absurd (both_ways a.stable unstable stable) ]
+      ]))
 
 -- y, which is not up, says so to s
 module _ (a : DetState) (y s : ℕ) (r : Round) (down : a.state.down y ≡ true) (other_one : y ≡ s → ⊥) (at : a.state.rounds s ≡ Some r) (fits : r.view y ≡ a.state.lane y + 1) (k : DetInvariant a) where
   abbrev said : Round
   said = with_reply r y false
 
-  abbrev silent : DetState
-  silent = record a { state = record a.state { rounds = with_value_at (with_value_at a.state.rounds s (Some said)) y None } }
-
-  still_open : MayComplete a.state s said → MayComplete a.state s r
-  still_open fitting q other no_reply = elim (set_at_cases r.replied y true q) [
-    | inl is ↦ subst (λ x. number a.state x ≡ r.view x) (sym is.0) (number_down a.state y down ∙ sym fits)
-    | inr fact ↦ fitting q other (fact.1 ∙ no_reply)
-  ]
-
-  then : (q : ℕ) → MayComplete a.state s said → a.must_recover s ≡ true → a.stable ≡ false → said.replied q ≡ true → HasFromLane a q (r.view q) → Result a s said
-  then q fitting must unstable replied_q has_d = elim (set_at_cases r.replied y true q) [
-    | inl is ↦ elim has_d [
-      | inl logs_it ↦ absurd (both_ways (a.state.down y) (k.logs_up y (subst (λ x. a.logs x ≡ true) is.0 logs_it)) down)
-      | inr (i, t, there, from, lane) ↦
-          let who : t.from ≡ y = from ∙ is.0 in
-          let low : t.lane ≤ a.state.lane y = subst (λ x. t.lane ≤ a.state.lane x) who (k.lanes i t there) in
-          let high : t.lane ≡ a.state.lane y + 1 = lane ∙ ap r.view is.0 ∙ fits in
-          absurd (omega (arith, low, high))
-    ]
-    | inr fact ↦ elim (k.gathers s q r at (still_open fitting) must unstable (sym fact.1 ∙ replied_q) has_d) [
-      | inl got ↦ inl got
-      | inr (z, no_reply, has_it) ↦ elim (set_at_cases r.replied y true z) [
-        | inl is ↦ absurd (both_ways (a.state.down y) (k.logs_up y (subst (λ x. a.logs x ≡ true) is.0 has_it)) down)
-        | inr other ↦ inr (z, other.1 ∙ no_reply, has_it)
-      ]
-    ]
-  ]
-
-  said_preserves : DetInvariant silent
-  said_preserves =
-      let gathers : Gathers silent = λ p q o there fitting must unstable replied_q has_d. elim (set_at_cases (with_value_at a.state.rounds s (Some said)) y None p) [
-        | inl is ↦ absurd (none_some o (sym is.1 ∙ there))
-        | inr not_y ↦ elim (set_at_cases a.state.rounds s (Some said) p) [
-          | inl is ↦ by p is.0 q o (some_is said o (sym is.1 ∙ sym not_y.1 ∙ there)) fitting must unstable replied_q has_d
-          | inr other ↦ k.gathers p q o (sym other.1 ∙ sym not_y.1 ∙ there) fitting must unstable replied_q has_d
-        ]
-      ] in
-      assumption
-    where
-      by : (p : ℕ) → p ≡ s → (q : ℕ) (o : Round) → said ≡ o → MayComplete a.state p o → a.must_recover p ≡ true → a.stable ≡ false → o.replied q ≡ true → HasFromLane a q (o.view q) → Result a p o
-      by p is q o same fitting must unstable replied_q has_d =
-          subst (λ x. Result a x o) (sym is) (subst (λ (x : Round). Result a s x) same
-          (then q (subst (λ (x : Round). MayComplete a.state s x) (sym same) (subst (λ x. MayComplete a.state x o) is fitting)) (subst (λ x. a.must_recover x ≡ true) is must) unstable (ap (λ (x : Round). x.replied q) same ∙ replied_q) (subst (λ (x : Round). HasFromLane a q (x.view q)) (sym same) has_d)))
+  said_preserves : DetInvariant (record a { state = record a.state { rounds = with_value_at (with_value_at a.state.rounds s (Some said)) y None } })
+  said_preserves = reply_preserves a y s false r a.state.floors (with_value_at (with_value_at a.state.rounds s (Some said)) y None) a.gathered at k
+      (λ p o h. elim (set_at_cases (with_value_at a.state.rounds s (Some said)) y None p) [
+        | inl is ↦ absurd (none_some o (sym is.1 ∙ h))
+        | inr not_y ↦ elim (set_at_cases a.state.rounds s (Some said) p) [ inl is ↦ inl (is.0, some_is said o (sym is.1 ∙ sym not_y.1 ∙ h)) | inr other ↦ inr (sym other.1 ∙ sym not_y.1 ∙ h) ]
+      ])
+      (number_down a.state y down ∙ sym fits)
+      (λ p got. got)
+      (λ unstable has_d. absurd (elim has_d [
+        | inl logs_it ↦ both_ways (a.state.down y) (k.logs_up y logs_it) down
+        | inr (i, t, there, from, lane) ↦ (let low : t.lane ≤ a.state.lane y = subst (λ x. t.lane ≤ a.state.lane x) from (k.lanes i t there) in let high : t.lane ≡ a.state.lane y + 1 = lane ∙ fits in omega (arith, low, high))
+      ]))
 
 -- s comes up
 module _ (a : DetState) (s : ℕ) (r : Round) (at : a.state.rounds s ≡ Some r) (all : (q : ℕ) → (q ≡ s → ⊥) → r.replied q ≡ true) (h : RoundInvariant a.state) (k : DetInvariant a) where
