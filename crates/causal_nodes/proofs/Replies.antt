@@ -8,13 +8,24 @@ use Rattle.causal_trace.specs.Past.{is_stable}
 use Rattle.causal_rounds.specs.Rounds.{with_value_at, Round}
 use Rattle.causal_rounds.proofs.Lemmas.RoundSteps.{set_at_cases, still_true}
 use Rattle.causal_world.specs.World.{Packet, World}
-use Rattle.causal_nodes.specs.Node.{NodeRound}
+use Rattle.causal_nodes.specs.Node.{NodeLog, NodeRound}
 use Rattle.causal_nodes.specs.Packets.{Sent, answer_packet, not_up_packet, stored_packet, WasSent}
 use Rattle.causal_nodes.specs.NodeSteps.{after_answer, with_heard, round_with_stored}
 use Rattle.causal_nodes.proofs.Kept.{reply_kept}
-use Rattle.causal_nodes.proofs.Represents.{IsPacket, ReplyFits, IsToldBy, GatheringFits}
+use Rattle.causal_nodes.proofs.Represents.{Told, IsPacket, ReplyFits, IsToldBy, GatheringFits}
+
+first_to : {A B C : Type 0} → (A → B) → A ⊎ C → B ⊎ C
+first_to f x = elim x [ inl a ↦ inl (f a) | inr c ↦ inr c ]
 
 module _ (n : ℕ) (w : World) (sent : List Sent) (s : ℕ) (nr : NodeRound) (r : Round) (g : GatheringFits n w sent s nr r) where
+  -- what was told is told still, if what is taken now follows
+  told_more : (heard : ℕ → Bool) (log : NodeLog) → ((d : Det) (x : ℕ) → x < n → IsToldBy w sent s nr r d x → heard x ≡ true → (log.has d ≡ true) ⊎ (is_stable w.past d ≡ true))
+      → (d : Det) → w.gathered s d ≡ true → Told n w sent s (record nr { heard = heard; gathered = log }) r d
+  told_more heard log taken d has = elim (g.told d has) [
+    | inl b ↦ let old = b.2 in inl (b.0, b.1, record { answered = old.answered; packet = old.packet; answers = old.answers; taken = taken d b.0 b.1 old })
+    | inr stored ↦ inr stored
+  ]
+
   module _ (more : NodeRound) (heard : (q : ℕ) → nr.heard q ≡ true → more.heard q ≡ true) (has : (d : Det) → nr.gathered.has d ≡ true → more.gathered.has d ≡ true) where
     reply_more : (k : Sent) → ReplyFits n w s nr r k → ReplyFits n w s more r k
     reply_more = reply_kept n w w s nr more r r.replied r.answered (λ z h. h) (λ z h. h) (λ z h silent. silent) heard has (λ h d now. now)
@@ -34,22 +45,6 @@ module _ (n : ℕ) (w : World) (sent : List Sent) (s : ℕ) (nr : NodeRound) (r 
     more_has : (d : Det) → nr.gathered.has d ≡ true → answered_round.gathered.has d ≡ true
     more_has d h = or_left (nr.gathered.has d) (p.parcel.carries d) h
 
-    more_or_stable : (d : Det) → (nr.gathered.has d ≡ true) ⊎ (is_stable w.past d ≡ true) → (answered_round.gathered.has d ≡ true) ⊎ (is_stable w.past d ≡ true)
-    more_or_stable d (inl h) = inl (more_has d h)
-    more_or_stable d (inr h) = inr h
-
-    taken_or_stable : (d : Det) → (p.parcel.carries d ≡ true) ⊎ (is_stable w.past d ≡ true) → (answered_round.gathered.has d ≡ true) ⊎ (is_stable w.past d ≡ true)
-    taken_or_stable d (inl h) = inl (or_right (nr.gathered.has d) (p.parcel.carries d) h)
-    taken_or_stable d (inr h) = inr h
-
-    told_answered : (d : Det) (x : ℕ) → IsToldBy w sent s nr r d x → IsToldBy w sent s answered_round r d x
-    told_answered d x b = record {
-      answered = b.answered;
-      packet = b.packet;
-      answers = b.answers;
-      taken = λ heard. elim (set_at_cases nr.heard y true x) [ inl is ↦ taken_or_stable d (b.answers p was to (sym is.0)) | inr other ↦ more_or_stable d (b.taken (sym other.1 ∙ heard)) ];
-    }
-
     pub answer_taken : GatheringFits n w sent s answered_round r
     answer_taken = record {
       view = g.view;
@@ -64,7 +59,10 @@ module _ (n : ℕ) (w : World) (sent : List Sent) (s : ℕ) (nr : NodeRound) (r 
         | inl is ↦ absurd (let low = packet.2 in let e = is.0 in omega (arith, low, e))
         | inr other ↦ let old = g.storage (sym other.1 ∙ heard) in (old.0, λ d has. more_has d (old.1 d has))
       ];
-      told = λ d has. elim (g.told d has) [ inl b ↦ inl (b.0, b.1, told_answered d b.0 b.2) | inr stored ↦ inr stored ];
+      told = told_more answered_round.heard answered_round.gathered (λ d x low b heard. elim (set_at_cases nr.heard y true x) [
+        | inl is ↦ first_to (λ h. or_right (nr.gathered.has d) (p.parcel.carries d) h) (b.answers p was to (sym is.0))
+        | inr other ↦ first_to (λ h. more_has d h) (b.taken (sym other.1 ∙ heard))
+      ]);
       replies = λ k sent_k of. reply_more answered_round (still_true nr.heard y) more_has k (g.replies k sent_k of);
     }
 
@@ -76,14 +74,6 @@ module _ (n : ℕ) (w : World) (sent : List Sent) (s : ℕ) (nr : NodeRound) (r 
     silence : (r.replied q ≡ true) × (r.answered q ≡ false)
     silence = g.replies (not_up_packet q s nr.name) was (and_from (s == s) (nr.name == nr.name) (eq-eqb s s refl) (eq-eqb nr.name nr.name refl))
 
-    told_heard : (d : Det) (x : ℕ) → IsToldBy w sent s nr r d x → IsToldBy w sent s heard_round r d x
-    told_heard d x b = record {
-      answered = b.answered;
-      packet = b.packet;
-      answers = b.answers;
-      taken = λ heard. elim (set_at_cases nr.heard q true x) [ inl is ↦ absurd (both_ways (r.answered q) silence.1 (ap r.answered (sym is.0) ∙ b.answered)) | inr other ↦ b.taken (sym other.1 ∙ heard) ];
-    }
-
     pub not_up_taken : GatheringFits n w sent s heard_round r
     not_up_taken = record {
       view = g.view;
@@ -92,7 +82,10 @@ module _ (n : ℕ) (w : World) (sent : List Sent) (s : ℕ) (nr : NodeRound) (r 
       holders = g.holders;
       stable = g.stable;
       storage = λ heard. elim (set_at_cases nr.heard q true n) [ inl is ↦ absurd (let e = is.0 in omega (arith, low_q, e)) | inr other ↦ g.storage (sym other.1 ∙ heard) ];
-      told = λ d has. elim (g.told d has) [ inl b ↦ inl (b.0, b.1, told_heard d b.0 b.2) | inr stored ↦ inr stored ];
+      told = told_more heard_round.heard nr.gathered (λ d x low b heard. elim (set_at_cases nr.heard q true x) [
+        | inl is ↦ absurd (both_ways (r.answered q) silence.1 (ap r.answered (sym is.0) ∙ b.answered))
+        | inr other ↦ b.taken (sym other.1 ∙ heard)
+      ]);
       replies = λ k sent_k of. reply_more heard_round (still_true nr.heard q) (λ d h. h) k (g.replies k sent_k of);
     }
 
@@ -104,10 +97,6 @@ module _ (n : ℕ) (w : World) (sent : List Sent) (s : ℕ) (nr : NodeRound) (r 
     fuller_has : (d : Det) → nr.gathered.has d ≡ true → fuller_round.gathered.has d ≡ true
     fuller_has d h = or_left (nr.gathered.has d) (same_det d det) h
 
-    fuller_or_stable : (d : Det) → (nr.gathered.has d ≡ true) ⊎ (is_stable w.past d ≡ true) → (fuller_round.gathered.has d ≡ true) ⊎ (is_stable w.past d ≡ true)
-    fuller_or_stable d (inl h) = inl (fuller_has d h)
-    fuller_or_stable d (inr h) = inr h
-
     pub det_taken : GatheringFits n w sent s fuller_round r
     det_taken = record {
       view = g.view;
@@ -116,10 +105,7 @@ module _ (n : ℕ) (w : World) (sent : List Sent) (s : ℕ) (nr : NodeRound) (r 
       holders = λ d q has. let h = g.holders d q has in (fuller_has d h.0, h.1);
       stable = λ d has. elim (or_cases (nr.gathered.stable d) (same_det d det) has) [ inl old ↦ g.stable d old | inr same ↦ stable d same ];
       storage = λ heard. let old = g.storage heard in (old.0, λ d has. fuller_has d (old.1 d has));
-      told = λ d has. elim (g.told d has) [
-        | inl b ↦ let t = b.2 in inl (b.0, b.1, record { answered = t.answered; packet = t.packet; answers = t.answers; taken = λ heard. fuller_or_stable d (t.taken heard) })
-        | inr stored ↦ inr stored
-      ];
+      told = told_more nr.heard fuller_round.gathered (λ d x low b heard. first_to (λ h. fuller_has d h) (b.taken heard));
       replies = λ k sent_k of. reply_more fuller_round (λ q h. h) fuller_has k (g.replies k sent_k of);
     }
 
@@ -139,20 +125,6 @@ module _ (n : ℕ) (w : World) (sent : List Sent) (s : ℕ) (nr : NodeRound) (r 
       holders = g.holders;
       stable = g.stable;
       storage = λ heard. (storage_reply.0, λ d has. elim (storage_reply.1 d has) [ inl old ↦ old | inr told ↦ all d told ]);
-      told = λ d has. elim (g.told d has) [
-        | inl b ↦
-            let t = b.2 in
-            inl (
-              b.0,
-              b.1,
-              record {
-                answered = t.answered;
-                packet = t.packet;
-                answers = t.answers;
-                taken = λ heard. elim (set_at_cases nr.heard n true b.0) [ inl is ↦ absurd (let low = b.1 in let e = is.0 in omega (arith, low, e)) | inr other ↦ t.taken (sym other.1 ∙ heard) ];
-              },
-            )
-        | inr stored ↦ inr stored
-      ];
+      told = told_more read_round.heard nr.gathered (λ d x low b heard. elim (set_at_cases nr.heard n true x) [ inl is ↦ absurd (let e = is.0 in omega (arith, low, e)) | inr other ↦ b.taken (sym other.1 ∙ heard) ]);
       replies = λ k sent_k of. reply_more read_round (still_true nr.heard n) (λ d h. h) k (g.replies k sent_k of);
     }

@@ -2,7 +2,7 @@
 use Rattle.std.proofs.Common.{ℕ, suc, ◌+◌, ◌≡◌, ◌<◌, ◌≤◌, inl, inr, Bool, true, false, cond, not, ◌&&◌, ◌||◌, nat_lt, List, ◌∷◌, Some, None, refl, sym, ap, subst, ◌∙◌, arith}
 use Rattle.std.specs.Prelude.{◌⊎◌, ◌==◌}
 use Rattle.std.specs.Option.{option_map}
-use Rattle.std.proofs.lemmas.Bool.{both_ways, or_cases, or_left, or_right, and_from, eq-eqb, ne_eqb, cond-true, lt-ltb, false_from_ne_true}
+use Rattle.std.proofs.lemmas.Bool.{both_ways, or_cases, or_left, or_right, and_from, eq-eqb, ne_eqb, cond-true, lt-ltb, false_from_ne_true, cases_Bool}
 use Rattle.std.proofs.lemmas.Bool.Decides.{eqb_tells}
 use Rattle.causal_name.specs.declared.Pid.{Pid}
 use Rattle.causal_name.specs.declared.MsgName.{MsgName}
@@ -83,38 +83,34 @@ module _ (n f : ℕ) (w : World) (k : WorldInvariant n f w) (to : Pid) (send rsn
 
   -- the invariant of each determinant after the delivery
   dets : (d : Det) → DetInvariant (det_state_of n after d)
-  dets d = by (list_has listed d) refl
-    where
-      reach : (logged recover : ℕ → Bool) → ((q : ℕ) → logged q ≡ ((nat_lt q n && ((to.0 == q && list_has listed d) || logs w.past q d)) || (q == n && w.stored d))) → ((q : ℕ) → recover q ≡ (nat_lt q n && (not (delivers_as_new w.past to.0 e d) && must_recover w.past q d)))
-          → DetInvariant (state_with d logged recover) → DetInvariant (det_state_of n after d)
-      reach logged recover same_logs same_recover h = subst (λ (a : DetState). DetInvariant a) (λ j. state_with d (λ q. same_logs q j) (λ q. same_recover q j)) h
-
-      mine_or_carried : (b : Bool) → same_det own d ≡ b → list_has listed d ≡ true → DetInvariant (det_state_of n after d)
-      mine_or_carried true same listed_d = logged (logs w.past to.0 d) refl
-        where
-          logged : (b : Bool) → logs w.past to.0 d ≡ b → DetInvariant (det_state_of n after d)
-          logged true has_d =
-              let small : nat_lt to.0 n ≡ true = lt-ltb to.0 n low in
-              reach (with_value_at (logs_before d) to.0 true) (recover_before d) (logs_listed d listed_d) (recover_old d (logged_not_new d has_d)) (det_step_preserves (det_state_of n w d) _ (deliver_again to.0 up (inl (or_left _ _ (and_from _ _ small has_d)))) k.rounds (k.dets d))
-          logged false lacks = stable (is_stable w.past d) refl
-            where
-              stable : (b : Bool) → is_stable w.past d ≡ b → DetInvariant (det_state_of n after d)
-              stable true is = reach (with_value_at (logs_before d) to.0 true) (recover_before d) (logs_listed d listed_d) (recover_old d (stable_not_new d is)) (det_step_preserves (det_state_of n w d) _ (deliver_again to.0 up (inr is)) k.rounds (k.dets d))
-              stable false is = reach (with_value_at (logs_before d) to.0 true) (λ q. false) (logs_listed d listed_d) (recover_new d (is_new d same lacks is)) (det_step_preserves (det_state_of n w d) _ (deliver_as_new to.0 up) k.rounds (k.dets d))
-      mine_or_carried false differ listed_d =
-          let carries : p.parcel.carries d ≡ true = elim (or_cases (same_det d own) (p.parcel.carries d) (sym (lists d) ∙ listed_d)) [
+  dets d = elim (cases_Bool (list_has listed d)) [
+    | inr lacks ↦ reach (logs_before d) (recover_before d) (logs_unlisted d lacks) (recover_old d (other_not_new d (differs lacks))) (k.dets d)
+    | inl lists_d ↦ elim (cases_Bool (same_det own d)) [
+      | inl same ↦ elim (cases_Bool (logs w.past to.0 d)) [
+        | inl has_d ↦ listed_now lists_d (recover_before d) (recover_old d (logged_not_new d has_d)) (det_step_preserves (det_state_of n w d) _ (deliver_again to.0 up (inl (or_left _ _ (and_from _ _ (lt-ltb to.0 n low) has_d)))) k.rounds (k.dets d))
+        | inr lacks ↦ elim (cases_Bool (is_stable w.past d)) [
+          | inl is ↦ listed_now lists_d (recover_before d) (recover_old d (stable_not_new d is)) (det_step_preserves (det_state_of n w d) _ (deliver_again to.0 up (inr is)) k.rounds (k.dets d))
+          | inr is ↦ listed_now lists_d (λ q. false) (recover_new d (is_new d same lacks is)) (det_step_preserves (det_state_of n w d) _ (deliver_as_new to.0 up) k.rounds (k.dets d))
+        ]
+      ]
+      | inr differ ↦
+          let carries : p.parcel.carries d ≡ true = elim (or_cases (same_det d own) (p.parcel.carries d) (sym (lists d) ∙ lists_d)) [
             | inl is ↦ absurd (both_ways (same_det own d) differ (subst (λ x. same_det own x ≡ true) (sym (same_is d own is)) (same_itself own)))
             | inr goes ↦ goes
           ] in
           let there : if_carries d (w.packets i) ≡ Some (carrier_of p) = ap (if_carries d) at ∙ cond-true (p.parcel.carries d) (Some (carrier_of p)) None carries in
-          reach (with_value_at (logs_before d) to.0 true) (recover_before d) (logs_listed d listed_d) (recover_old d (other_not_new d differ)) (det_step_preserves (det_state_of n w d) _ (take to.0 i (carrier_of p) up there floor) k.rounds (k.dets d))
+          listed_now lists_d (recover_before d) (recover_old d (other_not_new d differ)) (det_step_preserves (det_state_of n w d) _ (take to.0 i (carrier_of p) up there floor) k.rounds (k.dets d))
+    ]
+  ]
+    where
+      reach : (logged recover : ℕ → Bool) → ((q : ℕ) → logged q ≡ (det_state_of n after d).logs q) → ((q : ℕ) → recover q ≡ (det_state_of n after d).must_recover q) → DetInvariant (state_with d logged recover) → DetInvariant (det_state_of n after d)
+      reach logged recover same_logs same_recover h = subst (λ (a : DetState). DetInvariant a) (λ j. state_with d (λ q. same_logs q j) (λ q. same_recover q j)) h
 
-      by : (b : Bool) → list_has listed d ≡ b → DetInvariant (det_state_of n after d)
-      by true is = mine_or_carried (same_det own d) refl is
-      by false is = reach (logs_before d) (recover_before d) (logs_unlisted d is) (recover_old d (other_not_new d differs)) (k.dets d)
-        where
-          differs : same_det own d ≡ false
-          differs = false_from_ne_true (same_det own d) (λ same. both_ways (list_has listed d) is (lists d ∙ or_left _ _ (subst (λ x. same_det x own ≡ true) (same_is own d same) (same_itself own))))
+      listed_now : list_has listed d ≡ true → (recover : ℕ → Bool) → ((q : ℕ) → recover q ≡ (det_state_of n after d).must_recover q) → DetInvariant (state_with d (with_value_at (logs_before d) to.0 true) recover) → DetInvariant (det_state_of n after d)
+      listed_now lists_d recover = reach (with_value_at (logs_before d) to.0 true) recover (logs_listed d lists_d)
+
+      differs : list_has listed d ≡ false → same_det own d ≡ false
+      differs lacks = false_from_ne_true (same_det own d) (λ same. both_ways (list_has listed d) lacks (lists d ∙ or_left _ _ (subst (λ x. same_det x own ≡ true) (same_is own d same) (same_itself own))))
 
   pub deliver_preserves : ((x : ℕ) (d : Det) (q : ℕ) → known x d q ≡ true → (w.knows_holder x d q ≡ true) ⊎ ((to.0 ≡ x) × (list_has listed d ≡ true) × ((p.parcel.names_holder d q ≡ true) ⊎ (q ≡ to.0))))
       → ((d : Det) → list_has listed d ≡ true → known to.0 d to.0 ≡ true)
