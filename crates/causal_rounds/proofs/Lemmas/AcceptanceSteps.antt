@@ -5,7 +5,7 @@ use Rattle.std.proofs.lemmas.Bool.Decides.{eqb_tells}
 use Rattle.causal_rounds.specs.Rounds.{with_value_at, Round, RecoveryState, number, new_round, with_reply, crash, begin, give_up, answer, refuse, not_up, restart, RoundInvariant}
 use Rattle.causal_rounds.specs.Gathered.{Carrier, DetState, MayComplete, DetInvariant, IsInTransitAfter, to_up, to_new, from_up, to_round}
 use Rattle.causal_rounds.specs.Acceptance.{IsAcceptable, by_floor, by_sender, by_round, AcceptanceNeedsSending, RestartsMissNothing}
-use Rattle.causal_rounds.proofs.Lemmas.RoundSteps.{set_at_cases, some_is, none_some, set_at_here, set_at_away, fewer, number_up, number_down, number_risen}
+use Rattle.causal_rounds.proofs.Lemmas.RoundSteps.{set_at_cases, some_is, none_some, set_at_here, set_at_away, fewer, number_up, number_down, number_risen, floors_rise}
 use Rattle.causal_rounds.proofs.Lemmas.GatheredSteps.{was_open, restarts_gather_all}
 
 module _ (w : RecoveryState) (h : RoundInvariant w) (t : Carrier) (low : t.lane ≤ w.lane t.from) where
@@ -71,13 +71,7 @@ module _ (w : RecoveryState) (h : RoundInvariant w) (t : Carrier) (low : t.lane 
 
   before_answer : (y s : ℕ) (r : Round) (floors : ℕ → ℕ) → w.down y ≡ false → w.rounds s ≡ Some r → r.view y ≡ w.lane y → ((z : ℕ) → w.floors y z ≤ floors z)
       → IsAcceptable (record w { floors = with_value_at w.floors y floors; rounds = with_value_at w.rounds s (Some (with_reply r y true)) }) t → IsAcceptable w t
-  before_answer y s r floors up at fits rise (by_floor is_up floor) = elim (set_at_cases w.floors y floors t.to) [
-    | inl is ↦
-        let above : floors t.from ≤ t.lane = subst (λ g. g t.from ≤ t.lane) is.1 floor in
-        let grown : w.floors t.to t.from ≤ floors t.from = subst (λ x. w.floors x t.from ≤ floors t.from) (sym is.0) (rise t.from) in
-        by_floor is_up (omega (arith, above, grown))
-    | inr other ↦ by_floor is_up (subst (λ g. g t.from ≤ t.lane) other.1 floor)
-  ]
+  before_answer y s r floors up at fits rise (by_floor is_up floor) = by_floor is_up (let more = floors_rise w y floors rise t.to t.from in omega (arith, floor, more))
   before_answer y s r floors up at fits rise (by_sender down is_up lane) = by_sender down is_up lane
   before_answer y s r floors up at fits rise (by_round o down there fitting replied_q above) = elim (set_at_cases w.rounds s (Some (with_reply r y true)) t.to) [
     | inl is ↦
@@ -143,14 +137,7 @@ module _ (w : RecoveryState) (h : RoundInvariant w) (t : Carrier) (low : t.lane 
         by_round o old.1 (sym (set_at_away w.rounds s None t.to old.0) ∙ there) (λ q other no_reply. sym (number_risen w risen s refl refl down_s q) ∙ fitting q other no_reply) replied_q above
 
 before_refuse : (w : RecoveryState) (t : Carrier) (y : ℕ) (floors : ℕ → ℕ) → ((z : ℕ) → w.floors y z ≤ floors z) → IsAcceptable (record w { floors = with_value_at w.floors y floors }) t → IsAcceptable w t
-before_refuse w t y floors rise (by_floor up floor) = by_floor up (elim (set_at_cases w.floors y floors t.to) [
-  | inl is ↦
-      let more = rise t.from in
-      let here : w.floors t.to t.from ≡ w.floors y t.from = ap (λ x. w.floors x t.from) is.0 in
-      let new : with_value_at w.floors y floors t.to t.from ≡ floors t.from = ap (λ (g : ℕ → ℕ). g t.from) is.1 in
-      omega (arith, floor, more, here, new)
-  | inr other ↦ subst (λ g. g t.from ≤ t.lane) other.1 floor
-])
+before_refuse w t y floors rise (by_floor up floor) = by_floor up (let more = floors_rise w y floors rise t.to t.from in omega (arith, floor, more))
 before_refuse w t y floors rise (by_sender down up lane) = by_sender down up lane
 before_refuse w t y floors rise (by_round o down at fitting replied above) = by_round o down at fitting replied above
 

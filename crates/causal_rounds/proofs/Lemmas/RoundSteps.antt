@@ -36,6 +36,20 @@ number_up w q up = cond-false (w.down q) (w.lane q + 1) (w.lane q) up
 pub number_down : (w : RecoveryState) (q : ℕ) → w.down q ≡ true → number w q ≡ w.lane q + 1
 number_down w q down = cond-true (w.down q) (w.lane q + 1) (w.lane q) down
 
+-- y refuses more: floors rise, and are still numbers that were told
+module _ (w : RecoveryState) (y : ℕ) (floors : ℕ → ℕ) where
+  pub floors_rise : ((z : ℕ) → w.floors y z ≤ floors z) → (p z : ℕ) → w.floors p z ≤ with_value_at w.floors y floors p z
+  floors_rise rise p z = elim (set_at_cases w.floors y floors p) [
+    | inl is ↦ subst (λ g. w.floors p z ≤ g z) (sym is.1) (subst (λ q. w.floors q z ≤ floors z) (sym is.0) (rise z))
+    | inr other ↦ subst (λ g. w.floors p z ≤ g z) (sym other.1) (omega arith)
+  ]
+
+  floors_below : ((z : ℕ) → floors z ≤ number w z) → RoundInvariant w → (p q : ℕ) → with_value_at w.floors y floors p q ≤ number w q
+  floors_below below k p q = elim (set_at_cases w.floors y floors p) [
+    | inl is ↦ subst (λ g. g q ≤ number w q) (sym is.1) (below q)
+    | inr other ↦ subst (λ g. g q ≤ number w q) (sym other.1) (k.floors_told p q)
+  ]
+
 -- a crash
 module _ (w : RecoveryState) (p : ℕ) (up : w.down p ≡ false) (k : RoundInvariant w) where
   abbrev crashed : RecoveryState
@@ -236,34 +250,27 @@ module _ (w : RecoveryState) (y s : ℕ) (r : Round) (new_floors : ℕ → ℕ) 
   not_s : s ≡ y → ⊥
   not_s is = has_none s r at is
 
-  found : (p : ℕ) (o : Round) → with_value_at w.rounds s (Some told) p ≡ Some o → ((p ≡ s) × (told ≡ o)) ⊎ (w.rounds p ≡ Some o)
-  found p o h = elim (set_at_cases w.rounds s (Some told) p) [ inl is ↦ inl (is.0, some_is told o (sym is.1 ∙ h)) | inr other ↦ inr (sym other.1 ∙ h) ]
-
-  found_away : (p : ℕ) (o : Round) → with_value_at w.rounds s (Some told) p ≡ Some o → (p ≡ y → ⊥) × (((p ≡ s) × (told ≡ o)) ⊎ (w.rounds p ≡ Some o))
-  found_away p o there = elim (found p o there) [ inl is ↦ (λ e. not_s (sym is.0 ∙ e), inl is) | inr old ↦ (has_none p o old, inr old) ]
-
-  floors_rise : (p z : ℕ) → w.floors p z ≤ with_value_at w.floors y new_floors p z
-  floors_rise p z = elim (set_at_cases w.floors y new_floors p) [
-    | inl is ↦ subst (λ g. w.floors p z ≤ g z) (sym is.1) (subst (λ q. w.floors q z ≤ new_floors z) (sym is.0) (rise z))
-    | inr other ↦ subst (λ g. w.floors p z ≤ g z) (sym other.1) (omega arith)
+  found : (p : ℕ) (o : Round) → with_value_at w.rounds s (Some told) p ≡ Some o → (p ≡ y → ⊥) × (((p ≡ s) × (told ≡ o)) ⊎ (w.rounds p ≡ Some o))
+  found p o h = elim (set_at_cases w.rounds s (Some told) p) [
+    | inl is ↦ (λ e. not_s (sym is.0 ∙ e), inl (is.0, some_is told o (sym is.1 ∙ h)))
+    | inr other ↦ (has_none p o (sym other.1 ∙ h), inr (sym other.1 ∙ h))
   ]
 
   floors_here : (z : ℕ) → r.view z ≤ with_value_at w.floors y new_floors y z
   floors_here z = subst (λ g. r.view z ≤ g z) (sym (cond-true (y == y) new_floors (w.floors y) (eq-eqb y y refl))) (above z)
 
   answer_refuses : (p q z : ℕ) (a : Round) → with_value_at w.rounds s (Some told) p ≡ Some a → a.answered q ≡ true → w.down q ≡ false → a.view z ≤ with_value_at w.floors y new_floors q z
-  answer_refuses p q z a here was is_up = elim (found p a here) [
+  answer_refuses p q z a here was is_up = elim (found p a here).1 [
     | inl new ↦ elim (answered_more w s y true r at k q (ap (λ (x : Round). x.answered q) new.1 ∙ was)) [
       | inl is ↦ subst (λ (x : Round). x.view z ≤ with_value_at w.floors y new_floors q z) new.1 (subst (λ x. r.view z ≤ with_value_at w.floors y new_floors x z) (sym is.0) (floors_here z))
-      | inr old ↦ subst (λ (x : Round). x.view z ≤ with_value_at w.floors y new_floors q z) new.1 (let before = k.refuses s q z r at old.1 is_up in omega (arith, before, floors_rise q z))
+      | inr old ↦ subst (λ (x : Round). x.view z ≤ with_value_at w.floors y new_floors q z) new.1 (let before = k.refuses s q z r at old.1 is_up in omega (arith, before, floors_rise w y new_floors rise q z))
     ]
-    | inr old ↦ omega (arith, k.refuses p q z a old was is_up, floors_rise q z)
+    | inr old ↦ omega (arith, k.refuses p q z a old was is_up, floors_rise w y new_floors rise q z)
   ]
 
   answer_preserves : RoundInvariant told_world
-  answer_preserves = reply_preserves w s y true r at k (with_value_at w.rounds s (Some told)) not_s found_away (λ e. (up, sym fits)) (λ e. absurd (both_ways true e refl)) (with_value_at w.floors y new_floors)
-      (λ p q. elim (set_at_cases w.floors y new_floors p) [ inl is ↦ subst (λ g. g q ≤ number w q) (sym is.1) (low q) | inr other ↦ subst (λ g. g q ≤ number w q) (sym other.1) (k.floors_told p q) ])
-      answer_refuses
+  answer_preserves = reply_preserves w s y true r at k (with_value_at w.rounds s (Some told)) not_s found (λ e. (up, sym fits)) (λ e. absurd (both_ways true e refl)) (with_value_at w.floors y new_floors)
+      (floors_below w y new_floors low k) answer_refuses
 
 -- y, which is not up, says so to s
 module _ (w : RecoveryState) (y s : ℕ) (r : Round) (is_down : w.down y ≡ true) (other_one : y ≡ s → ⊥) (at : w.rounds s ≡ Some r) (fits : r.view y ≡ w.lane y + 1) (k : RoundInvariant w) where
@@ -338,20 +345,8 @@ module _ (w : RecoveryState) (s : ℕ) (r : Round) (at : w.rounds s ≡ Some r) 
 -- y refuses more
 refuse_preserves : (w : RecoveryState) (y : ℕ) (floors : ℕ → ℕ) → ((z : ℕ) → w.floors y z ≤ floors z) → ((z : ℕ) → floors z ≤ number w z) → RoundInvariant w → RoundInvariant (record w { floors = with_value_at w.floors y floors })
 refuse_preserves w y floors rise below k =
-    let floors_told : (p q : ℕ) → with_value_at w.floors y floors p q ≤ number w q = λ p q. elim (set_at_cases w.floors y floors p) [
-      | inl is ↦ subst (λ g. g q ≤ number w q) (sym is.1) (below q)
-      | inr other ↦ subst (λ g. g q ≤ number w q) (sym other.1) (k.floors_told p q)
-    ] in
-    let refuses : (s p z : ℕ) (r : Round) → w.rounds s ≡ Some r → r.answered p ≡ true → w.down p ≡ false → r.view z ≤ with_value_at w.floors y floors p z = λ s p z r at was up. elim (set_at_cases w.floors y floors p) [
-      | inl is ↦
-          let old = k.refuses s p z r at was up in
-          let here : w.floors p z ≡ w.floors y z = ap (λ x. w.floors x z) is.0 in
-          let more = rise z in
-          let new : with_value_at w.floors y floors p z ≡ floors z = ap (λ (g : ℕ → ℕ). g z) is.1 in
-          omega (arith, old, here, more, new)
-      | inr other ↦ subst (λ g. r.view z ≤ g z) (sym other.1) (k.refuses s p z r at was up)
-    ] in
-    assumption
+    let refuses : (s p z : ℕ) (r : Round) → w.rounds s ≡ Some r → r.answered p ≡ true → w.down p ≡ false → r.view z ≤ with_value_at w.floors y floors p z = λ s p z r at was up. omega (arith, k.refuses s p z r at was up, floors_rise w y floors rise p z) in
+    assumption (floors_below w y floors below k)
 
 pub round_step_preserves : RoundStepsPreserve
 round_step_preserves w next (crash p up) k = crash_preserves w p up k
