@@ -1,5 +1,5 @@
 -- What each proof about an event uses: a reachable world that represents the network.
-use Rattle.std.proofs.Common.{ℕ, ◌≡◌, ◌<◌, Bool, true, false, ◌&&◌, ◌||◌, List, ◌∷◌, length, Some, refl, sym, ap, subst, ◌∙◌, arith}
+use Rattle.std.proofs.Common.{ℕ, ◌≡◌, ◌<◌, Bool, true, false, not, ◌&&◌, ◌||◌, List, ◌∷◌, length, Some, refl, sym, ap, subst, ◌∙◌, arith}
 use Rattle.std.specs.Prelude.{◌==◌}
 use Rattle.std.specs.Option.{option_and_then}
 use Rattle.std.proofs.lemmas.Bool.{eq-eqb, ne_eqb}
@@ -36,6 +36,9 @@ own_or b l x y hb hx = grind (arith, hb, hx)
 
 pub away_or : {A : Type 0} (b : Bool) (l y : A → Bool) → b ≡ false → (d : A) → ((b && l d) || y d) ≡ y d
 away_or b l y hb d = grind (arith, hb)
+
+pub not_away : (b y : Bool) → b ≡ false → (not b && y) ≡ y
+not_away b y hb = grind (arith, hb)
 
 pub same_is : (p : ℕ) → (p == p) ≡ true
 same_is p = eq-eqb p p refl

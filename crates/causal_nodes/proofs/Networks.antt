@@ -1,6 +1,6 @@
 -- A world represents each network that nodes reach, and so the network is safe.
 use Rattle.std.proofs.Common.{true, ℕ, suc, ◌≡◌, ◌<◌, ◌≤◌, inl, inr, false, not, nat_lt, List, [], ◌∷◌, ◌++◌, length, Option, None, refl, sym, ap, subst, ◌∙◌, arith}
-use Rattle.std.proofs.lemmas.Bool.{lt-ltb}
+use Rattle.std.proofs.lemmas.Bool.{lt-ltb, le-ltb}
 use Rattle.causal_name.specs.declared.Pid.{Pid}
 use Rattle.causal_name.specs.declared.Det.{Det}
 use Rattle.causal_trace.specs.declared.entry.Entry.{Entry}
@@ -100,13 +100,10 @@ opens n f net o = (
     begun : (p : ℕ) → p < suc n → not (nat_lt p (suc n)) ≡ false
     begun p low = ap not (lt-ltb p (suc n) low)
 
-    above : (q m : ℕ) → m ≤ q → nat_lt q m ≡ false
-    above q m high = grind (arith, high)
-
     first : IsInitialWorld n (first_world n)
     first =
         let up : (p : ℕ) → p < n → (first_world n).rounds.down p ≡ false = λ p low. begun p (omega (arith, low)) in
-        let absent : (p : ℕ) → suc n ≤ p → (first_world n).rounds.down p ≡ true = λ p high. ap not (above p (suc n) high) in
+        let absent : (p : ℕ) → suc n ≤ p → (first_world n).rounds.down p ≡ true = λ p high. ap not (le-ltb p (suc n) high) in
         assumption (begun n (omega arith))
 
 pub world_of : (n f : ℕ) (net : Network) → IsReachableNetwork n f net → IsWorldOf n f net

@@ -22,7 +22,7 @@ use Rattle.causal_nodes.specs.Packets.{Sent, message_packet, acknowledgement_pac
 use Rattle.causal_nodes.specs.NodeSteps.{raised, with_node_log, with_floors, with_one_sent, up_after_delivery, log_after_acknowledgement, log_after_mark, log_without, with_round, fallen_node, new_node_round, after_answer, with_heard, round_with_stored, up_after_restart, NodeStep, send_row, deliver_row, acknowledge_row, learn_row, write_row, mark_row, forget_row, answer_row, tell_row, hear_number_row, begin_row, not_up_row, give_up_row, hear_answer_row, hear_not_up_row, read_row, take_stored_row, hear_stored_row, restart_row}
 use Rattle.causal_nodes.specs.Network.{Network, NetworkEvent, step_event, crash_event, store_event, read_event, IsNewNetwork, IsReachableNetwork, new_network, next_network, in_storage, in_log}
 use Rattle.causal_nodes.specs.Recordings.{NodesRecordTraces}
-use Rattle.causal_nodes.proofs.Context.{IsWorldOf, same_is, other_is, away_or, invariant, up_of, down_of, up_in_past}
+use Rattle.causal_nodes.proofs.Context.{not_away, IsWorldOf, same_is, other_is, away_or, invariant, up_of, down_of, up_in_past}
 use Rattle.causal_nodes.proofs.Networks.{event_steps, world_of, survives}
 use Rattle.causal_nodes.proofs.Rows.{IsLegalHere, AreLegalHere, all_from, are_legal}
 
@@ -197,9 +197,6 @@ module _ (n f : ℕ) (net : Network) (c : Counts n net) (h : IsWorldOf n f net) 
   cleared : (b y : Bool) → b ≡ true → (not b && y) ≡ false
   cleared b y hb = grind (arith, hb)
 
-  untouched : (b y : Bool) → b ≡ false → (not b && y) ≡ y
-  untouched b y hb = grind (arith, hb)
-
   restart_counts : (x : DownNode) (r : NodeRound) (listed : List Det) → net.nodes me.0 ≡ down_node x → is_ascending listed ≡ true → ((d : Det) → list_has listed d ≡ r.gathered.has d)
       → IsWorldOf n f (next_of (up_node (up_after_restart me.0 (x.lane + 1) r)) [] (Restart me listed ∷ [])) → Counts n (next_of (up_node (up_after_restart me.0 (x.lane + 1) r)) [] (Restart me listed ∷ []))
   restart_counts x r listed is ascending lists next = recorded n net c me.0 (Restart me listed) (up_node (up_after_restart me.0 (x.lane + 1) r)) [] (
@@ -209,7 +206,7 @@ module _ (n f : ℕ) (net : Network) (c : Counts n net) (h : IsWorldOf n f net) 
     all_from listed (is_delivered net.past) (λ d has. logged_delivered n f (next_of (up_node (up_after_restart me.0 (x.lane + 1) r)) [] (Restart me listed ∷ [])) next me.0 (up_after_restart me.0 (x.lane + 1) r) low (set_at_here net.nodes me.0 (up_node (up_after_restart me.0 (x.lane + 1) r))) d (sym (lists d) ∙ has)),
   )
       (sym (cond-true (me.0 == me.0) 0 (sends net.past me.0) (same_is me.0)), λ m had. absurd (both_ways (not (me.0 == me.0) && has_delivered net.past me.0 m) (cleared (me.0 == me.0) (has_delivered net.past me.0 m) (same_is me.0)) had))
-      (λ q other. (cond-false (me.0 == q) 0 (sends net.past q) (other_is me.0 q other), λ m. untouched (me.0 == q) (has_delivered net.past q m) (other_is me.0 q other)))
+      (λ q other. (cond-false (me.0 == q) 0 (sends net.past q) (other_is me.0 q other), λ m. not_away (me.0 == q) (has_delivered net.past q m) (other_is me.0 q other)))
       (messages_older (Restart me listed) net.past net.sent c.messages)
 
   -- a step that sends nothing, or no message

@@ -1,7 +1,7 @@
 -- A process crashes, begins a round, gives it up, or comes up.
 use Rattle.std.proofs.Common.{ℕ, suc, ◌+◌, ◌≡◌, ◌<◌, ◌≤◌, inl, inr, Bool, true, false, cond, not, ◌&&◌, ◌||◌, nat_lt, List, ◌∷◌, Option, Some, None, refl, sym, ap, subst, ◌∙◌, arith}
 use Rattle.std.specs.Prelude.{◌⊎◌, ◌==◌}
-use Rattle.std.proofs.lemmas.Bool.{false≢true, both_ways, or_cases, or_left, and_left, and_parts, and_from, eqb-true, cases_lt, cases_eq, cond-true, cond-false, lt-ltb, false_from_ne_true}
+use Rattle.std.proofs.lemmas.Bool.{false≢true, both_ways, or_cases, or_left, and_left, and_parts, and_from, eqb-true, cases_lt, cases_eq, cond-true, cond-false, lt-ltb, false_from_ne_true, le-ltb}
 use Rattle.causal_name.specs.declared.Pid.{Pid}
 use Rattle.causal_name.specs.declared.Det.{Det}
 use Rattle.causal_name.specs.Sets.{count_below}
@@ -10,7 +10,7 @@ use Rattle.causal_trace.specs.declared.entry.Entry.TheVariants.{Crash, Restart}
 use Rattle.causal_trace.specs.Past.{list_has, is_down, logs, is_stable, deliveries}
 use Rattle.causal_steps.proofs.Lemmas.Reachable.{reachable_safe}
 use Rattle.causal_rounds.specs.Rounds.{with_value_at, Round, number, new_round}
-use Rattle.causal_rounds.proofs.Lemmas.RoundSteps.{set_at_cases, set_at_here, set_at_away, number_up, number_down}
+use Rattle.causal_rounds.proofs.Lemmas.RoundSteps.{set_at_cases, set_at_here, set_at_away, number_up, number_down, crash_number, number_risen}
 use Rattle.causal_world.specs.World.{Packet, World, GatheredFrom, volatile_of}
 use Rattle.causal_world.specs.Steps as world
 use Rattle.causal_world.specs.Reachable.{IsReachableWorld, next_world}
@@ -20,18 +20,11 @@ use Rattle.causal_nodes.specs.NodeSteps.{with_round, fallen_node, new_node_round
 use Rattle.causal_nodes.specs.Network.{Network}
 use Rattle.causal_nodes.proofs.Represents.{ReplyFits, GatheringFits, UpFits, DownFits, NodeFits, Represents}
 use Rattle.causal_nodes.proofs.Kept.{IsLater, IsUntouched, told_later, packets_and_one, packets_later, node_kept, node_and_one, nodes_and_one}
-use Rattle.causal_nodes.proofs.Context.{floors_kept, IsWorldOf, message_older, same_is, other_is, away_or, invariant, down_of, up_in_past}
+use Rattle.causal_nodes.proofs.Context.{not_away, floors_kept, IsWorldOf, message_older, same_is, other_is, away_or, invariant, down_of, up_in_past}
 use Rattle.causal_nodes.proofs.Quiet.{gathering_of}
 
 pub le_self : (a : ℕ) → a ≤ a
 le_self a = omega arith
-
-greatest_number : (b : Bool) (l : ℕ) → cond b (l + 1) l ≤ l + 1
-greatest_number true l = omega arith
-greatest_number false l = omega arith
-
-not_away : (b y : Bool) → b ≡ false → (not b && y) ≡ y
-not_away b y hb = grind (arith, hb)
 
 module _ (n f : ℕ) (net : Network) (w : World) (reach : IsReachableWorld n f w) (rep : Represents n net w) where
   pub down_is : (p : ℕ) (node : Node) → NodeFits n w net.sent p node → w.rounds.down p ≡ is_node_down node
@@ -58,14 +51,8 @@ module _ (n f : ℕ) (net : Network) (w : World) (reach : IsReachableWorld n f w
     few_down : count_below n (is_down w.past) < f
     few_down = subst (λ m. m < f) (count_below-same n (λ q. is_node_down (net.nodes q)) (is_down w.past) (λ q low_q. sym (down_is q (net.nodes q) (rep.nodes q low_q)) ∙ (invariant n f net w reach rep).down q low_q)) few
 
-    numbers : (q : ℕ) → number w.rounds q ≤ number fallen.rounds q
-    numbers q = elim (set_at_cases w.rounds.down who.0 true q) [
-      | inl is ↦ subst (λ m. number w.rounds q ≤ m) (sym (cond-true (with_value_at w.rounds.down who.0 true q) (w.rounds.lane q + 1) (w.rounds.lane q) is.1)) (greatest_number (w.rounds.down q) (w.rounds.lane q))
-      | inr other ↦ subst (λ (b : Bool). number w.rounds q ≤ cond b (w.rounds.lane q + 1) (w.rounds.lane q)) (sym other.1) (le_self (number w.rounds q))
-    ]
-
     later_fallen : IsLater w fallen
-    later_fallen = record { numbers = numbers; packets = λ i t at. at; stable = λ d h. h; stored = λ d h. h; messages = message_older (Crash who) w.past }
+    later_fallen = record { numbers = crash_number w.rounds who.0; packets = λ i t at. at; stable = λ d h. h; stored = λ d h. h; messages = message_older (Crash who) w.past }
 
     pub crashes : IsWorldOf n f (record { past = Crash who ∷ net.past; nodes = with_value_at net.nodes who.0 (down_node (fallen_node a.lane)); sent = net.sent; stored = net.stored; floors = net.floors })
     crashes = (
@@ -75,17 +62,11 @@ module _ (n f : ℕ) (net : Network) (w : World) (reach : IsReachableWorld n f w
         ap (λ t. Crash who ∷ t) rep.past,
         nodes_and_one n fallen net.sent net.nodes who.0 (down_node (fallen_node a.lane))
             (record { is_down = set_at_here w.rounds.down who.0 true; lane = fits.lane; told = λ z low_z. omega arith; round = no_round who.0 fits.is_up })
-            (λ q low_q other. node_kept n w fallen later_fallen q (record {
-              is_down = set_at_away w.rounds.down who.0 true q other;
-              lane = refl;
-              floors = refl;
-              round = refl;
-              gathered = refl;
-              holders = λ j d h. not_away (who.0 == q) (w.knows_holder q d h) (other_is who.0 q other) j;
-              stables = λ j d. not_away (who.0 == q) (w.knows_stable q d) (other_is who.0 q other) j;
-              logged = λ d. not_away (who.0 == q) (logs w.past q d) (other_is who.0 q other);
-              received = refl;
-            }) net.sent (net.nodes q) (rep.nodes q low_q)),
+            (λ q low_q other.
+              let holders : fallen.knows_holder q ≡ w.knows_holder q = λ j d h. not_away (who.0 == q) (w.knows_holder q d h) (other_is who.0 q other) j in
+              let stables : fallen.knows_stable q ≡ w.knows_stable q = λ j d. not_away (who.0 == q) (w.knows_stable q d) (other_is who.0 q other) j in
+              let logged : (d : Det) → logs fallen.past q d ≡ logs w.past q d = λ d. not_away (who.0 == q) (logs w.past q d) (other_is who.0 q other) in
+              node_kept n w fallen later_fallen q (assumption (set_at_away w.rounds.down who.0 true q other)) net.sent (net.nodes q) (rep.nodes q low_q)),
         packets_later n w fallen later_fallen net.sent rep.packets,
       ),
     )
@@ -127,14 +108,11 @@ module _ (n f : ℕ) (net : Network) (w : World) (reach : IsReachableWorld n f w
       abbrev absent : ℕ → Bool
       absent q = not (nat_lt q (suc n))
 
-      above_is : (q m : ℕ) → m ≤ q → nat_lt q m ≡ false
-      above_is q m high = grind (arith, high)
-
       in_view : (q : ℕ) → q < n → full_view q ≡ view q
       in_view q low_q = cond-true (nat_lt q n) (view q) (number w.rounds q) (lt-ltb q n low_q)
 
       out_view : (q : ℕ) → n ≤ q → full_view q ≡ number w.rounds q
-      out_view q high = cond-false (nat_lt q n) (view q) (number w.rounds q) (above_is q n high)
+      out_view q high = cond-false (nat_lt q n) (view q) (number w.rounds q) (le-ltb q n high)
 
       own_number : view me ≡ number w.rounds me
       own_number = own ∙ ap (λ m. m + 1) (sym before.lane) ∙ sym (number_down w.rounds me before.is_down)
@@ -152,7 +130,7 @@ module _ (n f : ℕ) (net : Network) (w : World) (reach : IsReachableWorld n f w
       ]
 
       gone : (q : ℕ) → suc n ≤ q → (absent q ≡ true) × (full_view q ≡ w.rounds.lane q + 1)
-      gone q high = (ap not (above_is q (suc n) high), out_view q (omega (arith, high)) ∙ number_down w.rounds q ((invariant n f net w reach rep).absent.down q high))
+      gone q high = (ap not (le-ltb q (suc n) high), out_view q (omega (arith, high)) ∙ number_down w.rounds q ((invariant n f net w reach rep).absent.down q high))
 
       abbrev empty : ℕ → Det → Bool
       empty = with_value_at w.gathered me (λ d. false)
@@ -271,16 +249,7 @@ module _ (n f : ℕ) (net : Network) (w : World) (reach : IsReachableWorld n f w
     ]
 
     risen_numbers : (q : ℕ) → number w.rounds q ≤ number risen.rounds q
-    risen_numbers q = elim (cases_eq q me.0) [
-      | inl here ↦ subst (λ z. number w.rounds z ≤ number risen.rounds z) (sym here) (
-          let old = number_down w.rounds me.0 was_down.is_down in
-          let new : number risen.rounds me.0 ≡ w.rounds.lane me.0 + 1 = number_up risen.rounds me.0 (set_at_here w.rounds.down me.0 false) ∙ set_at_here w.rounds.lane me.0 (w.rounds.lane me.0 + 1) in
-          omega (arith, old, new)
-          )
-      | inr other ↦
-          let same : number risen.rounds q ≡ number w.rounds q = (λ j. cond (set_at_away w.rounds.down me.0 false q other j) (set_at_away w.rounds.lane me.0 (w.rounds.lane me.0 + 1) q other j + 1) (set_at_away w.rounds.lane me.0 (w.rounds.lane me.0 + 1) q other j)) in
-          omega (arith, same)
-    ]
+    risen_numbers q = let same = number_risen w.rounds risen.rounds me.0 refl refl was_down.is_down q in omega (arith, same)
 
     later_risen : IsLater w risen
     later_risen = record { numbers = risen_numbers; packets = λ i t at. at; stable = λ d h. h; stored = λ d h. h; messages = message_older (Restart me listed) w.past }

@@ -2,7 +2,7 @@
 use Rattle.std.proofs.Common.{ℕ, ◌≡◌, ◌<◌, ◌≤◌, inl, inr, Bool, true, false, cond, ◌||◌, nat_lt, ◌∷◌, Some, refl, sym, ap, subst, ◌∙◌, arith}
 use Rattle.std.specs.Prelude.{◌⊎◌, ◌==◌, max}
 use Rattle.std.proofs.Math.Nat.{le-max_left, le-max_right, max-le}
-use Rattle.std.proofs.lemmas.Bool.{both_ways, or_cases, or_left, or_right, and_from, eq-eqb, cases_lt, cases_eq, cases_Bool, cond-true, cond-false, lt-ltb}
+use Rattle.std.proofs.lemmas.Bool.{both_ways, or_cases, or_left, or_right, and_from, eq-eqb, cases_lt, cases_eq, cases_Bool, cond-true, cond-false, lt-ltb, le-ltb}
 use Rattle.causal_name.specs.declared.Det.{Det}
 use Rattle.causal_trace.specs.Past.{is_stable}
 use Rattle.causal_rounds.specs.Rounds.{with_value_at, Round, number, with_reply}
@@ -31,11 +31,8 @@ bounded_is n view z low = cond-true (nat_lt z n) (view z) 0 (lt-ltb z n low)
 pub bounded_told : (n : ℕ) (w : World) (view : ℕ → ℕ) → IsTold n w view → (z : ℕ) → bounded n view z ≤ number w.rounds z
 bounded_told n w view told z = elim (cases_lt z n) [
   | inl low ↦ let e = bounded_is n view z low in let t = told z low in omega (arith, e, t)
-  | inr high ↦ let e : bounded n view z ≡ 0 = cond-false (nat_lt z n) (view z) 0 (above z n high) in omega (arith, e)
+  | inr high ↦ let e : bounded n view z ≡ 0 = cond-false (nat_lt z n) (view z) 0 (le-ltb z n high) in omega (arith, e)
 ]
-  where
-    above : (q m : ℕ) → m ≤ q → nat_lt q m ≡ false
-    above q m high = grind (arith, high)
 
 module _ (n f : ℕ) (net : Network) (w : World) (reach : IsReachableWorld n f w) (rep : Represents n net w) where
   module _ (p : Packet) (was : WasSent net.sent (write_packet p)) (floor : net.floors p.parcel.from ≤ p.lane) where

@@ -50,20 +50,20 @@ module _ (w : RecoveryState) (y : ℕ) (floors : ℕ → ℕ) where
     | inr other ↦ subst (λ g. g q ≤ number w q) (sym other.1) (k.floors_told p q)
   ]
 
+pub crash_number : (w : RecoveryState) (p q : ℕ) → number w q ≤ number (record w { down = with_value_at w.down p true }) q
+crash_number w p q = grind (arith, cases_Bool (w.down q), still_true w.down p q, cond-true, cond-false)
+
 -- a crash
 module _ (w : RecoveryState) (p : ℕ) (up : w.down p ≡ false) (k : RoundInvariant w) where
   abbrev crashed : RecoveryState
   crashed = record w { down = with_value_at w.down p true }
 
-  higher : (q : ℕ) → number w q ≤ number crashed q
-  higher q = grind (arith, cases_Bool (w.down q), still_true w.down p q, cond-true, cond-false)
-
   crash_preserves : RoundInvariant crashed
   crash_preserves = record {
     gathering_are_down = λ s r at. still_true w.down p s (k.gathering_are_down s r at);
     own_view = k.own_view;
-    views_told = λ s q r at. omega (arith, k.views_told s q r at, higher q);
-    floors_told = λ y q. omega (arith, k.floors_told y q, higher q);
+    views_told = λ s q r at. omega (arith, k.views_told s q r at, crash_number w p q);
+    floors_told = λ y q. omega (arith, k.floors_told y q, crash_number w p q);
     one_way = k.one_way;
     same_lane = k.same_lane;
     still_down = λ s q r at replied_q quiet. let old = k.still_down s q r at replied_q quiet in (still_true w.down p q old.0, old.1);

@@ -1,7 +1,7 @@
 -- What is in transit in a world, and that steps bring nothing into transit but what is sent.
 use Rattle.std.proofs.Common.{ℕ, suc, ◌≡◌, ◌<◌, ◌≤◌, inl, inr, Bool, true, false, cond, not, ◌&&◌, ◌||◌, nat_lt, nat_le, Option, Some, None, refl, sym, ap, subst, ◌∙◌, arith}
 use Rattle.std.specs.Prelude.{◌⊎◌, ◌==◌}
-use Rattle.std.proofs.lemmas.Bool.{false≢true, both_ways, or_cases, or_left, or_right, and_from, and_parts, eqb-true, eq-eqb, cond-true, cond-false, not_from_false, false_from_ne_true, cases_lt}
+use Rattle.std.proofs.lemmas.Bool.{false≢true, both_ways, or_cases, or_left, or_right, and_from, and_parts, eqb-true, eq-eqb, cond-true, cond-false, not_from_false, false_from_ne_true, cases_lt, cases_Bool}
 use Rattle.std.proofs.lemmas.Bool.Decides.{eqb_tells}
 use Rattle.causal_name.specs.Sets.{any_below}
 use Rattle.causal_holders.proofs.Lemmas.MemberCounts.{any_below-found, any_below-from}
@@ -11,7 +11,7 @@ use Rattle.causal_rounds.specs.Gathered.{Carrier, MayComplete}
 use Rattle.causal_rounds.specs.Acceptance.{IsAcceptable, by_floor, by_sender, by_round}
 use Rattle.causal_world.specs.World.{Packet, World, carrier_of, is_open, round_accepts, is_acceptable, if_in_transit, volatile_of}
 use Rattle.causal_rounds.proofs.Lemmas.AcceptanceSteps.{acceptance_needs_sending}
-use Rattle.causal_rounds.proofs.Lemmas.RoundSteps.{set_at_cases, some_is}
+use Rattle.causal_rounds.proofs.Lemmas.RoundSteps.{set_at_cases, some_is, none_some}
 use Rattle.causal_steps.specs.Steps.{HasNothingNew, HasOneNew}
 use Rattle.causal_world.specs.Invariant.{AbsentAreDown}
 
@@ -71,11 +71,10 @@ packet_of n w t (i, j, at) = by (w.packets i) refl at
   where
     by : (o : Option Packet) → w.packets i ≡ o → if_in_transit (suc n) w.rounds (w.landed i) o ≡ Some t → (i : ℕ) × (p : Packet) × (w.packets i ≡ Some p) × (may_reach n w i p ≡ true) × (p.parcel ≡ t)
     by None is h = absurd (let e : None ≡ Some t = h in cc)
-    by (Some p) is h = test (may_reach n w i p) refl h
-      where
-        test : (b : Bool) → may_reach n w i p ≡ b → cond b (Some p.parcel) None ≡ Some t → (i : ℕ) × (p : Packet) × (w.packets i ≡ Some p) × (may_reach n w i p ≡ true) × (p.parcel ≡ t)
-        test false refused h = absurd (let e : None ≡ Some t = h in cc)
-        test true accepted h = (i, p, is, accepted, let e : Some p.parcel ≡ Some t = h in cc)
+    by (Some p) is h = elim (cases_Bool (may_reach n w i p)) [
+      | inl accepted ↦ (i, p, is, accepted, some_is p.parcel t (sym (cond-true (may_reach n w i p) (Some p.parcel) None accepted) ∙ h))
+      | inr refused ↦ absurd (none_some t (sym (cond-false (may_reach n w i p) (Some p.parcel) None refused) ∙ h))
+    ]
 
 -- and such a packet's is in transit
 pub in_transit_if : (n : ℕ) (w : World) (i : ℕ) (p : Packet) → w.packets i ≡ Some p → may_reach n w i p ≡ true → IsInTransit (volatile_of n w) p.parcel
