@@ -3,6 +3,7 @@ use Rattle.std.proofs.Common.{ℕ, ◌+◌, ◌≡◌, ◌<◌, inl, inr, Bool, 
 use Rattle.std.specs.Prelude.{◌==◌}
 use Rattle.std.specs.List.{list_any}
 use Rattle.std.specs.Option.{option_map_or}
+use Rattle.std.proofs.lemmas.List.Folds.{list_any-append}
 use Rattle.std.proofs.lemmas.Bool.{both_ways, or_cases, or_left, or_right, and_parts, and_from, eqb-true, eq-eqb, cond-true, cond-false, false_from_ne_true}
 use Rattle.causal_name.specs.declared.Pid.{Pid}
 use Rattle.causal_name.specs.declared.MsgName.{MsgName}
@@ -78,12 +79,10 @@ same_message_turned a b h =
     and_from (b.source.0 == a.source.0) (b.ssn == a.ssn) (eq-eqb b.source.0 a.source.0 (sym (eqb-true a.source.0 b.source.0 parts.0))) (eq-eqb b.ssn a.ssn (sym (eqb-true a.ssn b.ssn parts.1)))
 
 any_first : (test : MsgName → Bool) (xs ys : List MsgName) → list_any test xs ≡ true → list_any test (xs ++ ys) ≡ true
-any_first test [] ys h = absurd (both_ways false refl h)
-any_first test (x ∷ xs) ys h = elim (or_cases (test x) (list_any test xs) h) [ inl here ↦ or_left (test x) (list_any test (xs ++ ys)) here | inr later ↦ or_right (test x) (list_any test (xs ++ ys)) (any_first test xs ys later) ]
+any_first test xs ys h = list_any-append test xs ys ∙ or_left _ _ h
 
 any_last : (test : MsgName → Bool) (xs : List MsgName) (y : MsgName) → test y ≡ true → list_any test (xs ++ y ∷ []) ≡ true
-any_last test [] y h = or_left (test y) false h
-any_last test (x ∷ xs) y h = or_right (test x) (list_any test (xs ++ y ∷ [])) (any_last test xs y h)
+any_last test xs y h = list_any-append test xs (y ∷ []) ∙ or_right _ _ (or_left (test y) false h)
 
 module _ (n : ℕ) (net : Network) (c : Counts n net) (me : ℕ) where
   abbrev after_step : Node → List Sent → List Entry → Network

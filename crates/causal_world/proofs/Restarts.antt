@@ -1,7 +1,7 @@
 -- A process to which all others have replied comes up.
 use Rattle.std.proofs.Common.{ℕ, suc, ◌≡◌, ◌<◌, ◌≤◌, ◌+◌, inl, inr, Bool, true, false, not, ◌&&◌, ◌||◌, nat_lt, List, ◌∷◌, Some, None, refl, sym, ap, subst, ◌∙◌, arith}
 use Rattle.std.specs.Prelude.{◌⊎◌, ◌==◌}
-use Rattle.std.proofs.lemmas.Bool.{both_ways, or_cases, or_left, or_right, and_from, eq-eqb, ne_eqb, cond-true, cond-false, lt-ltb, false_from_ne_true, cases_lt}
+use Rattle.std.proofs.lemmas.Bool.{both_ways, or_cases, or_left, or_right, and_from, eq-eqb, ne_eqb, cond-true, cond-false, lt-ltb, false_from_ne_true, cases_lt, cases_Bool}
 use Rattle.std.proofs.lemmas.Bool.Decides.{eqb_tells}
 use Rattle.causal_name.specs.declared.Pid.{Pid}
 use Rattle.causal_name.specs.declared.Det.{Det}
@@ -12,7 +12,7 @@ use Rattle.causal_steps.specs.Transit.{TransitParcel, IsInTransit, IsLoggedBySom
 use Rattle.causal_steps.specs.Steps.{restarts}
 use Rattle.causal_steps.specs.Reachable.{next_state}
 use Rattle.causal_rounds.specs.Rounds.{with_value_at, Round, RecoveryState, RoundStep, RoundInvariant, restart}
-use Rattle.causal_rounds.specs.Gathered.{Carrier, DetState, DetInvariant, MayComplete}
+use Rattle.causal_rounds.specs.Gathered.{Carrier, DetState, DetStep, DetInvariant, MayComplete}
 use Rattle.causal_rounds.specs.Gathered as det
 use Rattle.causal_rounds.specs.Acceptance.{IsAcceptable, by_round}
 use Rattle.causal_rounds.proofs.Lemmas.RoundSteps.{set_at_cases, some_is, none_some, round_step_preserves, set_at_here, set_at_away}
@@ -82,7 +82,10 @@ module _ (n f : ℕ) (w : World) (k : WorldInvariant n f w) (who : Pid) (listed 
   ]
 
   recovers : (d : Det) → must_recover w.past who.0 d ≡ true → IsLoggedBySome n w.past d ⊎ IsCarried (volatile_of n after) d → (list_has listed d ≡ true) ⊎ (is_stable w.past d ≡ true)
-  recovers d lost there = by (is_stable w.past d) refl
+  recovers d lost there = elim (cases_Bool (is_stable w.past d)) [
+    | inl is ↦ inr is
+    | inr is ↦ lists d (restarts_miss_nothing (det_state_of n w d) who.0 r risen k.rounds (k.dets d) at all refl (and_from _ _ (lt-ltb who.0 n low) lost) is (seen there))
+  ]
     where
       logs_stored : w.stored d ≡ true → (det_state_of n w d).logs n ≡ true
       logs_stored h = or_right _ _ (and_from _ _ (eq-eqb n n refl) h)
@@ -100,18 +103,14 @@ module _ (n f : ℕ) (w : World) (k : WorldInvariant n f w) (who : Pid) (listed 
             | inr accepted ↦ inr (found.0, carrier_of found.1, ap (if_carries d) found.2 ∙ cond-true (found.1.parcel.carries d) (Some (carrier_of found.1)) None carries, acceptable_is (suc n) risen absent_still (carrier_of found.1) accepted)
           ]
 
-      by : (b : Bool) → is_stable w.past d ≡ b → (list_has listed d ≡ true) ⊎ (is_stable w.past d ≡ true)
-      by true is = inr is
-      by false is = lists d (restarts_miss_nothing (det_state_of n w d) who.0 r risen k.rounds (k.dets d) at all refl (and_from _ _ (lt-ltb who.0 n low) lost) is (seen there))
-
   abbrev logs_before : Det → ℕ → Bool
   logs_before d q = (nat_lt q n && logs w.past q d) || (q == n && w.stored d)
 
   -- a function that differs from what is logged only in that the process logs what it lists
-  logs_after : (d : Det) (g : ℕ → Bool) → g who.0 ≡ list_has listed d → ((q : ℕ) → (q ≡ who.0 → ⊥) → g q ≡ logs_before d q) → (p : ℕ) → g p ≡ (det_state_of n after d).logs p
-  logs_after d g here away p = sym (set_at_same g who.0 (list_has listed d) p here) ∙ set_at_is g (det_state_of n after d).logs who.0 (list_has listed d)
-      (let small = lt-ltb who.0 n low in let none = logged_nothing d in let apart = apart_is who.0 n low in grind (arith, eqb_tells who.0 who.0, small, none, apart))
-      (λ q other. sym (away q other ∙ grind (arith, eqb_tells who.0 q, other))) p
+  logs_after : (d : Det) (f : ℕ → Bool) (b : Bool) → list_has listed d ≡ b → ((q : ℕ) → (q ≡ who.0 → ⊥) → f q ≡ logs_before d q) → (p : ℕ) → with_value_at f who.0 b p ≡ (det_state_of n after d).logs p
+  logs_after d f b is away = set_at_is f (det_state_of n after d).logs who.0 b
+      (let small = lt-ltb who.0 n low in let none = logged_nothing d in let apart = apart_is who.0 n low in grind (arith, eqb_tells who.0 who.0, small, none, apart, is))
+      (λ q other. sym (away q other ∙ grind (arith, eqb_tells who.0 q, other)))
 
   recover_after : (d : Det) (p : ℕ) → with_value_at (det_state_of n w d).must_recover who.0 false p ≡ (det_state_of n after d).must_recover p
   recover_after d = set_at_is (det_state_of n w d).must_recover (det_state_of n after d).must_recover who.0 false (grind (arith, eqb_tells who.0 who.0)) (λ q other. grind (arith, eqb_tells who.0 q, other))
@@ -122,10 +121,8 @@ module _ (n f : ℕ) (w : World) (k : WorldInvariant n f w) (who : Pid) (listed 
   dets : (d : Det) → DetInvariant (det_state_of n after d)
   dets d = by (list_has listed d) (w.gathered who.0 d) refl refl
     where
-      reach : (g : ℕ → Bool) → g who.0 ≡ list_has listed d → ((q : ℕ) → (q ≡ who.0 → ⊥) → g q ≡ logs_before d q) → DetInvariant (risen_det d g) → DetInvariant (det_state_of n after d)
-      reach g here away h = subst (λ (a : DetState). DetInvariant a)
-          (λ j. record { state = risen; logs = λ p. logs_after d g here away p j; must_recover = λ p. recover_after d p j; stable = (det_state_of n w d).stable; carriers = (det_state_of n w d).carriers; gathered = (det_state_of n w d).gathered })
-          h
+      reach : (f : ℕ → Bool) (b : Bool) → list_has listed d ≡ b → ((q : ℕ) → (q ≡ who.0 → ⊥) → f q ≡ logs_before d q) → DetInvariant (risen_det d (with_value_at f who.0 b)) → DetInvariant (det_state_of n after d)
+      reach f b is away h = subst (λ (a : DetState). DetInvariant a) (λ j. record (risen_det d (λ p. logs_after d f b is away p j)) { must_recover = λ p. recover_after d p j }) h
 
       first : ℕ → Bool
       first = with_value_at (logs_before d) who.0 (w.gathered who.0 d)
@@ -139,29 +136,23 @@ module _ (n f : ℕ) (w : World) (k : WorldInvariant n f w) (who : Pid) (listed 
       is_up : risen.down who.0 ≡ false
       is_up = set_at_here w.rounds.down who.0 false
 
-      second : Bool → ℕ → Bool
-      second b = with_value_at first who.0 b
-
-      second_away : (b : Bool) (q : ℕ) → (q ≡ who.0 → ⊥) → second b q ≡ logs_before d q
-      second_away b q other = set_at_away first who.0 b q other ∙ set_at_away (logs_before d) who.0 (w.gathered who.0 d) q other
-
       as_gathered : list_has listed d ≡ w.gathered who.0 d → DetInvariant (det_state_of n after d)
-      as_gathered same = reach first (set_at_here (logs_before d) who.0 (w.gathered who.0 d) ∙ sym same) (λ q other. set_at_away (logs_before d) who.0 (w.gathered who.0 d) q other) restarted
+      as_gathered same = reach (logs_before d) (w.gathered who.0 d) same (λ q other. refl) restarted
+
+      again : (b : Bool) → list_has listed d ≡ b → DetStep (risen_det d first) (risen_det d (with_value_at first who.0 b)) → DetInvariant (det_state_of n after d)
+      again b is step = reach first b is (λ q other. set_at_away (logs_before d) who.0 (w.gathered who.0 d) q other) (det_step_preserves (risen_det d first) _ step rounds_risen restarted)
 
       by : (b c : Bool) → list_has listed d ≡ b → w.gathered who.0 d ≡ c → DetInvariant (det_state_of n after d)
       by true true is got = as_gathered (is ∙ sym got)
       by false false is got = as_gathered (is ∙ sym got)
-      by false true is got = elim (lists d got) [
-        | inl h ↦ absurd (both_ways (list_has listed d) is h)
-        | inr stable ↦ reach (second false) (set_at_here first who.0 false ∙ sym is) (second_away false) (det_step_preserves (risen_det d first) _ (det.forget who.0 stable) rounds_risen restarted)
-      ]
+      by false true is got = elim (lists d got) [ inl h ↦ absurd (both_ways (list_has listed d) is h) | inr stable ↦ again false is (det.forget who.0 stable) ]
       by true false is lacks = elim (from_where d is) [
         | inl got ↦ absurd (both_ways (w.gathered who.0 d) lacks got)
         | inr (inl from) ↦
             let carrier : (det_state_of n w d).carriers from.0 ≡ Some (carrier_of from.1) = ap (if_carries d) from.2 ∙ cond-true (from.1.parcel.carries d) (Some (carrier_of from.1)) None from.4 in
             let floor : risen.floors who.0 from.1.parcel.from ≤ from.1.lane = subst (λ g. g from.1.parcel.from ≤ from.1.lane) (sym (set_at_here w.rounds.floors who.0 r.view)) from.6 in
-            reach (second true) (set_at_here first who.0 true ∙ sym is) (second_away true) (det_step_preserves (risen_det d first) _ (det.take who.0 from.0 (carrier_of from.1) is_up carrier floor) rounds_risen restarted)
-        | inr (inr stable) ↦ reach (second true) (set_at_here first who.0 true ∙ sym is) (second_away true) (det_step_preserves (risen_det d first) _ (det.deliver_again who.0 is_up (inr stable)) rounds_risen restarted)
+            again true is (det.take who.0 from.0 (carrier_of from.1) is_up carrier floor)
+        | inr (inr stable) ↦ again true is (det.deliver_again who.0 is_up (inr stable))
       ]
 
   pub restart_preserves : ((x : ℕ) (d : Det) (q : ℕ) → known x d q ≡ true
