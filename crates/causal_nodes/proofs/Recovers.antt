@@ -196,9 +196,7 @@ asks : IsReachableNetwork 2 1 asked
 asks = steps heard second None (down_node (down_with heard_round)) (read_packet 1 0 view ∷ []) [] (omega arith) hears tt (read_row (down_with heard_round) heard_round refl all) (one_fresh heard.sent (read_packet 1 0 view) tt)
   where
     all : (q : ℕ) → q < 2 → (q ≡ 1 → ⊥) → heard_round.heard q ≡ true
-    all zero low apart = refl
-    all (suc zero) low apart = absurd (apart refl)
-    all (suc (suc q)) low apart = absurd (omega (arith, low))
+    all q low apart = grind (arith, low, apart)
 
 abbrev was_read : Network
 was_read = record { past = asked.past; nodes = asked.nodes; sent = stored_packet 1 0 asked.stored ∷ asked.sent; stored = asked.stored; floors = raised asked.floors view }
@@ -222,10 +220,7 @@ restarts : IsReachableNetwork 2 1 recovered
 restarts = steps ready second None (up_node (up_after_restart 1 1 read_round)) [] (Restart second both ∷ []) (omega arith) readies tt (restart_row (down_with read_round) read_round both refl refl all (λ d. sym (or_false (list_has both d)))) (λ new was. absurd was)
   where
     all : (q : ℕ) → q < 3 → (q ≡ 1 → ⊥) → read_round.heard q ≡ true
-    all zero low apart = refl
-    all (suc zero) low apart = absurd (apart refl)
-    all (suc (suc zero)) low apart = refl
-    all (suc (suc (suc q))) low apart = absurd (omega (arith, low))
+    all q low apart = grind (arith, low, apart)
 
 pub nodes_recover : NodesRecover
 nodes_recover = (recovered, restarts, up_after_restart 1 1 read_round, refl, refl, own, refl, refl)

@@ -83,10 +83,7 @@ gone q high =
     (is_absent, cond-true (with_value_at absent 1 true q) 1 0 down)
 
 here : (q : ℕ) → q < suc 2 → absent q ≡ false
-here zero low = refl
-here (suc zero) low = refl
-here (suc (suc zero)) low = refl
-here (suc (suc (suc q))) low = absurd (omega (arith, low))
+here q low = grind (arith, low)
 
 begins : IsReachableWorld 2 1 begun
 begins = next_world crashed begun crashes (begin 1 view absent (omega arith) refl refl (λ q. omega arith) here gone)
@@ -100,9 +97,7 @@ reads : IsReachableWorld 2 1 was_read
 reads = next_world answered was_read answers (read 1 (with_reply round 0 true) view refl all (λ z. omega arith) (λ z. omega arith) (λ z. omega arith))
   where
     all : (q : ℕ) → q < 2 → (q ≡ 1 → ⊥) → (with_reply round 0 true).replied q ≡ true
-    all zero low other = refl
-    all (suc zero) low other = absurd (other refl)
-    all (suc (suc q)) low other = absurd (omega (arith, low))
+    all q low other = grind (arith, low, other)
 
 pub recoveries_are_reachable : RecoveriesAreReachable
 recoveries_are_reachable = (
@@ -113,7 +108,4 @@ recoveries_are_reachable = (
 )
   where
     all : (q : ℕ) → q < suc 2 → (q ≡ 1 → ⊥) → (with_reply (with_reply round 0 true) 2 true).replied q ≡ true
-    all zero low other = refl
-    all (suc zero) low other = absurd (other refl)
-    all (suc (suc zero)) low other = refl
-    all (suc (suc (suc q))) low other = absurd (omega (arith, low))
+    all q low other = grind (arith, low, other)
