@@ -69,10 +69,7 @@ module _ (n f : ℕ) (w : World) (k : WorldInvariant n f w) where
     ]
 
     down_after : (p : ℕ) → p < n → with_value_at w.rounds.down who.0 true p ≡ is_down after.past p
-    down_after p small = elim (set_at_cases w.rounds.down who.0 true p) [
-      | inl is ↦ let same : (who.0 == p) ≡ true = eq-eqb who.0 p (sym is.0) in is.1 ∙ grind (arith, same)
-      | inr other ↦ let differ : (who.0 == p) ≡ false = ne_eqb who.0 p (λ e. other.0 (sym e)) in other.1 ∙ k.down p small ∙ grind (arith, differ)
-    ]
+    down_after p small = grind (arith, eqb_tells who.0 p, eqb_tells p who.0, set_at_cases w.rounds.down who.0 true p, k.down p small)
 
     knew : (p : ℕ) (d : Det) → after.knows_stable p d ≡ true → w.knows_stable p d ≡ true
     knew p d h = (and_parts (not (who.0 == p)) (w.knows_stable p d) h).1

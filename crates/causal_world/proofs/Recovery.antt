@@ -76,11 +76,7 @@ crashes : IsReachableWorld 2 1 crashed
 crashes = next_world first_world crashed starts (crash second (omega arith) refl (omega arith))
 
 gone : (q : ℕ) → suc 2 ≤ q → (absent q ≡ true) × (view q ≡ 1)
-gone q high =
-    let big : nat_lt q 3 ≡ false = grind (arith, high) in
-    let is_absent : absent q ≡ true = ap not big in
-    let down : with_value_at absent 1 true q ≡ true = elim (set_at_cases absent 1 true q) [ inl is ↦ is.1 | inr other ↦ other.1 ∙ is_absent ] in
-    (is_absent, cond-true (with_value_at absent 1 true q) 1 0 down)
+gone q high = (grind (arith, high), grind (arith, high))
 
 here : (q : ℕ) → q < suc 2 → absent q ≡ false
 here q low = grind (arith, low)

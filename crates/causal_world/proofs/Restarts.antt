@@ -181,10 +181,7 @@ module _ (n f : ℕ) (w : World) (k : WorldInvariant n f w) (who : Pid) (listed 
     rounds = round_step_preserves w.rounds risen rises k.rounds;
     dets = dets;
     absent = absent_still;
-    down = λ p small. elim (set_at_cases w.rounds.down who.0 false p) [
-      | inl is ↦ let same : (who.0 == p) ≡ true = eq-eqb who.0 p (sym is.0) in is.1 ∙ grind (arith, same)
-      | inr other ↦ let differ : (who.0 == p) ≡ false = ne_eqb who.0 p (λ e. other.0 (sym e)) in other.1 ∙ k.down p small ∙ grind (arith, differ)
-    ];
+    down = λ p small. grind (arith, eqb_tells who.0 p, eqb_tells p who.0, set_at_cases w.rounds.down who.0 false p, k.down p small);
     lanes = λ i p there. elim (set_at_cases w.rounds.lane who.0 (w.rounds.lane who.0 + 1) p.parcel.from) [
       | inl is ↦ let below : p.lane ≤ w.rounds.lane who.0 = subst (λ x. p.lane ≤ w.rounds.lane x) is.0 (k.lanes i p there) in let lane = is.1 in omega (arith, below, lane)
       | inr other ↦ let below = k.lanes i p there in let lane = other.1 in omega (arith, below, lane)

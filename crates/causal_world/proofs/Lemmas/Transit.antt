@@ -24,13 +24,10 @@ module _ (n : ℕ) (w : RecoveryState) where
   open_is s r absent h q other no_reply = elim (eqb_tells (number w q) (r.view q)) [
     | inl same ↦ same.1
     | inr differ ↦ absurd (elim (cases_lt q n) [
-      | inl low ↦ both_ways (any_below n (is_apart w s r)) (negated h) (any_below-from n (is_apart w s r) q low (grind (arith, eqb_tells q s, no_reply, differ)))
+      | inl low ↦ both_ways (any_below n (is_apart w s r)) (grind (arith, h)) (any_below-from n (is_apart w s r) q low (grind (arith, eqb_tells q s, no_reply, differ)))
       | inr high ↦ both_ways (r.replied q) no_reply (absent q high)
     ])
   ]
-    where
-      negated : not (any_below n (is_apart w s r)) ≡ true → any_below n (is_apart w s r) ≡ false
-      negated h = grind arith
 
   is_opened : (s : ℕ) (r : Round) → MayComplete w s r → is_open n w s r ≡ true
   is_opened s r opened = ap not (false_from_ne_true (any_below n (is_apart w s r)) (λ is.
