@@ -124,10 +124,7 @@ module _ (n f : ℕ) (net : Network) (w : World) (reach : IsReachableWorld n f w
       ]
 
       all_told : (q : ℕ) → full_view q ≤ number w.rounds q
-      all_told q = elim (cases_lt q n) [
-        | inl below ↦ let e = in_view q below in let t = view_told q below in omega (arith, e, t)
-        | inr above ↦ let e = out_view q above in omega (arith, e)
-      ]
+      all_told q = grind (arith, cases_lt q n, in_view q, out_view q, view_told q)
 
       gone : (q : ℕ) → suc n ≤ q → (absent q ≡ true) × (full_view q ≡ w.rounds.lane q + 1)
       gone q high = (ap not (le-ltb q (suc n) high), out_view q (omega (arith, high)) ∙ number_down w.rounds q ((invariant n f net w reach rep).absent.down q high))

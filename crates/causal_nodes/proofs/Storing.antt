@@ -29,10 +29,7 @@ pub bounded_is : (n : ℕ) (view : ℕ → ℕ) (z : ℕ) → z < n → bounded 
 bounded_is n view z low = cond-true (nat_lt z n) (view z) 0 (lt-ltb z n low)
 
 pub bounded_told : (n : ℕ) (w : World) (view : ℕ → ℕ) → IsTold n w view → (z : ℕ) → bounded n view z ≤ number w.rounds z
-bounded_told n w view told z = elim (cases_lt z n) [
-  | inl low ↦ let e = bounded_is n view z low in let t = told z low in omega (arith, e, t)
-  | inr high ↦ let e : bounded n view z ≡ 0 = cond-false (nat_lt z n) (view z) 0 (le-ltb z n high) in omega (arith, e)
-]
+bounded_told n w view told z = grind (arith, cases_lt z n, told z, bounded_is n view z, le-ltb z n, cond-false (nat_lt z n) (view z) 0)
 
 module _ (n f : ℕ) (net : Network) (w : World) (reach : IsReachableWorld n f w) (rep : Represents n net w) where
   module _ (p : Packet) (was : WasSent net.sent (write_packet p)) (floor : net.floors p.parcel.from ≤ p.lane) where

@@ -182,10 +182,7 @@ module _ (n f : ℕ) (w : World) (k : WorldInvariant n f w) (who : Pid) (listed 
     dets = dets;
     absent = absent_still;
     down = λ p small. grind (arith, eqb_tells who.0 p, eqb_tells p who.0, set_at_cases w.rounds.down who.0 false p, k.down p small);
-    lanes = λ i p there. elim (set_at_cases w.rounds.lane who.0 (w.rounds.lane who.0 + 1) p.parcel.from) [
-      | inl is ↦ let below : p.lane ≤ w.rounds.lane who.0 = subst (λ x. p.lane ≤ w.rounds.lane x) is.0 (k.lanes i p there) in let lane = is.1 in omega (arith, below, lane)
-      | inr other ↦ let below = k.lanes i p there in let lane = other.1 in omega (arith, below, lane)
-    ];
+    lanes = λ i p there. grind (arith, set_at_cases w.rounds.lane who.0 (w.rounds.lane who.0 + 1) p.parcel.from, k.lanes i p there);
     gathered_from = λ s o d there h. k.gathered_from s o d (old_round s o there) h;
     storage = record {
       up = set_at_away w.rounds.down who.0 false n not_storage ∙ k.storage.up;
