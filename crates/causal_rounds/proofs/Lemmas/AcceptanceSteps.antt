@@ -49,10 +49,7 @@ module _ (w : RecoveryState) (h : RoundInvariant w) (t : Carrier) (low : t.lane 
     told = with_reply r y up
 
     open_before : MayComplete w s told → MayComplete w s r
-    open_before fitting q other no_reply = elim (set_at_cases r.replied y true q) [
-      | inl is ↦ subst (λ x. number w x ≡ r.view x) (sym is.0) fits
-      | inr fact ↦ fitting q other (fact.1 ∙ no_reply)
-    ]
+    open_before fitting q other no_reply = grind (arith, set_at_cases r.replied y true q, fitting q other, no_reply, fits)
 
     -- to s, from a process that had replied, or from this one
     to_asker : t.to ≡ s → w.down t.to ≡ true → MayComplete w s told → told.replied t.from ≡ true → r.view t.from ≤ t.lane → IsAcceptable w t

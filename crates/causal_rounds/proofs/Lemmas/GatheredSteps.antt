@@ -138,10 +138,7 @@ module _ (a : DetState) (p : ℕ) (up : a.state.down p ≡ false) (h : RoundInva
   fall_preserves : DetInvariant fallen
   fall_preserves = record {
     logs_up = λ q has_it. let old = less a.logs p q has_it in set_at_away a.state.down p true q old.0 ∙ k.logs_up q old.1;
-    recovering_are_down = λ q must. elim (set_at_cases a.must_recover p (a.logs p) q) [
-      | inl is ↦ subst (λ x. with_value_at a.state.down p true x ≡ true) (sym is.0) (set_at_here a.state.down p true)
-      | inr other ↦ set_at_away a.state.down p true q other.0 ∙ k.recovering_are_down q (sym other.1 ∙ must)
-    ];
+    recovering_are_down = λ q must. grind (arith, set_at_cases a.must_recover p (a.logs p) q, set_at_cases a.state.down p true q, k.recovering_are_down q, must);
     lanes = k.lanes;
     sent = λ i t there is_up lane. elim (set_at_cases a.state.down p true t.from) [
       | inl is ↦ absurd (both_ways (with_value_at a.state.down p true t.from) is_up is.1)
@@ -197,10 +194,7 @@ module _ (a : DetState) (y s : ℕ) (up : Bool) (r : Round) (floors : ℕ → �
   replied = record a { state = record a.state { floors = floors; rounds = rounds }; gathered = gathered }
 
   open_before : MayComplete a.state s grown → MayComplete a.state s r
-  open_before fitting q other no_reply = elim (set_at_cases r.replied y true q) [
-    | inl is ↦ subst (λ x. number a.state x ≡ r.view x) (sym is.0) count
-    | inr fact ↦ fitting q other (fact.1 ∙ no_reply)
-  ]
+  open_before fitting q other no_reply = grind (arith, set_at_cases r.replied y true q, fitting q other, no_reply, count)
 
   now : (q : ℕ) → MayComplete a.state s grown → a.must_recover s ≡ true → a.stable ≡ false → grown.replied q ≡ true → HasFromLane a q (r.view q) → Result replied s grown
   now q fitting must unstable replied_q has_d = elim (set_at_cases r.replied y true q) [
@@ -274,15 +268,9 @@ module _ (a : DetState) (s : ℕ) (r : Round) (at : a.state.rounds s ≡ Some r)
 
   risen_preserves : DetInvariant risen
   risen_preserves = record {
-    logs_up = λ q has_it. elim (set_at_cases a.logs s (a.gathered s) q) [
-      | inl is ↦ subst (λ x. with_value_at a.state.down s false x ≡ false) (sym is.0) (set_at_here a.state.down s false)
-      | inr other ↦ set_at_away a.state.down s false q other.0 ∙ k.logs_up q (sym other.1 ∙ has_it)
-    ];
+    logs_up = λ q has_it. grind (arith, set_at_cases a.logs s (a.gathered s) q, set_at_cases a.state.down s false q, k.logs_up q, has_it);
     recovering_are_down = λ q must. let old = less a.must_recover s q must in set_at_away a.state.down s false q old.0 ∙ k.recovering_are_down q old.1;
-    lanes = λ i t there. let low = k.lanes i t there in elim (set_at_cases a.state.lane s (a.state.lane s + 1) t.from) [
-      | inl is ↦ subst (λ l. t.lane ≤ l) (sym is.1) (let below : t.lane ≤ a.state.lane s = subst (λ x. t.lane ≤ a.state.lane x) is.0 low in omega (arith, below))
-      | inr other ↦ subst (λ l. t.lane ≤ l) (sym other.1) low
-    ];
+    lanes = λ i t there. grind (arith, set_at_cases a.state.lane s (a.state.lane s + 1) t.from, k.lanes i t there);
     sent = λ i t there up lane. elim (eqb_tells t.from s) [
       | inl is ↦
           let below : t.lane ≤ a.state.lane s = subst (λ x. t.lane ≤ a.state.lane x) is.1 (k.lanes i t there) in

@@ -39,16 +39,10 @@ number_down w q down = cond-true (w.down q) (w.lane q + 1) (w.lane q) down
 -- y refuses more: floors rise, and are still numbers that were told
 module _ (w : RecoveryState) (y : ℕ) (floors : ℕ → ℕ) where
   pub floors_rise : ((z : ℕ) → w.floors y z ≤ floors z) → (p z : ℕ) → w.floors p z ≤ with_value_at w.floors y floors p z
-  floors_rise rise p z = elim (set_at_cases w.floors y floors p) [
-    | inl is ↦ subst (λ g. w.floors p z ≤ g z) (sym is.1) (subst (λ q. w.floors q z ≤ floors z) (sym is.0) (rise z))
-    | inr other ↦ subst (λ g. w.floors p z ≤ g z) (sym other.1) (omega arith)
-  ]
+  floors_rise rise p z = grind (arith, set_at_cases w.floors y floors p, rise z)
 
   floors_below : ((z : ℕ) → floors z ≤ number w z) → RoundInvariant w → (p q : ℕ) → with_value_at w.floors y floors p q ≤ number w q
-  floors_below below k p q = elim (set_at_cases w.floors y floors p) [
-    | inl is ↦ subst (λ g. g q ≤ number w q) (sym is.1) (below q)
-    | inr other ↦ subst (λ g. g q ≤ number w q) (sym other.1) (k.floors_told p q)
-  ]
+  floors_below below k p q = grind (arith, set_at_cases w.floors y floors p, below q, k.floors_told p q)
 
 pub crash_number : (w : RecoveryState) (p q : ℕ) → number w q ≤ number (record w { down = with_value_at w.down p true }) q
 crash_number w p q = grind (arith, cases_Bool (w.down q), still_true w.down p q, cond-true, cond-false)
