@@ -162,37 +162,10 @@ module _ (w : RecoveryState) (s y : ℕ) (up : Bool) (r : Round) (at : w.rounds 
     self_unheard = heard_other s not_s ∙ (k.own_view s r at).0
 
     reply_one_way : (p q : ℕ) (a o : Round) → rounds p ≡ Some a → rounds q ≡ Some o → a.replied q ≡ true → o.replied p ≡ false
-    reply_one_way p q a o here there replied_q = elim (seen p a here).1 [
-      | inl new ↦ elim (heard_more q (ap (λ (x : Round). x.replied q) new.1 ∙ replied_q)) [
-        | inl is ↦ absurd ((seen q o there).0 is)
-        | inr before ↦ elim (seen q o there).1 [
-          | inl other ↦ absurd (both_ways (r.replied s) (k.own_view s r at).0 (subst (λ x. r.replied x ≡ true) other.0 before))
-          | inr old ↦ subst (λ x. o.replied x ≡ false) (sym new.0) (k.one_way s q r o at old before)
-        ]
-      ]
-      | inr here_old ↦ elim (seen q o there).1 [
-        | inl new ↦ subst (λ (x : Round). x.replied p ≡ false) new.1 (heard_other p (seen p a here).0 ∙ k.one_way p s a r here_old at (subst (λ x. a.replied x ≡ true) new.0 replied_q))
-        | inr old ↦ k.one_way p q a o here_old old replied_q
-      ]
-    ]
+    reply_one_way p q a o here there replied_q = grind (arith, seen p a here, seen q o there, heard_more q, heard_other p, k.own_view s r at, k.one_way s q r o at, k.one_way p s a r, k.one_way p q a o, replied_q, at)
 
     reply_order : (p z q : ℕ) (a o : Round) → rounds p ≡ Some a → rounds z ≡ Some o → o.replied p ≡ true → a.answered q ≡ true → o.view q ≤ a.view q
-    reply_order p z q a o here there replied_q was = elim (seen p a here).1 [
-      | inl new ↦ elim (seen z o there).1 [
-        | inl other ↦ absurd (both_ways (grown.replied s) self_unheard (subst (λ x. grown.replied x ≡ true) new.0 (ap (λ (x : Round). x.replied p) other.1 ∙ replied_q)))
-        | inr old ↦ subst (λ (x : Round). o.view q ≤ x.view q) new.1 (elim (answered_more q (ap (λ (x : Round). x.answered q) new.1 ∙ was)) [
-          | inl is ↦ subst (λ x. o.view x ≤ r.view x) (sym is.0) (let told = k.views_told z y o old in let fact = as_up is.1 in let here_number = number_up w y fact.0 in let lane = fact.1 in omega (arith, told, here_number, lane))
-          | inr before ↦ k.ordered s z q r o at old (subst (λ x. o.replied x ≡ true) new.0 replied_q) before.1
-        ])
-      ]
-      | inr here_old ↦ elim (seen z o there).1 [
-        | inl new ↦ elim (heard_more p (ap (λ (x : Round). x.replied p) new.1 ∙ replied_q)) [
-          | inl is ↦ absurd ((seen p a here).0 is)
-          | inr before ↦ subst (λ (x : Round). x.view q ≤ a.view q) new.1 (k.ordered p s q a r here_old at before was)
-        ]
-        | inr old ↦ k.ordered p z q a o here_old old replied_q was
-      ]
-    ]
+    reply_order p z q a o here there replied_q was = grind (arith, seen p a here, seen z o there, self_unheard, answered_more q, heard_more p, k.views_told z y o, number_up w y, as_up, k.ordered s z q r o at, k.ordered p s q a r, k.ordered p z q a o, replied_q, was, at)
 
     reply_preserves : (floors : ℕ → ℕ → ℕ) → ((p q : ℕ) → floors p q ≤ number w q) → ((p q z : ℕ) (a : Round) → rounds p ≡ Some a → a.answered q ≡ true → w.down q ≡ false → a.view z ≤ floors q z) → RoundInvariant (record w { floors = floors; rounds = rounds })
     reply_preserves floors told refuses = record {
@@ -204,13 +177,7 @@ module _ (w : RecoveryState) (s y : ℕ) (up : Bool) (r : Round) (at : w.rounds 
       views_told = λ p q o there. elim (seen p o there).1 [ inl is ↦ subst (λ (x : Round). x.view q ≤ number w q) is.1 (k.views_told s q r at) | inr old ↦ k.views_told p q o old ];
       floors_told = told;
       one_way = reply_one_way;
-      same_lane = λ p q a here replied_q was. elim (seen p a here).1 [
-        | inl new ↦ subst (λ (x : Round). w.lane q ≡ x.view q) new.1 (elim (answered_more q (ap (λ (x : Round). x.answered q) new.1 ∙ was)) [
-          | inl is ↦ subst (λ x. w.lane x ≡ r.view x) (sym is.0) (as_up is.1).1
-          | inr old ↦ k.same_lane s q r at (k.answers_are_replies s q r at old.1) old.1
-        ])
-        | inr old ↦ k.same_lane p q a old replied_q was
-      ];
+      same_lane = λ p q a here replied_q was. grind (arith, seen p a here, answered_more q, as_up, k.same_lane s q r at, k.same_lane p q a, k.answers_are_replies s q r at, replied_q, was);
       still_down = λ p q a here replied_q quiet. elim (seen p a here).1 [
         | inl new ↦ subst (λ (x : Round). (w.down q ≡ true) × (w.lane q + 1 ≡ x.view q)) new.1 (elim (silent_more q (ap (λ (x : Round). x.replied q) new.1 ∙ replied_q) (ap (λ (x : Round). x.answered q) new.1 ∙ quiet)) [
           | inl is ↦ subst (λ x. (w.down x ≡ true) × (w.lane x + 1 ≡ r.view x)) (sym is.0) (as_down is.1)
@@ -218,13 +185,7 @@ module _ (w : RecoveryState) (s y : ℕ) (up : Bool) (r : Round) (at : w.rounds 
         ])
         | inr old ↦ k.still_down p q a old replied_q quiet
       ];
-      answers_are_replies = λ p q a here was. elim (seen p a here).1 [
-        | inl new ↦ sym (ap (λ (x : Round). x.replied q) new.1) ∙ elim (answered_more q (ap (λ (x : Round). x.answered q) new.1 ∙ was)) [
-          | inl is ↦ cond-true (q == y) true (r.replied q) (eq-eqb q y is.0)
-          | inr old ↦ heard_other q old.0 ∙ k.answers_are_replies s q r at old.1
-        ]
-        | inr old ↦ k.answers_are_replies p q a old was
-      ];
+      answers_are_replies = λ p q a here was. grind (arith, seen p a here, answered_more q, set_at_cases r.replied y true q, k.answers_are_replies s q r at, k.answers_are_replies p q a, was);
       refuses = refuses;
       ordered = reply_order;
     }
