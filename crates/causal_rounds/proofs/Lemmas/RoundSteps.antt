@@ -118,10 +118,7 @@ module _ (w : RecoveryState) (s : ℕ) (view : ℕ → ℕ) (is_down : w.down s 
     ];
     views_told = λ p q r at. elim (which p r at) [ inl is ↦ subst (λ v. v ≤ number w q) (ap (λ (o : Round). o.view q) is.1) (low q) | inr old ↦ k.views_told p q r old ];
     floors_told = k.floors_told;
-    one_way = λ p q r o at other replied_q. elim (which q o other) [
-      | inl is ↦ replied_new o p is.1 ∙ elim (which p r at) [ inl new ↦ ap absent new.0 ∙ there | inr before ↦ present p r before ]
-      | inr old ↦ elim (which p r at) [ inl new ↦ absurd (absent_round q o (sym (replied_new r q new.1) ∙ replied_q) old) | inr before ↦ k.one_way p q r o before old replied_q ]
-    ];
+    one_way = λ p q r o at other replied_q. grind (arith, which p r at, which q o other, there, present p r, absent_round q o, k.one_way p q r o, replied_q);
     same_lane = λ p q r at replied_q was. elim (which p r at) [ inl new ↦ absurd (both_ways (r.answered q) (unanswered r q new.1) was) | inr old ↦ k.same_lane p q r old replied_q was ];
     still_down = λ p q r at replied_q quiet. elim (which p r at) [
       | inl new ↦ let fact = gone q (sym (replied_new r q new.1) ∙ replied_q) in (fact.0, sym fact.2 ∙ ap (λ (x : Round). x.view q) new.1)
@@ -129,10 +126,7 @@ module _ (w : RecoveryState) (s : ℕ) (view : ℕ → ℕ) (is_down : w.down s 
     ];
     answers_are_replies = λ p q r at was. elim (which p r at) [ inl new ↦ absurd (both_ways (r.answered q) (unanswered r q new.1) was) | inr old ↦ k.answers_are_replies p q r old was ];
     refuses = λ p y z r at was. elim (which p r at) [ inl new ↦ absurd (both_ways (r.answered y) (unanswered r y new.1) was) | inr old ↦ k.refuses p y z r old was ];
-    ordered = λ p z y r o at other replied_q was. elim (which p r at) [
-      | inl new ↦ absurd (both_ways (r.answered y) (unanswered r y new.1) was)
-      | inr old ↦ elim (which z o other) [ inl new ↦ absurd (absent_round p r (sym (replied_new o p new.1) ∙ replied_q) old) | inr before ↦ k.ordered p z y r o old before replied_q was ]
-    ];
+    ordered = λ p z y r o at other replied_q was. grind (arith, which p r at, which z o other, unanswered r y, absent_round p r, k.ordered p z y r o, replied_q, was);
   }
 
 -- one process more has replied to the round of s
@@ -215,13 +209,7 @@ module _ (w : RecoveryState) (y s : ℕ) (r : Round) (new_floors : ℕ → ℕ) 
   floors_here z = subst (λ g. r.view z ≤ g z) (sym (cond-true (y == y) new_floors (w.floors y) (eq-eqb y y refl))) (above z)
 
   answer_refuses : (p q z : ℕ) (a : Round) → with_value_at w.rounds s (Some told) p ≡ Some a → a.answered q ≡ true → w.down q ≡ false → a.view z ≤ with_value_at w.floors y new_floors q z
-  answer_refuses p q z a here was is_up = elim (found p a here).1 [
-    | inl new ↦ elim (answered_more w s y true r at k q (ap (λ (x : Round). x.answered q) new.1 ∙ was)) [
-      | inl is ↦ subst (λ (x : Round). x.view z ≤ with_value_at w.floors y new_floors q z) new.1 (subst (λ x. r.view z ≤ with_value_at w.floors y new_floors x z) (sym is.0) (floors_here z))
-      | inr old ↦ subst (λ (x : Round). x.view z ≤ with_value_at w.floors y new_floors q z) new.1 (let before = k.refuses s q z r at old.1 is_up in omega (arith, before, floors_rise w y new_floors rise q z))
-    ]
-    | inr old ↦ omega (arith, k.refuses p q z a old was is_up, floors_rise w y new_floors rise q z)
-  ]
+  answer_refuses p q z a here was is_up = grind (arith, found p a here, answered_more w s y true r at k q, floors_here z, floors_rise w y new_floors rise q z, k.refuses s q z r at, k.refuses p q z a, was, is_up)
 
   answer_preserves : RoundInvariant told_world
   answer_preserves = reply_preserves w s y true r at k (with_value_at w.rounds s (Some told)) not_s found (λ e. (up, sym fits)) (λ e. absurd (both_ways true e refl)) (with_value_at w.floors y new_floors)
@@ -251,10 +239,7 @@ module _ (w : RecoveryState) (y s : ℕ) (r : Round) (is_down : w.down y ≡ tru
 
   not_up_preserves : RoundInvariant said_world
   not_up_preserves = reply_preserves w s y false r at k said_rounds (λ is. other_one (sym is)) seen (λ e. absurd (both_ways false refl e)) (λ e. (is_down, sym fits)) w.floors k.floors_told
-      (λ p q z a here was up. elim (seen p a here).1 [
-        | inl new ↦ subst (λ (x : Round). x.view z ≤ w.floors q z) new.1 (k.refuses s q z r at (old_answer q (ap (λ (x : Round). x.answered q) new.1 ∙ was)) up)
-        | inr old ↦ k.refuses p q z a old was up
-      ])
+      (λ p q z a here was up. grind (arith, seen p a here, old_answer q, k.refuses s q z r at, k.refuses p q z a, was, up))
 
 -- the number of a process that comes up is the one that it had told
 pub number_risen : (w x : RecoveryState) (s : ℕ) → x.lane ≡ with_value_at w.lane s (w.lane s + 1) → x.down ≡ with_value_at w.down s false → w.down s ≡ true → (q : ℕ) → number x q ≡ number w q
