@@ -101,22 +101,14 @@ module _ (w : RecoveryState) (h : RoundInvariant w) (t : Carrier) (low : t.lane 
 
     -- nothing was sent by the new lane of s
     not_new : t.from ≡ s → t.lane ≡ with_value_at w.lane s (w.lane s + 1) t.from → ⊥
-    not_new is lane =
-        let new : t.lane ≡ w.lane s + 1 = lane ∙ ap (with_value_at w.lane s (w.lane s + 1)) is ∙ set_at_here w.lane s (w.lane s + 1) in
-        let old : t.lane ≤ w.lane s = subst (λ x. t.lane ≤ w.lane x) is low in
-        omega (arith, new, old)
+    not_new is lane = grind (arith, is, lane, low, set_at_cases w.lane s (w.lane s + 1) t.from)
 
     still_down : (q : ℕ) → with_value_at w.down s false q ≡ true → (q ≡ s → ⊥) × (w.down q ≡ true)
     still_down q is = elim (set_at_cases w.down s false q) [ inl me ↦ absurd (both_ways (with_value_at w.down s false q) me.1 is) | inr other ↦ (other.0, sym other.1 ∙ is) ]
 
     -- what the new lane of s does not refuse comes from a process that has replied
     in_view : r.view t.from ≤ t.lane → r.replied t.from ≡ true
-    in_view above = elim (eqb_tells t.from s) [
-      | inl is ↦
-          let own : r.view t.from ≡ w.lane t.from + 1 = subst (λ x. r.view x ≡ w.lane x + 1) (sym is.1) (h.own_view s r at).1 in
-          absurd (omega (arith, own, above, low))
-      | inr other ↦ all t.from other.1
-    ]
+    in_view above = grind (arith, eqb_tells t.from s, h.own_view s r at, all t.from, above, low)
 
     before_restart : IsAcceptable risen t → IsAcceptable w t
     before_restart (by_floor is_up floor) = elim (set_at_cases w.floors s r.view t.to) [

@@ -112,18 +112,12 @@ module _ (w : RecoveryState) (s : ℕ) (view : ℕ → ℕ) (is_down : w.down s 
   begin_preserves : RoundInvariant begun
   begin_preserves = record {
     gathering_are_down = λ p r at. elim (which p r at) [ inl is ↦ subst (λ q. w.down q ≡ true) (sym is.0) is_down | inr old ↦ k.gathering_are_down p r old ];
-    own_view = λ p r at. elim (which p r at) [
-      | inl is ↦ (replied_new r p is.1 ∙ ap absent is.0 ∙ there, subst (λ q. r.view q ≡ w.lane q + 1) (sym is.0) (sym (ap (λ (o : Round). o.view s) is.1) ∙ mine))
-      | inr old ↦ k.own_view p r old
-    ];
+    own_view = λ p r at. (grind (arith, which p r at, there, k.own_view p r), grind (arith, which p r at, mine, k.own_view p r));
     views_told = λ p q r at. elim (which p r at) [ inl is ↦ subst (λ v. v ≤ number w q) (ap (λ (o : Round). o.view q) is.1) (low q) | inr old ↦ k.views_told p q r old ];
     floors_told = k.floors_told;
     one_way = λ p q r o at other replied_q. grind (arith, which p r at, which q o other, there, present p r, absent_round q o, k.one_way p q r o, replied_q);
     same_lane = λ p q r at replied_q was. elim (which p r at) [ inl new ↦ absurd (both_ways (r.answered q) (unanswered r q new.1) was) | inr old ↦ k.same_lane p q r old replied_q was ];
-    still_down = λ p q r at replied_q quiet. elim (which p r at) [
-      | inl new ↦ let fact = gone q (sym (replied_new r q new.1) ∙ replied_q) in (fact.0, sym fact.2 ∙ ap (λ (x : Round). x.view q) new.1)
-      | inr old ↦ k.still_down p q r old replied_q quiet
-    ];
+    still_down = λ p q r at replied_q quiet. (grind (arith, which p r at, gone q, k.still_down p q r, replied_q, quiet), grind (arith, which p r at, gone q, k.still_down p q r, replied_q, quiet));
     answers_are_replies = λ p q r at was. elim (which p r at) [ inl new ↦ absurd (both_ways (r.answered q) (unanswered r q new.1) was) | inr old ↦ k.answers_are_replies p q r old was ];
     refuses = λ p y z r at was. elim (which p r at) [ inl new ↦ absurd (both_ways (r.answered y) (unanswered r y new.1) was) | inr old ↦ k.refuses p y z r old was ];
     ordered = λ p z y r o at other replied_q was. grind (arith, which p r at, which z o other, unanswered r y, absent_round p r, k.ordered p z y r o, replied_q, was);
@@ -164,21 +158,15 @@ module _ (w : RecoveryState) (s y : ℕ) (up : Bool) (r : Round) (at : w.rounds 
     reply_preserves : (floors : ℕ → ℕ → ℕ) → ((p q : ℕ) → floors p q ≤ number w q) → ((p q z : ℕ) (a : Round) → rounds p ≡ Some a → a.answered q ≡ true → w.down q ≡ false → a.view z ≤ floors q z) → RoundInvariant (record w { floors = floors; rounds = rounds })
     reply_preserves floors told refuses = record {
       gathering_are_down = λ p o there. elim (seen p o there).1 [ inl is ↦ subst (λ q. w.down q ≡ true) (sym is.0) (k.gathering_are_down s r at) | inr old ↦ k.gathering_are_down p o old ];
-      own_view = λ p o there. elim (seen p o there).1 [
-        | inl is ↦ subst (λ q. (o.replied q ≡ false) × (o.view q ≡ w.lane q + 1)) (sym is.0) (subst (λ (x : Round). (x.replied s ≡ false) × (x.view s ≡ w.lane s + 1)) is.1 (self_unheard, (k.own_view s r at).1))
-        | inr old ↦ k.own_view p o old
-      ];
+      own_view = λ p o there. (grind (arith, seen p o there, self_unheard, k.own_view p o), grind (arith, seen p o there, k.own_view s r at, k.own_view p o));
       views_told = λ p q o there. elim (seen p o there).1 [ inl is ↦ subst (λ (x : Round). x.view q ≤ number w q) is.1 (k.views_told s q r at) | inr old ↦ k.views_told p q o old ];
       floors_told = told;
       one_way = reply_one_way;
       same_lane = λ p q a here replied_q was. grind (arith, seen p a here, answered_more q, as_up, k.same_lane s q r at, k.same_lane p q a, k.answers_are_replies s q r at, replied_q, was);
-      still_down = λ p q a here replied_q quiet. elim (seen p a here).1 [
-        | inl new ↦ subst (λ (x : Round). (w.down q ≡ true) × (w.lane q + 1 ≡ x.view q)) new.1 (elim (silent_more q (ap (λ (x : Round). x.replied q) new.1 ∙ replied_q) (ap (λ (x : Round). x.answered q) new.1 ∙ quiet)) [
-          | inl is ↦ subst (λ x. (w.down x ≡ true) × (w.lane x + 1 ≡ r.view x)) (sym is.0) (as_down is.1)
-          | inr old ↦ k.still_down s q r at old.0 old.1
-        ])
-        | inr old ↦ k.still_down p q a old replied_q quiet
-      ];
+      still_down = λ p q a here replied_q quiet. (
+        grind (arith, seen p a here, silent_more q, as_down, k.still_down s q r at, k.still_down p q a, replied_q, quiet),
+        grind (arith, seen p a here, silent_more q, as_down, k.still_down s q r at, k.still_down p q a, replied_q, quiet),
+      );
       answers_are_replies = λ p q a here was. grind (arith, seen p a here, answered_more q, set_at_cases r.replied y true q, k.answers_are_replies s q r at, k.answers_are_replies p q a, was);
       refuses = refuses;
       ordered = reply_order;
