@@ -79,10 +79,7 @@ module _ (n f : ℕ) (net : Network) (w : World) (reach : IsReachableWorld n f w
         ∙ or_left (list_has listed d && (p.parcel.names_holder d me.0 || me.0 == me.0)) (a.log.holder d me.0) (and_from (list_has listed d) (p.parcel.names_holder d me.0 || me.0 == me.0) h (or_right (p.parcel.names_holder d me.0) (me.0 == me.0) (same_is me.0)))
 
     keeps : (x : ℕ) (d : Det) (q : ℕ) → w.knows_holder x d q ≡ true → known x d q ≡ true
-    keeps x d q h = elim (set_at_cases w.knows_holder me.0 log.holder x) [
-      | inl is ↦ ap (λ (g : Det → ℕ → Bool). g d q) is.1 ∙ or_right (list_has listed d && (p.parcel.names_holder d q || q == me.0)) (a.log.holder d q) (fits.log.holder d q ∙ ap (λ y. w.knows_holder y d q) (sym is.0) ∙ h)
-      | inr other ↦ ap (λ (g : Det → ℕ → Bool). g d q) other.1 ∙ h
-    ]
+    keeps x d q h = grind (arith, set_at_cases w.knows_holder me.0 log.holder x, fits.log.holder d q, h)
 
     later : IsLater w after
     later = record { numbers = λ q. omega arith; packets = λ i t at. at; stable = λ d h. h; stored = λ d h. h; messages = message_older entry w.past }
@@ -138,10 +135,7 @@ module _ (n f : ℕ) (net : Network) (w : World) (reach : IsReachableWorld n f w
     ]
 
     still_knows : (x : ℕ) (d : Det) (q : ℕ) → w.knows_holder x d q ≡ true → knows x d q ≡ true
-    still_knows x d q h = elim (set_at_cases w.knows_holder me.0 learned.holder x) [
-      | inl is ↦ ap (λ (g : Det → ℕ → Bool). g d q) is.1 ∙ or_right (a.log.has d && p.parcel.names_holder d q) (a.log.holder d q) (fits.log.holder d q ∙ ap (λ y. w.knows_holder y d q) (sym is.0) ∙ h)
-      | inr other ↦ ap (λ (g : Det → ℕ → Bool). g d q) other.1 ∙ h
-    ]
+    still_knows x d q h = grind (arith, set_at_cases w.knows_holder me.0 learned.holder x, fits.log.holder d q, h)
 
     pub learns : IsWorldOf n f (after_step (up_node (with_node_log a learned)) net.past)
     learns = (
@@ -167,13 +161,7 @@ module _ (n f : ℕ) (net : Network) (w : World) (reach : IsReachableWorld n f w
     is_stored = (rep.packets (written_packet dets) was) det has_det
 
     marks_new : (x : ℕ) (d : Det) → marks x d ≡ true → (w.knows_stable x d ≡ true) ⊎ (same_det d det ≡ true)
-    marks_new x d h = elim (set_at_cases w.knows_stable me.0 marked.stable x) [
-      | inl is ↦ elim (or_cases (a.log.has d && same_det d det) (a.log.stable d) (sym (ap (λ (g : Det → Bool). g d) is.1) ∙ h)) [
-        | inl both ↦ inr (and_parts (a.log.has d) (same_det d det) both).1
-        | inr old ↦ inl (ap (λ y. w.knows_stable y d) is.0 ∙ sym (fits.log.stable d) ∙ old)
-      ]
-      | inr other ↦ inl (sym (ap (λ (g : Det → Bool). g d) other.1) ∙ h)
-    ]
+    marks_new x d h = grind (arith, set_at_cases w.knows_stable me.0 marked.stable x, fits.log.stable d, h)
 
     pub marks_stable : IsWorldOf n f (after_step (up_node (with_node_log a marked)) (Stable det ∷ net.past))
     marks_stable = (

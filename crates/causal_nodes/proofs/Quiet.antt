@@ -58,10 +58,7 @@ module _ (n f : ℕ) (net : Network) (w : World) (reach : IsReachableWorld n f w
 
     pub hears_number : (q m : ℕ) → WasSent net.sent (number_packet q m) → IsWorldOf n f (after_step (down_node (record { lane = x.lane; told = with_value_at x.told q m; round = x.round })) net.sent)
     hears_number q m was =
-        let told : IsTold n w (with_value_at x.told q m) = λ z low_z. elim (set_at_cases x.told q m z) [
-          | inl here ↦ subst (λ v. v ≤ number w.rounds z) (sym here.1) (subst (λ y. m ≤ number w.rounds y) (sym here.0) (rep.packets (number_packet q m) was))
-          | inr other ↦ subst (λ v. v ≤ number w.rounds z) (sym other.1) (mine_before.told z low_z)
-        ] in
+        let told : IsTold n w (with_value_at x.told q m) = λ z low_z. grind (arith, set_at_cases x.told q m z, rep.packets (number_packet q m) was, mine_before.told z low_z) in
         quiet (down_node (record { lane = x.lane; told = with_value_at x.told q m; round = x.round })) (assumption (told, mine_before))
 
     module _ (nr : NodeRound) (has_round : x.round ≡ Some nr) where

@@ -118,10 +118,7 @@ module _ (n f : ℕ) (net : Network) (w : World) (reach : IsReachableWorld n f w
       own_number = own ∙ ap (λ m. m + 1) (sym before.lane) ∙ sym (number_down w.rounds me before.is_down)
 
       view_told : (q : ℕ) → q < n → view q ≤ number w.rounds q
-      view_told q low_q = elim (cases_eq q me) [
-        | inl here ↦ subst (λ z. view z ≤ number w.rounds z) (sym here) (let e = own_number in omega (arith, e))
-        | inr other ↦ let a = heard_of q other in let b = before.told q low_q in omega (arith, a, b)
-      ]
+      view_told q low_q = grind (arith, cases_eq q me, own_number, heard_of q, before.told q low_q)
 
       all_told : (q : ℕ) → full_view q ≤ number w.rounds q
       all_told q = grind (arith, cases_lt q n, in_view q, out_view q, view_told q)
@@ -234,16 +231,10 @@ module _ (n f : ℕ) (net : Network) (w : World) (reach : IsReachableWorld n f w
     itself d h = ap (λ (g : Det → ℕ → Bool). g d me.0) (set_at_here w.knows_holder me.0 node.log.holder) ∙ or_left (nr.gathered.has d && me.0 == me.0) (nr.gathered.holder d me.0) (and_from (nr.gathered.has d) (me.0 == me.0) (sym (lists d) ∙ h) (same_is me.0))
 
     keeps : (y : ℕ) (d : Det) (q : ℕ) → w.knows_holder y d q ≡ true → known y d q ≡ true
-    keeps y d q h = elim (set_at_cases w.knows_holder me.0 node.log.holder y) [
-      | inl here ↦ absurd (knows_nothing d q (ap (λ z. w.knows_holder z d q) (sym here.0) ∙ h))
-      | inr other ↦ ap (λ (g : Det → ℕ → Bool). g d q) other.1 ∙ h
-    ]
+    keeps y d q h = grind (arith, set_at_cases w.knows_holder me.0 node.log.holder y, knows_nothing d q, h)
 
     marks : (y : ℕ) (d : Det) → marked y d ≡ true → (w.knows_stable y d ≡ true) ⊎ (is_stable w.past d ≡ true)
-    marks y d h = elim (set_at_cases w.knows_stable me.0 node.log.stable y) [
-      | inl here ↦ inr (found.2.stable d (sym (ap (λ (g : Det → Bool). g d) here.1) ∙ h))
-      | inr other ↦ inl (sym (ap (λ (g : Det → Bool). g d) other.1) ∙ h)
-    ]
+    marks y d h = grind (arith, set_at_cases w.knows_stable me.0 node.log.stable y, found.2.stable d, h)
 
     risen_numbers : (q : ℕ) → number w.rounds q ≤ number risen.rounds q
     risen_numbers q = let same = number_risen w.rounds risen.rounds me.0 refl refl was_down.is_down q in omega (arith, same)
