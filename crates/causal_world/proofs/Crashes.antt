@@ -63,10 +63,7 @@ module _ (n f : ℕ) (w : World) (k : WorldInvariant n f w) where
         (det_step_preserves (det_state_of n w d) _ (det.crash who.0 was_up) k.rounds (k.dets d))
 
     own_logged : (p : ℕ) (d : Det) → p < n → with_value_at w.rounds.down who.0 true p ≡ false → d.dest.0 ≡ p → deliveries w.past p ≤ d.rsn → w.stored d ≡ true → logs after.past p d ≡ true
-    own_logged p d small still dest next stored = elim (set_at_cases w.rounds.down who.0 true p) [
-      | inl is ↦ absurd (both_ways (with_value_at w.rounds.down who.0 true p) still is.1)
-      | inr other ↦ and_from _ _ (not_from_false (who.0 == p) (ne_eqb who.0 p (λ e. other.0 (sym e)))) (k.own_logged p d small (sym other.1 ∙ still) dest next stored)
-    ]
+    own_logged p d small still dest next stored = grind (arith, set_at_cases w.rounds.down who.0 true p, eqb_tells who.0 p, k.own_logged p d small, still, dest, next, stored)
 
     down_after : (p : ℕ) → p < n → with_value_at w.rounds.down who.0 true p ≡ is_down after.past p
     down_after p small = grind (arith, eqb_tells who.0 p, eqb_tells p who.0, set_at_cases w.rounds.down who.0 true p, k.down p small)

@@ -141,8 +141,4 @@ module _ (n f : ℕ) (w : World) (k : WorldInvariant n f w) (to : Pid) (send rsn
       logged d (inr holds) dest place = elim (or_cases (logs w.past to.0 d) (must_recover w.past to.0 d) holds) [ inl has_d ↦ has_d | inr lost ↦ absurd (both_ways (must_recover w.past to.0 d) (up_recovers_nothing n f w k to.0 d low up) lost) ]
 
       own_logged : (x : ℕ) (d : Det) → x < n → w.rounds.down x ≡ false → d.dest.0 ≡ x → deliveries after.past x ≤ d.rsn → w.stored d ≡ true → logs after.past x d ≡ true
-      own_logged x d small up_x dest next stored = or_right _ _ (k.own_logged x d small up_x dest (by (to.0 == x) next) stored)
-        where
-          by : (b : Bool) → cond b (deliveries w.past x + 1) (deliveries w.past x) ≤ d.rsn → deliveries w.past x ≤ d.rsn
-          by true h = omega (arith, h)
-          by false h = h
+      own_logged x d small up_x dest next stored = or_right _ _ (k.own_logged x d small up_x dest (grind (arith, next)) stored)

@@ -60,10 +60,7 @@ module _ (n f : ℕ) (w : World) (k : WorldInvariant n f w) where
 
   -- a round is that of a process
   none_above : (p : ℕ) → n ≤ p → w.rounds.rounds p ≡ None
-  none_above p high = elim (eqb_tells p n) [
-    | inl same ↦ ap w.rounds.rounds same.1 ∙ k.storage.no_round
-    | inr differ ↦ let apart : p ≡ n → ⊥ = differ.1 in k.absent.no_round p (omega (arith, high, apart))
-  ]
+  none_above p high = grind (arith, eqb_tells p n, k.storage.no_round, k.absent.no_round p, high)
 
   pub round_low : (s : ℕ) (r : Round) → w.rounds.rounds s ≡ Some r → s < n
   round_low s r at = elim (cases_lt s n) [ inl low ↦ low | inr high ↦ absurd (none_some r (sym (none_above s high) ∙ at)) ]
