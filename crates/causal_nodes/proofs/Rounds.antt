@@ -202,10 +202,7 @@ module _ (n f : ℕ) (net : Network) (w : World) (reach : IsReachableWorld n f w
     storage = found.2.storage (all n (omega arith) n_is_other)
 
     all_replied : (q : ℕ) → q < suc n → (q ≡ me.0 → ⊥) → r.replied q ≡ true
-    all_replied q low_q other = elim (cases_lt q n) [
-      | inl below ↦ found.2.heard q below (all q low_q other)
-      | inr above ↦ subst (λ z. r.replied z ≡ true) (let e : n ≡ q = omega (arith, low_q, above) in e) storage.0
-    ]
+    all_replied q low_q other = grind (arith, cases_lt q n, found.2.heard q, all q low_q other, storage.0, low_q)
 
     logs_nothing : (d : Det) → logs w.past me.0 d ≡ false
     logs_nothing d = false_from_ne_true (logs w.past me.0 d) (λ h. both_ways (w.rounds.down me.0) (((invariant n f net w reach rep).dets d).logs_up me.0 (or_left _ _ (and_from (nat_lt me.0 n) (logs w.past me.0 d) (lt-ltb me.0 n low) h))) was_down.is_down)

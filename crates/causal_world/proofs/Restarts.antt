@@ -198,10 +198,5 @@ module _ (n f : ℕ) (w : World) (k : WorldInvariant n f w) (who : Pid) (listed 
       not_storage is = omega (arith, low, is)
 
       own : (p : ℕ) (d : Det) → p < n → with_value_at w.rounds.down who.0 false p ≡ false → d.dest.0 ≡ p → deliveries (Restart who listed ∷ w.past) p ≤ d.rsn → w.stored d ≡ true → logs (Restart who listed ∷ w.past) p d ≡ true
-      own p d small still dest next stored = elim (set_at_cases w.rounds.down who.0 false p) [
-        | inl is ↦ or_left _ _ (and_from _ _ (eq-eqb who.0 p (sym is.0)) (owns d (k.reads.own_gathered who.0 r d at (all n not_storage) stored (dest ∙ is.0)) (dest ∙ is.0)))
-        | inr other ↦
-            let differ : (who.0 == p) ≡ false = ne_eqb who.0 p (λ e. other.0 (sym e)) in
-            let same : deliveries (Restart who listed ∷ w.past) p ≡ deliveries w.past p = cond-false (who.0 == p) 0 (deliveries w.past p) differ in
-            or_right _ _ (k.own_logged p d small (sym other.1 ∙ still) dest (subst (λ x. x ≤ d.rsn) same next) stored)
-      ]
+      own p d small still dest next stored =
+          grind (arith, set_at_cases w.rounds.down who.0 false p, eqb_tells who.0 p, owns d, k.reads.own_gathered who.0 r d at (all n not_storage) stored, k.own_logged p d small, still, dest, next, stored)

@@ -55,17 +55,11 @@ module _ (n f : ℕ) (w : World) (p i : ℕ) (new : Packet) (s : IsSentBy n w p 
   dets_sent d = subst (λ (g : ℕ → Option Carrier). DetInvariant (record (det_state_of n w d) { carriers = g })) (λ j q. sym (map_set_at (if_carries d) w.packets i (Some new) q) j) (sent_det d)
 
   lanes_sent : (j : ℕ) (x : Packet) → with_value_at w.packets i (Some new) j ≡ Some x → x.lane ≤ w.rounds.lane x.parcel.from
-  lanes_sent j x at = elim (set_at_cases w.packets i (Some new) j) [
-    | inl is ↦ subst (λ (y : Packet). y.lane ≤ w.rounds.lane y.parcel.from) (some_is new x (sym is.1 ∙ at)) (let lane = s.lane in let from : w.rounds.lane new.parcel.from ≡ w.rounds.lane p = ap w.rounds.lane s.of_log.from in omega (arith, lane, from))
-    | inr other ↦ k.lanes j x (sym other.1 ∙ at)
-  ]
+  lanes_sent j x at = grind (arith, set_at_cases w.packets i (Some new) j, at, s.lane, s.of_log.from, k.lanes j x)
 
   -- an old packet is still there
   still : (j : ℕ) (x : Packet) → w.packets j ≡ Some x → with_value_at w.packets i (Some new) j ≡ Some x
-  still j x at = elim (set_at_cases w.packets i (Some new) j) [
-    | inl is ↦ absurd (let e : None ≡ Some x = sym s.free ∙ ap w.packets (sym is.0) ∙ at in cc)
-    | inr other ↦ other.1 ∙ at
-  ]
+  still j x at = grind (arith, set_at_cases w.packets i (Some new) j, s.free, at)
 
   stores_sent : (next : List Entry) → ((d : Det) → is_stable next d ≡ is_stable w.past d) → StoresRight (sent next)
   stores_sent next same = record {
