@@ -5,7 +5,7 @@ use Rattle.std.proofs.lemmas.Bool.{both_ways, or_cases, or_left, or_right, and_f
 use Rattle.causal_name.specs.declared.Det.{Det}
 use Rattle.causal_name.specs.Names.{same_det}
 use Rattle.causal_trace.specs.Past.{is_stable}
-use Rattle.causal_rounds.specs.Rounds.{with_value_at, Round}
+use Rattle.causal_rounds.specs.Rounds.{Round}
 use Rattle.causal_rounds.proofs.Lemmas.RoundSteps.{set_at_cases, still_true}
 use Rattle.causal_world.specs.World.{Packet, World}
 use Rattle.causal_nodes.specs.Node.{NodeLog, NodeRound}

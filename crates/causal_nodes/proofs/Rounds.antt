@@ -10,7 +10,7 @@ use Rattle.causal_trace.specs.declared.entry.Entry.TheVariants.{Crash, Restart}
 use Rattle.causal_trace.specs.Past.{list_has, is_down, logs, is_stable, deliveries}
 use Rattle.causal_steps.proofs.Lemmas.Reachable.{reachable_safe}
 use Rattle.causal_rounds.specs.Rounds.{with_value_at, Round, number, new_round}
-use Rattle.causal_rounds.proofs.Lemmas.RoundSteps.{set_at_cases, set_at_here, set_at_away, number_up, number_down, crash_number, number_risen}
+use Rattle.causal_rounds.proofs.Lemmas.RoundSteps.{set_at_cases, set_at_here, set_at_away, number_down, crash_number, number_risen}
 use Rattle.causal_world.specs.World.{Packet, World, GatheredFrom, volatile_of}
 use Rattle.causal_world.specs.Steps as world
 use Rattle.causal_world.specs.Reachable.{IsReachableWorld, next_world}

@@ -1,8 +1,8 @@
 -- A process delivers a message.
-use Rattle.std.proofs.Common.{ℕ, suc, ◌+◌, ◌≡◌, ◌<◌, ◌≤◌, inl, inr, Bool, true, false, cond, not, ◌&&◌, ◌||◌, nat_lt, List, ◌∷◌, Some, None, refl, sym, ap, subst, ◌∙◌, arith}
+use Rattle.std.proofs.Common.{ℕ, suc, ◌≡◌, ◌<◌, ◌≤◌, inl, inr, Bool, true, false, not, ◌&&◌, ◌||◌, nat_lt, List, ◌∷◌, Some, None, refl, sym, ap, subst, ◌∙◌, arith}
 use Rattle.std.specs.Prelude.{◌⊎◌, ◌==◌}
 use Rattle.std.specs.Option.{option_map}
-use Rattle.std.proofs.lemmas.Bool.{both_ways, or_cases, or_left, or_right, and_from, eq-eqb, ne_eqb, cond-true, lt-ltb, false_from_ne_true, cases_Bool}
+use Rattle.std.proofs.lemmas.Bool.{both_ways, or_cases, or_left, or_right, and_from, cond-true, lt-ltb, false_from_ne_true, cases_Bool}
 use Rattle.std.proofs.lemmas.Bool.Decides.{eqb_tells}
 use Rattle.causal_name.specs.declared.Pid.{Pid}
 use Rattle.causal_name.specs.declared.MsgName.{MsgName}
@@ -18,7 +18,6 @@ use Rattle.causal_steps.specs.Reachable.{next_state}
 use Rattle.causal_rounds.specs.Rounds.{with_value_at}
 use Rattle.causal_rounds.specs.Gathered.{DetState, DetInvariant, take, deliver_again, deliver_as_new}
 use Rattle.causal_rounds.specs.Acceptance.{by_floor}
-use Rattle.causal_rounds.proofs.Lemmas.RoundSteps.{set_at_cases}
 use Rattle.causal_rounds.proofs.Lemmas.GatheredSteps.{det_step_preserves}
 use Rattle.causal_world.specs.World.{Packet, World, carrier_of, if_carries, volatile_of, det_state_of}
 use Rattle.causal_world.specs.Invariant.{WorldInvariant}

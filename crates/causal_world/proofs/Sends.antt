@@ -1,6 +1,6 @@
 -- A process sends something.
-use Rattle.std.proofs.Common.{ℕ, ◌≡◌, ◌<◌, ◌≤◌, inl, inr, Bool, true, false, ◌&&◌, ◌||◌, nat_lt, List, ◌∷◌, length, Option, Some, None, refl, sym, ap, subst, ◌∙◌, arith}
-use Rattle.std.specs.Prelude.{◌⊎◌, ◌==◌}
+use Rattle.std.proofs.Common.{ℕ, ◌≡◌, ◌<◌, ◌≤◌, inl, inr, true, false, List, ◌∷◌, length, Option, Some, None, refl, sym, ap, subst, ◌∙◌, arith}
+use Rattle.std.specs.Prelude.{◌⊎◌}
 use Rattle.std.proofs.lemmas.Bool.{and_from, or_left, cond-true, cond-false, lt-ltb, cases_Bool}
 use Rattle.causal_name.specs.declared.Pid.{Pid}
 use Rattle.causal_name.specs.declared.Det.{Det}
@@ -12,7 +12,7 @@ use Rattle.causal_steps.specs.Steps.{IsSendStep, silent, sends, emits}
 use Rattle.causal_steps.specs.Reachable.{next_state}
 use Rattle.causal_rounds.specs.Rounds.{with_value_at, Round}
 use Rattle.causal_rounds.specs.Gathered.{Carrier, DetState, DetInvariant, emit}
-use Rattle.causal_rounds.proofs.Lemmas.RoundSteps.{set_at_cases, some_is}
+use Rattle.causal_rounds.proofs.Lemmas.RoundSteps.{set_at_cases}
 use Rattle.causal_rounds.proofs.Lemmas.GatheredSteps.{det_step_preserves}
 use Rattle.causal_world.specs.World.{Packet, World, GatheredFrom, carrier_of, if_carries, volatile_of, det_state_of}
 use Rattle.causal_world.specs.Steps.{IsSentBy}
