@@ -2,15 +2,14 @@
 use Rattle.std.proofs.Common.{ℕ, zero, suc, ◌≡◌, ◌∙◌, ◌==◌, ◌<◌, ◌≤◌, ◌+◌, Bool, true, false, not, ◌&&◌, ◌||◌, List, [], ◌∷◌, length, max, Option, Some, None, inl, inr, replicate, refl, sym, ap, subst, arith}
 use Rattle.std.specs.Prelude.{◌⊎◌, nat_lt, if◌then◌else◌, slice_set}
 use Rattle.std.specs.Cmp.{nat_cmp_total}
-use Rattle.std.specs.Ordering.{nat_cmp, is_eq}
+use Rattle.std.specs.Ordering.{nat_cmp}
 use Rattle.std.specs.FinMap as fin
 use Rattle.std.specs.FinSet as set
-use Rattle.std.proofs.lemmas.Bool.{false≢true, or_cases, or_left, or_right, and_from, eqb-true, eq-eqb, both_ways, ltb-true, not-false}
+use Rattle.std.proofs.lemmas.Bool.{false≢true, or_cases, or_left, or_right, and_from, eqb-true, eq-eqb, ne_eqb, both_ways, ltb-true, not-false, or_parts}
 use Rattle.std.proofs.lemmas.Bool.Decides.{eqb_tells}
 use Rattle.causal_name.specs.declared.Pid.{Pid}
 use Rattle.causal_name.specs.declared.MsgName.{MsgName}
 use Rattle.causal_name.specs.declared.Det.{Det}
-use Rattle.causal_name.specs.Names.{same_det}
 use Rattle.causal_name.proofs.Lemmas.DetOrder.{nat_ties}
 use Rattle.causal_trace.specs.declared.entry.Entry.TheVariants.{Stable, Restart}
 use Rattle.causal_trace.specs.Past.{list_has}
@@ -22,6 +21,7 @@ use Rattle.causal_log.proofs.Lemmas.Ascents.{map_ascends}
 use Rattle.causal_protocol.specs.MemoryQueries.{has_entry, log_knows_holder, log_knows_stable}
 use Rattle.causal_rounds.specs.Rounds.{with_value_at}
 use Rattle.causal_node.specs.declared.node_answer.RoundReply.TheVariants as Replies
+use Rattle.causal_node.specs.declared.node.Identity.{Identity}
 use Rattle.causal_node.specs.NodeStates.{NodeState, Recovery, RoundState, floor_of}
 use Rattle.causal_node.specs.NodeRecovery.{ask_fault, node_restart_fault, new_round_state, with_recovery, map_round, with_log_of, without_awaited, after_not_up, after_number, raised_at, node_after_stored, node_after_read, after_restart_at, restart_log_of, opened_node, processes_below}
 use Rattle.causal_node.specs.NodeAnswers.{answer_fault, node_after_answer, after_answer_at, knows_number, round_reply}
@@ -43,25 +43,18 @@ use Rattle.causal_calls.proofs.UpCalls.{replies_not_up}
 pub is_below : (n q : ℕ) → q < n → set.contains (processes_below n) q ≡ true
 unfolding processes_below
 is_below zero q low = absurd (omega (arith, low))
-is_below (suc n) q low = set.contains-insert nat_cmp_total (processes_below n) n q ∙ is_last_or (eqb_tells q n) (λ apart. is_below n q (omega (arith, low, apart)))
-  where
-    is_last_or : ((q == n ≡ true) × (q ≡ n)) ⊎ ((q == n ≡ false) × (q ≡ n → ⊥)) → ((q ≡ n → ⊥) → set.contains (processes_below n) q ≡ true) → (is_eq (nat_cmp q n) || set.contains (processes_below n) q) ≡ true
-    is_last_or (inl is) rest = or_left _ _ (sym (nat_ties q n) ∙ is.0)
-    is_last_or (inr other) rest = or_right _ _ (rest other.1)
-
--- all others but one were awaited
-pub still_awaited : (n me q : ℕ) → q < n → (q ≡ me → ⊥) → set.contains (set.remove (processes_below n) me) q ≡ true
-still_awaited n me q low apart =
-    set.contains-remove nat_cmp_total (processes_below n) me q
-    ∙ by (eqb_tells q me)
-  where
-    by : ((q == me ≡ true) × (q ≡ me)) ⊎ ((q == me ≡ false) × (q ≡ me → ⊥)) → (not (is_eq (nat_cmp q me)) && set.contains (processes_below n) q) ≡ true
-    by (inl is) = absurd (apart is.1)
-    by (inr other) = and_from _ _ (ap not (sym (nat_ties q me) ∙ other.0)) (is_below n q low)
+is_below (suc n) q low = set.contains-insert nat_cmp_total (processes_below n) n q ∙ elim (eqb_tells q n) [
+  | inl is ↦ or_left _ _ (sym (nat_ties q n) ∙ is.0)
+  | inr other ↦ or_right _ _ (is_below n q (omega (arith, low, other.1)))
+]
 
 -- after one is not awaited any more
 pub removed : (awaited : set.FinSet nat_cmp) (q p : ℕ) → set.contains (set.remove awaited q) p ≡ (not (p == q) && set.contains awaited p)
 removed awaited q p = set.contains-remove nat_cmp_total awaited q p ∙ ap (λ b. not b && set.contains awaited p) (sym (nat_ties p q))
+
+-- all others but one were awaited
+pub still_awaited : (n me q : ℕ) → q < n → (q ≡ me → ⊥) → set.contains (set.remove (processes_below n) me) q ≡ true
+still_awaited n me q low apart = removed (processes_below n) me q ∙ and_from _ _ (ap not (ne_eqb q me apart)) (is_below n q low)
 
 -- nobody is awaited
 pub awaits_none : (awaited : set.FinSet nat_cmp) → nat_lt 0 (set.len awaited) ≡ false → (q : ℕ) → set.contains awaited q ≡ false
@@ -69,18 +62,10 @@ awaits_none awaited none q = ap (λ s. set.contains s q) (set.empty_of_len await
 
 -- one process more has replied
 heard_more : (heard : ℕ → Bool) (awaited : set.FinSet nat_cmp) (q p : ℕ) → (set.contains awaited p ≡ false → heard p ≡ true) → set.contains (set.remove awaited q) p ≡ false → with_value_at heard q true p ≡ true
-heard_more heard awaited q p before gone = by (p == q) refl
-  where
-    by : (b : Bool) → (p == q) ≡ b → (if b then true else heard p) ≡ true
-    by true is = refl
-    by false is = before (sym (ap (λ b. not b && set.contains awaited p) is) ∙ sym (removed awaited q p) ∙ gone)
+heard_more heard awaited q p before gone = grind (arith, removed awaited q p)
 
 still_heard : (heard : ℕ → Bool) (q p : ℕ) → heard p ≡ true → with_value_at heard q true p ≡ true
-still_heard heard q p h = by (p == q)
-  where
-    by : (b : Bool) → (if b then true else heard p) ≡ true
-    by true = refl
-    by false = h
+still_heard heard q p h = grind arith
 
 now_heard : (heard : ℕ → Bool) (q : ℕ) → with_value_at heard q true q ≡ true
 now_heard heard q = ap (λ b. if b then true else heard q) (eq-eqb q q refl)
@@ -92,6 +77,18 @@ set_number xs q value p low (inl same) true within = inl (same.1, subst (λ m. n
 set_number xs q value p low (inl same) false within = inl (same.1, subst (λ m. numbers xs m ≤ value) (sym same.1) low)
 set_number xs q value p low (inr other) true within = inr (other.1, set_other xs q value p other.1)
 set_number xs q value p low (inr other) false within = inr (other.1, refl)
+
+-- a node that is opened after a crash
+pub reopened : (who : Identity) (lane : ℕ) → Represents (opened_node who (lane + 1)) (down_node (fallen_node lane))
+reopened who lane = subst (λ (b : Bool). RepresentsAt (opened_node who (lane + 1)) (if b then None else Some None) (down_node (fallen_node lane))) (sym (ne_eqb (lane + 1) 0 (λ e. omega (arith, e)))) (
+  fallen_node lane,
+  refl,
+  record {
+    lane = refl;
+    told = λ q apart. omega (arith, set_other (replicate who.processes 0) who.me.0 (lane + 1) q apart, zeros who.processes q);
+    round = tt;
+  },
+)
 
 module _ (position : ℕ) (s : NodeState) (k : IsNodeState s) where
   abbrev me : Pid
@@ -185,8 +182,7 @@ module _ (position : ℕ) (s : NodeState) (k : IsNodeState s) where
                     let here_is : with_value_at x.told q.0 number p ≡ number = ap (λ (b : Bool). if b then number else x.told p) (eq-eqb p q.0 same.0) in
                     omega (arith, same.1, enough, here_is)
                 | inr elsewhere ↦
-                    let off : (p == q.0) ≡ false = elim (eqb_tells p q.0) [ inl is ↦ absurd (elsewhere.0 is.1) | inr not_it ↦ not_it.0 ] in
-                    let away : with_value_at x.told q.0 number p ≡ x.told p = ap (λ (b : Bool). if b then number else x.told p) off in
+                    let away : with_value_at x.told q.0 number p ≡ x.told p = ap (λ (b : Bool). if b then number else x.told p) (ne_eqb p q.0 elsewhere.0) in
                     let old = is_down.told p other in
                     omega (arith, elsewhere.1, away, old)
               ];
@@ -199,19 +195,8 @@ module _ (position : ℕ) (s : NodeState) (k : IsNodeState s) where
     opens_again = record {
       next = down_node (fallen_node x.lane);
       step = give_up_row x;
-      represents = subst (λ (o : Recovery). RepresentsAt (opened_node s.identity s.lane) o (down_node (fallen_node x.lane))) (ap {B = Recovery} (λ (b : Bool). if b then None else Some None) (sym not_first)) (
-        fallen_node x.lane,
-        refl,
-        record {
-          lane = is_down.lane;
-          told = λ q apart. omega (arith, set_other (replicate n 0) me.0 s.lane q apart, zeros n q);
-          round = tt;
-        },
-      );
+      represents = subst (λ m. Represents (opened_node s.identity m) (down_node (fallen_node x.lane))) (sym is_down.lane) (reopened s.identity x.lane);
     }
-      where
-        not_first : (s.lane == 0) ≡ false
-        not_first = elim (eqb_tells s.lane 0) [ inl is ↦ absurd (omega (arith, is.1, is_down.lane)) | inr other ↦ other.0 ]
 
   module _ (r : RoundState) (gathers : s.recovery ≡ Some (Some r)) (x : DownNode) (is_down : IsDownView s (Some r) x) where
     abbrev there : Node
@@ -307,25 +292,15 @@ module _ (position : ℕ) (s : NodeState) (k : IsNodeState s) where
                   view = fits.view;
                   heard = fits.heard;
                   read = fits.read;
-                  has = λ d. ap (λ b. b || same_det d det) (fits.has d) ∙ ap (λ b. has_entry d r.log || b) (plain (same_det d det)) ∙ sym (one_entry r.log det (stable_and_held_by me) d);
-                  holder = λ d q apart. fits.holder d q apart ∙ unheld (log_knows_holder d q r.log) (same_det d det) (q == me.0) (elim (eqb_tells q me.0) [ inl is ↦ absurd (apart is.1) | inr other ↦ other.0 ])
-                      ∙ ap (λ b. log_knows_holder d q r.log || ((same_det d det && b) || false)) (sym (one_holds me.0 q)) ∙ sym (one_holder r.log det (stable_and_held_by me) d q);
+                  has = λ d. grind (arith, fits.has d, one_entry r.log det (stable_and_held_by me) d);
+                  holder = λ d q apart. grind (arith, fits.holder d q apart, ne_eqb q me.0 apart, one_holds me.0 q, one_holder r.log det (stable_and_held_by me) d q);
                   own = λ d h. or_left _ _ (fits.own d h);
-                  stable = λ d. ap (λ b. b || same_det d det) (fits.stable d) ∙ marked_too (log_knows_stable d r.log) (same_det d det) ∙ sym (one_stable r.log det (stable_and_held_by me) d);
+                  stable = λ d. grind (arith, fits.stable d, one_stable r.log det (stable_and_held_by me) d);
                 },
               );
             },
           );
         }))
-      where
-        plain : (b : Bool) → b ≡ (b || false)
-        plain b = grind arith
-
-        unheld : (a b e : Bool) → e ≡ false → a ≡ (a || ((b && e) || false))
-        unheld a b e h = grind (arith, h)
-
-        marked_too : (a b : Bool) → (a || b) ≡ (a || ((b && true) || false))
-        marked_too a b = grind arith
 
     pub finishes : (dets : Det → Bool) → ((d : Det) → dets d ≡ true → has_entry d r.log ≡ true)
         → IsStepOf position s there (Some (stored_packet me.0 r.name dets)) (with_recovery s (map_round node_after_read s.recovery)) [] []
@@ -346,10 +321,7 @@ module _ (position : ℕ) (s : NodeState) (k : IsNodeState s) where
 
     -- the log of a restart is the theory's
     restarted_has : (d : Det) → has_entry d (restart_log_of me r.log) ≡ has_entry d r.log
-    restarted_has d = held_has me d (fin.keys r.log) r.log ∙ ap (λ b. has_entry d r.log || b) (keys_logged r.log d) ∙ twice (has_entry d r.log)
-      where
-        twice : (b : Bool) → (b || b) ≡ b
-        twice b = grind arith
+    restarted_has d = grind (arith, held_has me d (fin.keys r.log) r.log, keys_logged r.log d)
 
     listed_is : (d : Det) → list_has (fin.keys (restart_log_of me r.log)) d ≡ has_entry d r.log
     listed_is d = keys_logged (restart_log_of me r.log) d ∙ restarted_has d
@@ -361,17 +333,11 @@ module _ (position : ℕ) (s : NodeState) (k : IsNodeState s) where
         ∙ by (eqb_tells q me.0)
       where
         mine : (knows has gathered e : Bool) → (knows ≡ true → has ≡ true) → (gathered ≡ true → has ≡ true) → e ≡ true → (knows || (has && e)) ≡ ((has && e) || gathered)
-        mine knows true gathered e a b is = grind (arith, is)
-        mine true false gathered e a b is = absurd (false≢true (a refl))
-        mine false false true e a b is = absurd (false≢true (b refl))
-        mine false false false e a b is = refl
-
-        others : (knows has gathered e : Bool) → gathered ≡ knows → e ≡ false → (knows || (has && e)) ≡ ((has && e) || gathered)
-        others knows has gathered e same is = grind (arith, same, is)
+        mine knows has gathered e a b is = grind arith
 
         by : ((q == me.0 ≡ true) × (q ≡ me.0)) ⊎ ((q == me.0 ≡ false) × (q ≡ me.0 → ⊥)) → (log_knows_holder d q r.log || (y.gathered.has d && q == me.0)) ≡ ((y.gathered.has d && q == me.0) || y.gathered.holder d q)
         by (inl is) = mine (log_knows_holder d q r.log) (y.gathered.has d) (y.gathered.holder d q) (q == me.0) (λ h. fits.has d ∙ entry_of_holder r.log d q h) (λ h. fits.own d (subst (λ p. y.gathered.holder d p ≡ true) is.1 h)) is.0
-        by (inr other) = others (log_knows_holder d q r.log) (y.gathered.has d) (y.gathered.holder d q) (q == me.0) (fits.holder d q other.1) other.0
+        by (inr other) = grind (arith, fits.holder d q other.1, other.0)
 
     restarted_log : (theory.up_after_restart me.0 (x.lane + 1) y).log ≡ log_view (restart_log_of me r.log)
     restarted_log = same_log _ _ (λ d. fits.has d ∙ sym (restarted_has d)) (λ d q. sym (restarted_holder d q)) (λ d. fits.stable d ∙ sym (held_stable me d (fin.keys r.log) r.log))
@@ -380,20 +346,14 @@ module _ (position : ℕ) (s : NodeState) (k : IsNodeState s) where
         → IsStepOf position s there None (after_restart_at s s.recovery reserved) [] (Restart me (fin.keys (after_restart_at s s.recovery reserved).memory.log) ∷ [])
     restarts reserved legal =
         let done = or_else_none _ _ None (sym (ap node_restart_fault gathers) ∙ legal) in
-        let none = no_left _ _ done.0 in
-        let read = not-false _ (no_right _ _ done.0) in
+        let none = (or_parts _ _ done.0).0 in
+        let read = not-false _ (or_parts _ _ done.0).1 in
         subst (λ (o : Recovery). IsStepOf position s there None (after_restart_at s o reserved) [] (Restart me (fin.keys (after_restart_at s o reserved).memory.log) ∷ [])) (sym gathers) (record {
           next = up_node (theory.up_after_restart me.0 (x.lane + 1) y);
           step = restart_row x y (fin.keys (restart_log_of me r.log)) (map_ascends (restart_log_of me r.log)) is_down.round.1 (λ q low apart. by q low apart none read (eqb_tells q n)) (λ d. listed_is d ∙ sym (fits.has d));
           represents = λ i. up_node (record { lane = sym is_down.lane i; log = restarted_log i; floors = fits.view i; sent = 0; received = [] });
         })
       where
-        no_left : (a b : Bool) → (a || b) ≡ false → a ≡ false
-        no_left a b h = grind (arith, h)
-
-        no_right : (a b : Bool) → (a || b) ≡ false → b ≡ false
-        no_right a b h = grind (arith, h)
-
         by : (q : ℕ) → q < suc n → (q ≡ me.0 → ⊥) → nat_lt 0 (set.len r.awaited) ≡ false → r.read ≡ true → ((q == n ≡ true) × (q ≡ n)) ⊎ ((q == n ≡ false) × (q ≡ n → ⊥)) → y.heard q ≡ true
         by q low apart none read (inl is) = ap y.heard is.1 ∙ fits.read read
         by q low apart none read (inr other) = all_heard none q (omega (arith, low, other.1)) apart

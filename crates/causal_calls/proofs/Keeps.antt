@@ -4,7 +4,9 @@ use Rattle.std.specs.Prelude.{nat_lt, if◌then◌else◌, slice_set}
 use Rattle.std.specs.List.{list_any}
 use Rattle.std.specs.FinMap as fin
 use Rattle.std.specs.FinSet as set
-use Rattle.std.proofs.lemmas.Bool.{false≢true, or_cases, or_left, or_right, and_parts, and_from, eqb-true, eq-eqb, both_ways, not-false}
+use Rattle.std.proofs.Math.Bool.{or-false}
+use Rattle.std.proofs.lemmas.Bool.{or_cases, or_left, or_right, and_parts, and_from, eqb-true, eq-eqb, both_ways, not-false}
+use Rattle.std.proofs.lemmas.List.{length-set}
 use Rattle.std.proofs.lemmas.List.Folds.{list_any-append}
 use Rattle.causal_name.specs.declared.Pid.{Pid}
 use Rattle.causal_name.specs.declared.MsgName.{MsgName}
@@ -33,7 +35,7 @@ use Rattle.causal_calls.proofs.Lemmas.LogViews.{delivered_has, delivered_holder,
 use Rattle.causal_protocol.proofs.Lemmas.LogMembers.{none_holds}
 use Rattle.causal_calls.proofs.Lemmas.LogChanges.{learned, forgotten}
 use Rattle.causal_calls.proofs.Lemmas.Refusals.{or_else_none}
-use Rattle.causal_calls.proofs.Lemmas.Numbers.{set_other, set_length, raised_numbers, raised_length}
+use Rattle.causal_calls.proofs.Lemmas.Numbers.{set_other, raised_numbers, raised_length}
 use Rattle.causal_calls.proofs.Names.{has_names, inserted_name}
 use Rattle.causal_calls.proofs.DownCalls.{removed}
 
@@ -71,34 +73,21 @@ module _ (s : NodeState) (k : IsNodeState s) where
           | inr old ↦ or_right _ _ (k.own d old)
         ];
         received = λ m. has_names _ m ∙ inserted_name s.received_names name m ∙ ap (λ b. b || same_message m name) (sym (has_names s.received_names m) ∙ k.received m)
-            ∙ sym (list_any-append (same_message m) s.memory.received (name ∷ []) ∙ ap (λ b. list_any (same_message m) s.memory.received || b) (alone (same_message m name)));
+            ∙ sym (list_any-append (same_message m) s.memory.received (name ∷ []) ∙ ap (λ b. list_any (same_message m) s.memory.received || b) (or-false (same_message m name)));
         recovery = k.recovery;
       }
-    where
-      alone : (b : Bool) → (b || false) ≡ b
-      alone b = grind arith
-
-  mark_holder : (det d : Det) (q : ℕ) → log_knows_holder d q (after_mark s.memory.log det) ≡ log_knows_holder d q s.memory.log
-  mark_holder det d q = ap (λ (log : NodeLog). log.holder d q) (marked s.memory.log det)
-
-  mark_has : (det d : Det) → has_entry d (after_mark s.memory.log det) ≡ has_entry d s.memory.log
-  mark_has det d = ap (λ (log : NodeLog). log.has d) (marked s.memory.log det)
-
-  pub marked_stable : (det : Det) → s.recovery ≡ None → IsNodeState (node_after_stored s det s.recovery)
-  marked_stable det up = subst (λ (o : Recovery). IsNodeState (node_after_stored s det o)) (sym up) (record {
-    process = k.process;
-    floors = k.floors;
-    own_floor = k.own_floor;
-    holders = λ d q h. k.holders d q (sym (mark_holder det d q) ∙ h);
-    own = λ d h. mark_holder det d me.0 ∙ k.own d (sym (mark_has det d) ∙ h);
-    received = k.received;
-    recovery = k.recovery;
-  })
 
   -- a state with another log, in which the process is a holder of what it logs
   with_other_log : (change : LogMap → LogMap) → HasHoldersBelow n (change s.memory.log)
       → ((d : Det) → has_entry d (change s.memory.log) ≡ true → log_knows_holder d me.0 (change s.memory.log) ≡ true) → IsNodeState (with_memory s (with_log change s.memory) s.bodies)
   with_other_log change holders own = record { process = k.process; floors = k.floors; own_floor = k.own_floor; holders = holders; own = own; received = k.received; recovery = k.recovery }
+
+  pub marked_stable : (det : Det) → s.recovery ≡ None → IsNodeState (node_after_stored s det s.recovery)
+  marked_stable det up =
+      let is = marked s.memory.log det in
+      subst (λ (o : Recovery). IsNodeState (node_after_stored s det o)) (sym up) (with_other_log (λ log. after_mark log det)
+      (λ d q h. k.holders d q (sym (ap (λ (x : NodeLog). x.holder d q) is) ∙ h))
+      (λ d h. ap (λ (x : NodeLog). x.holder d me.0) is ∙ k.own d (sym (ap (λ (x : NodeLog). x.has d) is) ∙ h)))
 
   pub acknowledged : (lane : ℕ) (from : Pid) (items : List Item) → NamesProcesses n (acknowledgement_packet (acknowledgement_with from lane me items)) → IsNodeState (after_acknowledgement s items)
   acknowledged lane from items names =
@@ -132,15 +121,12 @@ module _ (s : NodeState) (k : IsNodeState s) where
       at_recovery same None is = record {
         process = k.process;
         floors = raised_length s.floors view size ∙ k.floors;
-        own_floor = raised_numbers s.floors view size me.0 ∙ (λ i. max (k.own_floor i) (same i)) ∙ twice s.lane;
+        own_floor = omega (arith, raised_numbers s.floors view size me.0, k.own_floor, same);
         holders = k.holders;
         own = k.own;
         received = k.received;
         recovery = is;
       }
-        where
-          twice : (a : ℕ) → max a a ≡ a
-          twice a = omega arith
       at_recovery same (Some r) is = with_other (Some None) tt
 
       by : (b : Bool) → knows_number s view ≡ b → IsNodeState (if b then after_answer_at s view s.recovery else s)
@@ -158,10 +144,7 @@ module _ (s : NodeState) (k : IsNodeState s) where
     changed change is = with_other (map_round change s.recovery) (subst (λ o. IsRecoveryState s.identity (map_round change o)) (sym gathers) is)
 
     not_mine : (q : ℕ) → set.contains (set.remove r.awaited q) me.0 ≡ false
-    not_mine q = removed r.awaited q me.0 ∙ ap (λ b. not (me.0 == q) && b) kept.1 ∙ nothing (not (me.0 == q))
-      where
-        nothing : (b : Bool) → (b && false) ≡ false
-        nothing b = grind arith
+    not_mine q = grind (arith, removed r.awaited q me.0, kept.1)
 
     pub log_taken : (q : Pid) (log : LogMap) → HasHoldersBelow n log → IsNodeState (with_recovery s (map_round (λ r. with_log_of r q.0 log) s.recovery))
     log_taken q log names = changed (λ r. with_log_of r q.0 log) (λ d p h. elim (or_cases _ _ (sym (united_holders r.log log d p) ∙ h)) [ inl old ↦ kept.0 d p old | inr new ↦ names d p new ], not_mine q.0)
@@ -173,7 +156,7 @@ module _ (s : NodeState) (k : IsNodeState s) where
     number_floors : (q : Pid) (number : ℕ) → (q.0 ≡ me.0 → ⊥) → (b : Bool) → IsNodeState (record s { floors = if b then slice_set s.floors q.0 (max number (floor_of s.floors q)) else s.floors; recovery = Some None })
     number_floors q number other true = record {
       process = k.process;
-      floors = set_length s.floors q.0 _ ∙ k.floors;
+      floors = length-set s.floors q.0 _ ∙ k.floors;
       own_floor = set_other s.floors q.0 _ me.0 (λ e. other (sym e)) ∙ k.own_floor;
       holders = k.holders;
       own = k.own;
@@ -198,10 +181,7 @@ module _ (s : NodeState) (k : IsNodeState s) where
         holds : HasHoldersBelow n (after_learn r.log det (stable_and_held_by me))
         holds d q h = elim (or_cases _ _ (sym (one_holder r.log det (stable_and_held_by me) d q) ∙ h)) [
           | inl old ↦ kept.0 d q old
-          | inr new ↦ elim (or_cases _ _ new) [
-            | inl here ↦ subst (λ p. p < n) (sym (eqb-true q me.0 (sym (one_holds me.0 q) ∙ (and_parts _ _ here).1))) k.process
-            | inr none ↦ absurd (false≢true none)
-          ]
+          | inr new ↦ subst (λ p. p < n) (sym (eqb-true q me.0 (sym (one_holds me.0 q) ∙ (and_parts _ _ (sym (or-false _) ∙ new)).1))) k.process
         ]
 
     pub read_finished : IsNodeState (with_recovery s (map_round node_after_read s.recovery))

@@ -8,6 +8,7 @@ use Rattle.std.specs.Ordering.{nat_cmp, is_eq, ordering_then, match_ordering}
 use Rattle.std.specs.FinMap as fin
 use Rattle.std.specs.declared.cmp.Ordering.{Ordering}
 use Rattle.std.specs.declared.cmp.Ordering.TheVariants.{Less, Equal, Greater}
+use Rattle.std.proofs.Math.Bool.{or_comm}
 use Rattle.std.proofs.lemmas.Bool.{and_parts, eqb-true, eq-eqb, both_ways, not-false}
 use Rattle.causal_name.specs.declared.Pid.{Pid}
 use Rattle.causal_name.specs.declared.MsgName.{MsgName}
@@ -35,8 +36,7 @@ message_is a b h =
 
 then_eq : (a b : Ordering) → is_eq (ordering_then a b) ≡ (is_eq a && is_eq b)
 then_eq Less b = refl
-then_eq Equal b = refl
-then_eq Greater b = refl
+then_eq _ b = refl
 
 pub message_ties : (a b : MsgName) → is_at (message_cmp a) b ≡ same_message a b
 message_ties a b = then_eq (pid_cmp a.source b.source) (nat_cmp a.ssn b.ssn) ∙ (λ i. sym (nat_ties a.source.0 b.source.0) i && sym (nat_ties a.ssn b.ssn) i)
@@ -50,22 +50,11 @@ pub inserted_name : (names : List MsgName) (name m : MsgName) → list_any (same
 inserted_name [] name m = grind arith
 inserted_name (x ∷ xs) name m = by (message_cmp name x) refl (inserted_name xs name m)
   where
-    twice : (a b : Bool) → (a || b) ≡ ((a || b) || a)
-    twice a b = grind arith
-
-    later : (a b c : Bool) → (a || (b || c)) ≡ ((a || b) || c)
-    later a b c = grind arith
-
-    first : (a b c : Bool) → (c || (a || b)) ≡ ((a || b) || c)
-    first a b c = grind arith
-
     by : (o : Ordering) → message_cmp name x ≡ o → list_any (same_message m) (insert_key message_cmp xs name) ≡ (list_any (same_message m) xs || same_message m name)
         → list_any (same_message m) (match_ordering o (name ∷ x ∷ xs) (x ∷ xs) (x ∷ insert_key message_cmp xs name)) ≡ ((same_message m x || list_any (same_message m) xs) || same_message m name)
-    by Less is rest = first (same_message m x) (list_any (same_message m) xs) (same_message m name)
-    by Equal is rest =
-        let same = message_is name x (sym (message_ties name x) ∙ ap is_eq is) in
-        twice (same_message m x) (list_any (same_message m) xs) ∙ ap (λ k. (same_message m x || list_any (same_message m) xs) || same_message m k) (sym same)
-    by Greater is rest = ap (λ b. same_message m x || b) rest ∙ later (same_message m x) (list_any (same_message m) xs) (same_message m name)
+    by Less is rest = or_comm (same_message m name) _
+    by Equal is rest = grind (arith, ap (same_message m) (message_is name x (sym (message_ties name x) ∙ ap is_eq is)))
+    by Greater is rest = grind (arith, rest)
 
 -- the message that is named for the next delivery is the one that is delivered
 module _ (me : Pid) (m : Memory) (name : MsgName) (single : HasLogSingleSlots m.log) (d : Det) (has : has_entry d m.log ≡ true) (mine : d.dest ≡ me) (next : d.rsn ≡ length m.received) where

@@ -1,6 +1,6 @@
 -- A network of the theory represents each system that calls of nodes reach, and so the system is safe.
-use Rattle.std.proofs.Common.{ℕ, zero, suc, ◌≡◌, ◌∙◌, ◌==◌, ◌<◌, ◌≤◌, ◌+◌, Bool, true, false, ◌||◌, List, [], ◌∷◌, ◌++◌, length, Option, Some, None, is_some, inl, inr, replicate, refl, sym, ap, subst, arith}
-use Rattle.std.specs.Prelude.{◌⊎◌, if◌then◌else◌, slice_set}
+use Rattle.std.proofs.Common.{ℕ, ◌≡◌, ◌∙◌, ◌==◌, ◌<◌, ◌+◌, Bool, true, false, List, [], ◌∷◌, ◌++◌, length, Option, Some, None, is_some, inl, inr, replicate, refl, sym, ap, subst}
+use Rattle.std.specs.Prelude.{◌⊎◌, if◌then◌else◌}
 use Rattle.std.proofs.lemmas.Bool.Decides.{eqb_tells}
 use Rattle.causal_name.specs.declared.Pid.{Pid}
 use Rattle.causal_name.specs.declared.Det.{Det}
@@ -10,14 +10,12 @@ use Rattle.causal_trace.specs.declared.entry.Entry.{Entry}
 use Rattle.causal_trace.specs.declared.entry.Entry.TheVariants.{Crash}
 use Rattle.causal_rounds.specs.Rounds.{with_value_at}
 use Rattle.causal_protocol.specs.MemoryQueries.{has_entry}
-use Rattle.causal_world.specs.World.{Packet}
 use Rattle.causal_node.specs.declared.node.Identity.{Identity}
 use Rattle.causal_node.specs.NodeStates.{NodeState, Recovery}
 use Rattle.causal_node.specs.NodeRecovery.{opened_node}
 use Rattle.causal_nodes.specs.Node.{Node, up_node, down_node, is_node_down}
-use Rattle.causal_nodes.specs.Packets.{Sent, write_packet, written_packet, read_packet, stored_packet, WasSent, WasTaken}
+use Rattle.causal_nodes.specs.Packets.{Sent, WasSent, WasTaken}
 use Rattle.causal_nodes.specs.NodeSteps.{NodeStep, fallen_node}
-use Rattle.causal_nodes.specs.NodeSteps as theory
 use Rattle.causal_nodes.specs.Network.{Network, HasFreshName, step_event, crash_event, store_event, read_event, IsNewNode, IsReachableNetwork, new_network, next_network, in_log, NodesAreSafe, NodesShareNoSlot}
 use Rattle.causal_calls.specs.Views.{up_view, numbers, RepresentsAt, Represents, IsNodeState}
 use Rattle.causal_calls.specs.Calls.{NodeCall}
@@ -27,6 +25,7 @@ use Rattle.causal_calls.specs.Systems as system
 use Rattle.causal_protocol.proofs.Lemmas.LogMembers.{none_entry, none_holds, none_stable}
 use Rattle.causal_calls.proofs.Lemmas.Numbers.{set_other, zeros}
 use Rattle.causal_calls.proofs.Lemmas.Openings.{opening}
+use Rattle.causal_calls.proofs.DownCalls.{reopened}
 use Rattle.causal_calls.proofs.Steps.{calls_are_steps, calls_keep}
 
 abbrev network_of : System → (ℕ → Node) → Network
@@ -55,20 +54,13 @@ at_each P xs here x is p other = by (eqb_tells p here)
     by (inl same) = subst (λ (b : Bool). P p (if b then x else xs p)) (sym same.0) (subst (λ q. P q x) (sym same.1) is)
     by (inr apart) = subst (λ (b : Bool). P p (if b then x else xs p)) (sym apart.0) other
 
-not_first : (a : ℕ) → (a + 1 == 0) ≡ false
-not_first a = elim (eqb_tells (a + 1) 0) [ inl is ↦ absurd (omega (arith, is.1)) | inr other ↦ other.0 ]
-
--- a node that is opened after a crash
-reopened : (who : Identity) (lane : ℕ) → Represents (opened_node who (lane + 1)) (down_node (fallen_node lane))
-reopened who lane = subst (λ (o : Recovery). RepresentsAt (opened_node who (lane + 1)) o (down_node (fallen_node lane))) (ap {B = Recovery} (λ (b : Bool). if b then None else Some None) (sym (not_first lane))) (
-  fallen_node lane,
-  refl,
-  record {
-    lane = refl;
-    told = λ q apart. omega (arith, set_other (replicate who.processes 0) who.me.0 (lane + 1) q apart, zeros who.processes q);
-    round = tt;
-  },
-)
+-- what relates the values at each number, relates them after a change of both
+at_both : {X Y : Type 0} (P : X → Y → Type 0) (xs : ℕ → X) (ys : ℕ → Y) (here : ℕ) (x : X) (y : Y) → P x y → (p : ℕ) → P (xs p) (ys p) → P (with_value_at xs here x p) (with_value_at ys here y p)
+at_both P xs ys here x y is p other = by (p == here)
+  where
+    by : (b : Bool) → P (if b then x else xs p) (if b then y else ys p)
+    by true = is
+    by false = other
 
 -- who recovers, is down
 down_is : (s : NodeState) (node : Node) (o : Recovery) → RepresentsAt s o node → is_some o ≡ is_node_down node
@@ -81,7 +73,7 @@ module _ (safe : NodesAreSafe) (single : NodesShareNoSlot) (n f : ℕ) where
     nodes = λ p. up_node (up_view (w.nodes p));
     reached = new_network (network_of w (λ p. up_node (up_view (w.nodes p)))) (record {
       past = new.past;
-      nodes = λ p low. (up_view (w.nodes p), refl, fresh p (w.nodes p) (new.nodes p low));
+      nodes = λ p low. (up_view (w.nodes p), refl, fresh p low (w.nodes p) (new.nodes p low));
       sent = new.sent;
       stored = new.stored;
       floors = new.floors;
@@ -92,20 +84,14 @@ module _ (safe : NodesAreSafe) (single : NodesShareNoSlot) (n f : ℕ) where
     names = λ k was. absurd (subst (λ t. WasSent t k) new.sent was);
   }
     where
-      here_or_none : (m i : ℕ) → numbers (slice_set (replicate m 0) i 0) i ≡ 0
-      here_or_none zero i = refl
-      here_or_none (suc m) zero = refl
-      here_or_none (suc m) (suc i) = here_or_none m i
+      nothing : (p : ℕ) → p < n → (q : ℕ) → numbers (opened_node (identity_of n f p) 0).floors q ≡ 0
+      nothing p low q = elim (eqb_tells q p) [
+        | inl same ↦ ap (numbers (opened_node (identity_of n f p) 0).floors) same.1 ∙ (opening (identity_of n f p) 0 low).own_floor
+        | inr other ↦ set_other (replicate n 0) p 0 q other.1 ∙ zeros n q
+      ]
 
-      nothing : (p q : ℕ) → numbers (opened_node (identity_of n f p) 0).floors q ≡ 0
-      nothing p q = by (eqb_tells q p)
-        where
-          by : ((q == p ≡ true) × (q ≡ p)) ⊎ ((q == p ≡ false) × (q ≡ p → ⊥)) → numbers (opened_node (identity_of n f p) 0).floors q ≡ 0
-          by (inl same) = subst (λ m. numbers (opened_node (identity_of n f m) 0).floors q ≡ 0) same.1 (here_or_none n q)
-          by (inr other) = set_other (replicate n 0) p 0 q other.1 ∙ zeros n q
-
-      fresh : (p : ℕ) (s : NodeState) → s ≡ opened_node (identity_of n f p) 0 → IsNewNode (up_view s)
-      fresh p s is = subst (λ t. IsNewNode (up_view t)) (sym is) (record { lane = refl; empty = none_entry; no_holders = none_holds; no_stable = none_stable; floors = nothing p; sent = refl; received = refl })
+      fresh : (p : ℕ) → p < n → (s : NodeState) → s ≡ opened_node (identity_of n f p) 0 → IsNewNode (up_view s)
+      fresh p low s is = subst (λ t. IsNewNode (up_view t)) (sym is) (record { lane = refl; empty = none_entry; no_holders = none_holds; no_stable = none_stable; floors = nothing p low; sent = refl; received = refl })
 
   module _ (w : System) (net : IsNetworkOf n f w) where
     -- a node that is up represents a process that is up
@@ -150,11 +136,7 @@ module _ (safe : NodesAreSafe) (single : NodesShareNoSlot) (n f : ℕ) where
       by_step step = after_call (with_value_at net.nodes me.0 step.next)
           (next_network (network_of w net.nodes) (network_of after (with_value_at net.nodes me.0 step.next)) net.reached
           (step_event me taken step.next emitted entries low was (subst (λ (i : Identity). NodeStep i.processes i.faults i.me (length w.past) (net.nodes me.0) taken step.next emitted entries) (net.identities me.0 low) step.step) fresh))
-          (λ p low_p. both p low_p (eqb_tells p me.0))
-        where
-          both : (p : ℕ) → p < n → ((p == me.0 ≡ true) × (p ≡ me.0)) ⊎ ((p == me.0 ≡ false) × (p ≡ me.0 → ⊥)) → Represents (with_value_at w.nodes me.0 new p) (with_value_at net.nodes me.0 step.next p)
-          both p low_p (inl same) = subst (λ (b : Bool). Represents (if b then new else w.nodes p) (if b then step.next else net.nodes p)) (sym same.0) step.represents
-          both p low_p (inr other) = subst (λ (b : Bool). Represents (if b then new else w.nodes p) (if b then step.next else net.nodes p)) (sym other.0) (net.represents p low_p)
+          (λ p low_p. at_both Represents w.nodes net.nodes me.0 new step.next step.represents p (net.represents p low_p))
 
       by_none : IsNoStep (net.nodes me.0) new emitted entries → IsNetworkOf n f after
       by_none none = after_call net.nodes
@@ -173,48 +155,29 @@ module _ (safe : NodesAreSafe) (single : NodesShareNoSlot) (n f : ℕ) where
         record {
           nodes = with_value_at net.nodes who.0 (down_node (fallen_node s.lane));
           reached = next_network (network_of w net.nodes) _ net.reached (crash_event who (up_view s) low is (subst (λ m. m < f) same few));
-          represents = λ p low_p. both p low_p (eqb_tells p who.0);
+          represents = λ p low_p. at_both Represents w.nodes net.nodes who.0 _ _ (reopened s.identity s.lane) p (net.represents p low_p);
           states = λ p low_p. at_each (λ p s. IsNodeState s) w.nodes who.0 _ (opening s.identity (s.lane + 1) (net.states who.0 low).process) p (net.states p low_p);
           identities = λ p low_p. at_each (λ p s. s.identity ≡ identity_of n f p) w.nodes who.0 (opened_node s.identity (s.lane + 1)) (net.identities who.0 low) p (net.identities p low_p);
           names = net.names;
         }
-      where
-        both : (p : ℕ) → p < n → ((p == who.0 ≡ true) × (p ≡ who.0)) ⊎ ((p == who.0 ≡ false) × (p ≡ who.0 → ⊥))
-            → Represents (with_value_at w.nodes who.0 (opened_node (w.nodes who.0).identity ((w.nodes who.0).lane + 1)) p) (with_value_at net.nodes who.0 (down_node (fallen_node (w.nodes who.0).lane)) p)
-        both p low_p (inl same) = subst (λ (b : Bool). Represents (if b then opened_node (w.nodes who.0).identity ((w.nodes who.0).lane + 1) else w.nodes p) (if b then down_node (fallen_node (w.nodes who.0).lane) else net.nodes p)) (sym same.0) (reopened (w.nodes who.0).identity (w.nodes who.0).lane)
-        both p low_p (inr other) = subst (λ (b : Bool). Represents (if b then opened_node (w.nodes who.0).identity ((w.nodes who.0).lane + 1) else w.nodes p) (if b then down_node (fallen_node (w.nodes who.0).lane) else net.nodes p)) (sym other.0) (net.represents p low_p)
 
-    named_more : (k : Sent) → NamesProcesses n k → (j : Sent) → WasSent (k ∷ w.sent) j → NamesProcesses n j
-    named_more k names j (inl is) = subst (λ x. NamesProcesses n x) is names
-    named_more k names j (inr was) = net.names j was
-
-    stores : (p : Packet) → WasSent w.sent (write_packet p) → w.floors p.parcel.from ≤ p.lane
-        → IsNetworkOf n f (record { past = w.past; nodes = w.nodes; sent = written_packet p.parcel.carries ∷ w.sent; stored = λ d. w.stored d || p.parcel.carries d; floors = w.floors })
-    stores p was floor = record {
+    -- stable storage has sent one packet more
+    one_more : (k : Sent) (stored : Det → Bool) (floors : ℕ → ℕ) → NamesProcesses n k → IsReachableNetwork n f (network_of (record w { sent = k ∷ w.sent; stored = stored; floors = floors }) net.nodes)
+        → IsNetworkOf n f (record w { sent = k ∷ w.sent; stored = stored; floors = floors })
+    one_more k stored floors named reached = record {
       nodes = net.nodes;
-      reached = next_network (network_of w net.nodes) _ net.reached (store_event p was floor);
+      reached = reached;
       represents = net.represents;
       states = net.states;
       identities = net.identities;
-      names = named_more (written_packet p.parcel.carries) (λ t is. absurd is);
-    }
-
-    reads : (s name : ℕ) (view : ℕ → ℕ) → WasSent w.sent (read_packet s name view)
-        → IsNetworkOf n f (record { past = w.past; nodes = w.nodes; sent = stored_packet s name w.stored ∷ w.sent; stored = w.stored; floors = theory.raised w.floors view })
-    reads s name view was = record {
-      nodes = net.nodes;
-      reached = next_network (network_of w net.nodes) _ net.reached (read_event s name view was);
-      represents = net.represents;
-      states = net.states;
-      identities = net.identities;
-      names = named_more (stored_packet s name w.stored) (λ t is. absurd is);
+      names = λ j sent. elim sent [ inl is ↦ subst (λ x. NamesProcesses n x) is named | inr was ↦ net.names j was ];
     }
 
     after_event : (next : System) → SystemEvent n f w next → IsNetworkOf n f next
     after_event next (system.call_event me taken node emitted entries low was call fresh) = calls me taken node emitted entries low was call fresh
     after_event next (system.crash_event who low up few) = crashes who low up few
-    after_event next (system.store_event p was floor) = stores p was floor
-    after_event next (system.read_event s name view was) = reads s name view was
+    after_event next (system.store_event p was floor) = one_more _ _ _ (λ t is. absurd is) (next_network (network_of w net.nodes) _ net.reached (store_event p was floor))
+    after_event next (system.read_event s name view was) = one_more _ _ _ (λ t is. absurd is) (next_network (network_of w net.nodes) _ net.reached (read_event s name view was))
 
   network : (w : System) → IsReachableSystem n f w → IsNetworkOf n f w
   network w (new_system same new) = begins w new

@@ -1,5 +1,5 @@
 -- The calls of a node that is up are steps of a process that is up.
-use Rattle.std.proofs.Common.{ℕ, ◌≡◌, ◌∙◌, ◌<◌, Bool, true, false, ◌||◌, List, [], ◌∷◌, ◌++◌, length, Option, Some, None, is_some, unwrap_or, inl, inr, length-append, refl, sym, ap, subst}
+use Rattle.std.proofs.Common.{ℕ, ◌≡◌, ◌∙◌, ◌<◌, Bool, true, false, ◌||◌, List, [], ◌∷◌, ◌++◌, length, Option, Some, None, is_some, unwrap_or, inl, inr, length-append, refl, sym, ap, subst, arith}
 use Rattle.std.specs.Prelude.{◌⊎◌, if◌then◌else◌}
 use Rattle.std.specs.List.{list_any}
 use Rattle.std.specs.FinMap as fin
@@ -21,8 +21,7 @@ use Rattle.causal_log.proofs.Lemmas.MessageItems.{carried_dets, carried_holders,
 use Rattle.causal_memory.proofs.Lemmas.ListInsert.{with_ascending}
 use Rattle.causal_protocol.specs.Naming.{message_name, with_own}
 use Rattle.causal_protocol.specs.Steps.{forget_entries}
-use Rattle.causal_protocol.specs.MemoryQueries.{has_entry, log_knows_holder, log_knows_stable, has_item}
-use Rattle.causal_node.specs.declared.node_answer.RoundReply.{RoundReply}
+use Rattle.causal_protocol.specs.MemoryQueries.{has_entry, log_knows_holder, log_knows_stable}
 use Rattle.causal_node.specs.declared.node_answer.RoundReply.TheVariants as Replies
 use Rattle.causal_node.specs.NodeStates.{NodeState, Recovery, RoundState, floor_of}
 use Rattle.causal_node.specs.NodeRefusals.{node_send_fault, deliver_fault}
@@ -36,7 +35,7 @@ use Rattle.causal_nodes.specs.Packets.{message_packet, acknowledgement_packet, w
 use Rattle.causal_nodes.specs.NodeSteps.{send_row, deliver_row, acknowledge_row, learn_row, write_row, mark_row, forget_row, answer_row, IsOfNodeLog, with_one_sent, with_node_log, log_after_acknowledgement, log_after_mark, log_without}
 use Rattle.causal_nodes.specs.NodeSteps as theory
 use Rattle.causal_calls.specs.Views.{numbers, up_view, RepresentsAt, Represents, IsNodeState, log_view}
-use Rattle.causal_calls.specs.Parcels.{message_with, next_message_packet, acknowledgement_with, items_of_logged, acknowledgement_of, log_packet, write_of}
+use Rattle.causal_calls.specs.Parcels.{message_with, next_message_packet, acknowledgement_with, acknowledgement_of, log_packet, write_of}
 use Rattle.causal_calls.specs.StepLaws.{HasLogSingleSlots, IsStepOf, IsNoStep}
 use Rattle.causal_calls.proofs.Lemmas.LogViews.{delivered, marked}
 use Rattle.causal_protocol.proofs.Lemmas.LogMembers.{entry_of_holder, own_have, items_have}
@@ -46,39 +45,19 @@ use Rattle.causal_calls.proofs.Lemmas.Numbers.{raised_numbers}
 use Rattle.causal_calls.proofs.Names.{named_only}
 
 -- which reply is given
-abbrev is_log : RoundReply → Bool
-is_log Replies.Log = true
-is_log Replies.OwnNumber = false
-is_log Replies.NotUp = false
-
-abbrev is_not_up : RoundReply → Bool
-is_not_up Replies.Log = false
-is_not_up Replies.OwnNumber = false
-is_not_up Replies.NotUp = true
-
 pub replies_log : (b : Bool) (o : Recovery) → (if b then reply_at o else Replies.OwnNumber) ≡ Replies.Log → (b ≡ true) × (o ≡ None)
 replies_log true None h = (refl, refl)
-replies_log true (Some r) h = absurd (false≢true (ap is_log h))
-replies_log false o h = absurd (false≢true (ap is_log h))
+replies_log _ _ h = cc
 
 pub replies_not_up : (b : Bool) (o : Recovery) → (if b then reply_at o else Replies.OwnNumber) ≡ Replies.NotUp → (b ≡ true) × ((r : Option RoundState) × (o ≡ Some r))
-replies_not_up true None h = absurd (false≢true (ap is_not_up h))
 replies_not_up true (Some r) h = (refl, (r, refl))
-replies_not_up false o h = absurd (false≢true (ap is_not_up h))
-
-abbrev is_number : RoundReply → Bool
-is_number Replies.Log = false
-is_number Replies.OwnNumber = true
-is_number Replies.NotUp = false
+replies_not_up _ _ h = cc
 
 pub replies_number : (b : Bool) (o : Recovery) → (if b then reply_at o else Replies.OwnNumber) ≡ Replies.OwnNumber → b ≡ false
-replies_number true None h = absurd (false≢true (ap is_number h))
-replies_number true (Some r) h = absurd (false≢true (ap is_number h))
-replies_number false o h = refl
+replies_number b o h = grind arith
 
 in_batch_logged : (f : ℕ) (o : Option Known) → is_in_batch f o ≡ true → is_some o ≡ true
-in_batch_logged f None h = absurd (false≢true h)
-in_batch_logged f (Some known) h = refl
+in_batch_logged f o h = grind arith
 
 known_there : (o : Option Known) → is_some o ≡ true → (k : Known) × (o ≡ Some k)
 known_there None h = absurd (false≢true h)
@@ -204,7 +183,7 @@ module _ (position : ℕ) (s : NodeState) (k : IsNodeState s) (up : s.recovery �
     step = acknowledge_row (up_view s) (acknowledgement_of s to dets) (record {
       from = refl;
       lane = refl;
-      logged = λ d h. has d h;
+      logged = λ d h. (and_parts (list_has dets d) (has_entry d log) (sym (acknowledged_dets log dets d) ∙ h)).1;
       known_holders = λ d q h.
           let parts = and_parts _ _ (sym (acknowledged_holders log dets d q) ∙ h) in
           let known = and_parts _ _ parts.1 in
@@ -216,9 +195,6 @@ module _ (position : ℕ) (s : NodeState) (k : IsNodeState s) (up : s.recovery �
     }) refl;
     represents = as_up s _ refl refl;
   }
-    where
-      has : (d : Det) → has_item d (items_of_logged log dets) ≡ true → has_entry d log ≡ true
-      has d h = (and_parts (list_has dets d) (has_entry d log) (sym (acknowledged_dets log dets d) ∙ h)).1
 
   pub learns : (lane : ℕ) (from : Pid) (items : List Item) → learn_fault s lane from ≡ None
       → IsStepOf position s here (Some (acknowledgement_packet (acknowledgement_with from lane me items))) (after_acknowledgement s items) [] []

@@ -2,6 +2,7 @@
 use Rattle.std.proofs.Common.{ℕ, ◌≡◌, ◌∙◌, ◌==◌, ◌<◌, ◌+◌, Bool, true, false, not, ◌&&◌, List, [], ◌∷◌, length, Some, None, inl, inr, replicate, sym, ap, subst, arith}
 use Rattle.std.specs.Prelude.{nat_le, nat_lt, slice_set, if◌then◌else◌}
 use Rattle.std.proofs.lemmas.Bool.{eq-eqb, ne_eqb, le-ltb, or_from}
+use Rattle.std.proofs.lemmas.List.{length-set}
 use Rattle.std.proofs.lemmas.Bool.Decides.{eqb_tells}
 use Rattle.causal_name.specs.declared.Pid.{Pid}
 use Rattle.causal_name.specs.Names.{same_pid}
@@ -14,7 +15,7 @@ use Rattle.causal_node.specs.NodeAnswers.{is_gathering, knows_number, answer_fau
 use Rattle.causal_nodes.specs.Packets.{question_packet, not_up_packet, number_packet}
 use Rattle.causal_calls.specs.Views.{numbers, IsNodeState}
 use Rattle.causal_calls.specs.Calls.{NodeCall, answer_number, answer_not_up}
-use Rattle.causal_calls.proofs.Lemmas.Numbers.{set_other, set_here, set_length, zeros}
+use Rattle.causal_calls.proofs.Lemmas.Numbers.{set_other, set_here, zeros}
 
 within_is : (a b : ℕ) → a < b → nat_le b a ≡ false
 within_is a b low = grind (arith, low)
@@ -45,7 +46,7 @@ module _ (position : ℕ) (s : NodeState) (k : IsNodeState s) (asker : Pid) (low
       let waits : (is_gathering s.recovery && (knows_number s view && nat_lt s.identity.me.0 asker.0)) ≡ false = ap (λ b. is_gathering s.recovery && (b && nat_lt s.identity.me.0 asker.0)) unknown ∙ never (is_gathering s.recovery) in
       let late = le-ltb (numbers view asker.0) (numbers s.floors asker.0) (let same = set_other s.floors s.identity.me.0 (s.lane + 1) asker.0 other in omega (arith, same)) in
       subst (λ t. NodeCall position s None t (number_packet s.identity.me.0 s.lane ∷ []) []) (λ i. if unknown i then after_answer_at s view s.recovery else s)
-      (answer_number asker view (answered s asker view low other (set_length s.floors s.identity.me.0 (s.lane + 1) ∙ k.floors) late waits) (λ i. if unknown i then reply_at s.recovery else Replies.OwnNumber))
+      (answer_number asker view (answered s asker view low other (length-set s.floors s.identity.me.0 (s.lane + 1) ∙ k.floors) late waits) (λ i. if unknown i then reply_at s.recovery else Replies.OwnNumber))
     where
       never : (b : Bool) → (b && false) ≡ false
       never b = grind arith

@@ -2,9 +2,6 @@
 use Rattle.std.proofs.Common.{ℕ, ◌≡◌, ◌∙◌, ◌<◌, Bool, true, false, not, cond, ◌&&◌, ◌||◌, List, [], ◌∷◌, map, filter, Option, Some, None, is_some, unwrap_or, refl, sym, ap, arith}
 use Rattle.std.specs.Prelude.{nat_le}
 use Rattle.std.specs.List.{list_any}
-use Rattle.std.specs.Ordering.{is_eq, is_lt, eq_by_cmp}
-use Rattle.std.specs.declared.cmp.Ordering.{Ordering}
-use Rattle.std.specs.declared.cmp.Ordering.TheVariants.{Less, Equal, Greater}
 use Rattle.std.specs.FinMap as fin
 use Rattle.std.specs.FinMap.Entries.{find, is_sorted, below_all}
 use Rattle.std.specs.FinSet as set
@@ -34,22 +31,8 @@ use Rattle.causal_calls.proofs.Lemmas.LogViews.{same_log}
 module _ (log : LogMap) (items : List Item) where
   -- of the items whose determinants are logged
   some_logged : (d : Det) (P : Item → Bool) (xs : List Item) → list_any (λ item. is_some (fin.get log item.det) && (same_det d item.det && P item)) xs ≡ (has_entry d log && list_any (λ item. same_det d item.det && P item) xs)
-  some_logged d P [] = none (has_entry d log)
-    where
-      none : (b : Bool) → false ≡ (b && false)
-      none b = grind arith
-  some_logged d P (x ∷ xs) = by (same_det d x.det) refl (some_logged d P xs)
-    where
-      here : (a p r s : Bool) → r ≡ (a && s) → ((a && (true && p)) || r) ≡ (a && ((true && p) || s))
-      here a p r s h = grind (arith, h)
-
-      away : (e a p r s : Bool) → r ≡ (a && s) → ((e && (false && p)) || r) ≡ (a && ((false && p) || s))
-      away e a p r s h = grind (arith, h)
-
-      by : (b : Bool) → same_det d x.det ≡ b → list_any (λ item. is_some (fin.get log item.det) && (same_det d item.det && P item)) xs ≡ (has_entry d log && list_any (λ item. same_det d item.det && P item) xs)
-          → ((is_some (fin.get log x.det) && (b && P x)) || list_any (λ item. is_some (fin.get log item.det) && (same_det d item.det && P item)) xs) ≡ (has_entry d log && ((b && P x) || list_any (λ item. same_det d item.det && P item) xs))
-      by true is rest = ap (λ (e : Det). (has_entry e log && (true && P x)) || list_any (λ item. is_some (fin.get log item.det) && (same_det d item.det && P item)) xs) (sym (same_is d x.det is)) ∙ here (has_entry d log) (P x) _ _ rest
-      by false is rest = away (has_entry x.det log) (has_entry d log) (P x) _ _ rest
+  some_logged d P [] = grind arith
+  some_logged d P (x ∷ xs) = grind (arith, some_logged d P xs, same_is d x.det)
 
   abbrev news : List (Det × Known)
   news = map known_by_item (logged_items log items)
@@ -59,28 +42,16 @@ module _ (log : LogMap) (items : List Item) where
       any_kept known_by_item (λ item. is_some (fin.get log item.det)) (λ e. same_det d e.0 && Q e.1) (λ item. is_some (fin.get log item.det) && (same_det d item.det && P item)) (λ item. ap (λ b. is_some (fin.get log item.det) && (same_det d item.det && b)) (is item)) items
       ∙ some_logged d P items
 
-  plain : (b : Bool) → b ≡ (b && true)
-  plain b = grind arith
-
   any_plain : {X : Type 0} (test : X → Bool) (xs : List X) → list_any test xs ≡ list_any (λ x. test x && true) xs
   any_plain test [] = refl
-  any_plain test (x ∷ xs) = λ i. plain (test x) i || any_plain test xs i
-
-  absorbs : (a b : Bool) → (a || (a && b)) ≡ a
-  absorbs a b = grind arith
-
-  no_mark : (s has : Bool) (rest : Bool) → rest ≡ false → (s || (has && rest)) ≡ s
-  no_mark s has rest h = grind (arith, h)
+  any_plain test (x ∷ xs) = grind (arith, any_plain test xs)
 
   marks_none : (d : Det) (xs : List Item) → list_any (λ item. same_det d item.det && false) xs ≡ false
   marks_none d [] = refl
   marks_none d (x ∷ xs) = grind (arith, marks_none d xs)
 
   learned_has : (d : Det) → has_entry d (log_with_holders items log) ≡ has_entry d log
-  learned_has d =
-      logged_all news log d
-      ∙ ap (λ b. has_entry d log || b) (any_plain (λ e. same_det d e.0) news ∙ news_of d (λ item. true) (λ k. true) (λ item. refl))
-      ∙ absorbs (has_entry d log) (list_any (λ item. same_det d item.det && true) items)
+  learned_has d = grind (arith, logged_all news log d, any_plain (λ e. same_det d e.0) news ∙ news_of d (λ item. true) (λ k. true) (λ item. refl))
 
   pub learned_holder : (d : Det) (q : ℕ) → log_knows_holder d q (log_with_holders items log) ≡ ((has_entry d log && item_holder d q items) || log_knows_holder d q log)
   learned_holder d q =
@@ -89,10 +60,7 @@ module _ (log : LogMap) (items : List Item) where
       ∙ or_comm (log_knows_holder d q log) (has_entry d log && item_holder d q items)
 
   learned_stable : (d : Det) → log_knows_stable d (log_with_holders items log) ≡ log_knows_stable d log
-  learned_stable d =
-      known_all (λ k. k.stable) stable_either news log d
-      ∙ ap (λ b. log_knows_stable d log || b) (news_of d (λ item. false) (λ k. k.stable) (λ item. refl))
-      ∙ no_mark (log_knows_stable d log) (has_entry d log) _ (marks_none d items)
+  learned_stable d = grind (arith, known_all (λ k. k.stable) stable_either news log d, news_of d (λ item. false) (λ k. k.stable) (λ item. refl), marks_none d items)
 
   -- the log after an acknowledgement is the theory's
   pub learned : (t : TransitParcel) → ((d : Det) (q : ℕ) → t.names_holder d q ≡ item_holder d q items) → log_view (log_with_holders items log) ≡ theory.log_after_acknowledgement t (log_view log)
@@ -101,17 +69,7 @@ module _ (log : LogMap) (items : List Item) where
 -- a test of one determinant of a list
 at_one : (d : Det) (P : Det → Bool) (xs : List Det) → list_any (λ x. same_det d x && P x) xs ≡ (list_has xs d && P d)
 at_one d P [] = refl
-at_one d P (x ∷ xs) = by (same_det d x) refl (at_one d P xs)
-  where
-    here : (p r s : Bool) → r ≡ (s && p) → ((true && p) || r) ≡ ((true || s) && p)
-    here p r s h = grind (arith, h)
-
-    away : (e p r s : Bool) → r ≡ (s && p) → ((false && e) || r) ≡ ((false || s) && p)
-    away e p r s h = grind (arith, h)
-
-    by : (b : Bool) → same_det d x ≡ b → list_any (λ x. same_det d x && P x) xs ≡ (list_has xs d && P d) → ((b && P x) || list_any (λ x. same_det d x && P x) xs) ≡ ((b || list_has xs d) && P d)
-    by true is rest = ap (λ (e : Det). (true && P e) || list_any (λ x. same_det d x && P x) xs) (sym (same_is d x is)) ∙ here (P d) _ _ rest
-    by false is rest = away (P x) (P d) _ _ rest
+at_one d P (x ∷ xs) = grind (arith, at_one d P xs, same_is d x)
 
 -- what an acknowledgement says
 module _ (log : LogMap) (dets : List Det) (d : Det) where
@@ -120,44 +78,20 @@ module _ (log : LogMap) (dets : List Det) (d : Det) where
       any_kept (λ det. item_of (det, known_of log det)) (λ det. has_entry det log) (λ item. same_det d item.det) (λ det. same_det d det && has_entry det log) (λ det. and_comm (has_entry det log) (same_det d det)) dets
       ∙ at_one d (λ det. has_entry det log) dets
 
-  swapped : (a b e : Bool) → (a && (b && e)) ≡ (b && (a && e))
-  swapped a b e = grind arith
-
   pub acknowledged_holders : (q : ℕ) → item_holder d q (items_of_logged log dets) ≡ (list_has dets d && (has_entry d log && log_knows_holder d q log))
   acknowledged_holders q =
-      any_kept (λ det. item_of (det, known_of log det)) (λ det. has_entry det log) (λ item. same_det d item.det && set.contains item.holders q) (λ det. same_det d det && (has_entry det log && log_knows_holder det q log)) (λ det. swapped (has_entry det log) (same_det d det) (log_knows_holder det q log)) dets
+      any_kept (λ det. item_of (det, known_of log det)) (λ det. has_entry det log) (λ item. same_det d item.det && set.contains item.holders q) (λ det. same_det d det && (has_entry det log && log_knows_holder det q log)) (λ det. grind arith) dets
       ∙ at_one d (λ det. has_entry det log && log_knows_holder det q log) dets
 
 -- a determinant's entry among those that pass a test
-less_is_not_equal : (r : Ordering) → is_lt r ≡ true → is_eq r ≡ false
-less_is_not_equal Less h = refl
-less_is_not_equal Equal h = absurd (false≢true h)
-less_is_not_equal Greater h = absurd (false≢true h)
-
 module _ {X : Type 0} where
   none_below : (d : Det) (es : List (Det × X)) → below_all det_cmp d es ≡ true → find det_cmp d es ≡ None
   none_below d [] h = refl
-  none_below d (e ∷ es) h = grind (arith, none_below d es, and_parts, less_is_not_equal)
+  none_below d (e ∷ es) h = grind (arith, none_below d es)
 
   found_kept : (p : Det × X → Bool) (q : Det) (es : List (Det × X)) → is_sorted det_cmp es ≡ true → find det_cmp q (filter p es) ≡ kept_if (λ x. p (q, x)) (find det_cmp q es)
   found_kept p q [] h = refl
-  found_kept p q (e ∷ es) h =
-      let parts = and_parts (below_all det_cmp e.0 es) (is_sorted det_cmp es) h in
-      by parts.0 (found_kept p q es parts.1) (eq_by_cmp det_cmp q e.0) (p e) refl refl
-    where
-      here : eq_by_cmp det_cmp q e.0 ≡ true → q ≡ e.0
-      here is = same_is q e.0 (det_ties q e.0 ∙ is)
-
-      by : below_all det_cmp e.0 es ≡ true → find det_cmp q (filter p es) ≡ kept_if (λ x. p (q, x)) (find det_cmp q es)
-          → (b t : Bool) → eq_by_cmp det_cmp q e.0 ≡ b → p e ≡ t → find det_cmp q (cond t (e ∷ filter p es) (filter p es)) ≡ kept_if (λ x. p (q, x)) (cond b (Some e.1) (find det_cmp q es))
-      by below later true true is passes_it =
-          ap (λ b. cond b (Some e.1) (find det_cmp q (filter p es))) is
-          ∙ sym (ap (λ (d : Det). cond (p (d, e.1)) (Some e.1) None) (here is) ∙ ap (λ b. cond b (Some e.1) None) passes_it)
-      by below later true false is fails =
-          later ∙ ap (kept_if (λ x. p (q, x))) (ap (λ (d : Det). find det_cmp d es) (here is) ∙ none_below e.0 es below)
-          ∙ sym (ap (λ (d : Det). cond (p (d, e.1)) (Some e.1) None) (here is) ∙ ap (λ b. cond b (Some e.1) None) fails)
-      by below later false true is passes_it = ap (λ b. cond b (Some e.1) (find det_cmp q (filter p es))) is ∙ later
-      by below later false false is fails = later
+  found_kept p q ((d, x) ∷ es) h = grind (arith, found_kept p q es, same_is, det_ties, none_below)
 
 -- a forgetting
 module _ (next : Slot) (log : LogMap) (d : Det) where
@@ -167,21 +101,8 @@ module _ (next : Slot) (log : LogMap) (d : Det) where
 
   pub forgotten_listed : list_has (forgotten_in next log) d ≡ passes goes (fin.get log d)
   forgotten_listed =
-      any_kept (λ e. e.0) (is_forgotten next) (same_det d) (λ e. same_det d e.0 && goes e.1) same (fin.entries log)
+      any_kept (λ e. e.0) (is_forgotten next) (same_det d) (λ e. same_det d e.0 && goes e.1) (λ e. grind (arith, same_is d e.0)) (fin.entries log)
       ∙ any_logged goes d log
-    where
-      same : (e : Det × Known) → (is_forgotten next e && same_det d e.0) ≡ (same_det d e.0 && goes e.1)
-      same e = by (same_det d e.0) refl
-        where
-          last : (b : Bool) → (b && true) ≡ (true && b)
-          last b = grind arith
-
-          never : (b : Bool) → (b && false) ≡ false
-          never b = grind arith
-
-          by : (b : Bool) → same_det d e.0 ≡ b → (is_forgotten next e && b) ≡ (b && goes e.1)
-          by true is = last (is_forgotten next e) ∙ ap (λ (x : Det). true && is_forgotten next (x, e.1)) (sym (same_is d e.0 is))
-          by false is = never (is_forgotten next e)
 
   left : fin.get (after_forget next log) d ≡ kept_if (λ known. not (goes known)) (fin.get log d)
   left =
@@ -189,45 +110,28 @@ module _ (next : Slot) (log : LogMap) (d : Det) where
       ∙ found_kept (λ e. not (is_forgotten next e)) d (fin.entries log) (shown _ (fin.entries_sorted log))
       ∙ ap (kept_if (λ known. not (goes known))) (sym (fin.get-entries log d))
 
-  has_left : (o : Option Known) → is_some (kept_if (λ known. not (goes known)) o) ≡ (not (passes goes o) && is_some o)
-  has_left None = refl
-  has_left (Some known) = by (goes known)
+  -- what a look-up says, if it says nothing of what is not there
+  said_left : (says : Option Known → Bool) → says None ≡ false → says (fin.get (after_forget next log) d) ≡ (not (list_has (forgotten_in next log) d) && says (fin.get log d))
+  said_left says nothing = ap says left ∙ by (fin.get log d) ∙ ap (λ b. not b && says (fin.get log d)) (sym forgotten_listed)
     where
-      by : (b : Bool) → is_some (cond (not b) (Some known) None) ≡ (not b && true)
-      by true = refl
-      by false = refl
+      by : (o : Option Known) → says (kept_if (λ known. not (goes known)) o) ≡ (not (passes goes o) && says o)
+      by None = refl
+      by (Some known) = at (goes known)
+        where
+          at : (b : Bool) → says (cond (not b) (Some known) None) ≡ (not b && says (Some known))
+          at true = nothing
+          at false = refl
 
-  held_left : (q : ℕ) (o : Option Known) → set.contains (unwrap_or (kept_if (λ known. not (goes known)) o) unknown).holders q ≡ (not (passes goes o) && set.contains (unwrap_or o unknown).holders q)
-  held_left q None = refl
-  held_left q (Some known) = by (goes known)
-    where
-      by : (b : Bool) → set.contains (unwrap_or (cond (not b) (Some known) None) unknown).holders q ≡ (not b && set.contains known.holders q)
-      by true = set.contains-empty _ q
-      by false = refl
-
-  stable_left : (o : Option Known) → (unwrap_or (kept_if (λ known. not (goes known)) o) unknown).stable ≡ (not (passes goes o) && (unwrap_or o unknown).stable)
-  stable_left None = refl
-  stable_left (Some known) = by (goes known)
-    where
-      by : (b : Bool) → (unwrap_or (cond (not b) (Some known) None) unknown).stable ≡ (not b && known.stable)
-      by true = refl
-      by false = refl
-
-  -- what is forgotten was known to be stable
-  stable_once : (o : Option Known) → passes goes o ≡ true → (unwrap_or o unknown).stable ≡ true
-  stable_once None h = absurd (false≢true h)
-  stable_once (Some known) h = (and_parts _ _ h).0
+  -- what is forgotten was known to be stable, and is of no delivery that is still to be made
+  known_once : (o : Option Known) → passes goes o ≡ true → ((unwrap_or o unknown).stable ≡ true) × (not (same_pid d.dest next.dest && nat_le next.rsn d.rsn) ≡ true)
+  known_once None h = absurd (false≢true h)
+  known_once (Some known) h = and_parts _ _ h
 
   pub forgotten_stable : list_has (forgotten_in next log) d ≡ true → log_knows_stable d log ≡ true
-  forgotten_stable h = stable_once (fin.get log d) (sym forgotten_listed ∙ h)
-
-  -- what is forgotten is of no delivery that is still to be made
-  made_once : (o : Option Known) → passes goes o ≡ true → not (same_pid d.dest next.dest && nat_le next.rsn d.rsn) ≡ true
-  made_once None h = absurd (false≢true h)
-  made_once (Some known) h = (and_parts _ _ h).1
+  forgotten_stable h = (known_once (fin.get log d) (sym forgotten_listed ∙ h)).0
 
   pub forgotten_made : list_has (forgotten_in next log) d ≡ true → d.dest.0 ≡ next.dest.0 → d.rsn < next.rsn
-  forgotten_made h mine = below (same_pid d.dest next.dest) (eq-eqb d.dest.0 next.dest.0 mine) (made_once (fin.get log d) (sym forgotten_listed ∙ h))
+  forgotten_made h mine = below (same_pid d.dest next.dest) (eq-eqb d.dest.0 next.dest.0 mine) (known_once (fin.get log d) (sym forgotten_listed ∙ h)).1
     where
       below : (b : Bool) → b ≡ true → not (b && nat_le next.rsn d.rsn) ≡ true → d.rsn < next.rsn
       below b is h = grind (arith, is, h)
@@ -235,9 +139,9 @@ module _ (next : Slot) (log : LogMap) (d : Det) where
 -- the log after a forgetting is the theory's
 pub forgotten : (next : Slot) (log : LogMap) → log_view (after_forget next log) ≡ theory.log_without (forgotten_in next log) (log_view log)
 forgotten next log = same_log _ _
-    (λ d. ap is_some (left next log d) ∙ has_left next log d (fin.get log d) ∙ ap (λ b. not b && has_entry d log) (sym (forgotten_listed next log d)))
-    (λ d q. ap (λ (o : Option Known). set.contains (unwrap_or o unknown).holders q) (left next log d) ∙ held_left next log d q (fin.get log d) ∙ ap (λ b. not b && log_knows_holder d q log) (sym (forgotten_listed next log d)))
-    (λ d. ap (λ (o : Option Known). (unwrap_or o unknown).stable) (left next log d) ∙ stable_left next log d (fin.get log d) ∙ ap (λ b. not b && log_knows_stable d log) (sym (forgotten_listed next log d)))
+    (λ d. said_left next log d is_some refl)
+    (λ d q. said_left next log d (λ o. set.contains (unwrap_or o unknown).holders q) (set.contains-empty _ q))
+    (λ d. said_left next log d (λ o. (unwrap_or o unknown).stable) refl)
 
 -- what is forgotten ascends
 pub forgotten_ascends : (next : Slot) (log : LogMap) → is_ascending (forgotten_in next log) ≡ true

@@ -1,5 +1,5 @@
 -- The logs of the theory that the logs of nodes represent, after each change.
-use Rattle.std.proofs.Common.{ℕ, ◌≡◌, ◌∙◌, ◌==◌, Bool, true, false, ◌&&◌, ◌||◌, List, [], ◌∷◌, refl, sym, ap, arith}
+use Rattle.std.proofs.Common.{ℕ, ◌≡◌, ◌==◌, Bool, false, ◌&&◌, ◌||◌, List, [], ◌∷◌, refl, arith}
 use Rattle.std.specs.List.{list_any}
 use Rattle.std.specs.Cmp.{nat_cmp_total}
 use Rattle.std.specs.Ordering.{nat_cmp}
@@ -52,15 +52,9 @@ module _ (items : List Item) (own : Det) (log : LogMap) where
   abbrev listed : List Det
   listed = with_own own (dets_of items)
 
-  turned : (e h s : Bool) → ((e || h) || (s || false)) ≡ ((s || h) || e)
-  turned e h s = grind arith
-
   pub delivered_has : (d : Det) → has_entry d (log_after_delivery items own log) ≡ (list_has listed d || has_entry d log)
   delivered_has d =
-      one_entry absorbed own (held_by own.dest) d
-      ∙ ap (λ b. b || (same_det d own || false)) (absorbed_logged items own.source own.dest log d)
-      ∙ turned (has_entry d log) (has_item d items) (same_det d own)
-      ∙ ap (λ b. b || has_entry d log) (sym (own_have own (dets_of items) d ∙ ap (λ b. same_det d own || b) (items_have items d)))
+      grind (arith, one_entry absorbed own (held_by own.dest) d, absorbed_logged items own.source own.dest log d, own_have own (dets_of items) d, items_have items d)
 
   abbrev tells : Det → ℕ → Item → Bool
   tells d q item = same_det d item.det && (set.contains item.holders q || (q == own.source.0 || q == own.dest.0))
@@ -73,26 +67,22 @@ module _ (items : List Item) (own : Det) (log : LogMap) where
   holder_has d q [] = refl
   holder_has d q (x ∷ xs) = grind (arith, holder_has d q xs)
 
-  shape : (k ih hi s from me : Bool) → ih ≡ (hi && ih) → ((k || (ih || (hi && (from || me)))) || ((s && me) || false)) ≡ (((s || hi) && ((ih || (hi && from)) || me)) || k)
-  shape k ih true s from me h = grind arith
-  shape k ih false s from me h = grind (arith, h)
-
   pub delivered_holder : (d : Det) (q : ℕ) →
       log_knows_holder d q (log_after_delivery items own log)
       ≡ ((list_has listed d && ((item_holder d q items || (has_item d items && q == own.source.0)) || q == own.dest.0)) || log_knows_holder d q log)
-  delivered_holder d q =
-      one_holder absorbed own (held_by own.dest) d q
-      ∙ ap (λ b. log_knows_holder d q absorbed || ((same_det d own && b) || false)) (one_holds own.dest.0 q)
-      ∙ ap (λ b. b || ((same_det d own && q == own.dest.0) || false)) (absorbed_holders items own.source own.dest log d q ∙ ap (λ b. log_knows_holder d q log || b) (tells_split d q items))
-      ∙ shape (log_knows_holder d q log) (item_holder d q items) (has_item d items) (same_det d own) (q == own.source.0) (q == own.dest.0) (holder_has d q items)
-      ∙ ap (λ b. (b && ((item_holder d q items || (has_item d items && q == own.source.0)) || q == own.dest.0)) || log_knows_holder d q log) (sym (own_have own (dets_of items) d ∙ ap (λ b. same_det d own || b) (items_have items d)))
-
-  no_mark : (a s : Bool) → (a || ((s && false) || false)) ≡ a
-  no_mark a s = grind arith
+  delivered_holder d q = grind (
+    arith,
+    one_holder absorbed own (held_by own.dest) d q,
+    one_holds own.dest.0 q,
+    absorbed_holders items own.source own.dest log d q,
+    tells_split d q items,
+    holder_has d q items,
+    own_have own (dets_of items) d,
+    items_have items d,
+  )
 
   delivered_stable : (d : Det) → log_knows_stable d (log_after_delivery items own log) ≡ log_knows_stable d log
-  delivered_stable d =
-      one_stable absorbed own (held_by own.dest) d ∙ no_mark (log_knows_stable d absorbed) (same_det d own) ∙ absorbed_stable items own.source own.dest log d
+  delivered_stable d = grind (arith, one_stable absorbed own (held_by own.dest) d, absorbed_stable items own.source own.dest log d)
 
   -- the log after a delivery is the theory's
   pub delivered : (at : ℕ) → log_view (log_after_delivery items own log) ≡ theory.node_log_after_delivery own.dest.0 listed (parcel_of own.source.0 (record { to = own.dest; send = at; batch = items })) (log_view log)
@@ -105,29 +95,17 @@ module _ (log : LogMap) (det : Det) where
 
 -- after a process is learned as a holder of these
 module _ (p : Pid) (d : Det) where
-  merged : (a s r : Bool) → ((a || (s || false)) || r) ≡ (a || (s || r))
-  merged a s r = grind arith
-
-  shared : (a s b r : Bool) → ((a || ((s && b) || false)) || (r && b)) ≡ (a || ((s || r) && b))
-  shared a s b r = grind arith
-
   pub held_has : (ds : List Det) (log : LogMap) → has_entry d (with_held ds p log) ≡ (has_entry d log || list_has ds d)
   unfolding with_held
   held_has [] log = grind arith
-  held_has (x ∷ ds) log = held_has ds (after_learn log x (held_by p)) ∙ ap (λ b. b || list_has ds d) (one_entry log x (held_by p) d) ∙ merged (has_entry d log) (same_det d x) (list_has ds d)
+  held_has (x ∷ ds) log = grind (arith, held_has ds (after_learn log x (held_by p)), one_entry log x (held_by p) d)
 
   pub held_holder : (q : ℕ) (ds : List Det) (log : LogMap) → log_knows_holder d q (with_held ds p log) ≡ (log_knows_holder d q log || (list_has ds d && q == p.0))
   unfolding with_held
   held_holder q [] log = grind arith
-  held_holder q (x ∷ ds) log =
-      held_holder q ds (after_learn log x (held_by p))
-      ∙ ap (λ b. b || (list_has ds d && q == p.0)) (one_holder log x (held_by p) d q ∙ ap (λ b. log_knows_holder d q log || ((same_det d x && b) || false)) (one_holds p.0 q))
-      ∙ shared (log_knows_holder d q log) (same_det d x) (q == p.0) (list_has ds d)
-
-  unmarked : (a s : Bool) → (a || ((s && false) || false)) ≡ a
-  unmarked a s = grind arith
+  held_holder q (x ∷ ds) log = grind (arith, held_holder q ds (after_learn log x (held_by p)), one_holder log x (held_by p) d q, one_holds p.0 q)
 
   pub held_stable : (ds : List Det) (log : LogMap) → log_knows_stable d (with_held ds p log) ≡ log_knows_stable d log
   unfolding with_held
   held_stable [] log = refl
-  held_stable (x ∷ ds) log = held_stable ds (after_learn log x (held_by p)) ∙ one_stable log x (held_by p) d ∙ unmarked (log_knows_stable d log) (same_det d x)
+  held_stable (x ∷ ds) log = grind (arith, held_stable ds (after_learn log x (held_by p)), one_stable log x (held_by p) d)
