@@ -14,7 +14,7 @@ use Rattle.causal_name.proofs.Lemmas.DetOrder.{nat_ties}
 use Rattle.causal_trace.specs.declared.entry.Entry.TheVariants.{Stable, Restart}
 use Rattle.causal_trace.specs.Past.{list_has}
 use Rattle.causal_log.specs.Knowledge.{stable_and_held_by}
-use Rattle.causal_log.specs.Logs.{LogMap}
+use Rattle.causal_log.specs.Logs.{LogMap, after_learn}
 use Rattle.causal_log.proofs.Lemmas.KnowledgeGrows.{united_logged, united_holders, united_stable}
 use Rattle.causal_log.proofs.Lemmas.LogLists.{keys_logged}
 use Rattle.causal_log.proofs.Lemmas.Ascents.{map_ascends}
@@ -101,32 +101,24 @@ module _ (position : ℕ) (s : NodeState) (k : IsNodeState s) where
     abbrev here : Node
     here = down_node x
 
+    -- a state in a round represents the process in that round
+    in_round : (recovery : Recovery) (r : RoundState) (next : NodeRound) → IsRoundOf s r next → RepresentsAt (with_recovery s recovery) (Some (Some r)) (down_node (with_round x (Some next)))
+    in_round recovery r next is = (with_round x (Some next), refl, record { lane = is_down.lane; told = is_down.told; round = (next, refl, assumption) })
+
     pub begins : (name : ℕ) → IsStepOf position s here None (with_recovery s (Some (Some (new_round_state s.identity name)))) (question_packet me.0 name (numbers s.floors) ∷ []) []
     begins name = record {
       next = down_node (with_round x (Some (new_node_round name (numbers s.floors))));
       step = begin_row x name (numbers s.floors) (k.own_floor ∙ is_down.lane) is_down.told;
-      represents = (
-        with_round x (Some (new_node_round name (numbers s.floors))),
-        refl,
-        record {
-          lane = is_down.lane;
-          told = is_down.told;
-          round = (
-            new_node_round name (numbers s.floors),
-            refl,
-            record {
-              name = refl;
-              view = refl;
-              heard = λ q low apart gone. absurd (both_ways _ gone (still_awaited n me.0 q low apart));
-              read = λ h. absurd (false≢true h);
-              has = λ d. sym (none_entry d);
-              holder = λ d q apart. sym (none_holds d q);
-              own = λ d h. absurd (false≢true h);
-              stable = λ d. sym (none_stable d);
-            },
-          );
-        },
-      );
+      represents = in_round (Some (Some (new_round_state s.identity name))) (new_round_state s.identity name) (new_node_round name (numbers s.floors)) (record {
+        name = refl;
+        view = refl;
+        heard = λ q low apart gone. absurd (both_ways _ gone (still_awaited n me.0 q low apart));
+        read = λ h. absurd (false≢true h);
+        has = λ d. sym (none_entry d);
+        holder = λ d q apart. sym (none_holds d q);
+        own = λ d h. absurd (false≢true h);
+        stable = λ d. sym (none_stable d);
+      });
     }
 
     pub says_not_up : (asker : Pid) (name : ℕ) (view : List ℕ) → answer_fault s asker view ≡ None → round_reply s view ≡ Replies.NotUp
@@ -210,15 +202,7 @@ module _ (position : ℕ) (s : NodeState) (k : IsNodeState s) where
 
     -- a state with a changed round represents the process with a changed round
     as_round : (change : RoundState → RoundState) (next : NodeRound) → IsRoundOf s (change r) next → Represents (with_recovery s (map_round change s.recovery)) (down_node (with_round x (Some next)))
-    as_round change next is = subst (λ o. RepresentsAt (with_recovery s (map_round change s.recovery)) (map_round change o) (down_node (with_round x (Some next)))) (sym gathers) (
-      with_round x (Some next),
-      refl,
-      record {
-        lane = is_down.lane;
-        told = is_down.told;
-        round = (next, refl, record { name = is.name; view = is.view; heard = is.heard; read = is.read; has = is.has; holder = is.holder; own = is.own; stable = is.stable });
-      },
-    )
+    as_round change next is = subst (λ o. RepresentsAt (with_recovery s (map_round change s.recovery)) (map_round change o) (down_node (with_round x (Some next)))) (sym gathers) (in_round (Some r) gathers x is_down _ (change r) next is)
 
     pub takes_log : (name lane : ℕ) (q : Pid) (log : LogMap) → r.name ≡ name
         → IsStepOf position s there (Some (answer_packet name (log_packet q.0 lane me.0 log))) (with_recovery s (map_round (λ r. with_log_of r q.0 log) s.recovery)) [] []
@@ -278,28 +262,16 @@ module _ (position : ℕ) (s : NodeState) (k : IsNodeState s) where
         (subst (λ (o : Recovery). IsStepOf position s there (Some (stored_packet me.0 y.name dets)) (node_after_stored s det o) [] (Stable det ∷ [])) (sym gathers) (record {
           next = down_node (with_round x (Some (round_with_stored det y)));
           step = take_stored_row x y dets det is_down.round.1 has;
-          represents = (
-            with_round x (Some (round_with_stored det y)),
-            refl,
-            record {
-              lane = is_down.lane;
-              told = is_down.told;
-              round = (
-                round_with_stored det y,
-                refl,
-                record {
-                  name = fits.name;
-                  view = fits.view;
-                  heard = fits.heard;
-                  read = fits.read;
-                  has = λ d. grind (arith, fits.has d, one_entry r.log det (stable_and_held_by me) d);
-                  holder = λ d q apart. grind (arith, fits.holder d q apart, ne_eqb q me.0 apart, one_holds me.0 q, one_holder r.log det (stable_and_held_by me) d q);
-                  own = λ d h. or_left _ _ (fits.own d h);
-                  stable = λ d. grind (arith, fits.stable d, one_stable r.log det (stable_and_held_by me) d);
-                },
-              );
-            },
-          );
+          represents = in_round (Some r) gathers x is_down _ (record r { log = after_learn r.log det (stable_and_held_by me) }) (round_with_stored det y) (record {
+            name = fits.name;
+            view = fits.view;
+            heard = fits.heard;
+            read = fits.read;
+            has = λ d. grind (arith, fits.has d, one_entry r.log det (stable_and_held_by me) d);
+            holder = λ d q apart. grind (arith, fits.holder d q apart, ne_eqb q me.0 apart, one_holds me.0 q, one_holder r.log det (stable_and_held_by me) d q);
+            own = λ d h. or_left _ _ (fits.own d h);
+            stable = λ d. grind (arith, fits.stable d, one_stable r.log det (stable_and_held_by me) d);
+          });
         }))
 
     pub finishes : (dets : Det → Bool) → ((d : Det) → dets d ≡ true → has_entry d r.log ≡ true)

@@ -1,17 +1,16 @@
 -- Each call of a node is a step of the theory, keeps its state's facts, and sends what names only processes.
-use Rattle.std.proofs.Common.{ℕ, ◌≡◌, ◌∙◌, ◌==◌, ◌<◌, Bool, true, false, List, [], ◌∷◌, length, Option, Some, None, inl, inr, refl, sym, ap, subst}
+use Rattle.std.proofs.Common.{ℕ, ◌≡◌, ◌∙◌, ◌==◌, ◌<◌, Bool, true, false, List, [], ◌∷◌, Option, Some, None, inl, inr, refl, sym, ap, subst}
 use Rattle.std.specs.Prelude.{◌⊎◌, if◌then◌else◌}
 use Rattle.std.proofs.lemmas.Bool.{and_parts}
 use Rattle.causal_name.specs.declared.Pid.{Pid}
 use Rattle.causal_name.specs.declared.Det.{Det}
 use Rattle.causal_trace.specs.declared.entry.Entry.{Entry}
-use Rattle.causal_protocol.specs.Naming.{message_name}
 use Rattle.causal_world.specs.World.{Packet}
 use Rattle.causal_node.specs.NodeStates.{NodeState, Recovery, RoundState, floor_of}
 use Rattle.causal_node.specs.NodeRecovery.{node_restart_fault, begin_fault, node_after_stored, after_restart_at, with_recovery, map_round, without_awaited, after_number, after_not_up}
 use Rattle.causal_node.specs.NodeAnswers.{node_after_answer, after_answer_at, knows_number}
 use Rattle.causal_nodes.specs.Node.{Node, DownNode, up_node, down_node, lane_or_next}
-use Rattle.causal_nodes.specs.Packets.{Sent, WasSent, message_packet, acknowledgement_packet, write_packet, question_packet, answer_packet, not_up_packet, read_packet, number_packet}
+use Rattle.causal_nodes.specs.Packets.{Sent, WasSent, acknowledgement_packet, write_packet, question_packet, answer_packet, not_up_packet, read_packet, number_packet}
 use Rattle.causal_nodes.specs.NodeSteps.{tell_row}
 use Rattle.causal_calls.specs.Views.{numbers, up_view, RepresentsAt, Represents, IsDownView, IsNodeState}
 use Rattle.causal_calls.specs.Parcels.{next_message_packet, acknowledgement_of, log_packet, write_of}
@@ -30,17 +29,16 @@ begun_or_not None h = absurd (some_none _ h)
 begun_or_not (Some round) h = (round, refl)
 
 has_round : (o : Recovery) → node_restart_fault o ≡ None → (r : RoundState) × (o ≡ Some (Some r))
-has_round None h = absurd (some_none _ h)
-has_round (Some None) h = absurd (some_none _ h)
 has_round (Some (Some r)) h = (r, refl)
+has_round _ h = absurd (some_none _ h)
 
 module _ (position : ℕ) (s : NodeState) (k : IsNodeState s) (node : Node) (rep : Represents s node) (taken : Option Sent) (new : NodeState) (emitted : List Sent) (entries : List Entry) where
   abbrev Goal : Node → Type 0
   Goal y = IsStepOf position s y taken new emitted entries ⊎ IsNoStep y new emitted entries
 
   -- a process that is up, or down
-  if_up : s.recovery ≡ None → Goal (up_node (up_view s)) → Goal node
-  if_up up step = subst (λ y. Goal y) (sym (subst (λ (o : Recovery). RepresentsAt s o node) up rep)) step
+  if_up : s.recovery ≡ None → (s.recovery ≡ None → Goal (up_node (up_view s))) → Goal node
+  if_up up each = subst (λ y. Goal y) (sym (subst (λ (o : Recovery). RepresentsAt s o node) up rep)) (each up)
 
   if_down : (round : Option RoundState) → s.recovery ≡ Some round → ((x : DownNode) → IsDownView s round x → Goal (down_node x)) → Goal node
   if_down round down each =
@@ -54,25 +52,19 @@ number_is s node (Some round) rep = ap lane_or_next rep.1 ∙ sym rep.2.lane
 
 pub calls_are_steps : CallsAreSteps
 calls_are_steps position old new taken emitted entries node (send to body legal) k single rep =
-    let up = (unless_up_none _ _ legal).0 in
-    if_up position old k node rep taken new emitted entries up (inl (sends position old k up to body legal))
+    if_up position old k node rep taken new emitted entries (unless_up_none _ _ legal).0 (λ up. inl (sends position old k up to body legal))
 calls_are_steps position old new taken emitted entries node (deliver lane name at items ascending legal) k single rep =
-    let up = (unless_up_none _ _ legal).0 in
-    if_up position old k node rep taken new emitted entries up (inl (delivers position old k up lane name at items ascending legal (single up)))
+    if_up position old k node rep taken new emitted entries (unless_up_none _ _ legal).0 (λ up. inl (delivers position old k up lane name at items ascending legal (single up)))
 calls_are_steps position old new taken emitted entries node (acknowledge to dets legal) k single rep =
-    let up = (unless_up_none _ _ legal).0 in
-    if_up position old k node rep taken new emitted entries up (inl (acknowledges position old k up to dets))
+    if_up position old k node rep taken new emitted entries (unless_up_none _ _ legal).0 (λ up. inl (acknowledges position old k up to dets))
 calls_are_steps position old new taken emitted entries node (learn lane from items legal) k single rep =
-    let up = (unless_up_none _ _ legal).0 in
-    if_up position old k node rep taken new emitted entries up (inl (learns position old k up lane from items legal))
+    if_up position old k node rep taken new emitted entries (unless_up_none _ _ legal).0 (λ up. inl (learns position old k up lane from items legal))
 calls_are_steps position old new taken emitted entries node (forget legal) k single rep =
-    let up = (unless_up_none _ _ legal).0 in
-    if_up position old k node rep taken new emitted entries up (forgets position old k up)
-calls_are_steps position old new taken emitted entries node (write dets up logged) k single rep = if_up position old k node rep taken new emitted entries up (inl (writes position old k up dets logged))
-calls_are_steps position old new taken emitted entries node (stored dets det up has) k single rep = if_up position old k node rep taken new emitted entries up (inl (marks position old k up dets det has))
+    if_up position old k node rep taken new emitted entries (unless_up_none _ _ legal).0 (λ up. forgets position old k up)
+calls_are_steps position old new taken emitted entries node (write dets up logged) k single rep = if_up position old k node rep taken new emitted entries up (λ up. inl (writes position old k up dets logged))
+calls_are_steps position old new taken emitted entries node (stored dets det up has) k single rep = if_up position old k node rep taken new emitted entries up (λ up. inl (marks position old k up dets det has))
 calls_are_steps position old new taken emitted entries node (answer_log asker name view legal reply) k single rep =
-    let up = (replies_log (knows_number old view) old.recovery reply).1 in
-    if_up position old k node rep taken new emitted entries up (inl (answers position old k up asker name view legal reply))
+    if_up position old k node rep taken new emitted entries (replies_log (knows_number old view) old.recovery reply).1 (λ up. inl (answers position old k up asker name view legal reply))
 calls_are_steps position old new taken emitted entries node (answer_not_up asker name view legal reply) k single rep =
     let down = (replies_not_up (knows_number old view) old.recovery reply).1 in
     if_down position old k node rep taken new emitted entries down.0 down.1 (λ x is. inl (says_not_up position old k down.0 down.1 x is asker name view legal reply))
@@ -115,16 +107,12 @@ names_nothing n j was = absurd was
 
 -- what is not a parcel names nobody
 module _ (s : NodeState) (k : IsNodeState s) where
-  names_log : (to : ℕ) → (d : Det) (q : ℕ) → (log_packet s.identity.me.0 s.lane to s.memory.log).parcel.names_holder d q ≡ true → q < s.identity.processes
-  names_log to d q h = k.holders d q h
-
   names_packet : (p t : Packet) → p ≡ t → ((d : Det) (q : ℕ) → p.parcel.names_holder d q ≡ true → q < s.identity.processes) → (d : Det) (q : ℕ) → t.parcel.names_holder d q ≡ true → q < s.identity.processes
   names_packet p t is names = subst (λ (x : Packet). (d : Det) (q : ℕ) → x.parcel.names_holder d q ≡ true → q < s.identity.processes) is names
 
 same_identity : (s : NodeState) (view : List ℕ) (b : Bool) (o : Recovery) → (if b then after_answer_at s view o else s).identity ≡ s.identity
 same_identity s view true None = refl
-same_identity s view true (Some r) = refl
-same_identity s view false o = refl
+same_identity s view _ _ = refl
 
 not_up_identity : (s : NodeState) (q : Pid) (number : ℕ) (b : Bool) → (if b then with_recovery s (map_round (λ r. without_awaited r q.0) s.recovery) else after_number s q number).identity ≡ s.identity
 not_up_identity s q number true = refl
@@ -132,12 +120,8 @@ not_up_identity s q number false = refl
 
 pub calls_keep : CallsKeepNodeStates
 calls_keep position old new taken emitted entries (send to body legal) k names =
-    let up = (unless_up_none _ _ legal).0 in
-    let of_log = message_of_log position old k up to in (
-      record { process = k.process; floors = k.floors; own_floor = k.own_floor; holders = k.holders; own = k.own; received = k.received; recovery = k.recovery },
-      refl,
-      names_one old.identity.processes (message_packet (message_name old.identity.me (length old.memory.sent)) (next_message_packet position old to)) (λ p is. names_packet old k (next_message_packet position old to) p is (λ d q h. k.holders d q (of_log.known_holders d q h).0)),
-    )
+    let of_log = message_of_log position old k (unless_up_none _ _ legal).0 to in
+    (assumption, refl, names_one old.identity.processes _ (λ p is. names_packet old k (next_message_packet position old to) p is (λ d q h. k.holders d q (of_log.known_holders d q h).0)))
 calls_keep position old new taken emitted entries (deliver lane name at items ascending legal) k names = (Keeps.delivered old k lane name at items names, refl, names_nothing old.identity.processes)
 calls_keep position old new taken emitted entries (acknowledge to dets legal) k names =
     (k, refl, names_one old.identity.processes (acknowledgement_packet (acknowledgement_of old to dets)) (λ p is. names_packet old k (acknowledgement_of old to dets) p is (λ d q h. k.holders d q (and_parts _ _ (and_parts _ _ (sym (acknowledged_holders old.memory.log dets d q) ∙ h)).1).1)))
@@ -147,7 +131,7 @@ calls_keep position old new taken emitted entries (write dets up logged) k names
     (k, refl, names_one old.identity.processes (write_packet (write_of old dets)) (λ p is. names_packet old k (write_of old dets) p is (λ d q h. k.holders d q (and_parts _ _ h).1)))
 calls_keep position old new taken emitted entries (stored dets det up has) k names = (Keeps.marked_stable old k det up, subst (λ (o : Recovery). (node_after_stored old det o).identity ≡ old.identity) (sym up) refl, names_nothing old.identity.processes)
 calls_keep position old new taken emitted entries (answer_log asker name view legal reply) k names =
-    (Keeps.answered old k asker view legal, same_identity old view (knows_number old view) old.recovery, names_one old.identity.processes (answer_packet name (log_packet old.identity.me.0 old.lane asker.0 old.memory.log)) (λ p is. names_packet old k (log_packet old.identity.me.0 old.lane asker.0 old.memory.log) p is (names_log old k asker.0)))
+    (Keeps.answered old k asker view legal, same_identity old view (knows_number old view) old.recovery, names_one old.identity.processes (answer_packet name (log_packet old.identity.me.0 old.lane asker.0 old.memory.log)) (λ p is. names_packet old k (log_packet old.identity.me.0 old.lane asker.0 old.memory.log) p is k.holders))
 calls_keep position old new taken emitted entries (answer_not_up asker name view legal reply) k names =
     (Keeps.answered old k asker view legal, same_identity old view (knows_number old view) old.recovery, names_one old.identity.processes (not_up_packet old.identity.me.0 asker.0 name) (λ p is. absurd is))
 calls_keep position old new taken emitted entries (answer_number asker view legal reply) k names =

@@ -14,20 +14,17 @@ some_none x h = true≢false (ap is_some h)
 
 -- none of the faults applies
 pub or_else_none : (test : Bool) (fault : NodeFault) (rest : Option NodeFault) → or_else test fault rest ≡ None → (test ≡ false) × (rest ≡ None)
-or_else_none true fault rest h = absurd (some_none fault h)
-or_else_none false fault rest h = (refl, h)
+or_else_none test fault rest h = grind arith
 
 pub unless_up_none : (o : Recovery) (rest : Option NodeFault) → unless_up o rest ≡ None → (o ≡ None) × (rest ≡ None)
-unless_up_none None rest h = (refl, h)
-unless_up_none (Some r) rest h = absurd (some_none _ h)
+unless_up_none o rest h = grind arith
 
 -- a reply that is taken is one to the present round
 pub of_round : (o : Recovery) (name : ℕ) (q : Pid) → reply_fault o name q ≡ None → (r : RoundState) × (o ≡ Some (Some r)) × (r.name ≡ name) × (set.contains r.awaited q.0 ≡ true)
-of_round None name q h = absurd (some_none _ h)
-of_round (Some None) name q h = absurd (some_none _ h)
 of_round (Some (Some r)) name q h =
     let both = and_parts (r.name == name) (set.contains r.awaited q.0) (not-false _ (or_else_none _ _ None h).0) in
     (r, refl, eqb-true r.name name both.0, both.1)
+of_round _ name q h = absurd (some_none _ h)
 
 -- numbers
 pub below_from : (a b : ℕ) → not (nat_lt a b) ≡ false → a < b
