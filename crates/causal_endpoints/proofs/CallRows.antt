@@ -1,9 +1,9 @@
 -- Each call of an endpoint is a call of its node, with the packets that its parcels' bytes encode.
-use Rattle.std.proofs.Common.{ℕ, ◌≡◌, ◌∙◌, ◌==◌, ◌<◌, ◌≤◌, ◌^◌, Bool, true, false, ◌||◌, List, [], ◌∷◌, map, length, Option, Some, None, is_some, Result, Ok, unwrap_or, inl, inr, refl, sym, ap, subst, arith}
+use Rattle.std.proofs.Common.{ℕ, ◌≡◌, ◌∙◌, ◌==◌, ◌<◌, ◌≤◌, ◌^◌, Bool, true, false, List, [], ◌∷◌, map, length, Option, Some, None, is_some, Result, Ok, unwrap_or, inl, inr, refl, sym, ap, subst, arith}
 use Rattle.std.specs.Prelude.{slice_get, if◌then◌else◌}
 use Rattle.std.specs.FinMap as fin
 use Rattle.std.specs.FinSet as set
-use Rattle.std.proofs.lemmas.Bool.{false≢true, both_ways, eqb-true, eq-eqb, not-false}
+use Rattle.std.proofs.lemmas.Bool.{false≢true, both_ways, eqb-true, eq-eqb, not-false, or_parts}
 use Rattle.std.proofs.lemmas.Option.{slice_get_within}
 use Rattle.causal_name.specs.declared.Pid.{Pid}
 use Rattle.causal_name.specs.declared.Det.{Det}
@@ -53,11 +53,7 @@ ReadsBack = (run : RunId) (p : Head × Contents) → IsRun run → IsParcel run 
 
 -- what is read is what was written
 pub read_is : {A : Type 0} (r : Result A WireFault) (x y : A) → r ≡ Ok x → r ≡ Ok y → x ≡ y
-read_is r x y a b = ap (found x) (sym a ∙ b)
-  where
-    found : {A : Type 0} → A → Result A WireFault → A
-    found x (Ok y) = y
-    found x _ = x
+read_is r x y a b = cc
 
 -- whether a packet is a question, and of whom, in which round
 abbrev pub is_question : Sent → Bool
@@ -157,9 +153,6 @@ module _ (back : ReadsBack) (past : List Entry) (e : EndpointState) (k : IsEndpo
       → IsNoCall e nothing e (one_parcel again) []
   resends ssn again legal is = by (slice_get e.node.memory.sent ssn) refl legal is
     where
-      both : (a b : Bool) → (a || b) ≡ false → b ≡ false
-      both a b h = grind (arith, h)
-
       by : (o : Option SentMessage) → slice_get e.node.memory.sent ssn ≡ o → resend_fault e ssn o ≡ None → resent_bytes e ssn o ≡ Some again → IsNoCall e nothing e (one_parcel again) []
       by None at legal is = absurd (false≢true (ap is_some is))
       by (Some kept) at legal is =
@@ -168,7 +161,7 @@ module _ (back : ReadsBack) (past : List Entry) (e : EndpointState) (k : IsEndpo
           let fits = k.kept ssn kept at in
           let count : length e.node.memory.sent ≤ 65536 = k.sent in
           let within = slice_get_within e.node.memory.sent ssn kept at in
-          let short = both _ _ (or_else_none _ _ None legal).0 in
+          let short = (or_parts _ _ (or_else_none _ _ None legal).0).1 in
           record {
             nothing_taken = refl;
             same = refl;

@@ -6,7 +6,7 @@ use Rattle.std.proofs.lemmas.Bool.{false≢true, cond-true, cond-false, eq-eqb}
 use Rattle.std.proofs.lemmas.Bool.Decides.{eqb_tells}
 use Rattle.causal_name.specs.declared.MsgName.{MsgName}
 use Rattle.causal_trace.specs.declared.entry.Entry.{Entry}
-use Rattle.causal_trace.specs.declared.entry.Entry.TheVariants.{Send, Deliver, Stable, Crash, Restart, Forget}
+use Rattle.causal_trace.specs.declared.entry.Entry.TheVariants.{Send, Restart}
 use Rattle.causal_trace.specs.Past.{instant, entry_at, lane as lane_of, sends, message_sent, message_at}
 use Rattle.causal_trace.proofs.Lemmas.AtInstants.{instants_stay, last_instant}
 use Rattle.causal_steps.proofs.Lemmas.Positions.{at_newest, at_older, message_below}
@@ -61,16 +61,12 @@ is_restart_of (Restart who listed) p = who.0 == p
 is_restart_of _ p = false
 
 lane_step : (e : Entry) (past : List Entry) (p : ℕ) → (is_restart_of e p ≡ true) × (lane_of (e ∷ past) p ≡ lane_of past p + 1) ⊎ (is_restart_of e p ≡ false) × (lane_of (e ∷ past) p ≡ lane_of past p)
-lane_step (Send from to ssn) past p = inr (refl, refl)
-lane_step (Deliver to send rsn listed) past p = inr (refl, refl)
-lane_step (Stable det) past p = inr (refl, refl)
-lane_step (Crash who) past p = inr (refl, refl)
 lane_step (Restart who listed) past p = by (who.0 == p)
   where
     by : (b : Bool) → (b ≡ true) × ((if b then lane_of past p + 1 else lane_of past p) ≡ lane_of past p + 1) ⊎ (b ≡ false) × ((if b then lane_of past p + 1 else lane_of past p) ≡ lane_of past p)
     by true = inl (refl, refl)
     by false = inr (refl, refl)
-lane_step (Forget who listed) past p = inr (refl, refl)
+lane_step _ past p = inr (refl, refl)
 
 lane_grows : (e : Entry) (past : List Entry) (p : ℕ) → lane_of past p ≤ lane_of (e ∷ past) p
 lane_grows e past p = elim (lane_step e past p) [ inl is ↦ omega (arith, is.1) | inr is ↦ omega (arith, is.1) ]
@@ -81,23 +77,16 @@ sends_grow (Send from to ssn) past p h = by (from.0 == p)
     by : (b : Bool) → sends past p ≤ (if b then sends past p + 1 else sends past p)
     by true = omega arith
     by false = omega arith
-sends_grow (Deliver to send rsn listed) past p h = omega arith
-sends_grow (Stable det) past p h = omega arith
-sends_grow (Crash who) past p h = omega arith
 sends_grow (Restart who listed) past p h = by (who.0 == p) h
   where
     by : (b : Bool) → b ≡ false → sends past p ≤ (if b then 0 else sends past p)
     by true is = absurd (false≢true (sym is))
     by false is = omega arith
-sends_grow (Forget who listed) past p h = omega arith
+sends_grow _ past p h = omega arith
 
 counted_before : (e : Entry) (past : List Entry) → AreSendsCounted (e ∷ past) → AreSendsCounted past
 counted_before (Send from to ssn) past h = h.0
-counted_before (Deliver to send rsn listed) past h = h
-counted_before (Stable det) past h = h
-counted_before (Crash who) past h = h
-counted_before (Restart who listed) past h = h
-counted_before (Forget who listed) past h = h
+counted_before _ past h = h
 
 -- the message of the newest entry has the next number of its lane
 newest_number : (e : Entry) (past : List Entry) (name : MsgName) → AreSendsCounted (e ∷ past) → message_sent e ≡ Some name → (name.ssn ≡ sends past name.source.0) × (sends (e ∷ past) name.source.0 ≡ sends past name.source.0 + 1)
@@ -106,11 +95,7 @@ newest_number (Send from to ssn) past name h is =
       ap (λ (m : MsgName). m.ssn) (sym same) ∙ h.1 ∙ ap (λ (m : MsgName). sends past m.source.0) same,
       subst (λ (m : MsgName). (if from.0 == m.source.0 then sends past m.source.0 + 1 else sends past m.source.0) ≡ sends past m.source.0 + 1) same (cond-true (from.0 == from.0) (sends past from.0 + 1) (sends past from.0) (eq-eqb from.0 from.0 refl)),
     )
-newest_number (Deliver to send rsn listed) past name h is = absurd (false≢true (ap is_some is))
-newest_number (Stable det) past name h is = absurd (false≢true (ap is_some is))
-newest_number (Crash who) past name h is = absurd (false≢true (ap is_some is))
-newest_number (Restart who listed) past name h is = absurd (false≢true (ap is_some is))
-newest_number (Forget who listed) past name h is = absurd (false≢true (ap is_some is))
+newest_number _ past name h is = absurd (false≢true (ap is_some is))
 
 -- a message that was sent is of a lane that has begun; of the present lane it has a number that was sent
 pub lane_begun : (past : List Entry) (at number : ℕ) (name : MsgName) → IsSendOf past at number name → number ≤ lane_of past name.source.0

@@ -1,9 +1,9 @@
 -- What each call of a node does to its lane, to what it has sent, and to its round.
-use Rattle.std.proofs.Common.{ℕ, ◌≡◌, ◌∙◌, ◌==◌, Bool, true, false, ◌&&◌, List, [], ◌∷◌, ◌++◌, length, Option, Some, None, is_some, unwrap_or, inl, inr, refl, sym, ap, subst}
+use Rattle.std.proofs.Common.{ℕ, ◌≡◌, ◌∙◌, ◌==◌, Bool, true, false, ◌&&◌, List, [], ◌∷◌, ◌++◌, length, Option, Some, None, is_some, unwrap_or, inl, inr, refl, sym, ap, subst, arith}
 use Rattle.std.specs.Prelude.{◌⊎◌, if◌then◌else◌}
 use Rattle.std.specs.FinMap as fin
-use Rattle.std.proofs.lemmas.Bool.{false≢true, and_parts, eqb-true}
-use Rattle.std.proofs.lemmas.Bool.Decides.{eqb_tells}
+use Rattle.std.specs.List.{list_any}
+use Rattle.std.proofs.lemmas.Bool.{false≢true, and_parts, or_parts, eqb-true, ne_eqb}
 use Rattle.causal_name.specs.declared.Pid.{Pid}
 use Rattle.causal_name.specs.declared.MsgName.{MsgName}
 use Rattle.causal_name.specs.declared.Det.{Det}
@@ -20,7 +20,7 @@ use Rattle.causal_node.specs.NodeAnswers.{node_after_answer, after_answer_at, kn
 use Rattle.causal_nodes.specs.Packets.{Sent, WasSent, message_packet, question_packet, read_packet, is_of_round}
 use Rattle.causal_calls.specs.Views.{numbers}
 use Rattle.causal_calls.specs.Parcels.{next_message_packet}
-use Rattle.causal_calls.specs.Calls.{NodeCall, send, deliver, acknowledge, learn, forget, write, stored, answer_log, answer_not_up, answer_number, begin_round, take_log, take_not_up, take_other_number, take_number, ask_storage, take_stored, finish_read, restart, open_again}
+use Rattle.causal_calls.specs.Calls.{NodeCall, send, deliver, forget, stored, answer_log, answer_not_up, answer_number, begin_round, take_log, take_not_up, take_other_number, take_number, ask_storage, take_stored, finish_read, restart, open_again}
 use Rattle.causal_calls.proofs.Lemmas.Refusals.{some_none, unless_up_none, of_round}
 use Rattle.causal_endpoints.proofs.Counts.{is_uncounted}
 
@@ -51,22 +51,15 @@ abbrev is_message : Sent → Bool
 is_message (message_packet name p) = true
 is_message _ = false
 
-one_other : (k : Sent) → is_message k ≡ false → HasNoMessage (k ∷ [])
-one_other k other name t (inl is) = false≢true (sym other ∙ ap is_message is)
-one_other k other name t (inr none) = none
-
-no_message : HasNoMessage []
-no_message name t none = none
+-- what is sent passes no test that none of it passes
+not_sent : (test : Sent → Bool) (sent : List Sent) (k : Sent) → list_any test sent ≡ false → WasSent sent k → test k ≡ true → ⊥
+not_sent test [] k other none of = none
+not_sent test (j ∷ sent) k other (inl is) of = false≢true (sym (or_parts _ _ other).0 ∙ ap test is ∙ of)
+not_sent test (j ∷ sent) k other (inr later) of = not_sent test sent k (or_parts _ _ other).1 later of
 
 module _ (position : ℕ) (old new : NodeState) (sent : List Sent) (entries : List Entry) where
-  still : new.lane ≡ old.lane → new.memory.sent ≡ old.memory.sent → is_some new.recovery ≡ is_some old.recovery → AreUncounted entries → HasNoMessage sent → Effect position old new sent entries
-  still lane kept up uncounted other = stays lane (inl kept) up (λ is. kept) uncounted other
-
-nothing_recorded : AreUncounted []
-nothing_recorded = inl refl
-
-one_recorded : (e : Entry) → is_uncounted e ≡ true → AreUncounted (e ∷ [])
-one_recorded e is = inr (e, refl, is)
+  still : new.lane ≡ old.lane → new.memory.sent ≡ old.memory.sent → is_some new.recovery ≡ is_some old.recovery → AreUncounted entries → list_any is_message sent ≡ false → Effect position old new sent entries
+  still lane kept up uncounted other = stays lane (inl kept) up (λ is. kept) uncounted (λ name t was. not_sent is_message sent (message_packet name t) other was refl)
 
 forgets : (p : Pid) (listed : List Det) → AreUncounted (forget_entries p listed)
 forgets p [] = inl refl
@@ -90,9 +83,8 @@ round_counts : (s : NodeState) (change : RoundState → RoundState) → SameCoun
 round_counts s change = by s.recovery refl
   where
     by : (o : Recovery) → s.recovery ≡ o → SameCounts s (with_recovery s (map_round change o))
-    by None is = record { lane = refl; kept = refl; up = ap is_some (sym is) }
-    by (Some None) is = record { lane = refl; kept = refl; up = ap is_some (sym is) }
     by (Some (Some r)) is = record { lane = refl; kept = refl; up = ap is_some (sym is) }
+    by _ is = record { lane = refl; kept = refl; up = ap is_some (sym is) }
 
 number_counts : (s : NodeState) (q : Pid) (number name : ℕ) → reply_fault s.recovery name q ≡ None → SameCounts s (after_number s q number)
 number_counts s q number name legal = record { lane = refl; kept = refl; up = ap is_some (sym (of_round s.recovery name q legal).1) }
@@ -105,8 +97,7 @@ not_up_counts s q number name legal = by (floor_of s.floors q == number)
     by false = number_counts s q number name legal
 
 begun : (o : Recovery) → begin_fault o ≡ None → is_some o ≡ true
-begun None h = absurd (some_none _ h)
-begun (Some r) h = refl
+begun o h = grind arith
 
 -- the stage of a node that is opened
 abbrev recovery_at : Bool → Recovery
@@ -115,35 +106,31 @@ recovery_at b = if b then None else Some None
 pub call_effect : (position : ℕ) (old new : NodeState) (taken : Option Sent) (sent : List Sent) (entries : List Entry) → NodeCall position old taken new sent entries → ((round : Option RoundState) → old.recovery ≡ Some round → old.lane ≡ 0 → ⊥)
     → Effect position old new sent entries
 call_effect position old new taken sent entries (send to body legal) later = let up = (unless_up_none _ _ legal).0 in sends to up up refl refl refl refl
-call_effect position old new taken sent entries (deliver lane name at items ascending legal) later = still position old new sent entries refl refl refl (one_recorded _ refl) no_message
-call_effect position old new taken sent entries (acknowledge to dets legal) later = still position old new sent entries refl refl refl nothing_recorded (one_other _ refl)
-call_effect position old new taken sent entries (learn lane from items legal) later = still position old new sent entries refl refl refl nothing_recorded no_message
-call_effect position old new taken sent entries (forget legal) later = still position old new sent entries refl refl refl (forgets old.identity.me (forgotten_in (next_slot old) old.memory.log)) no_message
-call_effect position old new taken sent entries (write dets up logged) later = still position old new sent entries refl refl refl nothing_recorded (one_other _ refl)
+call_effect position old new taken sent entries (deliver lane name at items ascending legal) later = still position old new sent entries refl refl refl (inr (_, refl, refl)) refl
+call_effect position old new taken sent entries (forget legal) later = still position old new sent entries refl refl refl (forgets old.identity.me (forgotten_in (next_slot old) old.memory.log)) refl
 call_effect position old new taken sent entries (stored dets det up has) later =
-    subst (λ (o : Recovery). Effect position old (node_after_stored old det o) [] (Stable det ∷ [])) (sym up) (still position old (node_after_stored old det None) [] (Stable det ∷ []) refl refl refl (one_recorded _ refl) no_message)
-call_effect position old new taken sent entries (answer_log asker name view legal reply) later = let is = reply_counts old view in still position old new sent entries is.lane is.kept is.up nothing_recorded (one_other _ refl)
-call_effect position old new taken sent entries (answer_not_up asker name view legal reply) later = let is = reply_counts old view in still position old new sent entries is.lane is.kept is.up nothing_recorded (one_other _ refl)
-call_effect position old new taken sent entries (answer_number asker view legal reply) later = let is = reply_counts old view in still position old new sent entries is.lane is.kept is.up nothing_recorded (one_other _ refl)
-call_effect position old new taken sent entries (begin_round name legal) later = still position old new sent entries refl refl (sym (begun old.recovery legal)) nothing_recorded (one_other _ refl)
-call_effect position old new taken sent entries (take_log name lane q log legal) later = let is = round_counts old (λ r. with_log_of r q.0 log) in still position old new sent entries is.lane is.kept is.up nothing_recorded no_message
-call_effect position old new taken sent entries (take_not_up name q legal) later = let is = not_up_counts old q (floor_of old.floors q) name legal in still position old new sent entries is.lane is.kept is.up nothing_recorded no_message
-call_effect position old new taken sent entries (take_other_number name q number legal other) later = let is = not_up_counts old q number name legal in still position old new sent entries is.lane is.kept is.up nothing_recorded no_message
-call_effect position old new taken sent entries (take_number name q number legal) later = let is = number_counts old q number name legal in still position old new sent entries is.lane is.kept is.up nothing_recorded no_message
-call_effect position old new taken sent entries (ask_storage r gathers legal) later = still position old new sent entries refl refl refl nothing_recorded (one_other _ refl)
+    subst (λ (o : Recovery). Effect position old (node_after_stored old det o) [] (Stable det ∷ [])) (sym up) (still position old (node_after_stored old det None) [] (Stable det ∷ []) refl refl refl (inr (_, refl, refl)) refl)
+call_effect position old new taken sent entries (answer_log asker name view legal reply) later = let is = reply_counts old view in still position old new sent entries is.lane is.kept is.up (inl refl) refl
+call_effect position old new taken sent entries (answer_not_up asker name view legal reply) later = let is = reply_counts old view in still position old new sent entries is.lane is.kept is.up (inl refl) refl
+call_effect position old new taken sent entries (answer_number asker view legal reply) later = let is = reply_counts old view in still position old new sent entries is.lane is.kept is.up (inl refl) refl
+call_effect position old new taken sent entries (begin_round name legal) later = still position old new sent entries refl refl (sym (begun old.recovery legal)) (inl refl) refl
+call_effect position old new taken sent entries (take_log name lane q log legal) later = let is = round_counts old (λ r. with_log_of r q.0 log) in still position old new sent entries is.lane is.kept is.up (inl refl) refl
+call_effect position old new taken sent entries (take_not_up name q legal) later = let is = not_up_counts old q (floor_of old.floors q) name legal in still position old new sent entries is.lane is.kept is.up (inl refl) refl
+call_effect position old new taken sent entries (take_other_number name q number legal other) later = let is = not_up_counts old q number name legal in still position old new sent entries is.lane is.kept is.up (inl refl) refl
+call_effect position old new taken sent entries (take_number name q number legal) later = let is = number_counts old q number name legal in still position old new sent entries is.lane is.kept is.up (inl refl) refl
 call_effect position old new taken sent entries (take_stored r dets det gathers legal has) later =
-    subst (λ (o : Recovery). Effect position old (node_after_stored old det o) [] (Stable det ∷ [])) (sym gathers) (still position old (node_after_stored old det (Some (Some r))) [] (Stable det ∷ []) refl refl (ap is_some (sym gathers)) (one_recorded _ refl) no_message)
-call_effect position old new taken sent entries (finish_read r dets gathers legal all) later = let is = round_counts old node_after_read in still position old new sent entries is.lane is.kept is.up nothing_recorded no_message
+    subst (λ (o : Recovery). Effect position old (node_after_stored old det o) [] (Stable det ∷ [])) (sym gathers) (still position old (node_after_stored old det (Some (Some r))) [] (Stable det ∷ []) refl refl (ap is_some (sym gathers)) (inr (_, refl, refl)) refl)
+call_effect position old new taken sent entries (finish_read r dets gathers legal all) later = let is = round_counts old node_after_read in still position old new sent entries is.lane is.kept is.up (inl refl) refl
 call_effect position old new taken sent entries (restart reserved legal) later = by old.recovery refl legal
   where
     by : (o : Recovery) → old.recovery ≡ o → node_restart_fault o ≡ None → Effect position old (after_restart_at old o reserved) [] (Restart old.identity.me (fin.keys (after_restart_at old o reserved).memory.log) ∷ [])
-    by None is legal = absurd (some_none _ legal)
-    by (Some None) is legal = absurd (some_none _ legal)
     by (Some (Some r)) is legal = restarts _ (Some r) is refl refl refl refl refl
-call_effect position old new taken sent entries (open_again round down) later = stays refl (inr refl) (recovers ∙ ap is_some (sym down)) (λ up. absurd (false≢true (ap is_some (sym up ∙ down)))) nothing_recorded no_message
+    by _ is legal = absurd (some_none _ legal)
+call_effect position old new taken sent entries (open_again round down) later = stays refl (inr refl) (recovers ∙ ap is_some (sym down)) (λ up. absurd (false≢true (ap is_some (sym up ∙ down)))) (inl refl) (λ name t none. none)
   where
     recovers : is_some (opened_node old.identity old.lane).recovery ≡ true
-    recovers = elim (eqb_tells old.lane 0) [ inl is ↦ absurd (later round down is.1) | inr other ↦ ap {B = Bool} (λ (b : Bool). is_some (recovery_at b)) other.0 ]
+    recovers = ap {B = Bool} (λ (b : Bool). is_some (recovery_at b)) (ne_eqb old.lane 0 (later round down))
+call_effect position old new taken sent entries _ later = still position old new sent entries refl refl refl (inl refl) refl
 
 -- a round is the one before, or its question was sent
 abbrev pub RoundEffect : NodeState → NodeState → List Sent → Type 0
@@ -185,12 +172,6 @@ not_up_rounds s p number sent = by (floor_of s.floors p == number)
     by false = λ q is. absurd (inner (Some None) q is refl)
 
 pub call_rounds : (position : ℕ) (old new : NodeState) (taken : Option Sent) (sent : List Sent) (entries : List Entry) → NodeCall position old taken new sent entries → RoundEffect old new sent
-call_rounds position old new taken sent entries (send to body legal) = λ q is. inl (q, is, refl, refl)
-call_rounds position old new taken sent entries (deliver lane name at items ascending legal) = λ q is. inl (q, is, refl, refl)
-call_rounds position old new taken sent entries (acknowledge to dets legal) = λ q is. inl (q, is, refl, refl)
-call_rounds position old new taken sent entries (learn lane from items legal) = λ q is. inl (q, is, refl, refl)
-call_rounds position old new taken sent entries (forget legal) = λ q is. inl (q, is, refl, refl)
-call_rounds position old new taken sent entries (write dets up logged) = λ q is. inl (q, is, refl, refl)
 call_rounds position old new taken sent entries (stored dets det up has) = subst (λ (o : Recovery). RoundEffect old (node_after_stored old det o) []) (sym up) (λ q is. inl (q, is, refl, refl))
 call_rounds position old new taken sent entries (answer_log asker name view legal reply) = reply_rounds old view sent
 call_rounds position old new taken sent entries (answer_not_up asker name view legal reply) = reply_rounds old view sent
@@ -200,32 +181,24 @@ call_rounds position old new taken sent entries (take_log name lane p log legal)
 call_rounds position old new taken sent entries (take_not_up name p legal) = not_up_rounds old p (floor_of old.floors p) sent
 call_rounds position old new taken sent entries (take_other_number name p number legal other) = not_up_rounds old p number sent
 call_rounds position old new taken sent entries (take_number name p number legal) = λ q is. absurd (inner (Some None) q is refl)
-call_rounds position old new taken sent entries (ask_storage r gathers legal) = λ q is. inl (q, is, refl, refl)
 call_rounds position old new taken sent entries (take_stored r dets det gathers legal has) = subst (λ (o : Recovery). RoundEffect old (node_after_stored old det o) []) (sym gathers) (λ q is. inl (r, gathers, ap (λ (o : Recovery). name_in r.name o) is, refl))
 call_rounds position old new taken sent entries (finish_read r dets gathers legal all) = changed_round old node_after_read (λ r. refl) sent
 call_rounds position old new taken sent entries (restart reserved legal) = by old.recovery refl legal
   where
     by : (o : Recovery) → old.recovery ≡ o → node_restart_fault o ≡ None → RoundEffect old (after_restart_at old o reserved) []
-    by None is legal = absurd (some_none _ legal)
-    by (Some None) is legal = absurd (some_none _ legal)
     by (Some (Some r)) is legal = λ q none. no_round q none
+    by _ is legal = absurd (some_none _ legal)
 call_rounds position old new taken sent entries (open_again round down) = by (old.lane == 0)
   where
     by : (b : Bool) → RoundEffect old (with_recovery (opened_node old.identity old.lane) (if b then None else Some None)) []
     by true = λ q is. no_round q is
     by false = λ q is. absurd (inner (Some None) q is refl)
+call_rounds position old new taken sent entries _ = λ q is. inl (q, is, refl, refl)
 
 -- a packet of a round is sent after its question: one that is taken or sent now, or that of the present round
 abbrev pub AskEffect : NodeState → Option Sent → List Sent → Type 0
 AskEffect old taken sent = (k : Sent) (s name : ℕ) → WasSent sent k → is_of_round k s name ≡ true
     → ((view : ℕ → ℕ) × (taken ≡ Some (question_packet s name view))) ⊎ (((view : ℕ → ℕ) × WasSent sent (question_packet s name view)) ⊎ ((r : RoundState) × (old.recovery ≡ Some (Some r)) × (r.name ≡ name) × (old.identity.me.0 ≡ s)))
-
-of_none : (old : NodeState) (taken : Option Sent) (j : Sent) → ((s name : ℕ) → is_of_round j s name ≡ false) → AskEffect old taken (j ∷ [])
-of_none old taken j other k s name (inl is) of = absurd (false≢true (sym (other s name) ∙ ap (λ x. is_of_round x s name) is ∙ of))
-of_none old taken j other k s name (inr none) of = absurd none
-
-of_nothing : (old : NodeState) (taken : Option Sent) → AskEffect old taken []
-of_nothing old taken k s name none of = absurd none
 
 -- a reply to a question
 of_question : (old : NodeState) (j : Sent) (asker round : ℕ) (view : ℕ → ℕ) → ((s name : ℕ) → is_of_round j s name ≡ (asker == s && round == name)) → AskEffect old (Some (question_packet asker round view)) (j ∷ [])
@@ -247,23 +220,8 @@ of_present old r gathers k s name (inl is) of =
 of_present old r gathers k s name (inr none) of = absurd none
 
 pub call_asks : (position : ℕ) (old new : NodeState) (taken : Option Sent) (sent : List Sent) (entries : List Entry) → NodeCall position old taken new sent entries → AskEffect old taken sent
-call_asks position old new taken sent entries (send to body legal) = of_none old _ _ (λ s name. refl)
-call_asks position old new taken sent entries (deliver lane name at items ascending legal) = of_nothing old _
-call_asks position old new taken sent entries (acknowledge to dets legal) = of_none old _ _ (λ s name. refl)
-call_asks position old new taken sent entries (learn lane from items legal) = of_nothing old _
-call_asks position old new taken sent entries (forget legal) = of_nothing old _
-call_asks position old new taken sent entries (write dets up logged) = of_none old _ _ (λ s name. refl)
-call_asks position old new taken sent entries (stored dets det up has) = of_nothing old _
 call_asks position old new taken sent entries (answer_log asker name view legal reply) = of_question old _ asker.0 name (numbers view) (λ s x. refl)
 call_asks position old new taken sent entries (answer_not_up asker name view legal reply) = of_question old _ asker.0 name (numbers view) (λ s x. refl)
-call_asks position old new taken sent entries (answer_number asker view legal reply) = of_none old _ _ (λ s name. refl)
 call_asks position old new taken sent entries (begin_round name legal) = of_begun old name
-call_asks position old new taken sent entries (take_log name lane q log legal) = of_nothing old _
-call_asks position old new taken sent entries (take_not_up name q legal) = of_nothing old _
-call_asks position old new taken sent entries (take_other_number name q number legal other) = of_nothing old _
-call_asks position old new taken sent entries (take_number name q number legal) = of_nothing old _
 call_asks position old new taken sent entries (ask_storage r gathers legal) = of_present old r gathers
-call_asks position old new taken sent entries (take_stored r dets det gathers legal has) = of_nothing old _
-call_asks position old new taken sent entries (finish_read r dets gathers legal all) = of_nothing old _
-call_asks position old new taken sent entries (restart reserved legal) = of_nothing old _
-call_asks position old new taken sent entries (open_again round down) = of_nothing old _
+call_asks position old new taken sent entries _ = λ k s name was of. absurd (not_sent (λ j. is_of_round j s name) sent k refl was of)

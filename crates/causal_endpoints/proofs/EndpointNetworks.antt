@@ -19,13 +19,13 @@ use Rattle.causal_protocol.specs.Naming.{message_name}
 use Rattle.causal_world.specs.World.{Packet}
 use Rattle.causal_wire.specs.declared.parcel.Head.{Head}
 use Rattle.causal_wire.specs.declared.parcel.RunId.{RunId}
-use Rattle.causal_wire.specs.Parcels.{Contents, message, acknowledgement, question, answer, own_number, not_up, IsDet, IsRun, IsParcel}
+use Rattle.causal_wire.specs.Parcels.{Contents, message, question, not_up, IsDet, IsRun, IsParcel}
 use Rattle.causal_wire.specs.Bytes.{parcel_bytes}
 use Rattle.causal_wire.specs.Reading.{read_parcel}
 use Rattle.causal_node.specs.declared.node.Identity.{Identity}
 use Rattle.causal_node.specs.NodeStates.{NodeState, RoundState, floor_of}
 use Rattle.causal_node.specs.NodeRecovery.{opened_node}
-use Rattle.causal_nodes.specs.Packets.{Sent, WasSent, WasTaken, message_packet, acknowledgement_packet, write_packet, written_packet, question_packet, answer_packet, not_up_packet, read_packet, stored_packet, number_packet, is_of_round}
+use Rattle.causal_nodes.specs.Packets.{Sent, WasSent, WasTaken, message_packet, write_packet, written_packet, question_packet, not_up_packet, read_packet, stored_packet, number_packet, is_of_round}
 use Rattle.causal_nodes.specs.Network.{HasFreshName}
 use Rattle.causal_calls.specs.Views.{numbers}
 use Rattle.causal_calls.specs.Parcels.{message_with}
@@ -44,6 +44,7 @@ use Rattle.causal_endpoints.specs.Systems.{EndpointSystem, HasGoneDown, IsTakeab
 use Rattle.causal_endpoints.specs.Systems as system
 use Rattle.causal_endpoints.proofs.CallRows.{ReadsBack, read_is, is_question}
 use Rattle.causal_endpoints.proofs.Within.{opened_within}
+use Rattle.causal_endpoints.proofs.KeptRows.{state_of}
 use Rattle.causal_endpoints.proofs.Counts.{one_send}
 use Rattle.causal_endpoints.proofs.SystemFacts.{SystemFacts, was_older, was_newer, either_sent, at_each, first_facts, facts_after_call, facts_after_crash, facts_after_storage}
 use Rattle.causal_endpoints.proofs.Ghosts.{tells_number, says_not_up}
@@ -138,16 +139,8 @@ more_sent n f run new old b p = record { parcel = p.parcel; of_run = p.of_run; w
 
 -- a packet that is no question has a fresh name
 fresh_if_other : (old : List Sent) (k : Sent) → is_question k ≡ false → HasFreshName old k
-fresh_if_other old (message_packet name p) h = tt
-fresh_if_other old (acknowledgement_packet p) h = tt
-fresh_if_other old (write_packet p) h = tt
-fresh_if_other old (written_packet dets) h = tt
 fresh_if_other old (question_packet from name view) h = absurd (false≢true (sym h))
-fresh_if_other old (answer_packet name p) h = tt
-fresh_if_other old (not_up_packet from to name) h = tt
-fresh_if_other old (read_packet from name view) h = tt
-fresh_if_other old (stored_packet to name dets) h = tt
-fresh_if_other old (number_packet from number) h = tt
+fresh_if_other old _ h = tt
 
 abbrev HasNoQuestion : List Sent → Type 0
 HasNoQuestion sent = (k : Sent) → WasSent sent k → is_question k ≡ false
@@ -278,15 +271,12 @@ module _ (n f run : ℕ) (w : EndpointSystem) where
         let entry = sys.facts.messages name (message_with head.lane head.dest sent name (batch_in head items)) was in
         let same : sent ≡ at = ap (λ o. unwrap_or o sent) entry.1 ∙ one_send w.past entry.0 at head.lane name sys.facts.counted entry.2 is in
         subst (λ m. WasSent sys.packets (message_packet name (message_with head.lane head.dest m name (batch_in head items)))) same was
-    packet_taken node head (acknowledgement items) sent at mine was number is = was
-    packet_taken node head (question round view) sent at mine was number is = was
-    packet_taken node head (answer round entries) sent at mine was number is = was
-    packet_taken node head (own_number round) sent at mine was number is = was
     packet_taken node head (not_up round) sent at mine was number is = by (floor_of node.floors head.source == head.lane)
       where
         by : (b : Bool) → WasSent sys.packets (if b then not_up_packet head.source.0 node.identity.me.0 round else number_packet head.source.0 head.lane)
         by true = subst (λ (to : Pid). WasSent sys.packets (not_up_packet head.source.0 to.0 round)) mine was
         by false = number
+    packet_taken node head _ sent at mine was number is = was
 
     -- what a node takes was sent
     prepared : ReadsBack → (me : Pid) → me.0 < n → (input : CallInput) (taken : Option Sent) → IsTakeable n w input → TakesPacket w.past (w.endpoints me.0) input taken → HasTaken taken
@@ -383,15 +373,7 @@ module _ (n f run : ℕ) (w : EndpointSystem) where
           let asked = sys.facts.asked j from name before of in
           let is = c.questions from name view there in
           unused name is.1 (subst (λ m. IsListed (w.names m) name) (is.0 ∙ me_is sys me.0 low) (sys.names from name asked.0 asked.1)))
-      fresh (message_packet name p) there = tt
-      fresh (acknowledgement_packet p) there = tt
-      fresh (write_packet p) there = tt
-      fresh (written_packet ds) there = tt
-      fresh (answer_packet name p) there = tt
-      fresh (not_up_packet from to name) there = tt
-      fresh (read_packet from name view) there = tt
-      fresh (stored_packet to name ds) there = tt
-      fresh (number_packet from number) there = tt
+      fresh _ there = tt
 
       stepped : with_nodes w (entries ++ w.past) (with_value_at (nodes_of w.endpoints) me.0 e.node) (c.sent ++ sys.packets) ≡ system_of after (c.sent ++ sys.packets)
       stepped = λ i. with_nodes w (entries ++ w.past) (nodes_at w.endpoints me.0 e i) (c.sent ++ sys.packets)
@@ -460,19 +442,7 @@ module _ (back : ReadsBack) (calls : EndpointCallsAreNodeCalls) (keeps : Endpoin
     opened_state p low clock lane early =
         let k = sys.states p low in
         let e = w.endpoints p in
-        let within = opened_within e.node.identity.processes e.node.identity.me.0 e.node.identity (e.node.lane + 1) lane in
-        record {
-          node = opening e.node.identity (e.node.lane + 1) k.node.process;
-          run = k.run;
-          lane = within.lane;
-          clock = early;
-          floors = within.floors;
-          logged = within.logged;
-          round = within.round;
-          kept = within.kept;
-          sent = within.sent;
-          received = within.received;
-        }
+        state_of (opened_after e clock) (opening e.node.identity (e.node.lane + 1) k.node.process) k.run early (opened_within _ _ e.node.identity (e.node.lane + 1) lane)
 
     nothing_counted : (e : EndpointState) (clock : ℕ) → HasCountedLog (opened_after e clock)
     nothing_counted e clock = omega (arith, fin.len-empty det_cmp Known)
@@ -559,20 +529,7 @@ module _ (back : ReadsBack) (calls : EndpointCallsAreNodeCalls) (keeps : Endpoin
       opened_nodes p low = ap (λ (x : EndpointState). x.node) (new.endpoints p low).2
 
       first_state : (p : ℕ) → p < n → (clock : ℕ) → clock < 2 ^ 62 → IsEndpointState (record { node = opened_node (identity_of n f p) 0; run = run; clock = clock })
-      first_state p low clock early =
-          let within = opened_within n p (identity_of n f p) 0 (omega arith) in
-          record {
-            node = opening (identity_of n f p) 0 low;
-            run = record { id = new.number; processes = new.processes; f = new.bound };
-            lane = within.lane;
-            clock = early;
-            floors = within.floors;
-            logged = within.logged;
-            round = within.round;
-            kept = within.kept;
-            sent = within.sent;
-            received = within.received;
-          }
+      first_state p low clock early = state_of _ (opening (identity_of n f p) 0 low) (record { id = new.number; processes = new.processes; f = new.bound }) early (opened_within n p (identity_of n f p) 0 (omega arith))
 
   systems : (w : EndpointSystem) → IsReachableEndpointSystem n f run w → IsSystemOf n f run w
   systems w (new_system same new) = begins w new

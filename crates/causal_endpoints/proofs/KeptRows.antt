@@ -23,9 +23,8 @@ use Rattle.causal_wire.specs.Reading.{read_parcel}
 use Rattle.causal_world.specs.World.{Packet}
 use Rattle.causal_node.specs.declared.node.Identity.{Identity}
 use Rattle.causal_node.specs.NodeStates.{NodeState, floor_of}
-use Rattle.causal_nodes.specs.Packets.{Sent, write_packet, read_packet, not_up_packet, number_packet}
-use Rattle.causal_calls.specs.Views.{numbers, IsNodeState}
-use Rattle.causal_calls.specs.Parcels.{write_of}
+use Rattle.causal_nodes.specs.Packets.{Sent, not_up_packet, number_packet}
+use Rattle.causal_calls.specs.Views.{IsNodeState}
 use Rattle.causal_calls.specs.StepLaws.{NamesProcesses, TakesOfProcesses, CallsKeepNodeStates}
 use Rattle.causal_protocol.proofs.Lemmas.LogMembers.{none_entry, none_holds}
 use Rattle.causal_endpoint.specs.declared.fault.EndpointFault.TheVariants as Faults
@@ -33,7 +32,7 @@ use Rattle.causal_endpoint.specs.Endpoints.{EndpointState, run_of}
 use Rattle.causal_endpoint.specs.Receiving.{contents_fault, clock_with}
 use Rattle.causal_endpoint.specs.Items.{log_item, log_entry, log_from}
 use Rattle.causal_endpoints.specs.Packets.{taken_with, not_up_for}
-use Rattle.causal_endpoints.specs.Calls.{CallInput, nothing, bytes, from_storage, ended, Output, output_at, EndpointCall, send, resend, acknowledge, forget, receive, write, stored, begin_round, ask, take_ended, ask_storage, take_stored, finish_read, restart, open_again}
+use Rattle.causal_endpoints.specs.Calls.{CallInput, nothing, bytes, from_storage, ended, Output, one_request, output_at, EndpointCall, send, resend, acknowledge, forget, receive, write, stored, begin_round, ask, take_ended, ask_storage, take_stored, finish_read, restart, open_again}
 use Rattle.causal_endpoints.specs.States.{IsEndpointState, IsOfDets, IsOfRun}
 use Rattle.causal_endpoints.specs.CallLaws.{IsListed, TakesPacket, IsNodeCall, IsNoCall, EndpointCallsKeepStates}
 use Rattle.causal_endpoints.proofs.Legal.{or_else_none, node_or_none, clock_below}
@@ -119,10 +118,9 @@ module _ (e : EndpointState) where
     | inr source ↦ subst (λ m. m < n) (sym (eqb-true q head.source.0 (and_parts _ _ source).1)) fits.head.source
   ])
   parcel_names at head (acknowledgement items) fits = λ p is. as_packet _ p is (λ d q h. items_holders n head.source fits.head.source d q items fits.contents.each h)
-  parcel_names at head (question round view) fits = λ p is. absurd is
   parcel_names at head (answer round entries) fits = λ p is. as_packet _ p is (λ d q h. log_holders n head.source fits.head.source d q entries fits.contents.1.each h)
-  parcel_names at head (own_number round) fits = λ p is. absurd is
   parcel_names at head (not_up round) fits = said_names head.source head.lane round
+  parcel_names at head _ fits = λ p is. absurd is
 
   within_of : IsEndpointState e → IsWithin n e.node.identity.me.0 e.node
   within_of k = record { lane = k.lane; floors = k.floors; logged = k.logged; round = k.round; kept = k.kept; sent = k.sent; received = k.received }
@@ -145,27 +143,16 @@ module _ (e : EndpointState) where
   -- the clock after a parcel was taken
   clock_kept : (now : ℕ) (head : Head) (contents : Contents) → e.clock < 2 ^ 62 → head.clock < 2 ^ 62 → contents_fault e now head contents ≡ None → clock_with e now head contents < 2 ^ 62
   clock_kept now head (message ssn items body) low head_low legal = clock_below _ (node_or_none _ _ legal).1
-  clock_kept now head (acknowledgement items) low head_low legal = omega (arith, low, head_low)
   clock_kept now head (question round view) low head_low legal = clock_below _ (node_or_none _ _ legal).1
-  clock_kept now head (answer round entries) low head_low legal = omega (arith, low, head_low)
-  clock_kept now head (own_number round) low head_low legal = omega (arith, low, head_low)
-  clock_kept now head (not_up round) low head_low legal = omega (arith, low, head_low)
+  clock_kept now head _ low head_low legal = omega (arith, low, head_low)
 
   no_names_at : (now : ℕ) (head : Head) (contents : Contents) (name : ℕ) → IsListed (output_at e now head contents).names name → ⊥
   no_names_at now head (message ssn items body) name h = h
-  no_names_at now head (acknowledgement items) name h = h
-  no_names_at now head (question round view) name h = h
-  no_names_at now head (answer round entries) name h = h
-  no_names_at now head (own_number round) name h = h
-  no_names_at now head (not_up round) name h = h
+  no_names_at now head _ name h = h
 
   no_requests_at : (now : ℕ) (head : Head) (contents : Contents) (k : Sent) → IsListed (output_at e now head contents).to_storage k → ⊥
   no_requests_at now head (message ssn items body) k h = h
-  no_requests_at now head (acknowledgement items) k h = h
-  no_requests_at now head (question round view) k h = h
-  no_requests_at now head (answer round entries) k h = h
-  no_requests_at now head (own_number round) k h = h
-  no_requests_at now head (not_up round) k h = h
+  no_requests_at now head _ k h = h
 
 -- what is plain of each call
 record IsPlain (old : EndpointState) (input : CallInput) (new : EndpointState) (output : Output) : Type 0 where
@@ -175,81 +162,48 @@ record IsPlain (old : EndpointState) (input : CallInput) (new : EndpointState) (
   reply : IsReply old input
   requests : (k : Sent) → IsListed output.to_storage k → IsOfDets old.node.identity.processes k
 
-plainly : (old new : EndpointState) (output : Output) → new.run ≡ old.run → new.clock < 2 ^ 62 → ((name : ℕ) → IsListed output.names name → ⊥) → ((k : Sent) → IsListed output.to_storage k → ⊥) → IsPlain old nothing new output
-plainly old new output run clock unnamed unasked = record { run = run; clock = clock; names = λ name h. absurd (unnamed name h); reply = tt; requests = λ k h. absurd (unasked k h) }
+plainly : (old new : EndpointState) (input : CallInput) (output : Output) → new.run ≡ old.run → new.clock < 2 ^ 62 → IsReply old input → ((name : ℕ) → IsListed output.names name → ⊥) → ((k : Sent) → IsListed output.to_storage k → ⊥)
+    → IsPlain old input new output
+plainly old new input output run clock reply unnamed unasked = record { run = run; clock = clock; names = λ name h. absurd (unnamed name h); reply = reply; requests = λ k h. absurd (unasked k h) }
+
+asking : (old : EndpointState) (k : Sent) → old.clock < 2 ^ 62 → IsOfDets old.node.identity.processes k → IsPlain old nothing old (one_request k)
+asking old k clock fits = record { run = refl; clock = clock; names = λ name h. absurd h; reply = tt; requests = one_among (IsOfDets old.node.identity.processes) k fits }
 
 none_of : {X : Type 0} (x : X) → IsListed [] x → ⊥
 none_of x h = h
 
 plain : ReadsBack → (past : List Entry) (old new : EndpointState) (input : CallInput) (output : Output) (entries : List Entry) → EndpointCall past old input new output entries → IsEndpointState old → IsOfRun old input → IsPlain old input new output
-plain back past old new input output entries (send now to body legal) k fits = plainly old new output refl (clock_below _ (or_else_none _ _ _ (node_or_none _ _ legal).1).1) none_of none_of
-plain back past old new input output entries (resend ssn again legal is) k fits = plainly old new output refl k.clock none_of none_of
-plain back past old new input output entries (acknowledge now to dets ascends legal) k fits = plainly old new output refl (clock_below _ (or_else_none _ _ _ (node_or_none _ _ legal).1).1) none_of none_of
-plain back past old new input output entries (forget now legal) k fits = plainly old new output refl (clock_below _ (node_or_none _ _ legal).1) none_of none_of
+plain back past old new input output entries (send now to body legal) k fits = plainly old new input output refl (clock_below _ (or_else_none _ _ _ (node_or_none _ _ legal).1).1) tt none_of none_of
+plain back past old new input output entries (resend ssn again legal is) k fits = plainly old new input output refl k.clock tt none_of none_of
+plain back past old new input output entries (acknowledge now to dets ascends legal) k fits = plainly old new input output refl (clock_below _ (or_else_none _ _ _ (node_or_none _ _ legal).1).1) tt none_of none_of
+plain back past old new input output entries (forget now legal) k fits = plainly old new input output refl (clock_below _ (node_or_none _ _ legal).1) tt none_of none_of
 plain back past old new input output entries (receive now b p recorded read legal records) k fits =
     let same : p ≡ fits.0 = read_is (read_parcel (run_of old) b) p fits.0 read (ap (read_parcel (run_of old)) fits.2 ∙ back (run_of old) fits.0 k.run fits.1) in
     let of_run = subst (λ q. IsParcel (run_of old) q) (sym same) fits.1 in
     let dest = or_else_none (not (same_pid p.0.dest old.node.identity.me)) Faults.NotMine _ legal in
     let source = or_else_none (same_pid p.0.source old.node.identity.me) Faults.OwnParcel _ dest.1 in
-    record {
-      run = refl;
-      clock = clock_kept old now p.0 p.1 k.clock of_run.head.clock source.1;
-      names = λ name h. absurd (no_names_at old now p.0 p.1 name h);
-      reply = tt;
-      requests = λ j h. absurd (no_requests_at old now p.0 p.1 j h);
-    }
-plain back past old new input output entries (write dets up logged) k fits = record {
-  run = refl;
-  clock = k.clock;
-  names = λ name h. absurd h;
-  reply = tt;
-  requests = one_among (λ j. IsOfDets old.node.identity.processes j) (write_packet (write_of old.node dets)) (λ d h. k.logged d (logged d h));
-}
-plain back past old new input output entries (stored now dets det up legal has) k fits = record {
-  run = refl;
-  clock = clock_below _ (node_or_none _ _ legal).1;
-  names = λ name h. absurd h;
-  reply = (fits, λ p is. absurd is);
-  requests = λ j h. absurd h;
-}
+    plainly old new input output refl (clock_kept old now p.0 p.1 k.clock of_run.head.clock source.1) tt (no_names_at old now p.0 p.1) (no_requests_at old now p.0 p.1)
+plain back past old new input output entries (write dets up logged) k fits = asking old _ k.clock (λ d h. k.logged d (logged d h))
+plain back past old new input output entries (stored now dets det up legal has) k fits = plainly old new input output refl (clock_below _ (node_or_none _ _ legal).1) (fits, λ p is. absurd is) none_of none_of
 plain back past old new input output entries (begin_round name low legal) k fits = record { run = refl; clock = k.clock; names = one_among (λ m. m < 2 ^ 64) name low; reply = tt; requests = λ j h. absurd h }
-plain back past old new input output entries (ask now to legal) k fits = plainly old new output refl (clock_below _ (node_or_none _ _ legal).1) none_of none_of
-plain back past old new input output entries (take_ended name q number legal) k fits = record { run = refl; clock = k.clock; names = λ name h. absurd h; reply = tt; requests = λ j h. absurd h }
-plain back past old new input output entries (ask_storage r gathers legal) k fits = record {
-  run = refl;
-  clock = k.clock;
-  names = λ name h. absurd h;
-  reply = tt;
-  requests = one_among (λ j. IsOfDets old.node.identity.processes j) (read_packet old.node.identity.me.0 r.name (numbers old.node.floors)) tt;
-}
-plain back past old new input output entries (take_stored now r dets det gathers legal has) k fits = record {
-  run = refl;
-  clock = clock_below _ (node_or_none _ _ legal).1;
-  names = λ name h. absurd h;
-  reply = (fits, λ p is. absurd is);
-  requests = λ j h. absurd h;
-}
-plain back past old new input output entries (finish_read r dets gathers legal all) k fits = record { run = refl; clock = k.clock; names = λ name h. absurd h; reply = (fits, λ p is. absurd is); requests = λ j h. absurd h }
-plain back past old new input output entries (restart now reserved legal) k fits = plainly old new output refl (clock_below _ (node_or_none _ _ legal).1) none_of none_of
-plain back past old new input output entries (open_again round clock down low) k fits = plainly old new output refl low none_of none_of
+plain back past old new input output entries (ask now to legal) k fits = plainly old new input output refl (clock_below _ (node_or_none _ _ legal).1) tt none_of none_of
+plain back past old new input output entries (take_ended name q number legal) k fits = plainly old new input output refl k.clock tt none_of none_of
+plain back past old new input output entries (ask_storage r gathers legal) k fits = asking old _ k.clock tt
+plain back past old new input output entries (take_stored now r dets det gathers legal has) k fits = plainly old new input output refl (clock_below _ (node_or_none _ _ legal).1) (fits, λ p is. absurd is) none_of none_of
+plain back past old new input output entries (finish_read r dets gathers legal all) k fits = plainly old new input output refl k.clock (fits, λ p is. absurd is) none_of none_of
+plain back past old new input output entries (restart now reserved legal) k fits = plainly old new input output refl (clock_below _ (node_or_none _ _ legal).1) tt none_of none_of
+plain back past old new input output entries (open_again round clock down low) k fits = plainly old new input output refl low tt none_of none_of
 
--- the state after a call, by its node
+-- the state of an endpoint, by what is true of its node
+pub state_of : (e : EndpointState) → IsNodeState e.node → IsRun (run_of e) → e.clock < 2 ^ 62 → IsWithin e.node.identity.processes e.node.identity.me.0 e.node → IsEndpointState e
+state_of e node run clock within = assumption
+
+-- the state after a call
 state_from : (old new : EndpointState) → IsEndpointState old → new.node.identity ≡ old.node.identity → new.run ≡ old.run → new.clock < 2 ^ 62 → IsNodeState new.node
     → IsWithin old.node.identity.processes old.node.identity.me.0 new.node → IsEndpointState new
 state_from old new k identity run clock node within =
-    let here = subst (λ (i : Identity). IsWithin i.processes i.me.0 new.node) (sym identity) within in
-    record {
-      node = node;
-      run = subst (λ (i : Identity). IsRun (record { id = new.run; processes = i.processes; f = i.faults })) (sym identity) (subst (λ r. IsRun (record { id = r; processes = old.node.identity.processes; f = old.node.identity.faults })) (sym run) k.run);
-      lane = here.lane;
-      clock = clock;
-      floors = here.floors;
-      logged = here.logged;
-      round = here.round;
-      kept = here.kept;
-      sent = here.sent;
-      received = here.received;
-    }
+    let of_run = subst IsRun (λ i. record { id = sym run i; processes = (sym identity i).processes; f = (sym identity i).faults }) k.run in
+    state_of new node of_run clock (subst (λ (i : Identity). IsWithin i.processes i.me.0 new.node) (sym identity) within)
 
 pub calls_keep_states : ReadsBack → CallsKeepNodeStates → EndpointCallsKeepStates
 calls_keep_states back keep past old new input output entries call k few fits = by (calls_are_node_calls back past old new input output entries call k few fits)

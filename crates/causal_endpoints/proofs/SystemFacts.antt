@@ -8,13 +8,13 @@
 use Rattle.std.proofs.Common.{ℕ, zero, suc, ◌≡◌, ◌∙◌, ◌==◌, ◌<◌, ◌+◌, Bool, true, false, List, [], ◌∷◌, ◌++◌, length, Option, Some, None, is_some, unwrap_or, inl, inr, length-append, refl, sym, ap, subst, arith}
 use Rattle.std.specs.Prelude.{◌⊎◌, slice_get, if◌then◌else◌}
 use Rattle.std.specs.Option.{option_and_then}
-use Rattle.std.proofs.lemmas.Bool.{false≢true, cond-true, cond-false, eq-eqb}
+use Rattle.std.proofs.lemmas.Bool.{false≢true, cond-true, cond-false, eq-eqb, ne_eqb}
 use Rattle.std.proofs.lemmas.Bool.Decides.{eqb_tells}
 use Rattle.causal_name.specs.declared.Pid.{Pid}
 use Rattle.causal_name.specs.declared.MsgName.{MsgName}
 use Rattle.causal_name.specs.declared.Det.{Det}
 use Rattle.causal_trace.specs.declared.entry.Entry.{Entry}
-use Rattle.causal_trace.specs.declared.entry.Entry.TheVariants.{Send, Deliver, Stable, Crash, Restart, Forget}
+use Rattle.causal_trace.specs.declared.entry.Entry.TheVariants.{Send, Crash, Restart}
 use Rattle.causal_trace.specs.Past.{entry_at, lane as lane_of, sends, message_sent}
 use Rattle.causal_trace.proofs.Lemmas.AtInstants.{instants_stay, last_instant}
 use Rattle.causal_steps.proofs.Lemmas.Positions.{at_newest}
@@ -86,19 +86,12 @@ at_each P xs here x is p other = by (eqb_tells p here)
 -- the counts after an entry that counts nothing, or of another process
 uncounted_counts : (e : Entry) (past : List Entry) → is_uncounted e ≡ true → AreSendsCounted past → AreSendsCounted (e ∷ past)
 uncounted_counts (Send from to ssn) past is h = absurd (false≢true is)
-uncounted_counts (Deliver to send rsn listed) past is h = h
-uncounted_counts (Stable det) past is h = h
-uncounted_counts (Crash who) past is h = h
-uncounted_counts (Restart who listed) past is h = absurd (false≢true is)
-uncounted_counts (Forget who listed) past is h = h
+uncounted_counts _ past is h = h
 
 uncounted_lane : (e : Entry) (past : List Entry) (p : ℕ) → is_uncounted e ≡ true → (lane_of (e ∷ past) p ≡ lane_of past p) × (sends (e ∷ past) p ≡ sends past p)
 uncounted_lane (Send from to ssn) past p is = absurd (false≢true is)
-uncounted_lane (Deliver to send rsn listed) past p is = (refl, refl)
-uncounted_lane (Stable det) past p is = (refl, refl)
-uncounted_lane (Crash who) past p is = (refl, refl)
 uncounted_lane (Restart who listed) past p is = absurd (false≢true is)
-uncounted_lane (Forget who listed) past p is = (refl, refl)
+uncounted_lane _ past p is = (refl, refl)
 
 -- the counts of a node in another past with the same counts, and of a node with the same numbers
 counts_in : (past next : List Entry) (p : ℕ) (s : NodeState) (o : Recovery) → lane_of next p ≡ lane_of past p → sends next p ≡ sends past p → CountsAt past p s o → CountsAt next p s o
@@ -137,15 +130,7 @@ last_or_before (z ∷ xs) x zero y at = inl at
 last_or_before (z ∷ xs) x (suc i) y at = elim (last_or_before xs x i y at) [ inl before ↦ inl before | inr last ↦ inr (omega (arith, last.0), last.1) ]
 
 same_packet : (x y : MsgName) (p t : Packet) → message_packet x p ≡ message_packet y t → (x ≡ y) × (p ≡ t)
-same_packet x y p t e = (ap named e, ap carried e)
-  where
-    named : Sent → MsgName
-    named (message_packet name q) = name
-    named _ = x
-
-    carried : Sent → Packet
-    carried (message_packet name q) = q
-    carried _ = p
+same_packet x y p t e = (cc, cc)
 
 module _ (n f : ℕ) (w : System) (k : SystemFacts n f w) (me : Pid) (low : me.0 < n) where
   abbrev old : NodeState
@@ -185,22 +170,22 @@ module _ (n f : ℕ) (w : System) (k : SystemFacts n f w) (me : Pid) (low : me.0
       | inr before ↦ let asked = k.asked j s name before of in (asked.0, was_older sent w.sent _ asked.1)
     ]
 
-    -- of the other processes
-    kept_others : (p : ℕ) → p < n → (ssn : ℕ) (kept : SentMessage) → slice_get (w.nodes p).memory.sent ssn ≡ Some kept → WasMessageSent (sent ++ w.sent) p (w.nodes p) ssn kept
-    kept_others p low_p ssn kept at = kept_more sent w.sent p (w.nodes p) (w.nodes p) ssn kept refl (k.kept p low_p ssn kept at)
-
-    facts_from : AreSendsCounted (entries ++ w.past) → ((p : ℕ) → p < n → NodeCounts (entries ++ w.past) p (with_value_at w.nodes me.0 new p)) → MessagesHaveEntries (entries ++ w.past) (sent ++ w.sent)
+    -- after these entries, which leave the counts of the other processes
+    facts_from : (es : List Entry) → entries ≡ es → AreSendsCounted (es ++ w.past) → NodeCounts (es ++ w.past) me.0 new
+        → ((p : ℕ) → (p ≡ me.0 → ⊥) → (lane_of (es ++ w.past) p ≡ lane_of w.past p) × (sends (es ++ w.past) p ≡ sends w.past p))
+        → MessagesHaveEntries (es ++ w.past) (sent ++ w.sent)
         → ((ssn : ℕ) (kept : SentMessage) → slice_get new.memory.sent ssn ≡ Some kept → WasMessageSent (sent ++ w.sent) me.0 new ssn kept)
         → SystemFacts n f after
-    facts_from counted nodes messages kept = record {
+    facts_from es recorded counted counts same messages kept = subst (λ (es : List Entry). SystemFacts n f (record after { past = es ++ w.past })) (sym recorded) (record {
       counted = counted;
       identities = identities_after;
-      nodes = nodes;
+      nodes = λ p low_p. at_each (λ p s. NodeCounts (es ++ w.past) p s) w.nodes me.0 new counts p (λ other. counts_in w.past (es ++ w.past) p (w.nodes p) (w.nodes p).recovery (same p other).0 (same p other).1 (k.nodes p low_p));
       messages = messages;
-      kept = λ p low_p. at_each (λ p s. (ssn : ℕ) (kept : SentMessage) → slice_get s.memory.sent ssn ≡ Some kept → WasMessageSent (sent ++ w.sent) p s ssn kept) w.nodes me.0 new kept p (λ other. kept_others p low_p);
+      kept = λ p low_p. at_each (λ p s. (ssn : ℕ) (kept : SentMessage) → slice_get s.memory.sent ssn ≡ Some kept → WasMessageSent (sent ++ w.sent) p s ssn kept) w.nodes me.0 new kept p
+          (λ other ssn kept at. kept_more sent w.sent p (w.nodes p) (w.nodes p) ssn kept refl (k.kept p low_p ssn kept at));
       questions = questions_after;
       asked = asked_after;
-    }
+    })
 
     -- a call that counts nothing
     facts_if_still : new.lane ≡ old.lane → (new.memory.sent ≡ old.memory.sent) ⊎ (new.memory.sent ≡ []) → is_some new.recovery ≡ is_some old.recovery → (old.recovery ≡ None → new.memory.sent ≡ old.memory.sent)
@@ -217,20 +202,12 @@ module _ (n f : ℕ) (w : System) (k : SystemFacts n f w) (me : Pid) (low : me.0
         mine_after = counts_of w.past me.0 old new lane up keeps (k.nodes me.0 low)
 
         by : AreUncounted entries → SystemFacts n f after
-        by (inl is) = facts_from
-            (subst (λ (es : List Entry). AreSendsCounted (es ++ w.past)) (sym is) k.counted)
-            (subst (λ (es : List Entry). (p : ℕ) → p < n → NodeCounts (es ++ w.past) p (with_value_at w.nodes me.0 new p)) (sym is) (λ p low_p. at_each (λ p s. NodeCounts w.past p s) w.nodes me.0 new mine_after p (λ other. k.nodes p low_p)))
-            (subst (λ (es : List Entry). MessagesHaveEntries (es ++ w.past) (sent ++ w.sent)) (sym is) (entries_more w.past sent w.sent none k.messages))
+        by (inl is) = facts_from [] is k.counted mine_after (λ p other. (refl, refl)) (entries_more w.past sent w.sent none k.messages) kept
+        by (inr (e, is, plain)) =
+            let same = uncounted_lane e w.past me.0 plain in
+            facts_from (e ∷ []) is (uncounted_counts e w.past plain k.counted) (counts_in w.past (e ∷ w.past) me.0 new new.recovery same.0 same.1 mine_after) (λ p other. uncounted_lane e w.past p plain)
+            (entries_more (e ∷ w.past) sent w.sent none (entries_older e w.past w.sent k.messages))
             kept
-        by (inr (e, is, plain)) = facts_from
-            (subst (λ (es : List Entry). AreSendsCounted (es ++ w.past)) (sym is) (uncounted_counts e w.past plain k.counted))
-            (subst (λ (es : List Entry). (p : ℕ) → p < n → NodeCounts (es ++ w.past) p (with_value_at w.nodes me.0 new p)) (sym is) (λ p low_p.
-            at_each (λ p s. NodeCounts (e ∷ w.past) p s) w.nodes me.0 new (in_next e plain me.0 new mine_after) p (λ other. in_next e plain p (w.nodes p) (k.nodes p low_p))))
-            (subst (λ (es : List Entry). MessagesHaveEntries (es ++ w.past) (sent ++ w.sent)) (sym is) (entries_more (e ∷ w.past) sent w.sent none (entries_older e w.past w.sent k.messages)))
-            kept
-          where
-            in_next : (e : Entry) → is_uncounted e ≡ true → (p : ℕ) (s : NodeState) → NodeCounts w.past p s → NodeCounts (e ∷ w.past) p s
-            in_next e plain p s h = let same = uncounted_lane e w.past p plain in counts_in w.past (e ∷ w.past) p s s.recovery same.0 same.1 h
 
     -- the message that a send keeps, and its packet
     abbrev next_kept : Pid → SentMessage
@@ -244,18 +221,10 @@ module _ (n f : ℕ) (w : System) (k : SystemFacts n f w) (me : Pid) (low : me.0
         → new.memory.sent ≡ old.memory.sent ++ record { to = to; send = length old.memory.sent; batch = batch_items old.identity.faults old.memory.log } ∷ []
         → sent ≡ message_packet (message_name old.identity.me (length old.memory.sent)) (next_message_packet (length w.past) old to) ∷ []
         → entries ≡ Send old.identity.me to (length old.memory.sent) ∷ [] → SystemFacts n f after
-    facts_if_sent to up still_up lane more sent_is recorded = facts_from
-        (subst (λ (es : List Entry). AreSendsCounted (es ++ w.past)) (sym recorded) counted)
-        (subst (λ (es : List Entry). (p : ℕ) → p < n → NodeCounts (es ++ w.past) p (with_value_at w.nodes me.0 new p)) (sym recorded) (λ p low_p.
-        at_each (λ p s. NodeCounts (Send old.identity.me to (length old.memory.sent) ∷ w.past) p s) w.nodes me.0 new mine_after p (λ other. counts_in w.past (Send old.identity.me to (length old.memory.sent) ∷ w.past) p (w.nodes p) (w.nodes p).recovery refl (others p other) (k.nodes p low_p))))
-        (subst (λ (es : List Entry). MessagesHaveEntries (es ++ w.past) (sent ++ w.sent)) (sym recorded) messages)
-        kept
+    facts_if_sent to up still_up lane more sent_is recorded = facts_from _ recorded (k.counted, sym counts.1 ∙ ap (sends w.past) (sym mine)) mine_after (λ p other. (refl, others p other)) messages kept
       where
         counts : (lane_of w.past me.0 ≡ old.lane) × (sends w.past me.0 ≡ length old.memory.sent)
         counts = subst (λ o. CountsAt w.past me.0 old o) up (k.nodes me.0 low)
-
-        counted : AreSendsCounted (Send old.identity.me to (length old.memory.sent) ∷ w.past)
-        counted = (k.counted, sym counts.1 ∙ ap (sends w.past) (sym mine))
 
         sent_more : sends (Send old.identity.me to (length old.memory.sent) ∷ w.past) me.0 ≡ length new.memory.sent
         sent_more =
@@ -267,7 +236,7 @@ module _ (n f : ℕ) (w : System) (k : SystemFacts n f w) (me : Pid) (low : me.0
         mine_after = subst (λ o. CountsAt (Send old.identity.me to (length old.memory.sent) ∷ w.past) me.0 new o) (sym still_up) (counts.0 ∙ sym lane, sent_more)
 
         others : (p : ℕ) → (p ≡ me.0 → ⊥) → sends (Send old.identity.me to (length old.memory.sent) ∷ w.past) p ≡ sends w.past p
-        others p other = elim (eqb_tells old.identity.me.0 p) [ inl is ↦ absurd (other (sym is.1 ∙ mine)) | inr apart ↦ cond-false (old.identity.me.0 == p) (sends w.past p + 1) (sends w.past p) apart.0 ]
+        others p other = cond-false (old.identity.me.0 == p) _ _ (ne_eqb old.identity.me.0 p (λ e. other (sym e ∙ mine)))
 
         entry : HasSendEntry (Send old.identity.me to (length old.memory.sent) ∷ w.past) (message_name old.identity.me (length old.memory.sent)) (next_message_packet (length w.past) old to)
         entry = (
@@ -301,20 +270,13 @@ module _ (n f : ℕ) (w : System) (k : SystemFacts n f w) (me : Pid) (low : me.0
 
     -- a restart
     facts_if_restarted : (listed : List Det) (round : Option RoundState) → old.recovery ≡ Some round → new.recovery ≡ None → new.lane ≡ old.lane → new.memory.sent ≡ [] → sent ≡ [] → entries ≡ Restart old.identity.me listed ∷ [] → SystemFacts n f after
-    facts_if_restarted listed round down up lane lost sent_is recorded = facts_from
-        (subst (λ (es : List Entry). AreSendsCounted (es ++ w.past)) (sym recorded) counted)
-        (subst (λ (es : List Entry). (p : ℕ) → p < n → NodeCounts (es ++ w.past) p (with_value_at w.nodes me.0 new p)) (sym recorded) (λ p low_p.
-        at_each (λ p s. NodeCounts (Restart old.identity.me listed ∷ w.past) p s) w.nodes me.0 new mine_after p
-        (λ other. counts_in w.past (Restart old.identity.me listed ∷ w.past) p (w.nodes p) (w.nodes p).recovery (cond-false (old.identity.me.0 == p) _ _ (apart p other)) (cond-false (old.identity.me.0 == p) _ _ (apart p other)) (k.nodes p low_p))))
-        (subst (λ (es : List Entry). MessagesHaveEntries (es ++ w.past) (sent ++ w.sent)) (sym recorded)
-        (entries_more (Restart old.identity.me listed ∷ w.past) sent w.sent (λ name t was. subst (λ js. WasSent js (message_packet name t)) sent_is was) (entries_older (Restart old.identity.me listed) w.past w.sent k.messages)))
+    facts_if_restarted listed round down up lane lost sent_is recorded = facts_from _ recorded k.counted mine_after
+        (λ p other. (cond-false (old.identity.me.0 == p) _ _ (apart p other), cond-false (old.identity.me.0 == p) _ _ (apart p other)))
+        (entries_more (Restart old.identity.me listed ∷ w.past) sent w.sent (λ name t was. subst (λ js. WasSent js (message_packet name t)) sent_is was) (entries_older (Restart old.identity.me listed) w.past w.sent k.messages))
         (λ ssn kept at. absurd (false≢true (ap is_some (ap (λ xs. slice_get xs ssn) (sym lost) ∙ at))))
       where
-        counted : AreSendsCounted (Restart old.identity.me listed ∷ w.past)
-        counted = k.counted
-
         apart : (p : ℕ) → (p ≡ me.0 → ⊥) → (old.identity.me.0 == p) ≡ false
-        apart p other = elim (eqb_tells old.identity.me.0 p) [ inl is ↦ absurd (other (sym is.1 ∙ mine)) | inr not_it ↦ not_it.0 ]
+        apart p other = ne_eqb old.identity.me.0 p (λ e. other (sym e ∙ mine))
 
         counts : lane_of w.past me.0 + 1 ≡ old.lane
         counts = subst (λ o. CountsAt w.past me.0 old o) down (k.nodes me.0 low)
@@ -338,13 +300,10 @@ no_round_at : (b : Bool) (r : RoundState) → (if b then None else Some None) �
 no_round_at true r h = false≢true (ap is_some h)
 no_round_at false r h = false≢true (ap (λ o. is_some (unwrap_or o None)) h)
 
-next_is_not_first : (a : ℕ) → (a + 1 == 0) ≡ false
-next_is_not_first a = elim (eqb_tells (a + 1) 0) [ inl is ↦ absurd (omega (arith, is.1)) | inr other ↦ other.0 ]
-
 -- n nodes that are opened in lane 0
 pub first_facts : (n f : ℕ) (w : System) → w.past ≡ [] → ((p : ℕ) → p < n → w.nodes p ≡ opened_node (identity_of n f p) 0) → w.sent ≡ [] → SystemFacts n f w
 first_facts n f w past nodes sent = record {
-  counted = counted;
+  counted = subst AreSendsCounted (sym past) tt;
   identities = λ p low. ap (λ (s : NodeState). s.identity) (nodes p low);
   nodes = λ p low. subst (λ s. NodeCounts w.past p s) (sym (nodes p low)) (subst (λ (es : List Entry). (lane_of es p ≡ 0) × (sends es p ≡ 0)) (sym past) (refl, refl));
   messages = λ name t was. absurd (subst (λ js. WasSent js (message_packet name t)) sent was);
@@ -352,15 +311,12 @@ first_facts n f w past nodes sent = record {
   questions = λ p low r is. absurd (false≢true (ap is_some (ap (λ (s : NodeState). s.recovery) (sym (nodes p low)) ∙ is)));
   asked = λ j s name was of. absurd (subst (λ js. WasSent js j) sent was);
 }
-  where
-    counted : AreSendsCounted w.past
-    counted = subst (λ es. AreSendsCounted es) (sym past) tt
 
 -- a crash
 pub facts_after_crash : (n f : ℕ) (w : System) → SystemFacts n f w → (who : Pid) → who.0 < n → (w.nodes who.0).recovery ≡ None
     → SystemFacts n f (record { past = Crash who ∷ w.past; nodes = with_value_at w.nodes who.0 (opened_node (w.nodes who.0).identity ((w.nodes who.0).lane + 1)); sent = w.sent; stored = w.stored; floors = w.floors })
 facts_after_crash n f w k who low up = record {
-  counted = counted;
+  counted = k.counted;
   identities = λ p low_p. at_each (λ p s. s.identity ≡ identity_of n f p) w.nodes who.0 fallen (k.identities who.0 low) p (λ other. k.identities p low_p);
   nodes = λ p low_p. at_each (λ p s. NodeCounts (Crash who ∷ w.past) p s) w.nodes who.0 fallen fallen_counts p (λ other. counts_in w.past (Crash who ∷ w.past) p (w.nodes p) (w.nodes p).recovery refl refl (k.nodes p low_p));
   messages = entries_older (Crash who) w.past w.sent k.messages;
@@ -372,14 +328,11 @@ facts_after_crash n f w k who low up = record {
     fallen : NodeState
     fallen = opened_node (w.nodes who.0).identity ((w.nodes who.0).lane + 1)
 
-    counted : AreSendsCounted (Crash who ∷ w.past)
-    counted = k.counted
-
     counts : lane_of w.past who.0 ≡ (w.nodes who.0).lane
     counts = (subst (λ o. CountsAt w.past who.0 (w.nodes who.0) o) up (k.nodes who.0 low)).0
 
-    fallen_counts : NodeCounts (Crash who ∷ w.past) who.0 (opened_node (w.nodes who.0).identity ((w.nodes who.0).lane + 1))
-    fallen_counts = subst (λ (b : Bool). CountsAt (Crash who ∷ w.past) who.0 (opened_node (w.nodes who.0).identity ((w.nodes who.0).lane + 1)) (if b then None else Some None)) (sym (next_is_not_first (w.nodes who.0).lane)) (ap (λ m. m + 1) counts)
+    fallen_counts : NodeCounts (Crash who ∷ w.past) who.0 fallen
+    fallen_counts = subst (λ (b : Bool). CountsAt (Crash who ∷ w.past) who.0 fallen (if b then None else Some None)) (sym (ne_eqb ((w.nodes who.0).lane + 1) 0 (λ e. omega (arith, e)))) (ap (λ m. m + 1) counts)
 
 -- stable storage sends something that is no message
 pub facts_after_storage : (n f : ℕ) (w : System) → SystemFacts n f w → (j : Sent) (stored : Det → Bool) (floors : ℕ → ℕ) → ((name : MsgName) (t : Packet) → j ≡ message_packet name t → ⊥)

@@ -26,7 +26,6 @@ use Rattle.causal_node.specs.declared.node_fault.NodeFault.TheVariants as Faults
 use Rattle.causal_memory.specs.Namings.{named_message_by}
 use Rattle.causal_node.specs.NodeAcknowledgements.{log_with_holders}
 use Rattle.causal_node.specs.NodeForgetting.{next_slot}
-use Rattle.causal_node.specs.declared.node_answer.RoundReply.{RoundReply}
 use Rattle.causal_node.specs.declared.node_answer.RoundReply.TheVariants as Replies
 use Rattle.causal_node.specs.NodeRecovery.{reply_fault, node_restart_fault, new_round_state, with_recovery, map_round, with_log_of, without_awaited, after_not_up, after_number, node_after_stored, node_after_read, after_restart_at, opened_node}
 use Rattle.causal_node.specs.NodeAnswers.{node_after_answer, after_answer_at, knows_number, raised_floors, round_reply, reply_at}
@@ -34,7 +33,7 @@ use Rattle.causal_nodes.specs.Node.{NodeLog}
 use Rattle.causal_nodes.specs.Packets.{Sent, WasSent, message_packet, written_packet, question_packet, answer_packet, stored_packet, number_packet}
 use Rattle.causal_calls.specs.Views.{numbers, IsNodeState}
 use Rattle.causal_calls.specs.Parcels.{acknowledgement_with}
-use Rattle.causal_calls.specs.Calls.{NodeCall, send, deliver, acknowledge, learn, forget, write, stored, answer_log, answer_not_up, answer_number, begin_round, take_log, take_not_up, take_other_number, take_number, ask_storage, take_stored, finish_read, restart, open_again}
+use Rattle.causal_calls.specs.Calls.{NodeCall, send, deliver, learn, forget, stored, answer_log, answer_not_up, answer_number, begin_round, take_log, take_not_up, take_other_number, take_number, take_stored, finish_read, restart, open_again}
 use Rattle.causal_calls.proofs.Lemmas.Refusals.{below_from, some_none, or_else_none, unless_up_none, of_round}
 use Rattle.causal_calls.proofs.Lemmas.LogViews.{delivered_has, marked, one_entry, held_has}
 use Rattle.causal_protocol.proofs.Lemmas.LogMembers.{own_have, items_have, none_entry}
@@ -160,18 +159,13 @@ room None reserved name rest h = (or_else_none reserved _ rest h).1
 room (Some other) reserved name rest h = (or_else_none _ _ rest h).1
 
 -- a reply with the own number changes nothing
-is_number : RoundReply → Bool
-is_number Replies.OwnNumber = true
-is_number _ = false
-
 number_same : (s : NodeState) (view : List ℕ) → round_reply s view ≡ Replies.OwnNumber → s ≡ node_after_answer s view
-unfolding is_number
 number_same s view reply = by (knows_number s view) s.recovery reply
   where
     by : (b : Bool) (o : Recovery) → (if b then reply_at o else Replies.OwnNumber) ≡ Replies.OwnNumber → s ≡ (if b then after_answer_at s view s.recovery else s)
-    by true None h = absurd (false≢true (ap is_number h))
-    by true (Some r) h = absurd (false≢true (ap is_number h))
     by false o h = refl
+    by true None h = cc
+    by true (Some r) h = cc
 
 not_up_within : (s : NodeState) → IsWithin s.identity.processes s.identity.me.0 s → (q : Pid) (number name : ℕ) → reply_fault s.recovery name q ≡ None → number < 2 ^ 32 → IsWithin s.identity.processes s.identity.me.0 (after_not_up s q number)
 not_up_within s k q number name legal low = by (floor_of s.floors q == number)
@@ -181,8 +175,6 @@ not_up_within s k q number name legal low = by (floor_of s.floors q == number)
     by false = after_other_number s.identity.processes s.identity.me.0 s k q number low
 
 restarted_within : (s : NodeState) → IsWithin s.identity.processes s.identity.me.0 s → (reserved : List MsgName) (o : Recovery) → s.recovery ≡ o → node_restart_fault o ≡ None → IsWithin s.identity.processes s.identity.me.0 (after_restart_at s o reserved)
-restarted_within s k reserved None is legal = absurd (some_none _ legal)
-restarted_within s k reserved (Some None) is legal = absurd (some_none _ legal)
 restarted_within s k reserved (Some (Some r)) is legal = record {
   lane = k.lane;
   floors = k.floors;
@@ -195,6 +187,7 @@ restarted_within s k reserved (Some (Some r)) is legal = record {
   where
     gathered : IsRoundWithin s.identity.processes (Some (Some r))
     gathered = subst (λ o. IsRoundWithin s.identity.processes o) is k.round
+restarted_within s k reserved _ is legal = absurd (some_none _ legal)
 
 pub calls_within : (position : ℕ) (old new : NodeState) (taken : Option Sent) (sent : List Sent) (entries : List Entry) → NodeCall position old taken new sent entries
     → IsNodeState old → fin.len old.memory.log < 2 ^ 32 → IsWithin old.identity.processes old.identity.me.0 old → IsWithinIfTaken old.identity.processes taken → NamesRounds sent
@@ -236,12 +229,10 @@ calls_within position old new taken sent entries (deliver lane name at items asc
       sent = k.sent;
       received = omega (arith, space, length-append old.memory.received (name ∷ []));
     }
-calls_within position old new taken sent entries (acknowledge to dets legal) is few k fits named = k
 calls_within position old new taken sent entries (learn lane from items legal) is few k fits named =
     with_other_log old.identity.processes old.identity.me.0 old k (log_with_holders items) (λ d h. k.logged d (sym (ap (λ (x : NodeLog). x.has d) (learned old.memory.log items (acknowledgement_with from lane old.identity.me items).parcel (λ d q. refl))) ∙ h))
 calls_within position old new taken sent entries (forget legal) is few k fits named =
     with_other_log old.identity.processes old.identity.me.0 old k (after_forget (next_slot old)) (λ d h. k.logged d (and_parts _ _ (sym (ap (λ (x : NodeLog). x.has d) (forgotten (next_slot old) old.memory.log)) ∙ h)).1)
-calls_within position old new taken sent entries (write dets up logged) is few k fits named = k
 calls_within position old new taken sent entries (stored dets det up has) is few k fits named =
     subst (λ (o : Recovery). IsWithin old.identity.processes old.identity.me.0 (node_after_stored old det o)) (sym up)
     (with_other_log old.identity.processes old.identity.me.0 old k (λ log. after_mark log det) (λ d h. k.logged d (sym (ap (λ (x : NodeLog). x.has d) (marked old.memory.log det)) ∙ h)))
@@ -256,7 +247,6 @@ calls_within position old new taken sent entries (take_log name lane q log legal
 calls_within position old new taken sent entries (take_not_up name q legal) is few k fits named = not_up_within old k q (floor_of old.floors q) name legal (each_number old.floors k.floors q.0)
 calls_within position old new taken sent entries (take_other_number name q number legal other) is few k fits named = not_up_within old k q number name legal fits
 calls_within position old new taken sent entries (take_number name q number legal) is few k fits named = after_other_number old.identity.processes old.identity.me.0 old k q number fits
-calls_within position old new taken sent entries (ask_storage r gathers legal) is few k fits named = k
 calls_within position old new taken sent entries (take_stored r dets det gathers legal has) is few k fits named =
     subst (λ (o : Recovery). IsWithin old.identity.processes old.identity.me.0 (node_after_stored old det o)) (sym gathers)
     (with_other old.identity.processes old.identity.me.0 old k (Some (Some (record r { log = after_learn r.log det (stable_and_held_by old.identity.me) }))) (
@@ -272,3 +262,4 @@ calls_within position old new taken sent entries (take_stored r dets det gathers
 calls_within position old new taken sent entries (finish_read r dets gathers legal all) is few k fits named = changed old.identity.processes old.identity.me.0 old k r gathers node_after_read (λ w. w)
 calls_within position old new taken sent entries (restart reserved legal) is few k fits named = restarted_within old k reserved old.recovery refl legal
 calls_within position old new taken sent entries (open_again round down) is few k fits named = opened_within old.identity.processes old.identity.me.0 old.identity old.lane k.lane
+calls_within position old new taken sent entries _ is few k fits named = k
