@@ -61,27 +61,15 @@ is_restart_of (Restart who listed) p = who.0 == p
 is_restart_of _ p = false
 
 lane_step : (e : Entry) (past : List Entry) (p : ℕ) → (is_restart_of e p ≡ true) × (lane_of (e ∷ past) p ≡ lane_of past p + 1) ⊎ (is_restart_of e p ≡ false) × (lane_of (e ∷ past) p ≡ lane_of past p)
-lane_step (Restart who listed) past p = by (who.0 == p)
-  where
-    by : (b : Bool) → (b ≡ true) × ((if b then lane_of past p + 1 else lane_of past p) ≡ lane_of past p + 1) ⊎ (b ≡ false) × ((if b then lane_of past p + 1 else lane_of past p) ≡ lane_of past p)
-    by true = inl (refl, refl)
-    by false = inr (refl, refl)
+lane_step (Restart who listed) past p = grind arith
 lane_step _ past p = inr (refl, refl)
 
 lane_grows : (e : Entry) (past : List Entry) (p : ℕ) → lane_of past p ≤ lane_of (e ∷ past) p
 lane_grows e past p = elim (lane_step e past p) [ inl is ↦ omega (arith, is.1) | inr is ↦ omega (arith, is.1) ]
 
 sends_grow : (e : Entry) (past : List Entry) (p : ℕ) → is_restart_of e p ≡ false → sends past p ≤ sends (e ∷ past) p
-sends_grow (Send from to ssn) past p h = by (from.0 == p)
-  where
-    by : (b : Bool) → sends past p ≤ (if b then sends past p + 1 else sends past p)
-    by true = omega arith
-    by false = omega arith
-sends_grow (Restart who listed) past p h = by (who.0 == p) h
-  where
-    by : (b : Bool) → b ≡ false → sends past p ≤ (if b then 0 else sends past p)
-    by true is = absurd (false≢true (sym is))
-    by false is = omega arith
+sends_grow (Send from to ssn) past p h = grind arith
+sends_grow (Restart who listed) past p h = grind arith
 sends_grow _ past p h = omega arith
 
 counted_before : (e : Entry) (past : List Entry) → AreSendsCounted (e ∷ past) → AreSendsCounted past

@@ -4,10 +4,9 @@
 use Rattle.std.proofs.Common.{ℕ, ◌≡◌, ◌∙◌, ◌==◌, ◌<◌, ◌+◌, ◌^◌, Bool, true, false, List, [], ◌∷◌, ◌++◌, length, Option, Some, None, unwrap_or, inl, inr, refl, sym, ap, subst, arith}
 use Rattle.std.specs.Prelude.{◌⊎◌, nat_lt, if◌then◌else◌}
 use Rattle.std.specs.FinMap as fin
-use Rattle.std.proofs.lemmas.Bool.{false≢true, or_cases, eqb-true, false_from_ne_true}
+use Rattle.std.proofs.lemmas.Bool.{false≢true, or_cases, eqb-true, ltb-true, false_from_ne_true}
 use Rattle.std.proofs.lemmas.Bool.Decides.{eqb_tells}
 use Rattle.causal_name.specs.declared.Pid.{Pid}
-use Rattle.causal_name.specs.declared.MsgName.{MsgName}
 use Rattle.causal_name.specs.declared.Det.{Det}
 use Rattle.causal_name.specs.Names.{det_cmp}
 use Rattle.causal_name.specs.Sets.{count_below}
@@ -16,7 +15,6 @@ use Rattle.causal_trace.specs.declared.entry.Entry.{Entry}
 use Rattle.causal_trace.specs.declared.entry.Entry.TheVariants.{Crash}
 use Rattle.causal_rounds.specs.Rounds.{with_value_at}
 use Rattle.causal_protocol.specs.Naming.{message_name}
-use Rattle.causal_world.specs.World.{Packet}
 use Rattle.causal_wire.specs.declared.parcel.Head.{Head}
 use Rattle.causal_wire.specs.declared.parcel.RunId.{RunId}
 use Rattle.causal_wire.specs.Parcels.{Contents, message, question, not_up, IsDet, IsRun, IsParcel}
@@ -33,6 +31,7 @@ use Rattle.causal_calls.specs.Calls.{NodeCall}
 use Rattle.causal_calls.specs.Systems.{System, identity_of, is_recovering, IsReachableSystem, SystemsAreSafe, SystemsShareNoSlot}
 use Rattle.causal_calls.specs.Systems as nodes
 use Rattle.causal_calls.proofs.Lemmas.Openings.{opening}
+use Rattle.causal_calls.proofs.Lemmas.Refusals.{not_below}
 use Rattle.causal_endpoint.specs.Endpoints.{EndpointState, run_of}
 use Rattle.causal_endpoint.specs.Receiving.{name_in, batch_in}
 use Rattle.causal_endpoints.specs.Packets.{packet_of, packet_with, taken_with, not_up_for, IsSendWith, Says}
@@ -48,11 +47,6 @@ use Rattle.causal_endpoints.proofs.KeptRows.{state_of}
 use Rattle.causal_endpoints.proofs.Counts.{one_send}
 use Rattle.causal_endpoints.proofs.SystemFacts.{SystemFacts, was_older, was_newer, either_sent, at_each, first_facts, facts_after_call, facts_after_crash, facts_after_storage}
 use Rattle.causal_endpoints.proofs.Ghosts.{tells_number, says_not_up}
-
--- whether a packet is a message
-abbrev is_message : Sent → Bool
-is_message (message_packet name p) = true
-is_message _ = false
 
 -- what is among two lists
 among_older : {X : Type 0} (new old : List X) (x : X) → IsListed old x → IsListed (new ++ old) x
@@ -163,17 +157,12 @@ module _ (n f run : ℕ) (w : EndpointSystem) where
     as_before = λ i. record { past = w.past; nodes = same_at here.nodes me.0 (here.nodes me.0) refl i; sent = sent ++ sys.packets; stored = w.stored; floors = w.floors }
 
     abbrev ghost : IsSystemOf n f run w
-    ghost = record {
+    ghost = record sys {
       packets = sent ++ sys.packets;
       reached = subst (λ s. IsReachableSystem n f s) as_before (nodes.next_system here changed sys.reached (nodes.call_event me taken (here.nodes me.0) sent [] low was call (λ k there. fresh_if_other sys.packets k (other k there))));
       facts = subst (λ s. SystemFacts n f s) as_before (facts_after_call n f here sys.facts me low taken (here.nodes me.0) sent [] was call refl);
-      range = sys.range;
-      states = sys.states;
-      counted = sys.counted;
-      runs = sys.runs;
       parcels = λ b there. more_sent n f run sent sys.packets b (sys.parcels b there);
       requests = λ k there. let before = sys.requests k there in (was_older sent sys.packets k before.0, before.1);
-      stored = sys.stored;
       names = λ s name view there. elim (either_sent sent sys.packets _ there) [ inl now ↦ absurd (false≢true (sym (other _ now))) | inr before ↦ sys.names s name view before ];
     }
 
@@ -210,12 +199,9 @@ module _ (n f run : ℕ) (w : EndpointSystem) where
         ]
 
         by : (b : Bool) → nat_lt 1 n ≡ b → HasNumber p.0
-        by false is = record { more = record { next = sys; keeps = λ k was. was }; number = λ h. absurd (few n is h) }
-          where
-            few : (m : ℕ) → nat_lt 1 m ≡ false → 1 < m → ⊥
-            few m is h = grind (arith, is, h)
+        by false is = record { more = record { next = sys; keeps = λ k was. was }; number = λ h. absurd (omega (arith, not_below 1 n is, h)) }
         by true is =
-            let enough : 1 < n = below n is in
+            let enough : 1 < n = ltb-true 1 n is in
             let q = someone in
             let k = (sys.states p.0 low).node in
             let call = tells_number (length w.past) (w.endpoints p.0).node k q.0 (subst (λ m. q.0.0 < m) (sym (processes_is p.0 low)) (q.1.0 enough)) (λ e. q.1.1 (e ∙ me_is p.0 low)) in
@@ -224,9 +210,6 @@ module _ (n f run : ℕ) (w : EndpointSystem) where
               more = record { next = ghost sys p low None (packet ∷ []) tt call (one_no_question packet refl); keeps = λ k was. inr was };
               number = λ h. inl (ap (λ m. number_packet m (w.endpoints p.0).node.lane) (me_is p.0 low));
             }
-          where
-            below : (m : ℕ) → nat_lt 1 m ≡ true → 1 < m
-            below m is = grind (arith, is)
 
     record HasTaken (taken : Option Sent) : Type 0 where
       more : IsMore sys
@@ -333,12 +316,9 @@ module _ (n f run : ℕ) (w : EndpointSystem) where
             packet = subst (λ k. WasSent (sent ++ sys.packets) k) (sym says.packet) said.1.1;
             number = λ other.
                 let source : says.parcel.0.source.0 ≡ me.0 = ap (λ (p : Pid). p.0) says.source ∙ me_is sys me.0 low in
-                let enough : 1 < n = many n says.parcel.0.dest.0 says.parcel.0.source.0 of_run.head.dest of_run.head.source other in
+                let enough : 1 < n = omega (arith, of_run.head.dest, of_run.head.source, other) in
                 was_older sent sys.packets _ (subst (λ m. WasSent sys.packets (number_packet says.parcel.0.source.0 m)) (sym says.in_lane) (subst (λ m. WasSent sys.packets (number_packet m old.node.lane)) (sym source) (numbers_sent enough)));
           }
-        where
-          many : (m a b : ℕ) → a < m → b < m → (a ≡ b → ⊥) → 1 < m
-          many m a b h k other = omega (arith, h, k, other)
 
       names_after : (s name : ℕ) (view : ℕ → ℕ) → WasSent (sent ++ sys.packets) (question_packet s name view) → IsListed (after.names s) name
       names_after s name view there = elim (either_sent sent sys.packets _ there) [
@@ -444,9 +424,6 @@ module _ (back : ReadsBack) (calls : EndpointCallsAreNodeCalls) (keeps : Endpoin
         let e = w.endpoints p in
         state_of (opened_after e clock) (opening e.node.identity (e.node.lane + 1) k.node.process) k.run early (opened_within _ _ e.node.identity (e.node.lane + 1) lane)
 
-    nothing_counted : (e : EndpointState) (clock : ℕ) → HasCountedLog (opened_after e clock)
-    nothing_counted e clock = omega (arith, fin.len-empty det_cmp Known)
-
     after_crash : (who : Pid) (clock : ℕ) → who.0 < n → (w.endpoints who.0).node.recovery ≡ None → count_below n (λ q. is_recovering (w.endpoints q).node) < f → (w.endpoints who.0).node.lane + 1 < 2 ^ 32 → clock < 2 ^ 62
         → IsSystemOf n f run (after_fall w who clock)
     after_crash who clock low up few lane early = record {
@@ -455,7 +432,7 @@ module _ (back : ReadsBack) (calls : EndpointCallsAreNodeCalls) (keeps : Endpoin
       facts = subst (λ s. SystemFacts n f s) fallen (facts_after_crash n f (system_of w sys.packets) sys.facts who low up);
       range = sys.range;
       states = λ p low_p. at_each (λ p x. IsEndpointState x) w.endpoints who.0 (opened_after (w.endpoints who.0) clock) (opened_state who.0 low clock lane early) p (λ other. sys.states p low_p);
-      counted = λ p low_p. at_each (λ p x. HasCountedLog x) w.endpoints who.0 (opened_after (w.endpoints who.0) clock) (nothing_counted (w.endpoints who.0) clock) p (λ other. sys.counted p low_p);
+      counted = λ p low_p. at_each (λ p x. HasCountedLog x) w.endpoints who.0 (opened_after (w.endpoints who.0) clock) (omega (arith, fin.len-empty det_cmp Known)) p (λ other. sys.counted p low_p);
       runs = λ p low_p. at_each (λ p (x : EndpointState). x.run ≡ run) w.endpoints who.0 (opened_after (w.endpoints who.0) clock) (sys.runs who.0 low) p (λ other. sys.runs p low_p);
       parcels = sys.parcels;
       requests = sys.requests;
@@ -489,9 +466,6 @@ module _ (back : ReadsBack) (calls : EndpointCallsAreNodeCalls) (keeps : Endpoin
       names = λ s name view there. elim there [ inl is ↦ absurd (false≢true (sym other ∙ ap is_question is)) | inr before ↦ sys.names s name view before ];
     }
 
-    no_message : (j : Sent) → is_message j ≡ false → (name : MsgName) (t : Packet) → j ≡ message_packet name t → ⊥
-    no_message j other name t is = false≢true (sym other ∙ ap is_message is)
-
     after_event : (next : EndpointSystem) → EndpointEvent n f w next → IsSystemOf n f run next
     after_event next (system.call_event me input e output entries low takeable call counted unused) = after_call me input e output entries low takeable call counted unused
     after_event next (system.crash_event who clock low up few lane early) = after_crash who clock low up few lane early
@@ -499,14 +473,14 @@ module _ (back : ReadsBack) (calls : EndpointCallsAreNodeCalls) (keeps : Endpoin
         let was = sys.requests (write_packet p) there in
         after_storage (written_packet p.parcel.carries) _ w.floors refl
         (nodes.next_system (system_of w sys.packets) _ sys.reached (nodes.store_event p was.0 floor))
-        (facts_after_storage n f (system_of w sys.packets) sys.facts (written_packet p.parcel.carries) _ w.floors (no_message (written_packet p.parcel.carries) refl) (λ s name of. absurd (false≢true of)))
+        (facts_after_storage n f (system_of w sys.packets) sys.facts (written_packet p.parcel.carries) _ w.floors (λ name t is. cc) (λ s name of. absurd (false≢true of)))
         was.1
         (λ d has. elim (or_cases (w.stored d) (p.parcel.carries d) has) [ inl before ↦ sys.stored d before | inr new ↦ was.1 d new ])
     after_event next (system.read_event s name view there) =
         let was = sys.requests (read_packet s name view) there in
         after_storage (stored_packet s name w.stored) w.stored _ refl
         (nodes.next_system (system_of w sys.packets) _ sys.reached (nodes.read_event s name view was.0))
-        (facts_after_storage n f (system_of w sys.packets) sys.facts (stored_packet s name w.stored) w.stored _ (no_message (stored_packet s name w.stored) refl) (λ p x of. sys.facts.asked (read_packet s name view) p x was.0 of))
+        (facts_after_storage n f (system_of w sys.packets) sys.facts (stored_packet s name w.stored) w.stored _ (λ x t is. cc) (λ p x of. sys.facts.asked (read_packet s name view) p x was.0 of))
         sys.stored
         sys.stored
 

@@ -1,6 +1,6 @@
 -- What is read from a parcel that a process writes: its items, and its log.
-use Rattle.std.proofs.Common.{ℕ, suc, ◌≡◌, ◌∙◌, ◌==◌, Bool, true, false, not, ◌&&◌, ◌||◌, List, [], ◌∷◌, map, filter, Option, Some, None, is_some, unwrap_or, inl, inr, refl, sym, ap, arith}
-use Rattle.std.specs.Prelude.{◌⊎◌, slice_get, if◌then◌else◌}
+use Rattle.std.proofs.Common.{ℕ, suc, ◌≡◌, ◌∙◌, ◌==◌, true, false, not, ◌&&◌, ◌||◌, List, [], ◌∷◌, map, Option, Some, None, is_some, unwrap_or, refl, sym, ap, arith}
+use Rattle.std.specs.Prelude.{slice_get}
 use Rattle.std.specs.List.{AllByRecursion}
 use Rattle.std.specs.Cmp.{nat_cmp_total}
 use Rattle.std.specs.Ordering.{nat_cmp}
@@ -23,7 +23,7 @@ use Rattle.causal_protocol.specs.MemoryQueries.{has_entry, log_knows_holder, log
 use Rattle.causal_calls.specs.Parcels.{message_with, items_of_logged, log_packet}
 use Rattle.causal_endpoint.specs.Items.{wire_item, log_item, wire_entry, log_entry, log_from}
 use Rattle.causal_endpoint.specs.Acknowledging.{acknowledged_item, acknowledged_items}
-use Rattle.causal_protocol.proofs.Lemmas.LogMembers.{none_holds, none_stable}
+use Rattle.causal_protocol.proofs.Lemmas.LogMembers.{none_entry, none_holds, none_stable}
 
 -- the process is not among the others
 pub not_itself : (s : set.FinSet nat_cmp) (p : ℕ) → set.contains (set.remove s p) p ≡ false
@@ -34,22 +34,11 @@ only_others s p q h = (and_parts _ _ (sym (set.contains-remove nat_cmp_total s p
 
 -- a set without a process, with that process again
 back : (s : set.FinSet nat_cmp) (p q : ℕ) → set.contains (set.insert (set.remove s p) p) q ≡ ((q == p) || set.contains s q)
-back s p q =
-    set.contains-insert nat_cmp_total (set.remove s p) p q
-    ∙ (λ i. sym (nat_ties q p) i || set.contains-remove nat_cmp_total s p q i)
-    ∙ ap (λ b. (q == p) || (not b && set.contains s q)) (sym (nat_ties q p))
-    ∙ either (q == p) (set.contains s q)
-  where
-    either : (a b : Bool) → (a || (not a && b)) ≡ (a || b)
-    either a b = grind arith
+back s p q = grind (arith, set.contains-insert nat_cmp_total (set.remove s p) p q, set.contains-remove nat_cmp_total s p q, nat_ties q p)
 
 -- the same set, if it had the process
 pub same_again : (s : set.FinSet nat_cmp) (p : ℕ) → set.contains s p ≡ true → set.insert (set.remove s p) p ≡ s
-same_again s p has = set.same_set nat_cmp_total nat_cmp-IsAntisymmetric _ s (λ q. back s p q ∙ by q (eqb_tells q p))
-  where
-    by : (q : ℕ) → ((q == p ≡ true) × (q ≡ p)) ⊎ ((q == p ≡ false) × (q ≡ p → ⊥)) → ((q == p) || set.contains s q) ≡ set.contains s q
-    by q (inl is) = ap (λ b. b || set.contains s q) is.0 ∙ sym (ap (set.contains s) is.1 ∙ has)
-    by q (inr other) = ap (λ b. b || set.contains s q) other.0
+same_again s p has = set.same_set nat_cmp_total nat_cmp-IsAntisymmetric _ s (λ q. grind (arith, back s p q, eqb_tells q p))
 
 -- items that are written and read
 abbrev pub read_again : Pid → List Item → List Item
@@ -63,12 +52,7 @@ module _ (source : Pid) where
   -- the source holds all that it writes
   again_holds : (d : Det) (q : ℕ) (items : List Item) → (item_holder d q (read_again source items) || (has_item d (read_again source items) && q == source.0)) ≡ (item_holder d q items || (has_item d items && q == source.0))
   again_holds d q [] = refl
-  again_holds d q (x ∷ xs) =
-      ap (λ b. ((same_det d x.det && b) || item_holder d q (read_again source xs)) || ((same_det d x.det || has_item d (read_again source xs)) && q == source.0)) (back x.holders source.0 q)
-      ∙ step (same_det d x.det) (q == source.0) (set.contains x.holders q) _ _ _ _ (again_has d xs) (again_holds d q xs)
-    where
-      step : (s m c ih hi jh hj : Bool) → hi ≡ hj → (ih || (hi && m)) ≡ (jh || (hj && m)) → (((s && (m || c)) || ih) || ((s || hi) && m)) ≡ (((s && c) || jh) || ((s || hj) && m))
-      step s m c ih hi jh hj e f = grind (arith, e, f)
+  again_holds d q (x ∷ xs) = grind (arith, back x.holders source.0 q, again_has d xs, again_holds d q xs)
 
   -- so a message that is read is the one that was written
   pub message_again : (lane : ℕ) (to : Pid) (at ssn : ℕ) (items : List Item) → message_with lane to at (record { source = source; ssn = ssn }) (read_again source items) ≡ message_with lane to at (record { source = source; ssn = ssn }) items
@@ -91,13 +75,7 @@ module _ (me : Pid) (log : LogMap) (own : (d : Det) → has_entry d log ≡ true
 
   pub acknowledged_again : (dets : List Det) → map (log_item me) (acknowledged_items me log dets) ≡ items_of_logged log dets
   acknowledged_again [] = refl
-  acknowledged_again (d ∷ ds) = by (has_entry d log) refl (acknowledged_again ds)
-    where
-      by : (b : Bool) → has_entry d log ≡ b → map (log_item me) (acknowledged_items me log ds) ≡ items_of_logged log ds
-          → map (log_item me) (map (acknowledged_item me log) (if b then d ∷ filter (λ det. is_some (fin.get log det)) ds else filter (λ det. is_some (fin.get log det)) ds))
-          ≡ map (λ det. item_of (det, known_of log det)) (if b then d ∷ filter (λ det. has_entry det log) ds else filter (λ det. has_entry det log) ds)
-      by true has rest = λ i. item_again d has i ∷ rest i
-      by false none rest = rest
+  acknowledged_again (d ∷ ds) = grind (arith, acknowledged_again ds, item_again d)
 
   -- the entries of a log, written and read
   entries_again : (es : List (Det × Known)) → AllByRecursion (λ (e : Det × Known). set.contains e.1.holders me.0 ≡ true) es → map (log_entry me) (map (wire_entry me) es) ≡ es
@@ -115,16 +93,13 @@ module _ (me : Pid) (log : LogMap) (own : (d : Det) → has_entry d log ≡ true
   same_entries : again ≡ after_learn_all (fin.entries log) fin.empty
   same_entries = ap (λ es. after_learn_all es fin.empty) (entries_again (fin.entries log) (each_own (fin.entries log) (λ i e at. place_shown log i e.0 e.1 at)))
 
-  nothing_has : (d : Det) → has_entry d fin.empty ≡ false
-  nothing_has d = ap is_some (fin.get-empty _ d)
-
   -- so a log that is read is the one that was written
   pub log_again : (lane to : ℕ) → log_packet me.0 lane to again ≡ log_packet me.0 lane to log
   log_again lane to = λ i. record {
     parcel = record {
       from = me.0;
       send = None;
-      carries = λ d. (ap (has_entry d) same_entries ∙ united_logged fin.empty log d ∙ ap (λ b. b || has_entry d log) (nothing_has d)) i;
+      carries = λ d. (ap (has_entry d) same_entries ∙ united_logged fin.empty log d ∙ ap (λ b. b || has_entry d log) (none_entry d)) i;
       names_holder = λ d q. (ap (log_knows_holder d q) same_entries ∙ united_holders fin.empty log d q ∙ ap (λ b. b || log_knows_holder d q log) (none_holds d q)) i;
       names_stable = λ d. (ap (log_knows_stable d) same_entries ∙ united_stable fin.empty log d ∙ ap (λ b. b || log_knows_stable d log) (none_stable d)) i;
     };

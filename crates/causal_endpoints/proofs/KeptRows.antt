@@ -14,7 +14,7 @@ use Rattle.causal_name.proofs.Lemmas.DetOrder.{nat_ties, same_is}
 use Rattle.causal_trace.specs.declared.entry.Entry.{Entry}
 use Rattle.causal_log.specs.declared.known.Known.{Known}
 use Rattle.causal_log.proofs.Lemmas.KnowledgeGrows.{logged_all, known_all, holds_either}
-use Rattle.causal_protocol.specs.MemoryQueries.{has_entry, log_knows_holder, has_item, item_holder}
+use Rattle.causal_protocol.specs.MemoryQueries.{has_entry, log_knows_holder, item_holder}
 use Rattle.causal_wire.specs.declared.parcel.Head.{Head}
 use Rattle.causal_wire.specs.declared.parcel.ParcelItem.{ParcelItem as WireItem}
 use Rattle.causal_wire.specs.declared.parcel.LogEntry.{LogEntry}
@@ -39,6 +39,11 @@ use Rattle.causal_endpoints.proofs.Legal.{or_else_none, node_or_none, clock_belo
 use Rattle.causal_endpoints.proofs.CallRows.{ReadsBack, read_is, one_among, calls_are_node_calls}
 use Rattle.causal_endpoints.proofs.Within.{IsWithin, IsTakenWithin, IsWithinIfTaken, each_number, calls_within}
 
+-- what follows of an element that passes, follows if one of a list does
+from_any : {A B G : Type 0} (P : A → Type 0) (to : A → B) (test : B → Bool) (xs : List A) → AllByRecursion P xs → list_any test (map to xs) ≡ true → ((x : A) → P x → test (to x) ≡ true → G) → G
+from_any P to test [] each h get = absurd (false≢true h)
+from_any P to test (x ∷ xs) each h get = elim (or_cases (test (to x)) _ h) [ inl here ↦ get x each.0 here | inr later ↦ from_any P to test xs each.1 later get ]
+
 -- what a parcel of n processes brings
 module _ (n : ℕ) (source : Pid) (low : source.0 < n) where
   member : (s : set.FinSet nat_cmp) (q : ℕ) → ((p : ℕ) → set.contains s p ≡ true → p < n) → set.contains (set.insert s source.0) q ≡ true → q < n
@@ -47,39 +52,25 @@ module _ (n : ℕ) (source : Pid) (low : source.0 < n) where
     | inr other ↦ others q other
   ]
 
-  items_dets : (d : Det) (items : List WireItem) → AllByRecursion (IsItem n source.0) items → has_item d (map (log_item source) items) ≡ true → IsDet n d
-  items_dets d [] each h = absurd (false≢true h)
-  items_dets d (x ∷ xs) each h = elim (or_cases (same_det d x.det) _ h) [ inl here ↦ subst (λ e. IsDet n e) (sym (same_is d x.det here)) each.0.det | inr later ↦ items_dets d xs each.1 later ]
+  det_is : (d : Det) (x : WireItem) → IsItem n source.0 x → same_det d x.det ≡ true → IsDet n d
+  det_is d x fits here = subst (IsDet n) (sym (same_is d x.det here)) fits.det
+
+  holder_is : (d : Det) (q : ℕ) (x : WireItem) → IsItem n source.0 x → (same_det d x.det && set.contains (set.insert x.others source.0) q) ≡ true → q < n
+  holder_is d q x fits here = member x.others q fits.others.processes (and_parts _ _ here).1
 
   items_holders : (d : Det) (q : ℕ) (items : List WireItem) → AllByRecursion (IsItem n source.0) items → item_holder d q (map (log_item source) items) ≡ true → q < n
-  items_holders d q [] each h = absurd (false≢true h)
-  items_holders d q (x ∷ xs) each h = elim (or_cases (same_det d x.det && set.contains (set.insert x.others source.0) q) _ h) [
-    | inl here ↦ member x.others q each.0.others.processes (and_parts _ _ here).1
-    | inr later ↦ items_holders d q xs each.1 later
-  ]
-
-  entry_dets : (d : Det) (entries : List LogEntry) → AllByRecursion (λ (entry : LogEntry). IsItem n source.0 entry.item) entries → list_any (λ (e : Det × Known). same_det d e.0) (map (log_entry source) entries) ≡ true → IsDet n d
-  entry_dets d [] each h = absurd (false≢true h)
-  entry_dets d (x ∷ xs) each h = elim (or_cases (same_det d x.item.det) _ h) [ inl here ↦ subst (λ e. IsDet n e) (sym (same_is d x.item.det here)) each.0.det | inr later ↦ entry_dets d xs each.1 later ]
-
-  entry_holders : (d : Det) (q : ℕ) (entries : List LogEntry) → AllByRecursion (λ (entry : LogEntry). IsItem n source.0 entry.item) entries
-      → list_any (λ (e : Det × Known). same_det d e.0 && set.contains e.1.holders q) (map (log_entry source) entries) ≡ true → q < n
-  entry_holders d q [] each h = absurd (false≢true h)
-  entry_holders d q (x ∷ xs) each h = elim (or_cases (same_det d x.item.det && set.contains (set.insert x.item.others source.0) q) _ h) [
-    | inl here ↦ member x.item.others q each.0.others.processes (and_parts _ _ here).1
-    | inr later ↦ entry_holders d q xs each.1 later
-  ]
+  items_holders d q items each h = from_any _ (log_item source) _ items each h (holder_is d q)
 
   log_dets : (d : Det) (entries : List LogEntry) → AllByRecursion (λ (entry : LogEntry). IsItem n source.0 entry.item) entries → has_entry d (log_from source entries) ≡ true → IsDet n d
   log_dets d entries each h = elim (or_cases _ _ (sym (logged_all (map (log_entry source) entries) fin.empty d) ∙ h)) [
     | inl none ↦ absurd (both_ways _ (none_entry d) none)
-    | inr there ↦ entry_dets d entries each there
+    | inr there ↦ from_any _ (log_entry source) _ entries each there (λ x. det_is d x.item)
   ]
 
   log_holders : (d : Det) (q : ℕ) (entries : List LogEntry) → AllByRecursion (λ (entry : LogEntry). IsItem n source.0 entry.item) entries → log_knows_holder d q (log_from source entries) ≡ true → q < n
   log_holders d q entries each h = elim (or_cases _ _ (sym (known_all (λ (k : Known). set.contains k.holders q) (holds_either q) (map (log_entry source) entries) fin.empty d) ∙ h)) [
     | inl none ↦ absurd (both_ways _ (none_holds d q) none)
-    | inr there ↦ entry_holders d q entries each there
+    | inr there ↦ from_any _ (log_entry source) _ entries each there (λ x. holder_is d q x.item)
   ]
 
 module _ (e : EndpointState) where
@@ -87,21 +78,15 @@ module _ (e : EndpointState) where
   n = e.node.identity.processes
 
   said_within : (q : Pid) (number name : ℕ) → number < 2 ^ 32 → IsTakenWithin n (not_up_for e.node q number name)
-  said_within q number name low = by (floor_of e.node.floors q == number)
-    where
-      by : (b : Bool) → IsTakenWithin n (if b then not_up_packet q.0 e.node.identity.me.0 name else number_packet q.0 number)
-      by true = tt
-      by false = low
+  said_within q number name low =
+      elim (floor_of e.node.floors q == number) as (λ b. IsTakenWithin n (if b then not_up_packet q.0 e.node.identity.me.0 name else number_packet q.0 number)) [ true ↦ tt | false ↦ low ]
 
   said_names : (q : Pid) (number name : ℕ) → NamesProcesses n (not_up_for e.node q number name)
-  said_names q number name = by (floor_of e.node.floors q == number)
-    where
-      by : (b : Bool) → NamesProcesses n (if b then not_up_packet q.0 e.node.identity.me.0 name else number_packet q.0 number)
-      by true = λ p is. absurd is
-      by false = λ p is. absurd is
+  said_names q number name =
+      elim (floor_of e.node.floors q == number) as (λ b. NamesProcesses n (if b then not_up_packet q.0 e.node.identity.me.0 name else number_packet q.0 number)) [ true ↦ λ p is. absurd is | false ↦ λ p is. absurd is ]
 
   parcel_within : (at : ℕ) (head : Head) (contents : Contents) → IsParcel (run_of e) (head, contents) → IsTakenWithin n (taken_with e.node at head contents)
-  parcel_within at head (message ssn items body) fits = (fits.head.source, fits.contents.0, λ d h. items_dets n head.source fits.head.source d items fits.contents.1.each h)
+  parcel_within at head (message ssn items body) fits = (fits.head.source, fits.contents.0, λ d h. from_any _ (log_item head.source) _ items fits.contents.1.each h (det_is n head.source fits.head.source d))
   parcel_within at head (acknowledgement items) fits = tt
   parcel_within at head (question round view) fits = each_number view fits.contents.1.each
   parcel_within at head (answer round entries) fits = λ d h. log_dets n head.source fits.head.source d entries fits.contents.1.each h

@@ -5,7 +5,7 @@
 -- position that its packet names, in the lane that its packet names. Each kept message is such a packet; the question
 -- of a present round was sent, and so was that of each packet of a round. Calls add to what was sent and recorded, and
 -- a send has the next number; a restart begins a lane of which nothing was sent, so no packet is of it.
-use Rattle.std.proofs.Common.{ℕ, zero, suc, ◌≡◌, ◌∙◌, ◌==◌, ◌<◌, ◌+◌, Bool, true, false, List, [], ◌∷◌, ◌++◌, length, Option, Some, None, is_some, unwrap_or, inl, inr, length-append, refl, sym, ap, subst, arith}
+use Rattle.std.proofs.Common.{ℕ, ◌≡◌, ◌∙◌, ◌==◌, ◌<◌, ◌+◌, Bool, true, false, List, [], ◌∷◌, ◌++◌, length, Option, Some, None, is_some, unwrap_or, inl, inr, length-append, refl, sym, ap, subst, arith}
 use Rattle.std.specs.Prelude.{◌⊎◌, slice_get, if◌then◌else◌}
 use Rattle.std.specs.Option.{option_and_then}
 use Rattle.std.proofs.lemmas.Bool.{false≢true, cond-true, cond-false, eq-eqb, ne_eqb}
@@ -33,6 +33,7 @@ use Rattle.causal_calls.specs.Calls.{NodeCall}
 use Rattle.causal_calls.specs.Systems.{System, identity_of}
 use Rattle.causal_endpoints.specs.Packets.{IsSendOf}
 use Rattle.causal_endpoints.proofs.Counts.{AreSendsCounted, is_uncounted, send_older}
+use Rattle.causal_endpoints.proofs.Within.{last_or_before}
 use Rattle.causal_endpoints.proofs.Effects.{AreUncounted, Effect, stays, sends as sent_one, restarts, call_effect, call_rounds, call_asks}
 
 -- the lane and the sends of a process, as its node has them
@@ -121,13 +122,6 @@ entries_more past new old none h name t was = elim (either_sent new old (message
 kept_more : (new old : List Sent) (p : ℕ) (s t : NodeState) (ssn : ℕ) (kept : SentMessage) → t.lane ≡ s.lane → WasMessageSent old p s ssn kept → WasMessageSent (new ++ old) p t ssn kept
 kept_more new old p s t ssn kept lane was =
     (was.0, was_older new old _ (subst (λ m. WasSent old (message_packet (message_name (record { 0 = p }) ssn) (message_with m kept.to was.0 (message_name (record { 0 = p }) ssn) kept.batch))) (sym lane) was.1))
-
--- the last of a list with one more
-last_or_before : {X : Type 0} (xs : List X) (x : X) (i : ℕ) (y : X) → slice_get (xs ++ x ∷ []) i ≡ Some y → (slice_get xs i ≡ Some y) ⊎ ((i ≡ length xs) × (x ≡ y))
-last_or_before [] x zero y at = inr (refl, ap (λ o. unwrap_or o x) at)
-last_or_before [] x (suc i) y at = absurd (false≢true (ap is_some at))
-last_or_before (z ∷ xs) x zero y at = inl at
-last_or_before (z ∷ xs) x (suc i) y at = elim (last_or_before xs x i y at) [ inl before ↦ inl before | inr last ↦ inr (omega (arith, last.0), last.1) ]
 
 same_packet : (x y : MsgName) (p t : Packet) → message_packet x p ≡ message_packet y t → (x ≡ y) × (p ≡ t)
 same_packet x y p t e = (cc, cc)

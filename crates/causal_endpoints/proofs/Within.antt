@@ -1,6 +1,6 @@
 -- Each call of a node keeps its numbers and determinants within what a parcel can have.
 use Rattle.std.proofs.Common.{ℕ, zero, suc, ◌≡◌, ◌∙◌, ◌==◌, ◌<◌, ◌≤◌, ◌^◌, Bool, true, false, not, List, [], ◌∷◌, ◌++◌, length, max, replicate, Option, Some, None, is_some, unwrap_or, inl, inr, length-append, refl, sym, ap, subst, arith}
-use Rattle.std.specs.Prelude.{slice_get, slice_set, nat_le, nat_lt, if◌then◌else◌}
+use Rattle.std.specs.Prelude.{◌⊎◌, slice_get, slice_set, nat_le, nat_lt, if◌then◌else◌}
 use Rattle.std.specs.List.{AllByRecursion}
 use Rattle.std.specs.FinMap as fin
 use Rattle.std.proofs.lemmas.Bool.{false≢true, both_ways, or_cases, and_parts}
@@ -89,20 +89,19 @@ zeros_within : (m : ℕ) → AllByRecursion (λ number. number < 2 ^ 32) (replic
 zeros_within zero = tt
 zeros_within (suc m) = (omega arith, zeros_within m)
 
-greater : (a b c : ℕ) → a < c → b < c → max a b < c
-greater a b c h k = omega (arith, h, k)
-
 raised_within : (floors view : List ℕ) → AllByRecursion (λ number. number < 2 ^ 32) floors → AllByRecursion (λ number. number < 2 ^ 32) view → AllByRecursion (λ number. number < 2 ^ 32) (raised_floors floors view)
-raised_within [] view h k = tt
-raised_within (x ∷ xs) [] h k = tt
-raised_within (x ∷ xs) (v ∷ vs) h k = (greater x v (2 ^ 32) h.0 k.0, raised_within xs vs h.1 k.1)
+raised_within (x ∷ xs) (v ∷ vs) h k = (omega (arith, h.0, k.0), raised_within xs vs h.1 k.1)
+raised_within _ _ h k = tt
 
--- a list with one more
+-- the last of a list with one more
+pub last_or_before : {X : Type 0} (xs : List X) (x : X) (i : ℕ) (y : X) → slice_get (xs ++ x ∷ []) i ≡ Some y → (slice_get xs i ≡ Some y) ⊎ ((i ≡ length xs) × (x ≡ y))
+last_or_before [] x zero y at = inr (refl, ap (λ o. unwrap_or o x) at)
+last_or_before [] x (suc i) y at = absurd (false≢true (ap is_some at))
+last_or_before (z ∷ xs) x zero y at = inl at
+last_or_before (z ∷ xs) x (suc i) y at = elim (last_or_before xs x i y at) [ inl before ↦ inl before | inr last ↦ inr (omega (arith, last.0), last.1) ]
+
 one_more : {X : Type 0} (P : X → Type 0) (xs : List X) (x : X) → ((i : ℕ) (y : X) → slice_get xs i ≡ Some y → P y) → P x → (i : ℕ) (y : X) → slice_get (xs ++ x ∷ []) i ≡ Some y → P y
-one_more P [] x old new zero y at = subst P (ap (λ o. unwrap_or o x) at) new
-one_more P [] x old new (suc i) y at = absurd (false≢true (ap is_some at))
-one_more P (z ∷ xs) x old new zero y at = old 0 y at
-one_more P (z ∷ xs) x old new (suc i) y at = one_more P xs x (λ j w there. old (suc j) w there) new i y at
+one_more P xs x old new i y at = elim (last_or_before xs x i y at) [ inl before ↦ old i y before | inr last ↦ subst P last.1 new ]
 
 nothing_kept : {X : Type 0} (P : X → Type 0) (i : ℕ) (y : X) → slice_get {X = X} [] i ≡ Some y → P y
 nothing_kept P i y at = absurd (false≢true (ap is_some at))
@@ -113,15 +112,11 @@ opened_within n me who lane low = record {
   lane = low;
   floors = set_within (replicate who.processes 0) who.me.0 lane low (zeros_within who.processes);
   logged = λ d h. absurd (both_ways _ (none_entry d) h);
-  round = by (lane == 0);
+  round = elim (lane == 0) as (λ b. IsRoundWithin n (if b then None else Some None)) [ true ↦ tt | false ↦ tt ];
   kept = nothing_kept (IsKeptMessage n me);
   sent = omega arith;
   received = omega arith;
 }
-  where
-    by : (b : Bool) → IsRoundWithin n (if b then None else Some None)
-    by true = tt
-    by false = tt
 
 module _ (n me : ℕ) (s : NodeState) (k : IsWithin n me s) where
   -- with another log
@@ -142,7 +137,7 @@ module _ (n me : ℕ) (s : NodeState) (k : IsWithin n me s) where
   after_other_number q number low = by (nat_lt q.0 (length s.floors))
     where
       by : (b : Bool) → IsWithin n me (record s { floors = if b then slice_set s.floors q.0 (max number (floor_of s.floors q)) else s.floors; recovery = Some None })
-      by true = with_other_floors (slice_set s.floors q.0 (max number (floor_of s.floors q))) (Some None) (set_within s.floors q.0 _ (greater number (floor_of s.floors q) (2 ^ 32) low (each_number s.floors k.floors q.0)) k.floors) tt
+      by true = with_other_floors (slice_set s.floors q.0 (max number (floor_of s.floors q))) (Some None) (set_within s.floors q.0 _ (omega (arith, low, each_number s.floors k.floors q.0)) k.floors) tt
       by false = with_other_floors s.floors (Some None) k.floors tt
 
   after_reply : (view : List ℕ) → AllByRecursion (λ number. number < 2 ^ 32) view → IsWithin n me (node_after_answer s view)

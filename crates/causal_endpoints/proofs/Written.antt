@@ -1,26 +1,26 @@
 -- What an endpoint writes is a parcel of its run.
-use Rattle.std.proofs.Common.{ℕ, suc, ◌≡◌, ◌∙◌, ◌<◌, ◌^◌, Bool, true, false, ◌&&◌, List, [], ◌∷◌, map, filter, length, Option, Some, None, is_some, unwrap_or, refl, ap, arith}
+use Rattle.std.proofs.Common.{ℕ, suc, ◌≡◌, ◌∙◌, ◌<◌, ◌^◌, Bool, true, false, List, [], ◌∷◌, map, filter, length, Option, Some, None, is_some, unwrap_or, refl, ap, arith}
 use Rattle.std.specs.Prelude.{slice_get, if◌then◌else◌}
 use Rattle.std.specs.List.{AllByRecursion}
 use Rattle.std.specs.FinMap as fin
 use Rattle.std.specs.FinSet as set
-use Rattle.std.specs.Map.{keys_of}
-use Rattle.std.proofs.lemmas.Bool.{false≢true, and_parts}
-use Rattle.std.proofs.lemmas.List.{length-map}
+use Rattle.std.proofs.lemmas.Bool.{false≢true, and_parts, and_from}
+use Rattle.std.proofs.ByRecursion.{All-weaker, All-map, all_kept_by, kept_by_passes}
+use Rattle.std.proofs.lemmas.List.{length-map, map-id}
+use Rattle.std.proofs.lemmas.Simd.{map-map}
 use Rattle.std.proofs.lemmas.List.Sums.{length-filter, count_by-le-length}
 use Rattle.causal_name.specs.declared.Pid.{Pid}
 use Rattle.causal_name.specs.declared.Det.{Det}
 use Rattle.causal_name.specs.Names.{is_ascending, is_before}
-use Rattle.causal_log.specs.declared.batch.Item.{Item}
 use Rattle.causal_log.specs.declared.known.Known.{Known}
 use Rattle.causal_log.specs.Knowledge.{unknown, is_carried}
-use Rattle.causal_log.specs.Logs.{LogMap, item_of, batch_items, dets_of as log_dets_of}
+use Rattle.causal_log.specs.Logs.{LogMap, item_of, batch_items}
 use Rattle.causal_log.proofs.Lemmas.Ascents.{ascending_tail, ascending_skip, map_ascends}
 use Rattle.causal_log.proofs.Lemmas.ChosenLemmas.{chosen_ascend}
 use Rattle.causal_log.proofs.Lemmas.LogLists.{place_shown}
 use Rattle.causal_protocol.specs.MemoryQueries.{has_entry}
 use Rattle.causal_wire.specs.declared.parcel.LogEntry.{LogEntry}
-use Rattle.causal_wire.specs.Parcels.{parcel_dets, entry_dets, IsItem, AreItems, AreEntries}
+use Rattle.causal_wire.specs.Parcels.{parcel_dets, IsItem, AreItems, AreEntries}
 use Rattle.causal_calls.specs.Views.{HasHoldersBelow}
 use Rattle.causal_endpoint.specs.Items.{wire_item, wire_entry}
 use Rattle.causal_endpoint.specs.Acknowledging.{acknowledged_item, acknowledged_items as wire_acknowledged}
@@ -28,62 +28,27 @@ use Rattle.causal_endpoints.specs.States.{HasDets}
 use Rattle.causal_endpoints.proofs.Items.{not_itself, only_others}
 
 -- facts of each element of a list
-pub all_map : {A B : Type 0} (P : B → Type 0) (f : A → B) (xs : List A) → AllByRecursion (λ x. P (f x)) xs → AllByRecursion P (map f xs)
-all_map P f [] h = tt
-all_map P f (x ∷ xs) h = (h.0, all_map P f xs h.1)
-
-pub all_kept : {A : Type 0} (P : A → Type 0) (keeps : A → Bool) (xs : List A) → AllByRecursion P xs → AllByRecursion P (filter keeps xs)
-all_kept P keeps [] h = tt
-all_kept P keeps (x ∷ xs) h = by (keeps x) (all_kept P keeps xs h.1)
-  where
-    by : (b : Bool) → AllByRecursion P (filter keeps xs) → AllByRecursion P (if b then x ∷ filter keeps xs else filter keeps xs)
-    by true rest = (h.0, rest)
-    by false rest = rest
-
--- those that are kept pass
-pub all_pass : {A : Type 0} (P : A → Type 0) (keeps : A → Bool) (xs : List A) → ((x : A) → keeps x ≡ true → P x) → AllByRecursion P (filter keeps xs)
-all_pass P keeps [] h = tt
-all_pass P keeps (x ∷ xs) h = by (keeps x) refl (all_pass P keeps xs h)
-  where
-    by : (b : Bool) → keeps x ≡ b → AllByRecursion P (filter keeps xs) → AllByRecursion P (if b then x ∷ filter keeps xs else filter keeps xs)
-    by true is rest = (h x is, rest)
-    by false is rest = rest
-
 pub all_shown : {A : Type 0} (P : A → Type 0) (xs : List A) → ((i : ℕ) (x : A) → slice_get xs i ≡ Some x → P x) → AllByRecursion P xs
 all_shown P [] h = tt
 all_shown P (x ∷ xs) h = (h 0 x refl, all_shown P xs (λ i y at. h (suc i) y at))
 
 -- the determinants of what is written
-wire_dets : (source : Pid) (items : List Item) → parcel_dets (map (wire_item source) items) ≡ log_dets_of items
-wire_dets source [] = refl
-wire_dets source (x ∷ xs) = ap (λ ds. x.det ∷ ds) (wire_dets source xs)
-
-written_dets : (source : Pid) (es : List (Det × Known)) → entry_dets (map (wire_entry source) es) ≡ keys_of es
-written_dets source [] = refl
-written_dets source (x ∷ xs) = ap (λ ds. x.0 ∷ ds) (written_dets source xs)
-
 said_dets : (me : Pid) (log : LogMap) (ds : List Det) → parcel_dets (map (acknowledged_item me log) ds) ≡ ds
-said_dets me log [] = refl
-said_dets me log (x ∷ xs) = ap (λ ds. x ∷ ds) (said_dets me log xs)
+said_dets me log ds = map-map _ (acknowledged_item me log) ds ∙ map-id ds
 
 -- some of an ascending list ascend
 after_first : (keeps : Det → Bool) (d : Det) (ds : List Det) → is_ascending (d ∷ ds) ≡ true → is_ascending (d ∷ filter keeps ds) ≡ true
 after_first keeps d [] h = refl
 after_first keeps d (x ∷ xs) h =
     let both = and_parts (is_before d x) (is_ascending (x ∷ xs)) h in
-    by (keeps x) both.0 (after_first keeps x xs both.1) (after_first keeps d xs (ascending_skip d x xs h))
-  where
-    by : (b : Bool) → is_before d x ≡ true → is_ascending (x ∷ filter keeps xs) ≡ true → is_ascending (d ∷ filter keeps xs) ≡ true → is_ascending (d ∷ (if b then x ∷ filter keeps xs else filter keeps xs)) ≡ true
-    by true first rest skipped = (λ i. first i && rest i)
-    by false first rest skipped = skipped
+    elim (keeps x) as (λ b. is_ascending (d ∷ (if b then x ∷ filter keeps xs else filter keeps xs)) ≡ true) [
+      | true ↦ and_from _ _ both.0 (after_first keeps x xs both.1)
+      | false ↦ after_first keeps d xs (ascending_skip d x xs h)
+    ]
 
 pub some_ascend : (keeps : Det → Bool) (ds : List Det) → is_ascending ds ≡ true → is_ascending (filter keeps ds) ≡ true
 some_ascend keeps [] h = refl
-some_ascend keeps (x ∷ xs) h = by (keeps x) (after_first keeps x xs h) (some_ascend keeps xs (ascending_tail x xs h))
-  where
-    by : (b : Bool) → is_ascending (x ∷ filter keeps xs) ≡ true → is_ascending (filter keeps xs) ≡ true → is_ascending (if b then x ∷ filter keeps xs else filter keeps xs) ≡ true
-    by true with_it without = with_it
-    by false with_it without = without
+some_ascend keeps (x ∷ xs) h = grind (arith, after_first keeps x xs h, some_ascend keeps xs (ascending_tail x xs h))
 
 -- of a log whose determinants and holders are of n processes
 module _ (n : ℕ) (me : Pid) (log : LogMap) (dets : HasDets n log) (holders : HasHoldersBelow n log) where
@@ -102,8 +67,8 @@ module _ (n : ℕ) (me : Pid) (log : LogMap) (dets : HasDets n log) (holders : H
   -- what a message carries
   pub carried_fit : (f : ℕ) → fin.len log < 2 ^ 32 → AreItems n me.0 (map (wire_item me) (batch_items f log))
   carried_fit f few = record {
-    each = all_map (IsItem n me.0) (wire_item me) (batch_items f log) (all_map (λ item. IsItem n me.0 (wire_item me item)) item_of (filter (λ e. is_carried f e.1) (fin.entries log)) (all_kept _ (λ e. is_carried f e.1) (fin.entries log) each_entry));
-    ascending = ap is_ascending (wire_dets me (batch_items f log)) ∙ chosen_ascend f log;
+    each = All-map (IsItem n me.0) (wire_item me) (batch_items f log) (All-map (λ item. IsItem n me.0 (wire_item me item)) item_of (filter (λ e. is_carried f e.1) (fin.entries log)) (all_kept_by (λ e. is_carried f e.1) _ (fin.entries log) each_entry));
+    ascending = ap is_ascending (map-map _ (wire_item me) (batch_items f log)) ∙ chosen_ascend f log;
     count =
         let es = fin.entries log in
         omega (
@@ -120,8 +85,8 @@ module _ (n : ℕ) (me : Pid) (log : LogMap) (dets : HasDets n log) (holders : H
   -- the whole log
   pub entries_fit : fin.len log < 2 ^ 32 → AreEntries n me.0 (map (wire_entry me) (fin.entries log))
   entries_fit few = record {
-    each = all_map (λ (entry : LogEntry). IsItem n me.0 entry.item) (wire_entry me) (fin.entries log) each_entry;
-    ascending = ap is_ascending (written_dets me (fin.entries log)) ∙ map_ascends log;
+    each = All-map (λ (entry : LogEntry). IsItem n me.0 entry.item) (wire_entry me) (fin.entries log) each_entry;
+    ascending = ap is_ascending (map-map _ (wire_entry me) (fin.entries log)) ∙ map_ascends log;
     count = omega (arith, few, length-map (fin.entries log) (wire_entry me), fin.len-entries log);
   }
 
@@ -137,7 +102,7 @@ module _ (n : ℕ) (me : Pid) (log : LogMap) (dets : HasDets n log) (holders : H
   acknowledged_fit ds ascends few =
       let logged = λ (det : Det). is_some (fin.get log det) in
       record {
-        each = all_map (IsItem n me.0) (acknowledged_item me log) (filter logged ds) (all_pass (λ d. IsItem n me.0 (acknowledged_item me log d)) logged ds logged_fits);
+        each = All-map (IsItem n me.0) (acknowledged_item me log) (filter logged ds) (All-weaker (λ d. logged d ≡ true) _ logged_fits (filter logged ds) (kept_by_passes logged ds));
         ascending = ap is_ascending (said_dets me log (filter logged ds)) ∙ some_ascend logged ds ascends;
         count = omega (arith, few, length-map (filter logged ds) (acknowledged_item me log), length-filter logged ds, count_by-le-length logged ds);
       }
