@@ -204,6 +204,11 @@ module _ (position : ℕ) (s : NodeState) (k : IsNodeState s) where
     as_round : (change : RoundState → RoundState) (next : NodeRound) → IsRoundOf s (change r) next → Represents (with_recovery s (map_round change s.recovery)) (down_node (with_round x (Some next)))
     as_round change next is = subst (λ o. RepresentsAt (with_recovery s (map_round change s.recovery)) (map_round change o) (down_node (with_round x (Some next)))) (sym gathers) (in_round (Some r) gathers x is_down _ (change r) next is)
 
+    -- one reply more
+    round_heard : (q : ℕ) (awaited : set.FinSet nat_cmp) (read : Bool) → ((p : ℕ) → p < n → (p ≡ me.0 → ⊥) → set.contains awaited p ≡ false → with_value_at y.heard q true p ≡ true) → (read ≡ true → with_value_at y.heard q true n ≡ true)
+        → IsRoundOf s (record r { awaited = awaited; read = read }) (with_heard q y)
+    round_heard q awaited read heard done = assumption fits
+
     pub takes_log : (name lane : ℕ) (q : Pid) (log : LogMap) → r.name ≡ name
         → IsStepOf position s there (Some (answer_packet name (log_packet q.0 lane me.0 log))) (with_recovery s (map_round (λ r. with_log_of r q.0 log) s.recovery)) [] []
     takes_log name lane q log named = subst (λ (m : ℕ). IsStepOf position s there (Some (answer_packet m (log_packet q.0 lane me.0 log))) (with_recovery s (map_round (λ r. with_log_of r q.0 log) s.recovery)) [] []) (fits.name ∙ named) (record {
@@ -231,16 +236,8 @@ module _ (position : ℕ) (s : NodeState) (k : IsNodeState s) where
         (subst (λ (m : ℕ). IsStepOf position s there (Some (not_up_packet q.0 me.0 m)) (with_recovery s (map_round (λ r. without_awaited r q.0) s.recovery)) [] []) (fits.name ∙ named) (record {
           next = down_node (with_round x (Some (with_heard q.0 y)));
           step = hear_not_up_row x y q.0 is_down.round.1;
-          represents = as_round (λ r. without_awaited r q.0) (with_heard q.0 y) (record {
-            name = fits.name;
-            view = fits.view;
-            heard = λ p low apart gone. heard_more y.heard r.awaited q.0 p (fits.heard p low apart) gone;
-            read = λ h. still_heard y.heard q.0 n (fits.read h);
-            has = fits.has;
-            holder = fits.holder;
-            own = fits.own;
-            stable = fits.stable;
-          });
+          represents = as_round (λ r. without_awaited r q.0) (with_heard q.0 y)
+              (round_heard q.0 _ r.read (λ p low apart gone. heard_more y.heard r.awaited q.0 p (fits.heard p low apart) gone) (λ h. still_heard y.heard q.0 n (fits.read h)));
         }))
 
     nobody : ask_fault s.recovery ≡ None → nat_lt 0 (set.len r.awaited) ≡ false
@@ -279,16 +276,7 @@ module _ (position : ℕ) (s : NodeState) (k : IsNodeState s) where
     finishes dets all = subst (λ (m : ℕ). IsStepOf position s there (Some (stored_packet me.0 m dets)) (with_recovery s (map_round node_after_read s.recovery)) [] []) fits.name (record {
       next = down_node (with_round x (Some (with_heard n y)));
       step = hear_stored_row x y dets is_down.round.1 (λ d h. fits.has d ∙ all d h);
-      represents = as_round node_after_read (with_heard n y) (record {
-        name = fits.name;
-        view = fits.view;
-        heard = λ p low apart gone. still_heard y.heard n p (fits.heard p low apart gone);
-        read = λ h. now_heard y.heard n;
-        has = fits.has;
-        holder = fits.holder;
-        own = fits.own;
-        stable = fits.stable;
-      });
+      represents = as_round node_after_read (with_heard n y) (round_heard n r.awaited true (λ p low apart gone. still_heard y.heard n p (fits.heard p low apart gone)) (λ h. now_heard y.heard n));
     })
 
     -- the log of a restart is the theory's

@@ -28,7 +28,7 @@ use Rattle.causal_node.specs.NodeForgetting.{next_slot, node_after_forget}
 use Rattle.causal_node.specs.NodeAnswers.{answer_fault, node_after_answer, after_answer_at, knows_number}
 use Rattle.causal_nodes.specs.Node.{NodeLog}
 use Rattle.causal_nodes.specs.Packets.{message_packet, acknowledgement_packet}
-use Rattle.causal_calls.specs.Views.{HasHoldersBelow, IsNodeState, IsRecoveryState}
+use Rattle.causal_calls.specs.Views.{numbers, HasHoldersBelow, IsNodeState, IsRecoveryState}
 use Rattle.causal_calls.specs.Parcels.{message_with, acknowledgement_with}
 use Rattle.causal_calls.specs.StepLaws.{NamesProcesses}
 use Rattle.causal_calls.proofs.Lemmas.LogViews.{delivered_has, delivered_holder, marked, one_holder, one_holds, held_has, held_holder}
@@ -53,6 +53,10 @@ module _ (s : NodeState) (k : IsNodeState s) where
   -- the same floors, log and received names
   pub with_other : (recovery : Recovery) → IsRecoveryState s.identity recovery → IsNodeState (with_recovery s recovery)
   with_other recovery is = record { process = k.process; floors = k.floors; own_floor = k.own_floor; holders = k.holders; own = k.own; received = k.received; recovery = is }
+
+  -- other floors
+  with_floors : (floors : List ℕ) (recovery : Recovery) → length floors ≡ n → numbers floors me.0 ≡ s.lane → IsRecoveryState s.identity recovery → IsNodeState (record s { floors = floors; recovery = recovery })
+  with_floors floors recovery size own is = assumption
 
   pub delivered : (lane : ℕ) (name : MsgName) (at : ℕ) (items : List Item) → NamesProcesses n (message_packet name (message_with lane me at name items)) → IsNodeState (node_after_delivery s name items)
   delivered lane name at items names =
@@ -118,15 +122,7 @@ module _ (s : NodeState) (k : IsNodeState s) where
       size = k.floors ∙ sized s asker view legal
 
       at_recovery : floor_of view me ≡ s.lane → (o : Recovery) → IsRecoveryState s.identity s.recovery → IsNodeState (after_answer_at s view o)
-      at_recovery same None is = record {
-        process = k.process;
-        floors = raised_length s.floors view size ∙ k.floors;
-        own_floor = omega (arith, raised_numbers s.floors view size me.0, k.own_floor, same);
-        holders = k.holders;
-        own = k.own;
-        received = k.received;
-        recovery = is;
-      }
+      at_recovery same None is = with_floors _ s.recovery (raised_length s.floors view size ∙ k.floors) (omega (arith, raised_numbers s.floors view size me.0, k.own_floor, same)) is
       at_recovery same (Some r) is = with_other (Some None) tt
 
       by : (b : Bool) → knows_number s view ≡ b → IsNodeState (if b then after_answer_at s view s.recovery else s)
@@ -154,16 +150,8 @@ module _ (s : NodeState) (k : IsNodeState s) where
     apart q awaited is = both_ways _ kept.1 (ap (set.contains r.awaited) (sym is) ∙ awaited)
 
     number_floors : (q : Pid) (number : ℕ) → (q.0 ≡ me.0 → ⊥) → (b : Bool) → IsNodeState (record s { floors = if b then slice_set s.floors q.0 (max number (floor_of s.floors q)) else s.floors; recovery = Some None })
-    number_floors q number other true = record {
-      process = k.process;
-      floors = length-set s.floors q.0 _ ∙ k.floors;
-      own_floor = set_other s.floors q.0 _ me.0 (λ e. other (sym e)) ∙ k.own_floor;
-      holders = k.holders;
-      own = k.own;
-      received = k.received;
-      recovery = tt;
-    }
-    number_floors q number other false = record { process = k.process; floors = k.floors; own_floor = k.own_floor; holders = k.holders; own = k.own; received = k.received; recovery = tt }
+    number_floors q number other true = with_floors _ (Some None) (length-set s.floors q.0 _ ∙ k.floors) (set_other s.floors q.0 _ me.0 (λ e. other (sym e)) ∙ k.own_floor) tt
+    number_floors q number other false = with_floors s.floors (Some None) k.floors k.own_floor tt
 
     pub number_taken : (q : Pid) (number : ℕ) → set.contains r.awaited q.0 ≡ true → IsNodeState (after_number s q number)
     number_taken q number awaited = number_floors q number (apart q awaited) (nat_lt q.0 (length s.floors))

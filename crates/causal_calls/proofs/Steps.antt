@@ -1,8 +1,7 @@
 -- Each call of a node is a step of the theory, keeps its state's facts, and sends what names only processes.
-use Rattle.std.proofs.Common.{ℕ, ◌≡◌, ◌∙◌, ◌==◌, ◌<◌, Bool, true, false, List, [], ◌∷◌, Option, Some, None, inl, inr, refl, sym, ap, subst}
+use Rattle.std.proofs.Common.{ℕ, ◌≡◌, ◌∙◌, ◌<◌, true, List, [], ◌∷◌, Option, Some, None, inl, inr, refl, sym, ap, subst, arith}
 use Rattle.std.specs.Prelude.{◌⊎◌, if◌then◌else◌}
 use Rattle.std.proofs.lemmas.Bool.{and_parts}
-use Rattle.causal_name.specs.declared.Pid.{Pid}
 use Rattle.causal_name.specs.declared.Det.{Det}
 use Rattle.causal_trace.specs.declared.entry.Entry.{Entry}
 use Rattle.causal_world.specs.World.{Packet}
@@ -110,14 +109,6 @@ module _ (s : NodeState) (k : IsNodeState s) where
   names_packet : (p t : Packet) → p ≡ t → ((d : Det) (q : ℕ) → p.parcel.names_holder d q ≡ true → q < s.identity.processes) → (d : Det) (q : ℕ) → t.parcel.names_holder d q ≡ true → q < s.identity.processes
   names_packet p t is names = subst (λ (x : Packet). (d : Det) (q : ℕ) → x.parcel.names_holder d q ≡ true → q < s.identity.processes) is names
 
-same_identity : (s : NodeState) (view : List ℕ) (b : Bool) (o : Recovery) → (if b then after_answer_at s view o else s).identity ≡ s.identity
-same_identity s view true None = refl
-same_identity s view _ _ = refl
-
-not_up_identity : (s : NodeState) (q : Pid) (number : ℕ) (b : Bool) → (if b then with_recovery s (map_round (λ r. without_awaited r q.0) s.recovery) else after_number s q number).identity ≡ s.identity
-not_up_identity s q number true = refl
-not_up_identity s q number false = refl
-
 pub calls_keep : CallsKeepNodeStates
 calls_keep position old new taken emitted entries (send to body legal) k names =
     let of_log = message_of_log position old k (unless_up_none _ _ legal).0 to in
@@ -131,21 +122,21 @@ calls_keep position old new taken emitted entries (write dets up logged) k names
     (k, refl, names_one old.identity.processes (write_packet (write_of old dets)) (λ p is. names_packet old k (write_of old dets) p is (λ d q h. k.holders d q (and_parts _ _ h).1)))
 calls_keep position old new taken emitted entries (stored dets det up has) k names = (Keeps.marked_stable old k det up, subst (λ (o : Recovery). (node_after_stored old det o).identity ≡ old.identity) (sym up) refl, names_nothing old.identity.processes)
 calls_keep position old new taken emitted entries (answer_log asker name view legal reply) k names =
-    (Keeps.answered old k asker view legal, same_identity old view (knows_number old view) old.recovery, names_one old.identity.processes (answer_packet name (log_packet old.identity.me.0 old.lane asker.0 old.memory.log)) (λ p is. names_packet old k (log_packet old.identity.me.0 old.lane asker.0 old.memory.log) p is k.holders))
+    (Keeps.answered old k asker view legal, grind arith, names_one old.identity.processes (answer_packet name (log_packet old.identity.me.0 old.lane asker.0 old.memory.log)) (λ p is. names_packet old k (log_packet old.identity.me.0 old.lane asker.0 old.memory.log) p is k.holders))
 calls_keep position old new taken emitted entries (answer_not_up asker name view legal reply) k names =
-    (Keeps.answered old k asker view legal, same_identity old view (knows_number old view) old.recovery, names_one old.identity.processes (not_up_packet old.identity.me.0 asker.0 name) (λ p is. absurd is))
+    (Keeps.answered old k asker view legal, grind arith, names_one old.identity.processes (not_up_packet old.identity.me.0 asker.0 name) (λ p is. absurd is))
 calls_keep position old new taken emitted entries (answer_number asker view legal reply) k names =
-    (Keeps.answered old k asker view legal, same_identity old view (knows_number old view) old.recovery, names_one old.identity.processes (number_packet old.identity.me.0 old.lane) (λ p is. absurd is))
+    (Keeps.answered old k asker view legal, grind arith, names_one old.identity.processes (number_packet old.identity.me.0 old.lane) (λ p is. absurd is))
 calls_keep position old new taken emitted entries (begin_round name legal) k names = (Keeps.begun old k name, refl, names_one old.identity.processes (question_packet old.identity.me.0 name (numbers old.floors)) (λ p is. absurd is))
 calls_keep position old new taken emitted entries (take_log name lane q log legal) k names =
     let r = of_round old.recovery name q legal in
     (Keeps.log_taken old k r.0 r.1 q log (names (log_packet q.0 lane old.identity.me.0 log) refl), refl, names_nothing old.identity.processes)
 calls_keep position old new taken emitted entries (take_not_up name q legal) k names =
     let r = of_round old.recovery name q legal in
-    (Keeps.not_up_taken old k r.0 r.1 q (floor_of old.floors q) r.3, not_up_identity old q (floor_of old.floors q) (floor_of old.floors q == floor_of old.floors q), names_nothing old.identity.processes)
+    (Keeps.not_up_taken old k r.0 r.1 q (floor_of old.floors q) r.3, grind arith, names_nothing old.identity.processes)
 calls_keep position old new taken emitted entries (take_other_number name q number legal other) k names =
     let r = of_round old.recovery name q legal in
-    (Keeps.not_up_taken old k r.0 r.1 q number r.3, not_up_identity old q number (floor_of old.floors q == number), names_nothing old.identity.processes)
+    (Keeps.not_up_taken old k r.0 r.1 q number r.3, grind arith, names_nothing old.identity.processes)
 calls_keep position old new taken emitted entries (take_number name q number legal) k names =
     let r = of_round old.recovery name q legal in
     (Keeps.number_taken old k r.0 r.1 q number r.3, refl, names_nothing old.identity.processes)

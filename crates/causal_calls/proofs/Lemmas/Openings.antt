@@ -1,5 +1,5 @@
 -- A node that is opened is in a state that calls reach.
-use Rattle.std.proofs.Common.{ℕ, ◌∙◌, ◌==◌, ◌<◌, Bool, true, false, Some, None, replicate, refl, sym, subst}
+use Rattle.std.proofs.Common.{ℕ, ◌∙◌, ◌==◌, ◌<◌, true, false, Some, None, replicate, refl, sym, subst}
 use Rattle.std.specs.Prelude.{if◌then◌else◌}
 use Rattle.std.proofs.lemmas.Bool.{both_ways}
 use Rattle.std.proofs.lemmas.List.{length-replicate, length-set}
@@ -18,9 +18,5 @@ opening who lane low = record {
   holders = λ d q h. absurd (both_ways _ (none_holds d q) h);
   own = λ d h. absurd (both_ways _ (none_entry d) h);
   received = λ m. refl;
-  recovery = by (lane == 0);
+  recovery = elim (lane == 0) as (λ b. IsRecoveryState who (if b then None else Some None)) [ true ↦ tt | false ↦ tt ];
 }
-  where
-    by : (b : Bool) → IsRecoveryState who (if b then None else Some None)
-    by true = tt
-    by false = tt
