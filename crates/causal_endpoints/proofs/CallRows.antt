@@ -5,19 +5,19 @@ use Rattle.std.specs.FinMap as fin
 use Rattle.std.specs.FinSet as set
 use Rattle.std.proofs.lemmas.Bool.{false≢true, both_ways, eqb-true, eq-eqb, not-false, or_parts}
 use Rattle.std.proofs.lemmas.Option.{slice_get_within}
+use Rattle.std.proofs.lemmas.Simd.{map-map}
 use Rattle.causal_name.specs.declared.Pid.{Pid}
 use Rattle.causal_name.specs.declared.Det.{Det}
 use Rattle.causal_name.specs.Names.{is_ascending}
 use Rattle.causal_trace.specs.declared.entry.Entry.{Entry}
 use Rattle.causal_trace.specs.declared.entry.Entry.TheVariants.{Send}
-use Rattle.causal_log.specs.Logs.{dets_of as log_dets_of, batch_items}
+use Rattle.causal_log.specs.Logs.{batch_items}
 use Rattle.causal_protocol.specs.Memory.{SentMessage}
 use Rattle.causal_protocol.specs.Naming.{message_name}
 use Rattle.causal_wire.specs.declared.fault.WireFault.{WireFault}
 use Rattle.causal_wire.specs.declared.parcel.Head.{Head}
 use Rattle.causal_wire.specs.declared.parcel.RunId.{RunId}
-use Rattle.causal_wire.specs.declared.parcel.ParcelItem.{ParcelItem as WireItem}
-use Rattle.causal_wire.specs.Parcels.{Contents, message, acknowledgement, question, answer, own_number, not_up, parcel_dets, IsRun, IsParcel, IsHead, AreContents}
+use Rattle.causal_wire.specs.Parcels.{Contents, message, acknowledgement, question, answer, own_number, not_up, IsRun, IsParcel, IsHead, AreContents}
 use Rattle.causal_wire.specs.Bytes.{parcel_bytes}
 use Rattle.causal_wire.specs.Reading.{read_parcel}
 use Rattle.causal_node.specs.declared.node_answer.RoundReply.{RoundReply}
@@ -25,7 +25,7 @@ use Rattle.causal_node.specs.declared.node_answer.RoundReply.TheVariants as Repl
 use Rattle.causal_node.specs.NodeStates.{RoundState, floor_of}
 use Rattle.causal_node.specs.NodeRounds.{round_name}
 use Rattle.causal_node.specs.NodeRecovery.{begin_fault, reply_fault, after_not_up}
-use Rattle.causal_node.specs.NodeAnswers.{round_reply}
+use Rattle.causal_node.specs.NodeAnswers.{answer_fault, round_reply}
 use Rattle.causal_nodes.specs.Packets.{Sent, WasSent, message_packet, acknowledgement_packet, question_packet, answer_packet, not_up_packet, number_packet}
 use Rattle.causal_calls.specs.Views.{numbers, IsRecoveryState}
 use Rattle.causal_calls.specs.Parcels.{message_with, acknowledgement_with, acknowledgement_of, next_message_packet, log_packet}
@@ -33,6 +33,7 @@ use Rattle.causal_calls.specs.Calls.{NodeCall}
 use Rattle.causal_calls.specs.Calls as node
 use Rattle.causal_calls.proofs.Lemmas.Refusals.{of_round}
 use Rattle.causal_endpoint.specs.Endpoints.{EndpointState, run_of, head_to, next_clock, with_node}
+use Rattle.causal_endpoint.specs.Refusals.{clock_fault}
 use Rattle.causal_endpoint.specs.Items.{wire_item, log_item, wire_entry, log_from}
 use Rattle.causal_endpoint.specs.Resending.{kept_body, resent_bytes, resend_fault}
 use Rattle.causal_endpoint.specs.Sending as sending
@@ -98,12 +99,12 @@ module _ (back : ReadsBack) (past : List Entry) (e : EndpointState) (k : IsEndpo
   }
 
   -- a call that sends no bytes, and nothing to stable storage
-  quietly : (input : CallInput) (new : EndpointState) (entries : List Entry) (taken : Option Sent) → NodeCall (length past) e.node taken new.node [] entries → TakesPacket past e input taken
+  quietly : (input : CallInput) (new : EndpointState) (entries es : List Entry) (taken : Option Sent) → entries ≡ es → NodeCall (length past) e.node taken new.node [] es → TakesPacket past e input taken
       → IsNodeCall past e input new no_output entries
-  quietly input new entries taken call takes = record {
+  quietly input new entries es taken recorded call takes = record {
     taken = taken;
     sent = [];
-    call = call;
+    call = subst (NodeCall (length past) e.node taken new.node []) (sym recorded) call;
     takes = takes;
     parcels = λ b there. absurd there;
     requests = λ j there. absurd there;
@@ -197,31 +198,25 @@ module _ (back : ReadsBack) (past : List Entry) (e : EndpointState) (k : IsEndpo
       by false other = node.take_other_number name q number legal other
 
   -- the reply to a question
-  module _ (now : ℕ) (b : List ℕ) (head : Head) (round : ℕ) (view : List ℕ) (read : read_parcel run b ≡ Ok (head, question round view)) (fits : IsParcel run (head, question round view)) (mine : head.dest ≡ me) (other : head.source.0 ≡ me.0 → ⊥) (legal : contents_fault e now head (question round view) ≡ None) where
+  module _ (now : ℕ) (b : List ℕ) (head : Head) (round : ℕ) (view : List ℕ) (read : read_parcel run b ≡ Ok (head, question round view)) (fits : IsParcel run (head, question round view)) (mine : head.dest ≡ me) (other : head.source.0 ≡ me.0 → ⊥)
+      (legal : (answer_fault e.node head.source view ≡ None) × (clock_fault (clock_after e now head) ≡ None)) where
     abbrev clock : ℕ
     clock = clock_after e now head
 
     replies : (reply : RoundReply) → round_reply e.node view ≡ reply → IsNodeCall past e (bytes b) (after_contents e now head (question round view)) (one_parcel (reply_bytes e head.source round clock reply)) []
     replies Replies.Log is =
-        let first = node_or_none _ _ legal in
         aloud (bytes b) (after_contents e now head (question round view)) [] (Some (question_packet head.source.0 round (numbers view))) (answer_packet round (log_packet me.0 e.node.lane head.source.0 e.node.memory.log)) _
-        (node.answer_log head.source round view first.0 is) ((head, question round view), read, mine, other, inr (0, tt, refl)) refl
-        (says (length past) head.source clock (answer round (map (wire_entry me) (fin.entries e.node.memory.log))) _ fits.head.source (clock_below clock first.1) (fits.contents.0, entries_fit n me e.node.memory.log k.logged k.node.holders few)
+        (node.answer_log head.source round view legal.0 is) ((head, question round view), read, mine, other, inr (0, tt, refl)) refl
+        (says (length past) head.source clock (answer round (map (wire_entry me) (fin.entries e.node.memory.log))) _ fits.head.source (clock_below clock legal.1) (fits.contents.0, entries_fit n me e.node.memory.log k.logged k.node.holders few)
         (ap (answer_packet round) (log_again me e.node.memory.log k.node.own e.node.lane head.source.0)))
     replies Replies.OwnNumber is =
-        let first = node_or_none _ _ legal in
         aloud (bytes b) (after_contents e now head (question round view)) [] None (number_packet me.0 e.node.lane) _
-        (node.answer_number head.source view first.0 is) ((head, question round view), read, mine, other, inl refl) refl
-        (says (length past) head.source clock (own_number round) _ fits.head.source (clock_below clock first.1) fits.contents.0 refl)
+        (node.answer_number head.source view legal.0 is) ((head, question round view), read, mine, other, inl refl) refl
+        (says (length past) head.source clock (own_number round) _ fits.head.source (clock_below clock legal.1) fits.contents.0 refl)
     replies Replies.NotUp is =
-        let first = node_or_none _ _ legal in
         aloud (bytes b) (after_contents e now head (question round view)) [] (Some (question_packet head.source.0 round (numbers view))) (not_up_packet me.0 head.source.0 round) _
-        (node.answer_not_up head.source round view first.0 is) ((head, question round view), read, mine, other, inr (0, tt, refl)) refl
-        (says (length past) head.source clock (not_up round) _ fits.head.source (clock_below clock first.1) fits.contents.0 refl)
-
-  same_dets : (source : Pid) (items : List WireItem) → log_dets_of (map (log_item source) items) ≡ parcel_dets items
-  same_dets source [] = refl
-  same_dets source (x ∷ xs) = ap (λ ds. x.det ∷ ds) (same_dets source xs)
+        (node.answer_not_up head.source round view legal.0 is) ((head, question round view), read, mine, other, inr (0, tt, refl)) refl
+        (says (length past) head.source clock (not_up round) _ fits.head.source (clock_below clock legal.1) fits.contents.0 refl)
 
   receives : (now : ℕ) (b : List ℕ) (head : Head) (contents : Contents) (entries : List Entry) → read_parcel run b ≡ Ok (head, contents) → IsParcel run (head, contents) → head.dest ≡ me → (head.source.0 ≡ me.0 → ⊥)
       → contents_fault e now head contents ≡ None → Records past e head contents entries
@@ -230,30 +225,25 @@ module _ (back : ReadsBack) (past : List Entry) (e : EndpointState) (k : IsEndpo
       let name = name_in head ssn in
       let batch = batch_in head items in
       let taken = Some (message_packet name (message_with head.lane me recorded.0 name batch)) in
-      subst (λ es. IsNodeCall past e (bytes b) (after_contents e now head (message ssn items body)) no_output es) (sym recorded.2)
-      (quietly (bytes b) (after_contents e now head (message ssn items body)) _ taken
-      (node.deliver head.lane name recorded.0 batch (ap is_ascending (same_dets head.source items) ∙ fits.contents.1.ascending) (node_or_none _ _ legal).0)
-      ((head, message ssn items body), read, mine, other, inr (recorded.0, recorded.1, ap (λ to. Some (message_packet name (message_with head.lane to recorded.0 name batch))) (sym mine))))
+      quietly (bytes b) (after_contents e now head (message ssn items body)) entries _ taken recorded.2
+      (node.deliver head.lane name recorded.0 batch (ap is_ascending (map-map _ (log_item head.source) items) ∙ fits.contents.1.ascending) (node_or_none _ _ legal).0)
+      ((head, message ssn items body), read, mine, other, inr (recorded.0, recorded.1, ap (λ to. Some (message_packet name (message_with head.lane to recorded.0 name batch))) (sym mine)))
   receives now b head (acknowledgement items) entries read fits mine other legal recorded =
       let batch = batch_in head items in
-      subst (λ es. IsNodeCall past e (bytes b) (after_contents e now head (acknowledgement items)) no_output es) (sym recorded)
-      (quietly (bytes b) (after_contents e now head (acknowledgement items)) [] (Some (acknowledgement_packet (acknowledgement_with head.source head.lane me batch)))
+      quietly (bytes b) (after_contents e now head (acknowledgement items)) entries [] (Some (acknowledgement_packet (acknowledgement_with head.source head.lane me batch))) recorded
       (node.learn head.lane head.source batch (node_or_none _ _ legal).0)
-      ((head, acknowledgement items), read, mine, other, inr (0, tt, ap (λ to. Some (acknowledgement_packet (acknowledgement_with head.source head.lane to batch))) (sym mine))))
+      ((head, acknowledgement items), read, mine, other, inr (0, tt, ap (λ to. Some (acknowledgement_packet (acknowledgement_with head.source head.lane to batch))) (sym mine)))
   receives now b head (question round view) entries read fits mine other legal recorded =
-      subst (λ es. IsNodeCall past e (bytes b) (after_contents e now head (question round view)) (output_at e now head (question round view)) es) (sym recorded) (replies now b head round view read fits mine other legal (round_reply e.node view) refl)
+      subst (λ es. IsNodeCall past e (bytes b) (after_contents e now head (question round view)) (output_at e now head (question round view)) es) (sym recorded) (replies now b head round view read fits mine other (node_or_none _ _ legal) (round_reply e.node view) refl)
   receives now b head (answer round entries) recorded_entries read fits mine other legal recorded =
       let log = log_from head.source entries in
-      subst (λ es. IsNodeCall past e (bytes b) (after_contents e now head (answer round entries)) no_output es) (sym recorded)
-      (quietly (bytes b) (after_contents e now head (answer round entries)) [] (Some (answer_packet round (log_packet head.source.0 head.lane me.0 log)))
+      quietly (bytes b) (after_contents e now head (answer round entries)) recorded_entries [] (Some (answer_packet round (log_packet head.source.0 head.lane me.0 log))) recorded
       (node.take_log round head.lane head.source log (node_or_none _ _ legal).0)
-      ((head, answer round entries), read, mine, other, inr (0, tt, ap (λ (to : Pid). Some (answer_packet round (log_packet head.source.0 head.lane to.0 log))) (sym mine))))
+      ((head, answer round entries), read, mine, other, inr (0, tt, ap (λ (to : Pid). Some (answer_packet round (log_packet head.source.0 head.lane to.0 log))) (sym mine)))
   receives now b head (own_number round) entries read fits mine other legal recorded =
-      subst (λ es. IsNodeCall past e (bytes b) (after_contents e now head (own_number round)) no_output es) (sym recorded)
-      (quietly (bytes b) (after_contents e now head (own_number round)) [] (Some (number_packet head.source.0 head.lane)) (node.take_number round head.source head.lane (node_or_none _ _ legal).0) ((head, own_number round), read, mine, other, inr (0, tt, refl)))
+      quietly (bytes b) (after_contents e now head (own_number round)) entries [] (Some (number_packet head.source.0 head.lane)) recorded (node.take_number round head.source head.lane (node_or_none _ _ legal).0) ((head, own_number round), read, mine, other, inr (0, tt, refl))
   receives now b head (not_up round) entries read fits mine other legal recorded =
-      subst (λ es. IsNodeCall past e (bytes b) (after_contents e now head (not_up round)) no_output es) (sym recorded)
-      (quietly (bytes b) (after_contents e now head (not_up round)) [] (Some (not_up_for e.node head.source head.lane round)) (said_not_up round head.source head.lane (node_or_none _ _ legal).0) ((head, not_up round), read, mine, other, inr (0, tt, refl)))
+      quietly (bytes b) (after_contents e now head (not_up round)) entries [] (Some (not_up_for e.node head.source head.lane round)) recorded (said_not_up round head.source head.lane (node_or_none _ _ legal).0) ((head, not_up round), read, mine, other, inr (0, tt, refl))
 
   begins : (name : ℕ) → begin_fault e.node.recovery ≡ None → IsNodeCall past e nothing (recovering.after_begin e name) (one_name name) []
   begins name legal =
@@ -300,7 +290,7 @@ pub calls_are_node_calls : ReadsBack → EndpointCallsAreNodeCalls
 calls_are_node_calls back past old new input output entries (send now to body legal) k few fits = inl (sends back past old k few now to body legal)
 calls_are_node_calls back past old new input output entries (resend ssn again legal is) k few fits = inr (resends back past old k few ssn again legal is)
 calls_are_node_calls back past old new input output entries (acknowledge now to dets ascends legal) k few fits = inl (acknowledges back past old k few now to dets ascends legal)
-calls_are_node_calls back past old new input output entries (forget now legal) k few fits = inl (quietly back past old k few nothing _ _ None (node.forget (node_or_none _ _ legal).0) refl)
+calls_are_node_calls back past old new input output entries (forget now legal) k few fits = inl (quietly back past old k few nothing _ _ _ None refl (node.forget (node_or_none _ _ legal).0) refl)
 calls_are_node_calls back past old new input output entries (receive now b p recorded read legal records) k few fits =
     let same : p ≡ fits.0 = read_is (read_parcel (run_of old) b) p fits.0 read (ap (read_parcel (run_of old)) fits.2 ∙ back (run_of old) fits.0 k.run fits.1) in
     let dest = or_else_none _ _ _ legal in
@@ -308,14 +298,14 @@ calls_are_node_calls back past old new input output entries (receive now b p rec
     let mine : p.0.dest ≡ old.node.identity.me = λ i. record { 0 = eqb-true p.0.dest.0 old.node.identity.me.0 (not-false _ dest.0) i } in
     inl (receives back past old k few now b p.0 p.1 recorded read (subst (λ q. IsParcel (run_of old) q) (sym same) fits.1) mine (λ same_pid_is. false≢true (sym source.0 ∙ eq-eqb p.0.source.0 old.node.identity.me.0 same_pid_is)) source.1 records)
 calls_are_node_calls back past old new input output entries (write dets up logged) k few fits = inl (asks_storage back past old k few old _ (node.write dets up logged) refl)
-calls_are_node_calls back past old new input output entries (stored now dets det up legal has) k few fits = inl (quietly back past old k few _ _ _ _ (node.stored dets det up has) refl)
+calls_are_node_calls back past old new input output entries (stored now dets det up legal has) k few fits = inl (quietly back past old k few _ _ _ _ _ refl (node.stored dets det up has) refl)
 calls_are_node_calls back past old new input output entries (begin_round name low legal) k few fits = inl (begins back past old k few name legal)
 calls_are_node_calls back past old new input output entries (ask now to legal) k few fits = inr (asks back past old k few now to legal)
 calls_are_node_calls back past old new input output entries (take_ended name q number legal) k few fits =
     let r = of_round old.node.recovery name q legal in
-    inl (quietly back past old k few (ended q number) _ [] (Some (not_up_for old.node q number name)) (said_not_up back past old k few name q number legal) (r.0, r.1, ap (λ m. Some (not_up_for old.node q number m)) (sym r.2), awaited_other old k r.0 r.1 q r.3))
+    inl (quietly back past old k few (ended q number) _ _ [] (Some (not_up_for old.node q number name)) refl (said_not_up back past old k few name q number legal) (r.0, r.1, ap (λ m. Some (not_up_for old.node q number m)) (sym r.2), awaited_other old k r.0 r.1 q r.3))
 calls_are_node_calls back past old new input output entries (ask_storage r gathers legal) k few fits = inl (asks_storage back past old k few old _ (node.ask_storage r gathers legal) refl)
-calls_are_node_calls back past old new input output entries (take_stored now r dets det gathers legal has) k few fits = inl (quietly back past old k few _ _ _ _ (node.take_stored r dets det gathers (node_or_none _ _ legal).0 has) refl)
-calls_are_node_calls back past old new input output entries (finish_read r dets gathers legal all) k few fits = inl (quietly back past old k few _ _ _ _ (node.finish_read r dets gathers legal all) refl)
-calls_are_node_calls back past old new input output entries (restart now reserved legal) k few fits = inl (quietly back past old k few nothing _ _ None (node.restart reserved (node_or_none _ _ legal).0) refl)
-calls_are_node_calls back past old new input output entries (open_again round reopened down low) k few fits = inl (quietly back past old k few nothing _ [] None (node.open_again round down) refl)
+calls_are_node_calls back past old new input output entries (take_stored now r dets det gathers legal has) k few fits = inl (quietly back past old k few _ _ _ _ _ refl (node.take_stored r dets det gathers (node_or_none _ _ legal).0 has) refl)
+calls_are_node_calls back past old new input output entries (finish_read r dets gathers legal all) k few fits = inl (quietly back past old k few _ _ _ _ _ refl (node.finish_read r dets gathers legal all) refl)
+calls_are_node_calls back past old new input output entries (restart now reserved legal) k few fits = inl (quietly back past old k few nothing _ _ _ None refl (node.restart reserved (node_or_none _ _ legal).0) refl)
+calls_are_node_calls back past old new input output entries (open_again round reopened down low) k few fits = inl (quietly back past old k few nothing _ _ [] None refl (node.open_again round down) refl)

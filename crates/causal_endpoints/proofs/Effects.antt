@@ -1,5 +1,5 @@
 -- What each call of a node does to its lane, to what it has sent, and to its round.
-use Rattle.std.proofs.Common.{ℕ, ◌≡◌, ◌∙◌, ◌==◌, Bool, true, false, ◌&&◌, List, [], ◌∷◌, ◌++◌, length, Option, Some, None, is_some, unwrap_or, inl, inr, refl, sym, ap, subst, arith}
+use Rattle.std.proofs.Common.{ℕ, ◌≡◌, ◌∙◌, ◌==◌, Bool, true, false, ◌&&◌, List, [], ◌∷◌, ◌++◌, length, Option, Some, None, is_some, inl, inr, refl, sym, ap, subst, arith}
 use Rattle.std.specs.Prelude.{◌⊎◌, if◌then◌else◌}
 use Rattle.std.specs.FinMap as fin
 use Rattle.std.specs.List.{list_any}
@@ -72,29 +72,16 @@ record SameCounts (old new : NodeState) : Type 0 where
   up : is_some new.recovery ≡ is_some old.recovery
 
 reply_counts : (s : NodeState) (view : List ℕ) → SameCounts s (node_after_answer s view)
-reply_counts s view = by (knows_number s view) s.recovery refl
-  where
-    by : (b : Bool) (o : Recovery) → s.recovery ≡ o → SameCounts s (if b then after_answer_at s view o else s)
-    by true None is = record { lane = refl; kept = refl; up = refl }
-    by true (Some r) is = record { lane = refl; kept = refl; up = ap is_some (sym is) }
-    by false o is = record { lane = refl; kept = refl; up = refl }
+reply_counts s view = record { lane = grind arith; kept = grind arith; up = grind arith }
 
 round_counts : (s : NodeState) (change : RoundState → RoundState) → SameCounts s (with_recovery s (map_round change s.recovery))
-round_counts s change = by s.recovery refl
-  where
-    by : (o : Recovery) → s.recovery ≡ o → SameCounts s (with_recovery s (map_round change o))
-    by (Some (Some r)) is = record { lane = refl; kept = refl; up = ap is_some (sym is) }
-    by _ is = record { lane = refl; kept = refl; up = ap is_some (sym is) }
+round_counts s change = record { lane = refl; kept = refl; up = grind arith }
 
 number_counts : (s : NodeState) (q : Pid) (number name : ℕ) → reply_fault s.recovery name q ≡ None → SameCounts s (after_number s q number)
 number_counts s q number name legal = record { lane = refl; kept = refl; up = ap is_some (sym (of_round s.recovery name q legal).1) }
 
 not_up_counts : (s : NodeState) (q : Pid) (number name : ℕ) → reply_fault s.recovery name q ≡ None → SameCounts s (after_not_up s q number)
-not_up_counts s q number name legal = by (floor_of s.floors q == number)
-  where
-    by : (b : Bool) → SameCounts s (if b then with_recovery s (map_round (λ r. without_awaited r q.0) s.recovery) else after_number s q number)
-    by true = round_counts s (λ r. without_awaited r q.0)
-    by false = number_counts s q number name legal
+not_up_counts s q number name legal = record { lane = grind arith; kept = grind arith; up = grind (arith, (of_round s.recovery name q legal).1) }
 
 begun : (o : Recovery) → begin_fault o ≡ None → is_some o ≡ true
 begun o h = grind arith
@@ -142,34 +129,27 @@ abbrev name_in : ℕ → Recovery → ℕ
 name_in name (Some (Some q)) = q.name
 name_in name _ = name
 
-inner : (o : Recovery) (q : RoundState) → o ≡ Some (Some q) → (o ≡ Some None) → ⊥
-inner o q is other = some_none q (ap (λ o. unwrap_or o None) (sym is ∙ other))
-
-no_round : {A : Type 0} (q : RoundState) → None ≡ Some (Some q) → A
-no_round q is = absurd (some_none _ (sym is))
-
 reply_rounds : (s : NodeState) (view : List ℕ) (sent : List Sent) → RoundEffect s (node_after_answer s view) sent
 reply_rounds s view sent = by (knows_number s view) s.recovery refl
   where
     by : (b : Bool) (o : Recovery) → s.recovery ≡ o → RoundEffect s (if b then after_answer_at s view o else s) sent
-    by true None up q is = no_round q (sym up ∙ is)
-    by true (Some r) down q is = absurd (inner (Some None) q is refl)
+    by true None up q is = cc
+    by true (Some r) down q is = cc
     by false o down q is = inl (q, is, refl, refl)
 
 changed_round : (s : NodeState) (change : RoundState → RoundState) → ((r : RoundState) → (change r).name ≡ r.name) → (sent : List Sent) → RoundEffect s (with_recovery s (map_round change s.recovery)) sent
 changed_round s change named sent = by s.recovery refl
   where
     by : (o : Recovery) → s.recovery ≡ o → RoundEffect s (with_recovery s (map_round change o)) sent
-    by None up q is = no_round q is
-    by (Some None) down q is = absurd (inner (Some None) q is refl)
     by (Some (Some r)) down q is = inl (r, down, sym (named r) ∙ ap (λ (o : Recovery). name_in r.name o) is, refl)
+    by _ _ q is = cc
 
 not_up_rounds : (s : NodeState) (q : Pid) (number : ℕ) (sent : List Sent) → RoundEffect s (after_not_up s q number) sent
 not_up_rounds s p number sent = by (floor_of s.floors p == number)
   where
     by : (b : Bool) → RoundEffect s (if b then with_recovery s (map_round (λ r. without_awaited r p.0) s.recovery) else after_number s p number) sent
     by true = changed_round s (λ r. without_awaited r p.0) (λ r. refl) sent
-    by false = λ q is. absurd (inner (Some None) q is refl)
+    by false = λ q is. cc
 
 pub call_rounds : (position : ℕ) (old new : NodeState) (taken : Option Sent) (sent : List Sent) (entries : List Entry) → NodeCall position old taken new sent entries → RoundEffect old new sent
 call_rounds position old new taken sent entries (stored dets det up has) = subst (λ (o : Recovery). RoundEffect old (node_after_stored old det o) []) (sym up) (λ q is. inl (q, is, refl, refl))
@@ -180,19 +160,19 @@ call_rounds position old new taken sent entries (begin_round name legal) = λ q 
 call_rounds position old new taken sent entries (take_log name lane p log legal) = changed_round old (λ r. with_log_of r p.0 log) (λ r. refl) sent
 call_rounds position old new taken sent entries (take_not_up name p legal) = not_up_rounds old p (floor_of old.floors p) sent
 call_rounds position old new taken sent entries (take_other_number name p number legal other) = not_up_rounds old p number sent
-call_rounds position old new taken sent entries (take_number name p number legal) = λ q is. absurd (inner (Some None) q is refl)
+call_rounds position old new taken sent entries (take_number name p number legal) = λ q is. cc
 call_rounds position old new taken sent entries (take_stored r dets det gathers legal has) = subst (λ (o : Recovery). RoundEffect old (node_after_stored old det o) []) (sym gathers) (λ q is. inl (r, gathers, ap (λ (o : Recovery). name_in r.name o) is, refl))
 call_rounds position old new taken sent entries (finish_read r dets gathers legal all) = changed_round old node_after_read (λ r. refl) sent
 call_rounds position old new taken sent entries (restart reserved legal) = by old.recovery refl legal
   where
     by : (o : Recovery) → old.recovery ≡ o → node_restart_fault o ≡ None → RoundEffect old (after_restart_at old o reserved) []
-    by (Some (Some r)) is legal = λ q none. no_round q none
+    by (Some (Some r)) is legal = λ q none. cc
     by _ is legal = absurd (some_none _ legal)
 call_rounds position old new taken sent entries (open_again round down) = by (old.lane == 0)
   where
     by : (b : Bool) → RoundEffect old (with_recovery (opened_node old.identity old.lane) (if b then None else Some None)) []
-    by true = λ q is. no_round q is
-    by false = λ q is. absurd (inner (Some None) q is refl)
+    by true = λ q is. cc
+    by false = λ q is. cc
 call_rounds position old new taken sent entries _ = λ q is. inl (q, is, refl, refl)
 
 -- a packet of a round is sent after its question: one that is taken or sent now, or that of the present round

@@ -76,11 +76,7 @@ abbrev nodes_of : (ℕ → EndpointState) → ℕ → NodeState
 nodes_of endpoints p = (endpoints p).node
 
 nodes_at : (endpoints : ℕ → EndpointState) (p : ℕ) (e : EndpointState) → with_value_at (nodes_of endpoints) p e.node ≡ nodes_of (with_value_at endpoints p e)
-nodes_at endpoints p e = λ i q. by q (q == p) i
-  where
-    by : (q : ℕ) (b : Bool) → (if b then e.node else (endpoints q).node) ≡ (if b then e else endpoints q).node
-    by q true = refl
-    by q false = refl
+nodes_at endpoints p e = λ i q. (elim (q == p) as (λ b. (if b then e.node else (endpoints q).node) ≡ (if b then e else endpoints q).node) [ true ↦ refl | false ↦ refl ]) i
 
 abbrev run_at : ℕ → ℕ → ℕ → RunId
 run_at n f run = record { id = run; processes = n; f = f }
@@ -172,17 +168,14 @@ module _ (n f run : ℕ) (w : EndpointSystem) where
     keeps : (k : Sent) → WasSent sys.packets k → WasSent next.packets k
 
   module _ (sys : IsSystemOf n f run w) where
-    identity_is : (p : ℕ) → p < n → (w.endpoints p).node.identity ≡ identity_of n f p
-    identity_is p low = sys.facts.identities p low
-
     processes_is : (p : ℕ) → p < n → (w.endpoints p).node.identity.processes ≡ n
-    processes_is p low = ap (λ (i : Identity). i.processes) (identity_is p low)
+    processes_is p low = ap (λ (i : Identity). i.processes) (sys.facts.identities p low)
 
     me_is : (p : ℕ) → p < n → (w.endpoints p).node.identity.me.0 ≡ p
-    me_is p low = ap (λ (i : Identity). i.me.0) (identity_is p low)
+    me_is p low = ap (λ (i : Identity). i.me.0) (sys.facts.identities p low)
 
     run_is : (p : ℕ) → p < n → run_of (w.endpoints p) ≡ run_at n f run
-    run_is p low = λ i. record { id = sys.runs p low i; processes = (identity_is p low i).processes; f = (identity_is p low i).faults }
+    run_is p low = λ i. record { id = sys.runs p low i; processes = (sys.facts.identities p low i).processes; f = (sys.facts.identities p low i).faults }
 
     record HasNumber (p : ℕ) : Type 0 where
       more : IsMore sys

@@ -1,9 +1,8 @@
 -- Calls of nodes that endpoints need not make: a number that is sent, and what whoever knows of an end says for a process.
-use Rattle.std.proofs.Common.{ℕ, ◌≡◌, ◌∙◌, ◌==◌, ◌<◌, ◌+◌, Bool, true, false, not, ◌&&◌, List, [], ◌∷◌, length, Some, None, inl, inr, replicate, sym, ap, subst, arith}
+use Rattle.std.proofs.Common.{ℕ, ◌≡◌, ◌∙◌, ◌==◌, ◌<◌, ◌+◌, true, false, not, ◌&&◌, List, [], ◌∷◌, length, Some, None, replicate, sym, ap, subst, arith}
 use Rattle.std.specs.Prelude.{nat_le, nat_lt, slice_set, if◌then◌else◌}
 use Rattle.std.proofs.lemmas.Bool.{eq-eqb, ne_eqb, le-ltb, or_from}
 use Rattle.std.proofs.lemmas.List.{length-set}
-use Rattle.std.proofs.lemmas.Bool.Decides.{eqb_tells}
 use Rattle.causal_name.specs.declared.Pid.{Pid}
 use Rattle.causal_name.specs.Names.{same_pid}
 use Rattle.causal_node.specs.declared.node_answer.RoundReply.TheVariants as Replies
@@ -17,18 +16,12 @@ use Rattle.causal_calls.specs.Views.{numbers, IsNodeState}
 use Rattle.causal_calls.specs.Calls.{NodeCall, answer_number, answer_not_up}
 use Rattle.causal_calls.proofs.Lemmas.Numbers.{set_other, set_here, zeros}
 
-within_is : (a b : ℕ) → a < b → nat_le b a ≡ false
-within_is a b low = grind (arith, low)
-
-not_itself : (a : ℕ) → (a + 1 == a) ≡ false
-not_itself a = elim (eqb_tells (a + 1) a) [ inl is ↦ absurd (omega (arith, is.1)) | inr other ↦ other.0 ]
-
 -- a question that is not refused
 answered : (s : NodeState) (asker : Pid) (view : List ℕ) → asker.0 < s.identity.processes → (asker.0 ≡ s.identity.me.0 → ⊥) → length view ≡ s.identity.processes
     → nat_lt (floor_of view asker) (floor_of s.floors asker) ≡ false → (is_gathering s.recovery && (knows_number s view && nat_lt s.identity.me.0 asker.0)) ≡ false
     → answer_fault s asker view ≡ None
 answered s asker view low other size late waits = λ i.
-    or_else (or_from (nat_le s.identity.processes asker.0) (same_pid asker s.identity.me) (within_is asker.0 s.identity.processes low) (ne_eqb asker.0 s.identity.me.0 other) i) Faults.NoProcess
+    or_else (or_from (nat_le s.identity.processes asker.0) (same_pid asker s.identity.me) (grind (arith, low)) (ne_eqb asker.0 s.identity.me.0 other) i) Faults.NoProcess
     (or_else (ap not (eq-eqb (length view) s.identity.processes size) i) Faults.View
     (or_else (late i) Faults.OldLane
     (or_else (waits i) Faults.NotYet None)))
@@ -39,17 +32,14 @@ module _ (position : ℕ) (s : NodeState) (k : IsNodeState s) (asker : Pid) (low
   view = slice_set s.floors s.identity.me.0 (s.lane + 1)
 
   unknown : knows_number s view ≡ false
-  unknown = ap (λ m. m == s.lane) (set_here s.floors s.identity.me.0 (s.lane + 1) (subst (λ m. s.identity.me.0 < m) (sym k.floors) k.process)) ∙ not_itself s.lane
+  unknown = ap (λ m. m == s.lane) (set_here s.floors s.identity.me.0 (s.lane + 1) (subst (λ m. s.identity.me.0 < m) (sym k.floors) k.process)) ∙ ne_eqb (s.lane + 1) s.lane (λ e. omega (arith, e))
 
   pub tells_number : NodeCall position s None s (number_packet s.identity.me.0 s.lane ∷ []) []
   tells_number =
-      let waits : (is_gathering s.recovery && (knows_number s view && nat_lt s.identity.me.0 asker.0)) ≡ false = ap (λ b. is_gathering s.recovery && (b && nat_lt s.identity.me.0 asker.0)) unknown ∙ never (is_gathering s.recovery) in
+      let waits : (is_gathering s.recovery && (knows_number s view && nat_lt s.identity.me.0 asker.0)) ≡ false = grind (arith, unknown) in
       let late = le-ltb (numbers view asker.0) (numbers s.floors asker.0) (let same = set_other s.floors s.identity.me.0 (s.lane + 1) asker.0 other in omega (arith, same)) in
       subst (λ t. NodeCall position s None t (number_packet s.identity.me.0 s.lane ∷ []) []) (λ i. if unknown i then after_answer_at s view s.recovery else s)
       (answer_number asker view (answered s asker view low other (length-set s.floors s.identity.me.0 (s.lane + 1) ∙ k.floors) late waits) (λ i. if unknown i then reply_at s.recovery else Replies.OwnNumber))
-    where
-      never : (b : Bool) → (b && false) ≡ false
-      never b = grind arith
 
 -- a process that has ended, and done nothing since, replies to a question with its number that it is not up
 module _ (position : ℕ) (s : NodeState) (down : s.recovery ≡ Some None) (fresh : s ≡ opened_node s.identity s.lane) (asker : Pid) (low : asker.0 < s.identity.processes) (other : asker.0 ≡ s.identity.me.0 → ⊥) where
