@@ -38,22 +38,17 @@ module _ (e : Entry) (past : List Entry) where
   -- a message is the newest entry's, or an older one's
   pub sent_now_or_before : (at number : ℕ) (name : MsgName) → IsSendOf (e ∷ past) at number name
       → ((at ≡ length past) × (message_sent e ≡ Some name) × (lane_of past name.source.0 ≡ number)) ⊎ IsSendOf past at number name
-  sent_now_or_before at number name is = by (eqb_tells at (length past))
-    where
-      by : ((at == length past ≡ true) × (at ≡ length past)) ⊎ ((at == length past ≡ false) × (at ≡ length past → ⊥))
-          → ((at ≡ length past) × (message_sent e ≡ Some name) × (lane_of past name.source.0 ≡ number)) ⊎ IsSendOf past at number name
-      by (inl here) = inl (
-        here.1,
-        sym (ap (λ o. option_and_then message_sent o) (at_newest at (length past) (Some e) (entry_at past at) here.1)) ∙ is.message,
-        sym (ap (λ p. lane_of p name.source.0) (instants_stay e past at (omega (arith, here.1)) ∙ ap (instant past) here.1 ∙ last_instant past)) ∙ is.in_lane,
-      )
-      by (inr other) =
-          let older = sym (ap (λ o. option_and_then message_sent o) (cond-false (at == length past) (Some e) (entry_at past at) other.0)) ∙ is.message in
-          let low = message_below past at name older in
-          inr (record {
-            message = older;
-            in_lane = sym (ap (λ p. lane_of p name.source.0) (instants_stay e past at (omega (arith, low)))) ∙ is.in_lane;
-          })
+  sent_now_or_before at number name is = elim (eqb_tells at (length past)) [
+    | inl here ↦ inl (
+      here.1,
+      sym (ap (λ o. option_and_then message_sent o) (at_newest at (length past) (Some e) (entry_at past at) here.1)) ∙ is.message,
+      sym (ap (λ p. lane_of p name.source.0) (instants_stay e past at (omega (arith, here.1)) ∙ ap (instant past) here.1 ∙ last_instant past)) ∙ is.in_lane,
+    )
+    | inr other ↦
+        let older = sym (ap (λ o. option_and_then message_sent o) (cond-false (at == length past) (Some e) (entry_at past at) other.0)) ∙ is.message in
+        let low = message_below past at name older in
+        inr (record { message = older; in_lane = sym (ap (λ p. lane_of p name.source.0) (instants_stay e past at (omega (arith, low)))) ∙ is.in_lane })
+  ]
 
 -- what an entry does to the lane of a process, and to how many messages it has sent
 abbrev is_restart_of : Entry → ℕ → Bool
@@ -89,37 +84,27 @@ newest_number _ past name h is = absurd (false≢true (ap is_some is))
 pub lane_begun : (past : List Entry) (at number : ℕ) (name : MsgName) → IsSendOf past at number name → number ≤ lane_of past name.source.0
 lane_begun [] at number name is = absurd (false≢true (ap is_some is.message))
 lane_begun (e ∷ past) at number name is = elim (sent_now_or_before e past at number name is) [
-  | inl now ↦ let grows = lane_grows e past name.source.0 in omega (arith, now.2, grows)
-  | inr before ↦ let grows = lane_grows e past name.source.0 in let low = lane_begun past at number name before in omega (arith, low, grows)
+  | inl now ↦ omega (arith, now.2, lane_grows e past name.source.0)
+  | inr before ↦ omega (arith, lane_begun past at number name before, lane_grows e past name.source.0)
 ]
 
 pub number_sent : (past : List Entry) (at number : ℕ) (name : MsgName) → AreSendsCounted past → IsSendOf past at number name → lane_of past name.source.0 ≡ number → name.ssn < sends past name.source.0
 number_sent [] at number name counted is present = absurd (false≢true (ap is_some is.message))
-number_sent (e ∷ past) at number name counted is present =
-    by (sent_now_or_before e past at number name is) (lane_step e past name.source.0) (λ before same. number_sent past at number name (counted_before e past counted) before same)
-  where
-    by : ((at ≡ length past) × (message_sent e ≡ Some name) × (lane_of past name.source.0 ≡ number)) ⊎ IsSendOf past at number name
-        → (is_restart_of e name.source.0 ≡ true) × (lane_of (e ∷ past) name.source.0 ≡ lane_of past name.source.0 + 1) ⊎ (is_restart_of e name.source.0 ≡ false) × (lane_of (e ∷ past) name.source.0 ≡ lane_of past name.source.0)
-        → (IsSendOf past at number name → lane_of past name.source.0 ≡ number → name.ssn < sends past name.source.0) → name.ssn < sends (e ∷ past) name.source.0
-    by (inl now) step later = let new = newest_number e past name counted now.1 in omega (arith, new.0, new.1)
-    by (inr before) (inl begun) later = let low = lane_begun past at number name before in absurd (omega (arith, low, begun.1, present))
-    by (inr before) (inr same) later = let more = sends_grow e past name.source.0 same.0 in let low = later before (sym same.1 ∙ present) in omega (arith, more, low)
+number_sent (e ∷ past) at number name counted is present = elim (sent_now_or_before e past at number name is) [
+  | inl now ↦ omega (arith, newest_number e past name counted now.1)
+  | inr before ↦ elim (lane_step e past name.source.0) [
+    | inl begun ↦ absurd (omega (arith, lane_begun past at number name before, begun.1, present))
+    | inr same ↦ omega (arith, sends_grow e past name.source.0 same.0, number_sent past at number name (counted_before e past counted) before (sym same.1 ∙ present))
+  ]
+]
 
 -- so a message has one send entry
 pub one_send : (past : List Entry) (a b number : ℕ) (name : MsgName) → AreSendsCounted past → IsSendOf past a number name → IsSendOf past b number name → a ≡ b
 one_send [] a b number name counted is other = absurd (false≢true (ap is_some is.message))
-one_send (e ∷ past) a b number name counted is other = by (sent_now_or_before e past a number name is) (sent_now_or_before e past b number name other) (λ x y. one_send past a b number name (counted_before e past counted) x y)
+one_send (e ∷ past) a b number name counted is other = elim (sent_now_or_before e past a number name is) [
+  | inl x ↦ elim (sent_now_or_before e past b number name other) [ inl y ↦ x.0 ∙ sym y.0 | inr y ↦ absurd (apart x.1 x.2 y) ]
+  | inr x ↦ elim (sent_now_or_before e past b number name other) [ inl y ↦ absurd (apart y.1 y.2 x) | inr y ↦ one_send past a b number name (counted_before e past counted) x y ]
+]
   where
-    apart : (at : ℕ) → message_sent e ≡ Some name → lane_of past name.source.0 ≡ number → IsSendOf past at number name → ⊥
-    apart at now present before =
-        let new = newest_number e past name counted now in
-        let low = number_sent past at number name (counted_before e past counted) before present in
-        omega (arith, new.0, low)
-
-    by : ((a ≡ length past) × (message_sent e ≡ Some name) × (lane_of past name.source.0 ≡ number)) ⊎ IsSendOf past a number name
-        → ((b ≡ length past) × (message_sent e ≡ Some name) × (lane_of past name.source.0 ≡ number)) ⊎ IsSendOf past b number name
-        → (IsSendOf past a number name → IsSendOf past b number name → a ≡ b) → a ≡ b
-    by (inl x) (inl y) later = x.0 ∙ sym y.0
-    by (inl x) (inr y) later = absurd (apart b x.1 x.2 y)
-    by (inr x) (inl y) later = absurd (apart a y.1 y.2 x)
-    by (inr x) (inr y) later = later x y
+    apart : {at : ℕ} → message_sent e ≡ Some name → lane_of past name.source.0 ≡ number → IsSendOf past at number name → ⊥
+    apart {at} now present before = omega (arith, newest_number e past name counted now, number_sent past at number name (counted_before e past counted) before present)

@@ -131,13 +131,9 @@ module _ (e : EndpointState) where
   clock_kept now head (question round view) low head_low legal = clock_below _ (node_or_none _ _ legal).1
   clock_kept now head _ low head_low legal = omega (arith, low, head_low)
 
-  no_names_at : (now : ℕ) (head : Head) (contents : Contents) (name : ℕ) → IsListed (output_at e now head contents).names name → ⊥
-  no_names_at now head (message ssn items body) name h = h
-  no_names_at now head _ name h = h
-
-  no_requests_at : (now : ℕ) (head : Head) (contents : Contents) (k : Sent) → IsListed (output_at e now head contents).to_storage k → ⊥
-  no_requests_at now head (message ssn items body) k h = h
-  no_requests_at now head _ k h = h
+  silent_at : (now : ℕ) (head : Head) (contents : Contents) → ((name : ℕ) → IsListed (output_at e now head contents).names name → ⊥) × ((k : Sent) → IsListed (output_at e now head contents).to_storage k → ⊥)
+  silent_at now head (message ssn items body) = ((λ name h. h), (λ k h. h))
+  silent_at now head _ = ((λ name h. h), (λ k h. h))
 
 -- what is plain of each call
 record IsPlain (old : EndpointState) (input : CallInput) (new : EndpointState) (output : Output) : Type 0 where
@@ -167,7 +163,7 @@ plain back past old new input output entries (receive now b p recorded read lega
     let of_run = subst (λ q. IsParcel (run_of old) q) (sym same) fits.1 in
     let dest = or_else_none (not (same_pid p.0.dest old.node.identity.me)) Faults.NotMine _ legal in
     let source = or_else_none (same_pid p.0.source old.node.identity.me) Faults.OwnParcel _ dest.1 in
-    plainly old new input output refl (clock_kept old now p.0 p.1 k.clock of_run.head.clock source.1) tt (no_names_at old now p.0 p.1) (no_requests_at old now p.0 p.1)
+    plainly old new input output refl (clock_kept old now p.0 p.1 k.clock of_run.head.clock source.1) tt (silent_at old now p.0 p.1).0 (silent_at old now p.0 p.1).1
 plain back past old new input output entries (write dets up logged) k fits = asking old _ k.clock (λ d h. k.logged d (logged d h))
 plain back past old new input output entries (stored now dets det up legal has) k fits = plainly old new input output refl (clock_below _ (node_or_none _ _ legal).1) (fits, λ p is. absurd is) none_of none_of
 plain back past old new input output entries (begin_round name low legal) k fits = record { run = refl; clock = k.clock; names = one_among (λ m. m < 2 ^ 64) name low; reply = tt; requests = λ j h. absurd h }

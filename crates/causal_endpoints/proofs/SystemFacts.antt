@@ -181,10 +181,16 @@ module _ (n f : ℕ) (w : System) (k : SystemFacts n f w) (me : Pid) (low : me.0
       asked = asked_after;
     })
 
-    -- a call that counts nothing
-    facts_if_still : new.lane ≡ old.lane → (new.memory.sent ≡ old.memory.sent) ⊎ (new.memory.sent ≡ []) → is_some new.recovery ≡ is_some old.recovery → (old.recovery ≡ None → new.memory.sent ≡ old.memory.sent)
-        → AreUncounted entries → ((name : MsgName) (t : Packet) → WasSent sent (message_packet name t) → ⊥) → SystemFacts n f after
-    facts_if_still lane loses up keeps uncounted none = by uncounted
+    -- the message that a send keeps, and its packet
+    abbrev next_kept : Pid → SentMessage
+    next_kept to = record { to = to; send = length old.memory.sent; batch = batch_items old.identity.faults old.memory.log }
+
+    abbrev next_packet : Pid → Sent
+    next_packet to = message_packet (message_name (record { 0 = me.0 }) (length old.memory.sent)) (message_with new.lane to (length w.past) (message_name (record { 0 = me.0 }) (length old.memory.sent)) (batch_items old.identity.faults old.memory.log))
+
+    -- after what a call does: one that counts nothing
+    facts_by : Effect (length w.past) old new sent entries → SystemFacts n f after
+    facts_by (stays lane loses up keeps uncounted none) = by uncounted
       where
         kept : (ssn : ℕ) (kept : SentMessage) → slice_get new.memory.sent ssn ≡ Some kept → WasMessageSent (sent ++ w.sent) me.0 new ssn kept
         kept ssn message at = elim loses [
@@ -203,19 +209,8 @@ module _ (n f : ℕ) (w : System) (k : SystemFacts n f w) (me : Pid) (low : me.0
             (entries_more (e ∷ w.past) sent w.sent none (entries_older e w.past w.sent k.messages))
             kept
 
-    -- the message that a send keeps, and its packet
-    abbrev next_kept : Pid → SentMessage
-    next_kept to = record { to = to; send = length old.memory.sent; batch = batch_items old.identity.faults old.memory.log }
-
-    abbrev next_packet : Pid → Sent
-    next_packet to = message_packet (message_name (record { 0 = me.0 }) (length old.memory.sent)) (message_with new.lane to (length w.past) (message_name (record { 0 = me.0 }) (length old.memory.sent)) (batch_items old.identity.faults old.memory.log))
-
     -- a send
-    facts_if_sent : (to : Pid) → old.recovery ≡ None → new.recovery ≡ None → new.lane ≡ old.lane
-        → new.memory.sent ≡ old.memory.sent ++ record { to = to; send = length old.memory.sent; batch = batch_items old.identity.faults old.memory.log } ∷ []
-        → sent ≡ message_packet (message_name old.identity.me (length old.memory.sent)) (next_message_packet (length w.past) old to) ∷ []
-        → entries ≡ Send old.identity.me to (length old.memory.sent) ∷ [] → SystemFacts n f after
-    facts_if_sent to up still_up lane more sent_is recorded = facts_from _ recorded (k.counted, sym counts.1 ∙ ap (sends w.past) (sym mine)) mine_after (λ p other. (refl, others p other)) messages kept
+    facts_by (sent_one to up still_up lane more sent_is recorded) = facts_from _ recorded (k.counted, sym counts.1 ∙ ap (sends w.past) (sym mine)) mine_after (λ p other. (refl, others p other)) messages kept
       where
         counts : (lane_of w.past me.0 ≡ old.lane) × (sends w.past me.0 ≡ length old.memory.sent)
         counts = subst (λ o. CountsAt w.past me.0 old o) up (k.nodes me.0 low)
@@ -263,8 +258,7 @@ module _ (n f : ℕ) (w : System) (k : SystemFacts n f w) (me : Pid) (low : me.0
         ]
 
     -- a restart
-    facts_if_restarted : (listed : List Det) (round : Option RoundState) → old.recovery ≡ Some round → new.recovery ≡ None → new.lane ≡ old.lane → new.memory.sent ≡ [] → sent ≡ [] → entries ≡ Restart old.identity.me listed ∷ [] → SystemFacts n f after
-    facts_if_restarted listed round down up lane lost sent_is recorded = facts_from _ recorded k.counted mine_after
+    facts_by (restarts listed round down up lane lost sent_is recorded) = facts_from _ recorded k.counted mine_after
         (λ p other. (cond-false (old.identity.me.0 == p) _ _ (apart p other), cond-false (old.identity.me.0 == p) _ _ (apart p other)))
         (entries_more (Restart old.identity.me listed ∷ w.past) sent w.sent (λ name t was. subst (λ js. WasSent js (message_packet name t)) sent_is was) (entries_older (Restart old.identity.me listed) w.past w.sent k.messages))
         (λ ssn kept at. absurd (false≢true (ap is_some (ap (λ xs. slice_get xs ssn) (sym lost) ∙ at))))
@@ -282,12 +276,7 @@ module _ (n f : ℕ) (w : System) (k : SystemFacts n f w) (me : Pid) (low : me.0
         )
 
     pub facts_after_call : SystemFacts n f after
-    facts_after_call = by (call_effect (length w.past) old new taken sent entries call later)
-      where
-        by : Effect (length w.past) old new sent entries → SystemFacts n f after
-        by (stays lane loses up keeps uncounted none) = facts_if_still lane loses up keeps uncounted none
-        by (sent_one to up still_up lane more sent_is recorded) = facts_if_sent to up still_up lane more sent_is recorded
-        by (restarts listed round down up lane lost sent_is recorded) = facts_if_restarted listed round down up lane lost sent_is recorded
+    facts_after_call = facts_by (call_effect (length w.past) old new taken sent entries call later)
 
 -- no stage without a round has one
 no_round_at : (b : Bool) (r : RoundState) → (if b then None else Some None) ≡ Some (Some r) → ⊥
