@@ -4,10 +4,8 @@ use Rattle.std.specs.Prelude.{◌⊎◌, if◌then◌else◌}
 use Rattle.std.proofs.lemmas.Bool.Decides.{eqb_tells}
 use Rattle.causal_name.specs.declared.Pid.{Pid}
 use Rattle.causal_name.specs.declared.Det.{Det}
-use Rattle.causal_name.specs.Sets.{count_below}
 use Rattle.causal_holders.proofs.Lemmas.MemberCounts.{count_below-same}
 use Rattle.causal_trace.specs.declared.entry.Entry.{Entry}
-use Rattle.causal_trace.specs.declared.entry.Entry.TheVariants.{Crash}
 use Rattle.causal_rounds.specs.Rounds.{with_value_at}
 use Rattle.causal_protocol.specs.MemoryQueries.{has_entry}
 use Rattle.causal_node.specs.declared.node.Identity.{Identity}
@@ -48,19 +46,14 @@ sent_parts (x ∷ new) old k (inr was) = elim (sent_parts new old k was) [ inl h
 
 -- what holds at one number, and at the others, holds after a change there
 at_each : {X : Type 0} (P : ℕ → X → Type 0) (xs : ℕ → X) (here : ℕ) (x : X) → P here x → (p : ℕ) → P p (xs p) → P p (with_value_at xs here x p)
-at_each P xs here x is p other = by (eqb_tells p here)
-  where
-    by : ((p == here ≡ true) × (p ≡ here)) ⊎ ((p == here ≡ false) × (p ≡ here → ⊥)) → P p (with_value_at xs here x p)
-    by (inl same) = subst (λ (b : Bool). P p (if b then x else xs p)) (sym same.0) (subst (λ q. P q x) (sym same.1) is)
-    by (inr apart) = subst (λ (b : Bool). P p (if b then x else xs p)) (sym apart.0) other
+at_each P xs here x is p other = elim (eqb_tells p here) [
+  | inl same ↦ subst (λ (b : Bool). P p (if b then x else xs p)) (sym same.0) (subst (λ q. P q x) (sym same.1) is)
+  | inr apart ↦ subst (λ (b : Bool). P p (if b then x else xs p)) (sym apart.0) other
+]
 
 -- what relates the values at each number, relates them after a change of both
 at_both : {X Y : Type 0} (P : X → Y → Type 0) (xs : ℕ → X) (ys : ℕ → Y) (here : ℕ) (x : X) (y : Y) → P x y → (p : ℕ) → P (xs p) (ys p) → P (with_value_at xs here x p) (with_value_at ys here y p)
-at_both P xs ys here x y is p other = by (p == here)
-  where
-    by : (b : Bool) → P (if b then x else xs p) (if b then y else ys p)
-    by true = is
-    by false = other
+at_both P xs ys here x y is p other = elim (p == here) as (λ b. P (if b then x else xs p) (if b then y else ys p)) [ true ↦ is | false ↦ other ]
 
 -- who recovers, is down
 down_is : (s : NodeState) (node : Node) (o : Recovery) → RepresentsAt s o node → is_some o ≡ is_node_down node
@@ -143,24 +136,6 @@ module _ (safe : NodesAreSafe) (single : NodesShareNoSlot) (n f : ℕ) where
           (subst (λ (t : Network). IsReachableNetwork n f t) (λ i. record { past = sym none.unrecorded i ++ w.past; nodes = net.nodes; sent = sym none.silent i ++ w.sent; stored = w.stored; floors = w.floors }) net.reached)
           (λ p low_p. at_each (λ p s. Represents s (net.nodes p)) w.nodes me.0 new none.represents p (net.represents p low_p))
 
-      calls : IsNetworkOf n f after
-      calls = elim (calls_are_steps (length w.past) old new taken emitted entries (net.nodes me.0) call (net.states me.0 low) (λ up. share_none me.0 me.0 low low up up) (net.represents me.0 low)) [ inl step ↦ by_step step | inr none ↦ by_none none ]
-
-    crashes : (who : Pid) → who.0 < n → (w.nodes who.0).recovery ≡ None → count_below n (λ q. is_recovering (w.nodes q)) < f
-        → IsNetworkOf n f (record { past = Crash who ∷ w.past; nodes = with_value_at w.nodes who.0 (opened_node (w.nodes who.0).identity ((w.nodes who.0).lane + 1)); sent = w.sent; stored = w.stored; floors = w.floors })
-    crashes who low up few =
-        let s = w.nodes who.0 in
-        let is = is_up who.0 low up in
-        let same = count_below-same n (λ q. is_recovering (w.nodes q)) (λ q. is_node_down (net.nodes q)) (λ q low_q. down_is (w.nodes q) (net.nodes q) (w.nodes q).recovery (net.represents q low_q)) in
-        record {
-          nodes = with_value_at net.nodes who.0 (down_node (fallen_node s.lane));
-          reached = next_network (network_of w net.nodes) _ net.reached (crash_event who (up_view s) low is (subst (λ m. m < f) same few));
-          represents = λ p low_p. at_both Represents w.nodes net.nodes who.0 _ _ (reopened s.identity s.lane) p (net.represents p low_p);
-          states = λ p low_p. at_each (λ p s. IsNodeState s) w.nodes who.0 _ (opening s.identity (s.lane + 1) (net.states who.0 low).process) p (net.states p low_p);
-          identities = λ p low_p. at_each (λ p s. s.identity ≡ identity_of n f p) w.nodes who.0 (opened_node s.identity (s.lane + 1)) (net.identities who.0 low) p (net.identities p low_p);
-          names = net.names;
-        }
-
     -- stable storage has sent one packet more
     one_more : (k : Sent) (stored : Det → Bool) (floors : ℕ → ℕ) → NamesProcesses n k → IsReachableNetwork n f (network_of (record w { sent = k ∷ w.sent; stored = stored; floors = floors }) net.nodes)
         → IsNetworkOf n f (record w { sent = k ∷ w.sent; stored = stored; floors = floors })
@@ -174,8 +149,23 @@ module _ (safe : NodesAreSafe) (single : NodesShareNoSlot) (n f : ℕ) where
     }
 
     after_event : (next : System) → SystemEvent n f w next → IsNetworkOf n f next
-    after_event next (system.call_event me taken node emitted entries low was call fresh) = calls me taken node emitted entries low was call fresh
-    after_event next (system.crash_event who low up few) = crashes who low up few
+    after_event next (system.call_event me taken node emitted entries low was call fresh) =
+        elim (calls_are_steps (length w.past) (w.nodes me.0) node taken emitted entries (net.nodes me.0) call (net.states me.0 low) (λ up. share_none me.0 me.0 low low up up) (net.represents me.0 low)) [
+          | inl step ↦ by_step me taken node emitted entries low was call fresh step
+          | inr none ↦ by_none me taken node emitted entries low was call fresh none
+        ]
+    after_event next (system.crash_event who low up few) =
+        let s = w.nodes who.0 in
+        let is = is_up who.0 low up in
+        let same = count_below-same n (λ q. is_recovering (w.nodes q)) (λ q. is_node_down (net.nodes q)) (λ q low_q. down_is (w.nodes q) (net.nodes q) (w.nodes q).recovery (net.represents q low_q)) in
+        record {
+          nodes = with_value_at net.nodes who.0 (down_node (fallen_node s.lane));
+          reached = next_network (network_of w net.nodes) _ net.reached (crash_event who (up_view s) low is (subst (λ m. m < f) same few));
+          represents = λ p low_p. at_both Represents w.nodes net.nodes who.0 _ _ (reopened s.identity s.lane) p (net.represents p low_p);
+          states = λ p low_p. at_each (λ p s. IsNodeState s) w.nodes who.0 _ (opening s.identity (s.lane + 1) (net.states who.0 low).process) p (net.states p low_p);
+          identities = λ p low_p. at_each (λ p s. s.identity ≡ identity_of n f p) w.nodes who.0 (opened_node s.identity (s.lane + 1)) (net.identities who.0 low) p (net.identities p low_p);
+          names = net.names;
+        }
     after_event next (system.store_event p was floor) = one_more _ _ _ (λ t is. absurd is) (next_network (network_of w net.nodes) _ net.reached (store_event p was floor))
     after_event next (system.read_event s name view was) = one_more _ _ _ (λ t is. absurd is) (next_network (network_of w net.nodes) _ net.reached (read_event s name view was))
 
