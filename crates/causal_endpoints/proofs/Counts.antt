@@ -7,7 +7,7 @@ use Rattle.std.proofs.lemmas.Bool.Decides.{eqb_tells}
 use Rattle.causal_name.specs.declared.MsgName.{MsgName}
 use Rattle.causal_trace.specs.declared.entry.Entry.{Entry}
 use Rattle.causal_trace.specs.declared.entry.Entry.TheVariants.{Send, Restart}
-use Rattle.causal_trace.specs.Past.{instant, entry_at, lane as lane_of, sends, message_sent, message_at}
+use Rattle.causal_trace.specs.Past.{instant, entry_at, lane as lane_of, sends, message_sent}
 use Rattle.causal_trace.proofs.Lemmas.AtInstants.{instants_stay, last_instant}
 use Rattle.causal_steps.proofs.Lemmas.Positions.{at_newest, at_older, message_below}
 use Rattle.causal_endpoints.specs.Packets.{IsSendOf}
@@ -26,12 +26,9 @@ is_uncounted _ = true
 
 module _ (e : Entry) (past : List Entry) where
   -- an entry more leaves the messages of those before it
-  pub message_older : (at : ℕ) (name : MsgName) → message_at past at ≡ Some name → message_at (e ∷ past) at ≡ Some name
-  message_older at name h = ap (λ o. option_and_then message_sent o) (at_older at (length past) (Some e) (entry_at past at) (message_below past at name h)) ∙ h
-
   pub send_older : (at number : ℕ) (name : MsgName) → IsSendOf past at number name → IsSendOf (e ∷ past) at number name
   send_older at number name is = record {
-    message = message_older at name is.message;
+    message = ap (λ o. option_and_then message_sent o) (at_older at (length past) (Some e) (entry_at past at) (message_below past at name is.message)) ∙ is.message;
     in_lane = ap (λ p. lane_of p name.source.0) (instants_stay e past at (let low = message_below past at name is.message in omega (arith, low))) ∙ is.in_lane;
   }
 

@@ -389,33 +389,23 @@ module _ (back : ReadsBack) (calls : EndpointCallsAreNodeCalls) (keeps : Endpoin
     after_call : (me : Pid) (input : CallInput) (e : EndpointState) (output : Output) (entries : List Entry) → me.0 < n → IsTakeable n w input → EndpointCall w.past (w.endpoints me.0) input e output entries → HasCountedLog e
         → ((name : ℕ) → IsListed output.names name → IsListed (w.names me.0) name → ⊥)
         → IsSystemOf n f run (after_output w me e output entries)
-    after_call me input e output entries low takeable call counted unused = by (calls w.past (w.endpoints me.0) e input output entries call (sys.states me.0 low) (sys.counted me.0 low) of_run)
-      where
-        of_run : IsOfRun (w.endpoints me.0) input
-        of_run = taken_of_run n f run w sys me low input takeable
-
-        kept : IsEndpointState e × (e.node.identity ≡ (w.endpoints me.0).node.identity) × (e.run ≡ (w.endpoints me.0).run) × ((k : Sent) → IsListed output.to_storage k → IsOfDets (w.endpoints me.0).node.identity.processes k)
-        kept = keeps w.past (w.endpoints me.0) e input output entries call (sys.states me.0 low) (sys.counted me.0 low) of_run
-
-        by : IsNodeCall w.past (w.endpoints me.0) input e output entries ⊎ IsNoCall (w.endpoints me.0) input e output entries → IsSystemOf n f run (after_output w me e output entries)
-        by (inl c) =
-            let has = prepared n f run w sys back me low input c.taken takeable c.takes in
-            let told = numbered n f run w has.more.next me low in
-            after_node_call n f run w told.more.next me low input e output entries unused counted kept.0 kept.1 kept.2 kept.3 c (still_taken has.more.next told.more c.taken has.was) told.number
-          where
-            still_taken : (s : IsSystemOf n f run w) (more : IsMore n f run w s) (taken : Option Sent) → WasTaken s.packets taken → WasTaken more.next.packets taken
-            still_taken s more None was = tt
-            still_taken s more (Some k) was = more.keeps k was
-        by (inr none) =
-            let told = numbered n f run w sys me low in
-            after_no_call n f run w told.more.next me low input e output entries unused counted kept.0 kept.1 kept.2 kept.3 none told.number
+    after_call me input e output entries low takeable call counted unused =
+        let of_run = taken_of_run n f run w sys me low input takeable in
+        let kept = keeps w.past (w.endpoints me.0) e input output entries call (sys.states me.0 low) (sys.counted me.0 low) of_run in
+        elim (calls w.past (w.endpoints me.0) e input output entries call (sys.states me.0 low) (sys.counted me.0 low) of_run) [
+          | inl c ↦
+              let has = prepared n f run w sys back me low input c.taken takeable c.takes in
+              let told = numbered n f run w has.more.next me low in
+              let still = elim c.taken as (λ t. WasTaken has.more.next.packets t → WasTaken told.more.next.packets t) [ None ↦ λ was. tt | Some k ↦ told.more.keeps k ] in
+              after_node_call n f run w told.more.next me low input e output entries unused counted kept.0 kept.1 kept.2 kept.3 c (still has.was) told.number
+          | inr none ↦
+              let told = numbered n f run w sys me low in
+              after_no_call n f run w told.more.next me low input e output entries unused counted kept.0 kept.1 kept.2 kept.3 none told.number
+        ]
 
     -- an endpoint that is opened after a crash
     opened_state : (p : ℕ) → p < n → (clock : ℕ) → (w.endpoints p).node.lane + 1 < 2 ^ 32 → clock < 2 ^ 62 → IsEndpointState (opened_after (w.endpoints p) clock)
-    opened_state p low clock lane early =
-        let k = sys.states p low in
-        let e = w.endpoints p in
-        state_of (opened_after e clock) (opening e.node.identity (e.node.lane + 1) k.node.process) k.run early (opened_within _ _ e.node.identity (e.node.lane + 1) lane)
+    opened_state p low clock lane early = state_of (opened_after (w.endpoints p) clock) (opening _ _ (sys.states p low).node.process) (sys.states p low).run early (opened_within _ _ _ _ lane)
 
     after_crash : (who : Pid) (clock : ℕ) → who.0 < n → (w.endpoints who.0).node.recovery ≡ None → count_below n (λ q. is_recovering (w.endpoints q).node) < f → (w.endpoints who.0).node.lane + 1 < 2 ^ 32 → clock < 2 ^ 62
         → IsSystemOf n f run (after_fall w who clock)

@@ -5,7 +5,7 @@
 -- position that its packet names, in the lane that its packet names. Each kept message is such a packet; the question
 -- of a present round was sent, and so was that of each packet of a round. Calls add to what was sent and recorded, and
 -- a send has the next number; a restart begins a lane of which nothing was sent, so no packet is of it.
-use Rattle.std.proofs.Common.{ℕ, ◌≡◌, ◌∙◌, ◌==◌, ◌<◌, ◌+◌, Bool, true, false, List, [], ◌∷◌, ◌++◌, length, Option, Some, None, is_some, unwrap_or, inl, inr, length-append, refl, sym, ap, subst, arith}
+use Rattle.std.proofs.Common.{ℕ, ◌≡◌, ◌∙◌, ◌==◌, ◌<◌, ◌+◌, Bool, true, false, List, [], ◌∷◌, ◌++◌, length, Option, Some, None, is_some, inl, inr, length-append, refl, sym, ap, subst, arith}
 use Rattle.std.specs.Prelude.{◌⊎◌, slice_get, if◌then◌else◌}
 use Rattle.std.specs.Option.{option_and_then}
 use Rattle.std.proofs.lemmas.Bool.{false≢true, cond-true, cond-false, eq-eqb, ne_eqb}
@@ -78,11 +78,10 @@ either_sent (x ∷ new) old k (inr was) = elim (either_sent new old k was) [ inl
 
 -- what holds at one number, and at the others, holds after a change there
 pub at_each : {X : Type 0} (P : ℕ → X → Type 0) (xs : ℕ → X) (here : ℕ) (x : X) → P here x → (p : ℕ) → ((p ≡ here → ⊥) → P p (xs p)) → P p (with_value_at xs here x p)
-at_each P xs here x is p other = by (eqb_tells p here)
-  where
-    by : ((p == here ≡ true) × (p ≡ here)) ⊎ ((p == here ≡ false) × (p ≡ here → ⊥)) → P p (with_value_at xs here x p)
-    by (inl same) = subst (λ (b : Bool). P p (if b then x else xs p)) (sym same.0) (subst (λ q. P q x) (sym same.1) is)
-    by (inr apart) = subst (λ (b : Bool). P p (if b then x else xs p)) (sym apart.0) (other apart.1)
+at_each P xs here x is p other = elim (eqb_tells p here) [
+  | inl same ↦ subst (λ (b : Bool). P p (if b then x else xs p)) (sym same.0) (subst (λ q. P q x) (sym same.1) is)
+  | inr apart ↦ subst (λ (b : Bool). P p (if b then x else xs p)) (sym apart.0) (other apart.1)
+]
 
 -- the counts after an entry that counts nothing, or of another process
 uncounted_counts : (e : Entry) (past : List Entry) → is_uncounted e ≡ true → AreSendsCounted past → AreSendsCounted (e ∷ past)
@@ -105,8 +104,8 @@ counts_of past p s t lane up kept h = by s.recovery refl t.recovery up h
     by : (o : Recovery) → s.recovery ≡ o → (u : Recovery) → is_some u ≡ is_some o → CountsAt past p s o → CountsAt past p t u
     by None is None same h = (h.0 ∙ sym lane, h.1 ∙ ap length (sym (kept is)))
     by None is (Some r) same h = absurd (false≢true (sym same))
-    by (Some r) is None same h = absurd (false≢true same)
     by (Some r) is (Some q) same h = omega (arith, h, lane)
+    by (Some r) is None same h = absurd (false≢true same)
 
 -- the messages after more entries
 abbrev MessagesHaveEntries : List Entry → List Sent → Type 0
@@ -215,14 +214,11 @@ module _ (n f : ℕ) (w : System) (k : SystemFacts n f w) (me : Pid) (low : me.0
         counts : (lane_of w.past me.0 ≡ old.lane) × (sends w.past me.0 ≡ length old.memory.sent)
         counts = subst (λ o. CountsAt w.past me.0 old o) up (k.nodes me.0 low)
 
-        sent_more : sends (Send old.identity.me to (length old.memory.sent) ∷ w.past) me.0 ≡ length new.memory.sent
-        sent_more =
-            cond-true (old.identity.me.0 == me.0) (sends w.past me.0 + 1) (sends w.past me.0) (eq-eqb old.identity.me.0 me.0 mine)
-            ∙ ap (λ m. m + 1) counts.1
-            ∙ sym (ap length more ∙ length-append old.memory.sent (record { to = to; send = length old.memory.sent; batch = batch_items old.identity.faults old.memory.log } ∷ []))
-
         mine_after : NodeCounts (Send old.identity.me to (length old.memory.sent) ∷ w.past) me.0 new
-        mine_after = subst (λ o. CountsAt (Send old.identity.me to (length old.memory.sent) ∷ w.past) me.0 new o) (sym still_up) (counts.0 ∙ sym lane, sent_more)
+        mine_after = subst (λ o. CountsAt (Send old.identity.me to (length old.memory.sent) ∷ w.past) me.0 new o) (sym still_up) (
+          counts.0 ∙ sym lane,
+          cond-true (old.identity.me.0 == me.0) (sends w.past me.0 + 1) (sends w.past me.0) (eq-eqb old.identity.me.0 me.0 mine) ∙ ap (λ m. m + 1) counts.1 ∙ sym (ap length more ∙ length-append old.memory.sent (next_kept to ∷ [])),
+        )
 
         others : (p : ℕ) → (p ≡ me.0 → ⊥) → sends (Send old.identity.me to (length old.memory.sent) ∷ w.past) p ≡ sends w.past p
         others p other = cond-false (old.identity.me.0 == p) _ _ (ne_eqb old.identity.me.0 p (λ e. other (sym e ∙ mine)))
@@ -278,11 +274,6 @@ module _ (n f : ℕ) (w : System) (k : SystemFacts n f w) (me : Pid) (low : me.0
     pub facts_after_call : SystemFacts n f after
     facts_after_call = facts_by (call_effect (length w.past) old new taken sent entries call later)
 
--- no stage without a round has one
-no_round_at : (b : Bool) (r : RoundState) → (if b then None else Some None) ≡ Some (Some r) → ⊥
-no_round_at true r h = false≢true (ap is_some h)
-no_round_at false r h = false≢true (ap (λ o. is_some (unwrap_or o None)) h)
-
 -- n nodes that are opened in lane 0
 pub first_facts : (n f : ℕ) (w : System) → w.past ≡ [] → ((p : ℕ) → p < n → w.nodes p ≡ opened_node (identity_of n f p) 0) → w.sent ≡ [] → SystemFacts n f w
 first_facts n f w past nodes sent = record {
@@ -304,7 +295,7 @@ facts_after_crash n f w k who low up = record {
   nodes = λ p low_p. at_each (λ p s. NodeCounts (Crash who ∷ w.past) p s) w.nodes who.0 fallen fallen_counts p (λ other. counts_in w.past (Crash who ∷ w.past) p (w.nodes p) (w.nodes p).recovery refl refl (k.nodes p low_p));
   messages = entries_older (Crash who) w.past w.sent k.messages;
   kept = λ p low_p. at_each (λ p s. (ssn : ℕ) (kept : SentMessage) → slice_get s.memory.sent ssn ≡ Some kept → WasMessageSent w.sent p s ssn kept) w.nodes who.0 fallen (λ ssn kept at. absurd (false≢true (ap is_some at))) p (λ other. k.kept p low_p);
-  questions = λ p low_p. at_each (λ p s. (r : RoundState) → s.recovery ≡ Some (Some r) → WasSent w.sent (question_packet p r.name (numbers s.floors))) w.nodes who.0 fallen (λ r is. absurd (no_round_at ((w.nodes who.0).lane + 1 == 0) r is)) p (λ other. k.questions p low_p);
+  questions = λ p low_p. at_each (λ p s. (r : RoundState) → s.recovery ≡ Some (Some r) → WasSent w.sent (question_packet p r.name (numbers s.floors))) w.nodes who.0 fallen (λ r is. grind arith) p (λ other. k.questions p low_p);
   asked = k.asked;
 }
   where

@@ -123,15 +123,12 @@ module _ (n me : ℕ) (s : NodeState) (k : IsWithin n me s) where
   with_other_log : (change : LogMap → LogMap) → HasDets n (change s.memory.log) → IsWithin n me (with_memory s (with_log change s.memory) s.bodies)
   with_other_log change dets = record { lane = k.lane; floors = k.floors; logged = dets; round = k.round; kept = k.kept; sent = k.sent; received = k.received }
 
-  -- in another round
-  with_other : (recovery : Recovery) → IsRoundWithin n recovery → IsWithin n me (with_recovery s recovery)
-  with_other recovery is = record { lane = k.lane; floors = k.floors; logged = k.logged; round = is; kept = k.kept; sent = k.sent; received = k.received }
-
+  -- with other floors, in another round
   with_other_floors : (floors : List ℕ) (recovery : Recovery) → AllByRecursion (λ number. number < 2 ^ 32) floors → IsRoundWithin n recovery → IsWithin n me (record s { floors = floors; recovery = recovery })
   with_other_floors floors recovery low is = record { lane = k.lane; floors = low; logged = k.logged; round = is; kept = k.kept; sent = k.sent; received = k.received }
 
   changed : (r : RoundState) → s.recovery ≡ Some (Some r) → (change : RoundState → RoundState) → (IsRoundWithin n (Some (Some r)) → IsRoundWithin n (Some (Some (change r)))) → IsWithin n me (with_recovery s (map_round change s.recovery))
-  changed r gathers change keeps = with_other (map_round change s.recovery) (subst (λ o. IsRoundWithin n (map_round change o)) (sym gathers) (keeps (subst (λ o. IsRoundWithin n o) gathers k.round)))
+  changed r gathers change keeps = with_other_floors s.floors (map_round change s.recovery) k.floors (subst (λ o. IsRoundWithin n (map_round change o)) (sym gathers) (keeps (subst (λ o. IsRoundWithin n o) gathers k.round)))
 
   after_other_number : (q : Pid) (number : ℕ) → number < 2 ^ 32 → IsWithin n me (after_number s q number)
   after_other_number q number low = by (nat_lt q.0 (length s.floors))
@@ -145,13 +142,12 @@ module _ (n me : ℕ) (s : NodeState) (k : IsWithin n me s) where
     where
       by : (b : Bool) (o : Recovery) → s.recovery ≡ o → IsWithin n me (if b then after_answer_at s view o else s)
       by true None is = record { lane = k.lane; floors = raised_within s.floors view k.floors low; logged = k.logged; round = k.round; kept = k.kept; sent = k.sent; received = k.received }
-      by true (Some r) is = with_other (Some None) tt
+      by true (Some r) is = with_other_floors s.floors (Some None) k.floors tt
       by false o is = k
 
 -- more messages may be received
 room : (o : Option MsgName) (reserved : Bool) (name : MsgName) (rest : Option NodeFault) → naming_fault o reserved name rest ≡ None → rest ≡ None
-room None reserved name rest h = (or_else_none reserved _ rest h).1
-room (Some other) reserved name rest h = (or_else_none _ _ rest h).1
+room o reserved name rest h = grind (arith, or_else_none)
 
 -- a reply with the own number changes nothing
 number_same : (s : NodeState) (view : List ℕ) → round_reply s view ≡ Replies.OwnNumber → s ≡ node_after_answer s view
@@ -173,15 +169,12 @@ restarted_within : (s : NodeState) → IsWithin s.identity.processes s.identity.
 restarted_within s k reserved (Some (Some r)) is legal = record {
   lane = k.lane;
   floors = k.floors;
-  logged = λ d h. gathered.1 d (elim (or_cases _ _ (sym (held_has s.identity.me d (fin.keys r.log) r.log) ∙ h)) [ inl old ↦ old | inr listed ↦ sym (keys_logged r.log d) ∙ listed ]);
+  logged = λ d h. (subst (IsRoundWithin s.identity.processes) is k.round).1 d (elim (or_cases _ _ (sym (held_has s.identity.me d (fin.keys r.log) r.log) ∙ h)) [ inl old ↦ old | inr listed ↦ sym (keys_logged r.log d) ∙ listed ]);
   round = tt;
   kept = nothing_kept (IsKeptMessage s.identity.processes s.identity.me.0);
   sent = omega arith;
   received = omega arith;
 }
-  where
-    gathered : IsRoundWithin s.identity.processes (Some (Some r))
-    gathered = subst (λ o. IsRoundWithin s.identity.processes o) is k.round
 restarted_within s k reserved _ is legal = absurd (some_none _ legal)
 
 pub calls_within : (position : ℕ) (old new : NodeState) (taken : Option Sent) (sent : List Sent) (entries : List Entry) → NodeCall position old taken new sent entries
@@ -235,7 +228,7 @@ calls_within position old new taken sent entries (answer_log asker name view leg
 calls_within position old new taken sent entries (answer_not_up asker name view legal reply) is few k fits named = after_reply old.identity.processes old.identity.me.0 old k view (numbers_each view fits)
 calls_within position old new taken sent entries (answer_number asker view legal reply) is few k fits named = subst (λ t. IsWithin old.identity.processes old.identity.me.0 t) (number_same old view reply) k
 calls_within position old new taken sent entries (begin_round name legal) is few k fits named =
-    with_other old.identity.processes old.identity.me.0 old k (Some (Some (new_round_state old.identity name))) (named old.identity.me.0 name (numbers old.floors) (inl refl), λ d h. absurd (both_ways _ (none_entry d) h))
+    with_other_floors old.identity.processes old.identity.me.0 old k old.floors (Some (Some (new_round_state old.identity name))) k.floors (named old.identity.me.0 name (numbers old.floors) (inl refl), λ d h. absurd (both_ways _ (none_entry d) h))
 calls_within position old new taken sent entries (take_log name lane q log legal) is few k fits named =
     let r = of_round old.recovery name q legal in
     changed old.identity.processes old.identity.me.0 old k r.0 r.1 (λ r. with_log_of r q.0 log) (λ w. (w.0, λ d h. elim (or_cases _ _ (sym (united_logged r.0.log log d) ∙ h)) [ inl before ↦ w.1 d before | inr new ↦ fits d new ]))
@@ -243,17 +236,15 @@ calls_within position old new taken sent entries (take_not_up name q legal) is f
 calls_within position old new taken sent entries (take_other_number name q number legal other) is few k fits named = not_up_within old k q number name legal fits
 calls_within position old new taken sent entries (take_number name q number legal) is few k fits named = after_other_number old.identity.processes old.identity.me.0 old k q number fits
 calls_within position old new taken sent entries (take_stored r dets det gathers legal has) is few k fits named =
+    let gathered = subst (IsRoundWithin old.identity.processes) gathers k.round in
     subst (λ (o : Recovery). IsWithin old.identity.processes old.identity.me.0 (node_after_stored old det o)) (sym gathers)
-    (with_other old.identity.processes old.identity.me.0 old k (Some (Some (record r { log = after_learn r.log det (stable_and_held_by old.identity.me) }))) (
+    (with_other_floors old.identity.processes old.identity.me.0 old k old.floors (Some (Some (record r { log = after_learn r.log det (stable_and_held_by old.identity.me) }))) k.floors (
       gathered.0,
       λ d h. elim (or_cases _ _ (sym (one_entry r.log det (stable_and_held_by old.identity.me) d) ∙ h)) [
         | inl before ↦ gathered.1 d before
         | inr this ↦ elim (or_cases _ _ this) [ inl same ↦ subst (λ x. IsDet old.identity.processes x) (sym (same_is d det same)) (fits det has) | inr none ↦ absurd (false≢true none) ]
       ],
     ))
-  where
-    gathered : IsRoundWithin old.identity.processes (Some (Some r))
-    gathered = subst (λ o. IsRoundWithin old.identity.processes o) gathers k.round
 calls_within position old new taken sent entries (finish_read r dets gathers legal all) is few k fits named = changed old.identity.processes old.identity.me.0 old k r gathers node_after_read (λ w. w)
 calls_within position old new taken sent entries (restart reserved legal) is few k fits named = restarted_within old k reserved old.recovery refl legal
 calls_within position old new taken sent entries (open_again round down) is few k fits named = opened_within old.identity.processes old.identity.me.0 old.identity old.lane k.lane
