@@ -64,12 +64,6 @@ awaits_none awaited none q = ap (λ s. set.contains s q) (set.empty_of_len await
 heard_more : (heard : ℕ → Bool) (awaited : set.FinSet nat_cmp) (q p : ℕ) → (set.contains awaited p ≡ false → heard p ≡ true) → set.contains (set.remove awaited q) p ≡ false → with_value_at heard q true p ≡ true
 heard_more heard awaited q p before gone = grind (arith, removed awaited q p)
 
-still_heard : (heard : ℕ → Bool) (q p : ℕ) → heard p ≡ true → with_value_at heard q true p ≡ true
-still_heard heard q p h = grind arith
-
-now_heard : (heard : ℕ → Bool) (q : ℕ) → with_value_at heard q true q ≡ true
-now_heard heard q = ap (λ b. if b then true else heard q) (eq-eqb q q refl)
-
 -- a list after a number that is not less is set at one place, if it has the place
 set_number : (xs : List ℕ) (q value p : ℕ) → numbers xs q ≤ value → ((p == q ≡ true) × (p ≡ q)) ⊎ ((p == q ≡ false) × (p ≡ q → ⊥)) → (b : Bool) → nat_lt q (length xs) ≡ b
     → ((p ≡ q) × (numbers (if b then slice_set xs q value else xs) p ≤ value)) ⊎ ((p ≡ q → ⊥) × (numbers (if b then slice_set xs q value else xs) p ≡ numbers xs p))
@@ -218,7 +212,7 @@ module _ (position : ℕ) (s : NodeState) (k : IsNodeState s) where
         name = fits.name;
         view = fits.view;
         heard = λ p low apart gone. heard_more y.heard r.awaited q.0 p (fits.heard p low apart) gone;
-        read = λ h. still_heard y.heard q.0 n (fits.read h);
+        read = λ h. grind (arith, fits.read h);
         has = λ d. ap (λ b. b || has_entry d log) (fits.has d) ∙ sym (united_logged r.log log d);
         holder = λ d p apart. ap (λ b. b || log_knows_holder d p log) (fits.holder d p apart) ∙ sym (united_holders r.log log d p);
         own = λ d h. elim (or_cases _ _ h) [ inl old ↦ or_left _ _ (fits.own d old) | inr new ↦ or_right _ _ (entry_of_holder log d me.0 new) ];
@@ -237,7 +231,7 @@ module _ (position : ℕ) (s : NodeState) (k : IsNodeState s) where
           next = down_node (with_round x (Some (with_heard q.0 y)));
           step = hear_not_up_row x y q.0 is_down.round.1;
           represents = as_round (λ r. without_awaited r q.0) (with_heard q.0 y)
-              (round_heard q.0 _ r.read (λ p low apart gone. heard_more y.heard r.awaited q.0 p (fits.heard p low apart) gone) (λ h. still_heard y.heard q.0 n (fits.read h)));
+              (round_heard q.0 _ r.read (λ p low apart gone. heard_more y.heard r.awaited q.0 p (fits.heard p low apart) gone) (λ h. grind (arith, fits.read h)));
         }))
 
     nobody : ask_fault s.recovery ≡ None → nat_lt 0 (set.len r.awaited) ≡ false
@@ -276,7 +270,7 @@ module _ (position : ℕ) (s : NodeState) (k : IsNodeState s) where
     finishes dets all = subst (λ (m : ℕ). IsStepOf position s there (Some (stored_packet me.0 m dets)) (with_recovery s (map_round node_after_read s.recovery)) [] []) fits.name (record {
       next = down_node (with_round x (Some (with_heard n y)));
       step = hear_stored_row x y dets is_down.round.1 (λ d h. fits.has d ∙ all d h);
-      represents = as_round node_after_read (with_heard n y) (round_heard n r.awaited true (λ p low apart gone. still_heard y.heard n p (fits.heard p low apart gone)) (λ h. now_heard y.heard n));
+      represents = as_round node_after_read (with_heard n y) (round_heard n r.awaited true (λ p low apart gone. grind (arith, fits.heard p low apart gone)) (λ h. grind (arith, eq-eqb n n refl)));
     })
 
     -- the log of a restart is the theory's

@@ -17,7 +17,7 @@ use Rattle.causal_protocol.specs.Naming.{message_name}
 use Rattle.causal_wire.specs.declared.fault.WireFault.{WireFault}
 use Rattle.causal_wire.specs.declared.parcel.Head.{Head}
 use Rattle.causal_wire.specs.declared.parcel.RunId.{RunId}
-use Rattle.causal_wire.specs.Parcels.{Contents, message, acknowledgement, question, answer, own_number, not_up, IsRun, IsParcel, IsHead, AreContents}
+use Rattle.causal_wire.specs.Parcels.{Contents, message, acknowledgement, question, answer, own_number, not_up, IsRun, IsParcel, AreContents}
 use Rattle.causal_wire.specs.Bytes.{parcel_bytes}
 use Rattle.causal_wire.specs.Reading.{read_parcel}
 use Rattle.causal_node.specs.declared.node_answer.RoundReply.{RoundReply}
@@ -84,14 +84,11 @@ module _ (back : ReadsBack) (past : List Entry) (e : EndpointState) (k : IsEndpo
   abbrev run : RunId
   run = run_of e
 
-  head_fits : (to : Pid) (clock : ℕ) → to.0 < n → clock < 2 ^ 62 → IsHead n (head_to e to clock)
-  head_fits to clock low early = record { source = k.node.process; dest = low; lane = k.lane; clock = early }
-
   says : (at : ℕ) (to : Pid) (clock : ℕ) (contents : Contents) (packet : Sent) → to.0 < n → clock < 2 ^ 62 → AreContents n me.0 contents → packet_of at (head_to e to clock, contents) ≡ packet
       → Says e at (parcel_bytes run (head_to e to clock, contents)) packet
   says at to clock contents packet low early fits is = record {
     parcel = (head_to e to clock, contents);
-    of_run = record { head = head_fits to clock low early; contents = fits };
+    of_run = record { head = record { source = k.node.process; dest = low; lane = k.lane; clock = early }; contents = fits };
     written = refl;
     packet = is;
     source = refl;

@@ -15,7 +15,7 @@ use Rattle.causal_protocol.specs.Steps.{forget_entries}
 use Rattle.causal_world.specs.World.{Packet}
 use Rattle.causal_node.specs.NodeStates.{NodeState, Recovery, RoundState, floor_of}
 use Rattle.causal_node.specs.NodeForgetting.{next_slot}
-use Rattle.causal_node.specs.NodeRecovery.{begin_fault, reply_fault, node_restart_fault, with_recovery, map_round, with_log_of, without_awaited, after_not_up, after_number, node_after_stored, node_after_read, after_restart_at, opened_node}
+use Rattle.causal_node.specs.NodeRecovery.{reply_fault, node_restart_fault, with_recovery, map_round, with_log_of, without_awaited, after_not_up, after_number, node_after_stored, node_after_read, after_restart_at}
 use Rattle.causal_node.specs.NodeAnswers.{node_after_answer, after_answer_at, knows_number}
 use Rattle.causal_nodes.specs.Packets.{Sent, WasSent, message_packet, question_packet, read_packet, is_of_round}
 use Rattle.causal_calls.specs.Views.{numbers}
@@ -83,9 +83,6 @@ number_counts s q number name legal = record { lane = refl; kept = refl; up = ap
 not_up_counts : (s : NodeState) (q : Pid) (number name : ℕ) → reply_fault s.recovery name q ≡ None → SameCounts s (after_not_up s q number)
 not_up_counts s q number name legal = record { lane = grind arith; kept = grind arith; up = grind (arith, (of_round s.recovery name q legal).1) }
 
-begun : (o : Recovery) → begin_fault o ≡ None → is_some o ≡ true
-begun o h = grind arith
-
 -- the stage of a node that is opened
 abbrev recovery_at : Bool → Recovery
 recovery_at b = if b then None else Some None
@@ -100,7 +97,7 @@ call_effect position old new taken sent entries (stored dets det up has) later =
 call_effect position old new taken sent entries (answer_log asker name view legal reply) later = let is = reply_counts old view in still position old new sent entries is.lane is.kept is.up (inl refl) refl
 call_effect position old new taken sent entries (answer_not_up asker name view legal reply) later = let is = reply_counts old view in still position old new sent entries is.lane is.kept is.up (inl refl) refl
 call_effect position old new taken sent entries (answer_number asker view legal reply) later = let is = reply_counts old view in still position old new sent entries is.lane is.kept is.up (inl refl) refl
-call_effect position old new taken sent entries (begin_round name legal) later = still position old new sent entries refl refl (sym (begun old.recovery legal)) (inl refl) refl
+call_effect position old new taken sent entries (begin_round name legal) later = still position old new sent entries refl refl (grind arith) (inl refl) refl
 call_effect position old new taken sent entries (take_log name lane q log legal) later = let is = round_counts old (λ r. with_log_of r q.0 log) in still position old new sent entries is.lane is.kept is.up (inl refl) refl
 call_effect position old new taken sent entries (take_not_up name q legal) later = let is = not_up_counts old q (floor_of old.floors q) name legal in still position old new sent entries is.lane is.kept is.up (inl refl) refl
 call_effect position old new taken sent entries (take_other_number name q number legal other) later = let is = not_up_counts old q number name legal in still position old new sent entries is.lane is.kept is.up (inl refl) refl
@@ -113,10 +110,7 @@ call_effect position old new taken sent entries (restart reserved legal) later =
     by : (o : Recovery) → old.recovery ≡ o → node_restart_fault o ≡ None → Effect position old (after_restart_at old o reserved) [] (Restart old.identity.me (fin.keys (after_restart_at old o reserved).memory.log) ∷ [])
     by (Some (Some r)) is legal = restarts _ (Some r) is refl refl refl refl refl
     by _ is legal = absurd (some_none _ legal)
-call_effect position old new taken sent entries (open_again round down) later = stays refl (inr refl) (recovers ∙ ap is_some (sym down)) (λ up. absurd (false≢true (ap is_some (sym up ∙ down)))) (inl refl) (λ name t none. none)
-  where
-    recovers : is_some (opened_node old.identity old.lane).recovery ≡ true
-    recovers = ap {B = Bool} (λ (b : Bool). is_some (recovery_at b)) (ne_eqb old.lane 0 (later round down))
+call_effect position old new taken sent entries (open_again round down) later = stays refl (inr refl) (ap {B = Bool} (λ (b : Bool). is_some (recovery_at b)) (ne_eqb old.lane 0 (later round down)) ∙ ap is_some (sym down)) (λ up. absurd (false≢true (ap is_some (sym up ∙ down)))) (inl refl) (λ name t none. none)
 call_effect position old new taken sent entries _ later = still position old new sent entries refl refl refl (inl refl) refl
 
 -- a round is the one before, or its question was sent
@@ -145,11 +139,10 @@ changed_round s change named sent = by s.recovery refl
     by _ _ q is = cc
 
 not_up_rounds : (s : NodeState) (q : Pid) (number : ℕ) (sent : List Sent) → RoundEffect s (after_not_up s q number) sent
-not_up_rounds s p number sent = by (floor_of s.floors p == number)
-  where
-    by : (b : Bool) → RoundEffect s (if b then with_recovery s (map_round (λ r. without_awaited r p.0) s.recovery) else after_number s p number) sent
-    by true = changed_round s (λ r. without_awaited r p.0) (λ r. refl) sent
-    by false = λ q is. cc
+not_up_rounds s p number sent = elim (floor_of s.floors p == number) as (λ b. RoundEffect s (if b then with_recovery s (map_round (λ r. without_awaited r p.0) s.recovery) else after_number s p number) sent) [
+  | true ↦ changed_round s (λ r. without_awaited r p.0) (λ r. refl) sent
+  | false ↦ λ q is. cc
+]
 
 pub call_rounds : (position : ℕ) (old new : NodeState) (taken : Option Sent) (sent : List Sent) (entries : List Entry) → NodeCall position old taken new sent entries → RoundEffect old new sent
 call_rounds position old new taken sent entries (stored dets det up has) = subst (λ (o : Recovery). RoundEffect old (node_after_stored old det o) []) (sym up) (λ q is. inl (q, is, refl, refl))
@@ -168,11 +161,7 @@ call_rounds position old new taken sent entries (restart reserved legal) = by ol
     by : (o : Recovery) → old.recovery ≡ o → node_restart_fault o ≡ None → RoundEffect old (after_restart_at old o reserved) []
     by (Some (Some r)) is legal = λ q none. cc
     by _ is legal = absurd (some_none _ legal)
-call_rounds position old new taken sent entries (open_again round down) = by (old.lane == 0)
-  where
-    by : (b : Bool) → RoundEffect old (with_recovery (opened_node old.identity old.lane) (if b then None else Some None)) []
-    by true = λ q is. cc
-    by false = λ q is. cc
+call_rounds position old new taken sent entries (open_again round down) = λ q is. absurd (grind arith)
 call_rounds position old new taken sent entries _ = λ q is. inl (q, is, refl, refl)
 
 -- a packet of a round is sent after its question: one that is taken or sent now, or that of the present round

@@ -219,16 +219,13 @@ module _ (n f run : ℕ) (w : EndpointSystem) where
         lane_is : (w.endpoints q.0).node.lane ≡ number
         lane_is = ap (λ (s : NodeState). s.lane) has_ended.fresh
 
-        fresh : (w.endpoints q.0).node ≡ opened_node (w.endpoints q.0).node.identity (w.endpoints q.0).node.lane
-        fresh = has_ended.fresh ∙ ap (opened_node (w.endpoints q.0).node.identity) (sym lane_is)
-
         by : (b : Bool) → (floor_of (w.endpoints me.0).node.floors q == number) ≡ b → HasTaken (Some (if b then not_up_packet q.0 (w.endpoints me.0).node.identity.me.0 r.name else number_packet q.0 number))
         by true is =
             let floors = (w.endpoints me.0).node.floors in
             let asked : WasSent sys.packets (question_packet me.0 r.name (numbers floors)) = sys.facts.questions me.0 low r gathers in
             let known : numbers floors (w.endpoints q.0).node.identity.me.0 ≡ (w.endpoints q.0).node.lane = ap (numbers floors) (me_is q.0 low_q) ∙ eqb-true _ _ is ∙ sym lane_is in
             let size : length floors ≡ (w.endpoints q.0).node.identity.processes = (sys.states me.0 low).node.floors ∙ processes_is me.0 low ∙ sym (processes_is q.0 low_q) in
-            let call = says_not_up (length w.past) (w.endpoints q.0).node has_ended.down fresh me (subst (λ m. me.0 < m) (sym (processes_is q.0 low_q)) low) (λ e. apart (e ∙ me_is q.0 low_q)) r.name floors size known in
+            let call = says_not_up (length w.past) (w.endpoints q.0).node has_ended.down (has_ended.fresh ∙ ap (opened_node (w.endpoints q.0).node.identity) (sym lane_is)) me (subst (λ m. me.0 < m) (sym (processes_is q.0 low_q)) low) (λ e. apart (e ∙ me_is q.0 low_q)) r.name floors size known in
             let packet = not_up_packet (w.endpoints q.0).node.identity.me.0 me.0 r.name in
             record {
               more = record { next = ghost sys q low_q (Some (question_packet me.0 r.name (numbers floors))) (packet ∷ []) asked call (one_no_question packet refl); keeps = λ k was. inr was };
@@ -247,11 +244,11 @@ module _ (n f run : ℕ) (w : EndpointSystem) where
         let entry = sys.facts.messages name (message_with head.lane head.dest sent name (batch_in head items)) was in
         let same : sent ≡ at = ap (λ o. unwrap_or o sent) entry.1 ∙ one_send w.past entry.0 at head.lane name sys.facts.counted entry.2 is in
         subst (λ m. WasSent sys.packets (message_packet name (message_with head.lane head.dest m name (batch_in head items)))) same was
-    packet_taken node head (not_up round) sent at mine was number is = by (floor_of node.floors head.source == head.lane)
-      where
-        by : (b : Bool) → WasSent sys.packets (if b then not_up_packet head.source.0 node.identity.me.0 round else number_packet head.source.0 head.lane)
-        by true = subst (λ (to : Pid). WasSent sys.packets (not_up_packet head.source.0 to.0 round)) mine was
-        by false = number
+    packet_taken node head (not_up round) sent at mine was number is =
+        elim (floor_of node.floors head.source == head.lane) as (λ b. WasSent sys.packets (if b then not_up_packet head.source.0 node.identity.me.0 round else number_packet head.source.0 head.lane)) [
+          | true ↦ subst (λ (to : Pid). WasSent sys.packets (not_up_packet head.source.0 to.0 round)) mine was
+          | false ↦ number
+        ]
     packet_taken node head _ sent at mine was number is = was
 
     -- what a node takes was sent

@@ -1,6 +1,6 @@
 -- Each call of an endpoint keeps what is true of its states, and sends to stable storage determinants of processes.
 use Rattle.std.proofs.Common.{ℕ, ◌≡◌, ◌∙◌, ◌==◌, ◌<◌, ◌^◌, Bool, true, false, not, ◌&&◌, ◌||◌, List, [], ◌∷◌, map, length, Option, None, inl, inr, refl, sym, ap, subst, arith}
-use Rattle.std.specs.Prelude.{◌⊎◌, if◌then◌else◌}
+use Rattle.std.specs.Prelude.{if◌then◌else◌}
 use Rattle.std.specs.List.{list_any, AllByRecursion}
 use Rattle.std.specs.Cmp.{nat_cmp_total}
 use Rattle.std.specs.Ordering.{nat_cmp}
@@ -34,7 +34,7 @@ use Rattle.causal_endpoint.specs.Items.{log_item, log_entry, log_from}
 use Rattle.causal_endpoints.specs.Packets.{taken_with, not_up_for}
 use Rattle.causal_endpoints.specs.Calls.{CallInput, nothing, bytes, from_storage, ended, Output, one_request, output_at, EndpointCall, send, resend, acknowledge, forget, receive, write, stored, begin_round, ask, take_ended, ask_storage, take_stored, finish_read, restart, open_again}
 use Rattle.causal_endpoints.specs.States.{IsEndpointState, IsOfDets, IsOfRun}
-use Rattle.causal_endpoints.specs.CallLaws.{IsListed, TakesPacket, IsNodeCall, IsNoCall, EndpointCallsKeepStates}
+use Rattle.causal_endpoints.specs.CallLaws.{IsListed, TakesPacket, EndpointCallsKeepStates}
 use Rattle.causal_endpoints.proofs.Legal.{or_else_none, node_or_none, clock_below}
 use Rattle.causal_endpoints.proofs.CallRows.{ReadsBack, read_is, one_among, calls_are_node_calls}
 use Rattle.causal_endpoints.proofs.Within.{IsWithin, IsTakenWithin, IsWithinIfTaken, each_number, calls_within}
@@ -187,22 +187,19 @@ state_from old new k identity run clock node within =
     state_of new node of_run clock (subst (λ (i : Identity). IsWithin i.processes i.me.0 new.node) (sym identity) within)
 
 pub calls_keep_states : ReadsBack → CallsKeepNodeStates → EndpointCallsKeepStates
-calls_keep_states back keep past old new input output entries call k few fits = by (calls_are_node_calls back past old new input output entries call k few fits)
-  where
-    facts : IsPlain old input new output
-    facts = plain back past old new input output entries call k fits
-
-    by : IsNodeCall past old input new output entries ⊎ IsNoCall old input new output entries
-        → IsEndpointState new × (new.node.identity ≡ old.node.identity) × (new.run ≡ old.run) × ((k : Sent) → IsListed output.to_storage k → IsOfDets old.node.identity.processes k)
-    by (inl c) =
-        let takes = takes_within old back k past input c.taken fits facts.reply c.takes in
-        let kept = keep (length past) old.node new.node c.taken c.sent entries c.call k.node takes.1 in
-        let within = calls_within (length past) old.node new.node c.taken c.sent entries c.call k.node few (within_of old k) takes.0 (λ from name view was. facts.names name (c.questions from name view was).1) in
-        (state_from old new k kept.1 facts.run facts.clock kept.0 within, kept.1, facts.run, facts.requests)
-    by (inr none) =
-        let identity = ap (λ (s : NodeState). s.identity) none.same in (
-          state_from old new k identity facts.run facts.clock (subst (λ s. IsNodeState s) (sym none.same) k.node) (subst (λ s. IsWithin old.node.identity.processes old.node.identity.me.0 s) (sym none.same) (within_of old k)),
-          identity,
-          facts.run,
-          facts.requests,
-        )
+calls_keep_states back keep past old new input output entries call k few fits =
+    let facts = plain back past old new input output entries call k fits in
+    elim (calls_are_node_calls back past old new input output entries call k few fits) [
+      | inl c ↦
+          let takes = takes_within old back k past input c.taken fits facts.reply c.takes in
+          let kept = keep (length past) old.node new.node c.taken c.sent entries c.call k.node takes.1 in
+          let within = calls_within (length past) old.node new.node c.taken c.sent entries c.call k.node few (within_of old k) takes.0 (λ from name view was. facts.names name (c.questions from name view was).1) in
+          (state_from old new k kept.1 facts.run facts.clock kept.0 within, kept.1, facts.run, facts.requests)
+      | inr none ↦
+          let identity = ap (λ (s : NodeState). s.identity) none.same in (
+            state_from old new k identity facts.run facts.clock (subst (λ s. IsNodeState s) (sym none.same) k.node) (subst (λ s. IsWithin old.node.identity.processes old.node.identity.me.0 s) (sym none.same) (within_of old k)),
+            identity,
+            facts.run,
+            facts.requests,
+          )
+    ]

@@ -140,9 +140,6 @@ module _ (n f : ℕ) (w : System) (k : SystemFacts n f w) (me : Pid) (low : me.0
     abbrev after : System
     after = record { past = entries ++ w.past; nodes = with_value_at w.nodes me.0 new; sent = sent ++ w.sent; stored = w.stored; floors = w.floors }
 
-    identities_after : (p : ℕ) → p < n → (with_value_at w.nodes me.0 new p).identity ≡ identity_of n f p
-    identities_after p low_p = at_each (λ p s. s.identity ≡ identity_of n f p) w.nodes me.0 new (identity ∙ k.identities me.0 low) p (λ other. k.identities p low_p)
-
     questions_after : (p : ℕ) → p < n → (q : RoundState) → (with_value_at w.nodes me.0 new p).recovery ≡ Some (Some q) → WasSent (sent ++ w.sent) (question_packet p q.name (numbers (with_value_at w.nodes me.0 new p).floors))
     questions_after p low_p = at_each (λ p s. (q : RoundState) → s.recovery ≡ Some (Some q) → WasSent (sent ++ w.sent) (question_packet p q.name (numbers s.floors))) w.nodes me.0 new
         (λ q is. elim (call_rounds (length w.past) old new taken sent entries call q is) [
@@ -171,7 +168,7 @@ module _ (n f : ℕ) (w : System) (k : SystemFacts n f w) (me : Pid) (low : me.0
         → SystemFacts n f after
     facts_from es recorded counted counts same messages kept = subst (λ (es : List Entry). SystemFacts n f (record after { past = es ++ w.past })) (sym recorded) (record {
       counted = counted;
-      identities = identities_after;
+      identities = λ p low_p. at_each (λ p s. s.identity ≡ identity_of n f p) w.nodes me.0 new (identity ∙ k.identities me.0 low) p (λ other. k.identities p low_p);
       nodes = λ p low_p. at_each (λ p s. NodeCounts (es ++ w.past) p s) w.nodes me.0 new counts p (λ other. counts_in w.past (es ++ w.past) p (w.nodes p) (w.nodes p).recovery (same p other).0 (same p other).1 (k.nodes p low_p));
       messages = messages;
       kept = λ p low_p. at_each (λ p s. (ssn : ℕ) (kept : SentMessage) → slice_get s.memory.sent ssn ≡ Some kept → WasMessageSent (sent ++ w.sent) p s ssn kept) w.nodes me.0 new kept p

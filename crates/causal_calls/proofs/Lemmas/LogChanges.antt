@@ -131,10 +131,7 @@ module _ (next : Slot) (log : LogMap) (d : Det) where
   forgotten_stable h = (known_once (fin.get log d) (sym forgotten_listed ∙ h)).0
 
   pub forgotten_made : list_has (forgotten_in next log) d ≡ true → d.dest.0 ≡ next.dest.0 → d.rsn < next.rsn
-  forgotten_made h mine = below (same_pid d.dest next.dest) (eq-eqb d.dest.0 next.dest.0 mine) (known_once (fin.get log d) (sym forgotten_listed ∙ h)).1
-    where
-      below : (b : Bool) → b ≡ true → not (b && nat_le next.rsn d.rsn) ≡ true → d.rsn < next.rsn
-      below b is h = grind (arith, is, h)
+  forgotten_made h mine = grind (arith, eq-eqb d.dest.0 next.dest.0 mine, (known_once (fin.get log d) (sym forgotten_listed ∙ h)).1)
 
 -- the log after a forgetting is the theory's
 pub forgotten : (next : Slot) (log : LogMap) → log_view (after_forget next log) ≡ theory.log_without (forgotten_in next log) (log_view log)
