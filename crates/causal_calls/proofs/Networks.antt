@@ -66,7 +66,7 @@ module _ (safe : NodesAreSafe) (single : NodesShareNoSlot) (n f : ℕ) where
     nodes = λ p. up_node (up_view (w.nodes p));
     reached = new_network (network_of w (λ p. up_node (up_view (w.nodes p)))) (record {
       past = new.past;
-      nodes = λ p low. (up_view (w.nodes p), refl, fresh p low (w.nodes p) (new.nodes p low));
+      nodes = λ p low. (up_view (w.nodes p), refl, subst (λ t. IsNewNode (up_view t)) (sym (new.nodes p low)) (fresh p low));
       sent = new.sent;
       stored = new.stored;
       floors = new.floors;
@@ -83,8 +83,8 @@ module _ (safe : NodesAreSafe) (single : NodesShareNoSlot) (n f : ℕ) where
         | inr other ↦ set_other (replicate n 0) p 0 q other.1 ∙ zeros n q
       ]
 
-      fresh : (p : ℕ) → p < n → (s : NodeState) → s ≡ opened_node (identity_of n f p) 0 → IsNewNode (up_view s)
-      fresh p low s is = subst (λ t. IsNewNode (up_view t)) (sym is) (record { lane = refl; empty = none_entry; no_holders = none_holds; no_stable = none_stable; floors = nothing p low; sent = refl; received = refl })
+      fresh : (p : ℕ) → p < n → IsNewNode (up_view (opened_node (identity_of n f p) 0))
+      fresh p low = record { lane = refl; empty = none_entry; no_holders = none_holds; no_stable = none_stable; floors = nothing p low; sent = refl; received = refl }
 
   module _ (w : System) (net : IsNetworkOf n f w) where
     -- a node that is up represents a process that is up

@@ -1,9 +1,8 @@
 -- The calls of a node that is up are steps of a process that is up.
-use Rattle.std.proofs.Common.{ℕ, ◌≡◌, ◌∙◌, ◌<◌, Bool, true, false, ◌||◌, List, [], ◌∷◌, ◌++◌, length, Option, Some, None, is_some, unwrap_or, inl, inr, length-append, refl, sym, ap, subst, arith}
+use Rattle.std.proofs.Common.{ℕ, ◌≡◌, ◌∙◌, ◌<◌, Bool, true, false, ◌||◌, List, [], ◌∷◌, ◌++◌, length, Option, Some, None, is_some, inl, inr, length-append, refl, sym, ap, subst, arith}
 use Rattle.std.specs.Prelude.{◌⊎◌, if◌then◌else◌}
 use Rattle.std.specs.List.{list_any}
 use Rattle.std.specs.FinMap as fin
-use Rattle.std.specs.FinSet as set
 use Rattle.std.proofs.lemmas.Bool.{false≢true, or_cases, or_right, and_parts, and_from, eqb-true, eq-eqb, not-false}
 use Rattle.causal_name.specs.declared.Pid.{Pid}
 use Rattle.causal_name.specs.declared.MsgName.{MsgName}
@@ -15,7 +14,6 @@ use Rattle.causal_trace.specs.declared.entry.Entry.TheVariants.{Send, Deliver, S
 use Rattle.causal_trace.specs.Past.{list_has, det_from}
 use Rattle.causal_log.specs.declared.known.Known.{Known}
 use Rattle.causal_log.specs.declared.batch.Item.{Item}
-use Rattle.causal_log.specs.Knowledge.{unknown}
 use Rattle.causal_log.specs.Logs.{LogMap, known_of, dets_of, forgotten_in, batch_items, is_in_batch}
 use Rattle.causal_log.proofs.Lemmas.MessageItems.{carried_dets, carried_holders, left_out}
 use Rattle.causal_memory.proofs.Lemmas.ListInsert.{with_ascending}
@@ -59,10 +57,6 @@ replies_number b o h = grind arith
 in_batch_logged : (f : ℕ) (o : Option Known) → is_in_batch f o ≡ true → is_some o ≡ true
 in_batch_logged f o h = grind arith
 
-known_there : (o : Option Known) → is_some o ≡ true → (k : Known) × (o ≡ Some k)
-known_there None h = absurd (false≢true h)
-known_there (Some k) h = (k, refl)
-
 module _ (position : ℕ) (s : NodeState) (k : IsNodeState s) (up : s.recovery ≡ None) where
   abbrev here : Node
   here = up_node (up_view s)
@@ -102,13 +96,10 @@ module _ (position : ℕ) (s : NodeState) (k : IsNodeState s) (up : s.recovery �
     left : (d : Det) → has_entry d log ≡ true → (b : Bool) → list_any (λ item. same_det d item.det) (batch_items s.identity.faults log) ≡ b
         → (b ≡ true) ⊎ ((log_knows_stable d log ≡ true) ⊎ (s.identity.faults < count_below s.identity.processes (λ q. log_knows_holder d q log)))
     left d has true is = inl refl
-    left d has false is =
-        let there = known_there (fin.get log d) has in
-        let known_is : known_of log d ≡ there.0 = ap (λ o. unwrap_or o unknown) there.1 in
-        inr (elim (left_out s.identity.faults log d there.0 there.1 is) [
-          | inl stable ↦ inl (ap (λ (x : Known). x.stable) known_is ∙ stable)
-          | inr many ↦ inr (subst (λ m. s.identity.faults < m) (ap (λ (x : Known). set.len x.holders) (sym known_is) ∙ len_counted s.identity.processes (known_of log d).holders (λ q h. k.holders d q h)) many)
-        ])
+    left d has false is = inr (elim (left_out s.identity.faults log d (known_of log d) (grind arith) is) [
+      | inl stable ↦ inl stable
+      | inr many ↦ inr (subst (λ m. s.identity.faults < m) (len_counted s.identity.processes (known_of log d).holders (λ q h. k.holders d q h)) many)
+    ])
 
     pub sends : (body : List ℕ) → node_send_fault s to ≡ None
         → IsStepOf position s here None (node_after_send s to body) (message_packet (message_name me (length s.memory.sent)) (next_message_packet position s to) ∷ []) (Send me to (length s.memory.sent) ∷ [])
@@ -163,15 +154,13 @@ module _ (position : ℕ) (s : NodeState) (k : IsNodeState s) (up : s.recovery �
   log_of_node : (to : ℕ) → IsOfNodeLog me.0 (up_view s) (log_packet me.0 s.lane to log)
   log_of_node to = record { from = refl; lane = refl; logged = λ d h. h; known_holders = λ d q h. (h, entry_of_holder log d q h); known_stable = λ d h. h; names_sender = k.own }
 
-  answered : (view : List ℕ) → knows_number s view ≡ true → node_after_answer s view ≡ with_floors s (raised_floors s.floors view)
-  answered view knows = λ i. if knows i then after_answer_at s view (up i) else s
-
   pub answers : (asker : Pid) (name : ℕ) (view : List ℕ) → answer_fault s asker view ≡ None → round_reply s view ≡ Replies.Log
       → IsStepOf position s here (Some (question_packet asker.0 name (numbers view))) (node_after_answer s view) (answer_packet name (log_packet me.0 s.lane asker.0 log) ∷ []) []
   answers asker name view legal reply =
       let knows = (replies_log (knows_number s view) s.recovery reply).0 in
+      let after : node_after_answer s view ≡ with_floors s (raised_floors s.floors view) = λ i. if knows i then after_answer_at s view (up i) else s in
       let size : length view ≡ s.identity.processes = eqb-true _ _ (not-false _ (or_else_none _ _ _ (or_else_none _ _ _ legal).1).0) in
-      subst (λ (t : NodeState). IsStepOf position s here (Some (question_packet asker.0 name (numbers view))) t (answer_packet name (log_packet me.0 s.lane asker.0 log) ∷ []) []) (sym (answered view knows)) (record {
+      subst (λ (t : NodeState). IsStepOf position s here (Some (question_packet asker.0 name (numbers view))) t (answer_packet name (log_packet me.0 s.lane asker.0 log) ∷ []) []) (sym after) (record {
         next = up_node (theory.with_floors (up_view s) (theory.raised (numbers s.floors) (numbers view)));
         step = answer_row (up_view s) asker.0 name (numbers view) (log_packet me.0 s.lane asker.0 log) (eqb-true _ _ knows) (log_of_node asker.0) refl refl (λ d. refl);
         represents = as_up (with_floors s (raised_floors s.floors view)) _ refl (λ i. up_node (record { lane = s.lane; log = log_view log; floors = λ q. sym (raised_numbers s.floors view (k.floors ∙ sym size) q) i; sent = length s.memory.sent; received = s.memory.received }));

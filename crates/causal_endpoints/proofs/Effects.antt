@@ -52,7 +52,7 @@ is_message (message_packet name p) = true
 is_message _ = false
 
 -- what is sent passes no test that none of it passes
-not_sent : (test : Sent → Bool) (sent : List Sent) (k : Sent) → list_any test sent ≡ false → WasSent sent k → test k ≡ true → ⊥
+pub not_sent : (test : Sent → Bool) (sent : List Sent) (k : Sent) → list_any test sent ≡ false → WasSent sent k → test k ≡ true → ⊥
 not_sent test [] k other none of = none
 not_sent test (j ∷ sent) k other (inl is) of = false≢true (sym (or_parts _ _ other).0 ∙ ap test is ∙ of)
 not_sent test (j ∷ sent) k other (inr later) of = not_sent test sent k (or_parts _ _ other).1 later of

@@ -3,6 +3,7 @@
 -- takes was sent. A process that has ended says itself that it is not up; that changes nothing of it.
 use Rattle.std.proofs.Common.{ℕ, ◌≡◌, ◌∙◌, ◌==◌, ◌<◌, ◌+◌, ◌^◌, Bool, true, false, List, [], ◌∷◌, ◌++◌, length, Option, Some, None, unwrap_or, inl, inr, refl, sym, ap, subst, arith}
 use Rattle.std.specs.Prelude.{◌⊎◌, nat_lt, if◌then◌else◌}
+use Rattle.std.specs.List.{list_any}
 use Rattle.std.specs.FinMap as fin
 use Rattle.std.proofs.lemmas.Bool.{false≢true, or_cases, eqb-true, ltb-true, false_from_ne_true}
 use Rattle.std.proofs.lemmas.Bool.Decides.{eqb_tells}
@@ -45,6 +46,7 @@ use Rattle.causal_endpoints.proofs.CallRows.{ReadsBack, read_is, is_question}
 use Rattle.causal_endpoints.proofs.Within.{opened_within}
 use Rattle.causal_endpoints.proofs.KeptRows.{state_of}
 use Rattle.causal_endpoints.proofs.Counts.{one_send}
+use Rattle.causal_endpoints.proofs.Effects.{not_sent}
 use Rattle.causal_endpoints.proofs.SystemFacts.{SystemFacts, was_older, was_newer, either_sent, at_each, first_facts, facts_after_call, facts_after_crash, facts_after_storage}
 use Rattle.causal_endpoints.proofs.Ghosts.{tells_number, says_not_up}
 
@@ -128,21 +130,14 @@ more_sent : (n f run : ℕ) (new old : List Sent) (b : List ℕ) → IsParcelSen
 more_sent n f run new old b p = record { parcel = p.parcel; of_run = p.of_run; written = p.written; at = p.at; packet = was_older new old _ p.packet; number = λ other. was_older new old _ (p.number other) }
 
 -- a packet that is no question has a fresh name
-fresh_if_other : (old : List Sent) (k : Sent) → is_question k ≡ false → HasFreshName old k
-fresh_if_other old (question_packet from name view) h = absurd (false≢true (sym h))
+fresh_if_other : (old : List Sent) (k : Sent) → (is_question k ≡ true → ⊥) → HasFreshName old k
+fresh_if_other old (question_packet from name view) h = absurd (h refl)
 fresh_if_other old _ h = tt
-
-abbrev HasNoQuestion : List Sent → Type 0
-HasNoQuestion sent = (k : Sent) → WasSent sent k → is_question k ≡ false
-
-one_no_question : (k : Sent) → is_question k ≡ false → HasNoQuestion (k ∷ [])
-one_no_question k other j (inl is) = sym (ap is_question is) ∙ other
-one_no_question k other j (inr none) = absurd none
 
 module _ (n f run : ℕ) (w : EndpointSystem) where
   -- a call of a node that leaves it as it is
   module _ (sys : IsSystemOf n f run w) (me : Pid) (low : me.0 < n) (taken : Option Sent) (sent : List Sent) (was : WasTaken sys.packets taken) (call : NodeCall (length w.past) (w.endpoints me.0).node taken (w.endpoints me.0).node sent [])
-      (other : HasNoQuestion sent) where
+      (other : list_any is_question sent ≡ false) where
     abbrev here : System
     here = system_of w sys.packets
 
@@ -155,11 +150,11 @@ module _ (n f run : ℕ) (w : EndpointSystem) where
     abbrev ghost : IsSystemOf n f run w
     ghost = record sys {
       packets = sent ++ sys.packets;
-      reached = subst (λ s. IsReachableSystem n f s) as_before (nodes.next_system here changed sys.reached (nodes.call_event me taken (here.nodes me.0) sent [] low was call (λ k there. fresh_if_other sys.packets k (other k there))));
+      reached = subst (λ s. IsReachableSystem n f s) as_before (nodes.next_system here changed sys.reached (nodes.call_event me taken (here.nodes me.0) sent [] low was call (λ k there. fresh_if_other sys.packets k (not_sent is_question sent k other there))));
       facts = subst (λ s. SystemFacts n f s) as_before (facts_after_call n f here sys.facts me low taken (here.nodes me.0) sent [] was call refl);
       parcels = λ b there. more_sent n f run sent sys.packets b (sys.parcels b there);
       requests = λ k there. let before = sys.requests k there in (was_older sent sys.packets k before.0, before.1);
-      names = λ s name view there. elim (either_sent sent sys.packets _ there) [ inl now ↦ absurd (false≢true (sym (other _ now))) | inr before ↦ sys.names s name view before ];
+      names = λ s name view there. elim (either_sent sent sys.packets _ there) [ inl now ↦ absurd (not_sent is_question sent _ other now refl) | inr before ↦ sys.names s name view before ];
     }
 
   -- more packets, the same system
@@ -200,7 +195,7 @@ module _ (n f run : ℕ) (w : EndpointSystem) where
             let call = tells_number (length w.past) (w.endpoints p.0).node k q.0 (subst (λ m. q.0.0 < m) (sym (processes_is p.0 low)) (q.1.0 enough)) (λ e. q.1.1 (e ∙ me_is p.0 low)) in
             let packet = number_packet (w.endpoints p.0).node.identity.me.0 (w.endpoints p.0).node.lane in
             record {
-              more = record { next = ghost sys p low None (packet ∷ []) tt call (one_no_question packet refl); keeps = λ k was. inr was };
+              more = record { next = ghost sys p low None (packet ∷ []) tt call refl; keeps = λ k was. inr was };
               number = λ h. inl (ap (λ m. number_packet m (w.endpoints p.0).node.lane) (me_is p.0 low));
             }
 
@@ -228,7 +223,7 @@ module _ (n f run : ℕ) (w : EndpointSystem) where
             let call = says_not_up (length w.past) (w.endpoints q.0).node has_ended.down (has_ended.fresh ∙ ap (opened_node (w.endpoints q.0).node.identity) (sym lane_is)) me (subst (λ m. me.0 < m) (sym (processes_is q.0 low_q)) low) (λ e. apart (e ∙ me_is q.0 low_q)) r.name floors size known in
             let packet = not_up_packet (w.endpoints q.0).node.identity.me.0 me.0 r.name in
             record {
-              more = record { next = ghost sys q low_q (Some (question_packet me.0 r.name (numbers floors))) (packet ∷ []) asked call (one_no_question packet refl); keeps = λ k was. inr was };
+              more = record { next = ghost sys q low_q (Some (question_packet me.0 r.name (numbers floors))) (packet ∷ []) asked call refl; keeps = λ k was. inr was };
               was = inl (λ i. not_up_packet (me_is q.0 low_q i) (sym (me_is me.0 low) i) r.name);
             }
         by false other =

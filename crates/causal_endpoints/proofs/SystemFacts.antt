@@ -140,26 +140,6 @@ module _ (n f : ℕ) (w : System) (k : SystemFacts n f w) (me : Pid) (low : me.0
     abbrev after : System
     after = record { past = entries ++ w.past; nodes = with_value_at w.nodes me.0 new; sent = sent ++ w.sent; stored = w.stored; floors = w.floors }
 
-    questions_after : (p : ℕ) → p < n → (q : RoundState) → (with_value_at w.nodes me.0 new p).recovery ≡ Some (Some q) → WasSent (sent ++ w.sent) (question_packet p q.name (numbers (with_value_at w.nodes me.0 new p).floors))
-    questions_after p low_p = at_each (λ p s. (q : RoundState) → s.recovery ≡ Some (Some q) → WasSent (sent ++ w.sent) (question_packet p q.name (numbers s.floors))) w.nodes me.0 new
-        (λ q is. elim (call_rounds (length w.past) old new taken sent entries call q is) [
-          | inl same ↦ was_older sent w.sent _ (subst (λ j. WasSent w.sent j) (λ i. question_packet me.0 (same.2 i) (numbers (sym same.3 i))) (k.questions me.0 low same.0 same.1))
-          | inr now ↦ was_newer sent w.sent _ (subst (λ p. WasSent sent (question_packet p q.name (numbers new.floors))) mine now)
-        ])
-        p (λ other q is. was_older sent w.sent _ (k.questions p low_p q is))
-
-    asked_after : (j : Sent) (s name : ℕ) → WasSent (sent ++ w.sent) j → is_of_round j s name ≡ true → (view : ℕ → ℕ) × WasSent (sent ++ w.sent) (question_packet s name view)
-    asked_after j s name there of = elim (either_sent sent w.sent j there) [
-      | inl now ↦ elim (call_asks (length w.past) old new taken sent entries call j s name now of) [
-        | inl took ↦ (took.0, was_older sent w.sent _ (subst (λ o. WasTaken w.sent o) took.1 was))
-        | inr rest ↦ elim rest [
-          | inl asks ↦ (asks.0, was_newer sent w.sent _ asks.1)
-          | inr present ↦ (numbers old.floors, was_older sent w.sent _ (subst (λ j. WasSent w.sent j) (λ i. question_packet ((sym mine ∙ present.3) i) (present.2 i) (numbers old.floors)) (k.questions me.0 low present.0 present.1)))
-        ]
-      ]
-      | inr before ↦ let asked = k.asked j s name before of in (asked.0, was_older sent w.sent _ asked.1)
-    ]
-
     -- after these entries, which leave the counts of the other processes
     facts_from : (es : List Entry) → entries ≡ es → AreSendsCounted (es ++ w.past) → NodeCounts (es ++ w.past) me.0 new
         → ((p : ℕ) → (p ≡ me.0 → ⊥) → (lane_of (es ++ w.past) p ≡ lane_of w.past p) × (sends (es ++ w.past) p ≡ sends w.past p))
@@ -173,8 +153,22 @@ module _ (n f : ℕ) (w : System) (k : SystemFacts n f w) (me : Pid) (low : me.0
       messages = messages;
       kept = λ p low_p. at_each (λ p s. (ssn : ℕ) (kept : SentMessage) → slice_get s.memory.sent ssn ≡ Some kept → WasMessageSent (sent ++ w.sent) p s ssn kept) w.nodes me.0 new kept p
           (λ other ssn kept at. kept_more sent w.sent p (w.nodes p) (w.nodes p) ssn kept refl (k.kept p low_p ssn kept at));
-      questions = questions_after;
-      asked = asked_after;
+      questions = λ p low_p. at_each (λ p s. (q : RoundState) → s.recovery ≡ Some (Some q) → WasSent (sent ++ w.sent) (question_packet p q.name (numbers s.floors))) w.nodes me.0 new
+          (λ q is. elim (call_rounds (length w.past) old new taken sent entries call q is) [
+            | inl same ↦ was_older sent w.sent _ (subst (λ j. WasSent w.sent j) (λ i. question_packet me.0 (same.2 i) (numbers (sym same.3 i))) (k.questions me.0 low same.0 same.1))
+            | inr now ↦ was_newer sent w.sent _ (subst (λ p. WasSent sent (question_packet p q.name (numbers new.floors))) mine now)
+          ])
+          p (λ other q is. was_older sent w.sent _ (k.questions p low_p q is));
+      asked = λ j s name there of. elim (either_sent sent w.sent j there) [
+        | inl now ↦ elim (call_asks (length w.past) old new taken sent entries call j s name now of) [
+          | inl took ↦ (took.0, was_older sent w.sent _ (subst (λ o. WasTaken w.sent o) took.1 was))
+          | inr rest ↦ elim rest [
+            | inl asks ↦ (asks.0, was_newer sent w.sent _ asks.1)
+            | inr present ↦ (numbers old.floors, was_older sent w.sent _ (subst (λ j. WasSent w.sent j) (λ i. question_packet ((sym mine ∙ present.3) i) (present.2 i) (numbers old.floors)) (k.questions me.0 low present.0 present.1)))
+          ]
+        ]
+        | inr before ↦ let asked = k.asked j s name before of in (asked.0, was_older sent w.sent _ asked.1)
+      ];
     })
 
     -- the message that a send keeps, and its packet

@@ -1,10 +1,10 @@
 -- What an endpoint writes is a parcel of its run.
-use Rattle.std.proofs.Common.{ℕ, suc, ◌≡◌, ◌∙◌, ◌<◌, ◌^◌, Bool, true, false, List, [], ◌∷◌, map, filter, length, Option, Some, None, is_some, unwrap_or, refl, ap, arith}
+use Rattle.std.proofs.Common.{ℕ, suc, ◌≡◌, ◌∙◌, ◌<◌, ◌^◌, Bool, true, false, List, [], ◌∷◌, map, filter, length, Option, Some, is_some, unwrap_or, refl, ap, arith}
 use Rattle.std.specs.Prelude.{slice_get, if◌then◌else◌}
 use Rattle.std.specs.List.{AllByRecursion}
 use Rattle.std.specs.FinMap as fin
 use Rattle.std.specs.FinSet as set
-use Rattle.std.proofs.lemmas.Bool.{false≢true, and_parts, and_from}
+use Rattle.std.proofs.lemmas.Bool.{and_parts, and_from}
 use Rattle.std.proofs.ByRecursion.{All-weaker, All-map, all_kept_by, kept_by_passes}
 use Rattle.std.proofs.lemmas.List.{length-map, map-id}
 use Rattle.std.proofs.lemmas.Simd.{map-map}
@@ -14,7 +14,7 @@ use Rattle.causal_name.specs.declared.Det.{Det}
 use Rattle.causal_name.specs.Names.{is_ascending, is_before}
 use Rattle.causal_log.specs.declared.known.Known.{Known}
 use Rattle.causal_log.specs.Knowledge.{unknown, is_carried}
-use Rattle.causal_log.specs.Logs.{LogMap, item_of, batch_items}
+use Rattle.causal_log.specs.Logs.{LogMap, known_of, item_of, batch_items}
 use Rattle.causal_log.proofs.Lemmas.Ascents.{ascending_tail, ascending_skip, map_ascends}
 use Rattle.causal_log.proofs.Lemmas.ChosenLemmas.{chosen_ascend}
 use Rattle.causal_log.proofs.Lemmas.LogLists.{place_shown}
@@ -91,11 +91,7 @@ module _ (n : ℕ) (me : Pid) (log : LogMap) (dets : HasDets n log) (holders : H
   }
 
   logged_fits : (d : Det) → has_entry d log ≡ true → IsItem n me.0 (acknowledged_item me log d)
-  logged_fits d has = by (fin.get log d) refl has
-    where
-      by : (o : Option Known) → fin.get log d ≡ o → is_some o ≡ true → IsItem n me.0 (record { det = d; others = set.remove (unwrap_or o unknown).holders me.0 })
-      by None at there = absurd (false≢true there)
-      by (Some known) at there = item_fits d known at
+  logged_fits d has = item_fits d (known_of log d) (grind arith)
 
   -- an acknowledgement
   pub acknowledged_fit : (ds : List Det) → is_ascending ds ≡ true → length ds < 2 ^ 32 → AreItems n me.0 (wire_acknowledged me log ds)
