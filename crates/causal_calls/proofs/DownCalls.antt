@@ -134,47 +134,25 @@ module _ (position : ℕ) (s : NodeState) (k : IsNodeState s) where
     pub hears_number : (q : Pid) (number : ℕ) → (q.0 ≡ me.0 → ⊥) → IsStepOf position s here (Some (number_packet q.0 number)) (after_number s q number) [] [] ⊎ IsNoStep here (after_number s q number) [] []
     hears_number q number apart = by (nat_lt number (numbers s.floors q.0)) refl
       where
+        lowered : (told : ℕ → ℕ) → ((p : ℕ) → (p ≡ me.0 → ⊥) → numbers (raised_at s.floors q number) p ≤ told p) → Represents (after_number s q number) (down_node (record x { told = told }))
+        lowered told low = (record x { told = told }, refl, record { lane = is_down.lane; told = low; round = tt })
+
         by : (b : Bool) → nat_lt number (numbers s.floors q.0) ≡ b → IsStepOf position s here (Some (number_packet q.0 number)) (after_number s q number) [] [] ⊎ IsNoStep here (after_number s q number) [] []
         by true lower = inr (record {
           silent = refl;
           unrecorded = refl;
-          represents = (
-            x,
-            refl,
-            record {
-              lane = is_down.lane;
-              told = λ p other. elim (floors_after q number p) [
-                | inl same ↦
-                    let old = is_down.told q.0 apart in
-                    let less : number < numbers s.floors q.0 = grind (arith, lower) in
-                    subst (λ m. numbers (raised_at s.floors q number) p ≤ x.told m) (sym same.0) (omega (arith, same.1, old, less))
-                | inr elsewhere ↦ subst (λ m. m ≤ x.told p) (sym elsewhere.1) (is_down.told p other)
-              ];
-              round = tt;
-            },
-          );
+          represents = lowered x.told (λ p other. elim (floors_after q number p) [
+            | inl same ↦ subst (λ m. numbers (raised_at s.floors q number) p ≤ x.told m) (sym same.0) (omega (arith, same.1, is_down.told q.0 apart, ltb-true number (numbers s.floors q.0) lower))
+            | inr elsewhere ↦ subst (λ m. m ≤ x.told p) (sym elsewhere.1) (is_down.told p other)
+          ]);
         })
         by false higher = inl (record {
-          next = down_node (record { lane = x.lane; told = with_value_at x.told q.0 number; round = x.round });
+          next = down_node (record x { told = with_value_at x.told q.0 number });
           step = hear_number_row x q.0 number;
-          represents = (
-            record { lane = x.lane; told = with_value_at x.told q.0 number; round = x.round },
-            refl,
-            record {
-              lane = is_down.lane;
-              told = λ p other. elim (floors_after q number p) [
-                | inl same ↦
-                    let enough = not_below number (numbers s.floors q.0) higher in
-                    let here_is : with_value_at x.told q.0 number p ≡ number = ap (λ (b : Bool). if b then number else x.told p) (eq-eqb p q.0 same.0) in
-                    omega (arith, same.1, enough, here_is)
-                | inr elsewhere ↦
-                    let away : with_value_at x.told q.0 number p ≡ x.told p = ap (λ (b : Bool). if b then number else x.told p) (ne_eqb p q.0 elsewhere.0) in
-                    let old = is_down.told p other in
-                    omega (arith, elsewhere.1, away, old)
-              ];
-              round = tt;
-            },
-          );
+          represents = lowered (with_value_at x.told q.0 number) (λ p other. elim (floors_after q number p) [
+            | inl same ↦ subst (λ (b : Bool). numbers (raised_at s.floors q number) p ≤ (if b then number else x.told p)) (sym (eq-eqb p q.0 same.0)) (omega (arith, same.1, not_below number (numbers s.floors q.0) higher))
+            | inr elsewhere ↦ subst (λ (b : Bool). numbers (raised_at s.floors q number) p ≤ (if b then number else x.told p)) (sym (ne_eqb p q.0 elsewhere.0)) (omega (arith, elsewhere.1, is_down.told p other))
+          ]);
         })
 
     pub opens_again : IsStepOf position s here None (opened_node s.identity s.lane) [] []

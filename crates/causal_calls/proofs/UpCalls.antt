@@ -1,8 +1,7 @@
 -- The calls of a node that is up are steps of a process that is up.
-use Rattle.std.proofs.Common.{ℕ, ◌≡◌, ◌∙◌, ◌<◌, Bool, true, false, ◌||◌, List, [], ◌∷◌, ◌++◌, length, Option, Some, None, is_some, inl, inr, length-append, refl, sym, ap, subst, arith}
+use Rattle.std.proofs.Common.{ℕ, ◌≡◌, ◌∙◌, ◌<◌, Bool, true, false, ◌||◌, List, [], ◌∷◌, ◌++◌, length, Option, Some, None, inl, inr, length-append, refl, sym, ap, subst, arith}
 use Rattle.std.specs.Prelude.{◌⊎◌, if◌then◌else◌}
 use Rattle.std.specs.List.{list_any}
-use Rattle.std.specs.FinMap as fin
 use Rattle.std.proofs.lemmas.Bool.{false≢true, or_cases, or_right, and_parts, and_from, eqb-true, eq-eqb, not-false}
 use Rattle.causal_name.specs.declared.Pid.{Pid}
 use Rattle.causal_name.specs.declared.MsgName.{MsgName}
@@ -12,9 +11,8 @@ use Rattle.causal_name.specs.Sets.{count_below}
 use Rattle.causal_holders.proofs.Lemmas.MemberCounts.{len_counted}
 use Rattle.causal_trace.specs.declared.entry.Entry.TheVariants.{Send, Deliver, Stable}
 use Rattle.causal_trace.specs.Past.{list_has, det_from}
-use Rattle.causal_log.specs.declared.known.Known.{Known}
 use Rattle.causal_log.specs.declared.batch.Item.{Item}
-use Rattle.causal_log.specs.Logs.{LogMap, known_of, dets_of, forgotten_in, batch_items, is_in_batch}
+use Rattle.causal_log.specs.Logs.{LogMap, known_of, dets_of, forgotten_in, batch_items}
 use Rattle.causal_log.proofs.Lemmas.MessageItems.{carried_dets, carried_holders, left_out}
 use Rattle.causal_memory.proofs.Lemmas.ListInsert.{with_ascending}
 use Rattle.causal_protocol.specs.Naming.{message_name, with_own}
@@ -54,9 +52,6 @@ replies_not_up _ _ h = cc
 pub replies_number : (b : Bool) (o : Recovery) → (if b then reply_at o else Replies.OwnNumber) ≡ Replies.OwnNumber → b ≡ false
 replies_number b o h = grind arith
 
-in_batch_logged : (f : ℕ) (o : Option Known) → is_in_batch f o ≡ true → is_some o ≡ true
-in_batch_logged f o h = grind arith
-
 module _ (position : ℕ) (s : NodeState) (k : IsNodeState s) (up : s.recovery ≡ None) where
   abbrev here : Node
   here = up_node (up_view s)
@@ -80,14 +75,14 @@ module _ (position : ℕ) (s : NodeState) (k : IsNodeState s) (up : s.recovery �
     message_of_log = record {
       from = refl;
       lane = refl;
-      logged = λ d h. in_batch_logged s.identity.faults (fin.get log d) (sym (carried_dets s.identity.faults log d) ∙ h);
+      logged = λ d h. grind (arith, carried_dets s.identity.faults log d);
       known_holders = λ d q h. elim (or_cases _ _ h) [
         | inl named ↦
             let both = and_parts _ _ (sym (carried_holders s.identity.faults log d q) ∙ named) in
             (both.1, carried_dets s.identity.faults log d ∙ both.0)
         | inr own ↦
             let both = and_parts _ _ own in
-            (subst (λ p. log_knows_holder d p log ≡ true) (sym (eqb-true q me.0 both.1)) (k.own d (in_batch_logged s.identity.faults (fin.get log d) (sym (carried_dets s.identity.faults log d) ∙ both.0))), both.0)
+            (subst (λ p. log_knows_holder d p log ≡ true) (sym (eqb-true q me.0 both.1)) (k.own d (grind (arith, carried_dets s.identity.faults log d, both.0))), both.0)
       ];
       known_stable = λ d h. absurd (false≢true h);
       names_sender = λ d h. or_right _ _ (and_from _ _ h (eq-eqb me.0 me.0 refl));

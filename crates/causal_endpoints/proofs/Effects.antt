@@ -16,7 +16,7 @@ use Rattle.causal_world.specs.World.{Packet}
 use Rattle.causal_node.specs.NodeStates.{NodeState, Recovery, RoundState, floor_of}
 use Rattle.causal_node.specs.NodeForgetting.{next_slot}
 use Rattle.causal_node.specs.NodeRecovery.{reply_fault, node_restart_fault, with_recovery, map_round, with_log_of, without_awaited, after_not_up, after_number, node_after_stored, node_after_read, after_restart_at}
-use Rattle.causal_node.specs.NodeAnswers.{node_after_answer, after_answer_at, knows_number}
+use Rattle.causal_node.specs.NodeAnswers.{node_after_answer}
 use Rattle.causal_nodes.specs.Packets.{Sent, WasSent, message_packet, question_packet, read_packet, is_of_round}
 use Rattle.causal_calls.specs.Views.{numbers}
 use Rattle.causal_calls.specs.Parcels.{next_message_packet}
@@ -124,12 +124,7 @@ name_in name (Some (Some q)) = q.name
 name_in name _ = name
 
 reply_rounds : (s : NodeState) (view : List ℕ) (sent : List Sent) → RoundEffect s (node_after_answer s view) sent
-reply_rounds s view sent = by (knows_number s view) s.recovery refl
-  where
-    by : (b : Bool) (o : Recovery) → s.recovery ≡ o → RoundEffect s (if b then after_answer_at s view o else s) sent
-    by true None up q is = cc
-    by true (Some r) down q is = cc
-    by false o down q is = inl (q, is, refl, refl)
+reply_rounds s view sent = λ q is. inl (q, grind arith, refl, grind arith)
 
 changed_round : (s : NodeState) (change : RoundState → RoundState) → ((r : RoundState) → (change r).name ≡ r.name) → (sent : List Sent) → RoundEffect s (with_recovery s (map_round change s.recovery)) sent
 changed_round s change named sent = by s.recovery refl
