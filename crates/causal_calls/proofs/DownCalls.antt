@@ -259,17 +259,7 @@ module _ (position : ℕ) (s : NodeState) (k : IsNodeState s) where
     listed_is d = keys_logged (restart_log_of me r.log) d ∙ restarted_has d
 
     restarted_holder : (d : Det) (q : ℕ) → log_knows_holder d q (restart_log_of me r.log) ≡ ((y.gathered.has d && q == me.0) || y.gathered.holder d q)
-    restarted_holder d q =
-        held_holder me d q (fin.keys r.log) r.log
-        ∙ ap (λ b. log_knows_holder d q r.log || (b && q == me.0)) (keys_logged r.log d ∙ sym (fits.has d))
-        ∙ by (eqb_tells q me.0)
-      where
-        mine : (knows has gathered e : Bool) → (knows ≡ true → has ≡ true) → (gathered ≡ true → has ≡ true) → e ≡ true → (knows || (has && e)) ≡ ((has && e) || gathered)
-        mine knows has gathered e a b is = grind arith
-
-        by : ((q == me.0 ≡ true) × (q ≡ me.0)) ⊎ ((q == me.0 ≡ false) × (q ≡ me.0 → ⊥)) → (log_knows_holder d q r.log || (y.gathered.has d && q == me.0)) ≡ ((y.gathered.has d && q == me.0) || y.gathered.holder d q)
-        by (inl is) = mine (log_knows_holder d q r.log) (y.gathered.has d) (y.gathered.holder d q) (q == me.0) (λ h. fits.has d ∙ entry_of_holder r.log d q h) (λ h. fits.own d (subst (λ p. y.gathered.holder d p ≡ true) is.1 h)) is.0
-        by (inr other) = grind (arith, fits.holder d q other.1, other.0)
+    restarted_holder d q = grind (arith, held_holder me d q (fin.keys r.log) r.log, keys_logged r.log d, fits.has d, fits.holder d q, fits.own d, entry_of_holder r.log d q, eqb_tells q me.0)
 
     restarted_log : (theory.up_after_restart me.0 (x.lane + 1) y).log ≡ log_view (restart_log_of me r.log)
     restarted_log = same_log _ _ (λ d. fits.has d ∙ sym (restarted_has d)) (λ d q. sym (restarted_holder d q)) (λ d. fits.stable d ∙ sym (held_stable me d (fin.keys r.log) r.log))

@@ -1,18 +1,18 @@
 -- Each call of a node keeps what is true of its states, and what it sends names only processes.
-use Rattle.std.proofs.Common.{ℕ, ◌≡◌, ◌∙◌, ◌==◌, ◌<◌, Bool, true, false, not, ◌&&◌, ◌||◌, List, [], ◌∷◌, length, max, Some, None, inl, inr, refl, sym, ap, subst, arith}
+use Rattle.std.proofs.Common.{ℕ, ◌≡◌, ◌∙◌, ◌==◌, Bool, true, false, not, ◌&&◌, ◌||◌, List, [], ◌∷◌, length, max, Some, None, inl, inr, refl, sym, ap, subst, arith}
 use Rattle.std.specs.Prelude.{nat_lt, if◌then◌else◌, slice_set}
 use Rattle.std.specs.List.{list_any}
 use Rattle.std.specs.FinMap as fin
 use Rattle.std.specs.FinSet as set
 use Rattle.std.proofs.Math.Bool.{or-false}
-use Rattle.std.proofs.lemmas.Bool.{or_cases, or_left, or_right, and_parts, and_from, eqb-true, eq-eqb, both_ways, not-false}
+use Rattle.std.proofs.lemmas.Bool.{or_cases, or_right, and_parts, and_from, eqb-true, eq-eqb, both_ways, not-false}
 use Rattle.std.proofs.lemmas.List.{length-set}
 use Rattle.std.proofs.lemmas.List.Folds.{list_any-append}
 use Rattle.causal_name.specs.declared.Pid.{Pid}
 use Rattle.causal_name.specs.declared.MsgName.{MsgName}
 use Rattle.causal_name.specs.declared.Det.{Det}
 use Rattle.causal_name.specs.Names.{same_message}
-use Rattle.causal_trace.specs.Past.{list_has, det_from}
+use Rattle.causal_trace.specs.Past.{det_from}
 use Rattle.causal_log.specs.declared.batch.Item.{Item}
 use Rattle.causal_log.specs.Knowledge.{stable_and_held_by}
 use Rattle.causal_log.specs.Logs.{LogMap, after_mark, after_learn, after_forget as log_after_forget}
@@ -22,7 +22,7 @@ use Rattle.causal_protocol.specs.MemoryQueries.{has_entry, log_knows_holder}
 use Rattle.causal_protocol.specs.Memory.{with_log}
 use Rattle.causal_node.specs.NodeStates.{NodeState, Recovery, RoundState, floor_of, with_memory}
 use Rattle.causal_node.specs.NodeSteps.{node_after_delivery}
-use Rattle.causal_node.specs.NodeRecovery.{new_round_state, with_recovery, map_round, with_log_of, without_awaited, after_not_up, after_number, node_after_stored, node_after_read, after_restart_at, restart_log_of, processes_below}
+use Rattle.causal_node.specs.NodeRecovery.{new_round_state, with_recovery, map_round, with_log_of, without_awaited, after_not_up, after_number, node_after_stored, node_after_read, after_restart_at, processes_below}
 use Rattle.causal_node.specs.NodeAcknowledgements.{log_with_holders, after_acknowledgement}
 use Rattle.causal_node.specs.NodeForgetting.{next_slot, node_after_forget}
 use Rattle.causal_node.specs.NodeAnswers.{answer_fault, node_after_answer, after_answer_at, knows_number}
@@ -65,17 +65,8 @@ module _ (s : NodeState) (k : IsNodeState s) where
         process = k.process;
         floors = k.floors;
         own_floor = k.own_floor;
-        holders = λ d q h. elim (or_cases _ _ (sym (delivered_holder items own s.memory.log d q) ∙ h)) [
-          | inl new ↦ elim (or_cases _ _ (and_parts _ _ new).1) [
-            | inl told ↦ names (message_with lane me at name items) refl d q told
-            | inr mine ↦ subst (λ p. p < n) (sym (eqb-true q me.0 mine)) k.process
-          ]
-          | inr old ↦ k.holders d q old
-        ];
-        own = λ d h. delivered_holder items own s.memory.log d me.0 ∙ elim (or_cases _ _ (sym (delivered_has items own s.memory.log d) ∙ h)) [
-          | inl listed ↦ or_left _ _ (and_from _ _ listed (or_right _ _ (eq-eqb me.0 me.0 refl)))
-          | inr old ↦ or_right _ _ (k.own d old)
-        ];
+        holders = λ d q h. grind (arith, delivered_holder items own s.memory.log d q, names (message_with lane me at name items) refl d q, eqb-true q me.0, k.process, k.holders d q);
+        own = λ d h. grind (arith, delivered_holder items own s.memory.log d me.0, delivered_has items own s.memory.log d, eq-eqb me.0 me.0 refl, k.own d);
         received = λ m. has_names _ m ∙ inserted_name s.received_names name m ∙ ap (λ b. b || same_message m name) (sym (has_names s.received_names m) ∙ k.received m)
             ∙ sym (list_any-append (same_message m) s.memory.received (name ∷ []) ∙ ap (λ b. list_any (same_message m) s.memory.received || b) (or-false (same_message m name)));
         recovery = k.recovery;
@@ -98,10 +89,7 @@ module _ (s : NodeState) (k : IsNodeState s) where
       let log = s.memory.log in
       let is = learned log items (acknowledgement_with from lane me items).parcel (λ d q. refl) in
       with_other_log (log_with_holders items)
-      (λ d q h. elim (or_cases _ _ (sym (ap (λ (x : NodeLog). x.holder d q) is) ∙ h)) [
-        | inl new ↦ names (acknowledgement_with from lane me items) refl d q (and_parts _ _ new).1
-        | inr old ↦ k.holders d q old
-      ])
+      (λ d q h. grind (arith, ap (λ (x : NodeLog). x.holder d q) is, names (acknowledgement_with from lane me items) refl d q, k.holders d q))
       (λ d h. ap (λ (x : NodeLog). x.holder d me.0) is ∙ or_right _ _ (k.own d (sym (ap (λ (x : NodeLog). x.has d) is) ∙ h)))
 
   pub forgot : IsNodeState (node_after_forget s)
@@ -167,10 +155,7 @@ module _ (s : NodeState) (k : IsNodeState s) where
     stored_taken det = subst (λ (o : Recovery). IsNodeState (node_after_stored s det o)) (sym gathers) (with_other (Some (Some (record r { log = after_learn r.log det (stable_and_held_by me) }))) (holds, kept.1))
       where
         holds : HasHoldersBelow n (after_learn r.log det (stable_and_held_by me))
-        holds d q h = elim (or_cases _ _ (sym (one_holder r.log det (stable_and_held_by me) d q) ∙ h)) [
-          | inl old ↦ kept.0 d q old
-          | inr new ↦ subst (λ p. p < n) (sym (eqb-true q me.0 (sym (one_holds me.0 q) ∙ (and_parts _ _ (sym (or-false _) ∙ new)).1))) k.process
-        ]
+        holds d q h = grind (arith, one_holder r.log det (stable_and_held_by me) d q, one_holds me.0 q, kept.0 d q, eqb-true q me.0, k.process)
 
     pub read_finished : IsNodeState (with_recovery s (map_round node_after_read s.recovery))
     read_finished = changed node_after_read kept
@@ -180,14 +165,8 @@ module _ (s : NodeState) (k : IsNodeState s) where
       process = k.process;
       floors = k.floors;
       own_floor = k.own_floor;
-      holders = λ d q h. elim (or_cases _ _ (sym (held_holder me d q (fin.keys r.log) r.log) ∙ h)) [
-        | inl old ↦ kept.0 d q old
-        | inr mine ↦ subst (λ p. p < n) (sym (eqb-true q me.0 (and_parts _ _ mine).1)) k.process
-      ];
-      own = λ d h. held_holder me d me.0 (fin.keys r.log) r.log ∙ or_right _ _ (and_from _ _ (logged d h) (eq-eqb me.0 me.0 refl));
+      holders = λ d q h. grind (arith, held_holder me d q (fin.keys r.log) r.log, kept.0 d q, eqb-true q me.0, k.process);
+      own = λ d h. grind (arith, held_holder me d me.0 (fin.keys r.log) r.log, held_has me d (fin.keys r.log) r.log, keys_logged r.log d, eq-eqb me.0 me.0 refl);
       received = λ m. refl;
       recovery = tt;
     })
-      where
-        logged : (d : Det) → has_entry d (restart_log_of me r.log) ≡ true → list_has (fin.keys r.log) d ≡ true
-        logged d h = elim (or_cases _ _ (sym (held_has me d (fin.keys r.log) r.log) ∙ h)) [ inl old ↦ keys_logged r.log d ∙ old | inr new ↦ new ]

@@ -2,7 +2,7 @@
 use Rattle.std.proofs.Common.{ℕ, ◌≡◌, ◌∙◌, ◌<◌, Bool, true, false, ◌||◌, List, [], ◌∷◌, ◌++◌, length, Option, Some, None, inl, inr, length-append, refl, sym, ap, subst, arith}
 use Rattle.std.specs.Prelude.{◌⊎◌, if◌then◌else◌}
 use Rattle.std.specs.List.{list_any}
-use Rattle.std.proofs.lemmas.Bool.{false≢true, or_cases, or_right, and_parts, and_from, eqb-true, eq-eqb, not-false}
+use Rattle.std.proofs.lemmas.Bool.{false≢true, or_right, and_parts, and_from, eqb-true, eq-eqb, not-false}
 use Rattle.causal_name.specs.declared.Pid.{Pid}
 use Rattle.causal_name.specs.declared.MsgName.{MsgName}
 use Rattle.causal_name.specs.declared.Det.{Det}
@@ -76,14 +76,10 @@ module _ (position : ℕ) (s : NodeState) (k : IsNodeState s) (up : s.recovery �
       from = refl;
       lane = refl;
       logged = λ d h. grind (arith, carried_dets s.identity.faults log d);
-      known_holders = λ d q h. elim (or_cases _ _ h) [
-        | inl named ↦
-            let both = and_parts _ _ (sym (carried_holders s.identity.faults log d q) ∙ named) in
-            (both.1, carried_dets s.identity.faults log d ∙ both.0)
-        | inr own ↦
-            let both = and_parts _ _ own in
-            (subst (λ p. log_knows_holder d p log ≡ true) (sym (eqb-true q me.0 both.1)) (k.own d (grind (arith, carried_dets s.identity.faults log d, both.0))), both.0)
-      ];
+      known_holders = λ d q h. (
+        grind (arith, carried_holders s.identity.faults log d q, carried_dets s.identity.faults log d, eqb-true q me.0, k.own d),
+        grind (arith, carried_holders s.identity.faults log d q, carried_dets s.identity.faults log d),
+      );
       known_stable = λ d h. absurd (false≢true h);
       names_sender = λ d h. or_right _ _ (and_from _ _ h (eq-eqb me.0 me.0 refl));
     }
@@ -168,14 +164,9 @@ module _ (position : ℕ) (s : NodeState) (k : IsNodeState s) (up : s.recovery �
       from = refl;
       lane = refl;
       logged = λ d h. (and_parts (list_has dets d) (has_entry d log) (sym (acknowledged_dets log dets d) ∙ h)).1;
-      known_holders = λ d q h.
-          let parts = and_parts _ _ (sym (acknowledged_holders log dets d q) ∙ h) in
-          let known = and_parts _ _ parts.1 in
-          (known.1, acknowledged_dets log dets d ∙ and_from _ _ parts.0 known.0);
+      known_holders = λ d q h. (grind (arith, acknowledged_holders log dets d q), grind (arith, acknowledged_holders log dets d q, acknowledged_dets log dets d));
       known_stable = λ d h. absurd (false≢true h);
-      names_sender = λ d h.
-          let parts = and_parts _ _ (sym (acknowledged_dets log dets d) ∙ h) in
-          acknowledged_holders log dets d me.0 ∙ and_from _ _ parts.0 (and_from _ _ parts.1 (k.own d parts.1));
+      names_sender = λ d h. grind (arith, acknowledged_dets log dets d, acknowledged_holders log dets d me.0, k.own d);
     }) refl;
     represents = as_up s _ refl refl;
   }

@@ -1,5 +1,5 @@
 -- Each call of an endpoint keeps what is true of its states, and sends to stable storage determinants of processes.
-use Rattle.std.proofs.Common.{ℕ, ◌≡◌, ◌∙◌, ◌==◌, ◌<◌, ◌^◌, Bool, true, false, not, ◌&&◌, ◌||◌, List, [], ◌∷◌, map, length, Option, None, inl, inr, refl, sym, ap, subst, arith}
+use Rattle.std.proofs.Common.{ℕ, ◌≡◌, ◌∙◌, ◌==◌, ◌<◌, ◌^◌, Bool, true, false, not, ◌&&◌, List, [], ◌∷◌, map, length, Option, None, inl, inr, refl, sym, ap, subst, arith}
 use Rattle.std.specs.Prelude.{if◌then◌else◌}
 use Rattle.std.specs.List.{list_any, AllByRecursion}
 use Rattle.std.specs.Cmp.{nat_cmp_total}
@@ -47,10 +47,7 @@ from_any P to test (x ∷ xs) each h get = elim (or_cases (test (to x)) _ h) [ i
 -- what a parcel of n processes brings
 module _ (n : ℕ) (source : Pid) (low : source.0 < n) where
   member : (s : set.FinSet nat_cmp) (q : ℕ) → ((p : ℕ) → set.contains s p ≡ true → p < n) → set.contains (set.insert s source.0) q ≡ true → q < n
-  member s q others h = elim (or_cases (q == source.0) (set.contains s q) ((λ i. nat_ties q source.0 i || set.contains s q) ∙ sym (set.contains-insert nat_cmp_total s source.0 q) ∙ h)) [
-    | inl is ↦ subst (λ p. p < n) (sym (eqb-true q source.0 is)) low
-    | inr other ↦ others q other
-  ]
+  member s q others h = grind (arith, set.contains-insert nat_cmp_total s source.0 q, nat_ties q source.0, eqb-true q source.0, others q)
 
   det_is : (d : Det) (x : WireItem) → IsItem n source.0 x → same_det d x.det ≡ true → IsDet n d
   det_is d x fits here = subst (IsDet n) (sym (same_is d x.det here)) fits.det
