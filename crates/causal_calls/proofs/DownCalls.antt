@@ -1,6 +1,6 @@
 -- The calls of a node that recovers are steps of a process that is down, or give up a round.
-use Rattle.std.proofs.Common.{ℕ, zero, suc, ◌≡◌, ◌∙◌, ◌==◌, ◌<◌, ◌≤◌, ◌+◌, Bool, true, false, not, ◌&&◌, ◌||◌, List, [], ◌∷◌, length, max, Option, Some, None, inl, inr, replicate, refl, sym, ap, subst, arith}
-use Rattle.std.specs.Prelude.{◌⊎◌, nat_lt, if◌then◌else◌, slice_set}
+use Rattle.std.proofs.Common.{ℕ, zero, suc, ◌≡◌, ◌∙◌, ◌==◌, ◌<◌, ◌≤◌, ◌+◌, Bool, true, false, not, ◌&&◌, ◌||◌, List, [], ◌∷◌, max, Option, Some, None, inl, inr, replicate, refl, sym, ap, subst, arith}
+use Rattle.std.specs.Prelude.{◌⊎◌, nat_lt, if◌then◌else◌}
 use Rattle.std.specs.Cmp.{nat_cmp_total}
 use Rattle.std.specs.Ordering.{nat_cmp}
 use Rattle.std.specs.FinMap as fin
@@ -60,18 +60,6 @@ still_awaited n me q low apart = removed (processes_below n) me q ∙ and_from _
 pub awaits_none : (awaited : set.FinSet nat_cmp) → nat_lt 0 (set.len awaited) ≡ false → (q : ℕ) → set.contains awaited q ≡ false
 awaits_none awaited none q = ap (λ s. set.contains s q) (set.empty_of_len awaited (omega (arith, not_below 0 (set.len awaited) none))) ∙ set.contains-empty nat_cmp q
 
--- one process more has replied
-heard_more : (heard : ℕ → Bool) (awaited : set.FinSet nat_cmp) (q p : ℕ) → (set.contains awaited p ≡ false → heard p ≡ true) → set.contains (set.remove awaited q) p ≡ false → with_value_at heard q true p ≡ true
-heard_more heard awaited q p before gone = grind (arith, removed awaited q p)
-
--- a list after a number that is not less is set at one place, if it has the place
-set_number : (xs : List ℕ) (q value p : ℕ) → numbers xs q ≤ value → ((p == q ≡ true) × (p ≡ q)) ⊎ ((p == q ≡ false) × (p ≡ q → ⊥)) → (b : Bool) → nat_lt q (length xs) ≡ b
-    → ((p ≡ q) × (numbers (if b then slice_set xs q value else xs) p ≤ value)) ⊎ ((p ≡ q → ⊥) × (numbers (if b then slice_set xs q value else xs) p ≡ numbers xs p))
-set_number xs q value p low (inl same) true within = inl (same.1, subst (λ m. numbers (slice_set xs q value) m ≤ value) (sym same.1) (omega (arith, set_here xs q value (ltb-true q (length xs) within))))
-set_number xs q value p low (inl same) false within = inl (same.1, subst (λ m. numbers xs m ≤ value) (sym same.1) low)
-set_number xs q value p low (inr other) true within = inr (other.1, set_other xs q value p other.1)
-set_number xs q value p low (inr other) false within = inr (other.1, refl)
-
 -- a node that is opened after a crash
 pub reopened : (who : Identity) (lane : ℕ) → Represents (opened_node who (lane + 1)) (down_node (fallen_node lane))
 reopened who lane = subst (λ (b : Bool). RepresentsAt (opened_node who (lane + 1)) (if b then None else Some None) (down_node (fallen_node lane))) (sym (ne_eqb (lane + 1) 0 (λ e. omega (arith, e)))) (
@@ -128,7 +116,10 @@ module _ (position : ℕ) (s : NodeState) (k : IsNodeState s) where
         })
 
     floors_after : (q : Pid) (number p : ℕ) → ((p ≡ q.0) × (numbers (raised_at s.floors q number) p ≤ max number (numbers s.floors q.0))) ⊎ ((p ≡ q.0 → ⊥) × (numbers (raised_at s.floors q number) p ≡ numbers s.floors p))
-    floors_after q number p = set_number s.floors q.0 (max number (floor_of s.floors q)) p (omega arith) (eqb_tells p q.0) (nat_lt q.0 (length s.floors)) refl
+    floors_after q number p = elim (eqb_tells p q.0) [
+      | inl same ↦ inl (same.1, grind (arith, set_here, same.1))
+      | inr other ↦ inr (other.1, grind (arith, set_other s.floors q.0 (max number (floor_of s.floors q)) p other.1))
+    ]
 
     -- a number is heard, or is not above what was heard before
     pub hears_number : (q : Pid) (number : ℕ) → (q.0 ≡ me.0 → ⊥) → IsStepOf position s here (Some (number_packet q.0 number)) (after_number s q number) [] [] ⊎ IsNoStep here (after_number s q number) [] []
@@ -189,7 +180,7 @@ module _ (position : ℕ) (s : NodeState) (k : IsNodeState s) where
       represents = as_round (λ r. with_log_of r q.0 log) (theory.after_answer q.0 (log_packet q.0 lane me.0 log).parcel y) (record {
         name = fits.name;
         view = fits.view;
-        heard = λ p low apart gone. heard_more y.heard r.awaited q.0 p (fits.heard p low apart) gone;
+        heard = λ p low apart gone. grind (arith, removed r.awaited q.0 p, fits.heard p low apart);
         read = λ h. grind (arith, fits.read h);
         has = λ d. ap (λ b. b || has_entry d log) (fits.has d) ∙ sym (united_logged r.log log d);
         holder = λ d p apart. ap (λ b. b || log_knows_holder d p log) (fits.holder d p apart) ∙ sym (united_holders r.log log d p);
@@ -209,7 +200,7 @@ module _ (position : ℕ) (s : NodeState) (k : IsNodeState s) where
           next = down_node (with_round x (Some (with_heard q.0 y)));
           step = hear_not_up_row x y q.0 is_down.round.1;
           represents = as_round (λ r. without_awaited r q.0) (with_heard q.0 y)
-              (round_heard q.0 _ r.read (λ p low apart gone. heard_more y.heard r.awaited q.0 p (fits.heard p low apart) gone) (λ h. grind (arith, fits.read h)));
+              (round_heard q.0 _ r.read (λ p low apart gone. grind (arith, removed r.awaited q.0 p, fits.heard p low apart)) (λ h. grind (arith, fits.read h)));
         }))
 
     nobody : ask_fault s.recovery ≡ None → nat_lt 0 (set.len r.awaited) ≡ false

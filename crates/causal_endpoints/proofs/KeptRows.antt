@@ -95,10 +95,7 @@ module _ (e : EndpointState) where
   as_packet p t is names = subst (λ (x : Packet). (d : Det) (q : ℕ) → x.parcel.names_holder d q ≡ true → q < n) is names
 
   parcel_names : (at : ℕ) (head : Head) (contents : Contents) → IsParcel (run_of e) (head, contents) → NamesProcesses n (taken_with e.node at head contents)
-  parcel_names at head (message ssn items body) fits = λ p is. as_packet _ p is (λ d q h. elim (or_cases _ _ h) [
-    | inl named ↦ items_holders n head.source fits.head.source d q items fits.contents.1.each named
-    | inr source ↦ subst (λ m. m < n) (sym (eqb-true q head.source.0 (and_parts _ _ source).1)) fits.head.source
-  ])
+  parcel_names at head (message ssn items body) fits = λ p is. as_packet _ p is (λ d q h. grind (arith, items_holders n head.source fits.head.source d q items fits.contents.1.each, eqb-true q head.source.0, fits.head.source))
   parcel_names at head (acknowledgement items) fits = λ p is. as_packet _ p is (λ d q h. items_holders n head.source fits.head.source d q items fits.contents.each h)
   parcel_names at head (answer round entries) fits = λ p is. as_packet _ p is (λ d q h. log_holders n head.source fits.head.source d q entries fits.contents.1.each h)
   parcel_names at head (not_up round) fits = said_names head.source head.lane round

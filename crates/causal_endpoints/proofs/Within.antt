@@ -205,13 +205,7 @@ calls_within position old new taken sent entries (deliver lane name at items asc
     record {
       lane = k.lane;
       floors = k.floors;
-      logged = λ d h. elim (or_cases _ _ (sym (delivered_has items own old.memory.log d) ∙ h)) [
-        | inl listed ↦ elim (or_cases _ _ (sym (own_have own (dets_of items) d) ∙ listed)) [
-          | inl this ↦ subst (λ x. IsDet old.identity.processes x) (sym (same_is d own this)) mine
-          | inr carried ↦ fits.2 d (sym (items_have items d) ∙ carried)
-        ]
-        | inr before ↦ k.logged d before
-      ];
+      logged = λ d h. grind (arith, delivered_has items own old.memory.log d, own_have own (dets_of items) d, same_is d own, mine, items_have items d, fits.2 d, k.logged d);
       round = k.round;
       kept = k.kept;
       sent = k.sent;
@@ -240,10 +234,7 @@ calls_within position old new taken sent entries (take_stored r dets det gathers
     subst (λ (o : Recovery). IsWithin old.identity.processes old.identity.me.0 (node_after_stored old det o)) (sym gathers)
     (with_other_floors old.identity.processes old.identity.me.0 old k old.floors (Some (Some (record r { log = after_learn r.log det (stable_and_held_by old.identity.me) }))) k.floors (
       gathered.0,
-      λ d h. elim (or_cases _ _ (sym (one_entry r.log det (stable_and_held_by old.identity.me) d) ∙ h)) [
-        | inl before ↦ gathered.1 d before
-        | inr this ↦ elim (or_cases _ _ this) [ inl same ↦ subst (λ x. IsDet old.identity.processes x) (sym (same_is d det same)) (fits det has) | inr none ↦ absurd (false≢true none) ]
-      ],
+      λ d h. grind (arith, one_entry r.log det (stable_and_held_by old.identity.me) d, gathered.1 d, same_is d det, fits det has),
     ))
 calls_within position old new taken sent entries (finish_read r dets gathers legal all) is few k fits named = changed old.identity.processes old.identity.me.0 old k r gathers node_after_read (λ w. w)
 calls_within position old new taken sent entries (restart reserved legal) is few k fits named = restarted_within old k reserved old.recovery refl legal
