@@ -203,16 +203,13 @@ module _ (position : ℕ) (s : NodeState) (k : IsNodeState s) where
               (round_heard q.0 _ r.read (λ p low apart gone. grind (arith, removed r.awaited q.0 p, fits.heard p low apart)) (λ h. grind (arith, fits.read h)));
         }))
 
-    nobody : ask_fault s.recovery ≡ None → nat_lt 0 (set.len r.awaited) ≡ false
-    nobody legal = (or_else_none _ _ None (sym (ap ask_fault gathers) ∙ legal)).0
-
     all_heard : nat_lt 0 (set.len r.awaited) ≡ false → (q : ℕ) → q < n → (q ≡ me.0 → ⊥) → y.heard q ≡ true
     all_heard none q low apart = fits.heard q low apart (awaits_none r.awaited none q)
 
     pub asks_storage : ask_fault s.recovery ≡ None → IsStepOf position s there None s (read_packet me.0 r.name (numbers s.floors) ∷ []) []
     asks_storage legal = subst (λ (k : Sent). IsStepOf position s there None s (k ∷ []) []) (λ i. read_packet me.0 (fits.name i) (fits.view i)) (record {
       next = there;
-      step = read_row x y is_down.round.1 (all_heard (nobody legal));
+      step = read_row x y is_down.round.1 (all_heard (or_else_none _ _ None (sym (ap ask_fault gathers) ∙ legal)).0);
       represents = subst (λ o. RepresentsAt s o there) (sym gathers) (x, refl, is_down);
     })
 

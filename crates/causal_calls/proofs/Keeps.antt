@@ -5,7 +5,7 @@ use Rattle.std.specs.List.{list_any}
 use Rattle.std.specs.FinMap as fin
 use Rattle.std.specs.FinSet as set
 use Rattle.std.proofs.Math.Bool.{or-false}
-use Rattle.std.proofs.lemmas.Bool.{or_cases, or_right, and_parts, and_from, eqb-true, eq-eqb, both_ways, not-false}
+use Rattle.std.proofs.lemmas.Bool.{or_cases, or_right, and_parts, eqb-true, eq-eqb, both_ways, not-false}
 use Rattle.std.proofs.lemmas.List.{length-set}
 use Rattle.std.proofs.lemmas.List.Folds.{list_any-append}
 use Rattle.causal_name.specs.declared.Pid.{Pid}
@@ -99,9 +99,7 @@ module _ (s : NodeState) (k : IsNodeState s) where
       let is = forgotten next log in
       with_other_log (log_after_forget next)
       (λ d q h. k.holders d q (and_parts _ _ (sym (ap (λ (x : NodeLog). x.holder d q) is) ∙ h)).1)
-      (λ d h.
-      let parts = and_parts _ _ (sym (ap (λ (x : NodeLog). x.has d) is) ∙ h) in
-      ap (λ (x : NodeLog). x.holder d me.0) is ∙ and_from _ _ parts.0 (k.own d parts.1))
+      (λ d h. grind (arith, ap (λ (x : NodeLog). x.has d) is, ap (λ (x : NodeLog). x.holder d me.0) is, k.own d))
 
   pub answered : (asker : Pid) (view : List ℕ) → answer_fault s asker view ≡ None → IsNodeState (node_after_answer s view)
   answered asker view legal = by (knows_number s view) refl
