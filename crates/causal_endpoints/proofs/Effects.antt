@@ -110,7 +110,8 @@ call_effect position old new taken sent entries (restart reserved legal) later =
     by : (o : Recovery) → old.recovery ≡ o → node_restart_fault o ≡ None → Effect position old (after_restart_at old o reserved) [] (Restart old.identity.me (fin.keys (after_restart_at old o reserved).memory.log) ∷ [])
     by (Some (Some r)) is legal = restarts _ (Some r) is refl refl refl refl refl
     by _ is legal = absurd (some_none _ legal)
-call_effect position old new taken sent entries (open_again round down) later = stays refl (inr refl) (ap {B = Bool} (λ (b : Bool). is_some (recovery_at b)) (ne_eqb old.lane 0 (later round down)) ∙ ap is_some (sym down)) (λ up. absurd (false≢true (ap is_some (sym up ∙ down)))) (inl refl) (λ name t none. none)
+call_effect position old new taken sent entries (open_again round down) later =
+    stays refl (inr refl) (ap {B = Bool} (λ (b : Bool). is_some (recovery_at b)) (ne_eqb old.lane 0 (later round down)) ∙ ap is_some (sym down)) (λ up. absurd (false≢true (ap is_some (sym up ∙ down)))) (inl refl) (λ name t none. none)
 call_effect position old new taken sent entries _ later = still position old new sent entries refl refl refl (inl refl) refl
 
 -- a round is the one before, or its question was sent

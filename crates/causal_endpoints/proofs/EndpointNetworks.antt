@@ -220,7 +220,8 @@ module _ (n f run : ℕ) (w : EndpointSystem) where
             let asked : WasSent sys.packets (question_packet me.0 r.name (numbers floors)) = sys.facts.questions me.0 low r gathers in
             let known : numbers floors (w.endpoints q.0).node.identity.me.0 ≡ (w.endpoints q.0).node.lane = ap (numbers floors) (me_is q.0 low_q) ∙ eqb-true _ _ is ∙ sym lane_is in
             let size : length floors ≡ (w.endpoints q.0).node.identity.processes = (sys.states me.0 low).node.floors ∙ processes_is me.0 low ∙ sym (processes_is q.0 low_q) in
-            let call = says_not_up (length w.past) (w.endpoints q.0).node has_ended.down (has_ended.fresh ∙ ap (opened_node (w.endpoints q.0).node.identity) (sym lane_is)) me (subst (λ m. me.0 < m) (sym (processes_is q.0 low_q)) low) (λ e. apart (e ∙ me_is q.0 low_q)) r.name floors size known in
+            let fresh = has_ended.fresh ∙ ap (opened_node (w.endpoints q.0).node.identity) (sym lane_is) in
+            let call = says_not_up (length w.past) (w.endpoints q.0).node has_ended.down fresh me (subst (λ m. me.0 < m) (sym (processes_is q.0 low_q)) low) (λ e. apart (e ∙ me_is q.0 low_q)) r.name floors size known in
             let packet = not_up_packet (w.endpoints q.0).node.identity.me.0 me.0 r.name in
             record {
               more = record { next = ghost sys q low_q (Some (question_packet me.0 r.name (numbers floors))) (packet ∷ []) asked call refl; keeps = λ k was. inr was };
