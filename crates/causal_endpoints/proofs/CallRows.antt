@@ -56,18 +56,10 @@ ReadsBack = (run : RunId) (p : Head × Contents) → IsRun run → IsParcel run 
 pub read_is : {A : Type 0} (r : Result A WireFault) (x y : A) → r ≡ Ok x → r ≡ Ok y → x ≡ y
 read_is r x y a b = cc
 
--- whether a packet is a question, and of whom, in which round
+-- whether a packet is a question
 abbrev pub is_question : Sent → Bool
 is_question (question_packet from name view) = true
 is_question _ = false
-
-abbrev asker_of : Sent → ℕ
-asker_of (question_packet from name view) = from
-asker_of _ = 0
-
-abbrev round_of : Sent → ℕ
-round_of (question_packet from name view) = name
-round_of _ = 0
 
 -- one of one, or of none
 pub one_among : {X : Type 0} (P : X → Type 0) (x : X) → P x → (y : X) → IsListed (x ∷ []) y → P y
@@ -252,7 +244,7 @@ module _ (back : ReadsBack) (past : List Entry) (e : EndpointState) (k : IsEndpo
         takes = refl;
         parcels = λ b there. absurd there;
         requests = λ j there. absurd there;
-        questions = λ from x view was. elim was [ inl is ↦ (sym (ap asker_of is), inl (ap round_of is)) | inr none ↦ absurd none ];
+        questions = λ from x view was. elim was [ inl is ↦ (cc, inl cc) | inr none ↦ absurd none ];
       }
 
   asks : (now : ℕ) (to : Pid) → recovering.question_fault e now to ≡ None

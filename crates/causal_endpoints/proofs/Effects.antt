@@ -74,12 +74,6 @@ record SameCounts (old new : NodeState) : Type 0 where
 reply_counts : (s : NodeState) (view : List ℕ) → SameCounts s (node_after_answer s view)
 reply_counts s view = record { lane = grind arith; kept = grind arith; up = grind arith }
 
-round_counts : (s : NodeState) (change : RoundState → RoundState) → SameCounts s (with_recovery s (map_round change s.recovery))
-round_counts s change = record { lane = refl; kept = refl; up = grind arith }
-
-number_counts : (s : NodeState) (q : Pid) (number name : ℕ) → reply_fault s.recovery name q ≡ None → SameCounts s (after_number s q number)
-number_counts s q number name legal = record { lane = refl; kept = refl; up = ap is_some (sym (of_round s.recovery name q legal).1) }
-
 not_up_counts : (s : NodeState) (q : Pid) (number name : ℕ) → reply_fault s.recovery name q ≡ None → SameCounts s (after_not_up s q number)
 not_up_counts s q number name legal = record { lane = grind arith; kept = grind arith; up = grind (arith, (of_round s.recovery name q legal).1) }
 
@@ -98,13 +92,13 @@ call_effect position old new taken sent entries (answer_log asker name view lega
 call_effect position old new taken sent entries (answer_not_up asker name view legal reply) later = let is = reply_counts old view in still position old new sent entries is.lane is.kept is.up (inl refl) refl
 call_effect position old new taken sent entries (answer_number asker view legal reply) later = let is = reply_counts old view in still position old new sent entries is.lane is.kept is.up (inl refl) refl
 call_effect position old new taken sent entries (begin_round name legal) later = still position old new sent entries refl refl (grind arith) (inl refl) refl
-call_effect position old new taken sent entries (take_log name lane q log legal) later = let is = round_counts old (λ r. with_log_of r q.0 log) in still position old new sent entries is.lane is.kept is.up (inl refl) refl
+call_effect position old new taken sent entries (take_log name lane q log legal) later = still position old new sent entries refl refl (grind arith) (inl refl) refl
 call_effect position old new taken sent entries (take_not_up name q legal) later = let is = not_up_counts old q (floor_of old.floors q) name legal in still position old new sent entries is.lane is.kept is.up (inl refl) refl
 call_effect position old new taken sent entries (take_other_number name q number legal other) later = let is = not_up_counts old q number name legal in still position old new sent entries is.lane is.kept is.up (inl refl) refl
-call_effect position old new taken sent entries (take_number name q number legal) later = let is = number_counts old q number name legal in still position old new sent entries is.lane is.kept is.up (inl refl) refl
+call_effect position old new taken sent entries (take_number name q number legal) later = still position old new sent entries refl refl (ap is_some (sym (of_round old.recovery name q legal).1)) (inl refl) refl
 call_effect position old new taken sent entries (take_stored r dets det gathers legal has) later =
     subst (λ (o : Recovery). Effect position old (node_after_stored old det o) [] (Stable det ∷ [])) (sym gathers) (still position old (node_after_stored old det (Some (Some r))) [] (Stable det ∷ []) refl refl (ap is_some (sym gathers)) (inr (_, refl, refl)) refl)
-call_effect position old new taken sent entries (finish_read r dets gathers legal all) later = let is = round_counts old node_after_read in still position old new sent entries is.lane is.kept is.up (inl refl) refl
+call_effect position old new taken sent entries (finish_read r dets gathers legal all) later = still position old new sent entries refl refl (grind arith) (inl refl) refl
 call_effect position old new taken sent entries (restart reserved legal) later = by old.recovery refl legal
   where
     by : (o : Recovery) → old.recovery ≡ o → node_restart_fault o ≡ None → Effect position old (after_restart_at old o reserved) [] (Restart old.identity.me (fin.keys (after_restart_at old o reserved).memory.log) ∷ [])
@@ -119,11 +113,6 @@ abbrev pub RoundEffect : NodeState → NodeState → List Sent → Type 0
 RoundEffect old new sent = (q : RoundState) → new.recovery ≡ Some (Some q)
     → ((r : RoundState) × (old.recovery ≡ Some (Some r)) × (r.name ≡ q.name) × (new.floors ≡ old.floors)) ⊎ WasSent sent (question_packet old.identity.me.0 q.name (numbers new.floors))
 
--- the name of the round, or this one
-abbrev name_in : ℕ → Recovery → ℕ
-name_in name (Some (Some q)) = q.name
-name_in name _ = name
-
 reply_rounds : (s : NodeState) (view : List ℕ) (sent : List Sent) → RoundEffect s (node_after_answer s view) sent
 reply_rounds s view sent = λ q is. inl (q, grind arith, refl, grind arith)
 
@@ -131,7 +120,7 @@ changed_round : (s : NodeState) (change : RoundState → RoundState) → ((r : R
 changed_round s change named sent = by s.recovery refl
   where
     by : (o : Recovery) → s.recovery ≡ o → RoundEffect s (with_recovery s (map_round change o)) sent
-    by (Some (Some r)) down q is = inl (r, down, sym (named r) ∙ ap (λ (o : Recovery). name_in r.name o) is, refl)
+    by (Some (Some r)) down q is = inl (r, down, cc (named r), refl)
     by _ _ q is = cc
 
 not_up_rounds : (s : NodeState) (q : Pid) (number : ℕ) (sent : List Sent) → RoundEffect s (after_not_up s q number) sent
@@ -145,12 +134,12 @@ call_rounds position old new taken sent entries (stored dets det up has) = subst
 call_rounds position old new taken sent entries (answer_log asker name view legal reply) = reply_rounds old view sent
 call_rounds position old new taken sent entries (answer_not_up asker name view legal reply) = reply_rounds old view sent
 call_rounds position old new taken sent entries (answer_number asker view legal reply) = reply_rounds old view sent
-call_rounds position old new taken sent entries (begin_round name legal) = λ q is. inr (inl (ap (λ (o : Recovery). question_packet old.identity.me.0 (name_in name o) (numbers old.floors)) is))
+call_rounds position old new taken sent entries (begin_round name legal) = λ q is. inr (inl cc)
 call_rounds position old new taken sent entries (take_log name lane p log legal) = changed_round old (λ r. with_log_of r p.0 log) (λ r. refl) sent
 call_rounds position old new taken sent entries (take_not_up name p legal) = not_up_rounds old p (floor_of old.floors p) sent
 call_rounds position old new taken sent entries (take_other_number name p number legal other) = not_up_rounds old p number sent
 call_rounds position old new taken sent entries (take_number name p number legal) = λ q is. cc
-call_rounds position old new taken sent entries (take_stored r dets det gathers legal has) = subst (λ (o : Recovery). RoundEffect old (node_after_stored old det o) []) (sym gathers) (λ q is. inl (r, gathers, ap (λ (o : Recovery). name_in r.name o) is, refl))
+call_rounds position old new taken sent entries (take_stored r dets det gathers legal has) = subst (λ (o : Recovery). RoundEffect old (node_after_stored old det o) []) (sym gathers) (λ q is. inl (r, gathers, cc, refl))
 call_rounds position old new taken sent entries (finish_read r dets gathers legal all) = changed_round old node_after_read (λ r. refl) sent
 call_rounds position old new taken sent entries (restart reserved legal) = by old.recovery refl legal
   where
