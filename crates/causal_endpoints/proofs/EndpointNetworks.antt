@@ -18,7 +18,7 @@ use Rattle.causal_rounds.specs.Rounds.{with_value_at}
 use Rattle.causal_protocol.specs.Naming.{message_name}
 use Rattle.causal_wire.specs.declared.parcel.Head.{Head}
 use Rattle.causal_wire.specs.declared.parcel.RunId.{RunId}
-use Rattle.causal_wire.specs.Parcels.{Contents, message, question, not_up, IsDet, IsRun, IsParcel}
+use Rattle.causal_wire.specs.Parcels.{Contents, message, not_up, IsDet, IsRun, IsParcel}
 use Rattle.causal_wire.specs.Bytes.{parcel_bytes}
 use Rattle.causal_wire.specs.Reading.{read_parcel}
 use Rattle.causal_node.specs.declared.node.Identity.{Identity}
