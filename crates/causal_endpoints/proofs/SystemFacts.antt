@@ -198,7 +198,6 @@ module _ (n f : ℕ) (w : System) (k : SystemFacts n f w) (me : Pid) (low : me.0
             facts_from (e ∷ []) is (uncounted_counts e w.past plain k.counted) (counts_in w.past (e ∷ w.past) me.0 new new.recovery same.0 same.1 mine_after) (λ p other. uncounted_lane e w.past p plain)
             (entries_more (e ∷ w.past) sent w.sent none (entries_older e w.past w.sent k.messages))
             kept
-
     -- a send
     facts_by (sent_one to up still_up lane more sent_is recorded) = facts_from _ recorded (k.counted, sym counts.1 ∙ ap (sends w.past) (sym mine)) mine_after (λ p other. (refl, others p other)) messages kept
       where
@@ -243,7 +242,6 @@ module _ (n f : ℕ) (w : System) (k : SystemFacts n f w) (me : Pid) (low : me.0
           | inl before ↦ kept_more sent w.sent me.0 old new i message lane (k.kept me.0 low i message before)
           | inr now ↦ subst (λ (x : SentMessage). WasMessageSent (sent ++ w.sent) me.0 new i x) now.1 (subst (λ m. WasMessageSent (sent ++ w.sent) me.0 new m (next_kept to)) (sym now.0) last)
         ]
-
     -- a restart
     facts_by (restarts listed round down up lane lost sent_is recorded) = facts_from _ recorded k.counted mine_after
         (λ p other. (cond-false (old.identity.me.0 == p) _ _ (apart p other), cond-false (old.identity.me.0 == p) _ _ (apart p other)))

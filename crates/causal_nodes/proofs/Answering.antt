@@ -215,7 +215,9 @@ module _ (n f : ℕ) (net : Network) (w : World) (reach : IsReachableWorld n f w
 
       same_told : (q : ℕ) → (q ≡ me.0 → ⊥) → (q ≡ s → ⊥) → IsUntouched w told q
       same_told q not_me not_s = assumption (
-        set_at_away w.rounds.floors me.0 new_floors q not_me, set_at_away w.rounds.rounds s (Some (with_reply r me.0 true)) q not_s, set_at_away w.gathered s (λ e. w.gathered s e || logs w.past me.0 e) q not_s,
+        set_at_away w.rounds.floors me.0 new_floors q not_me,
+        set_at_away w.rounds.rounds s (Some (with_reply r me.0 true)) q not_s,
+        set_at_away w.gathered s (λ e. w.gathered s e || logs w.past me.0 e) q not_s,
       )
 
       others_told : (q : ℕ) → q < n → (q ≡ me.0 → ⊥) → NodeFits n told (reply ∷ net.sent) q (net.nodes q)

@@ -141,14 +141,14 @@ module _ (n : ℕ) (w : World) (sent : List Sent) (new : Sent) (s : ℕ) where
     told_by_more : (d : Det) (y : ℕ) → IsToldBy w sent s nr r d y → IsToldBy w (new ∷ sent) s nr r d y
     told_by_more d y b =
         let answers : (p : Packet) → WasSent (new ∷ sent) (answer_packet nr.name p) → p.to ≡ s → p.parcel.from ≡ y → (p.parcel.carries d ≡ true) ⊎ (is_stable w.past d ≡ true)
-          = λ p was to from. elim was [ inl is ↦ answer d y b p is to from | inr old ↦ b.answers p old to from ] in
+        = λ p was to from. elim was [ inl is ↦ answer d y b p is to from | inr old ↦ b.answers p old to from ] in
         assumption
 
     pub gathering_more : GatheringFits n w sent s nr r → GatheringFits n w (new ∷ sent) s nr r
     gathering_more g =
         let told : (d : Det) → w.gathered s d ≡ true → Told n w (new ∷ sent) s nr r d = λ d has. elim (g.told d has) [ inl b ↦ inl (b.0, b.1, told_by_more d b.0 b.2) | inr h ↦ inr h ] in
         let replies : (k : Sent) → WasSent (new ∷ sent) k → is_of_round k s nr.name ≡ true → ReplyFits n w s nr r k
-          = λ k was of. elim was [ inl is ↦ subst (λ y. ReplyFits n w s nr r y) is (fits (ap (λ y. is_of_round y s nr.name) is ∙ of)) | inr old ↦ g.replies k old of ] in
+        = λ k was of. elim was [ inl is ↦ subst (λ y. ReplyFits n w s nr r y) is (fits (ap (λ y. is_of_round y s nr.name) is ∙ of)) | inr old ↦ g.replies k old of ] in
         assumption
 
   pub gathering_and_one : (nr : NodeRound) → is_of_round new s nr.name ≡ false → (r : Round) → GatheringFits n w sent s nr r → GatheringFits n w (new ∷ sent) s nr r

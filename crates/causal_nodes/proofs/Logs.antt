@@ -207,8 +207,8 @@ module _ (n f : ℕ) (net : Network) (w : World) (reach : IsReachableWorld n f w
             received = fits.received;
           })
           (λ q other.
-            let holders : shorter.knows_holder q ≡ w.knows_holder q = λ j d h. not_away (me.0 == q) (list_has listed d) (w.knows_holder q d h) (other_is me.0 q other) j in
-            let stables : shorter.knows_stable q ≡ w.knows_stable q = λ j d. not_away (me.0 == q) (list_has listed d) (w.knows_stable q d) (other_is me.0 q other) j in
-            let logged : (d : Det) → logs shorter.past q d ≡ logs w.past q d = λ d. not_away (me.0 == q) (list_has listed d) (logs w.past q d) (other_is me.0 q other) in
-            assumption)
+          let holders : shorter.knows_holder q ≡ w.knows_holder q = λ j d h. not_away (me.0 == q) (list_has listed d) (w.knows_holder q d h) (other_is me.0 q other) j in
+          let stables : shorter.knows_stable q ≡ w.knows_stable q = λ j d. not_away (me.0 == q) (list_has listed d) (w.knows_stable q d) (other_is me.0 q other) j in
+          let logged : (d : Det) → logs shorter.past q d ≡ logs w.past q d = λ d. not_away (me.0 == q) (list_has listed d) (logs w.past q d) (other_is me.0 q other) in
+          assumption),
     )

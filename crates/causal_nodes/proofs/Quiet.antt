@@ -92,7 +92,7 @@ module _ (n f : ℕ) (net : Network) (w : World) (reach : IsReachableWorld n f w
       pub asks_storage : ((q : ℕ) → q < n → (q ≡ me → ⊥) → nr.heard q ≡ true) → IsWorldOf n f (after_step (down_node x) (read_packet me nr.name nr.view ∷ net.sent))
       asks_storage all = quiet_and_one (down_node x) (read_packet me nr.name nr.view)
           (subst (λ node. NodeFits n w (read_packet me nr.name nr.view ∷ net.sent) me node) is (gathers_still w _ gathering_of.0 (later_same w) refl refl gathering_of.1
-            (gathering_and_reply n w net.sent me nr gathering_of.0 (read_packet me nr.name nr.view) (λ name p e. absurd (let h : read_packet me nr.name nr.view ≡ answer_packet name p = e in cc)) (gathering_of.2.view, all) gathering_of.2)))
+          (gathering_and_reply n w net.sent me nr gathering_of.0 (read_packet me nr.name nr.view) (λ name p e. absurd (let h : read_packet me nr.name nr.view ≡ answer_packet name p = e in cc)) (gathering_of.2.view, all) gathering_of.2)))
           (λ q other name. and_left (me == q) (nr.name == name) (other_is me q other))
           (low, λ z low_z. let e = gathering_of.2.view z low_z in let t = (invariant n f net w reach rep).rounds.views_told me z gathering_of.0 gathering_of.1 in omega (arith, e, t))
 

@@ -63,10 +63,10 @@ module _ (n f : ℕ) (net : Network) (w : World) (reach : IsReachableWorld n f w
         nodes_and_one n fallen net.sent net.nodes who.0 (down_node (fallen_node a.lane))
             (record { is_down = set_at_here w.rounds.down who.0 true; lane = fits.lane; told = λ z low_z. omega arith; round = no_round who.0 fits.is_up })
             (λ q low_q other.
-              let holders : fallen.knows_holder q ≡ w.knows_holder q = λ j d h. not_away (who.0 == q) (w.knows_holder q d h) (other_is who.0 q other) j in
-              let stables : fallen.knows_stable q ≡ w.knows_stable q = λ j d. not_away (who.0 == q) (w.knows_stable q d) (other_is who.0 q other) j in
-              let logged : (d : Det) → logs fallen.past q d ≡ logs w.past q d = λ d. not_away (who.0 == q) (logs w.past q d) (other_is who.0 q other) in
-              node_kept n w fallen later_fallen q (assumption (set_at_away w.rounds.down who.0 true q other)) net.sent (net.nodes q) (rep.nodes q low_q)),
+            let holders : fallen.knows_holder q ≡ w.knows_holder q = λ j d h. not_away (who.0 == q) (w.knows_holder q d h) (other_is who.0 q other) j in
+            let stables : fallen.knows_stable q ≡ w.knows_stable q = λ j d. not_away (who.0 == q) (w.knows_stable q d) (other_is who.0 q other) j in
+            let logged : (d : Det) → logs fallen.past q d ≡ logs w.past q d = λ d. not_away (who.0 == q) (logs w.past q d) (other_is who.0 q other) in
+            node_kept n w fallen later_fallen q (assumption (set_at_away w.rounds.down who.0 true q other)) net.sent (net.nodes q) (rep.nodes q low_q)),
         packets_later n w fallen later_fallen net.sent rep.packets,
       ),
     )
@@ -257,9 +257,14 @@ module _ (n f : ℕ) (net : Network) (w : World) (reach : IsReachableWorld n f w
 
     same : (q : ℕ) → (q ≡ me.0 → ⊥) → IsUntouched w risen q
     same q other = assumption (
-      set_at_away w.rounds.down me.0 false q other, set_at_away w.rounds.lane me.0 (w.rounds.lane me.0 + 1) q other, set_at_away w.rounds.floors me.0 r.view q other, set_at_away w.rounds.rounds me.0 None q other,
-      set_at_away w.knows_holder me.0 node.log.holder q other, set_at_away w.knows_stable me.0 node.log.stable q other,
-      away_or (me.0 == q) (list_has listed) (logs w.past q) (other_is me.0 q other), cond-false (me.0 == q) 0 (deliveries w.past q) (other_is me.0 q other),
+      set_at_away w.rounds.down me.0 false q other,
+      set_at_away w.rounds.lane me.0 (w.rounds.lane me.0 + 1) q other,
+      set_at_away w.rounds.floors me.0 r.view q other,
+      set_at_away w.rounds.rounds me.0 None q other,
+      set_at_away w.knows_holder me.0 node.log.holder q other,
+      set_at_away w.knows_stable me.0 node.log.stable q other,
+      away_or (me.0 == q) (list_has listed) (logs w.past q) (other_is me.0 q other),
+      cond-false (me.0 == q) 0 (deliveries w.past q) (other_is me.0 q other),
     )
 
     pub restarts : IsWorldOf n f (record { past = Restart me listed ∷ net.past; nodes = with_value_at net.nodes me.0 (up_node node); sent = net.sent; stored = net.stored; floors = net.floors })

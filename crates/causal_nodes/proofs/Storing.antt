@@ -88,7 +88,7 @@ module _ (n f : ℕ) (net : Network) (w : World) (reach : IsReachableWorld n f w
       fenced,
       next_world w fenced reach (world.refuse n fence (invariant n f net w reach rep).storage.up (λ z. le-max_left (w.rounds.floors n z) (bounded n view z)) (λ z. max-le ((invariant n f net w reach rep).rounds.floors_told n z) (bounded_told n w view question.1 z))),
       let floors : (z : ℕ) → z < n → fenced.rounds.floors n z ≡ raised net.floors view z = λ z low_z. (λ j. set_at_here w.rounds.floors n fence j z) ∙ (λ j. max (rep.floors z low_z j) (bounded_is n view z low_z j)) in
-      assumption (packets_and_one n w fenced later_fenced net.sent new rep.packets (λ d h. rep.stored d ∙ h)),
+          assumption (packets_and_one n w fenced later_fenced net.sent new rep.packets (λ d h. rep.stored d ∙ h)),
     )
 
     unread : is_in_round name (net.nodes s) ≡ false → IsWorldOf n f after_read
@@ -158,7 +158,9 @@ module _ (n f : ℕ) (net : Network) (w : World) (reach : IsReachableWorld n f w
 
         same : (q : ℕ) → q < n → (q ≡ s → ⊥) → IsUntouched w after_reply q
         same q low_q other = assumption (
-          set_at_away w.rounds.floors n raised_fence q (λ e. omega (arith, low_q, e)), set_at_away w.rounds.rounds s (Some (with_reply r n true)) q other, set_at_away w.gathered s (λ e. w.gathered s e || w.stored e) q other,
+          set_at_away w.rounds.floors n raised_fence q (λ e. omega (arith, low_q, e)),
+          set_at_away w.rounds.rounds s (Some (with_reply r n true)) q other,
+          set_at_away w.gathered s (λ e. w.gathered s e || w.stored e) q other,
         )
 
         nodes : (q : ℕ) → q < n → NodeFits n after_reply (new ∷ net.sent) q (net.nodes q)
@@ -173,7 +175,7 @@ module _ (n f : ℕ) (net : Network) (w : World) (reach : IsReachableWorld n f w
           next_world w after_reply reach (world.read s r raised_fence found.1 (λ q low_q other. found.2.heard q low_q (its_read.1 q low_q other)) (λ z. le-max_left (w.rounds.floors n z) (r.view z)) (λ z. le-max_right (w.rounds.floors n z) (r.view z))
               (λ z. max-le ((invariant n f net w reach rep).rounds.floors_told n z) ((invariant n f net w reach rep).rounds.views_told s z r found.1))),
           let floors : (z : ℕ) → z < n → after_reply.rounds.floors n z ≡ raised net.floors view z = λ z low_z. (λ j. set_at_here w.rounds.floors n raised_fence j z) ∙ (λ j. max (rep.floors z low_z j) (sym (its_read.0 z low_z) j)) in
-          assumption (nodes, packets_and_one n w after_reply later_reply net.sent new rep.packets (λ d h. rep.stored d ∙ h)),
+              assumption (nodes, packets_and_one n w after_reply later_reply net.sent new rep.packets (λ d h. rep.stored d ∙ h)),
         )
 
       read_in_round : IsWorldOf n f after_read

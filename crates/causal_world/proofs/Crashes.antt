@@ -74,7 +74,12 @@ module _ (n f : ℕ) (w : World) (k : WorldInvariant n f w) where
     pub crash_preserves : WorldInvariant n f after
     crash_preserves = assumption (
       next_state _ _ _ _ k.reached (crashes {w = volatile_of n after} who (assumption (knew, rounds_bring_nothing n w after falls k.rounds absent_still (λ i. refl) (λ i. refl) k.lanes))),
-      round_step_preserves w.rounds fallen falls k.rounds, dets, absent_still, own_logged, down_after, set_at_away w.rounds.down who.0 true n (λ e. omega (arith, low, e)) ∙ k.storage.up,
+      round_step_preserves w.rounds fallen falls k.rounds,
+      dets,
+      absent_still,
+      own_logged,
+      down_after,
+      set_at_away w.rounds.down who.0 true n (λ e. omega (arith, low, e)) ∙ k.storage.up,
     )
 
   pub learn_preserves : (p i : ℕ) (t : Packet) (known : ℕ → Det → ℕ → Bool) → w.rounds.down p ≡ false → w.packets i ≡ Some t → t.to ≡ p → w.rounds.floors p t.parcel.from ≤ t.lane
@@ -82,22 +87,22 @@ module _ (n f : ℕ) (w : World) (k : WorldInvariant n f w) where
       → ((x : ℕ) (d : Det) (q : ℕ) → w.knows_holder x d q ≡ true → known x d q ≡ true)
       → WorldInvariant n f (record w { knows_holder = known })
   learn_preserves p i t known up at to floor new keeps =
-    assumption (next_state w.past w.past (volatile_of n w) (volatile_of n (record w { knows_holder = known })) k.reached (silent (learns p (record {
-      new_holders = λ x d q h. elim (new x d q h) [
-        | inl old ↦ inl old
-        | inr (is, logs_d, named) ↦ inr (is, logs_d, (t.parcel, in_transit_of n w i t at (is_accepted (suc n) w.rounds (carrier_of t) (by_floor (ap w.rounds.down to ∙ up) (subst (λ y. w.rounds.floors y t.parcel.from ≤ t.lane) (sym to) floor))), named))
-      ];
-      keeps_holders = keeps;
-      new_stable = λ x d h. inl h;
-      nothing_new = same_brings_nothing n w (record w { knows_holder = known }) refl (λ j. refl) (λ j. refl);
-    }))))
+      assumption (next_state w.past w.past (volatile_of n w) (volatile_of n (record w { knows_holder = known })) k.reached (silent (learns p (record {
+        new_holders = λ x d q h. elim (new x d q h) [
+          | inl old ↦ inl old
+          | inr (is, logs_d, named) ↦ inr (is, logs_d, (t.parcel, in_transit_of n w i t at (is_accepted (suc n) w.rounds (carrier_of t) (by_floor (ap w.rounds.down to ∙ up) (subst (λ y. w.rounds.floors y t.parcel.from ≤ t.lane) (sym to) floor))), named))
+        ];
+        keeps_holders = keeps;
+        new_stable = λ x d h. inl h;
+        nothing_new = same_brings_nothing n w (record w { knows_holder = known }) refl (λ j. refl) (λ j. refl);
+      }))))
 
   pub confirm_preserves : (marked : ℕ → Det → Bool) → ((x : ℕ) (d : Det) → marked x d ≡ true → (w.knows_stable x d ≡ true) ⊎ (is_stable w.past d ≡ true))
       → WorldInvariant n f (record w { knows_stable = marked })
   confirm_preserves marked new =
-    assumption (next_state w.past w.past (volatile_of n w) (volatile_of n (record w { knows_stable = marked })) k.reached (silent (learns 0 (record {
-      new_holders = λ x d q h. inl h;
-      keeps_holders = λ x d q h. h;
-      new_stable = new;
-      nothing_new = same_brings_nothing n w (record w { knows_stable = marked }) refl (λ j. refl) (λ j. refl);
-    }))))
+      assumption (next_state w.past w.past (volatile_of n w) (volatile_of n (record w { knows_stable = marked })) k.reached (silent (learns 0 (record {
+        new_holders = λ x d q h. inl h;
+        keeps_holders = λ x d q h. h;
+        new_stable = new;
+        nothing_new = same_brings_nothing n w (record w { knows_stable = marked }) refl (λ j. refl) (λ j. refl);
+      }))))

@@ -132,7 +132,8 @@ module _ (n f : ℕ) (w : World) (k : WorldInvariant n f w) (to : Pid) (send rsn
       new_stable = λ x d h. h;
       nothing_new = same_brings_nothing n w after refl (λ j. refl) (λ j. refl);
     })),
-    dets, own_logged,
+    dets,
+    own_logged,
   )
     where
       logged : (d : Det) → HasOrRecovers w.past d to.0 → d.dest ≡ to → d.rsn ≡ rsn → logs w.past to.0 d ≡ true

@@ -150,7 +150,7 @@ module _ (n f : ℕ) (w : World) (k : WorldInvariant n f w) where
       rounds_preserve w.rounds.floors _ w.gathered (not_up q s r down other at fits) (λ d. det_step_preserves (det_state_of n w d) _ (det.not_up q s r down other at fits) k.rounds (k.dets d))
       (none_but (with_value_at w.rounds.rounds s said) q None low (none_but w.rounds.rounds s said (round_low s r at) none_above))
       (kept_right (with_value_at w.rounds.rounds s said) q None (λ o h. absurd (none_some o h))
-        (kept_right w.rounds.rounds s said (λ o h. subst (λ x. IsRight n w s x (w.gathered s)) (some_is (with_reply r q false) o h) (replied_right s q r false low at)) right_before))
+      (kept_right w.rounds.rounds s said (λ o h. subst (λ x. IsRight n w s x (w.gathered s)) (some_is (with_reply r q false) o h) (replied_right s q r false low at)) right_before))
     where
       said : Option Round
       said = Some (with_reply r q false)

@@ -75,7 +75,10 @@ module _ (n f : ℕ) (w : World) (p i : ℕ) (new : Packet) (s : IsSentBy n w p 
   pub acknowledge_preserves : new.parcel.send ≡ None → WorldInvariant n f (record w { packets = with_value_at w.packets i (Some new) })
   acknowledge_preserves none = assumption (
     next_state _ _ _ _ k.reached (silent {w = volatile_of n (sent w.past)} (emits p new.parcel s.of_log none (assumption) (one_is_new n w (sent w.past) i new refl (λ j. refl) (λ j. refl)))),
-    dets_sent, lanes_sent, from_still, stores_sent w.past (λ d. refl),
+    dets_sent,
+    lanes_sent,
+    from_still,
+    stores_sent w.past (λ d. refl),
   )
 
   -- a message
@@ -83,8 +86,11 @@ module _ (n f : ℕ) (w : World) (p i : ℕ) (new : Packet) (s : IsSentBy n w p 
       → WorldInvariant n f (record w { past = Send from to ssn ∷ w.past; packets = with_value_at w.packets i (Some new) })
   send_preserves from to ssn is position left_out = assumption (
     next_state _ _ _ _ k.reached
-      (sends from to ssn new.parcel (subst (λ x. IsSendStep n f w.past x (volatile_of n w) (volatile_of n next) new.parcel) (sym is) (assumption (one_is_new n w next i new refl (λ j. refl) (λ j. refl))))),
-    dets_sent, lanes_sent, from_still, stores_sent next.past (λ d. refl),
+        (sends from to ssn new.parcel (subst (λ x. IsSendStep n f w.past x (volatile_of n w) (volatile_of n next) new.parcel) (sym is) (assumption (one_is_new n w next i new refl (λ j. refl) (λ j. refl))))),
+    dets_sent,
+    lanes_sent,
+    from_still,
+    stores_sent next.past (λ d. refl),
   )
     where
       next : World

@@ -140,7 +140,8 @@ module _ (n f : ℕ) (w : World) (k : WorldInvariant n f w) where
       → WorldInvariant n f (record w { past = Stable det ∷ w.past; knows_stable = marked })
   write_preserves det marked stored new = assumption (
     next_state _ _ _ _ k.reached (writes {w = volatile_of n written_world} det (assumption (survived, same_brings_nothing n w written_world refl (λ j. refl) (λ j. refl)))),
-    dets_written, stable_stored,
+    dets_written,
+    stable_stored,
   )
     where
       written_world : World
@@ -199,7 +200,8 @@ module _ (n f : ℕ) (w : World) (k : WorldInvariant n f w) where
     pub forget_preserves : WorldInvariant n f lessened
     forget_preserves = assumption (
       next_state _ _ _ _ k.reached (forgets {w = volatile_of n lessened} who listed (assumption (knew, same_brings_nothing n w lessened refl (λ j. refl) (λ j. refl)))),
-      dets_left, own_left,
+      dets_left,
+      own_left,
     )
       where
         knew : (p : ℕ) (d : Det) → (not (who.0 == p && list_has listed d) && w.knows_stable p d) ≡ true → w.knows_stable p d ≡ true
