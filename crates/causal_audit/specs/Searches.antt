@@ -1,5 +1,5 @@
 -- The search for the deliveries that must be followed, and parts of it.
-use Rattle.std.specs.Prelude.{◌≡◌, ℕ, ◌<◌, ◌≤◌, ◌⊎◌, Contains, List, Some}
+use Rattle.std.specs.Prelude.{◌≡◌, ℕ, ◌<◌, ◌≤◌, ◌⊎◌, Contains, List, Some, length}
 use Rattle.causal_name.specs.declared.Det.{Det}
 use Rattle.causal_trace.specs.Judgement.{HasOrphan}
 use Rattle.causal_trace.specs.Numbers.{delivered_dets, number_of}
@@ -16,6 +16,10 @@ pub record SearchScope : Type 0 where
 -- the scope of a search, from its parts
 abbrev pub search_scope : Recording → ℕ → ℕ → SearchScope
 search_scope r f end = record { run = r; f = f; end = end }
+
+-- an index for the search up to the last instant of the run
+abbrev pub IsWholeIndex : Recording → ℕ → SearchScope → Type 0
+IsWholeIndex r f index = index ≡ search_scope r f (length r.past)
 
 -- the scope in which these deliveries are followed
 abbrev pub scope_of : FollowedDeliveries → SearchScope

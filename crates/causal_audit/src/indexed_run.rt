@@ -128,6 +128,35 @@ impl IndexedRun {
         self.positions.len() as u32
     }
 
+    /// Returns about how many steps a search takes for the deliveries with numbers below this one: one for each, and one
+    /// for each mention of its determinant.
+    fn steps_before(&self, number: u32) -> u64 {
+        u64::from(number).saturating_add(
+            self.index.mentions.lists.room_before(number as usize) as u64,
+        )
+    }
+
+    /// Returns where the last of so many shares begins into which the search from number `from` to below `to` is divided, so
+    /// that each takes about as many steps. O(log deliveries) time.
+    pub fn last_share(&self, from: u32, to: u32, shares: u32) -> u32
+        requires { from ≤ to }
+        ensures { (from ≤ result) × (result ≤ to) }
+    {
+        let all = self.steps_before(to);
+        let share = all.saturating_sub(self.steps_before(from)) / u64::from(shares.max(1));
+        let mut low = from;
+        let mut high = to;
+        while low < high {
+            let mid = low + (high - low) / 2;
+            if self.steps_before(mid) < all.saturating_sub(share) {
+                low = mid + 1;
+            } else {
+                high = mid;
+            }
+        }
+        low
+    }
+
     /// Returns the deliveries before the end that must be followed, of those whose determinant is last delivered by a
     /// delivery numbered `from` to below `to`. The trace must be the one that was indexed. So the parts of a search are
     /// disjoint, and several threads can take one each.

@@ -1,8 +1,8 @@
 //! A trace is prepared by several workers, who share its indexing and the search for the deliveries that must be followed.
-ghost use Rattle.std.specs.Prelude.{◌≡◌, ◌≤◌, ℕ, IfOk};
+ghost use Rattle.std.specs.Prelude.{◌≡◌, ◌≤◌, ℕ, IfOk, IfSome, length};
 ghost use Rattle.causal_audit.specs.Breaches.{FirstExcess, IsHorizon};
 ghost use Rattle.causal_audit.specs.Parts.{AreSufficient};
-ghost use Rattle.causal_audit.specs.Searches.{IsSearched, delivery_count};
+ghost use Rattle.causal_audit.specs.Searches.{IsSearched, IsWholeIndex, delivery_count, search_scope};
 
 use causal_audit::{
     EffectIndex, Excess, IndexedRun, OpenDeliveries, PrefixIndex, PreparedRun, TransitionIndex,
@@ -37,11 +37,11 @@ pub(crate) fn prepare_by<R: Threads>(
     ensures sufficient { IfOk result (λ ready. (end : ℕ) × IsHorizon trace.now.recording f ready.1 end
         × AreSufficient trace.now.recording f end ready.0) }
 {
-    let (effects, (transitions, excess)) = index_whole_by(rt, alloc, trace, f, workers);
+    let ((excess, whole), (effects, transitions)) = index_whole_by(rt, alloc, trace, f, workers);
     let effects = effects?;
     let transitions = transitions?;
     let (early, end) = index_early(alloc, trace, f, &excess, transitions, effects)?;
-    let prefix = PrefixIndex::of(alloc, trace, f, end)?;
+    let prefix = prefix_index(alloc, trace, f, end, whole)?;
     let indexed = early.with_prefix(alloc, trace, prefix)?;
     let found = search_by(rt, alloc, trace, &indexed, 0, indexed.deliveries(), workers)?;
     let prepared = PreparedRun::from_search(indexed, found)?;
@@ -49,7 +49,7 @@ pub(crate) fn prepare_by<R: Threads>(
 }
 
 /// Indexes the whole run, and finds its first excess. If the run is long, several workers do so, each by a pass over all
-/// entries.
+/// entries, and one of them already indexes all determinants, which mostly are needed.
 fn index_whole_by<R: Threads>(
     rt: &R,
     alloc: Global,
@@ -57,51 +57,101 @@ fn index_whole_by<R: Threads>(
     f: u16,
     workers: u32,
 ) -> (
-    Result<EffectIndex, NoMemory>,
-    (Result<TransitionIndex, NoMemory>, Option<Excess>),
+    (Option<Excess>, Option<PrefixIndex>),
+    (
+        Result<EffectIndex, NoMemory>,
+        Result<TransitionIndex, NoMemory>,
+    ),
 )
-    ensures effects { IfOk result.0 (λ effects. effects ≡ trace.now.recording) }
-    ensures transitions { IfOk result.1.0 (λ transitions. transitions ≡ trace.now.recording) }
-    ensures excess { FirstExcess trace.now.recording f result.1.1 }
+    ensures excess { FirstExcess trace.now.recording f result.0.0 }
+    ensures whole { IfSome result.0.1 (IsWholeIndex trace.now.recording f) }
+    ensures effects { IfOk result.1.0 (λ effects. effects ≡ trace.now.recording) }
+    ensures transitions { IfOk result.1.1 (λ transitions. transitions ≡ trace.now.recording) }
 {
     if workers < 2 || trace.len() < LEAST_INDEXED {
         return (
-            EffectIndex::of(alloc, trace),
-            index_transitions_by(rt, alloc, trace, f, 1),
+            (first_excess_in(trace, f), None),
+            index_run_by(rt, alloc, trace, 1),
         );
     }
     let others = workers - 1;
-    let index_effects = move || -> Result<EffectIndex, NoMemory>
-        ensures { IfOk result (λ effects. effects ≡ trace.entry.now.recording) }
-    { EffectIndex::of(alloc, trace) };
-    let index_transitions = move || -> (Result<TransitionIndex, NoMemory>, Option<Excess>)
-        ensures transitions { IfOk result.0 (λ transitions. transitions ≡ trace.entry.now.recording) }
-        ensures excess { FirstExcess trace.entry.now.recording f result.1 }
-    { index_transitions_by(rt, alloc, trace, f, others) };
-    join(rt, index_effects, index_transitions)
+    let index_ahead = move || -> (Option<Excess>, Option<PrefixIndex>)
+        ensures excess { FirstExcess trace.entry.now.recording f result.0 }
+        ensures whole { IfSome result.1 (IsWholeIndex trace.entry.now.recording f) }
+    { index_ahead(alloc, trace, f) };
+    let index_run = move || -> (
+        Result<EffectIndex, NoMemory>,
+        Result<TransitionIndex, NoMemory>,
+    )
+        ensures effects { IfOk result.0 (λ effects. effects ≡ trace.entry.now.recording) }
+        ensures transitions { IfOk result.1 (λ transitions. transitions ≡ trace.entry.now.recording) }
+    { index_run_by(rt, alloc, trace, others) };
+    join(rt, index_ahead, index_run)
 }
 
-/// Indexes the crashes and restarts of a run, and finds its first excess; with several workers at the same time.
-fn index_transitions_by<R: Threads>(
+/// Indexes the effects of the events of a run, and its crashes and restarts; with several workers at the same time.
+fn index_run_by<R: Threads>(
     rt: &R,
     alloc: Global,
     trace: &Trace,
-    f: u16,
     workers: u32,
-) -> (Result<TransitionIndex, NoMemory>, Option<Excess>)
-    ensures transitions { IfOk result.0 (λ transitions. transitions ≡ trace.now.recording) }
-    ensures excess { FirstExcess trace.now.recording f result.1 }
+) -> (
+    Result<EffectIndex, NoMemory>,
+    Result<TransitionIndex, NoMemory>,
+)
+    ensures effects { IfOk result.0 (λ effects. effects ≡ trace.now.recording) }
+    ensures transitions { IfOk result.1 (λ transitions. transitions ≡ trace.now.recording) }
 {
     if workers < 2 {
-        return (TransitionIndex::of(alloc, trace), first_excess_in(trace, f));
+        return (
+            EffectIndex::of(alloc, trace),
+            TransitionIndex::of(alloc, trace),
+        );
     }
-    let index = move || -> Result<TransitionIndex, NoMemory>
+    let index_effects = move || -> Result<EffectIndex, NoMemory>
+        ensures { IfOk result (λ effects. effects ≡ trace.entry.now.recording) }
+    { EffectIndex::of(alloc, trace) };
+    let index_transitions = move || -> Result<TransitionIndex, NoMemory>
         ensures { IfOk result (λ transitions. transitions ≡ trace.entry.now.recording) }
     { TransitionIndex::of(alloc, trace) };
-    let find_excess = move || -> Option<Excess>
-        ensures { FirstExcess trace.entry.now.recording f result }
-    { first_excess_in(trace, f) };
-    join(rt, index, find_excess)
+    join(rt, index_effects, index_transitions)
+}
+
+/// Finds the first excess, and indexes the determinants of the whole run, if it has none; without memory it does not.
+fn index_ahead(alloc: Global, trace: &Trace, f: u16) -> (Option<Excess>, Option<PrefixIndex>)
+    ensures excess { FirstExcess trace.now.recording f result.0 }
+    ensures whole { IfSome result.1 (IsWholeIndex trace.now.recording f) }
+{
+    let excess = first_excess_in(trace, f);
+    if excess.is_some() {
+        return (excess, None);
+    }
+    let whole = PrefixIndex::of(alloc, trace, f, trace.len());
+    (excess, whole.ok())
+}
+
+/// Returns the index of the determinants before the instant `end`: that of the whole run, if it is there and `end` is its
+/// last instant.
+///
+/// # Errors
+/// `NoMemory` if allocation fails.
+fn prefix_index(
+    alloc: Global,
+    trace: &Trace,
+    f: u16,
+    end: u32,
+    whole: Option<PrefixIndex>,
+) -> Result<PrefixIndex, NoMemory>
+    requires within { end ≤ length trace.now.recording.past }
+    requires whole { IfSome whole (IsWholeIndex trace.now.recording f) }
+    ensures { IfOk result (λ index. index ≡ search_scope trace.now.recording f end) }
+{
+    if let Some(index) = whole {
+        if end == trace.len() {
+            return Ok(index);
+        }
+    }
+    PrefixIndex::of(alloc, trace, f, end)
 }
 
 /// Searches the part from number `from` to below number `to`: the last deliveries by a thread of its own, those before
@@ -124,7 +174,7 @@ fn search_by<R: Threads>(
     if workers < 2 || many / workers < LEAST {
         return indexed.open_deliveries(alloc, trace, from, to);
     }
-    let mid = to - many / workers;
+    let mid = indexed.last_share(from, to, workers);
     let search_last = move || -> Result<OpenDeliveries, NoMemory>
         requires same { trace.now.recording ≡ indexed.now.run }
         requires within { to ≤ delivery_count indexed.now }

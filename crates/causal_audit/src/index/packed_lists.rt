@@ -51,6 +51,14 @@ impl PackedLists {
             None => &[],
         }
     }
+
+    /// Returns how many positions the lists before this number have room for: those of all lists, if there is no such list.
+    pub fn room_before(&self, number: usize) -> usize {
+        match self.spans.get(number) {
+            Some(span) => span.begin as usize,
+            None => self.positions.len(),
+        }
+    }
 }
 
 /// Numbered lists under construction, each with a fixed capacity. The model is these lists and their capacities.
