@@ -24,11 +24,14 @@ use Rattle.causal_log.specs.declared.known.Known.{Known}
 use Rattle.causal_log.specs.declared.table.SlotKey.{SlotKey}
 use Rattle.causal_log.specs.Slots.{is_of_slot}
 use Rattle.causal_log.specs.Inside.Ranks.{IsAmong, IsLeastOfSlot, lesser_det}
-use Rattle.causal_log.specs.Inside.KeyWords.{same_slot_key_is}
 use Rattle.causal_log.specs.Inside.Tables.{HasSlotKey, IsNotLater, is_later, slot_key, same_slot_key}
 use Rattle.causal_log.proofs.EntryLemmas.{below}
 use Rattle.causal_log.proofs.Lemmas.Ascents.{before_trans}
 use Rattle.causal_log.proofs.Lemmas.Searches.{both, or_right}
+
+-- equal keys are one
+same_slot_key_is : (p q : SlotKey) → same_slot_key p q ≡ true → p ≡ q
+same_slot_key_is p q h = grind (arith, both, eqb-true)
 
 same_slot_key_itself : (p : SlotKey) → same_slot_key p p ≡ true
 same_slot_key_itself p = grind (arith, nat_tests)

@@ -13,7 +13,7 @@ ghost use Rattle.causal_log.specs.declared.known.Known.{Known};
 ghost use Rattle.causal_log.specs.Knowledge.{union_with, is_carried};
 ghost use Rattle.causal_log.specs.Logs.{is_forgotten, log_of, item_of, batch_items, after_learn, IsLogged, after_absorb, after_learn_all};
 ghost use Rattle.causal_log.specs.Inside.Ranks.{IsLeastOfSlot, has_rank, lesser_det};
-ghost use Rattle.causal_log.specs.Inside.Tables.{HasSlotKey, is_later, key_word, slot_key, same_slot_key};
+ghost use Rattle.causal_log.specs.Inside.Tables.{HasSlotKey, is_later, slot_key, same_slot_key};
 
 use crate::batch::Item;
 use crate::hashing::SeededState;
@@ -23,40 +23,14 @@ use causal_name::{Det, NoMemory, Pid, Slot};
 use indexmap::IndexMap;
 use indexmap::map::Entry;
 use std::alloc::Global;
-use std::hash::{Hash, Hasher};
 use std::marker::Model;
 
 /// The key of an entry: its determinant's slot, and a number that tells apart entries of one slot. In a run each slot
 /// has one entry, whose number is 0. Of two whole words, a key is copied faster than one of three halves.
-#[derive(Clone, Copy, PartialEq, Eq)]
+#[derive(Clone, Copy, PartialEq, Eq, Hash)]
 pub(crate) struct SlotKey {
     pub slot: Slot,
     pub number: u64,
-}
-
-impl SlotKey {
-    /// Returns a word that few keys share: none in a run, and of one slot none whose numbers are below 2^24.
-    fn word(self) -> u64
-        ensures { result ≡ key_word self }
-    {
-        let place = u64::from(self.slot.dest.0) * 4_294_967_296 + u64::from(self.slot.rsn);
-        place.wrapping_add(self.number.wrapping_mul(1_099_511_627_776))
-    }
-}
-
-/// A key is hashed as one word: three parts would take a step of the hasher each.
-impl Hash for SlotKey {
-    ghost use Rattle.std.specs.Hash as fed;
-    ghost use Rattle.causal_log.specs.Inside.Tables.{key_word};
-    ghost use Rattle.causal_log.specs.Inside.KeyWords.{same_words};
-
-    ghost hash_input = { λ key. fed.u64 (key_word key) };
-
-    ghost respects_eq = { same_words };
-
-    fn hash<H: Hasher>(&self, state: &mut H) {
-        state.write_u64(self.word());
-    }
 }
 
 /// Tables with a larger capacity leave a smaller share of it unused: an eighth.
