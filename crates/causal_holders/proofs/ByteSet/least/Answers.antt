@@ -14,7 +14,7 @@ pub returns-in_err-word : goal.returns-in_err-word
 returns-in_err-word c =
     let first : FirstUsed c.self.inside.words c.position.result = IsFirst-from_position _ _ c.position.result (λ w. 0 < w) (λ w. w ≡ 0) c.position.ensures.ran (YieldsList-from_slice c.self.inside.words cc) (λ x q k. search (rules, tests)) (λ x q k. search (rules, tests)) in
     let none : FirstUsed c.self.inside.words None = subst (FirstUsed c.self.inside.words) c.in_err-word.was first in
-    rw c.from_residual.ensures (sym c.self.view_is ∙ shown_empty c.self.inside.words c.self.invariant (λ i below. none i 0 (omega arith) (omega (arith, c.self.invariant.count))))
+    rw c.from_residual.ensures (sym c.self.view_is ∙ shown_empty c.self.inside.words (λ i below. none i 0 (omega arith) (omega (arith, c.self.invariant.count))))
 
 pub returns : goal.returns
 returns c =
