@@ -1,9 +1,9 @@
 -- The index of the newest receipt of a determinant, in the chain of its message.
 use Rattle.std.proofs.lemmas.Grind.{common_steps}
-use Rattle.std.proofs.Common.{ℕ, ◌≡◌, ◌+◌, ◌<◌, Bool, true, false, cond, ◌==◌, List, [], ◌∷◌, length, get_or, reverse, Option, Some, None, refl, ap, arith}
-use Rattle.std.specs.Prelude.{nat_lt, ◌&&◌}
+use Rattle.std.proofs.Common.{ℕ, ◌≡◌, ◌+◌, ◌<◌, true, false, cond, ◌==◌, List, [], ◌∷◌, length, get_or, reverse, Option, Some, None, refl, arith}
+use Rattle.std.specs.Prelude.{nat_lt, ◌&&◌, IfSome}
 use Rattle.std.specs.Option.{option_map_or}
-use Rattle.std.proofs.lemmas.Bool.{eq-eqb, eqb-true, ne_eqb, cond-true, cond-false, cases_Bool, false≢true, le-ltb}
+use Rattle.std.proofs.lemmas.Bool.{eqb-true, cond-true, cond-false, cases_Bool}
 use Rattle.std.proofs.lemmas.Bool.Decides.{eqb_tells}
 use Rattle.causal_name.specs.declared.MsgName.{MsgName}
 use Rattle.causal_name.specs.declared.Det.{Det}
@@ -15,15 +15,14 @@ use Rattle.causal_trace.proofs.ReceiptChains.{below_higher, head_leads, leads_on
 
 -- a newer node is in no chain of older nodes
 place_skips : (n : ℕ) (d : Det) (node : ReceiptNode) (older : List ReceiptNode) (at : Option ℕ) → IsPlaceBelow at (length older) → receipt_index n d (node ∷ older) at ≡ receipt_index n d older at
-place_skips n d node older None h = refl
-place_skips n d node older (Some k) h = cond-false (k == length older) _ _ (ne_eqb k (length older) (λ is. omega (arith, h, is)))
+place_skips n d node older at h = grind (arith, eqb_tells)
 
 -- the newest node begins the chain from its index
 place_begins : (n : ℕ) (d : Det) (node : ReceiptNode) (older : List ReceiptNode) → receipt_index n d (node ∷ older) (Some (length older)) ≡ cond (nat_lt (length older) n && is_receipt_of d node.receipt) (Some (length older)) (receipt_index n d older node.next)
-place_begins n d node older = cond-true (length older == length older) _ _ (eq-eqb (length older) (length older) refl)
+place_begins n d node older = grind (arith, eqb_tells)
 
 -- a search from a node finds the node's own index, or continues at the linked node
-abbrev GoesOn : ℕ → Det → List ReceiptNode → ReceiptNode → ℕ → Type 0
+abbrev pub GoesOn : ℕ → Det → List ReceiptNode → ReceiptNode → ℕ → Type 0
 GoesOn n d nodes node k = receipt_index n d nodes (Some k) ≡ cond (nat_lt k n && is_receipt_of d node.receipt) (Some k) (receipt_index n d nodes node.next)
 
 pub place_on : (n : ℕ) (d : Det) (nodes : List ReceiptNode) (k : ℕ) (x : ReceiptNode) → LeadDown nodes → k < length nodes → GoesOn n d nodes (get_or (reverse nodes) k x) k
@@ -34,8 +33,7 @@ place_on n d (node ∷ older) k x down h =
 -- an empty chain has no such receipt
 pub place_none : (n : ℕ) (d : Det) (nodes : List ReceiptNode) (at : Option ℕ) → ((k : ℕ) → at ≡ Some k → ⊥) → receipt_index n d nodes at ≡ None
 place_none n d [] at h = refl
-place_none n d (node ∷ older) None h = place_none n d older None h
-place_none n d (node ∷ older) (Some k) h = absurd (h k refl)
+place_none n d (node ∷ older) at h = grind (arith, place_none n d older at h)
 
 -- after one more receipt, a search finds it if it matches, and otherwise what it found before
 pub receipt_placed : (heads : Heads) (nodes : List ReceiptNode) (m : MsgName) (n : ℕ) (d : Det) (receipt : MessageReceipt) → HasHead heads m → AreLinked heads nodes
@@ -53,20 +51,20 @@ receipt_placed heads nodes m n d receipt has linked =
 -- ---- an older receipt with the same determinant
 
 begins_at : (at : Option ℕ) (n : ℕ) → option_map_or (λ k. k == n) at false ≡ true → at ≡ Some n
-begins_at None n h = absurd (false≢true h)
-begins_at (Some k) n h = ap (λ i. Some i) (eqb-true k n h)
+begins_at at n h = grind (arith, eqb-true)
 
 -- an index that is found is that of a node
 pub place_within : (n : ℕ) (d : Det) (nodes : List ReceiptNode) (at : Option ℕ) (m : ℕ) → receipt_index n d nodes at ≡ Some m → m < length nodes
 place_within n d [] at m is = absurd (let x : None ≡ Some m = is in cc)
 place_within n d (node ∷ older) at m is = grind (arith, cond-true, place_within n d older node.next m, cond-false, place_within n d older at m)
 
--- a node after the first m is not among them
-too_late : (k m : ℕ) (b : Bool) → m < k → (nat_lt k m && b) ≡ false
-too_late k m b later = ap (λ c. c && b) (le-ltb k m (omega (arith, later)))
+-- it is among those searched for
+pub place_among : (n : ℕ) (d : Det) (nodes : List ReceiptNode) (at : Option ℕ) → IfSome (receipt_index n d nodes at) (λ i. i < n)
+place_among n d [] at = tt
+place_among n d (node ∷ older) at = grind (arith, place_among n d older node.next, place_among n d older at)
 
 -- if the newest receipt among the first m + 1 has index m, the search from there finds the newest among the first m
 pub place_before : (d : Det) (nodes : List ReceiptNode) (at : Option ℕ) (m : ℕ) → receipt_index (m + 1) d nodes at ≡ Some m → receipt_index m d nodes at ≡ receipt_index m d nodes (Some m)
 place_before d [] at m is = refl
 place_before d (node ∷ older) at m is =
-    grind (arith, cases_Bool, cond-true, begins_at, cond-false, place_within, too_late, place_before d older node.next m, place_before d older at m)
+    grind (arith, cases_Bool, cond-true, begins_at, cond-false, place_within, place_before d older node.next m, place_before d older at m)

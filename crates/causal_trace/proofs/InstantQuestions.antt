@@ -7,13 +7,9 @@ use Rattle.causal_trace.specs.Past.{instant}
 use Rattle.causal_trace.specs.State.{past_at}
 use Rattle.causal_trace.proofs.Lemmas.Instants.{instant_past}
 
--- a process number below n passes the test
-below : (p n : ℕ) → p < n → nat_lt p n ≡ true
-below p n h = grind arith
-
 -- a process number below n passes the test with an equal m
 pub is_process : (p n m : ℕ) → n ≡ m → p < n → nat_lt p m ≡ true
-is_process p n m same h = below p m (omega (arith, same, h))
+is_process p n m same h = grind arith
 
 -- the first t entries, oldest first, are instant t of their past
 pub asked_instant : (slice entries past : List Entry) (t : ℕ) → slice ≡ entries → reverse entries ≡ past → t ≤ length past → past_at slice t ≡ instant past t

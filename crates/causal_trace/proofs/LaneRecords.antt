@@ -1,18 +1,15 @@
 -- The present lanes, after one more entry.
 use Rattle.std.proofs.lemmas.Grind.{common_steps}
-use Rattle.std.proofs.Common.{ℕ, suc, ◌≡◌, ◌+◌, ◌<◌, ◌≤◌, Bool, true, false, cond, ◌==◌, List, [], ◌∷◌, length, get_or, Option, Some, None, refl, sym, subst, arith}
-use Rattle.std.specs.Prelude.{◌||◌, ◌&&◌, not, nat_lt, IfSome, All, replicate}
+use Rattle.std.proofs.Common.{ℕ, ◌≡◌, ◌<◌, ◌≤◌, Bool, false, cond, ◌==◌, List, [], ◌∷◌, length, get_or, Option, Some, None, refl, sym, subst, arith}
+use Rattle.std.specs.Prelude.{IfSome, All, replicate}
 use Rattle.std.specs.Option.{option_map_or}
 use Rattle.std.proofs.lemmas.List.{get_or-set_same, get_or-set_other, length-set, length-replicate, get_or-replicate}
 use Rattle.causal_name.specs.declared.Pid.{Pid}
 use Rattle.causal_trace.specs.declared.entry.Entry.{Entry}
-use Rattle.causal_trace.specs.declared.entry.Entry.TheVariants.{Send, Deliver, Stable, Crash, Restart, Forget}
-use Rattle.causal_trace.specs.declared.fault.TraceFault.TheVariants.{NoProcess}
 use Rattle.causal_trace.specs.declared.lanes.LaneState.{LaneState}
-use Rattle.causal_trace.specs.Past.{is_down, lane, sends, deliveries}
-use Rattle.causal_trace.specs.Rows.{rows_within, refusal_rows, first_fault}
+use Rattle.causal_trace.specs.Past.{lane}
+use Rattle.causal_trace.specs.Rows.{rows_within, first_fault}
 use Rattle.causal_trace.specs.Inside.Index.{lane_state, first_lane, lane_after, subject, lanes_after, lanes_after_of, ArePresentLanes, CountersFit}
-use Rattle.causal_trace.proofs.Lemmas.EntryFacts.{row_fails}
 use Rattle.causal_trace.proofs.Lemmas.CountBounds.{sends_few, deliveries_few}
 
 abbrev is_of : ℕ → Entry → Bool
@@ -20,12 +17,7 @@ is_of p e = option_map_or (λ q. q.0 == p) (subject e) false
 
 -- only the lane of the entry's process changes
 pub lane_of_next : (e : Entry) (past : List Entry) (p : ℕ) → lane_state (e ∷ past) p ≡ cond (is_of p e) (lane_after e (lane_state past p)) (lane_state past p)
-lane_of_next (Send from to ssn) past p = elim (from.0 == p) as (λ b. record { down = is_down past p; restarts = lane past p; sends = cond b (sends past p + 1) (sends past p); deliveries = deliveries past p } ≡ cond b (lane_after (Send from to ssn) (lane_state past p)) (lane_state past p)) [ true ↦ refl | false ↦ refl ]
-lane_of_next (Deliver to send rsn listed) past p = elim (to.0 == p) as (λ b. record { down = is_down past p; restarts = lane past p; sends = sends past p; deliveries = cond b (deliveries past p + 1) (deliveries past p) } ≡ cond b (lane_after (Deliver to send rsn listed) (lane_state past p)) (lane_state past p)) [ true ↦ refl | false ↦ refl ]
-lane_of_next (Stable det) past p = refl
-lane_of_next (Crash who) past p = elim (who.0 == p) as (λ b. record { down = b || is_down past p; restarts = lane past p; sends = sends past p; deliveries = deliveries past p } ≡ cond b (lane_after (Crash who) (lane_state past p)) (lane_state past p)) [ true ↦ refl | false ↦ refl ]
-lane_of_next (Restart who listed) past p = elim (who.0 == p) as (λ b. record { down = not b && is_down past p; restarts = cond b (lane past p + 1) (lane past p); sends = cond b 0 (sends past p); deliveries = cond b 0 (deliveries past p) } ≡ cond b (lane_after (Restart who listed) (lane_state past p)) (lane_state past p)) [ true ↦ refl | false ↦ refl ]
-lane_of_next (Forget who listed) past p = elim (who.0 == p) as (λ b. lane_state past p ≡ cond b (lane_state past p) (lane_state past p)) [ true ↦ refl | false ↦ refl ]
+lane_of_next e past p = grind arith
 
 lanes_at : (subj : Option Pid) (n : ℕ) (e : Entry) (past : List Entry) (lanes : List LaneState) → ArePresentLanes n past lanes → (p : ℕ) (d : LaneState) → p < n → get_or (lanes_after_of subj e lanes) p d ≡ cond (option_map_or (λ q. q.0 == p) subj false) (lane_after e (lane_state past p)) (lane_state past p)
 lanes_at None n e past lanes are p d h = are.each p d h
@@ -42,12 +34,7 @@ lanes_push n e past lanes are = grind (arith, common_steps, lanes_length, lanes_
 
 lane_few : (past : List Entry) (p : ℕ) → lane past p ≤ length past
 lane_few [] p = omega arith
-lane_few (Restart who listed ∷ past) p = elim (who.0 == p) as (λ b. cond b (lane past p + 1) (lane past p) ≤ suc (length past)) [ true ↦ omega (arith, lane_few past p) | false ↦ omega (arith, lane_few past p) ]
-lane_few (Send from to ssn ∷ past) p = omega (arith, lane_few past p)
-lane_few (Deliver to send rsn listed ∷ past) p = omega (arith, lane_few past p)
-lane_few (Stable det ∷ past) p = omega (arith, lane_few past p)
-lane_few (Crash who ∷ past) p = omega (arith, lane_few past p)
-lane_few (Forget who listed ∷ past) p = omega (arith, lane_few past p)
+lane_few (e ∷ past) p = grind (arith, lane_few past p)
 
 -- no count exceeds the number of entries
 lane_has_room : (past : List Entry) (p : ℕ) → length past < 16777216 → CountersFit (lane_state past p)
@@ -57,21 +44,10 @@ lane_has_room past p h = grind (arith, lane_few, sends_few, deliveries_few)
 pub lanes_have_room : (n : ℕ) (past : List Entry) (lanes : List LaneState) → ArePresentLanes n past lanes → length past < 16777216 → All CountersFit lanes
 lanes_have_room n past lanes are short k d below = subst CountersFit (sym (are.each k d (omega (arith, are.count, below)))) (lane_has_room past k short)
 
-below_count : (a n : ℕ) → not (nat_lt a n) ≡ false → a < n
-below_count a n h = grind arith
-
-below_counts : (a b n : ℕ) → not (nat_lt a n && nat_lt b n) ≡ false → a < n
-below_counts a b n h = grind arith
-
 -- the process of a legal entry is a process of the run
 pub subject_there : (n : ℕ) (past : List Entry) (e : Entry) → first_fault n past e ≡ None → IfSome (subject e) (λ p. p.0 < n)
 unfolding rows_within
-subject_there n past (Send from to ssn) h = below_counts from.0 to.0 n (row_fails (refusal_rows n past (Send from to ssn)) h 1 (not (nat_lt from.0 n && nat_lt to.0 n), NoProcess) refl)
-subject_there n past (Deliver to send rsn listed) h = below_count to.0 n (row_fails (refusal_rows n past (Deliver to send rsn listed)) h 1 (not (nat_lt to.0 n), NoProcess) refl)
-subject_there n past (Stable det) h = tt
-subject_there n past (Crash who) h = below_count who.0 n (row_fails (refusal_rows n past (Crash who)) h 1 (not (nat_lt who.0 n), NoProcess) refl)
-subject_there n past (Restart who listed) h = below_count who.0 n (row_fails (refusal_rows n past (Restart who listed)) h 1 (not (nat_lt who.0 n), NoProcess) refl)
-subject_there n past (Forget who listed) h = below_count who.0 n (row_fails (refusal_rows n past (Forget who listed)) h 1 (not (nat_lt who.0 n), NoProcess) refl)
+subject_there n past e h = grind arith
 
 -- before any entry, each process has the initial lane
 pub no_lanes : (n : ℕ) → ArePresentLanes n [] (replicate n first_lane)

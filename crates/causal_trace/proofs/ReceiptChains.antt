@@ -1,9 +1,9 @@
 -- Chains of receipts, after one more message or receipt.
-use Rattle.std.proofs.Common.{ℕ, zero, suc, ◌≡◌, ◌+◌, ◌<◌, ◌≤◌, true, false, cond, ◌==◌, List, [], ◌∷◌, ◌++◌, length, get_or, set, reverse, Option, Some, None, refl, arith}
+use Rattle.std.proofs.Common.{ℕ, ◌≡◌, ◌+◌, ◌<◌, ◌≤◌, true, false, cond, ◌==◌, List, [], ◌∷◌, ◌++◌, length, get_or, set, reverse, Option, Some, None, refl, arith}
 use Rattle.std.specs.Option.{option_map_or}
-use Rattle.std.proofs.lemmas.Bool.{eq-eqb, ne_eqb, cond-true, cond-false}
+use Rattle.std.proofs.lemmas.Bool.{eq-eqb, cond-true, cond-false}
 use Rattle.std.proofs.lemmas.Bool.Decides.{eqb_tells}
-use Rattle.std.proofs.lemmas.List.{get_or-set_same, get_or-set_other, length-set, reverse-append, length-reverse, length-append, get_or_append_left}
+use Rattle.std.proofs.lemmas.List.{get_or-set_same, get_or-set_other, length-set, reverse-append, length-reverse, length-append, get_or_append_left, get_or_past}
 use Rattle.std.proofs.Math.Seq.{get_or-append_seam}
 use Rattle.causal_name.specs.declared.MsgName.{MsgName}
 use Rattle.causal_name.specs.Names.{same_message}
@@ -13,13 +13,11 @@ use Rattle.causal_trace.specs.Inside.Chains.{Heads, heads_of, head_of, HasHead, 
 
 -- an index below a bound is below a higher bound
 pub below_higher : (at : Option ℕ) (a b : ℕ) → a ≤ b → IsPlaceBelow at a → IsPlaceBelow at b
-below_higher None a b h k = tt
-below_higher (Some v) a b h k = omega (arith, h, k)
+below_higher at a b h k = grind arith
 
 -- a newer node is in no chain of older nodes
 pub chain_skips : (node : ReceiptNode) (older : List ReceiptNode) (at : Option ℕ) → IsPlaceBelow at (length older) → chain (node ∷ older) at ≡ chain older at
-chain_skips node older None h = refl
-chain_skips node older (Some k) h = cond-false (k == length older) _ _ (ne_eqb k (length older) (λ is. omega (arith, h, is)))
+chain_skips node older at h = grind (arith, eqb_tells)
 
 -- the links of a node
 pub record Leads (nodes : List ReceiptNode) (node : ReceiptNode) (k : ℕ) : Type 0 where
@@ -49,10 +47,7 @@ heads_replaced : (heads : Heads) (p q : ℕ) (list : List (Option ℕ)) → p < 
 heads_replaced heads p q list h = grind (arith, eqb_tells, get_or-set_same, cond-true, get_or-set_other)
 
 none_at_end : (list : List (Option ℕ)) (i : ℕ) → get_or (list ++ None ∷ []) i None ≡ get_or list i None
-none_at_end [] zero = refl
-none_at_end [] (suc i) = refl
-none_at_end (x ∷ xs) zero = refl
-none_at_end (x ∷ xs) (suc i) = none_at_end xs i
+none_at_end list i = grind (arith, get_or_append_left, get_or-append_seam list None [] None, get_or_past, length-append)
 
 opened_same : (list : List (Option ℕ)) (ssn i : ℕ) → get_or (with_next_head list ssn) i None ≡ get_or list i None
 opened_same list ssn i = elim (length list == ssn) as (λ b. get_or (cond b (list ++ None ∷ []) list) i None ≡ get_or list i None) [ true ↦ none_at_end list i | false ↦ refl ]
@@ -114,8 +109,7 @@ chain_none (node ∷ older) = chain_none older
 
 -- a walk along a chain visits descending indices
 pub walk_falls : (next : Option ℕ) (k : ℕ) → IsPlaceBelow next k → option_map_or (λ i. i + 1) next 0 < k + 1
-walk_falls None k h = omega arith
-walk_falls (Some i) k h = omega (arith, h)
+walk_falls next k h = grind arith
 
 -- an empty head has no receipts
 pub chain_ends : (nodes : List ReceiptNode) (at : Option ℕ) → ((k : ℕ) → at ≡ Some k → ⊥) → chain nodes at ≡ []

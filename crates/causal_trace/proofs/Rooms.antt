@@ -1,7 +1,7 @@
 -- The least spare capacity of several lists.
 use Rattle.std.proofs.Common.{ℕ, zero, suc, ◌+◌, ◌-◌, ◌<◌, ◌≤◌, Vec, Global, List, [], ◌∷◌, length, get_or, set, Option, arith}
 use Rattle.std.proofs.Common.{◌≡◌, ap, Ok, Err}
-use Rattle.std.specs.Prelude.{min, vec_len, vec_capacity, OnErr, Result}
+use Rattle.std.specs.Prelude.{vec_len, vec_capacity, OnErr, Result}
 use Rattle.std.specs.Vec.{with_item}
 use Rattle.std.proofs.lemmas.List.{get_or-set_same, get_or-set_other}
 use Rattle.std.proofs.Math.Nat.{min-le_left, min-le_right, le-min}
@@ -13,27 +13,23 @@ room list = vec_capacity list - vec_len list
 -- no list has less spare capacity than the least
 pub least_at : (lists : List (Vec (Option ℕ) Global)) (other p : ℕ) (d : Vec (Option ℕ) Global) → p < length lists → least_room lists other ≤ room (get_or lists p d)
 least_at [] other p d h = absurd (omega (arith, h))
-least_at (list ∷ lists) other zero d h = min-le_left (room list) (least_room lists other)
-least_at (list ∷ lists) other (suc p) d h = omega (arith, min-le_right (room list) (least_room lists other), least_at lists other p d (omega (arith, h)))
+least_at (list ∷ lists) other p d h = grind (arith, least_at lists other)
 
 -- the least spare capacity is at most that of the node array
 pub least_other : (lists : List (Vec (Option ℕ) Global)) (other : ℕ) → least_room lists other ≤ other
 least_other [] other = omega arith
 least_other (list ∷ lists) other = omega (arith, min-le_right (room list) (least_room lists other), least_other lists other)
 
-min_falls : (a b c d : ℕ) → a ≤ c + 1 → b ≤ d + 1 → min a b ≤ min c d + 1
-min_falls a b c d h k = grind arith
-
 -- one less for the node array lowers the least by at most one
 pub least_falls : (lists : List (Vec (Option ℕ) Global)) (other now : ℕ) → other ≤ now + 1 → least_room lists other ≤ least_room lists now + 1
 least_falls [] other now h = h
-least_falls (list ∷ lists) other now h = min_falls (room list) (least_room lists other) (room list) (least_room lists now) (omega arith) (least_falls lists other now h)
+least_falls (list ∷ lists) other now h = omega (arith, least_falls lists other now h)
 
 -- one less for a list and for the node array lowers the least by at most one
 pub least_set : (lists : List (Vec (Option ℕ) Global)) (p other now : ℕ) (list d : Vec (Option ℕ) Global) → p < length lists → room (get_or lists p d) ≤ room list + 1 → other ≤ now + 1 → least_room lists other ≤ least_room (set lists p list) now + 1
 least_set [] p other now list d h k l = absurd (omega (arith, h))
-least_set (first ∷ lists) zero other now list d h k l = min_falls (room first) (least_room lists other) (room list) (least_room lists now) k (least_falls lists other now l)
-least_set (first ∷ lists) (suc p) other now list d h k l = min_falls (room first) (least_room lists other) (room first) (least_room (set lists p list) now) (omega arith) (least_set lists p other now list d (omega (arith, h)) k l)
+least_set (first ∷ lists) zero other now list d h k l = omega (arith, k, least_falls lists other now l)
+least_set (first ∷ lists) (suc p) other now list d h k l = omega (arith, least_set lists p other now list d (omega (arith, h)) k l)
 
 -- a write to one list and one more node lower the least by at most one
 pub least_written : (lists : List (Vec (Option ℕ) Global)) (p k other now : ℕ) (found : Vec (Option ℕ) Global) (value : Option ℕ) → p < length lists → found ≡ get_or lists p found → other ≤ now + 1
@@ -43,8 +39,8 @@ least_written lists p k other now found value inside is falls = least_set lists 
 -- replacing a list by one with at least its spare capacity does not lower the least
 pub least_grown : (lists : List (Vec (Option ℕ) Global)) (p other : ℕ) (list d : Vec (Option ℕ) Global) → p < length lists → room (get_or lists p d) ≤ room list → least_room lists other ≤ least_room (set lists p list) other
 least_grown [] p other list d h k = absurd (omega (arith, h))
-least_grown (first ∷ lists) zero other list d h k = le-min (omega (arith, k, min-le_left (room first) (least_room lists other))) (min-le_right (room first) (least_room lists other))
-least_grown (first ∷ lists) (suc p) other list d h k = grind (arith, le-min, min-le_left, least_grown lists p other list d)
+least_grown (first ∷ lists) zero other list d h k = omega (arith, k)
+least_grown (first ∷ lists) (suc p) other list d h k = omega (arith, least_grown lists p other list d (omega (arith, h)) k)
 
 -- the least is at least n if the spare capacity of each list is
 pub least_each : (lists : List (Vec (Option ℕ) Global)) (n other : ℕ) → n ≤ other → ((k : ℕ) (d : Vec (Option ℕ) Global) → k < length lists → n ≤ room (get_or lists k d)) → n ≤ least_room lists other

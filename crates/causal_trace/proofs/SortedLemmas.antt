@@ -1,10 +1,10 @@
 -- The newest delivery with a determinant, in a sorted set.
-use Rattle.std.proofs.Common.{ℕ, ◌≡◌, ◌+◌, ◌<◌, ◌≤◌, Bool, true, false, cond, ◌==◌, List, [], ◌∷◌, ◌++◌, length, Some, None, refl, sym, ap, subst, ◌∙◌, arith}
+use Rattle.std.proofs.Common.{ℕ, ◌≡◌, ◌<◌, ◌≤◌, Bool, true, false, cond, ◌==◌, List, [], ◌∷◌, ◌++◌, length, Some, None, refl, sym, ap, ◌∙◌, arith}
 use Rattle.std.specs.Prelude.{◌&&◌}
 use Rattle.std.specs.declared.cmp.Ordering.{Ordering}
-use Rattle.std.specs.declared.cmp.Ordering.TheVariants.{Less, Equal, Greater}
+use Rattle.std.specs.declared.cmp.Ordering.TheVariants.{Less, Equal}
 use Rattle.std.specs.declared.ops.Bound.TheVariants.{Included, Excluded}
-use Rattle.std.specs.Ordering.{nat_cmp, ordering_then, ordering_reverse, is_eq, is_gt, is_lt}
+use Rattle.std.specs.Ordering.{nat_cmp, ordering_then, ordering_reverse, is_gt, is_lt}
 use Rattle.std.specs.Cmp.{nat_cmp_is, ranked, tied_itself}
 use Rattle.std.specs.BTreeSet.{BTreeSet, contains, IsKeyRangeOf}
 use Rattle.std.specs.BTreeMap.Range.{IsInRange}
@@ -53,9 +53,7 @@ by_number d i j = ap (λ r. ordering_then r (nat_cmp i j)) (tied_itself dets_tot
 
 -- of two orders, one the reverse of the other
 between : (r s a b : Ordering) → r ≡ ordering_reverse s → is_gt (ordering_then r a) ≡ false → ordering_then s b ≡ Less → (s ≡ Equal) × (b ≡ Less)
-between r Less a b is low high = absurd (false≢true (sym (subst (λ o. is_gt (ordering_then o a) ≡ false) is low)))
-between r Equal a b is low high = (refl, high)
-between r Greater a b is low high = absurd (false≢true (sym (ap is_gt high)))
+between r s a b is low high = grind arith
 
 -- the deliveries from number 0 to below number n of a determinant
 abbrev IsIn : Det → ℕ → NumberedDelivery → Type 0
@@ -99,17 +97,10 @@ module _ (s : BTreeSet NumberedDelivery) (dets : List Det) (are : (d : Det) (i :
 
 -- whether two deliveries compare as equal
 same_delivery : (a d : Det) (n i : ℕ) → is_at (delivery_cmp (with_number a n)) (with_number d i) ≡ (same_det a d && n == i)
-same_delivery a d n i = both (det_cmp a d) (nat_cmp n i) ∙ ap (λ b. b && is_eq (nat_cmp n i)) (sym (det_ties a d)) ∙ ap (λ b. same_det a d && b) (sym (nat_ties n i)) where
-  both : (r s : Ordering) → is_eq (ordering_then r s) ≡ (is_eq r && is_eq s)
-  both Less s = refl
-  both Equal s = refl
-  both Greater s = refl
+same_delivery a d n i = grind (arith, det_ties, nat_ties)
 
 choose : (a n_is : Bool) (b c : Bool) → (n_is ≡ true → b ≡ false) → b ≡ c → cond (a && n_is) true b ≡ cond n_is a c
-choose true true b c free is = refl
-choose false true b c free is = free refl
-choose true false b c free is = is
-choose false false b c free is = is
+choose a n_is b c free is = grind arith
 
 equal_turned : (i n : ℕ) → (i == n) ≡ (n == i)
 equal_turned i n = grind (arith, nat_tests)

@@ -150,6 +150,7 @@ impl Chains {
     }
 
     /// Searches as `find` does, from the node `begin` of a chain.
+    #[tactic(auto, using(crate::proofs::DeliveryPlaces::place_none))]
     pub(crate) fn find_from(&self, begin: Option<u32>, det: Det, among: usize) -> Option<u32>
         requires linked { AreLinked self.now.heads self.now.nodes }
         requires begin { IsPlaceBelow begin (length self.now.nodes) }
@@ -167,6 +168,7 @@ impl Chains {
     }
 
     /// Searches as `find_from` does, but visits at most 16 receipts.
+    #[tactic(auto, using(crate::proofs::DeliveryPlaces::place_none))]
     pub(crate) fn find_near(&self, begin: Option<u32>, det: Det, among: usize) -> Search
         requires linked { AreLinked self.now.heads self.now.nodes }
         requires begin { IsPlaceBelow begin (length self.now.nodes) }

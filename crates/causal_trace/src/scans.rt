@@ -51,6 +51,7 @@ pub(crate) fn lane(entries: &[Entry], p: Pid) -> usize
 }
 
 /// Checks whether the process is down after the first t entries.
+#[tactic(auto, using(crate::proofs::Lemmas::Instants::past_whole))]
 pub(crate) fn is_down_at(entries: &[Entry], t: usize, p: Pid) -> bool
     requires { t ≤ length entries.now }
     ensures { result ≡ past.is_down (past_at entries.now t) p.0 }
@@ -59,6 +60,7 @@ pub(crate) fn is_down_at(entries: &[Entry], t: usize, p: Pid) -> bool
 }
 
 /// Returns the number of the process's lane after the first t entries.
+#[tactic(auto, using(crate::proofs::Lemmas::Instants::past_whole))]
 pub(crate) fn lane_at(entries: &[Entry], t: usize, p: Pid) -> usize
     requires { t ≤ length entries.now }
     ensures value { result ≡ past.lane (past_at entries.now t) p.0 }
@@ -75,6 +77,7 @@ pub(crate) fn entry(entries: &[Entry], i: u32) -> Option<&Entry>
 }
 
 /// Returns the message that the entry at a position sends, if it is among the first t entries.
+#[tactic(auto, using(crate::proofs::Lemmas::Instants::past_length, crate::proofs::Lemmas::Instants::entry_there, crate::proofs::Lemmas::Instants::entry_beyond))]
 pub(crate) fn message_at(entries: &[Entry], t: usize, send: u32) -> Option<MsgName>
     requires { t ≤ length entries.now }
     ensures { result ≡ past.message_at (past_at entries.now t) send }
@@ -99,6 +102,7 @@ pub(crate) fn message_sent_at(entries: &[Entry], send: u32) -> Option<MsgName>
 }
 
 /// Checks whether the entry at a position is a send to the process.
+#[tactic(auto, using(crate::proofs::Lemmas::Instants::past_length, crate::proofs::Lemmas::Instants::entry_there, crate::proofs::Lemmas::Instants::entry_beyond))]
 pub(crate) fn is_sent_to(entries: &[Entry], send: u32, p: Pid) -> bool
     ensures { result ≡ past.is_sent_to (past_at entries.now (length entries.now)) send p.0 }
 {
@@ -145,6 +149,7 @@ pub(crate) fn det_of_next(entries: &[Entry], e: &Entry) -> Option<Det>
 }
 
 /// Returns the determinant of the delivery at a position.
+#[tactic(auto, using(crate::proofs::Lemmas::Instants::past_length, crate::proofs::Lemmas::Instants::det_there, crate::proofs::Lemmas::Instants::det_beyond))]
 pub(crate) fn det_at(entries: &[Entry], k: u32) -> Option<Det>
     ensures { result ≡ past.det_at (past_at entries.now (length entries.now)) k }
 {

@@ -88,6 +88,7 @@ impl Trace {
     ///
     /// # Errors
     /// `Processes` if n is not from 1 to 256, otherwise `NoMemory` if an allocation failed.
+    #[tactic(auto, using(crate::proofs::TraceIndex::indexed_none))]
     pub fn new(alloc: Global, n: u16) -> Result<Trace, TraceFault>
         ensures ok { IfOk result (λ trace. IsProcessCount n ×
             (trace.recording ≡ record { processes = n; past = [] })) }
@@ -150,7 +151,7 @@ impl Trace {
     ///
     /// # Errors
     /// Those of `push_within`.
-    #[tactic(auto, using(crate::proofs::Lemmas::WellFormed::rows_next))]
+    #[tactic(auto, using(crate::proofs::Lemmas::WellFormed::rows_next, crate::proofs::Lemmas::WellFormed::no_memory_within))]
     pub fn try_push(&mut self, limits: Limits, entry: Entry) -> Result<(), RefusedEntry>
         ensures legal { OnOk result (fault_within limits.entries self.old.recording entry ≡ None) }
         ensures ok { OnOk result (self.new.recording ≡ with_entry self.old.recording entry) }
@@ -230,6 +231,7 @@ impl Trace {
     ///
     /// # Errors
     /// `NoMemory` if an allocation failed; the recording is unchanged.
+    #[tactic(auto, using(crate::proofs::TraceIndex::indexed_same))]
     pub fn reserve(&mut self, entries: u32) -> Result<(), NoMemory>
         ensures recording { self.new.recording ≡ self.old.recording }
         ensures ok { OnOk result (entries ≤ self.new.spare) }
@@ -295,6 +297,7 @@ impl Trace {
     }
 
     /// Returns the number of restarts, 0 to 65,536.
+    #[tactic(auto, using(crate::proofs::Sizes::restarts_few))]
     pub fn restarts(&self) -> u32
         ensures value { result ≡ restarts self.now.recording.past }
         ensures few { result ≤ max_restarts }
@@ -312,6 +315,7 @@ impl Trace {
     }
 
     /// Returns the entry at position i; None if i is not below the length.
+    #[tactic(auto, using(crate::proofs::Lemmas::Instants::entry_of))]
     pub fn entry(&self, i: u32) -> Option<&Entry>
         ensures { option_copied result ≡ entry_at self.now.recording.past i }
     {
@@ -326,6 +330,7 @@ impl Trace {
     }
 
     /// Returns the number of deliveries.
+    #[tactic(auto, using(crate::proofs::TraceIndex::deliveries_in_few))]
     pub fn deliveries(&self) -> u32
         ensures { result ≡ deliveries_in self.now.recording.past }
     {
@@ -335,6 +340,7 @@ impl Trace {
     /// Returns the number, counted from 0, of the newest delivery with this determinant among the first `among`
     /// deliveries; None if there is none. O(lanes that delivered the message) time; with sorted deliveries O(log
     /// entries).
+    #[tactic(auto, using(crate::proofs::Lemmas::DeliveryNumbers::number_among, crate::proofs::Lemmas::DeliveryNumbers::number_below, crate::proofs::SortedLemmas::dets_few))]
     pub fn delivery_of(&self, det: Det, among: usize) -> Option<u32>
         ensures value { result ≡ number_of among (delivered_dets self.now.recording.past) det }
         ensures among { IfSome result (λ i. i < among) }
@@ -356,6 +362,7 @@ impl Trace {
     /// too; None if there is none. The search continues in the message's chain from that delivery. All calls for one
     /// determinant, each with the last result, take O(lanes that delivered the message) time together; with sorted
     /// deliveries a call takes O(log entries).
+    #[tactic(auto, using(crate::proofs::TraceIndex::older_place, crate::proofs::DeliveryPlaces::place_among, crate::proofs::Lemmas::DeliveryNumbers::number_among, crate::proofs::SortedLemmas::dets_few))]
     pub fn older_delivery(&self, det: Det, number: u32) -> Option<u32>
         requires { number_of (number + 1) (delivered_dets self.now.recording.past) det
             ≡ Some number }
@@ -373,6 +380,7 @@ impl Trace {
 
     /// Checks whether process p is up after the first t entries; false if p is not below `processes`. O(t) time: a
     /// caller that needs every instant iterates over `entries` instead.
+    #[tactic(auto, using(crate::proofs::InstantQuestions::asked_instant, crate::proofs::InstantQuestions::is_process))]
     pub fn up(&self, t: u32, p: Pid) -> bool
         requires { t ≤ length self.now.recording.past }
         ensures { result ≡ is_up_at self.now.recording t p.0 }
@@ -382,6 +390,7 @@ impl Trace {
 
     /// Returns the lane of process p after the first t entries, which is its number of restarts; None if p is not
     /// below `processes`. O(t) time: a caller that needs every instant iterates over `entries` instead.
+    #[tactic(auto, using(crate::proofs::InstantQuestions::asked_instant, crate::proofs::InstantQuestions::is_process))]
     pub fn lane(&self, t: u32, p: Pid) -> Option<u32>
         requires { t ≤ length self.now.recording.past }
         ensures { result ≡ lane_at self.now.recording t p.0 }
@@ -395,6 +404,7 @@ impl Trace {
 
     /// Checks whether the process's present lane has delivered the message; false if p is not below `processes`.
     /// O(lanes that delivered the message) time; it reads no entry.
+    #[tactic(auto, using(crate::proofs::Receipts::received_told, crate::proofs::Receipts::received_there))]
     pub fn has_delivered(&self, p: Pid, message: MsgName) -> bool
         ensures { result ≡ has_delivered self.now.recording.past p.0 message }
     {
@@ -450,6 +460,7 @@ impl Trace {
     }
 
     /// Checks whether a delivery has this determinant.
+    #[tactic(auto, using(crate::proofs::Lemmas::DeliveryNumbers::delivered_numbered, crate::proofs::Lemmas::DeliveryNumbers::listed_once))]
     fn is_delivered(&self, det: Det) -> bool
         ensures { result ≡ is_delivered self.now.recording.past det }
     {

@@ -1,5 +1,5 @@
 -- Lists of determinants, and the deliveries that have them.
-use Rattle.std.proofs.Common.{ℕ, ◌≡◌, ◌<◌, Bool, true, false, List, [], ◌∷◌, ◌++◌, length, Option, Some, None, refl, sym, subst, ◌∙◌, arith}
+use Rattle.std.proofs.Common.{ℕ, ◌≡◌, true, List, [], ◌∷◌, ◌++◌, length, Option, Some, None, refl, sym, subst, ◌∙◌, arith}
 use Rattle.std.specs.Prelude.{◌||◌, ◌==◌}
 use Rattle.std.proofs.lemmas.Bool.{cond-true, eq-eqb, ne_eqb, false≢true}
 use Rattle.std.proofs.lemmas.Bool.Decides.{eqb_tells}
@@ -29,11 +29,7 @@ pub found_det : (past : List Entry) (d : Det) → is_delivered past d ≡ true �
 found_det [] d h = absurd (false≢true h)
 found_det (e ∷ past) d h = grind (arith, newest_det, older_det, found_det past d)
 
-or_true : (a : Bool) → (a || true) ≡ true
-or_true true = refl
-or_true false = refl
-
 -- the determinant of a delivery is delivered
 pub at_delivered : (past : List Entry) (d : Det) (k : ℕ) → det_at past k ≡ Some d → is_delivered past d ≡ true
 at_delivered [] d k h = absurd (let e : None ≡ Some d = h in cc)
-at_delivered (e ∷ past) d k h = grind (arith, eqb_tells, own_is_det, cond-true, at_delivered past d k, or_true)
+at_delivered (e ∷ past) d k h = grind (arith, eqb_tells, own_is_det, cond-true, at_delivered past d k)

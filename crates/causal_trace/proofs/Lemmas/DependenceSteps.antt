@@ -1,59 +1,44 @@
 -- How one more entry changes dependence.
-use Rattle.std.proofs.Common.{ℕ, ◌≡◌, ◌+◌, ◌<◌, ◌≤◌, inl, inr, true, false, cond, List, [], ◌∷◌, length, Some, None, sym, ap, subst, ◌∙◌, arith}
-use Rattle.std.specs.Prelude.{◌⊎◌, ◌==◌}
+use Rattle.std.proofs.Common.{ℕ, ◌≡◌, ◌+◌, ◌<◌, ◌≤◌, inl, inr, true, false, List, [], ◌∷◌, length, Some, None, subst, arith}
+use Rattle.std.specs.Prelude.{◌⊎◌}
 use Rattle.causal_trace.specs.declared.entry.Entry.{Entry}
-use Rattle.causal_trace.specs.declared.entry.Entry.TheVariants.{Send, Deliver, Stable, Crash, Restart, Forget}
 use Rattle.causal_trace.specs.Past.{is_down, lane}
 use Rattle.causal_trace.specs.Dependence.{AreForward, actor, is_delivery_of, IsEventOf, Delivers, DirectlyPrecedes, in_order, by_message, Reaches, itself, onward, Depends}
 
 -- the position of an event is below the length of the past
 pub event_below : (past : List Entry) (i p l : ℕ) → IsEventOf past i p l → i < length past
 event_below [] i p l h = absurd h
-event_below (e ∷ past) i p l (inl h) = omega (arith, event_below past i p l h)
-event_below (e ∷ past) i p l (inr h) = omega (arith, h.0)
+event_below (e ∷ past) i p l h = grind (arith, event_below past i p l)
 
 -- an event belongs to one lane only
 pub event_once : (past : List Entry) (i p l q m : ℕ) → IsEventOf past i p l → IsEventOf past i q m → (p ≡ q) × (l ≡ m)
 event_once [] i p l q m a b = absurd a
-event_once (e ∷ past) i p l q m (inl a) (inl b) = event_once past i p l q m a b
-event_once (e ∷ past) i p l q m (inl a) (inr b) = absurd (omega (arith, event_below past i p l a, b.0))
-event_once (e ∷ past) i p l q m (inr a) (inl b) = absurd (omega (arith, event_below past i q m b, a.0))
-event_once (e ∷ past) i p l q m (inr a) (inr b) = grind arith
+event_once (e ∷ past) i p l q m a b = grind (arith, event_once past i p l q m, event_below)
 
 lane_grows : (e : Entry) (past : List Entry) (p : ℕ) → lane past p ≤ lane (e ∷ past) p
-lane_grows (Send from to ssn) past p = omega arith
-lane_grows (Deliver to send rsn listed) past p = omega arith
-lane_grows (Stable det) past p = omega arith
-lane_grows (Crash who) past p = omega arith
-lane_grows (Forget who listed) past p = omega arith
-lane_grows (Restart who listed) past p = elim (who.0 == p) as (λ b. lane past p ≤ cond b (lane past p + 1) (lane past p)) [ true ↦ omega arith | false ↦ omega arith ]
+lane_grows e past p = grind arith
 
 -- no event belongs to a future lane
 pub event_lane : (past : List Entry) (i p l : ℕ) → IsEventOf past i p l → l ≤ lane past p
 event_lane [] i p l h = absurd h
-event_lane (e ∷ past) i p l (inl h) = omega (arith, event_lane past i p l h, lane_grows e past p)
-event_lane (e ∷ past) i p l (inr h) = omega (arith, h.2, lane_grows e past p)
+event_lane (e ∷ past) i p l h = grind (arith, event_lane past i p l, lane_grows e past p)
 
 -- an event other than the newest is an event of the past without the newest entry
 pub event_old : (e : Entry) (past : List Entry) (i p l : ℕ) → i < length past → IsEventOf (e ∷ past) i p l → IsEventOf past i p l
-event_old e past i p l below (inl h) = h
-event_old e past i p l below (inr h) = absurd (omega (arith, below, h.0))
+event_old e past i p l below h = grind arith
 
 -- the position of a delivery is below the length of the past
 pub delivers_below : (past : List Entry) (j i : ℕ) → Delivers past j i → j < length past
 delivers_below [] j i h = absurd h
-delivers_below (e ∷ past) j i (inl h) = omega (arith, delivers_below past j i h)
-delivers_below (e ∷ past) j i (inr h) = omega (arith, h.0)
+delivers_below (e ∷ past) j i h = grind (arith, delivers_below past j i)
 
 -- a delivery other than the newest is a delivery of the past without the newest entry
 pub delivers_old : (e : Entry) (past : List Entry) (j i : ℕ) → j < length past → Delivers (e ∷ past) j i → Delivers past j i
-delivers_old e past j i below (inl h) = h
-delivers_old e past j i below (inr h) = absurd (omega (arith, below, h.0))
+delivers_old e past j i below h = grind arith
 
 -- an event that directly precedes another is earlier
 pub precedes_before : (past : List Entry) (i j : ℕ) → AreForward past → DirectlyPrecedes past i j → i < j
-precedes_before past i j forward (in_order p l h a b) = h
-precedes_before past i j forward (by_message h) = forward j i h
+precedes_before past i j forward h = grind arith
 
 -- direct precedence to an event other than the newest holds without the newest entry
 pub precedes_old : (e : Entry) (past : List Entry) (i j : ℕ) → j < length past → DirectlyPrecedes (e ∷ past) i j → DirectlyPrecedes past i j
@@ -83,14 +68,10 @@ pub data ReachesNewest (e : Entry) (past : List Entry) (i p : ℕ) : Type 0 wher
   through_message : (j : ℕ) → is_delivery_of j e ≡ true → Reaches past i j → ReachesNewest e past i p
 
 preceded : (e : Entry) (past : List Entry) (i p j k : ℕ) → AreForward (e ∷ past) → k ≡ length past → actor e ≡ Some p → Reaches (e ∷ past) i j → DirectlyPrecedes (e ∷ past) j k → ReachesNewest e past i p
-preceded e past i p j k forward is who r (in_order q l h a (inl b)) = absurd (omega (arith, event_below past k q l b, is))
-preceded e past i p j k forward is who r (in_order q l h a (inr b)) =
-    let below : j < length past = omega (arith, h, is) in
-    let same : p ≡ q = let x : Some p ≡ Some q = sym who ∙ b.1 in cc in
-    in_lane j (subst (λ m. IsEventOf past j p m) (sym b.2 ∙ ap (lane past) (sym same)) (subst (λ m. IsEventOf past j m l) (sym same) (event_old e past j q l below a))) (reaches_old e past i forward j below r)
-preceded e past i p j k forward is who r (by_message (inl h)) = absurd (omega (arith, delivers_below past k j h, is))
-preceded e past i p j k forward is who r (by_message (inr h)) =
-    through_message j h.1 (reaches_old e past i forward j (omega (arith, forward k j (inr h), is)) r)
+preceded e past i p j k forward is who r (in_order q l h a b) =
+    in_lane j (grind (arith, event_below, event_old)) (reaches_old e past i forward j (omega (arith, h, is)) r)
+preceded e past i p j k forward is who r (by_message h) =
+    through_message j (grind (arith, delivers_below)) (reaches_old e past i forward j (omega (arith, forward k j h, is)) r)
 
 -- an event that reaches the newest one is it, or reaches an event of its lane or the send of its message
 pub reaches_newest : (e : Entry) (past : List Entry) (i p k : ℕ) → AreForward (e ∷ past) → k ≡ length past → actor e ≡ Some p → Reaches (e ∷ past) i k → ReachesNewest e past i p
@@ -107,8 +88,4 @@ depends_old e past k p forward up same d = go d.present
 
 -- a process in a new lane depends on nothing
 pub depends_restarted : (e : Entry) (past : List Entry) (k p : ℕ) → lane (e ∷ past) p ≡ lane past p + 1 → actor e ≡ None → Depends (e ∷ past) k p → ⊥
-depends_restarted e past k p more none d = go d.present
-  where
-    go : IsEventOf (e ∷ past) d.event p (lane (e ∷ past) p) → ⊥
-    go (inl h) = omega (arith, event_lane past d.event p (lane (e ∷ past) p) h, more)
-    go (inr h) = let x : None ≡ Some p = sym none ∙ h.1 in cc
+depends_restarted e past k p more none d = grind (arith, event_lane)

@@ -1,11 +1,11 @@
 -- Facts about a legal entry.
-use Rattle.std.proofs.Common.{ℕ, zero, suc, ◌≡◌, ◌<◌, inl, inr, Bool, true, false, List, [], ◌∷◌, length, Some, None, refl, sym, subst, arith}
+use Rattle.std.proofs.Common.{ℕ, zero, suc, ◌≡◌, ◌<◌, inl, inr, Bool, true, false, List, [], ◌∷◌, length, Some, None, refl, sym, arith}
 use Rattle.std.specs.Prelude.{not, slice_get}
 use Rattle.std.proofs.lemmas.Bool.{false≢true, cases_lt, eqb-true}
 use Rattle.causal_name.specs.declared.Pid.{Pid}
 use Rattle.causal_name.specs.declared.Det.{Det}
 use Rattle.causal_trace.specs.declared.entry.Entry.{Entry}
-use Rattle.causal_trace.specs.declared.entry.Entry.TheVariants.{Send, Deliver, Stable, Crash, Restart, Forget}
+use Rattle.causal_trace.specs.declared.entry.Entry.TheVariants.{Deliver, Restart}
 use Rattle.causal_trace.specs.declared.fault.TraceFault.{TraceFault}
 use Rattle.causal_trace.specs.declared.fault.TraceFault.TheVariants.{NotUp, NotDown, NoSend}
 use Rattle.causal_trace.specs.Past.{is_down, is_sent_to}
@@ -47,12 +47,8 @@ sent_within past send p h = grind (arith, cases_lt, entry_beyond)
 
 -- a delivered message was sent to some process
 pub delivery_sent : (n : ℕ) (past : List Entry) (e : Entry) (i : ℕ) → first_fault n past e ≡ None → is_delivery_of i e ≡ true → (p : ℕ) × (is_sent_to past i p ≡ true)
-delivery_sent n past (Send from to ssn) i h is = absurd (false≢true is)
-delivery_sent n past (Stable det) i h is = absurd (false≢true is)
-delivery_sent n past (Crash who) i h is = absurd (false≢true is)
-delivery_sent n past (Restart who listed) i h is = absurd (false≢true is)
-delivery_sent n past (Forget who listed) i h is = absurd (false≢true is)
-delivery_sent n past (Deliver to send rsn listed) i h is = (to.0, subst (λ x. is_sent_to past x to.0 ≡ true) (eqb-true send i is) (delivers_sent n past to send rsn listed h))
+delivery_sent n past (Deliver to send rsn listed) i h is = (to.0, grind (arith, eqb-true, delivers_sent))
+delivery_sent n past e i h is = absurd (false≢true is)
 
 -- in a well-formed trace, deliveries name earlier sends
 pub accepted_forward : (n : ℕ) (past : List Entry) → AreLegalEntries n past → AreForward past

@@ -19,12 +19,8 @@ returns-in_err-push-clause-same c = grind (arith, map-set_same, on_err)
 
 pub returns-in_err-push-clause-spare : goal.returns-in_err-push-clause-spare
 returns-in_err-push-clause-spare c =
-    grind (
-      arith,
-      here ((goal.at.returns-in_err-push-clause-spare c).After-index_mut-heads),
-      least_set,
-      inside ((goal.at.returns-in_err-push-clause-spare c).After-index_mut-heads),
-    )
+    let d = (goal.at.returns-in_err-push-clause-spare c).After-index_mut-heads in
+    grind (arith, here d, least_set, inside d)
 
 pub returns-in_err-push-clause-full : goal.returns-in_err-push-clause-full
 returns-in_err-push-clause-full c =
@@ -39,31 +35,15 @@ returns-clause-heads c = grind (arith, get_or-map, inside, map-set, cond-true, e
 
 pub returns-clause-spare : goal.returns-clause-spare
 returns-clause-spare c =
-    grind (
-      arith,
-      here ((goal.at.returns-clause-spare c).After-index_mut-heads),
-      least_set,
-      inside ((goal.at.returns-clause-spare c).After-index_mut-heads),
-    )
+    let d = (goal.at.returns-clause-spare c).After-index_mut-heads in
+    grind (arith, here d, least_set, inside d)
 
 pub invariant_of-self-in_err-push : goal.invariant_of-self-in_err-push
 invariant_of-self-in_err-push c =
-    grind (
-      arith,
-      here ((goal.at.invariant_of-self-in_err-push c).After-index_mut-heads),
-      c.self.invariant,
-      c.saturating_sub-self-inside.ensures,
-      least_set,
-      inside ((goal.at.invariant_of-self-in_err-push c).After-index_mut-heads),
-    )
+    let d = (goal.at.invariant_of-self-in_err-push c).After-index_mut-heads in
+    grind (arith, here d, c.self.invariant, c.saturating_sub-self-inside.ensures, least_set, inside d)
 
 pub invariant_of-self-2 : goal.invariant_of-self-2
 invariant_of-self-2 c =
-    grind (
-      arith,
-      here ((goal.at.invariant_of-self-2 c).After-index_mut-heads),
-      c.self.invariant,
-      c.saturating_sub-self-inside.ensures,
-      least_set,
-      inside ((goal.at.invariant_of-self-2 c).After-index_mut-heads),
-    )
+    let d = (goal.at.invariant_of-self-2 c).After-index_mut-heads in
+    grind (arith, here d, c.self.invariant, c.saturating_sub-self-inside.ensures, least_set, inside d)

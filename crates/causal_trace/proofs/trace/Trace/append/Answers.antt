@@ -1,5 +1,5 @@
 use Rattle.std.proofs.lemmas.Grind.{common_steps}
-use Rattle.std.proofs.Common.{Bool, true, false, cond, ◌≡◌, ◌≤◌, ◌+◌, length, reverse, ◌++◌, ◌∷◌, take, drop, None, arith, sym, ap, ◌∙◌}
+use Rattle.std.proofs.Common.{◌≡◌, ◌+◌, length, reverse, ◌++◌, ◌∷◌, take, drop, None, arith, sym, ap, ◌∙◌}
 use Rattle.std.proofs.lemmas.List.{take_at, length-reverse, reverse-append}
 use Rattle.causal_trace.specs.Past.{deliveries_in, listed_by, message_sent, det_of, lane}
 use Rattle.causal_trace.specs.Rows.{first_fault}
@@ -35,12 +35,8 @@ count_entry-requires-clause-there c = grind (arith, subject_there, next)
 pub count_entry-requires-clause-room : goal.count_entry-requires-clause-room
 count_entry-requires-clause-room c = grind (arith, kept, lanes_have_room)
 
-at_most_one : (b : Bool) → cond b 1 0 ≤ 1
-at_most_one true = omega arith
-at_most_one false = omega arith
-
 pub overflow_add-self : goal.overflow_add-self
-overflow_add-self c = grind (arith, restarts_few, at_most_one)
+overflow_add-self c = grind (arith, restarts_few)
 
 pub overflow_cast-self : goal.overflow_cast-self
 overflow_cast-self c = grind (arith, kept)
