@@ -1,7 +1,7 @@
 -- A delivery preserves the invariant.
-use Rattle.std.proofs.Common.{ℕ, ◌≡◌, ◌<◌, inl, inr, Bool, true, false, List, ◌∷◌, length, Option, Some, refl, sym, ap, subst, ◌∙◌, arith}
-use Rattle.std.specs.Prelude.{◌⊎◌, ◌||◌, ◌&&◌, not, ◌==◌}
-use Rattle.std.proofs.lemmas.Bool.{both_ways, or_cases, or_left, or_right, or_parts, and_from, and_parts, eqb-true, eq-eqb, not_from_false, false_from_ne_true}
+use Rattle.std.proofs.Common.{ℕ, ◌≡◌, ◌<◌, inl, inr, true, false, List, ◌∷◌, Some, refl, sym, ap, subst, ◌∙◌, arith}
+use Rattle.std.specs.Prelude.{◌⊎◌, ◌&&◌, not, ◌==◌}
+use Rattle.std.proofs.lemmas.Bool.{or_cases, or_left, or_right, and_from, and_parts, eqb-true, eq-eqb}
 use Rattle.std.specs.Option.{option_map}
 use Rattle.causal_name.specs.declared.Pid.{Pid}
 use Rattle.causal_name.specs.declared.Det.{Det}
@@ -9,7 +9,7 @@ use Rattle.causal_name.specs.Names.{same_det, message_of}
 use Rattle.causal_name.proofs.Lemmas.DetOrder.{same_itself, same_is}
 use Rattle.causal_trace.specs.declared.entry.Entry.{Entry}
 use Rattle.causal_trace.specs.declared.entry.Entry.TheVariants.{Deliver}
-use Rattle.causal_trace.specs.Past.{list_has, is_down, logs, is_stable, det_of, det_at, det_from, is_delivered, is_det}
+use Rattle.causal_trace.specs.Past.{list_has, is_down, logs, det_of, det_at, det_from, is_delivered, is_det}
 use Rattle.causal_trace.specs.Dependence.{AreForward, actor, Reaches, Depends}
 use Rattle.causal_trace.proofs.Lemmas.DependenceSteps.{reaches_old, reaches_begins, ReachesNewest, is_newest, in_lane, through_message, depends_old}
 use Rattle.causal_steps.specs.Recovery.{delivers_as_new, must_recover, IsRecoverable, HasOrRecovers}
@@ -40,47 +40,21 @@ module _ (n f : ℕ) (past : List Entry) (v w : VolatileState) (to : Pid) (send 
 
   -- what the receiver has or recovers is not delivered as new
   found_not_new : (d : Det) → HasOrRecovers past d to.0 → delivers_as_new past to.0 e d ≡ false
-  found_not_new d h = false_from_ne_true (delivers_as_new past to.0 e d) (λ as_new.
-      let none = (and_parts (is_det (det_of past e) d) (not (logs past to.0 d || is_stable past d)) as_new).1 in
-      let neither = or_parts (logs past to.0 d) (is_stable past d) (is_not (logs past to.0 d || is_stable past d) none) in
-      elim h [
-        | inl stable ↦ both_ways (is_stable past d) neither.1 stable
-        | inr holds ↦ elim (or_cases (logs past to.0 d) (must_recover past to.0 d) holds) [
-          | inl has_d ↦ both_ways (logs past to.0 d) neither.0 has_d
-          | inr must ↦ both_ways (is_down past to.0) s.up (k.recovering_are_down to.0 d must)
-        ]
-      ])
-    where
-      is_not : (b : Bool) → not b ≡ true → b ≡ false
-      is_not b h = grind arith
+  found_not_new d h = grind (arith, k.recovering_are_down to.0 d)
 
   -- what survives is not delivered as new: its receiver has or recovers it
   not_new : (d : Det) → Survives n past v d → delivers_as_new past to.0 e d ≡ false
-  not_new d alive = false_from_ne_true (delivers_as_new past to.0 e d) (λ as_new.
-      let is : d ≡ own = sym (is_own (det_of past e) own_det (and_parts (is_det (det_of past e) d) (not (logs past to.0 d || is_stable past d)) as_new).0) in
-      let dest : d.dest ≡ to = ap (λ (x : Det). x.dest) is in
-      both_ways (delivers_as_new past to.0 e d) (found_not_new d (subst (λ (q : Pid). HasOrRecovers past d q.0) dest (k.receivers_have_survivors d alive))) as_new)
-    where
-      is_own : (o : Option Det) → o ≡ Some own → is_det o d ≡ true → own ≡ d
-      is_own o is h = same_is own d (subst (λ x. is_det x d ≡ true) is h)
+  not_new d alive = grind (arith, own_det, same_is own d, k.receivers_have_survivors d alive, found_not_new d)
 
   stays : (d : Det) → Survives n past v d → Stays past (e ∷ past) d
-  stays d alive = record {
-    stable = λ h. h;
-    within = λ unstable p h. elim (or_cases (logs past p d) (must_recover past p d) h) [
-      | inl has_d ↦ or_left _ _ (or_right _ _ has_d)
-      | inr must ↦ or_right _ _ (and_from _ _ (not_from_false (delivers_as_new past to.0 e d) (not_new d alive)) must)
-    ];
-  }
+  stays d alive = grind (arith, not_new d alive)
 
   still : (d : Det) (q : ℕ) → Survives n past v d → HasOrRecovers past d q → HasOrRecovers (e ∷ past) d q
   still d q alive h = has_or_recovers_stays past (e ∷ past) d q (stays d alive) h
 
   stays_recoverable : (d : Det) → IsRecoverable n f past d → IsRecoverable n f (e ∷ past) d
-  stays_recoverable d recoverable = elim (recoverable_survives n f past d k.few_down (λ p h. k.recovering_are_down p d h) recoverable) [
-    | inl stable ↦ inl stable
-    | inr has_d ↦ recoverable_stays n f past (e ∷ past) d (stays d (inr (inl has_d))) recoverable
-  ]
+  stays_recoverable d recoverable =
+      grind (arith, recoverable_survives n f past d k.few_down (λ p h. k.recovering_are_down p d h) recoverable, recoverable_stays n f past (e ∷ past) d, stays d)
 
   carried_lives : (d : Det) → s.delivered.carries d ≡ true → Survives n past v d
   carried_lives d h = inr (inr (s.delivered, s.in_transit, h))
@@ -117,11 +91,7 @@ module _ (n f : ℕ) (past : List Entry) (v w : VolatileState) (to : Pid) (send 
   old_depends i p d small at old = elim (k.dependents_log i p d small (det_older e past i d (reaches_begins past i old.event old.reached) at) old) [ inl has_d ↦ inl (or_right _ _ has_d) | inr recoverable ↦ inr (stays_recoverable d recoverable) ]
 
   new_depends : (i p : ℕ) (d : Det) → p < n → det_at (e ∷ past) i ≡ Some d → is_down past p ≡ false → actor e ≡ Some p → ReachesNewest e past i p → (logs (e ∷ past) p d ≡ true) ⊎ IsRecoverable n f (e ∷ past) d
-  new_depends i p d small at up who (is_newest is) =
-      let mine : Some d ≡ Some own = sym at ∙ at_newest i (length past) (det_of past e) (det_at past i) is ∙ own_det in
-      let same : d ≡ own = cc in
-      let place : to.0 ≡ p = cc in
-      inl (subst (λ x. logs (e ∷ past) x d ≡ true) place (subst (λ x. logs (e ∷ past) to.0 x ≡ true) (sym same) logs_own))
+  new_depends i p d small at up who (is_newest is) = inl (grind (arith, at_newest, own_det, logs_own))
   new_depends i p d small at up who (in_lane j event r) = old_depends i p d small at (record { up = up; event = j; present = event; reached = r })
   new_depends i p d small at up who (through_message j is r) =
       let from_send : Reaches past i send = subst (λ x. Reaches past i x) (sym (eqb-true send j is)) r in
@@ -142,10 +112,7 @@ module _ (n f : ℕ) (past : List Entry) (v w : VolatileState) (to : Pid) (send 
     few_down = k.few_down;
     known_holders_true = λ p d q small h. (new_known p d q small h).0;
     carried_holders_true = λ t d q under h. still d q (inr (inr (t, s.nothing_new t under, (k.named_is_carried t d q (s.nothing_new t under) h).1))) (k.carried_holders_true t d q (s.nothing_new t under) h);
-    receivers_have_survivors = λ d alive. elim (left d alive) [
-      | inl is ↦ subst (λ (x : Det). HasOrRecovers (e ∷ past) x x.dest.0) (sym is) own_found
-      | inr old ↦ still d d.dest.0 old (k.receivers_have_survivors d old)
-    ];
+    receivers_have_survivors = λ d alive. grind (arith, left d alive, own_found, still d d.dest.0, k.receivers_have_survivors d);
     known_stable_true = λ p d small h. k.known_stable_true p d small (s.new_stable p d h);
     carried_stable_true = λ t d under h. k.carried_stable_true t d (s.nothing_new t under) h;
     dependents_log = λ i p d small at dep. elim (depends_old e past i p forward dep.up refl dep) [
@@ -172,10 +139,7 @@ module _ (n f : ℕ) (past : List Entry) (v w : VolatileState) (to : Pid) (send 
     ];
     known_logged = λ p d q small h. (new_known p d q small h).1;
     named_is_carried = λ t d q under h. k.named_is_carried t d q (s.nothing_new t under) h;
-    knows_itself = λ p d small h. elim (or_cases (to.0 == p && list_has listed d) (logs past p d) h) [
-      | inl new ↦ let parts = and_parts (to.0 == p) (list_has listed d) new in subst (λ x. w.knows_holder x d x ≡ true) (eqb-true to.0 p parts.0) (s.knows_itself d parts.1)
-      | inr old ↦ s.keeps_holders p d p (k.knows_itself p d small old)
-    ];
+    knows_itself = λ p d small h. grind (arith, eqb-true, s.knows_itself d, s.keeps_holders p d p, k.knows_itself p d small);
     names_sender = λ t d under h. k.names_sender t d (s.nothing_new t under) h;
     sent_before = λ m t under sent. omega (arith, k.sent_before m t (s.nothing_new t under) sent);
     recovering_are_down = λ p d h. k.recovering_are_down p d (and_parts (not (delivers_as_new past to.0 e d)) (must_recover past p d) h).1;

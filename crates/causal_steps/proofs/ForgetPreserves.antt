@@ -1,7 +1,7 @@
 -- A forgetting preserves the invariant.
-use Rattle.std.proofs.Common.{ℕ, ◌≡◌, inl, inr, Bool, true, false, List, ◌∷◌, refl, sym, ◌∙◌, arith}
+use Rattle.std.proofs.Common.{ℕ, ◌≡◌, inl, inr, true, false, List, ◌∷◌, refl, ◌∙◌, arith}
 use Rattle.std.specs.Prelude.{◌⊎◌, ◌&&◌, not, ◌==◌}
-use Rattle.std.proofs.lemmas.Bool.{both_ways, or_cases, or_left, or_right, and_from, and_parts, not_from_false, false_from_ne_true}
+use Rattle.std.proofs.lemmas.Bool.{and_from, and_parts}
 use Rattle.causal_name.specs.declared.Pid.{Pid}
 use Rattle.causal_name.specs.declared.Det.{Det}
 use Rattle.causal_trace.specs.declared.entry.Entry.{Entry}
@@ -9,7 +9,7 @@ use Rattle.causal_trace.specs.declared.entry.Entry.TheVariants.{Forget}
 use Rattle.causal_trace.specs.Past.{list_has, logs, is_stable}
 use Rattle.causal_trace.specs.Dependence.{AreForward}
 use Rattle.causal_trace.proofs.Lemmas.DependenceSteps.{reaches_old, depends_old}
-use Rattle.causal_steps.specs.Recovery.{must_recover, IsRecoverable, HasOrRecovers}
+use Rattle.causal_steps.specs.Recovery.{IsRecoverable, HasOrRecovers}
 use Rattle.causal_steps.specs.Transit.{VolatileState, Survives}
 use Rattle.causal_steps.specs.Invariant.{StepInvariant}
 use Rattle.causal_steps.specs.Steps.{IsForgetStep}
@@ -25,10 +25,10 @@ module _ (n f : ℕ) (past : List Entry) (v w : VolatileState) (who : Pid) (list
   forgotten p d h = k.known_stable_true who.0 d s.process (s.known_stable d (and_parts (who.0 == p) (list_has listed d) h).1)
 
   kept : (p : ℕ) (d : Det) → is_stable past d ≡ false → logs past p d ≡ true → logs (e ∷ past) p d ≡ true
-  kept p d unstable has_d = and_from _ _ (not_from_false (who.0 == p && list_has listed d) (false_from_ne_true (who.0 == p && list_has listed d) (λ gone. both_ways (is_stable past d) unstable (forgotten p d gone)))) has_d
+  kept p d unstable has_d = grind (arith, forgotten p d)
 
   stays : (d : Det) → Stays past (e ∷ past) d
-  stays d = record { stable = λ h. h; within = λ unstable p h. elim (or_cases (logs past p d) (must_recover past p d) h) [ inl has_d ↦ or_left _ _ (kept p d unstable has_d) | inr must ↦ or_right _ _ must ] }
+  stays d = grind (arith, kept)
 
   still : (d : Det) (q : ℕ) → HasOrRecovers past d q → HasOrRecovers (e ∷ past) d q
   still d q h = has_or_recovers_stays past (e ∷ past) d q (stays d) h
@@ -38,35 +38,25 @@ module _ (n f : ℕ) (past : List Entry) (v w : VolatileState) (who : Pid) (list
   left d (inr (inl (p, low, has_d))) = inr (inl (p, low, (and_parts (not (who.0 == p && list_has listed d)) (logs past p d) has_d).1))
   left d (inr (inr (t, under, has_d))) = inr (inr (t, s.nothing_new t under, has_d))
 
-  known : (p : ℕ) (d : Det) (q : ℕ) → w.knows_holder p d q ≡ true → (not (who.0 == p && list_has listed d) ≡ true) × (v.knows_holder p d q ≡ true)
-  known p d q h = and_parts (not (who.0 == p && list_has listed d)) (v.knows_holder p d q) (sym (s.holders p d q) ∙ h)
-
   logs_or_recoverable : (p : ℕ) (d : Det) → (logs past p d ≡ true) ⊎ IsRecoverable n f past d → (logs (e ∷ past) p d ≡ true) ⊎ IsRecoverable n f (e ∷ past) d
-  logs_or_recoverable p d (inl has_d) = by (is_stable past d) refl
-    where
-      by : (b : Bool) → is_stable past d ≡ b → (logs (e ∷ past) p d ≡ true) ⊎ IsRecoverable n f (e ∷ past) d
-      by true is = inr (inl is)
-      by false is = inl (kept p d is has_d)
-  logs_or_recoverable p d (inr recoverable) = inr (recoverable_stays n f past (e ∷ past) d (stays d) recoverable)
+  logs_or_recoverable p d h = grind (arith, kept p d, recoverable_stays n f past (e ∷ past) d (stays d))
 
   pub forget_preserves : StepInvariant n f (Forget who listed ∷ past) w
   forget_preserves = record {
     few_down = k.few_down;
-    known_holders_true = λ p d q small h. still d q (k.known_holders_true p d q small (known p d q h).1);
+    known_holders_true = λ p d q small h. grind (arith, s.holders p d q, k.known_holders_true p d q small, still d q);
     carried_holders_true = λ t d q under h. still d q (k.carried_holders_true t d q (s.nothing_new t under) h);
     receivers_have_survivors = λ d alive. still d d.dest.0 (k.receivers_have_survivors d (left d alive));
     known_stable_true = λ p d small h. k.known_stable_true p d small (s.new_stable p d h);
     carried_stable_true = λ t d under h. k.carried_stable_true t d (s.nothing_new t under) h;
-    dependents_log = λ i p d small at dep. elim (depends_old e past i p forward dep.up refl dep) [
-      | inl old ↦ logs_or_recoverable p d (k.dependents_log i p d small (det_earlier e past i d refl at) old)
-      | inr new ↦ absurd (no_actor p new.0)
-    ];
+    dependents_log = λ i p d small at dep.
+        grind (arith, depends_old e past i p forward dep.up refl dep, k.dependents_log i p d small (det_earlier e past i d refl at), no_actor, logs_or_recoverable p d);
     messages_carry = λ i m t d at under sent r.
         let old = s.nothing_new t under in
         elim (k.messages_carry i m t d (det_earlier e past i d refl at) old sent (reaches_old e past i forward m (k.sent_before m t old sent) r)) [ inl goes ↦ inl goes | inr recoverable ↦ inr (recoverable_stays n f past (e ∷ past) d (stays d) recoverable) ];
     no_slot_shared = λ x y hx hy. k.no_slot_shared x y (left x hx) (left y hy);
     survivors_delivered = λ d h. k.survivors_delivered d (left d h);
-    known_logged = λ p d q small h. let old = known p d q h in let fact = k.known_logged p d q small old.1 in (fact.0, and_from _ _ old.0 fact.1);
+    known_logged = λ p d q small h. grind (arith, s.holders p d q, k.known_logged p d q small);
     named_is_carried = λ t d q under h. k.named_is_carried t d q (s.nothing_new t under) h;
     knows_itself = λ p d small h. let parts = and_parts (not (who.0 == p && list_has listed d)) (logs past p d) h in s.holders p d p ∙ and_from _ _ parts.0 (k.knows_itself p d small parts.1);
     names_sender = λ t d under h. k.names_sender t d (s.nothing_new t under) h;

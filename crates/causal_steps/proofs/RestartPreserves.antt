@@ -1,16 +1,16 @@
 -- A restart preserves the invariant.
-use Rattle.std.proofs.Common.{ℕ, ◌≡◌, ◌<◌, inl, inr, Bool, true, false, List, ◌∷◌, Some, refl, sym, subst, arith}
+use Rattle.std.proofs.Common.{ℕ, ◌≡◌, ◌<◌, inl, inr, true, List, ◌∷◌, refl, sym, subst, arith}
 use Rattle.std.specs.Prelude.{◌⊎◌, ◌&&◌, not, ◌==◌}
-use Rattle.std.proofs.lemmas.Bool.{both_ways, or_cases, or_left, or_right, and_from, and_parts, eqb-true, eq-eqb, not_from_false, cond-true, cond-false}
+use Rattle.std.proofs.lemmas.Bool.{or_cases, or_left, or_right, and_from, and_parts, eqb-true, eq-eqb}
 use Rattle.causal_name.specs.declared.Pid.{Pid}
 use Rattle.causal_name.specs.declared.Det.{Det}
 use Rattle.causal_holders.proofs.Lemmas.MemberCounts.{count_below-within}
 use Rattle.causal_trace.specs.declared.entry.Entry.{Entry}
 use Rattle.causal_trace.specs.declared.entry.Entry.TheVariants.{Restart}
-use Rattle.causal_trace.specs.Past.{list_has, is_down, logs, is_stable, det_at}
-use Rattle.causal_trace.specs.Dependence.{AreForward, Depends}
+use Rattle.causal_trace.specs.Past.{list_has, is_down, logs}
+use Rattle.causal_trace.specs.Dependence.{AreForward}
 use Rattle.causal_trace.proofs.Lemmas.DependenceSteps.{reaches_old, depends_old, depends_restarted}
-use Rattle.causal_steps.specs.Recovery.{must_recover, counts_as_holder, IsRecoverable, HasOrRecovers}
+use Rattle.causal_steps.specs.Recovery.{must_recover, IsRecoverable, HasOrRecovers}
 use Rattle.causal_steps.specs.Transit.{VolatileState, IsLoggedBySome, IsCarried, Survives}
 use Rattle.causal_steps.specs.Invariant.{StepInvariant}
 use Rattle.causal_steps.specs.Steps.{IsRestartStep}
@@ -23,15 +23,7 @@ module _ (n f : ℕ) (past : List Entry) (v w : VolatileState) (who : Pid) (list
 
   -- what is logged or still in transit keeps its holders: the process lists all of it that it has to recover
   stays : (d : Det) → IsLoggedBySome n past d ⊎ IsCarried w d → Stays past (e ∷ past) d
-  stays d there = record { stable = λ h. h; within = λ unstable p h. by unstable p (who.0 == p) refl (or_cases (logs past p d) (must_recover past p d) h) }
-    where
-      by : is_stable past d ≡ false → (p : ℕ) (b : Bool) → (who.0 == p) ≡ b → (logs past p d ≡ true) ⊎ (must_recover past p d ≡ true) → counts_as_holder (e ∷ past) d p ≡ true
-      by unstable p b is (inl has_d) = or_left _ _ (or_right _ _ has_d)
-      by unstable p false is (inr must) = or_right _ _ (and_from _ _ (not_from_false (who.0 == p) is) must)
-      by unstable p true is (inr must) = elim (s.recovers d (subst (λ x. must_recover past x d ≡ true) (sym (eqb-true who.0 p is)) must) there) [
-        | inl lists ↦ or_left _ _ (or_left _ _ (and_from _ _ is lists))
-        | inr stable ↦ absurd (both_ways (is_stable past d) unstable stable)
-      ]
+  stays d there = grind (arith, eqb-true, s.recovers d)
 
   still : (d : Det) (q : ℕ) → IsLoggedBySome n past d ⊎ IsCarried w d → HasOrRecovers past d q → HasOrRecovers (e ∷ past) d q
   still d q there h = has_or_recovers_stays past (e ∷ past) d q (stays d there) h
@@ -52,13 +44,7 @@ module _ (n f : ℕ) (past : List Entry) (v w : VolatileState) (who : Pid) (list
 
   -- who has or recovers what is listed, logged or still in transit still does
   finds_listed : (d : Det) (q : ℕ) → list_has listed d ≡ true → HasOrRecovers past d q → HasOrRecovers (e ∷ past) d q
-  finds_listed d q lists (inl stable) = inl stable
-  finds_listed d q lists (inr holds) = by (who.0 == q) refl (or_cases (logs past q d) (must_recover past q d) holds)
-    where
-      by : (b : Bool) → (who.0 == q) ≡ b → (logs past q d ≡ true) ⊎ (must_recover past q d ≡ true) → HasOrRecovers (e ∷ past) d q
-      by b is (inl has_d) = inr (or_left _ _ (or_right _ _ has_d))
-      by false is (inr must) = inr (or_right _ _ (and_from _ _ (not_from_false (who.0 == q) is) must))
-      by true is (inr must) = inr (or_left _ _ (or_left _ _ (and_from _ _ is lists)))
+  finds_listed d q lists h = grind arith
 
   still_survivor : (d : Det) (q : ℕ) → Survives n (e ∷ past) w d → HasOrRecovers past d q → HasOrRecovers (e ∷ past) d q
   still_survivor d q (inl stable) h = inl stable
@@ -85,15 +71,6 @@ module _ (n f : ℕ) (past : List Entry) (v w : VolatileState) (who : Pid) (list
         ]
   ]
 
-  restarted_depends : (i p : ℕ) (d : Det) → p < n → det_at past i ≡ Some d → (b : Bool) → (who.0 == p) ≡ b → Depends (e ∷ past) i p → (logs (e ∷ past) p d ≡ true) ⊎ IsRecoverable n f (e ∷ past) d
-  restarted_depends i p d small at true is dep = absurd (depends_restarted e past i p (cond-true (who.0 == p) _ _ is) refl dep)
-  restarted_depends i p d small at false is dep =
-      let up : is_down past p ≡ false = grind (arith, dep.up, not_from_false (who.0 == p) is, and_from) in
-      elim (depends_old e past i p forward up (cond-false (who.0 == p) _ _ is) dep) [
-        | inl old ↦ elim (k.dependents_log i p d small at old) [ inl has_d ↦ inl (or_right _ _ has_d) | inr recoverable ↦ inr (stays_recoverable d recoverable) ]
-        | inr new ↦ absurd (no_actor p new.0)
-      ]
-
   pub restart_preserves : StepInvariant n f (Restart who listed ∷ past) w
   restart_preserves = record {
     few_down = omega (arith, k.few_down, count_below-within n (is_down (e ∷ past)) (is_down past) (λ p below h. (and_parts (not (who.0 == p)) (is_down past p) h).1));
@@ -102,7 +79,8 @@ module _ (n f : ℕ) (past : List Entry) (v w : VolatileState) (who : Pid) (list
     receivers_have_survivors = λ d alive. still_survivor d d.dest.0 alive (k.receivers_have_survivors d (left d alive));
     known_stable_true = λ p d small h. elim (s.new_stable p d h) [ inl old ↦ k.known_stable_true p d small old | inr stable ↦ stable ];
     carried_stable_true = λ t d under h. k.carried_stable_true t d (s.nothing_new t under) h;
-    dependents_log = λ i p d small at dep. restarted_depends i p d small (det_earlier e past i d refl at) (who.0 == p) refl dep;
+    dependents_log = λ i p d small at dep.
+        grind (arith, dep.up, depends_restarted e past i p, depends_old e past i p forward, k.dependents_log i p d small (det_earlier e past i d refl at), no_actor, stays_recoverable d);
     messages_carry = λ i m t d at under sent r.
         let old = s.nothing_new t under in
         elim (k.messages_carry i m t d (det_earlier e past i d refl at) old sent (reaches_old e past i forward m (k.sent_before m t old sent) r)) [ inl goes ↦ inl goes | inr recoverable ↦ inr (stays_recoverable d recoverable) ];
@@ -110,10 +88,7 @@ module _ (n f : ℕ) (past : List Entry) (v w : VolatileState) (who : Pid) (list
     survivors_delivered = λ d h. k.survivors_delivered d (left d h);
     known_logged = λ p d q small h. (new_known p d q small h).1;
     named_is_carried = λ t d q under h. k.named_is_carried t d q (s.nothing_new t under) h;
-    knows_itself = λ p d small h. elim (or_cases (who.0 == p && list_has listed d) (logs past p d) h) [
-      | inl new ↦ let parts = and_parts (who.0 == p) (list_has listed d) new in subst (λ x. w.knows_holder x d x ≡ true) (eqb-true who.0 p parts.0) (s.knows_itself d parts.1)
-      | inr old ↦ s.keeps_holders p d p (k.knows_itself p d small old)
-    ];
+    knows_itself = λ p d small h. grind (arith, eqb-true, s.knows_itself d, s.keeps_holders p d p, k.knows_itself p d small);
     names_sender = λ t d under h. k.names_sender t d (s.nothing_new t under) h;
     sent_before = λ m t under sent. omega (arith, k.sent_before m t (s.nothing_new t under) sent);
     recovering_are_down = λ p d h. let parts = and_parts (not (who.0 == p)) (must_recover past p d) h in and_from _ _ parts.0 (k.recovering_are_down p d parts.1);

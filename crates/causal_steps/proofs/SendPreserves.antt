@@ -1,14 +1,12 @@
 -- A send preserves the invariant.
-use Rattle.std.proofs.Common.{ℕ, ◌≡◌, ◌<◌, inl, inr, Bool, true, false, List, ◌∷◌, length, Some, refl, sym, ap, subst, ◌∙◌, arith}
+use Rattle.std.proofs.Common.{ℕ, ◌≡◌, ◌<◌, inl, inr, true, false, List, ◌∷◌, length, Some, refl, sym, ap, subst, ◌∙◌, arith}
 use Rattle.std.specs.Prelude.{◌⊎◌}
-use Rattle.std.proofs.lemmas.Bool.{both_ways}
 use Rattle.causal_name.specs.declared.Pid.{Pid}
 use Rattle.causal_name.specs.declared.Det.{Det}
-use Rattle.causal_name.specs.Sets.{count_below}
 use Rattle.causal_holders.proofs.Lemmas.MemberCounts.{count_below-within}
 use Rattle.causal_trace.specs.declared.entry.Entry.{Entry}
 use Rattle.causal_trace.specs.declared.entry.Entry.TheVariants.{Send}
-use Rattle.causal_trace.specs.Past.{is_down, logs, is_stable, det_at}
+use Rattle.causal_trace.specs.Past.{is_down, logs, det_at}
 use Rattle.causal_trace.specs.Dependence.{AreForward, Reaches}
 use Rattle.causal_trace.proofs.Lemmas.DependenceSteps.{reaches_old, ReachesNewest, is_newest, in_lane, through_message, reaches_newest, depends_old}
 use Rattle.causal_steps.specs.Recovery.{counts_as_holder, IsRecoverable, HasOrRecovers}
@@ -34,15 +32,8 @@ module _ (n f : ℕ) (past : List Entry) (v w : VolatileState) (from to : Pid) (
 
   -- the message carries what its sender logs, or no crash that f allows can lose that
   chosen : (d : Det) → logs past from.0 d ≡ true → (new.carries d ≡ true) ⊎ IsRecoverable n f past d
-  chosen d has_d = elim (s.left_out d has_d) [
-    | inl goes ↦ inl goes
-    | inr (inl mark) ↦ inr (inl (k.known_stable_true from.0 d s.of_log.process mark))
-    | inr (inr many) ↦ inr (by (is_stable past d) refl many)
-  ]
-    where
-      by : (b : Bool) → is_stable past d ≡ b → f < count_below n (v.knows_holder from.0 d) → IsRecoverable n f past d
-      by true is many = inl is
-      by false is many = inr (omega (arith, many, count_below-within n (v.knows_holder from.0 d) (counts_as_holder past d) (λ q low h. elim (k.known_holders_true from.0 d q s.of_log.process h) [ inl stable ↦ absurd (both_ways (is_stable past d) is stable) | inr holds ↦ holds ])))
+  chosen d has_d =
+      grind (arith, s.left_out d has_d, k.known_stable_true from.0 d s.of_log.process, k.known_holders_true from.0 d, count_below-within n (v.knows_holder from.0 d) (counts_as_holder past d))
 
   sent_depends : (i p : ℕ) (d : Det) → p < n → det_at past i ≡ Some d → is_down past p ≡ false → ReachesNewest e past i p → (logs past p d ≡ true) ⊎ IsRecoverable n f past d
   sent_depends i p d small at up (is_newest is) = absurd (omega (arith, is, det_below past i d at))
@@ -60,12 +51,7 @@ module _ (n f : ℕ) (past : List Entry) (v w : VolatileState) (from to : Pid) (
   covered : (i m : ℕ) (t : TransitParcel) (d : Det) → det_at past i ≡ Some d → (IsInTransit v t ⊎ (t ≡ new)) → t.send ≡ Some m → Reaches (e ∷ past) i m → (t.carries d ≡ true) ⊎ IsRecoverable n f past d
   covered i m t d at (inl old) sent r = k.messages_carry i m t d at old sent (reaches_old e past i forward m (k.sent_before m t old sent) r)
   covered i m t d at (inr is) sent r =
-      let place : Some m ≡ Some (length past) = sym sent ∙ ap (λ (x : TransitParcel). x.send) is ∙ s.position in
-      let here : m ≡ length past = cc in
-      elim (sent_depends i from.0 d s.of_log.process at s.of_log.up (reaches_newest e past i from.0 m forward here refl r)) [
-        | inl has_d ↦ elim (chosen d has_d) [ inl goes ↦ inl (ap (λ (x : TransitParcel). x.carries d) is ∙ goes) | inr recoverable ↦ inr recoverable ]
-        | inr recoverable ↦ inr recoverable
-      ]
+      grind (arith, s.position, sent_depends i from.0 d s.of_log.process at s.of_log.up, reaches_newest e past i from.0 m forward, chosen d)
 
   pub send_preserves : StepInvariant n f (Send from to ssn ∷ past) w
   send_preserves = record {
@@ -75,10 +61,8 @@ module _ (n f : ℕ) (past : List Entry) (v w : VolatileState) (from to : Pid) (
     receivers_have_survivors = λ d alive. k.receivers_have_survivors d (left d alive);
     known_stable_true = λ p d small h. k.known_stable_true p d small (s.same_knowledge.stable p d h);
     carried_stable_true = λ t d under h. elim (s.one_new t under) [ inl old ↦ k.carried_stable_true t d old h | inr is ↦ k.known_stable_true from.0 d s.of_log.process (s.of_log.known_stable d (sym (ap (λ (x : TransitParcel). x.names_stable d) is) ∙ h)) ];
-    dependents_log = λ i p d small at dep. elim (depends_old e past i p forward dep.up refl dep) [
-      | inl old ↦ k.dependents_log i p d small (det_earlier e past i d refl at) old
-      | inr new ↦ sent_depends i p d small (det_earlier e past i d refl at) dep.up new.1
-    ];
+    dependents_log = λ i p d small at dep.
+        grind (arith, depends_old e past i p forward dep.up refl dep, k.dependents_log i p d small (det_earlier e past i d refl at), sent_depends i p d small (det_earlier e past i d refl at) dep.up);
     messages_carry = λ i m t d at under sent r. covered i m t d (det_earlier e past i d refl at) (s.one_new t under) sent r;
     no_slot_shared = λ x y hx hy. k.no_slot_shared x y (left x hx) (left y hy);
     survivors_delivered = λ d h. k.survivors_delivered d (left d h);

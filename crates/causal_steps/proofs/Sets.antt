@@ -15,20 +15,10 @@ pub record Stays (past next : List Entry) (d : Det) : Type 0 where
   pub within : is_stable past d ≡ false → (p : ℕ) → counts_as_holder past d p ≡ true → counts_as_holder next d p ≡ true
 
 pub recoverable_stays : (n f : ℕ) (past next : List Entry) (d : Det) → Stays past next d → IsRecoverable n f past d → IsRecoverable n f next d
-recoverable_stays n f past next d s (inl stable) = inl (s.stable stable)
-recoverable_stays n f past next d s (inr many) = by (is_stable past d) refl
-  where
-    by : (b : Bool) → is_stable past d ≡ b → IsRecoverable n f next d
-    by true is = inl (s.stable is)
-    by false is = inr (omega (arith, many, count_below-within n (counts_as_holder past d) (counts_as_holder next d) (λ p low h. s.within is p h)))
+recoverable_stays n f past next d s h = grind (arith, count_below-within n (counts_as_holder past d) (counts_as_holder next d))
 
 pub has_or_recovers_stays : (past next : List Entry) (d : Det) (q : ℕ) → Stays past next d → HasOrRecovers past d q → HasOrRecovers next d q
-has_or_recovers_stays past next d q s (inl stable) = inl (s.stable stable)
-has_or_recovers_stays past next d q s (inr holds) = by (is_stable past d) refl
-  where
-    by : (b : Bool) → is_stable past d ≡ b → HasOrRecovers next d q
-    by true is = inl (s.stable is)
-    by false is = inr (s.within is q holds)
+has_or_recovers_stays past next d q s h = grind arith
 
 -- if at most f processes are down, and with them all that have to recover something, what is recoverable is stable or
 -- logged

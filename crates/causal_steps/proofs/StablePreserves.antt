@@ -43,10 +43,8 @@ module _ (n f : ℕ) (past : List Entry) (v w : VolatileState) (det : Det) (s : 
     receivers_have_survivors = λ d alive. still d d.dest.0 (k.receivers_have_survivors d (left d alive));
     known_stable_true = λ p d small h. elim (s.new_stable p d h) [ inl old ↦ or_right _ _ (k.known_stable_true p d small old) | inr is ↦ or_left _ _ is ];
     carried_stable_true = λ t d under h. or_right _ _ (k.carried_stable_true t d (s.nothing_new t under) h);
-    dependents_log = λ i p d small at dep. elim (depends_old e past i p forward dep.up refl dep) [
-      | inl old ↦ elim (k.dependents_log i p d small (det_earlier e past i d refl at) old) [ inl has_d ↦ inl has_d | inr recoverable ↦ inr (recoverable_stays n f past (e ∷ past) d (stays d) recoverable) ]
-      | inr new ↦ absurd (no_actor p new.0)
-    ];
+    dependents_log = λ i p d small at dep.
+        grind (arith, depends_old e past i p forward dep.up refl dep, k.dependents_log i p d small (det_earlier e past i d refl at), no_actor, recoverable_stays n f past (e ∷ past) d (stays d));
     messages_carry = λ i m t d at under sent r.
         let old = s.nothing_new t under in
         elim (k.messages_carry i m t d (det_earlier e past i d refl at) old sent (reaches_old e past i forward m (k.sent_before m t old sent) r)) [ inl goes ↦ inl goes | inr recoverable ↦ inr (recoverable_stays n f past (e ∷ past) d (stays d) recoverable) ];
