@@ -100,18 +100,9 @@ one_at_other a b h = grind arith
 
 -- an older event is reached by equally many of a lane's first events
 pub first_old : (es : List Event) (e : Event) (j lane n : ℕ) → j < length es → FirstReach es j lane n → FirstReach (es ++ e ∷ []) j lane n
-first_old es e j lane n below f = record {
-  no_more = omega (arith, f.no_more, lane_length-more es e lane);
-  first = λ i lt of_lane. elim (old_or_new es e i lt) [
-    | inl old ↦
-        let is = f.first i old (sym (lane_of-old es e i old) ∙ of_lane) in
-        let same = lane_place-old es e i old in
-        (λ c. rw same (is.0 (reaches_back es e below c)), λ p. reaches_old e (is.1 (rw same at p)))
-    | inr new ↦
-        let place : lane_place (es ++ e ∷ []) i ≡ lane_length es lane = lane_place-new es e i new ∙ ap (lane_length es) (sym (lane_of-at_new es e i new) ∙ of_lane) in
-        (λ c. absurd (omega (arith, (reaches_forward c).0)), λ p. absurd (omega (arith, p, f.no_more, place)))
-  ];
-}
+first_old es e j lane n below f =
+    let own : e.lane ≡ lane → lane_length es e.lane ≡ lane_length es lane = λ same. ap (lane_length es) same in
+    grind (arith, own, lane_length-more es e lane, old_or_new es e, lane_of-old, lane_place-old, lane_place-new, lane_of-at_new, reaches_back es e, reaches_old {es = es} e, reaches_forward)
 
 -- ---- the newest event
 
@@ -154,18 +145,8 @@ module _ (es : List Event) (e : Event) (previous : Option ℕ) (last : LastOf es
 
   -- for the event's lane: one more
   pub first_new_own : lane ≡ e.lane → lane_length es lane ≤ from_previous → FirstReach (es ++ e ∷ []) (length es) lane (max from_previous from_send + 1)
-  first_new_own own full = record {
-    no_more = omega (arith, along.no_more, across.no_more, lane_length-more es e lane, one_at_same e.lane lane (sym own));
-    first = λ i lt of_lane. elim (old_or_new es e i lt) [
-      | inl old ↦
-          let same = lane_place-old es e i old in
-          let lane_is = sym (lane_of-old es e i old) ∙ of_lane in
-          let up = last.reached i old (lane_is ∙ own) in
-          let at = last.inside up.0 up.1 in
-          let place = along.forth i up.0 old lane_is up.1 up.2 in
-          (λ c. rw same (omega (arith, place)), λ p. onward (reaches_old e up.2) (by_lane es e up.0 at.0 at.1))
-      | inr new ↦
-          let place : lane_place (es ++ e ∷ []) i ≡ lane_length es lane = lane_place-new es e i new ∙ ap (lane_length es) (sym own) in
-          (λ c. omega (arith, place, full), λ p. subst (λ (x : ℕ). Precedes (es ++ e ∷ []) i x) new (itself lt))
-    ];
-  }
+  first_new_own own full =
+      let older : (i : ℕ) → i < length es → lane_of es i ≡ lane → lane_place es i < from_previous = λ i lt of_lane. let up = last.reached i lt (of_lane ∙ own) in along.forth i up.0 lt of_lane up.1 up.2 in
+      let newest : (i : ℕ) → i ≡ length es → Precedes (es ++ e ∷ []) i (length es) = λ i is. subst (λ (x : ℕ). Precedes (es ++ e ∷ []) x (length es)) (sym is) (itself (omega (arith, length-more es e))) in
+      let same = ap (lane_length es) own in
+      grind (arith, older, newest, same, lane_length-more es e lane, one_at_same, old_or_new, lane_place-old, lane_of-old, lane_place-new, counted, reaches_it, along.no_more, across.no_more)

@@ -1,7 +1,7 @@
 -- The invariant of a clock after one more event: its lane's columns rise to its send's counts.
 use Rattle.std.proofs.lemmas.Grind.{common_steps}
 use Rattle.std.specs.Prelude.{◌≡◌, ◌≢◌, ℕ, ◌+◌, ◌<◌, ◌≤◌, max, if◌then◌else◌, Option, Some, None, List, [], ◌∷◌, ◌++◌, length}
-use Rattle.std.proofs.Common.{refl, arith, ap, sym, ◌∙◌, subst, inl, inr, get_or, get_or-set_same, get_or-set_other, eq-eqb}
+use Rattle.std.proofs.Common.{refl, arith, ap, sym, ◌∙◌, inl, inr, get_or, get_or-set_same, get_or-set_other, eq-eqb}
 use Rattle.std.proofs.Math.ListN.{get_or-append, set, length-set}
 use Rattle.std.proofs.Math.Seq.{get_or-append_seam}
 use Rattle.std.proofs.lemmas.Bool.Decides.{eqb_tells}
@@ -38,24 +38,12 @@ module _ (es : List Event) (places lengths : List ℕ) (column : ℕ → ℕ →
     at_old_place : (lane source q : ℕ) → q < lane_length es lane → count_at (column' lane source) q ≡ count_at (column lane source) q
     at_old_place lane source q lt =
         elim (eqb_tells lane e.lane) [
-          | inl s ↦
-              let is : column' lane source ≡ column_after (column lane source) (lane_length es lane) (counts source) = subst (λ (x : ℕ). column' x source ≡ column_after (column x source) (lane_length es x) (counts source)) (sym s.1) (risen source) in
-              ap (λ c. count_at c q) is ∙ raised_before (column lane source) (lane_length es lane) (counts source) q lt
+          | inl s ↦ rw (s.1, risen source) (raised_before (column e.lane source) (lane_length es e.lane) (counts source) q (rw s.1 at lt))
           | inr s ↦ ap (λ c. count_at c q) (others lane source s.1)
         ]
 
     old_count : (j : ℕ) → j < length es → (source : ℕ) → counts_in (es ++ e ∷ []) column' j source ≡ counts_in es column j source
-    old_count j lt source =
-        let lane = lane_of-old es e j lt in
-        let place = lane_place-old es e j lt in
-        elim (eqb_tells source (lane_of es j)) [
-          | inl s ↦ counts_own (es ++ e ∷ []) column' j source (lane ∙ sym s.1) ∙ ap (λ n. n + 1) place ∙ sym (counts_own es column j source (sym s.1))
-          | inr s ↦
-              counts_other (es ++ e ∷ []) column' j (lane_of es j) source lane s.1
-              ∙ ap (count_at (column' (lane_of es j) source)) place
-              ∙ at_old_place (lane_of es j) source (lane_place es j) (in_lane j lt)
-              ∙ sym (counts_other es column j (lane_of es j) source refl s.1)
-        ]
+    old_count j lt source = grind (arith, lane_of-old, lane_place-old, at_old_place (lane_of es j) source (lane_place es j) (in_lane j lt))
 
     new_lane : lane_of (es ++ e ∷ []) (length es) ≡ e.lane
     new_lane = lane_of-at_new es e (length es) refl

@@ -1,7 +1,7 @@
 -- The count of a column at a place, and what one more rise changes.
 use Rattle.std.proofs.lemmas.Grind.{common_steps}
 use Rattle.std.specs.Prelude.{◌≡◌, ℕ, ◌+◌, ◌-◌, ◌<◌, ◌≤◌, max, ◌⊎◌, leb, if◌then◌else◌, true, false, List, [], ◌∷◌, ◌++◌, length, take, drop}
-use Rattle.std.proofs.Common.{zero, suc, refl, arith, ap, sym, ◌∙◌, subst, inl, inr, length-append}
+use Rattle.std.proofs.Common.{zero, suc, refl, arith, ap, sym, ◌∙◌, subst, length-append}
 use Rattle.std.proofs.Math.ListN.{get_or-append}
 use Rattle.std.proofs.Math.Seq.{get_or-append_seam}
 use Rattle.std.proofs.lemmas.Bool.{le-leb, lt-ltb, lt-leb, leb-true, leb-false}
@@ -32,10 +32,7 @@ count_of_last rises place n strictly lt before after = grind (arith, rise_counts
 pub settled : (rises : List Rise) (p q : ℕ) → ((i : ℕ) → i < length rises → ((rise_at rises i).place ≤ p) × ((rise_at rises i).place ≤ q)) → count_at rises p ≡ count_at rises q
 settled [] p q h = refl
 settled (r ∷ rises) p q h =
-    let here = h 0 (omega arith) in
-    let same : leb r.place p ≡ leb r.place q = le-leb r.place p here.0 ∙ sym (le-leb r.place q here.1) in
-    let rest = settled rises p q (λ i lt. h (suc i) (omega (arith, lt))) in
-    λ k. max (if same k then r.count else 0) (rest k)
+    grind (arith, h 0 (omega arith), le-leb, settled rises p q (λ i lt. h (suc i) (omega (arith, lt))))
 
 -- ---- where a search stops
 
@@ -47,11 +44,7 @@ partitioned : (rises : List Rise) (place start : ℕ) → RisesStrictly rises �
 partitioned rises place start strictly = IsPartitionedBy-leb (λ y. y.place) (drop start rises) place (IsNonDecreasingBy-from_default (λ y. y.place) (drop start rises) _ ascend)
   where
     ascend : (i j : ℕ) → i ≤ j → j < length (drop start rises) → (rise_at (drop start rises) i).place ≤ (rise_at (drop start rises) j).place
-    ascend i j le lt =
-        let in_i : (rise_at (drop start rises) i).place ≡ (rise_at rises (start + i)).place = ap (λ (r : Rise). r.place) (get_or-drop start rises i _) in
-        let in_j : (rise_at (drop start rises) j).place ≡ (rise_at rises (start + j)).place = ap (λ (r : Rise). r.place) (get_or-drop start rises j _) in
-        let long : length (drop start rises) ≡ length rises - start = length-drop start rises in
-        omega (arith, in_i, in_j, up_to rises ((rise_at rises (start + j)).place) (start + j) (start + i) strictly (omega (arith, lt, long)) (omega arith) (omega (arith, le)))
+    ascend i j le lt = grind (arith, get_or-drop, length-drop)
 
 parted : (rises : List Rise) (place start n : ℕ) → start ≤ length rises → ((i : ℕ) → i < start → (rise_at rises i).place ≤ place) → IsPartitionPoint (λ y. leb y.place place ≡ true) (λ y. leb y.place place ≡ false) (drop start rises) n → n ≤ length (drop start rises) → IsSplitAt rises place (start + n)
 parted rises place start n inside passed point bound = record { inside = omega (arith, bound, long); before = before; after = after }
@@ -65,11 +58,7 @@ parted rises place start n inside passed point bound = record { inside = omega (
         ap (λ (r : Rise). r.place) (get_or-drop start rises (i - start) _) ∙ ap (λ k. (rise_at rises k).place) at
 
     before : (i : ℕ) → i < start + n → (rise_at rises i).place ≤ place
-    before i lt =
-        elim (leb_tells (suc i) start) [
-          | inl h ↦ passed i h.1
-          | inr h ↦ omega (arith, place_is i (omega (arith, h.1)), leb-true _ _ (point.0 (i - start) (record { place = 0; count = 0 }) (omega arith) (omega (arith, lt, h.1))))
-        ]
+    before i lt = grind (arith, leb_tells (suc i) start, passed i, place_is i, leb-true, point.0 (i - start) (record { place = 0; count = 0 }))
 
     after : (i : ℕ) → start + n ≤ i → i < length rises → place < (rise_at rises i).place
     after i le lt = omega (arith, place_is i (omega (arith, le)), leb-false _ _ (point.1 (i - start) (record { place = 0; count = 0 }) (omega (arith, le)) (omega (arith, lt, long, le))))
@@ -137,12 +126,7 @@ at_least rises strictly (suc i) lt = omega (arith, at_least rises strictly i (om
 -- so a column has no more rises than its last count
 no_more_rises : (rises : List Rise) (events from_events place : ℕ) → IsColumn rises events from_events → events ≤ place → length rises ≤ count_at rises place
 no_more_rises rises events from_events place is le =
-    elim (leb_tells (length rises) 0) [
-      | inl none ↦ omega (arith, none.1)
-      | inr some ↦
-          let last : length rises - 1 < length rises = omega (arith, some.1) in
-          omega (arith, at_least rises is.strictly (length rises - 1) last, rise_counts rises place (length rises - 1) last (omega (arith, is.places (length rises - 1) last)))
-    ]
+    grind (arith, at_least rises is.strictly (length rises - 1), rise_counts rises place (length rises - 1), is.places (length rises - 1))
 
 module _ (rises : List Rise) (own from_events from_events' count : ℕ) (is : IsColumn rises own from_events) (grown : from_events ≤ from_events') (few : count ≤ from_events') (more : count_at rises own < count) where
   abbrev next : Rise
@@ -172,7 +156,4 @@ module _ (rises : List Rise) (own from_events from_events' count : ℕ) (is : Is
 -- a column after one more event of its lane
 pub raised_column : (rises : List Rise) (own from_events from_events' count : ℕ) → from_events ≤ from_events' → count ≤ from_events' → IsColumn rises own from_events → IsColumn (column_after rises own count) (own + 1) from_events'
 raised_column rises own from_events from_events' count grown few is =
-    elim (raised_cases rises own count) [
-      | inl more ↦ rw more.0 (appended rises own from_events from_events' count is grown few more.1)
-      | inr same ↦ rw same.0 (column_more rises own from_events (own + 1) from_events' (omega arith) grown is)
-    ]
+    grind (arith, raised_cases rises own count, appended rises own from_events from_events' count is grown few, column_more rises own from_events (own + 1) from_events')

@@ -1,12 +1,11 @@
 -- The number of a lane's first events that reach an event is the number of its events that do.
-use Rattle.std.specs.Prelude.{None, ◌≡◌, ℕ, ◌+◌, ◌<◌, ◌≤◌, min, ◌↔◌, ◌==◌, ◌&&◌, if◌then◌else◌, Bool, true, false, List, length, take, count_by}
-use Rattle.std.proofs.Common.{zero, suc, refl, arith, ap, sym, ◌∙◌, inl, inr}
+use Rattle.std.specs.Prelude.{None, ◌≡◌, ℕ, ◌+◌, ◌<◌, ◌≤◌, min, ◌↔◌, ◌==◌, ◌&&◌, if◌then◌else◌, Bool, true, List, length, take, count_by}
+use Rattle.std.proofs.Common.{zero, suc, arith, ap, sym, ◌∙◌}
 use Rattle.std.specs.List.{range_with_len}
 use Rattle.std.proofs.Math.Seq.{take-suc, take-length}
 use Rattle.std.proofs.lemmas.List.{map-id}
 use Rattle.std.proofs.lemmas.List.FromFn.{sum_by-map-range_with_len_more}
-use Rattle.std.proofs.lemmas.Bool.{false≢true}
-use Rattle.std.proofs.lemmas.Bool.Decides.{eqb_tells}
+use Rattle.std.proofs.lemmas.Bool.{eqb-true}
 use Rattle.causal_clock.specs.declared.Event.{Event}
 use Rattle.causal_clock.specs.Timeline.{lane_of, lane_length, lane_place}
 use Rattle.causal_clock.specs.Precedence.{FirstReach, IsReachTest, count_in_lane}
@@ -20,14 +19,8 @@ count_more p n =
 lane_length-next : (es : List Event) (m lane : ℕ) → m < length es → lane_length (take (suc m) es) lane ≡ lane_length (take m es) lane + (if lane_of es m == lane then 1 else 0)
 lane_length-next es m lane h = ap (λ xs. lane_length xs lane) (take-suc es m (record { lane = 0; send = None }) h) ∙ lane_length-more (take m es) _ lane
 
-own_next : (b c t : Bool) (n place x y : ℕ) → b ≡ true → (t ≡ true) ↔ (place < n) → place ≡ y → x ≡ min n y → x + (if b && t then 1 else 0) ≡ min n (y + (if b then 1 else 0))
-own_next true c true n place x y e tells is before = omega (arith, tells.0 refl, is, before)
-own_next true c false n place x y e tells is before = grind arith
-own_next false c t n place x y e tells is before = absurd (false≢true e)
-
-other_next : (b t : Bool) (n x y : ℕ) → b ≡ false → x ≡ min n y → x + (if b && t then 1 else 0) ≡ min n (y + (if b then 1 else 0))
-other_next true t n x y e before = absurd (false≢true (sym e))
-other_next false t n x y e before = omega (arith, before)
+counted_next : (b t : Bool) (n place x y : ℕ) → (b ≡ true → (t ≡ true) ↔ (place < n)) → (b ≡ true → place ≡ y) → x ≡ min n y → x + (if b && t then 1 else 0) ≡ min n (y + (if b then 1 else 0))
+counted_next b t n place x y tells is before = grind arith
 
 module _ (es : List Event) (j lane n : ℕ) (test : ℕ → Bool) (f : FirstReach es j lane n) (tells : IsReachTest es j test) where
   of_lane : (m : ℕ) → m < length es → lane_of es m ≡ lane → (test m ≡ true) ↔ (lane_place es m < n)
@@ -38,11 +31,9 @@ module _ (es : List Event) (j lane n : ℕ) (test : ℕ → Bool) (f : FirstReac
   counted_below (suc m) h =
       let before = counted_below m (omega (arith, h)) in
       let next = lane_length-next es m lane (omega (arith, h)) in
+      let same = eqb-true (lane_of es m) lane in
       count_more (λ i. lane_of es i == lane && test i) m
-      ∙ elim (eqb_tells (lane_of es m) lane) [
-        | inl own ↦ own_next (lane_of es m == lane) true (test m) n (lane_place es m) _ _ own.0 (of_lane m (omega (arith, h)) own.1) (ap (lane_length (take m es)) own.1) before
-        | inr other ↦ other_next (lane_of es m == lane) (test m) n _ _ other.0 before
-      ]
+      ∙ counted_next (lane_of es m == lane) (test m) n (lane_place es m) _ _ (λ own. of_lane m (omega (arith, h)) (same own)) (λ own. ap (lane_length (take m es)) (same own)) before
       ∙ ap (min n) (sym next)
 
   -- if exactly a lane's first n events reach j, n of them pass a test for reaching j

@@ -1,6 +1,6 @@
 -- The lists of lanes and places that a clock's entries represent.
 use Rattle.std.specs.Prelude.{◌≡◌, ℕ, ◌<◌, ◌≤◌, Option, Some, None, List, [], ◌∷◌, ◌++◌, length, map, slice_index}
-use Rattle.std.proofs.Common.{suc, refl, arith, ap, sym, ◌∙◌, subst, inl, inr, get_or, length-append}
+use Rattle.std.proofs.Common.{suc, refl, arith, ap, sym, ◌∙◌, subst, get_or, length-append}
 use Rattle.std.proofs.Math.ListN.{get_or-eq_default}
 use Rattle.std.proofs.lemmas.Bool.Decides.{leb_tells}
 use Rattle.std.proofs.lemmas.List.{get_or-map, length-map}
@@ -49,11 +49,7 @@ pub keeps_open : (es : List Event) (places lengths : List ℕ) (column : ℕ →
 keeps_open es places lengths column k = record {
   keeps = rw (length-append lengths (0 ∷ [])) (keeps_lane es (counts_in es column) (length lengths) k.keeps);
   places = k.places;
-  lengths = λ lane lt. told_default lengths 0 0 refl lane ∙ elim (leb_tells (suc lane) (length lengths)) [
-    | inl old ↦ k.lengths lane old.1
-    | inr new ↦
-        let past : length lengths ≤ lane = omega (arith, new.1) in
-        get_or-eq_default lengths 0 past ∙ sym (no_events es (counts_in es column) (length lengths) lane k.keeps past (k.keeps.last lane).0 (k.keeps.last lane).1)
-  ];
+  lengths = λ lane lt.
+      grind (arith, told_default lengths 0 0 refl lane, leb_tells (suc lane) (length lengths), k.lengths, get_or-eq_default, no_events es (counts_in es column) (length lengths) lane k.keeps, k.keeps.last lane);
   columns = k.columns;
 }

@@ -1,12 +1,13 @@
 -- Lists of a field of each element, after an element is replaced or added.
 use Rattle.std.specs.Prelude.{◌≡◌, ◌≢◌, ℕ, ◌<◌, List, [], ◌∷◌, ◌++◌, length, map}
-use Rattle.std.proofs.Common.{Bool, true, false, cond, Vec, Global, zero, suc, refl, arith, ap, sym, ◌∙◌, get_or, get_or-set_same, get_or-set_other}
+use Rattle.std.proofs.Common.{Bool, true, false, cond, Vec, Global, arith, ap, sym, ◌∙◌, get_or, get_or-set_same, get_or-set_other}
 use Rattle.std.proofs.Math.ListN.{set}
 use Rattle.causal_clock.specs.declared.Rise.{Rise}
 use Rattle.causal_clock.specs.declared.lane.LaneColumns.{LaneColumns}
 use Rattle.causal_clock.specs.Inside.Columns.{column_in, column_of}
 use Rattle.causal_clock.specs.Inside.Lanes.{rises_in, SameColumns}
-use Rattle.std.proofs.lemmas.List.{map-append, map-set, set-get_or, get_or-map, length-map}
+use Rattle.std.proofs.lemmas.List.{map-append, map-set, set-get_or, get_or-map, length-map, length-append, get_or_append_left, get_or_past}
+use Rattle.std.proofs.Math.Seq.{get_or-append_seam}
 
 -- the list of a field is as long as the list of elements
 pub as_many : {V B : Type 0} (f : V → B) (xs : List V) → length (map f xs) ≡ length xs
@@ -31,10 +32,7 @@ module _ {V B : Type 0} (f : V → B) (xs : List V) (i : ℕ) (x y : V) where
 
 -- appending an element with the default field changes no look-up
 pub told_default : {B : Type 0} (ys : List B) (b d : B) → b ≡ d → (k : ℕ) → get_or (ys ++ b ∷ []) k d ≡ get_or ys k d
-told_default [] b d is zero = is
-told_default [] b d is (suc k) = refl
-told_default (y ∷ ys) b d is zero = refl
-told_default (y ∷ ys) b d is (suc k) = told_default ys b d is k
+told_default ys b d is k = grind (arith, get_or_append_left, get_or-append_seam ys b [] d, get_or_past, length-append)
 
 -- ---- the columns of a clock's lanes, after a lane is replaced
 

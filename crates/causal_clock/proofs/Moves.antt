@@ -1,6 +1,6 @@
 -- The invariant of a clock after each call, over its fields.
-use Rattle.std.specs.Prelude.{◌≡◌, ◌≢◌, ℕ, ◌+◌, ◌<◌, ◌≤◌, ◌↔◌, nat_lt, ◌==◌, max, if◌then◌else◌, IsTrue, Some, List, [], ◌∷◌, ◌++◌, length, map}
-use Rattle.std.proofs.Common.{suc, refl, arith, ap, sym, ◌∙◌, inl, inr, get_or, eq-eqb, ne_eqb}
+use Rattle.std.specs.Prelude.{◌≡◌, ◌≢◌, ℕ, ◌+◌, ◌<◌, ◌≤◌, ◌↔◌, nat_lt, ◌==◌, if◌then◌else◌, IsTrue, Some, List, [], ◌∷◌, ◌++◌, length, map}
+use Rattle.std.proofs.Common.{suc, refl, arith, ap, sym, ◌∙◌, get_or, eq-eqb, ne_eqb}
 use Rattle.std.proofs.Math.ListN.{set, get_or-eq_default}
 use Rattle.std.proofs.lemmas.Bool.Decides.{leb_tells, eqb_tells}
 use Rattle.std.proofs.lemmas.List.{map-append, map-set}
@@ -57,17 +57,18 @@ told_of-other es column send own source other = ap (λ b. if b then 0 else count
 -- counts that are equal, or no greater than the known ones, raise the columns equally
 pub alike : (es : List Event) (places lengths : List ℕ) (column : ℕ → ℕ → List Rise) → ColumnsAreRight es places lengths column → (send own : ℕ) → send < length es → (known counts : List ℕ) → length counts ≡ length lengths → get_or counts own 0 ≡ 0 → ((k : ℕ) → k < length lengths → k ≢ own → SameOrNoNews (get_or known k 0) (get_or counts k 0) (counts_in es column send k)) → (source : ℕ) → SameOrNoNews (get_or known source 0) (get_or counts source 0) (told_of es column send own source)
 alike es places lengths column k send own lt known counts long none each source =
-    elim (eqb_tells source own) [
-      | inl same ↦ ap (max (get_or known source 0)) (ap (λ (n : ℕ). get_or counts n 0) same.1 ∙ none ∙ sym (told_of-own es column send own) ∙ ap (told_of es column send own) (sym same.1))
-      | inr other ↦ elim (leb_tells (suc source) (length lengths)) [
-        | inl there ↦ each source there.1 other.1 ∙ ap (max (get_or known source 0)) (sym (told_of-other es column send own source other.1))
-        | inr past ↦
-            let beyond : length lengths ≤ source = omega (arith, past.1) in
-            let none = no_events es (counts_in es column) (length lengths) source k.keeps beyond (k.keeps.last source).0 (k.keeps.last source).1 in
-            let here : get_or counts source 0 ≡ 0 = get_or-eq_default counts 0 (omega (arith, long, beyond)) in
-            ap (max (get_or known source 0)) (omega (arith, here, (k.keeps.reach send lt source).no_more, none, told_of-other es column send own source other.1))
-      ]
-    ]
+    let empty = λ (past : length lengths ≤ source). no_events es (counts_in es column) (length lengths) source k.keeps past (k.keeps.last source).0 (k.keeps.last source).1 in
+    grind (
+      arith,
+      eqb_tells source own,
+      leb_tells (suc source) (length lengths),
+      each source,
+      empty,
+      told_of-own es column send own,
+      told_of-other es column send own source,
+      get_or-eq_default counts 0,
+      (k.keeps.reach send lt source).no_more,
+    )
 
 -- a lane has no more events than there are
 pub small_lane : (es : List Event) (places : List ℕ) (xs : List LaneColumns) (l : ℕ) (x : LaneColumns) → l < length xs → x ≡ get_or xs l x → ColumnsAreRight es places (lengths_in xs) (columns_in xs) → x.events ≤ length es

@@ -1,7 +1,7 @@
 -- Each place of a lane has an event, so the number of first events that reach one is unique.
 use Rattle.std.specs.Prelude.{◌≡◌, ℕ, ◌+◌, ◌<◌, ◌≤◌, ◌==◌, if◌then◌else◌, List, [], ◌∷◌, length, take}
-use Rattle.std.proofs.Common.{zero, suc, refl, arith, ap, sym, ◌∙◌, inl, inr}
-use Rattle.std.proofs.lemmas.Bool.Decides.{eqb_tells, leb_tells}
+use Rattle.std.proofs.Common.{zero, suc, refl, arith, ap, ◌∙◌, inl, inr}
+use Rattle.std.proofs.lemmas.Bool.Decides.{eqb_tells}
 use Rattle.std.proofs.lemmas.List.Sums.{sum_by-append}
 use Rattle.causal_clock.specs.declared.Event.{Event}
 use Rattle.causal_clock.specs.Timeline.{lane_of, lane_length, lane_place}
@@ -27,14 +27,7 @@ first_or_later : (e : Event) (es : List Event) (lane n : ℕ) → e.lane ≡ lan
 first_or_later e es lane zero same h rest = (0, record { within = omega arith; of_lane = same; place = refl })
 first_or_later e es lane (suc n) same h rest =
     let later = rest n (omega (arith, h, lane_length-first e es lane, one_at_same e.lane lane same)) in
-    let at = later.1 in (
-      suc later.0,
-      record {
-        within = omega (arith, at.within);
-        of_lane = at.of_lane;
-        place = omega (arith, lane_place-suc e es later.0, one_at_same e.lane (lane_of es later.0) (same ∙ sym at.of_lane), at.place);
-      },
-    )
+    (suc later.0, grind (arith, lane_place-suc e es later.0, later.1))
 
 -- a lane has an event at each place below its length
 pub event_at_place : (es : List Event) (lane n : ℕ) → n < lane_length es lane → (i : ℕ) × IsAtPlace es lane n i
@@ -44,26 +37,11 @@ event_at_place (e ∷ es) lane n h =
       | inl here ↦ first_or_later e es lane n here.1 h (event_at_place es lane)
       | inr other ↦
           let later = event_at_place es lane n (omega (arith, h, lane_length-first e es lane, one_at_other e.lane lane other.1)) in
-          let at = later.1 in (
-            suc later.0,
-            record {
-              within = omega (arith, at.within);
-              of_lane = at.of_lane;
-              place = omega (arith, lane_place-suc e es later.0, one_at_other e.lane (lane_of es later.0) (λ same. other.1 (same ∙ at.of_lane)), at.place);
-            },
-          )
+          (suc later.0, grind (arith, lane_place-suc e es later.0, later.1))
     ]
 
 no_greater : (es : List Event) (j lane n m : ℕ) → FirstReach es j lane n → FirstReach es j lane m → n ≤ m
-no_greater es j lane n m f g =
-    elim (leb_tells n m) [
-      | inl le ↦ le.1
-      | inr gt ↦
-          let some = event_at_place es lane m (omega (arith, gt.1, f.no_more)) in
-          let at = some.1 in
-          let reaches = (f.first some.0 at.within at.of_lane).1 (omega (arith, gt.1, at.place)) in
-          absurd (omega (arith, (g.first some.0 at.within at.of_lane).0 reaches, at.place))
-    ]
+no_greater es j lane n m f g = grind (arith, event_at_place es lane m, f.first, g.first)
 
 -- only one number can be the number of a lane's first events that reach j
 pub reach_unique : (es : List Event) (j lane n m : ℕ) → FirstReach es j lane n → FirstReach es j lane m → n ≡ m

@@ -1,10 +1,10 @@
 -- The invariant on counts after one more event, and after one more lane.
 use Rattle.std.proofs.lemmas.Grind.{common_steps}
 use Rattle.std.specs.Prelude.{◌≡◌, ◌≢◌, ℕ, ◌+◌, ◌<◌, ◌≤◌, max, Option, Some, None, List, [], ◌∷◌, ◌++◌, length}
-use Rattle.std.proofs.Common.{refl, arith, ap, sym, ◌∙◌, subst, inl, inr}
+use Rattle.std.proofs.Common.{refl, arith, sym, ◌∙◌, subst, inl, inr}
 use Rattle.std.proofs.lemmas.Bool.Decides.{eqb_tells}
 use Rattle.causal_clock.specs.declared.Event.{Event}
-use Rattle.causal_clock.specs.Timeline.{lane_of, lane_length, lane_place}
+use Rattle.causal_clock.specs.Timeline.{lane_of, lane_length}
 use Rattle.causal_clock.specs.Precedence.{Precedes, itself, onward, FirstReach}
 use Rattle.causal_clock.specs.Inside.EventCounts.{LastOf, count_or_none, CountsAreRight}
 use Rattle.causal_clock.proofs.Chains.{FirstReachSome, reaches_old, lane_of-old, lane_of-at_new, length-more, lane_length-more, lane_place-old, lane_place-new, old_or_new, one_at_same, one_at_other, first_old, first_new_other, first_new_own, by_lane}
@@ -16,21 +16,12 @@ same_some e = cc
 -- the counts of an event, or none where there is no event
 some_reach : (es : List Event) (counts : ℕ → ℕ → ℕ) (lanes : ℕ) (k : CountsAreRight es counts lanes) (event : Option ℕ) (lane : ℕ) → ((j : ℕ) → event ≡ Some j → j < length es) → FirstReachSome es event lane (count_or_none counts event lane)
 some_reach es counts lanes k None lane inside = grind arith
-some_reach es counts lanes k (Some j) lane inside =
-    let f = k.reach j (inside j refl) lane in
-    record {
-      no_more = f.no_more;
-      back = λ i lt of_lane p. (j, refl, (f.first i lt of_lane).1 p);
-      forth = λ i j' lt of_lane is c. (f.first i lt of_lane).0 (subst (Precedes es i) (sym (same_some is)) c);
-    }
+some_reach es counts lanes k (Some j) lane inside = grind (arith, k.reach j (inside j refl) lane)
 
 -- the count of a lane's last event for its lane is the lane's length
 full : (es : List Event) (counts : ℕ → ℕ → ℕ) (lanes : ℕ) (k : CountsAreRight es counts lanes) (event : Option ℕ) (lane : ℕ) → LastOf es event lane → lane_length es lane ≤ count_or_none counts event lane
 full es counts lanes k None lane l = omega (arith, l.empty refl)
-full es counts lanes k (Some p) lane l =
-    let at = l.inside p refl in
-    let own : counts p lane ≡ lane_place es p + 1 = ap (counts p) (sym at.1) ∙ k.own p at.0 in
-    omega (arith, own, at.2)
+full es counts lanes k (Some p) lane l = grind (arith, l.inside p refl, k.own p)
 
 module _ (es : List Event) (counts : ℕ → ℕ → ℕ) (lanes : ℕ) (k : CountsAreRight es counts lanes) (e : Event) (in_lane : e.lane < lanes) (sent : (s : ℕ) → e.send ≡ Some s → s < length es) (room : length es < 16777216) (after : ℕ → ℕ → ℕ) (same : (j : ℕ) → j < length es → (lane : ℕ) → after j lane ≡ counts j lane) (own : after (length es) e.lane ≡ lane_length es e.lane + 1) (each : (lane : ℕ) → lane ≢ e.lane → after (length es) lane ≡ max (count_or_none counts (k.last e.lane).0 lane) (count_or_none counts e.send lane)) where
   last : LastOf es (k.last e.lane).0 e.lane

@@ -8,6 +8,7 @@ use std::alloc::AllocError;
 
 // Returns where to begin the search for a place: all rises before it are at or before the place. Searches from the
 // end in doubling steps, since the place is usually a late one.
+#[tactic(auto, using(crate::proofs::Columns::up_to))]
 fn search_start(column: &[Rise], place: u32) -> usize
     requires strictly { RisesStrictly column.now }
     ensures inside { result ≤ length column.now }
@@ -31,6 +32,7 @@ fn count_up_to(column: &[Rise], place: u32) -> usize
 
 /// Returns how many events of the source lane reach that place of the lane: the count of the last rise at or before
 /// it. Takes O(log n) time for n rises after it.
+#[tactic(auto, using(crate::proofs::Columns::count_of_none, crate::proofs::Columns::count_of_last))]
 pub fn count_at(column: &[Rise], place: u32) -> u32
     requires strictly { RisesStrictly column.now }
     ensures { result ≡ count_at column.now place }

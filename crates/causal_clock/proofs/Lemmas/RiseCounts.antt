@@ -1,7 +1,6 @@
 -- The count of rises at a place.
-use Rattle.std.specs.Prelude.{◌≡◌, ℕ, ◌<◌, ◌≤◌, ◌⊎◌, leb, if◌then◌else◌, List, [], ◌∷◌, length}
-use Rattle.std.proofs.Common.{zero, suc, refl, arith, ap, inl, inr}
-use Rattle.std.proofs.lemmas.Bool.Decides.{leb_tells}
+use Rattle.std.specs.Prelude.{◌≡◌, ℕ, ◌<◌, ◌≤◌, ◌⊎◌, List, [], ◌∷◌, length}
+use Rattle.std.proofs.Common.{zero, suc, refl, arith, inl, inr}
 use Rattle.causal_clock.specs.declared.Rise.{Rise}
 use Rattle.causal_clock.specs.Rises.{rise_at, count_at}
 
@@ -20,24 +19,18 @@ pub record IsCountOf (rises : List Rise) (place count i : ℕ) : Type 0 where
   -- its count is the count at the place
   pub count_is : count ≡ (rise_at rises i).count
 
+-- the count with one more rise before the others is theirs, or that of the rise
+first_or_rest : (r : Rise) (rises : List Rise) (place : ℕ) → (count_at (r ∷ rises) place ≡ count_at rises place) ⊎ ((r.place ≤ place) × (count_at (r ∷ rises) place ≡ r.count))
+first_or_rest r rises place = grind arith
+
 -- a count is 0, or that of some rise at or before the place
 pub count_risen : (rises : List Rise) (place : ℕ) → (count_at rises place ≡ 0) ⊎ ((i : ℕ) × IsCountOf rises place (count_at rises place) i)
 count_risen [] place = inl refl
 count_risen (r ∷ rises) place =
-    elim (leb_tells r.place place) [
-      | inl here ↦
-          let is : ◌≡◌ {A = ℕ} (if leb r.place place then r.count else 0) r.count = ap (λ b. if b then r.count else 0) here.0 in
-          elim (leb_tells (count_at rises place) r.count) [
-            | inl le ↦ inr (0, record { within = omega arith; reached = here.1; count_is = omega (arith, is, le.1) })
-            | inr gt ↦ later (omega (arith, is, gt.1)) (count_risen rises place)
-          ]
-      | inr past ↦
-          let is : ◌≡◌ {A = ℕ} (if leb r.place place then r.count else 0) 0 = ap (λ b. if b then r.count else 0) past.0 in
-          later (omega (arith, is)) (count_risen rises place)
+    elim (first_or_rest r rises place) [
+      | inl is ↦ elim (count_risen rises place) [
+        | inl none ↦ inl (omega (arith, is, none))
+        | inr some ↦ inr (suc some.0, record { within = omega (arith, some.1.within); reached = some.1.reached; count_is = omega (arith, is, some.1.count_is) })
+      ]
+      | inr here ↦ inr (0, record { within = omega arith; reached = here.0; count_is = here.1 })
     ]
-  where
-    later : count_at (r ∷ rises) place ≡ count_at rises place → (count_at rises place ≡ 0) ⊎ ((i : ℕ) × IsCountOf rises place (count_at rises place) i) → (count_at (r ∷ rises) place ≡ 0) ⊎ ((i : ℕ) × IsCountOf (r ∷ rises) place (count_at (r ∷ rises) place) i)
-    later is (inl none) = inl (omega (arith, is, none))
-    later is (inr some) =
-        let at = some.1 in
-        inr (suc some.0, record { within = omega (arith, at.within); reached = at.reached; count_is = omega (arith, is, at.count_is) })
