@@ -1,23 +1,24 @@
 -- The map that a log's entries make, and the order of determinants.
-use Rattle.std.proofs.Common.{◌≡◌, ◌∙◌, ◌+◌, ◌&&◌, true, false, cond, List, [], ◌∷◌, Some, slice_index_or, true≢false, refl, sym, ap, subst, arith, get_or, Option, None, is_some}
+use Rattle.std.proofs.Common.{map, length, ◌<◌, Bool, ◌≡◌, ◌∙◌, ◌+◌, ◌&&◌, true, false, cond, List, [], ◌∷◌, Some, slice_index_or, true≢false, refl, sym, ap, subst, arith, IfSome}
+use Rattle.std.proofs.lemmas.Option.{IfSome_then}
 use Rattle.std.specs.declared.cmp.Ordering.TheVariants.{Less}
 use Rattle.std.specs.Ordering.{is_lt}
 use Rattle.std.specs.Cmp.{eq_by_cmp_equiv, IsEquivalence}
 use Rattle.std.proofs.lemmas.Bool.{false_from_ne_true}
 use Rattle.std.proofs.lemmas.List.{nil_from_length, get_or-map, length-map}
-use Rattle.std.proofs.lemmas.Map.Keys.{sorted_from_all_adjacent, apart_from_distinct, sorted_head, sorted_tail, IsDistinct-IsPermutation}
+use Rattle.std.proofs.lemmas.Map.Keys.{sorted_from_all_adjacent, apart_from_distinct, sorted_head, sorted_tail, IsDistinct-from_sorted, IsDistinct-IsPermutation}
 use Rattle.std.specs.Map.{lookup, keys_of}
 use Rattle.std.specs.FinMap.{from_entries, insert, get, get-from_entries, get-insert, same_map, find, entries, empty, entries-insert, len-entries, len-empty}
 use Rattle.std.specs.FinMap.Entries.{put, by_order}
 use Rattle.std.specs.List.{AllByRecursion, IsDistinct}
-use Rattle.std.specs.List.Sorted.{IsSorted, IsStrictlySortedBy, IsPermutation, IsSortedByKey}
+use Rattle.std.specs.List.Sorted.{IsSorted, IsStrictlySortedBy, IsPermutation, IsSortedBy, IsSortedByKey}
 use Rattle.causal_name.specs.declared.Det.{Det}
 use Rattle.causal_name.specs.Names.{det_cmp, same_det, is_before, is_ascending}
-use Rattle.causal_log.proofs.Lemmas.Searches.{both, before_apart, same_turned}
-use Rattle.causal_log.proofs.Lemmas.Ascents.{before_trans, ascending_skip, ascending_tail, is_less}
+use Rattle.causal_log.proofs.Lemmas.Searches.{before_apart, same_turned}
+use Rattle.causal_log.proofs.Lemmas.Ascents.{before_trans, ascending_skip, ascending_tail, is_less, map_ascends}
 use Rattle.causal_name.proofs.Lemmas.DetOrder.{dets_total, exact_dets, det_ties, same_itself, same_is}
 use Rattle.std.proofs.lemmas.List.Sorted.{Contains-permutation, IsPermutation-map, IsPermutation-sym}
-use Rattle.std.proofs.lemmas.Map.Views.{Contains-from_lookup, lookup-from_Contains}
+use Rattle.std.proofs.lemmas.Map.Views.{IfSome-lookup, lookup-from_Contains}
 use Rattle.std.specs.FinMap as fin
 
 -- `same_det` is an equivalence
@@ -73,7 +74,7 @@ not_after d e h = false_from_ne_true (is_before e d) (λ k. true≢false (sym (b
 -- the first of an ascending list is below the others
 below_each : (d : Det) (ds : List Det) → is_ascending (d ∷ ds) ≡ true → AllByRecursion (λ y. det_cmp d y ≡ Less) ds
 below_each d [] h = tt
-below_each d (e ∷ ds) h = (is_less (det_cmp d e) (both (is_before d e) (is_ascending (e ∷ ds)) h).0, below_each d ds (ascending_skip d e ds h))
+below_each d (e ∷ ds) h = grind (arith, below_each d ds, ascending_skip, is_less (det_cmp d e))
 
 -- ascending determinants are strictly sorted
 pub strict : (ds : List Det) → is_ascending ds ≡ true → IsStrictlySortedBy det_cmp ds
@@ -82,6 +83,10 @@ strict [] h = tt
 strict (d ∷ ds) h = (below_each d ds h, strict ds (ascending_tail d ds h))
 
 module _ {X : Type 0} where
+  -- the determinants of a map are distinct
+  pub keys_distinct : (m : fin.FinMap det_cmp X) → IsDistinct same_det (fin.keys m)
+  keys_distinct m = subst (λ r. IsDistinct r (fin.keys m)) (sym (λ i x y. det_ties x y i)) (IsDistinct-from_sorted det_cmp (fin.keys m) (strict (fin.keys m) (map_ascends m)))
+
   put_first : (e : Det × X) (es : List (Det × X)) → AllByRecursion (λ y. det_cmp e.0 y ≡ Less) (keys_of es) → put det_cmp e.0 e.1 es ≡ e ∷ es
   put_first e [] h = refl
   put_first e (f ∷ es) h = ap (λ r. by_order r (e ∷ f ∷ es) ((f.0, e.1) ∷ es) (f ∷ put det_cmp e.0 e.1 es)) h.0
@@ -95,22 +100,25 @@ module _ {X : Type 0} where
   own_entries [] h = nothing
   own_entries (e ∷ es) h = grind (arith, entries-insert dets_total (from_entries es) e.0 e.1, own_entries es (ascending_tail e.0 (keys_of es) h), put_first e es (below_each e.0 (keys_of es) h))
 
+-- a look-up in a permutation of distinct entries returns what it returns in these
+moved_found : {V : Type 0} (es fs : List (Det × V)) (q : Det) → IsPermutation es fs → IsDistinct same_det (keys_of fs) → IfSome (lookup (same_det q) es) (λ v. lookup (same_det q) fs ≡ Some v)
+moved_found es fs q moved distinct =
+    IfSome_then (lookup (same_det q) es) (IfSome-lookup same_is q es) (λ v at. lookup-from_Contains det_equiv q v fs distinct (Contains-permutation es fs (q, v) moved at))
+
+-- a list that is sorted by what f gives of each element is sorted once f is applied
+pub map_sorted : {A B : Type 0} (f : A → B) (lt : B → B → Bool) (xs : List A) → IsSortedBy (λ x y. lt (f x) (f y)) xs → IsSortedBy lt (map f xs)
+map_sorted f lt [] sorted k d low high = absurd (omega (arith, high))
+map_sorted f lt (x ∷ xs) sorted k d low high =
+    let inside : k + 1 < length (x ∷ xs) = omega (arith, high, length-map (x ∷ xs) f) in
+    rw (get_or-map f (x ∷ xs) (k + 1) x d inside, get_or-map f (x ∷ xs) k x d (omega (arith, inside))) (sorted k x low inside)
+
 module _ {V : Type 0} (es fs : List (Det × V)) (moved : IsPermutation es fs) (distinct : IsDistinct same_det (keys_of es)) where
   -- a permutation of distinct entries is distinct
   pub still_distinct : IsDistinct same_det (keys_of fs)
   still_distinct = IsDistinct-IsPermutation same_det same_turned (keys_of es) (keys_of fs) (IsPermutation-map (λ e. e.0) es fs moved) distinct
 
   still_found : (q : Det) → lookup (same_det q) fs ≡ lookup (same_det q) es
-  still_found q = by (lookup (same_det q) es) refl (lookup (same_det q) fs) refl
-    where
-      by : (a : Option V) → lookup (same_det q) es ≡ a → (b : Option V) → lookup (same_det q) fs ≡ b → b ≡ a
-      by (Some v) found b is =
-          sym is ∙ lookup-from_Contains det_equiv q v fs still_distinct (Contains-permutation es fs (q, v) moved (Contains-from_lookup same_is q v es found))
-      by None none None is = refl
-      by None none (Some w) is =
-          absurd (true≢false (ap is_some
-          (sym (lookup-from_Contains det_equiv q w es distinct (Contains-permutation fs es (q, w) (IsPermutation-sym es fs moved) (Contains-from_lookup same_is q w fs is)))
-          ∙ none)))
+  still_found q = grind (arith, moved_found es fs q moved still_distinct, moved_found fs es q (IsPermutation-sym es fs moved) distinct)
 
   -- a permutation of entries makes the same map
   pub moved_log : fin.from_entries {R = det_cmp} fs ≡ fin.from_entries es
@@ -118,12 +126,4 @@ module _ {V : Type 0} (es fs : List (Det × V)) (moved : IsPermutation es fs) (d
 
   -- sorted entries have ascending determinants
   pub moved_ascend : IsSortedByKey (λ e. e.0) det_cmp fs → is_ascending (keys_of fs) ≡ true
-  moved_ascend sorted = sorted_ascend (keys_of fs) (by fs sorted) still_distinct
-    where
-      by : (gs : List (Det × V)) → IsSortedByKey (λ e. e.0) det_cmp gs → IsSorted det_cmp (keys_of gs)
-      by [] sorted k d low high = absurd (omega (arith, high))
-      by (g ∷ gs) sorted k d low high =
-          let len = length-map (g ∷ gs) (λ e. e.0) in
-          subst (λ x. is_lt (det_cmp x (get_or (keys_of (g ∷ gs)) k d)) ≡ false) (sym (get_or-map (λ e. e.0) (g ∷ gs) (k + 1) g d (omega (arith, high, len))))
-          (subst (λ x. is_lt (det_cmp (get_or (g ∷ gs) (k + 1) g).0 x) ≡ false) (sym (get_or-map (λ e. e.0) (g ∷ gs) k g d (omega (arith, high, len))))
-          (sorted k g low (omega (arith, high, len))))
+  moved_ascend sorted = sorted_ascend (keys_of fs) (map_sorted (λ e. e.0) (λ x y. is_lt (det_cmp x y)) fs sorted) still_distinct

@@ -1,8 +1,9 @@
 -- Ascending items are recognised as those that messages carry, and stay so as determinants are learned.
-use Rattle.std.proofs.Common.{ℕ, zero, suc, ◌+◌, ◌-◌, ◌<◌, length, take, drop, get_or, slice_get, IfSome, ◌≡◌, ◌∙◌, ◌≤◌, ◌||◌, Bool, true, false, cond, nat_cmp, List, [], ◌∷◌, ◌++◌, map, filter, Option, Some, None, is_some, unwrap_or, true≢false, refl, sym, ap, subst, arith}
-use Rattle.std.proofs.lemmas.Bool.{and_from, or_from, or_right, false_from_ne_true}
+use Rattle.std.proofs.Common.{inl, inr, ℕ, zero, suc, ◌+◌, ◌-◌, ◌<◌, length, take, drop, get_or, slice_get, IfSome, ◌≡◌, ◌∙◌, ◌≤◌, ◌||◌, true, false, nat_cmp, List, [], ◌∷◌, ◌++◌, map, filter, Option, Some, None, is_some, unwrap_or, true≢false, refl, sym, ap, arith}
+use Rattle.std.proofs.lemmas.Simd.{map-map}
+use Rattle.std.proofs.lemmas.Bool.{and_from, and_parts, or_cases, or_right}
 use Rattle.std.proofs.lemmas.Bool.Decides.{nat_tests}
-use Rattle.std.proofs.lemmas.List.{append-nil, append_assoc, drop-drop, drop_more, get_or-drop, length-drop, length-take-le, map-append, take-append-drop, take_all, drop_all}
+use Rattle.std.proofs.lemmas.List.{append-nil, append_assoc, map-id, drop-drop, drop_more, get_or-drop, length-drop, length-take-le, map-append, take-append-drop, take_all, drop_all}
 use Rattle.std.proofs.lemmas.Option.{slice_get-get_or}
 use Rattle.std.proofs.Math.Seq.{drop-append_seam, take-append_seam, take-suc}
 use Rattle.std.proofs.lemmas.List.Folds.{list_any-append}
@@ -21,14 +22,14 @@ use Rattle.causal_log.specs.declared.known.Known.{Known}
 use Rattle.causal_log.specs.declared.batch.Item.{Item}
 use Rattle.causal_log.specs.Knowledge.{unknown, union_with, is_carried, knowledge_from_item}
 use Rattle.causal_log.specs.Logs.{LogMap, known_of, after_learn, after_absorb, item_of, batch_items, dets_of, names_det}
-use Rattle.causal_log.specs.Inside.BatchCache.{known_of_item, with_carried, LearnsItem}
+use Rattle.causal_log.specs.Inside.BatchCache.{known_of_item, item_entries, carried_knowledge, with_carried, LearnsItem}
 use Rattle.causal_log.specs.Inside.Merges.{AreDisjoint, IsMergeState, are_known_to_hold}
-use Rattle.causal_log.proofs.EntryLemmas.{below, get_log, same_log, own_entries, not_itself}
+use Rattle.causal_log.proofs.EntryLemmas.{below, get_log, same_log, own_entries, not_itself, not_after}
 use Rattle.causal_log.proofs.TableLemmas.{lookup_missing}
-use Rattle.causal_log.proofs.Lemmas.Ascents.{before_trans, ascending_tail, ascending_skip, first_before, filter_ascends}
+use Rattle.causal_log.proofs.Lemmas.Ascents.{ascending_tail, ascending_skip, first_before, filter_ascends}
 use Rattle.causal_log.proofs.Lemmas.ChosenLemmas.{chosen_ascend}
 use Rattle.causal_log.proofs.Lemmas.KnowledgeGrows.{get_learned}
-use Rattle.causal_log.proofs.Lemmas.Searches.{any_map, before_apart, both, or_nothing, find_kept, kept_if, shown, same_turned}
+use Rattle.causal_log.proofs.Lemmas.Searches.{any_map, before_apart, or_nothing, find_kept, shown, same_turned}
 
 more_holders : (one : set.FinSet nat_cmp) (other : set.FinSet nat_cmp) → ((q : ℕ) → set.contains one q ≡ true → set.contains other q ≡ true) → set.len one ≤ set.len other
 more_holders one other h = len-is_subset one other (set.contains-is_subset nat_cmp_total one other h)
@@ -41,72 +42,55 @@ both_carried f known news h =
     grind (arith, nat_tests)
 
 joined_out : (f : ℕ) (known news : Known) → is_carried f known ≡ false → is_carried f (union_with known news) ≡ false
-joined_out f known news is = false_from_ne_true (is_carried f (union_with known news)) (λ h. true≢false (sym (both_carried f known news h).0 ∙ is))
+joined_out f known news is = grind (arith, both_carried)
 
 heard_out : (f : ℕ) (known news : Known) → is_carried f news ≡ false → is_carried f (union_with known news) ≡ false
-heard_out f known news is = false_from_ne_true (is_carried f (union_with known news)) (λ h. true≢false (sym (both_carried f known news h).1 ∙ is))
+heard_out f known news is = grind (arith, both_carried)
 
--- items as log entries
-abbrev pub entry_of : Item → Det × Known
-entry_of item = (item.det, known_of_item item)
+pub keys_entries : (items : List Item) → keys_of (item_entries items) ≡ dets_of items
+keys_entries items = map-map (λ e. e.0) (λ item. (item.det, known_of_item item)) items
 
-abbrev pub entries_of : List Item → List (Det × Known)
-entries_of items = map entry_of items
-
--- what messages carry, of what is known of a determinant
-abbrev pub carried_of : ℕ → Option Known → Option Known
-carried_of f o = kept_if (is_carried f) o
-
-pub keys_entries : (items : List Item) → keys_of (entries_of items) ≡ dets_of items
-keys_entries [] = refl
-keys_entries (i ∷ items) = ap (λ ds. i.det ∷ ds) (keys_entries items)
-
-items_back : (items : List Item) → map item_of (entries_of items) ≡ items
-items_back [] = refl
-items_back (i ∷ items) = ap (λ is. i ∷ is) (items_back items)
+items_back : (items : List Item) → map item_of (item_entries items) ≡ items
+items_back items = map-map item_of (λ item. (item.det, known_of_item item)) items ∙ map-id items
 
 pub dets_append : (xs ys : List Item) → dets_of (xs ++ ys) ≡ dets_of xs ++ dets_of ys
 dets_append xs ys = map-append (λ item. item.det) xs ys
 
 -- a carried determinant has no mark
 pub carried_unmarked : (f : ℕ) (known : Known) → is_carried f known ≡ true → record { holders = known.holders; stable = false } ≡ known
-carried_unmarked f known h = grind (arith, both)
+carried_unmarked f known h = grind (arith, and_parts)
 
 module _ (f : ℕ) where
-  kept_entries : (es : List (Det × Known)) → entries_of (map item_of (filter (λ e. is_carried f e.1) es)) ≡ filter (λ e. is_carried f e.1) es
+  kept_entries : (es : List (Det × Known)) → item_entries (map item_of (filter (λ e. is_carried f e.1) es)) ≡ filter (λ e. is_carried f e.1) es
   kept_entries [] = refl
   kept_entries (e ∷ es) = grind (arith, kept_entries es, carried_unmarked)
 
-  found_kept : (log : LogMap) (q : Det) → lookup (same_det q) (filter (λ e. is_carried f e.1) (fin.entries log)) ≡ carried_of f (fin.get log q)
-  found_kept log q =
-      sym (get_log (filter (λ e. is_carried f e.1) (fin.entries log)) q)
-      ∙ fin.get-from_entries dets_total _ q
-      ∙ find_kept (is_carried f) q (fin.entries log) (shown _ (fin.entries_sorted log))
-      ∙ ap (kept_if (is_carried f)) (sym (fin.get-entries log q))
+  found_kept : (log : LogMap) (q : Det) → lookup (same_det q) (filter (λ e. is_carried f e.1) (fin.entries log)) ≡ carried_knowledge f (fin.get log q)
+  found_kept log q = grind (arith, get_log (filter (λ e. is_carried f e.1) (fin.entries log)) q, fin.get-from_entries dets_total (filter (λ e. is_carried f e.1) (fin.entries log)) q, find_kept (is_carried f) q (fin.entries log) (shown _ (fin.entries_sorted log)), fin.get-entries log q)
 
   -- a look-up in the items that messages carry finds each of them, and no other
-  pub found_chosen : (log : LogMap) (q : Det) → lookup (same_det q) (entries_of (batch_items f log)) ≡ carried_of f (fin.get log q)
+  pub found_chosen : (log : LogMap) (q : Det) → lookup (same_det q) (item_entries (batch_items f log)) ≡ carried_knowledge f (fin.get log q)
   found_chosen log q = ap (lookup (same_det q)) (kept_entries (fin.entries log)) ∙ found_kept log q
 
   -- ascending items with these look-ups are the items that messages carry
-  pub recognized : (log : LogMap) (items : List Item) → is_ascending (dets_of items) ≡ true → ((q : Det) → lookup (same_det q) (entries_of items) ≡ carried_of f (fin.get log q)) → items ≡ batch_items f log
+  pub recognized : (log : LogMap) (items : List Item) → is_ascending (dets_of items) ≡ true → ((q : Det) → lookup (same_det q) (item_entries items) ≡ carried_knowledge f (fin.get log q)) → items ≡ batch_items f log
   recognized log items ascend found =
       sym (items_back items)
       ∙ ap (map item_of)
-      (sym (own_entries (entries_of items) (ap is_ascending (keys_entries items) ∙ ascend))
-      ∙ ap fin.entries (same_log (entries_of items) (filter (λ e. is_carried f e.1) (fin.entries log)) (λ q. found q ∙ sym (found_kept log q)))
+      (sym (own_entries (item_entries items) (ap is_ascending (keys_entries items) ∙ ascend))
+      ∙ ap fin.entries (same_log (item_entries items) (filter (λ e. is_carried f e.1) (fin.entries log)) (λ q. found q ∙ sym (found_kept log q)))
       ∙ own_entries (filter (λ e. is_carried f e.1) (fin.entries log)) (filter_ascends (λ e. is_carried f e.1) log))
 
 -- two ascending lists that share one element, joined there, ascend
 pub glue : (xs : List Det) (d : Det) (ys : List Det) → is_ascending (xs ++ d ∷ []) ≡ true → is_ascending (d ∷ ys) ≡ true → is_ascending (xs ++ d ∷ ys) ≡ true
 glue [] d ys h k = k
-glue (x ∷ []) d ys h k = and_from (is_before x d) (is_ascending (d ∷ ys)) (both (is_before x d) true h).0 k
-glue (x ∷ y ∷ xs) d ys h k = grind (arith, glue (y ∷ xs) d ys, both, and_from)
+glue (x ∷ []) d ys h k = and_from (is_before x d) (is_ascending (d ∷ ys)) (and_parts (is_before x d) true h).0 k
+glue (x ∷ y ∷ xs) d ys h k = grind (arith, glue (y ∷ xs) d ys, and_parts, and_from)
 
 pub front : (xs : List Det) (d : Det) (ys : List Det) → is_ascending (xs ++ d ∷ ys) ≡ true → is_ascending (xs ++ d ∷ []) ≡ true
 front [] d ys h = refl
-front (x ∷ []) d ys h = and_from (is_before x d) true (both (is_before x d) (is_ascending (d ∷ ys)) h).0 refl
-front (x ∷ y ∷ xs) d ys h = grind (arith, front (y ∷ xs) d ys, both, and_from)
+front (x ∷ []) d ys h = grind (arith, and_from)
+front (x ∷ y ∷ xs) d ys h = grind (arith, front (y ∷ xs) d ys, and_parts, and_from)
 
 pub back : (xs ys : List Det) → is_ascending (xs ++ ys) ≡ true → is_ascending ys ≡ true
 back [] ys h = h
@@ -115,7 +99,7 @@ back (x ∷ xs) ys h = back xs ys (ascending_tail x (xs ++ ys) h)
 pub without : (xs : List Det) (d : Det) (ys : List Det) → is_ascending (xs ++ d ∷ ys) ≡ true → is_ascending (xs ++ ys) ≡ true
 without [] d ys h = ascending_tail d ys h
 without (x ∷ []) d ys h = ascending_skip x d ys h
-without (x ∷ y ∷ xs) d ys h = grind (arith, without (y ∷ xs) d ys, both, and_from)
+without (x ∷ y ∷ xs) d ys h = grind (arith, without (y ∷ xs) d ys, and_parts, and_from)
 
 -- the last element of an ascending list can be replaced by a later one
 pub raise : (xs : List Det) (d e : Det) → is_ascending (xs ++ d ∷ []) ≡ true → is_before d e ≡ true → is_ascending (xs ++ e ∷ []) ≡ true
@@ -128,23 +112,20 @@ last_there xs d = list_any-append (same_det d) xs (d ∷ []) ∙ or_right (list_
 -- a determinant is in neither a list before it nor a list after it
 pub none_front : (xs : List Det) (d : Det) → is_ascending (xs ++ d ∷ []) ≡ true → list_any (same_det d) xs ≡ false
 none_front [] d h = refl
-none_front (x ∷ xs) d h = or_from (same_det d x) (list_any (same_det d) xs) (false_from_ne_true (same_det d x) first) (none_front xs d (ascending_tail x (xs ++ d ∷ []) h))
-  where
-    first : same_det d x ≡ true → ⊥
-    first is = true≢false (sym (first_before x (xs ++ d ∷ []) d h (last_there xs d)) ∙ ap (is_before x) (same_is d x is) ∙ not_itself x)
+none_front (x ∷ xs) d h = grind (arith, none_front xs d (ascending_tail x (xs ++ d ∷ []) h), first_before x (xs ++ d ∷ []) d h (last_there xs d), same_is d x, not_itself x)
 
 pub none_back : (d : Det) (ys : List Det) → is_ascending (d ∷ ys) ≡ true → list_any (same_det d) ys ≡ false
-none_back d ys h = false_from_ne_true (list_any (same_det d) ys) (λ there. true≢false (sym (first_before d ys d h there) ∙ not_itself d))
+none_back d ys h = grind (arith, first_before d ys d h, not_itself d)
 
 lookup_append : {X : Type 0} (q : Det) (es fs : List (Det × X)) → lookup (same_det q) (es ++ fs) ≡ option_or (lookup (same_det q) es) (lookup (same_det q) fs)
 lookup_append q [] fs = refl
 lookup_append q (e ∷ es) fs = grind (arith, lookup_append q es fs)
 
-pub found_append : (q : Det) (xs ys : List Item) → lookup (same_det q) (entries_of (xs ++ ys)) ≡ option_or (lookup (same_det q) (entries_of xs)) (lookup (same_det q) (entries_of ys))
-found_append q xs ys = ap (lookup (same_det q)) (map-append entry_of xs ys) ∙ lookup_append q (entries_of xs) (entries_of ys)
+pub found_append : (q : Det) (xs ys : List Item) → lookup (same_det q) (item_entries (xs ++ ys)) ≡ option_or (lookup (same_det q) (item_entries xs)) (lookup (same_det q) (item_entries ys))
+found_append q xs ys = ap (lookup (same_det q)) (map-append (λ item. (item.det, known_of_item item)) xs ys) ∙ lookup_append q (item_entries xs) (item_entries ys)
 
-pub none_found : (q : Det) (xs : List Item) → list_any (same_det q) (dets_of xs) ≡ false → lookup (same_det q) (entries_of xs) ≡ None
-none_found q xs h = lookup_missing (entries_of xs) q (ap (list_any (same_det q)) (keys_entries xs) ∙ h)
+pub none_found : (q : Det) (xs : List Item) → list_any (same_det q) (dets_of xs) ≡ false → lookup (same_det q) (item_entries xs) ≡ None
+none_found q xs h = lookup_missing (item_entries xs) q (ap (list_any (same_det q)) (keys_entries xs) ∙ h)
 
 -- the items that messages carry of a log are `out` and `rest`, and `out` comes before a determinant: the items after
 -- that determinant is learned
@@ -152,28 +133,28 @@ module _ (f : ℕ) (log : LogMap) (det : Det) (news : Known) (out rest : List It
   abbrev pub now_known : Known
   now_known = union_with (known_of log det) news
 
-  not_out : lookup (same_det det) (entries_of out) ≡ None
+  not_out : lookup (same_det det) (item_entries out) ≡ None
   not_out = none_found det out (none_front (dets_of out) det before)
 
-  found : (q : Det) → option_or (lookup (same_det q) (entries_of out)) (lookup (same_det q) (entries_of rest)) ≡ carried_of f (fin.get log q)
-  found q = sym (found_append q out rest) ∙ ap (λ xs. lookup (same_det q) (entries_of xs)) is ∙ found_chosen f log q
+  found : (q : Det) → option_or (lookup (same_det q) (item_entries out)) (lookup (same_det q) (item_entries rest)) ≡ carried_knowledge f (fin.get log q)
+  found q = sym (found_append q out rest) ∙ ap (λ xs. lookup (same_det q) (item_entries xs)) is ∙ found_chosen f log q
 
   -- if the determinant is carried, it is in the rest
-  pub in_rest : lookup (same_det det) (entries_of rest) ≡ carried_of f (fin.get log det)
-  in_rest = sym (ap (λ o. option_or o (lookup (same_det det) (entries_of rest))) not_out) ∙ found det
+  pub in_rest : lookup (same_det det) (item_entries rest) ≡ carried_knowledge f (fin.get log det)
+  in_rest = sym (ap (λ o. option_or o (lookup (same_det det) (item_entries rest))) not_out) ∙ found det
 
   -- items that differ only at the determinant, and there have what is carried of it afterwards
   pub heard_now : (later : List Item) → is_ascending (dets_of (out ++ later)) ≡ true
-      → lookup (same_det det) (entries_of later) ≡ carried_of f (Some now_known)
-      → ((q : Det) → same_det q det ≡ false → lookup (same_det q) (entries_of later) ≡ lookup (same_det q) (entries_of rest))
+      → lookup (same_det det) (item_entries later) ≡ carried_knowledge f (Some now_known)
+      → ((q : Det) → same_det q det ≡ false → lookup (same_det q) (item_entries later) ≡ lookup (same_det q) (item_entries rest))
       → out ++ later ≡ batch_items f (after_learn log det news)
   heard_now later ascend here elsewhere =
       recognized f (after_learn log det news) (out ++ later) ascend (λ q.
       grind (arith, found_append q out later, get_learned log det news q, found q, not_out, here, elsewhere q, same_is q det))
 
   -- the items with this knowledge of the determinant, and other items after it
-  pub become : (known : Known) (later : List Item) → now_known ≡ known → is_ascending (dets_of out ++ det ∷ dets_of later) ≡ true → lookup (same_det det) (entries_of later) ≡ None
-      → ((q : Det) → same_det q det ≡ false → lookup (same_det q) (entries_of later) ≡ lookup (same_det q) (entries_of rest))
+  pub become : (known : Known) (later : List Item) → now_known ≡ known → is_ascending (dets_of out ++ det ∷ dets_of later) ≡ true → lookup (same_det det) (item_entries later) ≡ None
+      → ((q : Det) → same_det q det ≡ false → lookup (same_det q) (item_entries later) ≡ lookup (same_det q) (item_entries rest))
       → with_carried f det known out ++ later ≡ batch_items f (after_learn log det news)
   become known later now ascend none elsewhere = grind (arith, append_assoc, heard_now, dets_append, same_itself, carried_unmarked, without)
 
@@ -197,34 +178,20 @@ part_passed out kept from next det up within ascend before last = by (next - fro
         let rest = drop from kept in
         let any : Item = record { det = det; holders = set.empty } in
         let x = get_or rest m any in
-        let long = length-drop from kept in
-        let inside : m < length rest = omega (arith, e, within, long) in
-        let place : from + m ≡ next - 1 = omega (arith, e) in
-        let there : slice_get kept (next - 1) ≡ Some x = slice_get-get_or kept (next - 1) any (omega (arith, e, within)) ∙ ap (λ i. Some (get_or kept i any)) (sym place) ∙ ap (λ y. Some y) (sym (get_or-drop from kept m any)) in
-        let low : is_before x.det det ≡ true = subst (λ o. IfSome o (λ item. is_before item.det det ≡ true)) there (last (omega (arith, e))) in
-        let cut : take (next - from) rest ≡ take m rest ++ x ∷ [] = ap (λ n. take n rest) e ∙ take-suc rest m any inside in
-        let split : out ++ rest ≡ (out ++ take m rest) ++ x ∷ drop (m + 1) rest =
-        ap (λ xs. out ++ xs) (sym (take-append-drop m rest) ∙ ap (λ xs. take m rest ++ xs) (drop_more rest m any inside)) ∙ sym (append_assoc out (take m rest) (x ∷ drop (m + 1) rest)) in
-        ap (λ xs. is_ascending (dets_of (out ++ xs) ++ det ∷ [])) cut
-        ∙ ap (λ xs. is_ascending (dets_of xs ++ det ∷ [])) (sym (append_assoc out (take m rest) (x ∷ [])))
-        ∙ passed_on (out ++ take m rest) x (drop (m + 1) rest) det (ap (λ xs. is_ascending (dets_of xs)) (sym split) ∙ ascend) low
-
-some_carried : (f : ℕ) (o : Option Known) (known : Known) → Some known ≡ carried_of f o → unwrap_or o unknown ≡ known
-some_carried f None known h = absurd (true≢false (ap is_some h))
-some_carried f (Some other) known h = grind arith
+        let inside : m < length rest = omega (arith, e, within, length-drop from kept) in
+        let place : next - 1 ≡ from + m = omega (arith, e) in
+        let low : is_before x.det det ≡ true = grind (arith, last, slice_get-get_or kept (next - 1) any, get_or-drop from kept m any) in
+        grind (arith, e, take-suc rest m any inside, passed_on (out ++ take m rest) x (drop (m + 1) rest) det, take-append-drop m rest, drop_more rest m any inside, append_assoc)
 
 -- if the next item is of the learned determinant
 module _ (f : ℕ) (log : LogMap) (det : Det) (news : Known) (out : List Item) (item : Item) (rest : List Item) (is : out ++ item ∷ rest ≡ batch_items f log) (before : is_ascending (dets_of out ++ det ∷ []) ≡ true) (here : item.det ≡ det) where
   ascend : is_ascending (dets_of out ++ item.det ∷ dets_of rest) ≡ true
   ascend = sym (ap is_ascending (dets_append out (item ∷ rest))) ∙ ap (λ xs. is_ascending (dets_of xs)) is ∙ chosen_ascend f log
 
-  same : same_det det item.det ≡ true
-  same = ap (same_det det) here ∙ same_itself det
-
   known_now : known_of log det ≡ known_of_item item
-  known_now = some_carried f (fin.get log det) (known_of_item item) (sym (ap (λ b. cond b (Some (known_of_item item)) (lookup (same_det det) (entries_of rest))) same) ∙ in_rest f log det news out (item ∷ rest) is before)
+  known_now = grind (arith, in_rest f log det news out (item ∷ rest) is before, here, same_itself det)
 
-  not_later : lookup (same_det det) (entries_of rest) ≡ None
+  not_later : lookup (same_det det) (item_entries rest) ≡ None
   not_later = grind (arith, none_found, none_back, back, ascend)
 
   -- the item is replaced by what is known afterwards, if that is still carried
@@ -233,18 +200,14 @@ module _ (f : ℕ) (log : LogMap) (det : Det) (news : Known) (out : List Item) (
 
 -- if no item is of the determinant
 module _ (f : ℕ) (log : LogMap) (det : Det) (news : Known) (out rest : List Item) (is : out ++ rest ≡ batch_items f log) (before : is_ascending (dets_of out ++ det ∷ []) ≡ true) (after : is_ascending (det ∷ dets_of rest) ≡ true) where
-  none_there : lookup (same_det det) (entries_of rest) ≡ None
+  none_there : lookup (same_det det) (item_entries rest) ≡ None
   none_there = none_found det rest (none_back det (dets_of rest) after)
 
   becomes : (known : Known) → union_with (known_of log det) news ≡ known → with_carried f det known out ++ rest ≡ batch_items f (after_learn log det news)
   becomes known now = grind (arith, become, glue, none_there)
 
-  out_known : (o : Option Known) → None ≡ carried_of f o → is_some o ≡ true → is_carried f (unwrap_or o unknown) ≡ false
-  out_known None h there = absurd (true≢false (sym there))
-  out_known (Some known) h there = false_from_ne_true (is_carried f known) (λ k. true≢false (sym (ap is_some (h ∙ ap (λ b. cond b (Some known) None) k))))
-
   stays : is_carried f (union_with (known_of log det) news) ≡ false → out ++ rest ≡ batch_items f (after_learn log det news)
-  stays never = ap (λ b. cond b (out ++ record { det = det; holders = (union_with (known_of log det) news).holders } ∷ []) out ++ rest) (sym never) ∙ becomes (union_with (known_of log det) news) refl
+  stays never = grind (arith, becomes (union_with (known_of log det) news) refl)
 
   -- it is not added if what is learned of it alone would not be carried
   pub still_out : is_carried f news ≡ false → out ++ rest ≡ batch_items f (after_learn log det news)
@@ -252,7 +215,7 @@ module _ (f : ℕ) (log : LogMap) (det : Det) (news : Known) (out rest : List It
 
   -- it is not added if it is logged, whatever is learned of it
   pub logged_out : is_some (fin.get log det) ≡ true → out ++ rest ≡ batch_items f (after_learn log det news)
-  logged_out there = grind (arith, stays, joined_out, out_known, none_there, in_rest)
+  logged_out there = stays (joined_out f (known_of log det) news (grind (arith, none_there, in_rest f log det news out rest is before)))
 
   -- it is added if it is not logged
   pub comes_in : is_some (fin.get log det) ≡ false → with_carried f det (union_with unknown news) out ++ rest ≡ batch_items f (after_learn log det news)
@@ -262,14 +225,10 @@ module _ (f : ℕ) (log : LogMap) (det : Det) (news : Known) (out rest : List It
 pub apart_carried : (f : ℕ) (from me : Pid) (kept items : List Item) (log : LogMap) → ((item : Item) → is_carried f (knowledge_from_item from me item).1 ≡ false) → AreDisjoint items kept → kept ≡ batch_items f log → kept ≡ batch_items f (after_absorb items from me log)
 apart_carried f from me kept [] log never apart is = is
 apart_carried f from me kept (x ∷ xs) log never apart is =
-    let none : lookup (same_det x.det) (entries_of kept) ≡ None =
-    none_found x.det kept (apart x.det (ap (λ b. b || list_any (same_det x.det) (dets_of xs)) (same_itself x.det))) in
+    let none : lookup (same_det x.det) (item_entries kept) ≡ None = none_found x.det kept (apart x.det (grind (arith, same_itself x.det))) in
     apart_carried f from me kept xs (after_learn log x.det (knowledge_from_item from me x).1) never
     (λ d there. apart d (or_right (same_det d x.det) (list_any (same_det d) (dets_of xs)) there))
-    (heard_now f log x.det (knowledge_from_item from me x).1 [] kept is refl kept
-    (ap (λ ks. is_ascending (dets_of ks)) is ∙ chosen_ascend f log)
-    (none ∙ sym (ap (λ b. cond b (Some (union_with (known_of log x.det) (knowledge_from_item from me x).1)) None) (heard_out f (known_of log x.det) (knowledge_from_item from me x).1 (never x))))
-    (λ q other. refl))
+    (heard_now f log x.det (knowledge_from_item from me x).1 [] kept is refl kept (grind (arith, chosen_ascend f log)) (grind (arith, heard_out f (known_of log x.det) (knowledge_from_item from me x).1 (never x))) (λ q other. refl))
 
 -- the items from an index on begin with the item at that index
 pub drop_got : (xs : List Item) (i : ℕ) (x : Item) → slice_get xs i ≡ Some x → drop i xs ≡ x ∷ drop (i + 1) xs
@@ -286,11 +245,7 @@ got_within (y ∷ xs) (suc i) x h = let k = got_within xs i x h in omega (arith,
 -- if no item before the next one, nor the next one, is of a determinant, the next one comes after it
 pub next_after : (kept : List Item) (place : ℕ) (det : Det) → is_ascending (dets_of (drop place kept)) ≡ true → IfSome (slice_get kept place) (λ item. is_before item.det det ≡ false)
     → IfSome (slice_get kept place) (λ item. same_det item.det det ≡ false) → is_ascending (det ∷ dets_of (drop place kept)) ≡ true
-next_after [] place det up low apart = ap (λ xs. is_ascending (det ∷ dets_of xs)) (drop_nothing place)
-  where
-    drop_nothing : (n : ℕ) → drop {A = Item} n [] ≡ []
-    drop_nothing zero = refl
-    drop_nothing (suc n) = refl
+next_after [] place det up low apart = grind (arith, drop_all {X = Item} place [])
 next_after (x ∷ xs) zero det up low apart = grind (arith, and_from, below, same_turned)
 next_after (x ∷ xs) (suc n) det up low apart = next_after xs n det up low apart
 
@@ -321,7 +276,7 @@ module _ (f : ℕ) (items : List Item) (from me : Pid) (source : LogMap) where
     all = h.all;
     same = λ q there.
         grind (arith, get_learned h.log x.det (knowledge_from_item from me x).1 q, same_turned q x.det, before_apart x.det q, first_before x.det (dets_of rest) q ascend, any_map (λ other. other.det) (same_det q) (λ other. same_det q other.det) (λ other. refl) rest, h.same q);
-    before = λ y ys e. before y.det (both (is_before x.det y.det) (is_ascending (y.det ∷ dets_of ys)) (ap (λ xs. is_ascending (dets_of (x ∷ xs))) (sym e) ∙ ascend)).0;
+    before = λ y ys e. before y.det (and_parts (is_before x.det y.det) (is_ascending (y.det ∷ dets_of ys)) (ap (λ xs. is_ascending (dets_of (x ∷ xs))) (sym e) ∙ ascend)).0;
   }
 
 -- the last of the items that messages carry ascend
@@ -333,29 +288,25 @@ pub cut_rest : (xs : List Item) (n : ℕ) → take (length xs - n) (drop n xs) �
 cut_rest xs n = let len = length-drop n xs in take_all (length xs - n) (drop n xs) (omega (arith, len))
 
 -- no element of an ascending list comes before its first
-not_sooner : (x : Det) (xs : List Det) (d : Det) → is_ascending (x ∷ xs) ≡ true → list_any (same_det d) (x ∷ xs) ≡ true → is_before d x ≡ true → ⊥
-not_sooner x xs d h there low = by (same_det d x) refl there
-  where
-    by : (b : Bool) → same_det d x ≡ b → (b || list_any (same_det d) xs) ≡ true → ⊥
-    by true is h2 = true≢false (sym low ∙ ap (λ y. is_before y x) (same_is d x is) ∙ not_itself x)
-    by false is h2 = true≢false (sym (before_trans d x d low (first_before x xs d h h2)) ∙ not_itself d)
+not_sooner : (x : Det) (xs : List Det) (d : Det) → is_ascending (x ∷ xs) ≡ true → list_any (same_det d) (x ∷ xs) ≡ true → is_before d x ≡ false
+not_sooner x xs d h there = elim (or_cases (same_det d x) (list_any (same_det d) xs) there) [ inl is ↦ ap (λ y. is_before y x) (same_is d x is) ∙ not_itself x | inr at ↦ not_after x d (first_before x xs d h at) ]
 
 -- all elements before the last of an ascending list come before it
 ends_before : (xs : List Det) (e d : Det) → is_ascending (xs ++ e ∷ []) ≡ true → list_any (same_det d) xs ≡ true → is_before d e ≡ true
 ends_before [] e d h there = absurd (true≢false (sym there))
-ends_before (x ∷ xs) e d h there = by (same_det d x) refl there (ends_before xs e d (ascending_tail x (xs ++ e ∷ []) h))
-  where
-    by : (b : Bool) → same_det d x ≡ b → (b || list_any (same_det d) xs) ≡ true → (list_any (same_det d) xs ≡ true → is_before d e ≡ true) → is_before d e ≡ true
-    by true is h2 later = ap (λ y. is_before y e) (same_is d x is) ∙ first_before x (xs ++ e ∷ []) e h (last_there xs e)
-    by false is h2 later = later h2
+ends_before (x ∷ xs) e d h there =
+    elim (or_cases (same_det d x) (list_any (same_det d) xs) there) [
+      | inl is ↦ ap (λ y. is_before y e) (same_is d x is) ∙ first_before x (xs ++ e ∷ []) e h (last_there xs e)
+      | inr at ↦ ends_before xs e d (ascending_tail x (xs ++ e ∷ []) h) at
+    ]
 
 -- no element of an ascending list comes after its last
-none_after_last : (xs : List Det) (e d : Det) → is_ascending (xs ++ e ∷ []) ≡ true → list_any (same_det d) (xs ++ e ∷ []) ≡ true → is_before e d ≡ true → ⊥
-none_after_last xs e d h there low = by (list_any (same_det d) xs) refl (sym (list_any-append (same_det d) xs (e ∷ [])) ∙ there)
-  where
-    by : (b : Bool) → list_any (same_det d) xs ≡ b → (b || (same_det d e || false)) ≡ true → ⊥
-    by true is h2 = true≢false (sym (before_trans d e d (ends_before xs e d h is) low) ∙ not_itself d)
-    by false is h2 = true≢false (sym low ∙ ap (is_before e) (same_is d e (or_nothing (same_det d e) ∙ h2)) ∙ not_itself e)
+none_after_last : (xs : List Det) (e d : Det) → is_ascending (xs ++ e ∷ []) ≡ true → list_any (same_det d) (xs ++ e ∷ []) ≡ true → is_before e d ≡ false
+none_after_last xs e d h there =
+    elim (or_cases (list_any (same_det d) xs) (same_det d e || false) (sym (list_any-append (same_det d) xs (e ∷ [])) ∙ there)) [
+      | inl at ↦ not_after d e (ends_before xs e d h at)
+      | inr is ↦ ap (is_before e) (same_is d e (or_nothing (same_det d e) ∙ is)) ∙ not_itself e
+    ]
 
 -- the items from an index on ascend
 pub drop_ascends : (xs : List Item) (n : ℕ) → is_ascending (dets_of xs) ≡ true → is_ascending (dets_of (drop n xs)) ≡ true
@@ -363,30 +314,15 @@ drop_ascends xs n h = grind (arith, back, dets_append (take n xs) (drop n xs), t
 
 -- the last item of a list ends it
 ends_with : (xs : List Item) (x : Item) → slice_get xs (length xs - 1) ≡ Some x → dets_of (take (length xs - 1) xs) ++ x.det ∷ [] ≡ dets_of xs
-ends_with xs x there =
-    let last = length xs - 1 in
-    let within = got_within xs last x there in
-    sym (dets_append (take last xs) (x ∷ []))
-    ∙ ap (λ ys. dets_of (take last xs ++ x ∷ ys)) (sym (drop_all (last + 1) xs (omega (arith, within))))
-    ∙ ap (λ ys. dets_of (take last xs ++ ys)) (sym (drop_got xs last x there))
-    ∙ ap (λ ys. dets_of ys) (take-append-drop last xs)
+ends_with xs x there = grind (arith, got_within xs (length xs - 1) x there, drop_got xs (length xs - 1) x there, drop_all, take-append-drop (length xs - 1) xs, dets_append (take (length xs - 1) xs) (x ∷ []))
 
 -- items between two neighbours of a list are none of that list
 pub apart_between : (items kept : List Item) (first last : Item) (place : ℕ) → is_ascending (dets_of items) ≡ true → slice_get items 0 ≡ Some first → slice_get items (length items - 1) ≡ Some last
     → is_ascending (dets_of (take place kept) ++ first.det ∷ []) ≡ true → is_ascending (last.det ∷ dets_of (drop place kept)) ≡ true → AreDisjoint items kept
 apart_between items kept first last place ascend begins ends before after d there =
-    sym (ap (λ ys. list_any (same_det d) (dets_of ys)) (take-append-drop place kept))
-    ∙ ap (list_any (same_det d)) (dets_append (take place kept) (drop place kept))
-    ∙ list_any-append (same_det d) (dets_of (take place kept)) (dets_of (drop place kept))
-    ∙ or_from (list_any (same_det d) (dets_of (take place kept))) (list_any (same_det d) (dets_of (drop place kept)))
-    (false_from_ne_true (list_any (same_det d) (dets_of (take place kept))) (λ is. not_sooner first.det (dets_of (drop 1 items)) d
-    (ap (λ ys. is_ascending (dets_of ys)) (sym (drop_got items 0 first begins)) ∙ ascend)
-    (ap (λ ys. list_any (same_det d) (dets_of ys)) (sym (drop_got items 0 first begins)) ∙ there)
-    (ends_before (dets_of (take place kept)) first.det d before is)))
-    (false_from_ne_true (list_any (same_det d) (dets_of (drop place kept))) (λ is. none_after_last (dets_of (take (length items - 1) items)) last.det d
-    (ap is_ascending (ends_with items last ends) ∙ ascend)
-    (ap (list_any (same_det d)) (ends_with items last ends) ∙ there)
-    (first_before last.det (dets_of (drop place kept)) d after is)))
+    let sooner : is_before d first.det ≡ false = not_sooner first.det (dets_of (drop 1 items)) d (grind (arith, drop_got items 0 first begins)) (grind (arith, drop_got items 0 first begins)) in
+    let later : is_before last.det d ≡ false = none_after_last (dets_of (take (length items - 1) items)) last.det d (grind (arith, ends_with items last ends)) (grind (arith, ends_with items last ends)) in
+    grind (arith, take-append-drop place kept, dets_append (take place kept) (drop place kept), list_any-append (same_det d) (dets_of (take place kept)) (dets_of (drop place kept)), sooner, later, ends_before (dets_of (take place kept)) first.det d before, first_before last.det (dets_of (drop place kept)) d after)
 
 -- a determinant that an item names is named
 pub named_at : (xs : List Item) (n : ℕ) (x : Item) (det : Det) → slice_get xs n ≡ Some x → x.det ≡ det → names_det det xs ≡ true
@@ -396,10 +332,7 @@ named_at xs n x det there same = grind (arith, take-append-drop n xs, drop_got x
 pub unnamed_at : (xs : List Item) (n : ℕ) (det : Det) → is_ascending (dets_of (take n xs) ++ det ∷ []) ≡ true → is_ascending (det ∷ dets_of (drop n xs)) ≡ true → names_det det xs ≡ false
 unnamed_at xs n det before after =
     sym (any_map (λ item. item.det) (same_det det) (λ item. same_det det item.det) (λ item. refl) xs)
-    ∙ ap (λ ys. list_any (same_det det) (dets_of ys)) (sym (take-append-drop n xs))
-    ∙ ap (list_any (same_det det)) (dets_append (take n xs) (drop n xs))
-    ∙ list_any-append (same_det det) (dets_of (take n xs)) (dets_of (drop n xs))
-    ∙ or_from (list_any (same_det det) (dets_of (take n xs))) (list_any (same_det det) (dets_of (drop n xs))) (none_front (dets_of (take n xs)) det before) (none_back det (dets_of (drop n xs)) after)
+    ∙ grind (arith, take-append-drop n xs, dets_append (take n xs) (drop n xs), list_any-append (same_det det) (dets_of (take n xs)) (dets_of (drop n xs)), none_front (dets_of (take n xs)) det before, none_back det (dets_of (drop n xs)) after)
 
 -- an item inserted where one was removed is between its neighbours
 pub in_its_place : (f : ℕ) (det : Det) (known : Known) (xs : List Item) (n : ℕ) → n ≤ length xs

@@ -1,9 +1,10 @@
 -- Entries in any order, and the map that they make.
 use Rattle.std.proofs.Common.{ℕ, zero, suc, ◌≡◌, ◌∙◌, Bool, true, false, cond, List, [], ◌∷◌, filter, find, count_by, Option, Some, None, is_some, option_map, unwrap_or, slice_get, length, true≢false, refl, sym, ap, subst, arith}
+use Rattle.std.proofs.lemmas.Bool.Decides.{nat_tests}
 use Rattle.std.proofs.lemmas.List.Sorted.{IsPermutation-refl, IsPermutation-cons, IsPermutation-swap, IsPermutation-trans, IsPermutation-map, length_permutation, sum_by-IsPermutation}
 use Rattle.std.proofs.lemmas.List.Sums.{length-filter}
 use Rattle.std.proofs.lemmas.Map.Entries.{lookup-filter-values}
-use Rattle.std.proofs.lemmas.Map.Keys.{IsDistinct-from_sorted, any_passes_from_place}
+use Rattle.std.proofs.lemmas.Map.Keys.{any_passes_from_place}
 use Rattle.std.proofs.lemmas.Map.Made.{is_some-lookup}
 use Rattle.std.proofs.lemmas.Option.{slice_get-map}
 use Rattle.std.specs.List.{AllByRecursion, IsDistinct, list_any}
@@ -14,25 +15,24 @@ use Rattle.std.specs.FinMap.Entries.{put, by_order}
 use Rattle.std.specs.Ordering.{is_eq}
 use Rattle.std.specs.declared.cmp.Ordering.{Ordering}
 use Rattle.std.specs.declared.cmp.Ordering.TheVariants.{Less, Equal, Greater}
-use Rattle.std.proofs.lemmas.Bool.{eqb-true, eq-eqb}
+use Rattle.std.proofs.lemmas.Bool.{and_parts}
 use Rattle.causal_name.specs.declared.Det.{Det}
 use Rattle.causal_name.specs.Names.{det_cmp, same_det, is_before, is_ascending}
-use Rattle.causal_name.proofs.Lemmas.DetOrder.{dets_total, exact_dets, det_ties, same_is, same_itself}
+use Rattle.causal_name.proofs.Lemmas.DetOrder.{dets_total, exact_dets, same_is, same_itself}
 use Rattle.causal_log.specs.declared.known.Known.{Known}
 use Rattle.causal_log.specs.Knowledge.{unknown, union_with}
 use Rattle.causal_log.specs.Logs.{LogMap, after_learn_all}
 use Rattle.causal_log.specs.Inside.Ranks.{has_rank}
-use Rattle.causal_log.proofs.EntryLemmas.{det_equiv, find_lookup, get_log, same_log, strict, nothing, not_itself, not_after}
+use Rattle.causal_log.proofs.EntryLemmas.{det_equiv, find_lookup, get_log, same_log, keys_distinct, nothing, not_itself, not_after}
 use Rattle.causal_log.proofs.LeastLemmas.{index_of_member}
 use Rattle.causal_log.proofs.Lemmas.Ascents.{ascending_tail, ascending_skip, first_before, map_ascends}
 use Rattle.causal_log.proofs.Lemmas.KnowledgeGrows.{get_learned}
 use Rattle.causal_log.proofs.Lemmas.LogLists.{place_shown}
-use Rattle.causal_log.proofs.Lemmas.Searches.{both}
 use Rattle.causal_log.proofs.Lemmas.Slots.{first_fits, none_fits}
 
 none_later : {X : Type 0} (d : Det) (es : List (Det × X)) → AllByRecursion (λ y. same_det d y ≡ false) (keys_of es) → lookup (same_det d) es ≡ None
 none_later d [] h = refl
-none_later d (e ∷ es) h = ap (λ b. cond b (Some e.1) (lookup (same_det d) es)) h.0 ∙ none_later d es h.1
+none_later d (e ∷ es) h = grind (arith, none_later d es h.1, h.0)
 
 -- the value of a determinant, if both pass a test
 abbrev passing : {X : Type 0} → (Det × X → Bool) → Det → Option X → Option X
@@ -43,26 +43,12 @@ passing P q (Some x) = cond (P (q, x)) (Some x) None
 lookup_passing : {X : Type 0} (P : Det × X → Bool) (q : Det) (es : List (Det × X)) → IsDistinct same_det (keys_of es) → lookup (same_det q) (filter P es) ≡ passing P q (lookup (same_det q) es)
 unfolding IsDistinct
 lookup_passing P q [] distinct = refl
-lookup_passing P q (e ∷ es) distinct = by (same_det q e.0) (P e) refl refl (lookup_passing P q es distinct.1)
-  where
-    by : (b p : Bool) → same_det q e.0 ≡ b → P e ≡ p → lookup (same_det q) (filter P es) ≡ passing P q (lookup (same_det q) es)
-        → lookup (same_det q) (cond p (e ∷ filter P es) (filter P es)) ≡ passing P q (cond b (Some e.1) (lookup (same_det q) es))
-    by true true is passes later = ap (λ b. cond b (Some e.1) (lookup (same_det q) (filter P es))) is ∙ sym (ap (λ d. cond (P (d, e.1)) (Some e.1) None) (same_is q e.0 is) ∙ ap (λ b. cond b (Some e.1) None) passes)
-    by true false is passes later =
-        later ∙ ap (passing P q) (ap (λ d. lookup (same_det d) es) (same_is q e.0 is) ∙ none_later e.0 es distinct.0)
-        ∙ sym (ap (λ d. cond (P (d, e.1)) (Some e.1) None) (same_is q e.0 is) ∙ ap (λ b. cond b (Some e.1) None) passes)
-    by false true is passes later = ap (λ b. cond b (Some e.1) (lookup (same_det q) (filter P es))) is ∙ later
-    by false false is passes later = later
+lookup_passing P q (e ∷ es) distinct = grind (arith, lookup_passing P q es distinct.1, same_is q e.0, none_later e.0 es distinct.0)
 
 module _ {X : Type 0} where
   -- the entries, sorted as in the map that they make
   abbrev pub in_order : List (Det × X) → List (Det × X)
   in_order es = fin.entries (fin.from_entries {R = det_cmp} es)
-
-  order_distinct : (es : List (Det × X)) → IsDistinct same_det (keys_of (in_order es))
-  order_distinct es =
-      let ds = keys_of (in_order es) in
-      subst (λ r. IsDistinct r ds) (sym (λ i x y. det_ties x y i)) (IsDistinct-from_sorted det_cmp ds (strict ds (map_ascends (fin.from_entries {R = det_cmp} es))))
 
   -- a look-up in sorted entries returns what it returned before
   pub found_order : (es : List (Det × X)) (q : Det) → lookup (same_det q) (in_order es) ≡ lookup (same_det q) es
@@ -106,12 +92,12 @@ module _ {X : Type 0} where
     -- the sorted entries that pass a test make the same map
     pub same_kept : (P : X → Bool) → fin.from_entries {R = det_cmp} (filter (λ e. P e.1) es) ≡ fin.from_entries (filter (λ e. P e.1) (in_order es))
     same_kept P = same_log (filter (λ e. P e.1) es) (filter (λ e. P e.1) (in_order es)) (λ q.
-        grind (arith, lookup-filter-values det_equiv P q es distinct, lookup-filter-values det_equiv P q (in_order es) (order_distinct es), found_order es q))
+        grind (arith, lookup-filter-values det_equiv P q es distinct, lookup-filter-values det_equiv P q (in_order es) (keys_distinct (fin.from_entries es)), found_order es q))
 
     -- the sorted entries that pass a test of determinant and value make the same map
     pub same_passing : (P : Det × X → Bool) → fin.from_entries {R = det_cmp} (filter P es) ≡ fin.from_entries (filter P (in_order es))
     same_passing P = same_log (filter P es) (filter P (in_order es)) (λ q.
-        grind (arith, lookup_passing P q es distinct, lookup_passing P q (in_order es) (order_distinct es), found_order es q))
+        grind (arith, lookup_passing P q es distinct, lookup_passing P q (in_order es) (keys_distinct (fin.from_entries es)), found_order es q))
 
     -- as many determinants pass a test
     pub same_counted : (P : Det → Bool) → count_by P (keys_of es) ≡ count_by P (keys_of (in_order es))
@@ -129,11 +115,11 @@ get_all (e ∷ es) log q distinct = grind (arith, get_all es, get_learned, same_
 
 -- the order in which entries are learned does not matter
 pub same_learned : (es : List (Det × Known)) (log : LogMap) → IsDistinct same_det (keys_of es) → after_learn_all es log ≡ after_learn_all (in_order es) log
-same_learned es log distinct = fin.same_map dets_total exact_dets _ _ (λ q. grind (arith, get_all, found_order, order_distinct es))
+same_learned es log distinct = fin.same_map dets_total exact_dets _ _ (λ q. grind (arith, get_all, found_order, keys_distinct (fin.from_entries es)))
 
 none_before : (d : Det) (ds : List Det) → is_ascending (d ∷ ds) ≡ true → length (filter (λ x. is_before x d) ds) ≡ 0
 none_before d [] h = refl
-none_before d (e ∷ ds) h = grind (arith, none_before d ds, both, not_after, ascending_skip)
+none_before d (e ∷ ds) h = grind (arith, none_before d ds, and_parts, not_after, ascending_skip)
 
 -- in an ascending list, as many elements come before one as its index
 rank_at : (ds : List Det) (i : ℕ) (d : Det) → is_ascending ds ≡ true → slice_get ds i ≡ Some d → length (filter (λ x. is_before x d) ds) ≡ i
@@ -172,14 +158,11 @@ module _ (es : List (Det × Known)) (distinct : IsDistinct same_det (keys_of es)
     where
       by : (o : Option Det) → find (λ d. has_rank es n d) (keys_of es) ≡ o → (r : Option Det) → slice_get keys n ≡ r → o ≡ r
       by None none None at = refl
-      by None none (Some d) at =
-          let there = same_members es d ∙ any_passes_from_place (same_det d) keys n d at (same_itself d) in
-          absurd (true≢false (sym (eq-eqb (length (filter (λ x. is_before x.0 d) es)) n (rank_order n d at)) ∙ none_fits (λ x. has_rank es n x) (keys_of es) d none there))
+      by None none (Some d) at = grind (arith, nat_tests, rank_order n d at, none_fits (λ x. has_rank es n x) (keys_of es) d none, same_members es d, any_passes_from_place (same_det d) keys n d at (same_itself d))
       by (Some d) found r at =
           let two = first_fits (λ x. has_rank es n x) (keys_of es) d found in
           let there = index_of_member d keys (sym (same_members es d) ∙ two.1) in
-          let place = sym (rank_order there.0 d there.1) ∙ eqb-true (length (filter (λ x. is_before x.0 d) es)) n two.0 in
-          sym there.1 ∙ ap (slice_get keys) place ∙ at
+          grind (arith, nat_tests, two.0, there.1, rank_order there.0 d there.1)
 
   -- with what is known of it, the determinant of rank n is the entry at index n
   pub ranked_entry : (n : ℕ) → with_known (fin.from_entries es) (find (λ d. has_rank es n d) (keys_of es)) ≡ slice_get (in_order es) n

@@ -1,7 +1,10 @@
 -- Entries keyed by slot and number: look-ups find each determinant, and all determinants of a slot.
-use Rattle.std.proofs.Common.{ℕ, zero, suc, ◌≡◌, ◌∙◌, ◌⊎◌, inl, inr, ◌<◌, ◌≤◌, ◌+◌, ◌||◌, Bool, true, false, cond, All, Contains, Option, Some, None, IfSome, is_some, unwrap_or, List, filter, [], ◌∷◌, ◌++◌, length, set, slice_get, get_or, true≢false, refl, sym, ap, subst, arith}
-use Rattle.std.proofs.lemmas.Bool.{cases_eq, false_from_ne_true, or_cases, eqb-true}
-use Rattle.std.proofs.lemmas.List.{map-append, get_or-map, length-map, length_push}
+use Rattle.std.proofs.Common.{ℕ, zero, suc, ◌≡◌, ◌∙◌, inl, inr, ◌<◌, ◌≤◌, ◌+◌, Bool, true, false, cond, All, Option, Some, None, IfSome, is_some, List, filter, [], ◌∷◌, ◌++◌, length, set, slice_get, true≢false, refl, sym, ap, subst, arith}
+use Rattle.causal_log.proofs.Lemmas.Searches.{or_nothing}
+use Rattle.std.proofs.lemmas.Option.{IfSome_then}
+use borrow.Author.Count.{below_more}
+use Rattle.std.proofs.lemmas.Bool.{false_from_ne_true, or_cases, and_parts, eqb-true}
+use Rattle.std.proofs.lemmas.List.{map-append, length_push}
 use Rattle.std.proofs.lemmas.List.Folds.{list_any-append}
 use Rattle.std.proofs.lemmas.Map.Keys.{IsDistinct-push}
 use Rattle.std.proofs.lemmas.Map.Steps.{length-le_from_keys}
@@ -12,7 +15,7 @@ use Rattle.indexmap.specs.IndexMap.{set_value_at}
 use Rattle.std.proofs.lemmas.Bool.Decides.{nat_tests}
 use Rattle.std.proofs.lemmas.List.Elements.{All-contains, All-cons, All-head, All-nil, All-tail}
 use Rattle.std.proofs.lemmas.Map.Made.{is_some-lookup, Contains-from_values_of}
-use Rattle.std.proofs.lemmas.Map.Views.{Contains-from_lookup, lookup-from_Contains}
+use Rattle.std.proofs.lemmas.Map.Views.{Contains-from_lookup, IfSome-lookup, lookup-from_Contains}
 use Rattle.std.specs.Cmp.{IsEquivalence}
 use Rattle.std.specs.List.{IsDistinct, list_any}
 use Rattle.std.specs.Map.{lookup, keys_of, values_of}
@@ -25,42 +28,47 @@ use Rattle.causal_log.specs.declared.table.SlotKey.{SlotKey}
 use Rattle.causal_log.specs.Slots.{is_of_slot}
 use Rattle.causal_log.specs.Inside.Ranks.{IsAmong, IsLeastOfSlot, lesser_det}
 use Rattle.causal_log.specs.Inside.Tables.{HasSlotKey, IsNotLater, is_later, slot_key, same_slot_key}
-use Rattle.causal_log.proofs.EntryLemmas.{below}
+use Rattle.causal_log.proofs.EntryLemmas.{below, map_sorted, not_itself}
 use Rattle.causal_log.proofs.Lemmas.Ascents.{before_trans}
-use Rattle.causal_log.proofs.Lemmas.Searches.{both, or_right}
 
 -- equal keys are one
 same_slot_key_is : (p q : SlotKey) → same_slot_key p q ≡ true → p ≡ q
-same_slot_key_is p q h = grind (arith, both, eqb-true)
-
-same_slot_key_itself : (p : SlotKey) → same_slot_key p p ≡ true
-same_slot_key_itself p = grind (arith, nat_tests)
-
-same_slot_key_turned : (p q : SlotKey) → same_slot_key p q ≡ same_slot_key q p
-same_slot_key_turned p q = grind (arith, nat_tests)
+same_slot_key_is p q h = grind (arith, and_parts, eqb-true)
 
 pub slot_key_equiv : IsEquivalence same_slot_key
-slot_key_equiv = record { refl = same_slot_key_itself; symm = same_slot_key_turned; congr = λ p q r h. ap (λ x. same_slot_key x r) (same_slot_key_is p q h) }
+slot_key_equiv = record { refl = λ p. grind (arith, nat_tests); symm = λ p q. grind (arith, nat_tests); congr = λ p q r h. ap (λ x. same_slot_key x r) (same_slot_key_is p q h) }
 
 slot_is : (slot : Slot) (q : Det) → is_of_slot slot.dest slot.rsn q ≡ true → slot_of q ≡ slot
-slot_is slot q h = grind (arith, both, eqb-true)
+slot_is slot q h = grind (arith, and_parts, eqb-true)
 
 slot_fits : (slot : Slot) (q : Det) → slot ≡ slot_of q → is_of_slot slot.dest slot.rsn q ≡ true
 slot_fits slot q h = grind (arith, nat_tests)
 
-or_before : (x f : Det) → is_before x f ≡ false → (f ≡ x) ⊎ (is_before f x ≡ true)
-or_before x f low = grind (arith, same_is, below)
-
-lesser_none : (o : Option Det) → lesser_det o None ≡ o
-lesser_none None = refl
-lesser_none (Some d) = refl
-
--- the determinant found so far is another one, or comes before it
+-- the next determinant does not come before the one found so far
 abbrev pub IsNotAfter : Option Det → Det → Type 0
 IsNotAfter None q = ⊥
-IsNotAfter (Some d) q = (d ≡ q) ⊎ (is_before d q ≡ true)
+IsNotAfter (Some d) q = is_before q d ≡ false
 
-abbrev Entries : Type 0
+-- of the lesser of two determinants: what held of the one found so far still holds
+lesser_keeps : (least o : Option Det) (q : Det) → IsNotAfter least q → IsNotAfter (lesser_det least o) q
+lesser_keeps None o q h = absurd h
+lesser_keeps (Some d) None q h = h
+lesser_keeps (Some d) (Some e) q h =
+    elim (is_before e d) as (λ b. is_before e d ≡ b → IsNotAfter (cond b (Some e) (Some d)) q) [
+      | true ↦ λ low. false_from_ne_true (is_before q e) (λ k. true≢false (sym (before_trans q e d k low) ∙ h))
+      | false ↦ λ high. h
+    ] refl
+
+lesser_own : (least : Option Det) (e : Det) → IsNotAfter (lesser_det least (Some e)) e
+lesser_own None e = not_itself e
+lesser_own (Some d) e = grind (arith, not_itself e)
+
+lesser_has : (P : Det → Type 0) (least o : Option Det) → IfSome least P → IfSome o P → IfSome (lesser_det least o) P
+lesser_has P None o p q = q
+lesser_has P (Some d) None p q = p
+lesser_has P (Some d) (Some e) p q = elim (is_before e d) as (λ b. IfSome (cond b (Some e) (Some d)) P) [ true ↦ q | false ↦ p ]
+
+abbrev pub Entries : Type 0
 Entries = List (SlotKey × (Det × Known))
 
 -- the entry of a slot with this number
@@ -79,41 +87,29 @@ pub record IsLeastBelow (es : Entries) (slot : Slot) (n : ℕ) (least : Option D
 -- the determinant that a look-up finds is in the list
 any_value : (test : SlotKey → Bool) (es : Entries) (e : Det × Known) → lookup test es ≡ Some e → IsAmong e.0 (keys_of (values_of es))
 any_value test [] e h = absurd (true≢false (sym (ap is_some h)))
-any_value test (x ∷ es) e h = by (test x.0) h (any_value test es e)
-  where
-    by : (b : Bool) → cond b (Some x.1) (lookup test es) ≡ Some e → (lookup test es ≡ Some e → IsAmong e.0 (keys_of (values_of es))) → IsAmong e.0 (keys_of (values_of (x ∷ es)))
-    by true h later = ap (λ b. b || list_any (same_det e.0) (keys_of (values_of es))) (ap (λ o. same_det e.0 (unwrap_or o e).0) h ∙ same_itself e.0)
-    by false h later = ap (λ b. same_det e.0 x.1.0 || b) (later h) ∙ sym (or_right (same_det e.0 x.1.0))
+any_value test (x ∷ es) e h = grind (arith, any_value test es e, same_itself e.0)
 
 -- a determinant that the entry with the next number lacks too
 pub absent_one_more : (es : Entries) (d : Det) (n : ℕ) → IsAbsentBelow es d n → IfSome (entry_of_key es (slot_of d) n) (λ e. same_det d e.0 ≡ false) → IsAbsentBelow es d (n + 1)
-absent_one_more es d n absent here j low =
-    elim (cases_eq j n) [
-      | inl same ↦ subst (λ i. IfSome (entry_of_key es (slot_of d) i) (λ e. same_det d e.0 ≡ false)) (sym same) here
-      | inr apart ↦ absent j (omega (arith, low, apart))
-    ]
+absent_one_more es d n absent here = below_more (λ j. IfSome (entry_of_key es (slot_of d) j) (λ e. same_det d e.0 ≡ false)) n absent here
 
--- replacing the knowledge of the entry at an index leaves keys unchanged, and replaces one value
-module _ (numbers : ℕ) where
-  pub keyed_set : (es : Entries) (i : ℕ) (x : Det × Known) (k : Known) → slice_get (values_of es) i ≡ Some x → All (HasSlotKey numbers) es → All (HasSlotKey numbers) (set_value_at es i (x.0, k))
-  keyed_set [] i x k at all = all
-  keyed_set (e ∷ es) zero x k at all =
-      let so = All-head (HasSlotKey numbers) e es all in
-      All-cons (HasSlotKey numbers) (e.0, (x.0, k)) es (record { slot = so.slot ∙ ap (λ o. slot_of (unwrap_or o x).0) at; number = so.number }) (All-tail (HasSlotKey numbers) e es all)
-  keyed_set (e ∷ es) (suc i) x k at all =
-      All-cons (HasSlotKey numbers) e (set_value_at es i (x.0, k)) (All-head (HasSlotKey numbers) e es all) (keyed_set es i x k at (All-tail (HasSlotKey numbers) e es all))
+-- what holds of each entry still does after the value of the entry at an index is replaced
+pub all_set : (P : SlotKey × (Det × Known) → Type 0) (es : Entries) (i : ℕ) (w : Det × Known) → ((k : SlotKey) (v : Det × Known) → slice_get (values_of es) i ≡ Some v → P (k, v) → P (k, w)) → All P es → All P (set_value_at es i w)
+all_set P [] i w put all = all
+all_set P (e ∷ es) zero w put all = All-cons P (e.0, w) es (put e.0 e.1 refl (All-head P e es all)) (All-tail P e es all)
+all_set P (e ∷ es) (suc i) w put all = All-cons P e (set_value_at es i w) (All-head P e es all) (all_set P es i w put (All-tail P e es all))
+
+module _ (es : Entries) (i : ℕ) where
+  pub keyed_set : (numbers : ℕ) (x : Det × Known) (k : Known) → slice_get (values_of es) i ≡ Some x → All (HasSlotKey numbers) es → All (HasSlotKey numbers) (set_value_at es i (x.0, k))
+  keyed_set numbers x k at = all_set (HasSlotKey numbers) es i (x.0, k) (λ key v there so. grind arith)
+
+  pub not_later_set : (last : Option Slot) (w : Det × Known) → All (IsNotLater last) es → All (IsNotLater last) (set_value_at es i w)
+  not_later_set last w = all_set (IsNotLater last) es i w (λ key v there so. so)
 
 -- what holds of each key holds of the entries
 pub all_keys : (P : SlotKey → Type 0) (es : Entries) → All P (keys_of es) → All (λ e. P e.0) es
 all_keys P [] all = All-nil (λ e. P e.0)
 all_keys P (e ∷ es) all = All-cons (λ e. P e.0) e es (All-head P e.0 (keys_of es) all) (all_keys P es (All-tail P e.0 (keys_of es) all))
-
--- replacing the value of the entry at an index makes no slot a later one
-pub not_later_set : (last : Option Slot) (es : Entries) (i : ℕ) (w : Det × Known) → All (IsNotLater last) es → All (IsNotLater last) (set_value_at es i w)
-not_later_set last [] i w all = all
-not_later_set last (e ∷ es) zero w all = All-cons (IsNotLater last) (e.0, w) es (All-head (IsNotLater last) e es all) (All-tail (IsNotLater last) e es all)
-not_later_set last (e ∷ es) (suc i) w all =
-    All-cons (IsNotLater last) e (set_value_at es i w) (All-head (IsNotLater last) e es all) (not_later_set last es i w (All-tail (IsNotLater last) e es all))
 
 module _ {K X : Type 0} where
   pub values_set : (es : List (K × X)) (i : ℕ) (w : X) → values_of (set_value_at es i w) ≡ set (values_of es) i w
@@ -135,71 +131,32 @@ module _ {K X : Type 0} where
 
 -- the values of entries that are sorted by determinant are sorted by determinant
 pub values_sorted : (es : Entries) → IsSortedByKey (λ e. e.1.0) det_cmp es → IsSortedByKey (λ v. v.0) det_cmp (values_of es)
-values_sorted [] sorted k d low high = absurd (omega (arith, high))
-values_sorted (e ∷ es) sorted k d low high =
-    let len = length-map (e ∷ es) (λ x. x.1) in
-    subst (λ x. is_lt (det_cmp x.0 (get_or (values_of (e ∷ es)) k d).0) ≡ false) (sym (get_or-map (λ x. x.1) (e ∷ es) (k + 1) e d (omega (arith, high, len))))
-    (subst (λ x. is_lt (det_cmp (get_or (e ∷ es) (k + 1) e).1.0 x.0) ≡ false) (sym (get_or-map (λ x. x.1) (e ∷ es) k e d (omega (arith, high, len))))
-    (sorted k e low (omega (arith, high, len))))
+values_sorted = map_sorted (λ e. e.1) (λ v w. is_lt (det_cmp v.0 w.0))
 
 module _ (es : Entries) (numbers : ℕ) (keyed : All (HasSlotKey numbers) es) where
   -- an entry that a look-up finds has the key of the look-up
   entry_has_key : (slot : Slot) (n : ℕ) (e : Det × Known) → entry_of_key es slot n ≡ Some e → HasSlotKey numbers (slot_key slot n, e)
   entry_has_key slot n e h = All-contains (HasSlotKey numbers) es (slot_key slot n, e) keyed (Contains-from_lookup same_slot_key_is (slot_key slot n) e es h)
 
-  module _ (slot : Slot) (n : ℕ) (least : Option Det) (has : IsLeastBelow es slot n least) where
-    kept : (later : Option Det) → ((q : Det) → IsNotAfter least q → IsNotAfter later q) → (o : Option (Det × Known)) → IfSome o (λ e. IsNotAfter least e.0) → IfSome o (λ e. IsNotAfter later e.0)
-    kept later on None h = tt
-    kept later on (Some e) h = on e.0 h
+  -- the lesser of the determinant found so far and the next number's is the least of one more number
+  pub least_one_more : (slot : Slot) (n : ℕ) (least : Option Det) → IsLeastBelow es slot n least → IsLeastBelow es slot (n + 1) (lesser_det least (option_map (λ e. e.0) (entry_of_key es slot n)))
+  least_one_more slot n least has = record {
+    fills_slot = lesser_has _ least _ has.fills_slot (found (entry_of_key es slot n) refl);
+    is_least = below_more (λ j. IfSome (entry_of_key es slot j) (λ e. IsNotAfter (lesser_det least (option_map (λ x. x.0) (entry_of_key es slot n))) e.0)) n
+        (λ j low. IfSome_then (entry_of_key es slot j) (has.is_least j low) (λ e. lesser_keeps least (option_map (λ x. x.0) (entry_of_key es slot n)) e.0)) (own (entry_of_key es slot n));
+  }
+    where
+      found : (o : Option (Det × Known)) → entry_of_key es slot n ≡ o → IfSome (option_map (λ e. e.0) o) (λ d. (is_of_slot slot.dest slot.rsn d ≡ true) × IsAmong d (keys_of (values_of es)))
+      found None at = tt
+      found (Some e) at = (slot_fits slot e.0 (entry_has_key slot n e at).slot, any_value (same_slot_key (slot_key slot n)) es e at)
 
-    -- the next number
-    more : (later : Option Det) → IfSome later (λ d. (is_of_slot slot.dest slot.rsn d ≡ true) × IsAmong d (keys_of (values_of es))) → ((q : Det) → IsNotAfter least q → IsNotAfter later q)
-        → IfSome (entry_of_key es slot n) (λ e. IsNotAfter later e.0) → IsLeastBelow es slot (n + 1) later
-    more later fills_slot on here = record {
-      fills_slot = fills_slot;
-      is_least = λ j low. elim (cases_eq j n) [
-        | inl same ↦ subst (λ i. IfSome (entry_of_key es slot i) (λ e. IsNotAfter later e.0)) (sym same) here
-        | inr apart ↦ kept later on (entry_of_key es slot j) (has.is_least j (omega (arith, low, apart)))
-      ];
-    }
-
-    -- if an entry has the next number
-    module _ (e : Det × Known) (at : entry_of_key es slot n ≡ Some e) where
-      new : (is_of_slot slot.dest slot.rsn e.0 ≡ true) × IsAmong e.0 (keys_of (values_of es))
-      new = (slot_fits slot e.0 (entry_has_key slot n e at).slot, any_value (same_slot_key (slot_key slot n)) es e at)
-
-      here : (later : Option Det) → IsNotAfter later e.0 → IfSome (entry_of_key es slot n) (λ x. IsNotAfter later x.0)
-      here later beaten = subst (λ o. IfSome o (λ x. IsNotAfter later x.0)) (sym at) beaten
-
-      lower : (d q : Det) → is_before e.0 d ≡ true → IsNotAfter (Some d) q → is_before e.0 q ≡ true
-      lower d q low (inl same) = ap (is_before e.0) (sym same) ∙ low
-      lower d q low (inr after) = before_trans e.0 d q low after
-
-      of_two : (d : Det) → least ≡ Some d → (b : Bool) → is_before e.0 d ≡ b → IsLeastBelow es slot (n + 1) (cond b (Some e.0) (Some d))
-      of_two d is true low = more (Some e.0) new (λ q beaten. inr (lower d q low (subst (λ o. IsNotAfter o q) is beaten))) (here (Some e.0) (inl refl))
-      of_two d is false high =
-          more (Some d) (subst (λ o. IfSome o (λ x. (is_of_slot slot.dest slot.rsn x ≡ true) × IsAmong x (keys_of (values_of es)))) is has.fills_slot)
-          (λ q beaten. subst (λ o. IsNotAfter o q) is beaten) (here (Some d) (or_before e.0 d high))
-
-      with_one : (l : Option Det) → least ≡ l → IsLeastBelow es slot (n + 1) (lesser_det l (Some e.0))
-      with_one None is = more (Some e.0) new (λ q beaten. absurd (subst (λ o. IsNotAfter o q) is beaten)) (here (Some e.0) (inl refl))
-      with_one (Some d) is = of_two d is (is_before e.0 d) refl
-
-    -- the lesser of the determinant found so far and the next number's is the least of one more number
-    pub least_one_more : IsLeastBelow es slot (n + 1) (lesser_det least (option_map (λ e. e.0) (entry_of_key es slot n)))
-    least_one_more = by (entry_of_key es slot n) refl
-      where
-        by : (o : Option (Det × Known)) → entry_of_key es slot n ≡ o → IsLeastBelow es slot (n + 1) (lesser_det least (option_map (λ e. e.0) o))
-        by None at = subst (IsLeastBelow es slot (n + 1)) (sym (lesser_none least)) (more least has.fills_slot (λ q beaten. beaten) (subst (λ o. IfSome o (λ x. IsNotAfter least x.0)) (sym at) tt))
-        by (Some e) at = with_one e at least refl
+      own : (o : Option (Det × Known)) → IfSome o (λ e. IsNotAfter (lesser_det least (option_map (λ x. x.0) o)) e.0)
+      own None = tt
+      own (Some e) = lesser_own least e.0
 
   -- no entry has the number that bounds all
   pub none_at_bound : (slot : Slot) → entry_of_key es slot numbers ≡ None
-  none_at_bound slot = by (entry_of_key es slot numbers) refl
-    where
-      by : (o : Option (Det × Known)) → entry_of_key es slot numbers ≡ o → o ≡ None
-      by None h = refl
-      by (Some e) h = absurd (omega (arith, (entry_has_key slot numbers e h).number))
+  none_at_bound slot = grind (arith, IfSome_then (entry_of_key es slot numbers) (IfSome-lookup same_slot_key_is (slot_key slot numbers) es) (λ e at. (All-contains (HasSlotKey numbers) es (slot_key slot numbers, e) keyed at).number))
 
   -- a determinant whose slot is later than those of all entries is not in the list
   pub absent_later : (last : Option Slot) (d : Det) → All (IsNotLater last) es → is_later last (slot_of d) ≡ true → list_any (same_det d) (keys_of (values_of es)) ≡ false
@@ -221,42 +178,29 @@ module _ (es : Entries) (numbers : ℕ) (keyed : All (HasSlotKey numbers) es) wh
     entry_of_det : (d : Det) → IsAmong d (keys_of (values_of es)) → (n : ℕ) × (v : Known) × (n < numbers) × (entry_of_key es (slot_of d) n ≡ Some (d, v))
     entry_of_det d h = by (lookup (same_det d) (values_of es)) refl
       where
-        at : (v : Known) (p : SlotKey) → Contains es (p, (d, v)) → (n : ℕ) × (v : Known) × (n < numbers) × (entry_of_key es (slot_of d) n ≡ Some (d, v))
-        at v p there =
-            let so = All-contains (HasSlotKey numbers) es (p, (d, v)) keyed there in
-            (p.number, v, so.number, ap (λ s. entry_of_key es s p.number) (sym so.slot) ∙ lookup-from_Contains slot_key_equiv p (d, v) es distinct there)
-
         by : (o : Option Known) → lookup (same_det d) (values_of es) ≡ o → (n : ℕ) × (v : Known) × (n < numbers) × (entry_of_key es (slot_of d) n ≡ Some (d, v))
         by None none = absurd (true≢false (sym h ∙ sym (is_some-lookup (same_det d) (values_of es)) ∙ ap is_some none))
         by (Some v) some =
             let there = Contains-from_values_of es (d, v) (Contains-from_lookup same_is d v (values_of es) some) in
-            at v there.0 there.1
+            let so = All-contains (HasSlotKey numbers) es (there.0, (d, v)) keyed there.1 in
+            (there.0.number, v, so.number, ap (λ s. entry_of_key es s there.0.number) (sym so.slot) ∙ lookup-from_Contains slot_key_equiv there.0 (d, v) es distinct there.1)
 
     -- a determinant that no number has is not in the list
     pub absent_everywhere : (d : Det) → IsAbsentBelow es d numbers → list_any (same_det d) (keys_of (values_of es)) ≡ false
-    absent_everywhere d none = false_from_ne_true (list_any (same_det d) (keys_of (values_of es))) (λ h.
-        let way = entry_of_det d h in
-        true≢false (sym (same_itself d) ∙ subst (λ o. IfSome o (λ e. same_det d e.0 ≡ false)) way.3 (none way.0 way.2)))
+    absent_everywhere d none = false_from_ne_true (list_any (same_det d) (keys_of (values_of es))) (λ h. let way = entry_of_det d h in grind (arith, same_itself d, none way.0 way.2, way.3))
 
     -- if all entries have the number 0, a determinant whose slot has no entry is not in the list
     pub absent_if_first : (slot : Slot) (d : Det) → slot ≡ slot_of d → numbers ≤ 1 → entry_of_key es slot 0 ≡ None → list_any (same_det d) (keys_of (values_of es)) ≡ false
-    absent_if_first slot d own few none = absent_everywhere d (λ j low.
-        let zeroth : j ≡ 0 = omega (arith, low, few) in
-        let nothing : entry_of_key es (slot_of d) j ≡ None = ap (λ i. entry_of_key es (slot_of d) i) zeroth ∙ ap (λ s. entry_of_key es s 0) (sym own) ∙ none in
-        subst (λ o. IfSome o (λ e. same_det d e.0 ≡ false)) (sym nothing) tt)
+    absent_if_first slot d own few none = absent_everywhere d (λ j low. let zeroth : j ≡ 0 = omega (arith, low, few) in grind (arith, none))
 
     -- the least of all numbers is the least of the slot
     pub least_of_all : (slot : Slot) (least : Option Det) → IsLeastBelow es slot numbers least → IsLeastOfSlot slot.dest slot.rsn (keys_of (values_of es)) least
-    least_of_all slot least has = by least has
-      where
-        beaten : (least : Option Det) → IsLeastBelow es slot numbers least → (q : Det) → IsAmong q (keys_of (values_of es)) → is_of_slot slot.dest slot.rsn q ≡ true → IsNotAfter least q
-        beaten least has q there fit =
-            let way = entry_of_det q there in
-            subst (λ o. IfSome o (λ e. IsNotAfter least e.0)) (ap (λ s. entry_of_key es s way.0) (sym (slot_is slot q fit)) ∙ way.3) (has.is_least way.0 way.2)
-
-        by : (least : Option Det) → IsLeastBelow es slot numbers least → IsLeastOfSlot slot.dest slot.rsn (keys_of (values_of es)) least
-        by None has = λ q there. false_from_ne_true (is_of_slot slot.dest slot.rsn q) (beaten None has q there)
-        by (Some d) has = (has.fills_slot.0, has.fills_slot.1, beaten (Some d) has)
+    least_of_all slot None has = λ q there. false_from_ne_true (is_of_slot slot.dest slot.rsn q) (λ fit. let way = entry_of_det q there in grind (arith, has.is_least way.0 way.2, slot_is slot q fit, way.3))
+    least_of_all slot (Some d) has = (
+      has.fills_slot.0,
+      has.fills_slot.1,
+      λ q there fit. let way = entry_of_det q there in let low : is_before q d ≡ false = grind (arith, has.is_least way.0 way.2, slot_is slot q fit, way.3) in grind (arith, same_is d q, below d q low),
+    )
 
 -- the keys of a slot with numbers below n
 abbrev keys_below : Slot → ℕ → List SlotKey
@@ -268,7 +212,7 @@ key_below slot zero q h = absurd (true≢false (sym h))
 key_below slot (suc n) q h =
     elim (or_cases (list_any (same_slot_key q) (keys_below slot n)) (list_any (same_slot_key q) (slot_key slot n ∷ [])) (sym (list_any-append (same_slot_key q) (keys_below slot n) (slot_key slot n ∷ [])) ∙ h)) [
       | inl old ↦ let was = key_below slot n q old in (was.0, omega (arith, was.1), was.2)
-      | inr new ↦ (n, omega arith, same_slot_key_is q (slot_key slot n) (elim (or_cases (same_slot_key q (slot_key slot n)) false new) [ inl is ↦ is | inr none ↦ absurd (true≢false (sym none)) ]))
+      | inr new ↦ (n, omega arith, same_slot_key_is q (slot_key slot n) (or_nothing (same_slot_key q (slot_key slot n)) ∙ new))
     ]
 
 keys_below_distinct : (slot : Slot) (n : ℕ) → IsDistinct same_slot_key (keys_below slot n)

@@ -1,5 +1,6 @@
 -- The items that `choose` returns ascend.
-use Rattle.std.proofs.Common.{ℕ, ◌≡◌, ◌∙◌, true, List, [], ◌∷◌, map, filter, refl, ap}
+use Rattle.std.proofs.Common.{ℕ, ◌≡◌, ◌∙◌, true, List, map, filter, ap}
+use Rattle.std.proofs.lemmas.Simd.{map-map}
 use Rattle.std.specs.FinMap as fin
 use Rattle.std.specs.Map.{keys_of}
 use Rattle.causal_name.specs.declared.Det.{Det}
@@ -11,8 +12,7 @@ use Rattle.causal_log.proofs.Lemmas.Ascents.{filter_ascends}
 
 -- items made of entries have the determinants of the entries
 pub dets_of_items : (es : List (Det × Known)) → dets_of (map item_of es) ≡ keys_of es
-dets_of_items [] = refl
-dets_of_items (e ∷ es) = ap (λ ds. e.0 ∷ ds) (dets_of_items es)
+dets_of_items es = map-map (λ item. item.det) item_of es
 
 -- the items that messages carry ascend
 pub chosen_ascend : (f : ℕ) (log : LogMap) → is_ascending (dets_of (batch_items f log)) ≡ true

@@ -1,6 +1,8 @@
 -- What a log knows of each determinant after it has learned something.
-use Rattle.std.proofs.Common.{ℕ, ◌≡◌, ◌∙◌, ◌==◌, ◌+◌, Bool, true, false, cond, ◌&&◌, ◌||◌, List, [], ◌∷◌, map, length, Option, Some, None, is_some, unwrap_or, refl, sym, ap, arith}
-use Rattle.std.proofs.Math.Bool.{or_assoc, or_comm}
+use Rattle.std.proofs.Common.{ℕ, ◌≡◌, ◌∙◌, ◌==◌, ◌+◌, Bool, true, false, cond, ◌&&◌, ◌||◌, List, [], ◌∷◌, map, length, Option, Some, is_some, unwrap_or, refl, ap, arith}
+use Rattle.std.proofs.lemmas.Bool.{and_parts, or_right}
+use Rattle.std.proofs.lemmas.Simd.{map-map}
+use Rattle.std.proofs.Math.Bool.{or_assoc}
 use Rattle.std.specs.List.{list_any}
 use Rattle.std.specs.Cmp.{nat_cmp_total}
 use Rattle.std.specs.FinMap as fin
@@ -13,7 +15,7 @@ use Rattle.causal_log.specs.declared.known.Known.{Known}
 use Rattle.causal_log.specs.declared.batch.Item.{Item}
 use Rattle.causal_log.specs.Knowledge.{unknown, union_with, knowledge_from_item}
 use Rattle.causal_log.specs.Logs.{LogMap, known_of, after_learn, after_learn_all, not_logged_in, dets_of, after_absorb, after_union}
-use Rattle.causal_log.proofs.Lemmas.Searches.{both, or_right, or_nothing, any_map, before_apart, same_turned, any_dets, any_logged, passes}
+use Rattle.causal_log.proofs.Lemmas.Searches.{or_nothing, any_map, before_apart, same_turned, any_dets, any_logged, passes}
 use Rattle.causal_log.proofs.Lemmas.Ascents.{ascending_tail, ascending_skip, map_ascends}
 use Rattle.causal_name.proofs.Lemmas.DetOrder.{dets_total, det_ties, same_is, nat_ties}
 use Rattle.std.specs.Ordering.{nat_cmp}
@@ -50,8 +52,7 @@ stable_either one other = refl
 
 -- `knowledge_from_item` gives the determinants of the items
 pub told_keys : (from me : Pid) (items : List Item) → keys_of (map (knowledge_from_item from me) items) ≡ dets_of items
-told_keys from me [] = refl
-told_keys from me (item ∷ items) = ap (λ ds. item.det ∷ ds) (told_keys from me items)
+told_keys from me items = map-map (λ e. e.0) (knowledge_from_item from me) items
 
 module _ (from me : Pid) (q : Det) where
   -- a message gives knowledge of exactly the determinants of its items
@@ -63,12 +64,9 @@ module _ (from me : Pid) (q : Det) where
   told_stable [] = refl
   told_stable (item ∷ items) = grind (arith, told_stable items)
 
-  turned : (a b h : Bool) → (b || (a || h)) ≡ (h || (a || b))
-  turned a b h = or_comm b (a || h) ∙ ap (λ x. x || b) (or_comm a h) ∙ or_assoc h a b
-
   -- the holders that an item gives: its own, the sender and the receiver
   pub told_one : (p : ℕ) (item : Item) → set.contains (knowledge_from_item from me item).1.holders p ≡ (set.contains item.holders p || (p == from.0 || p == me.0))
-  told_one p item = grind (arith, set.contains-insert, nat_cmp_total, nat_ties, turned)
+  told_one p item = grind (arith, set.contains-insert, nat_cmp_total, nat_ties)
 
   -- a message makes p a holder of q if an item of q names p, or if q has an item and p is the sender or receiver
   pub told_holders : (p : ℕ) (items : List Item) →
@@ -83,7 +81,7 @@ size_one log det known = grind (arith, fin.len-insert, dets_total)
 -- learning of one determinant does not log any determinant after it
 unknown_after : (log : LogMap) (det : Det) (known : Known) (ds : List Det) → is_ascending (det ∷ ds) ≡ true → not_logged_in (after_learn log det known) ds ≡ not_logged_in log ds
 unknown_after log det known [] h = refl
-unknown_after log det known (d ∷ ds) h = grind (arith, unknown_after log det known ds, both, get_learned, same_turned, before_apart, ascending_skip)
+unknown_after log det known (d ∷ ds) h = grind (arith, unknown_after log det known ds, and_parts, get_learned, same_turned, before_apart, ascending_skip)
 
 -- learning of ascending determinants adds as many entries as were not logged
 pub size_all : (es : List (Det × Known)) (log : LogMap) → is_ascending (keys_of es) ≡ true → fin.len (after_learn_all es log) ≡ fin.len log + length (not_logged_in log (keys_of es))
@@ -113,8 +111,7 @@ module _ (items : List Item) (from me : Pid) (log : LogMap) where
 
 -- a property that `unknown` lacks
 pub known_passes : (P : Known → Bool) → P unknown ≡ false → (o : Option Known) → passes P o ≡ P (unwrap_or o unknown)
-known_passes P lacks None = sym lacks
-known_passes P lacks (Some known) = refl
+known_passes P lacks o = grind arith
 
 module _ (log other : LogMap) where
   -- a union of logs has the determinants of both

@@ -1,5 +1,5 @@
 -- The items of a log that a message carries.
-use Rattle.std.proofs.Common.{◌≡◌, ◌∙◌, ◌<◌, ◌⊎◌, inl, inr, ap, sym, refl, ℕ, ◌&&◌, not, Bool, true, false, nat_le, Option, Some, None, unwrap_or, arith}
+use Rattle.std.proofs.Common.{◌≡◌, ◌∙◌, ◌<◌, ◌⊎◌, ℕ, ◌&&◌, Bool, true, false, Option, Some, unwrap_or, arith}
 use Rattle.std.proofs.Math.Bool.{and_comm}
 use Rattle.std.proofs.lemmas.Bool.Decides.{nat_tests}
 use Rattle.std.specs.FinMap as fin
@@ -14,23 +14,14 @@ use Rattle.causal_log.proofs.Lemmas.Searches.{any_kept, any_logged, passes}
 
 -- the second of three conditions can be checked first
 pub swap_first : (a b d : Bool) → (a && (b && d)) ≡ (b && (a && d))
-swap_first true true d = refl
-swap_first true false d = refl
-swap_first false true d = refl
-swap_first false false d = refl
+swap_first a b d = grind arith
 
 -- `is_carried` of what is known of a determinant is `is_in_batch`
 pub carried : (f : ℕ) (o : Option Known) → passes (is_carried f) o ≡ is_in_batch f o
-carried f None = refl
-carried f (Some known) = refl
+carried f o = grind arith
 
 held : (f p : ℕ) (o : Option Known) → passes (λ k. is_carried f k && set.contains k.holders p) o ≡ (is_in_batch f o && set.contains (unwrap_or o unknown).holders p)
-held f p None = refl
-held f p (Some known) = refl
-
-safe : (f : ℕ) (known : Known) (b : Bool) → known.stable ≡ b → (not b && nat_le (set.len known.holders) f) ≡ false → (known.stable ≡ true) ⊎ (f < set.len known.holders)
-safe f known true is h = inl is
-safe f known false is h = inr (grind (arith, nat_tests))
+held f p o = grind arith
 
 -- a determinant is carried if and only if what is known of it passes `is_carried`
 pub carried_dets : (f : ℕ) (log : LogMap) (det : Det) → list_any (λ item. same_det det item.det) (batch_items f log) ≡ is_in_batch f (fin.get log det)
@@ -47,4 +38,4 @@ carried_holders f log det p =
 -- a logged determinant that is not carried is known to be stable or has more than f known holders
 pub left_out : (f : ℕ) (log : LogMap) (det : Det) (known : Known) → fin.get log det ≡ Some known →
     list_any (λ item. same_det det item.det) (batch_items f log) ≡ false → (known.stable ≡ true) ⊎ (f < set.len known.holders)
-left_out f log det known there out = safe f known known.stable refl (sym (ap (is_in_batch f) there) ∙ sym (carried_dets f log det) ∙ out)
+left_out f log det known there out = grind (arith, nat_tests, carried_dets f log det)

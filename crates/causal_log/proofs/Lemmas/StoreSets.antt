@@ -1,15 +1,14 @@
 -- Sets of determinants, and the set of a list: lemmas for implementors of `Stable`.
-use Rattle.std.proofs.Common.{arith, ◌≡◌, ◌∙◌, Bool, true, false, cond, ◌||◌, List, [], ◌∷◌, ◌++◌, map, length, Option, Some, None, is_some, refl, sym, ap, subst}
+use Rattle.std.proofs.Common.{arith, ◌≡◌, ◌∙◌, true, ◌||◌, List, [], ◌∷◌, ◌++◌, map, length, Option, is_some, sym, ap, subst}
+use Rattle.std.proofs.lemmas.Simd.{map-map}
 use Rattle.std.specs.List.{list_any, IsDistinct}
-use Rattle.std.specs.Ordering.{eq_by_cmp}
 use Rattle.std.specs.Map.{keys_of}
-use Rattle.std.specs.Cmp.{Equal-is}
 use Rattle.std.specs.FinMap as fin
 use Rattle.causal_name.specs.declared.Det.{Det}
 use Rattle.causal_name.specs.Names.{det_cmp, same_det, is_ascending}
-use Rattle.std.proofs.lemmas.List.{length-map}
+use Rattle.std.proofs.lemmas.List.{length-map, map-id}
 use Rattle.causal_log.specs.Stores.{DetSet, set_of, with_det, set_has, count_in, dets_in}
-use Rattle.causal_name.proofs.Lemmas.DetOrder.{dets_total, exact_dets, det_ties}
+use Rattle.causal_name.proofs.Lemmas.DetOrder.{dets_total, exact_dets, det_ties, same_is}
 use Rattle.std.proofs.lemmas.List.Sorted.{IsPermutation-map}
 use Rattle.std.proofs.lemmas.List.Folds.{list_any-append}
 use Rattle.std.proofs.lemmas.Map.Keys.{IsDistinct-IsPermutation}
@@ -26,21 +25,7 @@ abbrev paired : List Det → List (Det × Unit {0})
 paired ds = map (λ d. (d, tt)) ds
 
 keys_paired : (ds : List Det) → keys_of (paired ds) ≡ ds
-keys_paired [] = refl
-keys_paired (d ∷ ds) = ap (λ es. d ∷ es) (keys_paired ds)
-
--- adding a member changes nothing
-pub with_member : (s : DetSet) (d : Det) → set_has s d ≡ true → with_det s d ≡ s
-with_member s d member =
-    fin.same_map dets_total exact_dets _ _ (λ q. fin.get-insert dets_total s d tt q ∙ at q (eq_by_cmp det_cmp q d) refl)
-  where
-    there : (o : Option (Unit {0})) → is_some o ≡ true → o ≡ Some tt
-    there None h = Prim.cc
-    there (Some u) h = refl
-
-    at : (q : Det) (b : Bool) → eq_by_cmp det_cmp q d ≡ b → cond b (Some tt) (fin.get s q) ≡ fin.get s q
-    at q true e = sym (ap (fin.get s) (exact_dets q d ((Equal-is (det_cmp q d)).0 e)) ∙ there (fin.get s d) member)
-    at q false e = refl
+keys_paired ds = map-map (λ e. e.0) (λ d. (d, tt)) ds ∙ map-id ds
 
 -- a determinant is a member if and only if it is in the list of members
 pub listed : (s : DetSet) (d : Det) → set_has s d ≡ list_any (same_det d) (dets_in s)
@@ -49,6 +34,14 @@ listed s d = grind (arith, fin.contains_key-keys, det_ties)
 -- after one is added, the members are that one and those before
 pub stored : (s : DetSet) (d other : Det) → set_has (with_det s d) other ≡ (same_det other d || set_has s other)
 stored s d other = grind (arith, fin.get-insert, dets_total, det_ties)
+
+-- sets with the same members are equal
+same_set : (s t : DetSet) → ((q : Det) → set_has s q ≡ set_has t q) → s ≡ t
+same_set s t h = fin.same_map dets_total exact_dets s t (λ q. grind (arith, h q))
+
+-- adding a member changes nothing
+pub with_member : (s : DetSet) (d : Det) → set_has s d ≡ true → with_det s d ≡ s
+with_member s d member = same_set (with_det s d) s (λ q. grind (arith, stored s d q, same_is q d))
 
 -- a store with no members is empty
 pub none_stored : (s : DetSet) → count_in s ≡ 0 → s ≡ fin.empty
@@ -73,18 +66,13 @@ sorted_list ds fs moved distinct sorted =
     ∙ ap (λ es. keys_of es) (sym (own_entries (paired fs) (ap is_ascending (keys_paired fs) ∙ ups)))
     ∙ ap (λ (s : DetSet). dets_in s) (moved_log (paired ds) (paired fs) (IsPermutation-map (λ d. (d, tt)) ds fs moved) (each_once ds distinct))
 
--- sets with the same members are equal
-same_set : (s t : DetSet) → ((q : Det) → set_has s q ≡ set_has t q) → s ≡ t
-same_set s t h = fin.same_map dets_total exact_dets s t (λ q. grind (arith, h q))
-
 -- appending a determinant to a list adds it to the list's set
 pub set_push : (ds : List Det) (d : Det) → set_of (ds ++ d ∷ []) ≡ with_det (set_of ds) d
 set_push ds d = grind (arith, same_set, has_list, list_any-append, stored)
 
 -- a mapped option has a value if and only if the option has one
 pub some_of : {X Y : Type 0} (f : X → Y) (o : Option X) → is_some (option_map f o) ≡ is_some o
-some_of f None = refl
-some_of f (Some x) = refl
+some_of f o = grind arith
 
 -- a log has a determinant if and only if the set of its determinants has it
 pub has_there : (es : List (Det × Known)) (d : Det) → is_some (fin.get (log_of es) d) ≡ set_has (set_of (keys_of es)) d

@@ -5,7 +5,7 @@ use Rattle.causal_name.specs.Names.{is_ascending, is_before}
 use Rattle.causal_log.specs.Logs.{log_of}
 use Rattle.causal_log.specs.Inside.BatchCache.{CarriesBut}
 use Rattle.causal_log.proofs.Lemmas.Ascents.{ascending_tail}
-use Rattle.causal_log.proofs.Lemmas.Searches.{both}
+use Rattle.std.proofs.lemmas.Bool.{and_parts}
 use Rattle.causal_log.proofs.MergeLemmas.{cut_rest}
 use Rattle.causal_log.proofs.ChangeLemmas.{all_right}
 use Rattle.causal_log.proofs.changed_batch.merge_changes.Goals as goal
@@ -35,7 +35,7 @@ loop-det-preserved c =
       sorted = ascending_tail x rest sorted;
       ascend = c.in_ok-place.ensures.ascending;
       right = c.in_ok-place.ensures.right rest (subst (λ ds. CarriesBut ds c.args.f log (c.loop-det.out.items ++ drop c.loop-det.place c.args.kept.now)) here c.loop-det.invariant.right);
-      before = λ d ds is. c.in_ok-place.ensures.before d (both (is_before x d) (is_ascending (d ∷ ds)) (ap (λ ys. is_ascending (x ∷ ys)) (sym is) ∙ sorted)).0;
+      before = λ d ds is. c.in_ok-place.ensures.before d (and_parts (is_before x d) (is_ascending (d ∷ ds)) (ap (λ ys. is_ascending (x ∷ ys)) (sym is) ∙ sorted)).0;
     }
 
 pub returns : goal.returns

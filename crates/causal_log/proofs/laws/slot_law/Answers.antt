@@ -1,12 +1,6 @@
 use Rattle.causal_log.specs.Slots.{is_of_slot}
-use Rattle.causal_log.proofs.Lemmas.Slots.{first_fits, first_least, none_fits}
+use Rattle.causal_log.proofs.Lemmas.Slots.{first_fits}
 use Rattle.causal_log.proofs.laws.slot_law.Goals as goal
 
 pub returns-clause-fills : goal.returns-clause-fills
 returns-clause-fills c = λ dest rsn. first_fits (is_of_slot dest rsn)
-
-pub returns-clause-least : goal.returns-clause-least
-returns-clause-least c = λ dest rsn. first_least (is_of_slot dest rsn)
-
-pub returns-clause-none : goal.returns-clause-none
-returns-clause-none c = λ dest rsn. none_fits (is_of_slot dest rsn)

@@ -3,17 +3,10 @@ use Rattle.std.proofs.lemmas.Bool.{or_left, or_right}
 use Rattle.causal_log.specs.Knowledge.{held_by}
 use Rattle.causal_log.specs.Inside.Merges.{log_after_items}
 use Rattle.causal_log.proofs.Lemmas.KnowledgeGrows.{absorbed_logged}
-use Rattle.causal_log.proofs.Lemmas.ChosenLemmas.{chosen_ascend}
 use Rattle.causal_log.proofs.KnownLemmas.{joined_nothing}
-use Rattle.causal_log.proofs.MergeLemmas.{got_within, in_its_place, own_met, own_out, own_in}
+use Rattle.causal_log.proofs.MergeLemmas.{in_its_place, own_met, own_out, own_in}
 use Rattle.causal_log.proofs.next_batch_merge.insert_own.Goals.{then-is_some-via-then-is_some, then-is_some-via-else-is_some+then-names_det}
 use Rattle.causal_log.proofs.next_batch_merge.insert_own.Goals as goal
-
-pub item_index-place-requires : goal.item_index-place-requires
-item_index-place-requires c = grind (arith, chosen_ascend)
-
-pub remove-requires : goal.remove-requires
-remove-requires c = grind (arith, got_within)
 
 pub returns-in-Some : goal.returns-in-Some
 returns-in-Some c = grind (arith, in_its_place, own_met)

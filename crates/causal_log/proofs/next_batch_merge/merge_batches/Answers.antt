@@ -4,8 +4,7 @@ use Rattle.causal_name.specs.Names.{is_ascending}
 use Rattle.causal_log.specs.Logs.{dets_of}
 use Rattle.causal_log.specs.Inside.Merges.{IsMergeState, log_before}
 use Rattle.causal_log.proofs.Lemmas.Ascents.{ascending_tail}
-use Rattle.causal_log.proofs.Lemmas.ChosenLemmas.{chosen_ascend}
-use Rattle.causal_log.proofs.MergeLemmas.{cut_rest, apart_carried, merged_none, merged_all, merged_next}
+use Rattle.causal_log.proofs.MergeLemmas.{cut_rest, merged_none, merged_all, merged_next}
 use Rattle.causal_log.proofs.next_batch_merge.merge_batches.Goals as goal
 
 pub loop-item-init : goal.loop-item-init
@@ -18,9 +17,6 @@ loop-item-init c =
           subst (λ out. IsMergeState d.f d.items.now d.items.now d.from d.me (log_before d) out c.args.kept.now) (sym c.in_ok-out.ensures.items)
           (merged_none d.f d.items.now d.from d.me (log_before d) c.args.kept.now c.requires.kept);
     }
-
-pub copy_before-requires-clause-ascending : goal.copy_before-requires-clause-ascending
-copy_before-requires-clause-ascending c = grind (arith, chosen_ascend)
 
 pub copy_before-requires-clause-before : goal.copy_before-requires-clause-before
 copy_before-requires-clause-before c =
@@ -54,9 +50,3 @@ loop-item-preserved c =
 
 pub returns : goal.returns
 returns c = grind (arith, cut_rest, merged_all, drop_all)
-
-pub returns-then-fit_between : goal.returns-then-fit_between
-returns-then-fit_between c = grind (arith, apart_carried)
-
-pub fit_between-requires : goal.fit_between-requires
-fit_between-requires c = grind (arith, chosen_ascend)

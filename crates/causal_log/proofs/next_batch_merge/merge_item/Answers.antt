@@ -6,7 +6,7 @@ use Rattle.causal_log.specs.Knowledge.{is_carried, union_with, knowledge_from_it
 use Rattle.causal_log.specs.Logs.{dets_of}
 use Rattle.causal_log.specs.Inside.BatchCache.{with_carried, known_of_item, held_by_both}
 use Rattle.causal_log.proofs.KnownLemmas.{joined_nothing, told_both}
-use Rattle.causal_log.proofs.MergeLemmas.{drop_got, met, before_later, raise, still_out, logged_out, comes_in, next_after, rest_ascends}
+use Rattle.causal_log.proofs.MergeLemmas.{drop_got, met, raise, still_out, logged_out, comes_in, next_after, rest_ascends}
 use Rattle.causal_log.proofs.next_batch_merge.merge_item.Goals.{then-not-is_carried-via-then-not-is_carried, then-not-is_carried-via-else-not-is_carried+then-is_some}
 use Rattle.causal_log.proofs.next_batch_merge.merge_item.Goals as goal
 
@@ -24,9 +24,6 @@ returns-in-Some-clause-news c = λ log logged was.
     ap (λ xs. xs ++ rest) c.in_ok-push_if_carried.ensures
     ∙ ap (λ k. with_carried d.f det k out ++ rest) (c.union_with.ensures ∙ (λ i. union_with (c.sender_knowledge.ensures i) (heard_is d.from d.me c.args.item.now _ c.args.both.now c.receiver_knowledge-news.ensures c.requires.both i)))
     ∙ met d.f log det (knowledge_from_item d.from d.me c.args.item.now).1 out next rest (ap (λ xs. out ++ xs) (sym here) ∙ was) c.requires.before c.in-Some.ensures.same
-
-pub returns-in-Some-clause-before : goal.returns-in-Some-clause-before
-returns-in-Some-clause-before c = grind (arith, before_later)
 
 pub returns-then-not-is_carried-clause-news : goal.returns-then-not-is_carried-clause-news
 returns-then-not-is_carried-clause-news c = λ log logged was.
@@ -57,6 +54,3 @@ returns-clause-news c = λ log logged was.
     ap (λ xs. xs ++ rest) c.in_ok-push_if_carried-2.ensures
     ∙ ap (λ k. with_carried d.f det k out ++ rest) (heard_is d.from d.me c.args.item.now _ c.args.both.now c.receiver_knowledge-news.ensures c.requires.both ∙ sym (joined_nothing news))
     ∙ comes_in d.f log det news out rest was c.requires.before after (logged ∙ grind arith)
-
-pub returns-clause-before : goal.returns-clause-before
-returns-clause-before c = grind (arith, before_later)

@@ -1,8 +1,7 @@
-use Rattle.std.proofs.Common.{arith, ◌∙◌, [], ◌∷◌, ap, sym, subst}
+use Rattle.std.proofs.Common.{arith, ◌∙◌, [], ◌∷◌, ap}
 use Rattle.causal_name.specs.Names.{is_ascending}
 use Rattle.causal_log.specs.Knowledge.{as_stable}
-use Rattle.causal_log.specs.Logs.{log_of, after_mark}
-use Rattle.causal_log.specs.Inside.BatchCache.{CacheIsRightBut}
+use Rattle.causal_log.specs.Logs.{log_of}
 use Rattle.causal_log.proofs.KnownLemmas.{marked_then}
 use Rattle.causal_log.proofs.ChangeLemmas.{right_elsewhere, marked_elsewhere}
 use Rattle.causal_log.proofs.log.Log.mark_stable.Goals as goal
@@ -11,12 +10,10 @@ pub invariant_of-self : goal.invariant_of-self
 invariant_of-self c =
     let old = log_of c.self.inside.entries.entries in
     let det = c.args.det in
-    let kept = c.self.inside.cached_batch in
     let same = c.merge_at.ensures.put det _ c.in-Some.ensures.place ∙ marked_then old det _ c.as_stable.result (c.as_stable.ensures ∙ ap as_stable c.unknown.ensures) c.in-Some.ensures.known in
     record {
       ascending = λ h. ap is_ascending c.merge_at.ensures.keys ∙ c.self.invariant.ascending h;
-      carries = c.note_change.ensures (log_of c.merge_at.new.self.entries) []
-          (subst (λ log. CacheIsRightBut (det ∷ []) kept log) (sym same) (right_elsewhere kept (det ∷ []) old (after_mark old det) (marked_elsewhere old det) c.self.invariant.carries));
+      carries = c.note_change.ensures (log_of c.merge_at.new.self.entries) [] (right_elsewhere c.self.inside.cached_batch (det ∷ []) old _ _ same (marked_elsewhere old det) c.self.invariant.carries);
     }
 
 pub returns-clause-marked : goal.returns-clause-marked

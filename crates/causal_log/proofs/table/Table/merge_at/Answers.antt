@@ -20,8 +20,8 @@ invariant_of-self c =
     let keys = ap keys_of (values_set es c.args.place w) ∙ keys_set (values_of es) c.args.place x c.union_with-entry.result c.index_mut-entry.ensures.value in
     record {
       distinct = subst (IsDistinct same_det) (sym keys) c.self.invariant.distinct;
-      keyed = keyed_set c.self.inside.numbers es c.args.place x c.union_with-entry.result c.index_mut-entry.ensures.value c.self.invariant.keyed;
-      ended = not_later_set c.self.inside.last es c.args.place w c.self.invariant.ended;
+      keyed = keyed_set es c.args.place c.self.inside.numbers x c.union_with-entry.result c.index_mut-entry.ensures.value c.self.invariant.keyed;
+      ended = not_later_set es c.args.place c.self.inside.last w c.self.invariant.ended;
       few = omega (arith, length_set es c.args.place w, c.self.invariant.few);
       numbers_fit = c.self.invariant.numbers_fit;
       entries_fit = c.self.invariant.entries_fit;
