@@ -42,12 +42,10 @@ bind_ok (Err d) f y e = absurd cc
 
 -- a test that did not fail
 pub guard_ok : {A : Type 0} (b : Bool) (d : WireFault) (x y : A) → cond b (Err d) (Ok x) ≡ Ok y → (b ≡ false) × (x ≡ y)
-guard_ok true d x y e = absurd cc
-guard_ok false d x y e = (refl, cc)
+guard_ok b d x y e = grind arith
 
 pub guard_passed : {A : Type 0} (b : Bool) (d : WireFault) (x y : A) → cond b (Ok x) (Err d) ≡ Ok y → (b ≡ true) × (x ≡ y)
-guard_passed true d x y e = (refl, cc)
-guard_passed false d x y e = absurd cc
+guard_passed b d x y e = grind arith
 
 abbrev done : {A : Type 0} → A → Result A WireFault
 done x = Ok x
@@ -193,12 +191,7 @@ kind_of_number (suc (suc (suc (suc (suc zero))))) kind e = ap number_of (sym (ok
 kind_of_number (suc (suc (suc (suc (suc (suc b)))))) kind e = absurd cc
 
 number_of_kind : (kind : ParcelKind) → parcel_kind (number_of kind) ≡ Ok kind
-number_of_kind kinds.Message = refl
-number_of_kind kinds.Acknowledgement = refl
-number_of_kind kinds.Question = refl
-number_of_kind kinds.Answer = refl
-number_of_kind kinds.OwnNumber = refl
-number_of_kind kinds.NotUp = refl
+number_of_kind kind = grind arith
 
 pub kind_takes : (bytes : List ℕ) (x : ParcelKind × List ℕ) → IsBytes bytes → read_kind bytes ≡ Ok x → Takes bytes (byte (number_of x.0)) x.1
 unfolding read_kind

@@ -1,14 +1,13 @@
 -- Holders that a loop reads one by one, and how many there are.
-use Rattle.std.proofs.Common.{◌≡◌, ℕ, zero, suc, ◌+◌, ◌≤◌, ◌<◌, Bool, true, false, cond, List, [], ◌∷◌, ◌++◌, length, get_or, take, drop, Option, Some, refl, sym, ap, subst, ◌∙◌, inl, inr, arith, drop-cons, append_assoc}
+use Rattle.std.proofs.Common.{◌≡◌, ℕ, zero, suc, ◌+◌, ◌≤◌, ◌<◌, Bool, false, cond, List, [], ◌∷◌, ◌++◌, length, get_or, take, drop, Option, Some, sym, ap, subst, ◌∙◌, arith, drop-cons, append_assoc}
 use Rattle.std.specs.Prelude.{nat_le, nat_lt, ◌||◌, ◌==◌}
 use Rattle.std.specs.Ordering.{nat_cmp}
 use Rattle.std.specs.FinSet as set
-use Rattle.std.proofs.lemmas.Bool.{lt-leb, le-ltb}
 use Rattle.std.specs.List.{flat_map}
 use Rattle.std.proofs.lemmas.List.{take_more, append-nil}
 use Rattle.std.proofs.lemmas.List.Concat.{flat_map-append}
 use Rattle.std.specs.Cmp.{nat_cmp_total}
-use Rattle.std.proofs.lemmas.Bool.Decides.{eqb_tells}
+use Rattle.std.proofs.lemmas.Bool.Decides.{nat_tests}
 use Rattle.causal_name.specs.Sets.{count_below}
 use Rattle.causal_holders.specs.Members.{AreProcesses, ascending}
 use Rattle.causal_holders.proofs.Lemmas.MemberCounts.{len_counted, count_below-le}
@@ -30,15 +29,7 @@ others_fault-next n source least i xs lt =
 -- fewer than n numbers below n pass, if one of them does not
 count_below-less : (n p : ℕ) (test : ℕ → Bool) → p < n → test p ≡ false → count_below n test < n
 count_below-less zero p test lt h = absurd (omega (arith, lt))
-count_below-less (suc n) p test lt h =
-    elim (eqb_tells p n) [
-      | inl e ↦ omega (arith, count_below-le n test, ap {B = ℕ} (λ b. cond b 1 0) (ap test (sym e.1) ∙ h))
-      | inr e ↦ let apart : p ≡ n → ⊥ = e.1 in omega (arith, count_below-less n p test (omega (arith, lt, apart)) h, at_most_one (test n))
-    ]
-  where
-    at_most_one : (b : Bool) → cond b 1 0 ≤ 1
-    at_most_one true = omega arith
-    at_most_one false = omega arith
+count_below-less (suc n) p test lt h = grind (arith, nat_tests, count_below-le n test, count_below-less n p test)
 
 -- a process that is not among them leaves at most 255 others
 pub len_others : (s : set.FinSet nat_cmp) (p : ℕ) → AreProcesses s → p < 256 → set.contains s p ≡ false → set.len s < 256
@@ -48,8 +39,7 @@ len_others s p processes lt h = omega (arith, len_counted 256 s processes, count
 pub others_fault-right : (n source least next i : ℕ) (xs : List ℕ) → i < length xs → get_or xs i 0 < n → least ≤ get_or xs i 0 → (get_or xs i 0 ≡ source → ⊥) → next ≡ get_or xs i 0 + 1
     → others_fault n source least (drop i xs) ≡ others_fault n source next (drop (i + 1) xs)
 others_fault-right n source least next i xs lt below from other next_is =
-    let apart : (get_or xs i 0 == source) ≡ false = elim (eqb_tells (get_or xs i 0) source) [ inl t ↦ absurd (other t.1) | inr t ↦ t.0 ] in
-    others_fault-next n source least i xs lt ∙ rw (lt-leb n (get_or xs i 0) below, le-ltb (get_or xs i 0) least from, apart, next_is) refl
+    others_fault-next n source least i xs lt ∙ grind (arith, nat_tests)
 
 -- the set of one holder more
 pub from_list-next : (i : ℕ) (xs : List ℕ) → i < length xs → set.from_list {R = nat_cmp} (take (i + 1) xs) ≡ set.insert (set.from_list (take i xs)) (get_or xs i 0)

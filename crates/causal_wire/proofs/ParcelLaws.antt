@@ -84,12 +84,7 @@ kind_for (own_number round) = kinds.OwnNumber
 kind_for (not_up round) = kinds.NotUp
 
 kind_number : (contents : Contents) → kind_byte contents ≡ number_of (kind_for contents)
-kind_number (message ssn items body) = refl
-kind_number (acknowledgement items) = refl
-kind_number (question round view) = refl
-kind_number (answer round entries) = refl
-kind_number (own_number round) = refl
-kind_number (not_up round) = refl
+kind_number contents = grind arith
 
 contents_again : (n source : ℕ) (contents : Contents) (rest : List ℕ) → n ≤ 256 → AreContents n source contents → read_contents n source (kind_for contents) (contents_bytes contents ++ rest) ≡ Ok (contents, rest)
 unfolding read_contents
