@@ -1,41 +1,17 @@
 -- The initial state satisfies the invariant, so all reachable runs are safe.
-use Rattle.std.proofs.Common.{ℕ, zero, suc, ◌≡◌, ◌<◌, ◌≤◌, inl, inr, List, [], replicate, slice_get, Some, None, is_none, refl, sym, ap, subst, ◌∙◌, arith}
-use Rattle.std.specs.Prelude.{◌⊎◌}
-use Rattle.std.specs.Option.{option_map, option_map_or}
+use Rattle.std.proofs.Common.{ℕ, zero, suc, ◌≡◌, ◌<◌, ◌≤◌, List, [], slice_get, Some, None, is_none, refl, sym, ap, subst, ◌∙◌, arith}
+use Rattle.std.specs.Option.{option_map}
 use Rattle.std.specs.FinMap as fin
 use Rattle.std.proofs.lemmas.List.{length-replicate}
 use Rattle.causal_trace.specs.declared.entry.Entry.{Entry}
 use Rattle.causal_steps.specs.Reachable.{IsInitial, initial}
-use Rattle.causal_protocol.specs.Memory.{SentMessage, Memories, present_at, new_memory}
+use Rattle.causal_protocol.specs.Memory.{present_at, new_memory}
 use Rattle.causal_protocol.specs.Run.{Run, memories}
-use Rattle.causal_protocol.specs.MemoryQueries.{log_at, messages, has_entry, log_knows_holder, log_knows_stable, parcel_of, volatile_of}
+use Rattle.causal_protocol.specs.MemoryQueries.{has_entry, log_knows_holder, log_knows_stable, parcel_of, volatile_of}
 use Rattle.causal_protocol.specs.Runs.{IsInvariantState, SatisfiesInvariant, HaveBegunBelow, IsReachable, opened, stepped, StartSatisfiesInvariant}
+use Rattle.causal_protocol.proofs.Places.{beginners, at_first, log_first, messages_first}
 use Rattle.causal_protocol.proofs.Lemmas.LogMembers.{none_entry, none_holds, none_stable}
 use Rattle.causal_protocol.proofs.StepKeeps.{IsKept, are_sends_kept, steps_keep_runs}
-
-abbrev beginners : ℕ → Memories
-beginners n = replicate n (Some (new_memory fin.empty))
-
-at_first : (n p : ℕ) → p < n → present_at (beginners n) p ≡ Some (new_memory fin.empty)
-at_first zero p low = absurd (omega (arith, low))
-at_first (suc n) zero low = refl
-at_first (suc n) (suc p) low = at_first n p (omega (arith, low))
-
-either : (n p : ℕ) → (present_at (beginners n) p ≡ Some (new_memory fin.empty)) ⊎ (present_at (beginners n) p ≡ None)
-either zero p = inr refl
-either (suc n) zero = inl refl
-either (suc n) (suc p) = either n p
-
-log_first : (n p : ℕ) → log_at (beginners n) p ≡ fin.empty
-unfolding log_at
-log_first n p = elim (either n p) [ inl here ↦ ap (λ o. option_map_or (λ m. m.log) o fin.empty) here | inr none ↦ ap (λ o. option_map_or (λ m. m.log) o fin.empty) none ]
-
-messages_first : (n p : ℕ) → messages (beginners n) p ≡ []
-unfolding messages
-messages_first n p = elim (either n p) [ inl here ↦ ap (λ o. option_map_or (λ m. m.sent) o []) here | inr none ↦ ap (λ o. option_map_or (λ m. m.sent) o []) none ]
-
-none_kept : (n p ssn : ℕ) (k : SentMessage) → slice_get (messages (beginners n) p) ssn ≡ Some k → ⊥
-none_kept n p ssn k h = let e : None ≡ Some k = ap (λ xs. slice_get xs ssn) (sym (messages_first n p)) ∙ h in cc
 
 -- nothing is known when all processes begin, and no message was sent
 begins_with_nothing : (n : ℕ) → IsInitial (volatile_of (beginners n))
@@ -50,7 +26,7 @@ first_sound n f = record {
   fit = record {
     count = length-replicate n (Some (new_memory fin.empty));
     state = λ p small. ap is_none (at_first n p small);
-    placed = λ p ssn k h. absurd (none_kept n p ssn k h);
+    placed = λ p ssn k h. absurd (let e : None ≡ Some k = ap (λ xs. slice_get xs ssn) (sym (messages_first n p)) ∙ h in cc);
     logged = λ p d small. ap (has_entry d) (log_first n p) ∙ none_entry d;
   };
   reached = initial (volatile_of (beginners n)) (begins_with_nothing n);

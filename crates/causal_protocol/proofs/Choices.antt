@@ -11,7 +11,7 @@ use Rattle.causal_name.specs.declared.Det.{Det}
 use Rattle.causal_name.specs.Names.{det_cmp, same_det}
 use Rattle.causal_name.proofs.Lemmas.DetOrder.{dets_total, exact_dets, det_ties, same_is, same_itself}
 use Rattle.causal_trace.specs.declared.entry.Entry.{Entry}
-use Rattle.causal_trace.specs.declared.entry.Entry.TheVariants.{Send, Deliver, Stable, Crash, Restart, Forget}
+use Rattle.causal_trace.specs.declared.entry.Entry.TheVariants.{Stable}
 use Rattle.causal_trace.specs.Past.{list_has, is_stable}
 use Rattle.causal_log.specs.declared.known.Known.{Known}
 use Rattle.causal_log.specs.Knowledge.{unknown, is_carried, as_stable}
@@ -114,11 +114,7 @@ pub stable_has : (past : List Entry) (d : Det) → store.set_has (stable_set pas
 unfolding stable_set
 stable_has [] d = ap is_some (fin.get-empty det_cmp d)
 stable_has (Stable det ∷ past) d = grind (arith, fin.get-insert dets_total (stable_set past) det tt d, det_ties d det, stable_has past d)
-stable_has (Send from to ssn ∷ past) d = stable_has past d
-stable_has (Deliver to send rsn listed ∷ past) d = stable_has past d
-stable_has (Crash who ∷ past) d = stable_has past d
-stable_has (Restart who listed ∷ past) d = stable_has past d
-stable_has (Forget who listed ∷ past) d = stable_has past d
+stable_has (_ ∷ past) d = stable_has past d
 
 -- what a search returns is in the list and passes the test
 pub first_passes : (p : Det → Bool) (ds : List Det) (d : Det) → find p ds ≡ Some d → (p d ≡ true) × (list_has ds d ≡ true)

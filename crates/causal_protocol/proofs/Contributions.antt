@@ -1,10 +1,12 @@
 -- An up process knows what its present lane contributed: a proof entry by entry.
-use Rattle.std.proofs.Common.{arith, ℕ, zero, suc, ◌≡◌, inl, inr, Bool, true, false, ◌&&◌, ◌||◌, not, List, [], ◌∷◌, replicate, take, slice_get, slice_set, Option, Some, None, is_some, refl, sym, ap, subst, ◌∙◌}
-use Rattle.std.specs.Prelude.{◌==◌, ◌⊎◌}
+use Rattle.std.proofs.Common.{arith, ℕ, zero, suc, ◌≡◌, inl, inr, Bool, true, false, ◌&&◌, ◌||◌, not, List, [], ◌∷◌, length, take, slice_get, slice_set, Option, Some, None, is_some, refl, sym, ap, subst, ◌∙◌}
+use Rattle.std.specs.Prelude.{◌==◌, ◌⊎◌, ◌↔◌}
 use Rattle.std.specs.List.{list_any}
 use Rattle.std.specs.Option.{option_map, option_and_then}
 use Rattle.std.specs.FinMap as fin
-use Rattle.std.proofs.lemmas.Bool.{false≢true, both_ways}
+use Rattle.std.proofs.lemmas.List.{set_past}
+use Rattle.std.proofs.lemmas.Option.{slice_get_past}
+use Rattle.std.proofs.lemmas.Bool.{false≢true, both_ways, cases_lt}
 use Rattle.std.proofs.lemmas.Bool.Decides.{eqb_tells}
 use Rattle.causal_name.specs.declared.Pid.{Pid}
 use Rattle.causal_name.specs.declared.MsgName.{MsgName}
@@ -13,12 +15,12 @@ use Rattle.causal_trace.specs.declared.entry.Entry.{Entry}
 use Rattle.causal_trace.specs.declared.entry.Entry.TheVariants.{Send, Deliver, Stable, Crash, Restart, Forget}
 use Rattle.causal_trace.specs.Past.{list_has, message_at, det_from}
 use Rattle.causal_log.specs.Logs.{LogMap, after_mark}
-use Rattle.causal_protocol.specs.Memory.{Memory, Memories, present_at, update_at, new_memory, log_after_delivery, batch_of, with_received}
+use Rattle.causal_protocol.specs.Memory.{Memory, Memories, present_at, update_at, new_memory, log_after_delivery, batch_of}
 use Rattle.causal_protocol.specs.Gathering.{restart_log, without_dets}
-use Rattle.causal_protocol.specs.Run.{Run, memories, memories_of, stable_of, after_receive, memories_after, older_writers}
+use Rattle.causal_protocol.specs.Run.{Run, memories, memories_of, stable_of, memories_after, older_writers}
 use Rattle.causal_protocol.specs.MemoryQueries.{log_at, log_knows_holder, log_knows_stable}
 use Rattle.causal_protocol.specs.Contributions.{ContributesHolder, ContributesMark, HoldersAreContributed, IsContributed, MarksAreContributed, erases_knowledge, run_before, writers_before}
-use Rattle.causal_protocol.proofs.Places.{log_here, set_other}
+use Rattle.causal_protocol.proofs.Places.{at_set, log_first, log_here, set_other}
 use Rattle.causal_protocol.proofs.Lemmas.LogMembers.{none_holds, none_stable}
 use Rattle.causal_protocol.proofs.LearnedLogs
 use Rattle.causal_protocol.proofs.Choices
@@ -33,20 +35,11 @@ steady : (Given : Type 0) (old new : Bool) → (Given → ⊥) → new ≡ old �
 steady Given old new nothing same = record { found = λ h. inr (refl, sym same ∙ h); fresh = λ g. absurd (nothing g); kept = λ _ h. same ∙ h }
 
 -- the memory at an index after it is changed or set
+put_here : (ms : Memories) (w : ℕ) (x : Option Memory) → ((present_at (slice_set ms w x) w ≡ None) × (present_at ms w ≡ None)) ⊎ (present_at (slice_set ms w x) w ≡ x)
+put_here ms w x = grind (arith, cases_lt w (length ms), at_set ms w x w, eqb_tells w w, set_past ms w x, slice_get_past ms w)
+
 changed_here : (g : Memory → Memory) (ms : Memories) (w : ℕ) → present_at (update_at g ms w) w ≡ option_map g (present_at ms w)
-changed_here g [] w = refl
-changed_here g (m ∷ ms) zero = refl
-changed_here g (m ∷ ms) (suc w) = changed_here g ms w
-
-none_here : (ms : Memories) (w : ℕ) → present_at (slice_set ms w None) w ≡ None
-none_here [] w = refl
-none_here (m ∷ ms) zero = refl
-none_here (m ∷ ms) (suc w) = none_here ms w
-
-put_here : (m : Memory) (ms : Memories) (w : ℕ) → (present_at (slice_set ms w (Some m)) w ≡ None) ⊎ (present_at (slice_set ms w (Some m)) w ≡ Some m)
-put_here m [] w = inl refl
-put_here m (x ∷ ms) zero = inr refl
-put_here m (x ∷ ms) (suc w) = put_here m ms w
+changed_here g ms w = grind (arith, put_here ms w (option_map g (present_at ms w)))
 
 set_elsewhere : (ms : Memories) (w : ℕ) (x : Option Memory) (p : ℕ) → (w ≡ p → ⊥) → present_at (slice_set ms w x) p ≡ present_at ms p
 set_elsewhere ms w x p other = ap (option_and_then (λ z. z)) (set_other ms w x p other)
@@ -96,27 +89,20 @@ module _ (p : ℕ) (d : Det) (tells : LogMap → Bool) (Gives : Run → Option P
   received : (r : Run) (by : Option Pid) (to : Pid) (send rsn : ℕ) (listed : List Det) (x : Option MsgName) → message_at r.recording.past send ≡ x → Stepped r by (Deliver to send rsn listed)
   received r by to send rsn listed None none = grind (arith, keeps)
   received r by to send rsn listed (Some x) sent =
-      let ms = memories_of r in
-      let g = with_received (batch_of ms x) (det_from to rsn x) in
-      let next = ap (λ o. present_at (after_receive ms to rsn o) p) sent in
-      elim (eqb_tells to.0 p) [
-        | inl is ↦ changes p tells _ false g ms _ (next ∙ at_it g ms to.0 is.1) (λ m _. facts.delivered r by to send rsn listed x m is.1 sent)
-        | inr other ↦ keeps p tells _ false ms _ (λ given. other.1 (facts.receiver r by to send rsn listed given).0) refl (next ∙ elsewhere g ms to.0 other.1)
-      ]
+      grind (arith, sent, eqb_tells to.0 p, changes, at_it, keeps, elsewhere, facts.receiver r by to send rsn listed, facts.delivered r by to send rsn listed x)
 
   -- a restart of p
   returned : (r : Run) (by : Option Pid) (who : Pid) (listed : List Det) → (who.0 == p) ≡ true → who.0 ≡ p → Stepped r by (Restart who listed)
   returned r by who listed ended is =
       let ms = memories_of r in
       let log = restart_log ms (stable_of r) who in
-      elim (put_here (new_memory log) ms who.0) [
-        | inl none ↦ loses p tells _ _ ms _ (subst (λ x. present_at (slice_set ms who.0 (Some (new_memory log))) x ≡ None) is none)
-        | inr some ↦ record {
-          up = λ lives _. absurd (both_ways (who.0 == p) lives ended);
-          log = λ _.
-              subst (λ b. Grows (Gives r by (Restart who listed)) b (tells (log_at ms p)) (tells (log_at (slice_set ms who.0 (Some (new_memory log))) p))) (sym ended)
-              (subst (λ l. Grows (Gives r by (Restart who listed)) true (tells (log_at ms p)) (tells l)) (sym (log_here (slice_set ms who.0 (Some (new_memory log))) p (new_memory log) (subst (λ x. present_at (slice_set ms who.0 (Some (new_memory log))) x ≡ Some (new_memory log)) is some))) (facts.restarted r by who listed (tells (log_at ms p)) is));
-        }
+      let next = slice_set ms who.0 (Some (new_memory log)) in
+      elim (put_here ms who.0 (Some (new_memory log))) [
+        | inl none ↦ loses p tells _ _ ms _ (subst (λ x. present_at next x ≡ None) is none.0)
+        | inr some ↦
+            let here = log_here next p (new_memory log) (subst (λ x. present_at next x ≡ Some (new_memory log)) is some) in
+            let grows = facts.restarted r by who listed (tells (log_at ms p)) is in
+            record { up = grind (arith, both_ways); log = λ _. rw (ended, here) grows }
       ]
 
   -- p forgets determinants
@@ -124,33 +110,16 @@ module _ (p : ℕ) (d : Det) (tells : LogMap → Bool) (Gives : Run → Option P
   less r by who listed log here b gone = grind (arith, steady)
 
   step : (r : Run) (by : Option Pid) (e : Entry) → Stepped r by e
-  step r by (Send from to ssn) =
-      let ms = memories_of r in
-      elim (eqb_tells from.0 p) [
-        | inl is ↦ changes p tells _ false _ ms _ (at_it _ ms from.0 is.1) (λ m _. steady _ _ _ (facts.sent r by from to ssn) refl)
-        | inr other ↦ keeps p tells _ false ms _ (facts.sent r by from to ssn) refl (elsewhere _ ms from.0 other.1)
-      ]
+  step r by (Send from to ssn) = grind (arith, eqb_tells from.0 p, changes, at_it, steady, keeps, elsewhere, facts.sent)
   step r by (Deliver to send rsn listed) = received r by to send rsn listed (message_at r.recording.past send) refl
   step r None (Stable det) = grind (arith, keeps)
-  step r (Some w) (Stable det) =
-      let ms = memories_of r in
-      elim (eqb_tells w.0 p) [
-        | inl is ↦ changes p tells _ false _ ms _ (at_it _ ms w.0 is.1) (λ m here. facts.written r w det m is.1 here)
-        | inr other ↦ keeps p tells _ false ms _ (λ g. let who = facts.writer r (Some w) det g in let is : w ≡ who.0 = cc who.1 in other.1 (ap (λ (x : Pid). x.0) is ∙ who.2)) refl (elsewhere _ ms w.0 other.1)
-      ]
-  step r by (Crash who) = grind (arith, eqb_tells who.0 p, loses, none_here, keeps, set_elsewhere)
+  step r (Some w) (Stable det) = grind (arith, eqb_tells w.0 p, changes, at_it, keeps, elsewhere, facts.writer r (Some w) det, facts.written r w det)
+  step r by (Crash who) = grind (arith, eqb_tells who.0 p, loses, put_here, keeps, set_elsewhere)
   step r by (Restart who listed) = grind (arith, eqb_tells who.0 p, returned, keeps, set_elsewhere)
   step r by (Forget who listed) = grind (arith, eqb_tells who.0 p, changes, at_it, less, keeps, elsewhere)
 
   abbrev run : ℕ → ℕ → List Pid → List Entry → Run
   run n f writers past = record { recording = record { processes = n; past = past }; faults = f; writers = writers }
-
-  -- in the initial state no process knows anything
-  nothing_at : (n q : ℕ) → tells (log_at (replicate n (Some (new_memory fin.empty))) q) ≡ false
-  unfolding log_at
-  nothing_at zero q = facts.lacks
-  nothing_at (suc n) zero = facts.lacks
-  nothing_at (suc n) (suc q) = nothing_at n q
 
   -- what was contributed stays contributed if the newest entry does not end it
   later : (n f : ℕ) (writers : List Pid) (e : Entry) (past : List Entry) → erases_knowledge p d e ≡ false → IsContributed Gives p d (run n f (older_writers e writers) past) → IsContributed Gives p d (run n f writers (e ∷ past))
@@ -165,7 +134,7 @@ module _ (p : ℕ) (d : Det) (tells : LogMap → Bool) (Gives : Run → Option P
 
   pub known_contributed : (n f : ℕ) (writers : List Pid) (past : List Entry) → is_some (present_at (memories n f writers past) p) ≡ true → tells (log_at (memories n f writers past) p) ≡ true → IsContributed Gives p d (run n f writers past)
   unfolding memories writers_before
-  known_contributed n f writers [] up h = absurd (both_ways _ (nothing_at n p) h)
+  known_contributed n f writers [] up h = absurd (both_ways _ (ap tells (log_first n p) ∙ facts.lacks) h)
   known_contributed n f writers (e ∷ past) up h =
       let s = step (run n f (older_writers e writers) past) (slice_get writers 0) e in
       elim ((s.log up).found h) [
@@ -181,8 +150,12 @@ module _ (p : ℕ) (d : Det) (tells : LogMap → Bool) (Gives : Run → Option P
   given_known n f writers (e ∷ past) (suc k) entry up is given lasts =
       grind (arith, step (run n f (older_writers e writers) past) (slice_get writers 0) e, given_known n f (older_writers e writers) past k entry)
 
-  pub contributed_known : (r : Run) → is_some (present_at (memories_of r) p) ≡ true → IsContributed Gives p d r → tells (log_at (memories_of r) p) ≡ true
-  contributed_known r up c = given_known r.recording.processes r.faults r.writers r.recording.past c.since c.entry up c.at_since c.gives c.lasts
+  -- an up process knows exactly what was contributed
+  pub known_exactly : (r : Run) → is_some (present_at (memories_of r) p) ≡ true → (tells (log_at (memories_of r) p) ≡ true) ↔ IsContributed Gives p d r
+  known_exactly r up = (
+    known_contributed r.recording.processes r.faults r.writers r.recording.past up,
+    λ c. given_known r.recording.processes r.faults r.writers r.recording.past c.since c.entry up c.at_since c.gives c.lasts,
+  )
 
 -- the facts for holders
 holder_facts : (p : ℕ) (d : Det) (q : ℕ) → Facts p d (log_knows_holder d q) (ContributesHolder p d q)
@@ -190,10 +163,7 @@ holder_facts p d q = grind (arith, steady, none_holds, LearnedLogs.told_holders_
 
 -- an up process knows exactly the holders that its present lane contributed
 pub holders_are_contributed : HoldersAreContributed
-holders_are_contributed r p d q up = (
-  λ h. known_contributed p d (log_knows_holder d q) (ContributesHolder p d q) (holder_facts p d q) r.recording.processes r.faults r.writers r.recording.past up h,
-  λ c. contributed_known p d (log_knows_holder d q) (ContributesHolder p d q) (holder_facts p d q) r up c,
-)
+holders_are_contributed r p d q up = known_exactly p d (log_knows_holder d q) (ContributesHolder p d q) (holder_facts p d q) r up
 
 -- the facts for marks
 mark_facts : (p : ℕ) (d : Det) → Facts p d (log_knows_stable d) (ContributesMark p d)
@@ -205,17 +175,12 @@ mark_facts p d = record {
   receiver = λ r by to send rsn listed g. absurd g;
   writer = λ r by det g. g.0;
   restarter = λ r by who listed g. g.0;
-  delivered = λ r by to send rsn listed x m is sent. grind (arith, LearnedLogs.gained_stable, LearnedLogs.gained_still);
-  written = λ r w det m is here.
-      let own = log_here (memories_of r) p m here in
-      grind (arith, own, LearnedLogs.told_marks_of, Choices.marked_mark, Choices.marked_entry m.log det d, Choices.marked_new, Choices.marked_old);
+  delivered = λ r by to send rsn listed x m is sent. grind (arith, LearnedLogs.gained_mark);
+  written = λ r w det m is here. grind (arith, log_here (memories_of r) p m here, Choices.marked_mark, Choices.marked_entry m.log det d, Choices.marked_new, Choices.marked_old);
   restarted = λ r by who listed old is. grind (arith, LearnedLogs.told_marks_of, Choices.stable_has r.recording.past d);
   left = λ listed log. Choices.without_stable listed log d;
 }
 
 -- an up process knows to be stable exactly what its present lane contributed as stable
 pub marks_are_contributed : MarksAreContributed
-marks_are_contributed r p d up = (
-  λ h. known_contributed p d (log_knows_stable d) (ContributesMark p d) (mark_facts p d) r.recording.processes r.faults r.writers r.recording.past up h,
-  λ c. contributed_known p d (log_knows_stable d) (ContributesMark p d) (mark_facts p d) r up c,
-)
+marks_are_contributed r p d up = known_exactly p d (log_knows_stable d) (ContributesMark p d) (mark_facts p d) r up

@@ -1,17 +1,19 @@
 -- What the general invariant says of the memories of a run, in which nobody recovers while others go on.
-use Rattle.std.proofs.Common.{ℕ, ◌≡◌, ◌<◌, inl, inr, true, false, List, [], length, slice_get, Option, Some, None, is_none, refl, sym, ap, ◌∙◌, arith}
-use Rattle.std.specs.Option.{option_map, option_map_or}
-use Rattle.std.proofs.lemmas.Bool.{both_ways, or_cases, or_left, or_right, and_from, eq-eqb}
+use Rattle.std.proofs.Common.{ℕ, ◌≡◌, ◌<◌, inl, inr, true, false, List, length, slice_get, Some, is_none, refl, sym, ap, ◌∙◌, arith}
+use Rattle.std.specs.Option.{option_map}
+use Rattle.std.proofs.lemmas.Bool.{or_cases, or_left, or_right, and_from, eq-eqb}
 use Rattle.causal_name.specs.declared.Det.{Det}
 use Rattle.causal_holders.proofs.Lemmas.MemberCounts.{count_below-within}
 use Rattle.causal_trace.specs.declared.entry.Entry.{Entry}
-use Rattle.causal_trace.specs.Past.{is_down, logs}
+use Rattle.causal_trace.specs.Past.{is_down}
 use Rattle.causal_trace.specs.Judgement.{IsSafeTrace}
-use Rattle.causal_steps.specs.Recovery.{must_recover, counts_as_holder, IsRecoverable, HasOrRecovers}
+use Rattle.causal_steps.specs.Recovery.{counts_as_holder, IsRecoverable, HasOrRecovers}
 use Rattle.causal_steps.specs.Transit.{TransitParcel, IsInTransit, Survives}
 use Rattle.causal_steps.specs.Invariant.{StepInvariant}
+use Rattle.causal_trace.specs.Survivors.{IsFollowed}
 use Rattle.causal_steps.proofs.Lemmas.Reachable.{reachable_safe}
-use Rattle.causal_protocol.specs.Memory.{SentMessage, Memory, Memories, present_at}
+use Rattle.causal_steps.proofs.Lemmas.Followed.{reachable_followed}
+use Rattle.causal_protocol.specs.Memory.{SentMessage, Memories, present_at}
 use Rattle.causal_protocol.specs.MemoryQueries.{messages, parcel_of, volatile_of}
 use Rattle.causal_protocol.specs.Invariant.{survives, logs_or_stable, down_or_holding, IsSafeDet, HoldsOrIsDown, FewAreDown, KnownHoldersAreTrue, CarriedHoldersAreTrue, MarksAreTrue, DependentsLog, MessagesCarry, ReceiversHaveSurvivors, SendersHaveCarried, SlotsAreSingle, SurvivorsAreDelivered}
 use Rattle.causal_protocol.specs.Runs.{IsInvariantState}
@@ -20,11 +22,7 @@ use Rattle.causal_protocol.proofs.Sets.{survives_found}
 
 -- a parcel in transit is a message in a memory
 pub message_of_parcel : (ms : Memories) (t : TransitParcel) → IsInTransit (volatile_of ms) t → (p ssn : ℕ) × (k : SentMessage) × (slice_get (messages ms p) ssn ≡ Some k) × (t ≡ parcel_of p k)
-message_of_parcel ms t (p, ssn, at_it) = by (slice_get (messages ms p) ssn) refl at_it
-  where
-    by : (o : Option SentMessage) → slice_get (messages ms p) ssn ≡ o → option_map (parcel_of p) o ≡ Some t → (p ssn : ℕ) × (k : SentMessage) × (slice_get (messages ms p) ssn ≡ Some k) × (t ≡ parcel_of p k)
-    by None is h = absurd (let e : None ≡ Some t = h in cc)
-    by (Some k) is h = let e : Some (parcel_of p k) ≡ Some t = h in (p, ssn, k, is, cc)
+message_of_parcel ms t (p, ssn, at_it) = grind (arith, at_it)
 
 -- and a message in a memory is in transit
 pub parcel_of_message : (ms : Memories) (p ssn : ℕ) (k : SentMessage) → slice_get (messages ms p) ssn ≡ Some k → IsInTransit (volatile_of ms) (parcel_of p k)
@@ -33,11 +31,7 @@ parcel_of_message ms p ssn k h = (p, ssn, ap (option_map (parcel_of p)) h)
 -- a process that keeps a message is one of the processes
 pub keeps_within : (ms : Memories) (p ssn : ℕ) (k : SentMessage) → slice_get (messages ms p) ssn ≡ Some k → p < length ms
 unfolding messages
-keeps_within ms p ssn k h = by (present_at ms p) refl
-  where
-    by : (o : Option Memory) → present_at ms p ≡ o → p < length ms
-    by None is = absurd (let e : None ≡ Some k = ap (λ o. slice_get (option_map_or (λ m. m.sent) o []) ssn) (sym is) ∙ h in cc)
-    by (Some m) is = at_within ms p m is
+keeps_within ms p ssn k h = grind (arith, at_within ms p)
 
 -- and it is up
 no_messages : (ms : Memories) (p ssn : ℕ) (k : SentMessage) → slice_get (messages ms p) ssn ≡ Some k → is_none (present_at ms p) ≡ false
@@ -51,21 +45,21 @@ module _ (n f : ℕ) (past : List Entry) (ms : Memories) (s : IsInvariantState n
   pub safe : IsSafeTrace (record { processes = n; past = past }) f
   safe = (reachable_safe n f past (volatile_of ms) s.reached).safe
 
+  pub followed : IsFollowed (record { processes = n; past = past })
+  followed = reachable_followed n f past (volatile_of ms) s.reached
+
   -- a process that is up has nothing to recover
   pub found_up : (p : ℕ) (d : Det) → is_down past p ≡ false → HasOrRecovers past d p → logs_or_stable past p d ≡ true
-  found_up p d up (inl stable) = or_right _ _ stable
-  found_up p d up (inr holds) = elim (or_cases (logs past p d) (must_recover past p d) holds) [ inl has_d ↦ or_left _ _ has_d | inr lost ↦ absurd (both_ways (is_down past p) up (invariant.recovering_are_down p d lost)) ]
+  found_up p d up found = grind (arith, found, invariant.recovering_are_down p d)
 
   counted : (d : Det) (q : ℕ) → counts_as_holder past d q ≡ true → down_or_holding past d q ≡ true
-  counted d q holds = elim (or_cases (logs past q d) (must_recover past q d) holds) [ inl has_d ↦ or_right _ _ has_d | inr lost ↦ or_left _ _ (invariant.recovering_are_down q d lost) ]
+  counted d q holds = grind (arith, or_cases, invariant.recovering_are_down q d)
 
   true_of : (d : Det) (q : ℕ) → HasOrRecovers past d q → HoldsOrIsDown past d q
-  true_of d q (inl stable) = inl stable
-  true_of d q (inr holds) = inr (counted d q holds)
+  true_of d q found = grind (arith, found, counted d q)
 
   spread : (d : Det) → IsRecoverable n f past d → IsSafeDet n f past d
-  spread d (inl stable) = inl stable
-  spread d (inr many) = inr (omega (arith, many, count_below-within n (counts_as_holder past d) (down_or_holding past d) (λ p low h. counted d p h)))
+  spread d found = grind (arith, found, count_below-within n (counts_as_holder past d) (down_or_holding past d) (λ p low h. counted d p h))
 
   alive : (d : Det) → survives n past d ≡ true → Survives n past (volatile_of ms) d
   alive d h = elim (survives_found n past d h) [ inl stable ↦ inl stable | inr held ↦ inr (inl held) ]

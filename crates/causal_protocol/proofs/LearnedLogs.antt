@@ -6,7 +6,7 @@ use Rattle.std.specs.Cmp.{nat_cmp_total}
 use Rattle.std.specs.Ordering.{nat_cmp}
 use Rattle.std.specs.FinMap as fin
 use Rattle.std.specs.FinSet as set
-use Rattle.std.proofs.lemmas.Bool.{false≢true, both_ways, or_cases, or_left, or_right, and_parts, eqb-true, eq-eqb}
+use Rattle.std.proofs.lemmas.Bool.{false≢true, both_ways, or_cases, or_left, or_right, and_from, and_parts, eqb-true, eq-eqb}
 use Rattle.causal_name.specs.declared.Pid.{Pid}
 use Rattle.causal_name.specs.declared.Det.{Det}
 use Rattle.causal_name.specs.Names.{same_det}
@@ -14,12 +14,12 @@ use Rattle.causal_name.proofs.Lemmas.DetOrder.{det_ties, same_is, same_itself, n
 use Rattle.causal_trace.specs.Past.{list_has}
 use Rattle.causal_log.specs.declared.known.Known.{Known}
 use Rattle.causal_log.specs.declared.batch.Item.{Item}
-use Rattle.causal_log.specs.Knowledge.{held_by, stable_and_held_by, union_with, knowledge_from_item}
+use Rattle.causal_log.specs.Knowledge.{held_by, stable_and_held_by, union_with}
 use Rattle.causal_log.specs.Logs.{LogMap, known_of, after_learn, after_learn_all, after_absorb, after_union}
 use Rattle.causal_log.specs.Stores.{DetSet, dets_in}
 use Rattle.causal_log.specs.Stores as store
-use Rattle.causal_log.proofs.Lemmas.KnowledgeGrows.{logged_all, known_all, holds_either, stable_either, told_dets, told_holders, told_stable, known_passes}
-use Rattle.causal_log.proofs.Lemmas.Searches.{any_map, any_logged, any_dets}
+use Rattle.causal_log.proofs.Lemmas.KnowledgeGrows.{logged_all, known_all, holds_either, stable_either, absorbed_logged, absorbed_holders, absorbed_stable, united_logged, united_holders, united_stable}
+use Rattle.causal_log.proofs.Lemmas.Searches.{any_map, any_dets}
 use Rattle.causal_protocol.specs.Memory.{Memories, log_after_delivery}
 use Rattle.causal_protocol.specs.Gathering.{with_logs_of, with_held, with_stored, union_of_logs, restart_log}
 use Rattle.causal_protocol.specs.Contributions.{MessageImpliesHolder}
@@ -41,65 +41,32 @@ alone_holds p q h = grind (arith, set.contains-insert nat_cmp_total set.empty p 
 pub itself_holds : (p : ℕ) → set.contains (set.insert (set.empty {R = nat_cmp}) p) p ≡ true
 itself_holds p = set.contains-insert nat_cmp_total set.empty p p ∙ or_left _ _ (sym (nat_ties p p) ∙ eq-eqb p p refl)
 
--- after one determinant is learned
-module _ (log : LogMap) (own : Det) (k : Known) (d : Det) where
-  pub one_entry : has_entry d (after_learn log own k) ≡ (has_entry d log || (same_det d own || false))
-  one_entry = logged_all ((own, k) ∷ []) log d
-
-  pub one_holder : (q : ℕ) → log_knows_holder d q (after_learn log own k) ≡ (log_knows_holder d q log || ((same_det d own && set.contains k.holders q) || false))
-  one_holder q = known_all (λ k. set.contains k.holders q) (holds_either q) ((own, k) ∷ []) log d
-
-  pub one_stable : log_knows_stable d (after_learn log own k) ≡ (log_knows_stable d log || ((same_det d own && k.stable) || false))
-  one_stable = known_all (λ k. k.stable) stable_either ((own, k) ∷ []) log d
-
 -- what a delivery adds to a log
 module _ (batch : List Item) (own : Det) (log : LogMap) (d : Det) where
   abbrev absorbs : LogMap
   absorbs = after_absorb batch own.source own.dest log
 
-  or_lone : (a b c : Bool) → ((a || b) || (c || false)) ≡ (a || (c || b))
-  or_lone a b c = grind arith
-
   -- after a delivery the log also has its own determinant and what the message carries
   pub gained_entry : has_entry d (log_after_delivery batch own log) ≡ (has_entry d log || (same_det d own || has_item d batch))
-  gained_entry =
-      one_entry absorbs own (held_by own.dest) d
-      ∙ ap (λ b. b || (same_det d own || false)) (logged_all (map (knowledge_from_item own.source own.dest) batch) log d ∙ ap (λ b. has_entry d log || b) (told_dets own.source own.dest d batch))
-      ∙ or_lone (has_entry d log) (has_item d batch) (same_det d own)
+  gained_entry = grind (arith, logged_all ((own, held_by own.dest) ∷ []) absorbs d, absorbed_logged batch own.source own.dest log d)
 
   -- whether an item makes q a holder of d: q is one of its holders, the sender or the receiver
   abbrev tells_item : ℕ → Item → Bool
   tells_item q item = same_det d item.det && (set.contains item.holders q || (q == own.source.0 || q == own.dest.0))
 
   gained_known : (q : ℕ) → log_knows_holder d q (log_after_delivery batch own log) ≡ ((log_knows_holder d q log || list_any (tells_item q) batch) || ((same_det d own && set.contains (held_by own.dest).holders q) || false))
-  gained_known q =
-      one_holder absorbs own (held_by own.dest) d q
-      ∙ ap (λ b. b || ((same_det d own && set.contains (held_by own.dest).holders q) || false)) (known_all (λ k. set.contains k.holders q) (holds_either q) (map (knowledge_from_item own.source own.dest) batch) log d ∙ ap (λ b. log_knows_holder d q log || b) (told_holders own.source own.dest d q batch))
+  gained_known q = grind (arith, known_all (λ k. set.contains k.holders q) (holds_either q) ((own, held_by own.dest) ∷ []) absorbs d, absorbed_holders batch own.source own.dest log d q)
 
-  item_split : (q : ℕ) (items : List Item) → list_any (tells_item q) items ≡ true → (item_holder d q items ≡ true) ⊎ ((has_item d items ≡ true) × ((q ≡ own.source.0) ⊎ (q ≡ own.dest.0)))
-  item_split q [] h = absurd (false≢true h)
-  item_split q (item ∷ items) h = grind (arith, or_cases, and_parts, eqb-true, item_split q items)
-
-  item_named : (q : ℕ) (items : List Item) → item_holder d q items ≡ true → list_any (tells_item q) items ≡ true
-  item_named q [] h = absurd (false≢true h)
-  item_named q (item ∷ items) h = grind (arith, item_named q items)
-
-  -- each item makes both ends of its message holders
-  item_at : (q : ℕ) → (q == own.source.0 || q == own.dest.0) ≡ true → (items : List Item) → has_item d items ≡ true → list_any (tells_item q) items ≡ true
-  item_at q end [] h = absurd (false≢true h)
-  item_at q end (item ∷ items) h = grind (arith, item_at q end items)
-
-  item_sent : (items : List Item) → has_item d items ≡ true → list_any (tells_item own.source.0) items ≡ true
-  item_sent = item_at own.source.0 (or_left _ _ (eq-eqb own.source.0 own.source.0 refl))
-
-  item_received : (items : List Item) → has_item d items ≡ true → list_any (tells_item own.dest.0) items ≡ true
-  item_received = item_at own.dest.0 (or_right _ _ (eq-eqb own.dest.0 own.dest.0 refl))
+  -- an item makes q a holder of d if it names q, or if it is of d and q is an end of its message
+  item_tells : (q : ℕ) (items : List Item) → list_any (tells_item q) items ≡ (item_holder d q items || (has_item d items && (q == own.source.0 || q == own.dest.0)))
+  item_tells q [] = refl
+  item_tells q (item ∷ items) = grind (arith, item_tells q items)
 
   -- a known holder after a delivery was known before, or the message names it, or it is the sender or receiver of an
   -- item's message, or the receiver of the delivery
   pub gained_holder : (q : ℕ) → log_knows_holder d q (log_after_delivery batch own log) ≡ true
       → (log_knows_holder d q log ≡ true) ⊎ ((item_holder d q batch ≡ true) ⊎ (((has_item d batch ≡ true) × ((q ≡ own.source.0) ⊎ (q ≡ own.dest.0))) ⊎ ((d ≡ own) × (q ≡ own.dest.0))))
-  gained_holder q h = grind (arith, or_cases, gained_known q, item_split, and_parts, same_is, alone_holds, false≢true)
+  gained_holder q h = grind (arith, or_cases, gained_known q, item_tells q batch, and_parts, eqb-true, same_is, alone_holds, false≢true)
 
   -- holders known before a delivery are known after it
   pub gained_old : (q : ℕ) → log_knows_holder d q log ≡ true → log_knows_holder d q (log_after_delivery batch own log) ≡ true
@@ -107,40 +74,25 @@ module _ (batch : List Item) (own : Det) (log : LogMap) (d : Det) where
 
   -- after a delivery the receiver is a known holder of what it brings
   pub gained_new : (same_det d own || has_item d batch) ≡ true → log_knows_holder d own.dest.0 (log_after_delivery batch own log) ≡ true
-  gained_new h = grind (arith, gained_known own.dest.0, or_cases (same_det d own) (has_item d batch) h, itself_holds own.dest.0, item_received)
+  gained_new h = grind (arith, gained_known own.dest.0, or_cases (same_det d own) (has_item d batch) h, itself_holds own.dest.0, item_tells own.dest.0 batch, eq-eqb)
 
   -- after a delivery each holder that the message names is known
   pub gained_told : (q : ℕ) → MessageImpliesHolder batch own d q → log_knows_holder d q (log_after_delivery batch own log) ≡ true
-  gained_told q h = grind (arith, gained_known, item_named, item_sent, gained_new, same_itself)
+  gained_told q h = grind (arith, gained_known q, item_tells q batch, eq-eqb, itself_holds own.dest.0, same_itself d)
 
-  -- what is known to be stable before a delivery is known after it
-  pub gained_still : log_knows_stable d log ≡ true → log_knows_stable d (log_after_delivery batch own log) ≡ true
-  gained_still h =
-      one_stable absorbs own (held_by own.dest) d
-      ∙ or_left _ _ (known_all (λ k. k.stable) stable_either (map (knowledge_from_item own.source own.dest) batch) log d ∙ or_left _ _ h)
-
-  -- after a delivery nothing new is known to be stable
-  pub gained_stable : log_knows_stable d (log_after_delivery batch own log) ≡ true → log_knows_stable d log ≡ true
-  gained_stable h =
-      let before = known_all (λ k. k.stable) stable_either (map (knowledge_from_item own.source own.dest) batch) log d in
-      grind (arith, before, one_stable absorbs own (held_by own.dest) d, told_stable own.source own.dest d batch)
+  -- a delivery changes no mark
+  pub gained_mark : log_knows_stable d (log_after_delivery batch own log) ≡ log_knows_stable d log
+  gained_mark = grind (arith, known_all (λ k. k.stable) stable_either ((own, held_by own.dest) ∷ []) absorbs d, absorbed_stable batch own.source own.dest log d)
 
 -- a property of logs that a union has if either operand has it, and that the empty log lacks
 module _ (tells : LogMap → Bool) (either : (log other : LogMap) → tells (after_union log other) ≡ (tells log || tells other)) (lacks : tells fin.empty ≡ false) where
   pub united_found : (ms : Memories) (log : LogMap) → tells (with_logs_of ms log) ≡ true → (tells log ≡ true) ⊎ ((r : ℕ) × (r < length ms) × (tells (log_at ms r) ≡ true))
   unfolding with_logs_of log_at
   united_found [] log h = inl h
-  united_found (None ∷ ms) log h =
-      elim (united_found ms log h) [
-        | inl old ↦ inl old
-        | inr some ↦ inr (suc some.0, omega (arith, some.1), some.2)
-      ]
+  united_found (None ∷ ms) log h = elim (united_found ms log h) [ inl old ↦ inl old | inr some ↦ inr (suc some.0, omega (arith, some.1), some.2) ]
   united_found (Some m ∷ ms) log h =
       elim (united_found ms (after_union log m.log) h) [
-        | inl old ↦ elim (or_cases (tells log) (tells m.log) (sym (either log m.log) ∙ old)) [
-          | inl first ↦ inl first
-          | inr here ↦ inr (zero, omega arith, here)
-        ]
+        | inl old ↦ elim (or_cases (tells log) (tells m.log) (sym (either log m.log) ∙ old)) [ inl first ↦ inl first | inr here ↦ inr (zero, omega arith, here) ]
         | inr some ↦ inr (suc some.0, omega (arith, some.1), some.2)
       ]
 
@@ -158,20 +110,6 @@ module _ (tells : LogMap → Bool) (either : (log other : LogMap) → tells (aft
   united_each (Some m ∷ ms) log zero h = united_first ms (after_union log m.log) (either log m.log ∙ or_right _ _ h)
   united_each (Some m ∷ ms) log (suc r) h = united_each ms (after_union log m.log) r h
 
--- the three properties
-pub entry_either : (d : Det) (log other : LogMap) → has_entry d (after_union log other) ≡ (has_entry d log || has_entry d other)
-entry_either d log other = logged_all (fin.entries other) log d ∙ ap (λ b. has_entry d log || b) (any_dets d other)
-
-pub holder_either : (d : Det) (q : ℕ) (log other : LogMap) → log_knows_holder d q (after_union log other) ≡ (log_knows_holder d q log || log_knows_holder d q other)
-holder_either d q log other =
-    known_all (λ k. set.contains k.holders q) (holds_either q) (fin.entries other) log d
-    ∙ ap (λ b. log_knows_holder d q log || b) (any_logged (λ k. set.contains k.holders q) d other ∙ known_passes (λ k. set.contains k.holders q) (set.contains-empty nat_cmp q) (fin.get other d))
-
-pub mark_either : (d : Det) (log other : LogMap) → log_knows_stable d (after_union log other) ≡ (log_knows_stable d log || log_knows_stable d other)
-mark_either d log other =
-    known_all (λ k. k.stable) stable_either (fin.entries other) log d
-    ∙ ap (λ b. log_knows_stable d log || b) (any_logged (λ k. k.stable) d other ∙ known_passes (λ k. k.stable) refl (fin.get other d))
-
 -- a log in which p is a known holder of these
 held_is : (ds : List Det) (p : Pid) (log : LogMap) → with_held ds p log ≡ after_learn_all (map (λ d. (d, held_by p)) ds) log
 unfolding with_held
@@ -183,14 +121,6 @@ unfolding with_stored
 stable_is [] p log = refl
 stable_is (d ∷ ds) p log = stable_is ds p (after_learn log d (stable_and_held_by p))
 
-any_of : (d : Det) (g : Det → Bool) (ds : List Det) → list_any (λ x. same_det d x && g x) ds ≡ true → (list_has ds d ≡ true) × (g d ≡ true)
-any_of d g [] h = absurd (false≢true h)
-any_of d g (x ∷ ds) h = grind (arith, or_cases, and_parts, same_is, any_of d g ds)
-
-any_for : (d : Det) (g : Det → Bool) (ds : List Det) → list_has ds d ≡ true → g d ≡ true → list_any (λ x. same_det d x && g x) ds ≡ true
-any_for d g [] h k = absurd (false≢true h)
-any_for d g (x ∷ ds) h k = grind (arith, or_cases (same_det d x) (list_has ds d) h, same_is, any_for d g ds)
-
 -- membership in the keys of a log and in the members of a store
 pub keys_have : (m : LogMap) (d : Det) → list_has (fin.keys m) d ≡ has_entry d m
 keys_have m d = any_map (λ e. e.0) (same_det d) (λ e. same_det d e.0) (λ x. refl) (fin.entries m) ∙ any_dets d m
@@ -200,16 +130,20 @@ pub stored_have : (s : DetSet) (d : Det) → list_has (dets_in s) d ≡ store.se
 stored_have s d = grind (arith, fin.contains_key-keys s d, det_ties)
 
 -- after the same knowledge is learned of each determinant of a list
-module _ (p : Pid) (k : Known) (d : Det) where
+module _ (k : Known) (d : Det) where
   abbrev each : List Det → List (Det × Known)
   each ds = map (λ x. (x, k)) ds
 
   each_entry : (ds : List Det) (log : LogMap) → has_entry d (after_learn_all (each ds) log) ≡ (has_entry d log || list_has ds d)
   each_entry ds log = logged_all (each ds) log d ∙ ap (λ b. has_entry d log || b) (any_map (λ x. (x, k)) (λ e. same_det d e.0) (same_det d) (λ x. refl) ds)
 
-  each_known : (list_has : Known → Bool) (either : (one other : Known) → list_has (union_with one other) ≡ (list_has one || list_has other)) (ds : List Det) (log : LogMap)
-      → list_has (known_of (after_learn_all (each ds) log) d) ≡ (list_has (known_of log d) || list_any (λ x. same_det d x && list_has k) ds)
-  each_known list_has either ds log = known_all list_has either (each ds) log d ∙ ap (λ b. list_has (known_of log d) || b) (any_map (λ x. (x, k)) (λ e. same_det d e.0 && list_has e.1) (λ x. same_det d x && list_has k) (λ x. refl) ds)
+  each_any : (tells : Known → Bool) (ds : List Det) → list_any (λ e. same_det d e.0 && tells e.1) (each ds) ≡ (list_has ds d && tells k)
+  each_any tells [] = refl
+  each_any tells (x ∷ ds) = grind (arith, each_any tells ds)
+
+  each_known : (tells : Known → Bool) (either : (one other : Known) → tells (union_with one other) ≡ (tells one || tells other)) (ds : List Det) (log : LogMap)
+      → tells (known_of (after_learn_all (each ds) log) d) ≡ (tells (known_of log d) || (list_has ds d && tells k))
+  each_known tells either ds log = known_all tells either (each ds) log d ∙ ap (λ b. tells (known_of log d) || b) (each_any tells ds)
 
 -- a restart's log, made of the logs of up processes and of stable storage
 module _ (ms : Memories) (stored : DetSet) (p : Pid) (d : Det) where
@@ -222,78 +156,66 @@ module _ (ms : Memories) (stored : DetSet) (p : Pid) (d : Det) where
   abbrev gathered : LogMap
   gathered = restart_log ms stored p
 
-  held_entry : has_entry d held ≡ (has_entry d together || list_has (fin.keys together) d)
-  held_entry = ap (has_entry d) (held_is (fin.keys together) p together) ∙ each_entry p (held_by p) d (fin.keys together) together
+  gathered_entry : has_entry d gathered ≡ (has_entry d together || store.set_has stored d)
+  gathered_entry =
+      let held_entry = each_entry (held_by p) d (fin.keys together) together in
+      let all_entry = each_entry (stable_and_held_by p) d (dets_in stored) held in
+      grind (arith, held_is (fin.keys together) p together, stable_is (dets_in stored) p held, held_entry, all_entry, keys_have together d, stored_have stored d)
 
-  all_entry : has_entry d gathered ≡ (has_entry d held || list_has (dets_in stored) d)
-  all_entry = ap (has_entry d) (stable_is (dets_in stored) p held) ∙ each_entry p (stable_and_held_by p) d (dets_in stored) held
-
-  held_known : (tells : Known → Bool) (either : (one other : Known) → tells (union_with one other) ≡ (tells one || tells other)) → tells (known_of held d) ≡ (tells (known_of together d) || list_any (λ x. same_det d x && tells (held_by p)) (fin.keys together))
-  held_known tells either = ap (λ log. tells (known_of log d)) (held_is (fin.keys together) p together) ∙ each_known p (held_by p) d tells either (fin.keys together) together
-
-  all_known : (tells : Known → Bool) (either : (one other : Known) → tells (union_with one other) ≡ (tells one || tells other)) → tells (known_of gathered d) ≡ (tells (known_of held d) || list_any (λ x. same_det d x && tells (stable_and_held_by p)) (dets_in stored))
-  all_known tells either = ap (λ log. tells (known_of log d)) (stable_is (dets_in stored) p held) ∙ each_known p (stable_and_held_by p) d tells either (dets_in stored) held
+  gathered_tells : (tells : Known → Bool) (either : (one other : Known) → tells (union_with one other) ≡ (tells one || tells other))
+      → tells (known_of gathered d) ≡ ((tells (known_of together d) || (has_entry d together && tells (held_by p))) || (store.set_has stored d && tells (stable_and_held_by p)))
+  gathered_tells tells either =
+      let held_known = each_known (held_by p) d tells either (fin.keys together) together in
+      let all_known = each_known (stable_and_held_by p) d tells either (dets_in stored) held in
+      grind (arith, held_is (fin.keys together) p together, stable_is (dets_in stored) p held, held_known, all_known, keys_have together d, stored_have stored d)
 
   together_entry : has_entry d together ≡ true → (r : ℕ) × (r < length ms) × (memory_logs ms r d ≡ true)
-  together_entry h = elim (united_found (has_entry d) (entry_either d) (none_entry d) ms fin.empty h) [ inl none ↦ absurd (both_ways _ (none_entry d) none) | inr some ↦ some ]
+  together_entry h = grind (arith, united_found (has_entry d) (λ log other. united_logged log other d) (none_entry d) ms fin.empty h, none_entry d)
 
   -- what the restart's log has is stored, or an up process logs it
   pub gathered_found : has_entry d gathered ≡ true → (store.set_has stored d ≡ true) ⊎ ((r : ℕ) × (r < length ms) × (memory_logs ms r d ≡ true))
-  gathered_found h = grind (arith, or_cases, all_entry, held_entry, together_entry, keys_have, stored_have stored d)
+  gathered_found h = grind (arith, gathered_entry, together_entry)
 
   -- what is stored is in the restart's log
   pub gathered_stored : store.set_has stored d ≡ true → has_entry d gathered ≡ true
-  gathered_stored h = all_entry ∙ or_right _ _ (stored_have stored d ∙ h)
+  gathered_stored h = gathered_entry ∙ or_right _ _ h
 
   -- what an up process logs is in the restart's log
   pub gathered_logged : (r : ℕ) → memory_logs ms r d ≡ true → has_entry d gathered ≡ true
-  gathered_logged r h = all_entry ∙ or_left _ _ (held_entry ∙ or_left _ _ (united_each (has_entry d) (entry_either d) (none_entry d) ms fin.empty r h))
+  gathered_logged r h = gathered_entry ∙ or_left _ _ (united_each (has_entry d) (λ log other. united_logged log other d) (none_entry d) ms fin.empty r h)
 
   -- a known holder in the restart's log is p itself, or an up process knew it
   pub gathered_holder : (q : ℕ) → log_knows_holder d q gathered ≡ true → (q ≡ p.0) ⊎ ((r : ℕ) × (r < length ms) × (knows_holder ms r d q ≡ true))
   gathered_holder q h =
-      let all = all_known (λ k. set.contains k.holders q) (holds_either q) in
-      let some = held_known (λ k. set.contains k.holders q) (holds_either q) in
-      let after_union = united_found (log_knows_holder d q) (holder_either d q) (none_holds d q) ms fin.empty in
-      let mine = any_of d (λ x. set.contains (held_by p).holders q) (fin.keys together) in
-      let kept = any_of d (λ x. set.contains (stable_and_held_by p).holders q) (dets_in stored) in
-      grind (arith, all, some, after_union, none_holds d q, mine, kept, alone_holds p.0 q)
+      let after_union = united_found (log_knows_holder d q) (λ log other. united_holders log other d q) (none_holds d q) ms fin.empty in
+      grind (arith, gathered_tells (λ k. set.contains k.holders q) (holds_either q), after_union, none_holds d q, alone_holds p.0 q)
 
   -- holders that an up process knew are known in the restart's log
   pub gathered_known : (r q : ℕ) → knows_holder ms r d q ≡ true → log_knows_holder d q gathered ≡ true
   gathered_known r q h =
-      all_known (λ k. set.contains k.holders q) (holds_either q)
-      ∙ or_left _ _ (held_known (λ k. set.contains k.holders q) (holds_either q) ∙ or_left _ _ (united_each (log_knows_holder d q) (holder_either d q) (none_holds d q) ms fin.empty r h))
+      gathered_tells (λ k. set.contains k.holders q) (holds_either q)
+      ∙ or_left _ _ (or_left _ _ (united_each (log_knows_holder d q) (λ log other. united_holders log other d q) (none_holds d q) ms fin.empty r h))
 
   -- what an up process knew to be stable is known so in the restart's log
   pub gathered_marks : (r : ℕ) → knows_stable ms r d ≡ true → log_knows_stable d gathered ≡ true
   gathered_marks r h =
-      all_known (λ k. k.stable) stable_either
-      ∙ or_left _ _ (held_known (λ k. k.stable) stable_either ∙ or_left _ _ (united_each (log_knows_stable d) (mark_either d) (none_stable d) ms fin.empty r h))
+      gathered_tells (λ k. k.stable) stable_either ∙ or_left _ _ (or_left _ _ (united_each (log_knows_stable d) (λ log other. united_stable log other d) (none_stable d) ms fin.empty r h))
 
   -- what is stored is known to be stable in the restart's log
   pub stored_marks : store.set_has stored d ≡ true → log_knows_stable d gathered ≡ true
-  stored_marks h = all_known (λ k. k.stable) stable_either ∙ or_right _ _ (any_for d (λ x. true) (dets_in stored) (stored_have stored d ∙ h) refl)
+  stored_marks h = gathered_tells (λ k. k.stable) stable_either ∙ or_right _ _ (and_from _ _ h refl)
 
   -- p is a known holder of all that the restart's log has
   pub gathered_itself : has_entry d gathered ≡ true → log_knows_holder d p.0 gathered ≡ true
-  gathered_itself h =
-      let all = all_known (λ k. set.contains k.holders p.0) (holds_either p.0) in
-      let some = held_known (λ k. set.contains k.holders p.0) (holds_either p.0) in
-      let mine = any_for d (λ x. set.contains (held_by p).holders p.0) (fin.keys together) in
-      let kept = any_for d (λ x. set.contains (stable_and_held_by p).holders p.0) (dets_in stored) in
-      grind (arith, all, some, mine, kept, all_entry, held_entry, keys_have together d, itself_holds p.0)
+  gathered_itself h = grind (arith, gathered_tells (λ k. set.contains k.holders p.0) (holds_either p.0), gathered_entry, itself_holds p.0)
 
   -- what the restart's log knows to be stable is stored, or an up process knew it
   pub gathered_mark : log_knows_stable d gathered ≡ true → (store.set_has stored d ≡ true) ⊎ ((r : ℕ) × (r < length ms) × (knows_stable ms r d ≡ true))
   gathered_mark h =
-      let all = all_known (λ k. k.stable) stable_either in
-      let some = held_known (λ k. k.stable) stable_either in
-      let after_union = united_found (log_knows_stable d) (mark_either d) (none_stable d) ms fin.empty in
-      let marked = any_of d (λ x. true) (dets_in stored) in
-      grind (arith, all, some, after_union, none_stable d, marked, any_of d (λ x. false) (fin.keys together), stored_have stored d)
+      let after_union = united_found (log_knows_stable d) (λ log other. united_stable log other d) (none_stable d) ms fin.empty in
+      grind (arith, gathered_tells (λ k. k.stable) stable_either, after_union, none_stable d)
 
 -- known holders and marks after a delivery and after a restart
 pub ruleset told_holders_of = (gained_holder, gained_told, gained_old, gathered_holder, gathered_itself, gathered_known, keys_have, entry_of_holder)
 
-pub ruleset told_marks_of = (gained_stable, gained_still, gathered_mark, gathered_marks, stored_marks, entry_of_mark)
+pub ruleset told_marks_of = (gained_mark, gathered_mark, gathered_marks, stored_marks, entry_of_mark)

@@ -1,11 +1,12 @@
 -- Each kind of entry, with what it does to the memories, is a legal step of the general protocol, and the memories
 -- match it again.
-use Rattle.std.proofs.Common.{ℕ, ◌≡◌, ◌<◌, inl, inr, Bool, true, false, not, ◌&&◌, ◌||◌, List, ◌∷◌, length, slice_get, slice_set, Some, None, is_none, refl, sym, ap, subst, ◌∙◌, arith}
+use Rattle.std.proofs.Common.{ℕ, ◌≡◌, ◌<◌, inl, inr, Bool, true, false, not, ◌&&◌, ◌||◌, List, ◌∷◌, length, slice_get, slice_set, Option, Some, None, is_none, refl, sym, ap, subst, ◌∙◌, arith}
 use Rattle.std.specs.Prelude.{◌==◌, ◌⊎◌}
 use Rattle.std.specs.Option.{option_map, option_and_then}
 use Rattle.std.specs.FinMap as fin
 use Rattle.std.specs.FinSet as set
-use Rattle.std.proofs.lemmas.Bool.{false≢true, both_ways, or_cases, or_left, or_right, and_from, and_parts, eqb-true, eq-eqb}
+use Rattle.std.proofs.lemmas.List.{length-set}
+use Rattle.std.proofs.lemmas.Bool.{false≢true, both_ways, or_cases, or_right, and_from, and_parts, eqb-true, eq-eqb}
 use Rattle.causal_name.specs.declared.Pid.{Pid}
 use Rattle.causal_name.specs.declared.MsgName.{MsgName}
 use Rattle.causal_name.specs.declared.Det.{Det}
@@ -21,17 +22,16 @@ use Rattle.causal_steps.specs.Transit.{TransitParcel, IsInTransit, IsCarried, Su
 use Rattle.causal_steps.specs.Steps.{IsSendStep, IsDeliverStep, IsCrashStep, IsRestartStep, IsStableStep, IsForgetStep, IsStep, sends, delivers, crashes, restarts, writes, forgets}
 use Rattle.causal_steps.specs.Reachable.{next_state}
 use Rattle.causal_steps.proofs.Lemmas.Positions.{at_newest, at_older, message_below}
-use Rattle.causal_protocol.specs.Memory.{SentMessage, Memory, Memories, present_at, update_at, new_memory, with_sent, with_received, with_log, log_after_delivery}
+use Rattle.causal_protocol.specs.Memory.{SentMessage, Memory, Memories, present_at, update_at, new_memory, with_sent, with_received, with_log}
 use Rattle.causal_protocol.specs.Gathering.{stable_set, restart_log, without_dets}
-use Rattle.causal_protocol.specs.Naming.{message_name}
 use Rattle.causal_protocol.specs.MemoryQueries.{log_at, messages, has_entry, log_knows_holder, log_knows_stable, memory_logs, knows_holder, knows_stable, has_item, item_holder, parcel_of, volatile_of}
 use Rattle.causal_protocol.specs.Invariant.{survives, logs_or_stable}
 use Rattle.causal_protocol.specs.Runs.{MemoriesMatchEntries, IsInvariantState}
-use Rattle.causal_protocol.proofs.Places.{set_cases, changed_cases, changed_state, set_state, length_set, kept_more, log_here, log_none, grown, shrunk, log_changed}
+use Rattle.causal_protocol.proofs.Places.{set_cases, changed_cases, changed_state, set_state, kept_more, log_here, log_none}
 use Rattle.causal_protocol.proofs.LearnedLogs
 use Rattle.causal_protocol.proofs.Choices
 use Rattle.causal_protocol.proofs.Sets.{survives_log, survives_stable, survives_found}
-use Rattle.causal_protocol.proofs.Facts.{message_of_parcel, keeps_within, invariant, found_up, senders_have_carried}
+use Rattle.causal_protocol.proofs.Facts.{message_of_parcel, parcel_of_message, keeps_within, invariant, found_up, senders_have_carried}
 use Rattle.causal_protocol.proofs.Lemmas.LogMembers.{none_holds, none_stable, none_entry, entry_of_holder}
 
 -- a legal step to memories that match its entry leads to a sound state
@@ -50,6 +50,20 @@ message_older e past send x h = ap (λ o. option_and_then message_sent o) (at_ol
 
 message_newest : (e : Entry) (past : List Entry) (send : ℕ) → send ≡ length past → message_at (e ∷ past) send ≡ message_sent e
 message_newest e past send is = ap (λ o. option_and_then message_sent o) (at_newest send (length past) (Some e) (entry_at past send) is)
+
+-- so a legal step that sets one memory, and adds no message, leads to a sound state if the memory's process is up
+-- accordingly and the logs are those that the entry gives
+quiet_sound : (n f : ℕ) (e : Entry) (past : List Entry) (ms : Memories) (w : ℕ) (x : Option Memory) → IsInvariantState n f past ms
+    → IsStep n f past (volatile_of ms) (e ∷ past) (volatile_of (slice_set ms w x)) → ((p : ℕ) → p < n → is_none (present_at (slice_set ms w x) p) ≡ is_down (e ∷ past) p)
+    → ((p ssn : ℕ) (k : SentMessage) → slice_get (messages (slice_set ms w x) p) ssn ≡ Some k → slice_get (messages ms p) ssn ≡ Some k)
+    → ((p : ℕ) (d : Det) → p < n → memory_logs (slice_set ms w x) p d ≡ logs (e ∷ past) p d) → IsInvariantState n f (e ∷ past) (slice_set ms w x)
+quiet_sound n f e past ms w x s step state kept logged =
+    next_sound n f e past ms (slice_set ms w x) s step (record {
+      count = length-set ms w x ∙ s.fit.count;
+      state = state;
+      placed = λ p ssn k h. message_older e past k.send _ (s.fit.placed p ssn k (kept p ssn k h));
+      logged = logged;
+    })
 
 is_up : (n : ℕ) (past : List Entry) (ms : Memories) (p : ℕ) (m : Memory) → MemoriesMatchEntries n past ms → p < n → present_at ms p ≡ Some m → is_down past p ≡ false
 is_up n past ms p m fit low here = sym (fit.state p low) ∙ ap is_none here
@@ -81,20 +95,13 @@ module _ (n f : ℕ) (past : List Entry) (ms : Memories) (from to : Pid) (m : Me
   sender_logs d h = sym (s.fit.logged from.0 d low) ∙ ap (has_entry d) there ∙ Choices.chosen_logged f m.log d h
 
   sender_knows : (d : Det) (q : ℕ) → (item_holder d q (batch_items f m.log) || (has_item d (batch_items f m.log) && q == from.0)) ≡ true → (knows_holder ms from.0 d q ≡ true) × (has_item d (batch_items f m.log) ≡ true)
-  sender_knows d q h = elim (or_cases _ _ h) [
-    | inl named ↦ (ap (log_knows_holder d q) there ∙ Choices.chosen_known f m.log d q named, LearnedLogs.item_of_holder d q (batch_items f m.log) named)
-    | inr itself ↦
-        let parts = and_parts (has_item d (batch_items f m.log)) (q == from.0) itself in
-        (subst (λ x. knows_holder ms from.0 d x ≡ true) (sym (eqb-true q from.0 parts.1)) ((invariant n f past ms s).knows_itself from.0 d low (sender_logs d parts.0)), parts.0)
-  ]
+  sender_knows d q h =
+      grind (arith, there, or_cases, Choices.chosen_known f m.log d q, LearnedLogs.item_of_holder d q, and_parts, eqb-true, sender_logs d, (invariant n f past ms s).knows_itself from.0 d low)
 
   one_new : (t : TransitParcel) → IsInTransit (volatile_of sent_memories) t → IsInTransit (volatile_of ms) t ⊎ (t ≡ parcel_of from.0 new_message)
   one_new t in_transit =
       let found = message_of_parcel sent_memories t in_transit in
-      elim (sent_kept found.0 found.1 found.2 found.3) [
-        | inl old ↦ inl (found.0, found.1, ap (option_map (parcel_of found.0)) old ∙ ap Some (sym found.4))
-        | inr new ↦ inr (found.4 ∙ ap (λ p. parcel_of p found.2) (sym new.0) ∙ ap (parcel_of from.0) new.2)
-      ]
+      grind (arith, found.4, sent_kept found.0 found.1 found.2 found.3, parcel_of_message ms found.0 found.1 found.2)
 
   is_sent : IsSendStep n f past from.0 (volatile_of ms) (volatile_of sent_memories) (parcel_of from.0 new_message)
   is_sent = record {
@@ -119,15 +126,9 @@ module _ (n f : ℕ) (past : List Entry) (ms : Memories) (from to : Pid) (m : Me
 
   sent_fits : MemoriesMatchEntries n (sent_entry ∷ past) sent_memories
   sent_fits = record {
-    count = length_set ms from.0 (option_map sent_to (present_at ms from.0)) ∙ s.fit.count;
+    count = length-set ms from.0 (option_map sent_to (present_at ms from.0)) ∙ s.fit.count;
     state = λ p small. changed_state sent_to ms from.0 m here p ∙ s.fit.state p small;
-    placed = λ p ssn k h. elim (sent_kept p ssn k h) [
-      | inl old ↦ message_older sent_entry past k.send _ (s.fit.placed p ssn k old)
-      | inr new ↦
-          message_newest sent_entry past k.send (ap (λ (x : SentMessage). x.send) new.2)
-          ∙ ap (λ q. Some (message_name (record { 0 = q }) (length m.sent))) new.0
-          ∙ ap (λ x. Some (message_name (record { 0 = p }) x)) (sym new.1)
-    ];
+    placed = λ p ssn k h. grind (arith, sent_kept p ssn k h, message_older sent_entry past k.send, s.fit.placed p ssn k, message_newest sent_entry past k.send);
     logged = λ p d small. ap (has_entry d) (sent_log p) ∙ s.fit.logged p d small;
   }
 
@@ -160,28 +161,12 @@ module _ (n f : ℕ) (past : List Entry) (ms : Memories) (to : Pid) (rsn : ℕ) 
   received_kept p ssn x h = grind (arith, changed_cases receiving ms to.0 m here p)
 
   has_as : (p : ℕ) (d : Det) → memory_logs received_memories p d ≡ ((to.0 == p && list_has listed d) || memory_logs ms p d)
-  has_as p d =
-      ap (has_entry d) (log_changed receiving ms to.0 m here p)
-      ∙ grown ms to.0 p (has_entry d) (log_after_delivery k.batch own m.log) (list_has listed d) (LearnedLogs.gained_entry k.batch own m.log d ∙ (λ i. has_entry d (sym (log_here ms to.0 m here) i) || sym (lists d) i))
-
-  lists_carried : (d : Det) → has_item d k.batch ≡ true → list_has listed d ≡ true
-  lists_carried d h = lists d ∙ or_right _ _ h
-
-  lists_own : (d : Det) → d ≡ own → list_has listed d ≡ true
-  lists_own d is = grind (arith, lists d, same_itself d)
+  has_as p d = grind (arith, changed_cases receiving ms to.0 m here p, LearnedLogs.gained_entry k.batch own m.log d, lists d)
 
   new_holders : (p : ℕ) (d : Det) (q : ℕ) → knows_holder received_memories p d q ≡ true
       → (knows_holder ms p d q ≡ true) ⊎ ((to.0 ≡ p) × (list_has listed d ≡ true) × (((item_holder d q k.batch || (has_item d k.batch && q == asked.source.0)) ≡ true) ⊎ (q ≡ to.0)))
-  new_holders p d q h = elim (changed_cases receiving ms to.0 m here p) [
-    | inl is ↦ elim (LearnedLogs.gained_holder k.batch own m.log d q (ap (log_knows_holder d q) (sym is.2) ∙ h)) [
-      | inl old ↦ inl (ap (log_knows_holder d q) is.4 ∙ old)
-      | inr (inl named) ↦ inr (is.1, lists_carried d (LearnedLogs.item_of_holder d q k.batch named), inl (or_left _ _ named))
-      | inr (inr (inl (goes, inl sender))) ↦ inr (is.1, lists_carried d goes, inl (or_right _ _ (and_from _ _ goes (eq-eqb q asked.source.0 sender))))
-      | inr (inr (inl (goes, inr me))) ↦ inr (is.1, lists_carried d goes, inr me)
-      | inr (inr (inr (itself, me))) ↦ inr (is.1, lists_own d itself, inr me)
-    ]
-    | inr other ↦ inl (ap (log_knows_holder d q) (sym other.1) ∙ h)
-  ]
+  new_holders p d q h =
+      grind (arith, changed_cases receiving ms to.0 m here p, LearnedLogs.gained_holder k.batch own m.log d q, LearnedLogs.item_of_holder d q k.batch, lists d, same_itself d, eq-eqb q asked.source.0)
 
   is_delivered : IsDeliverStep n past to k.send rsn listed (volatile_of ms) (volatile_of received_memories)
   is_delivered = record {
@@ -197,34 +182,24 @@ module _ (n f : ℕ) (past : List Entry) (ms : Memories) (to : Pid) (rsn : ℕ) 
     new_holders = new_holders;
     knows_itself = λ d h. grind (arith, changed_cases, LearnedLogs.gained_new, both_ways, eq-eqb to.0 to.0 refl);
     keeps_holders = λ p d q h. grind (arith, changed_cases receiving ms to.0 m here p, LearnedLogs.gained_old);
-    new_stable = λ p d h. grind (arith, changed_cases receiving ms to.0 m here p, LearnedLogs.gained_stable);
+    new_stable = λ p d h. grind (arith, changed_cases receiving ms to.0 m here p, LearnedLogs.gained_mark);
     nothing_new = none_new ms received_memories received_kept;
-  }
-
-  received_fits : MemoriesMatchEntries n (delivery ∷ past) received_memories
-  received_fits = record {
-    count = length_set ms to.0 (option_map receiving (present_at ms to.0)) ∙ s.fit.count;
-    state = λ p small. changed_state receiving ms to.0 m here p ∙ s.fit.state p small;
-    placed = λ p ssn x h. message_older delivery past x.send _ (s.fit.placed p ssn x (received_kept p ssn x h));
-    logged = λ p d small. has_as p d ∙ ap (λ b. (to.0 == p && list_has listed d) || b) (s.fit.logged p d small);
   }
 
   -- the state after a delivery is sound
   pub delivery_sound : IsInvariantState n f (Deliver to k.send rsn listed ∷ past) (update_at (with_received k.batch (det_from to rsn asked)) ms to.0)
-  delivery_sound = next_sound n f delivery past ms received_memories s (delivers to k.send rsn listed is_delivered) received_fits
+  delivery_sound =
+      quiet_sound n f delivery past ms to.0 (option_map receiving (present_at ms to.0)) s (delivers to k.send rsn listed is_delivered)
+      (λ p small. changed_state receiving ms to.0 m here p ∙ s.fit.state p small) received_kept
+      (λ p d small. has_as p d ∙ ap (λ b. (to.0 == p && list_has listed d) || b) (s.fit.logged p d small))
 
--- a change of one log that leaves the messages unchanged
-module _ (n : ℕ) (past : List Entry) (ms : Memories) (w : ℕ) (m : Memory) (g : LogMap → LogMap) (here : present_at ms w ≡ Some m) (fit : MemoriesMatchEntries n past ms) where
+-- a change of one log that leaves the messages and the set of up processes unchanged
+module _ (n f : ℕ) (past : List Entry) (ms : Memories) (w : ℕ) (m : Memory) (g : LogMap → LogMap) (here : present_at ms w ≡ Some m) (s : IsInvariantState n f past ms) where
   log_kept : (p ssn : ℕ) (x : SentMessage) → slice_get (messages (update_at (with_log g) ms w) p) ssn ≡ Some x → slice_get (messages ms p) ssn ≡ Some x
   log_kept p ssn x h = grind (arith, changed_cases (with_log g) ms w m here p)
 
-  log_fits : (e : Entry) → ((p : ℕ) → is_down (e ∷ past) p ≡ is_down past p) → ((p : ℕ) (d : Det) → p < n → memory_logs (update_at (with_log g) ms w) p d ≡ logs (e ∷ past) p d) → MemoriesMatchEntries n (e ∷ past) (update_at (with_log g) ms w)
-  log_fits e down logged = record {
-    count = length_set ms w (option_map (with_log g) (present_at ms w)) ∙ fit.count;
-    state = λ p small. changed_state (with_log g) ms w m here p ∙ fit.state p small ∙ sym (down p);
-    placed = λ p ssn x h. message_older e past x.send _ (fit.placed p ssn x (log_kept p ssn x h));
-    logged = logged;
-  }
+  log_state : (p : ℕ) → p < n → is_none (present_at (update_at (with_log g) ms w) p) ≡ is_down past p
+  log_state p small = changed_state (with_log g) ms w m here p ∙ s.fit.state p small
 
 -- a stable entry
 module _ (n f : ℕ) (past : List Entry) (ms : Memories) (p : Pid) (m : Memory) (det : Det) (here : present_at ms p.0 ≡ Some m) (low : p.0 < n) (logged : memory_logs ms p.0 det ≡ true) (s : IsInvariantState n f past ms) where
@@ -242,12 +217,14 @@ module _ (n f : ℕ) (past : List Entry) (ms : Memories) (p : Pid) (m : Memory) 
     survived = inr (inl (p.0, low, sym (s.fit.logged p.0 det low) ∙ logged));
     same_holders = λ x d q. grind (arith, changed_cases (with_log marking) ms p.0 m here x, Choices.marked_holder m.log det d q);
     new_stable = λ x d h. grind (arith, changed_cases (with_log marking) ms p.0 m here x, Choices.marked_mark);
-    nothing_new = none_new ms written_memories (log_kept n past ms p.0 m marking here s.fit);
+    nothing_new = none_new ms written_memories (log_kept n f past ms p.0 m marking here s);
   }
 
   -- the state after a stable entry is sound
   pub stable_sound : IsInvariantState n f (Stable det ∷ past) (update_at (with_log (λ log. after_mark log det)) ms p.0)
-  stable_sound = next_sound n f (Stable det) past ms written_memories s (writes det is_stable_entry) (log_fits n past ms p.0 m marking here s.fit (Stable det) (λ x. refl) (λ x d small. marked_as x d ∙ s.fit.logged x d small))
+  stable_sound =
+      quiet_sound n f (Stable det) past ms p.0 (option_map (with_log marking) (present_at ms p.0)) s (writes det is_stable_entry)
+      (log_state n f past ms p.0 m marking here s) (log_kept n f past ms p.0 m marking here s) (λ x d small. marked_as x d ∙ s.fit.logged x d small)
 
 -- a forgetting
 module _ (n f : ℕ) (past : List Entry) (ms : Memories) (p : Pid) (m : Memory) (listed : List Det) (here : present_at ms p.0 ≡ Some m) (low : p.0 < n) (known : (d : Det) → list_has listed d ≡ true → knows_stable ms p.0 d ≡ true) (s : IsInvariantState n f past ms) where
@@ -255,9 +232,7 @@ module _ (n f : ℕ) (past : List Entry) (ms : Memories) (p : Pid) (m : Memory) 
   lessened = update_at (with_log (without_dets listed)) ms p.0
 
   lessened_as : (tells : LogMap → Bool) (d : Det) → tells (without_dets listed m.log) ≡ (not (list_has listed d) && tells m.log) → (x : ℕ) → tells (log_at lessened x) ≡ (not (p.0 == x && list_has listed d) && tells (log_at ms x))
-  lessened_as tells d less x =
-      ap tells (log_changed (with_log (without_dets listed)) ms p.0 m here x)
-      ∙ shrunk ms p.0 x tells (without_dets listed m.log) (list_has listed d) (less ∙ ap (λ log. not (list_has listed d) && tells log) (sym (log_here ms p.0 m here)))
+  lessened_as tells d less x = grind (arith, changed_cases (with_log (without_dets listed)) ms p.0 m here x, less)
 
   is_forgotten : IsForgetStep n past p.0 listed (volatile_of ms) (volatile_of lessened)
   is_forgotten = record {
@@ -265,14 +240,15 @@ module _ (n f : ℕ) (past : List Entry) (ms : Memories) (p : Pid) (m : Memory) 
     known_stable = known;
     holders = λ x d q. lessened_as (log_knows_holder d q) d (Choices.without_holder listed m.log d q) x;
     new_stable = λ x d h. grind (arith, changed_cases (with_log (without_dets listed)) ms p.0 m here x, Choices.without_mark);
-    nothing_new = none_new ms lessened (log_kept n past ms p.0 m (without_dets listed) here s.fit);
+    nothing_new = none_new ms lessened (log_kept n f past ms p.0 m (without_dets listed) here s);
   }
 
   -- the state after a forgetting is sound
   pub forget_sound : IsInvariantState n f (Forget p listed ∷ past) (update_at (with_log (without_dets listed)) ms p.0)
   forget_sound =
-      next_sound n f (Forget p listed) past ms lessened s (forgets p listed is_forgotten)
-      (log_fits n past ms p.0 m (without_dets listed) here s.fit (Forget p listed) (λ x. refl) (λ x d small. lessened_as (has_entry d) d (Choices.without_entry listed m.log d) x ∙ ap (λ b. not (p.0 == x && list_has listed d) && b) (s.fit.logged x d small)))
+      quiet_sound n f (Forget p listed) past ms p.0 (option_map (with_log (without_dets listed)) (present_at ms p.0)) s (forgets p listed is_forgotten)
+      (log_state n f past ms p.0 m (without_dets listed) here s) (log_kept n f past ms p.0 m (without_dets listed) here s)
+      (λ x d small. lessened_as (has_entry d) d (Choices.without_entry listed m.log d) x ∙ ap (λ b. not (p.0 == x && list_has listed d) && b) (s.fit.logged x d small))
 
 -- a crash
 module _ (n f : ℕ) (past : List Entry) (ms : Memories) (who : Pid) (low : who.0 < n) (few : count_below n (is_down past) < f) (s : IsInvariantState n f past ms) where
@@ -296,17 +272,11 @@ module _ (n f : ℕ) (past : List Entry) (ms : Memories) (who : Pid) (low : who.
     nothing_new = none_new ms left_memories lost_kept;
   }
 
-  crash_fits : MemoriesMatchEntries n (Crash who ∷ past) left_memories
-  crash_fits = record {
-    count = length_set ms who.0 None ∙ s.fit.count;
-    state = λ p small. grind (arith, set_state ms who.0 None p within, s.fit.state p small);
-    placed = λ p ssn x h. message_older (Crash who) past x.send _ (s.fit.placed p ssn x (lost_kept p ssn x h));
-    logged = λ p d small. lost_one (has_entry d) (none_entry d) p ∙ ap (λ b. not (who.0 == p) && b) (s.fit.logged p d small);
-  }
-
   -- the state after a crash is sound
   pub crash_sound : IsInvariantState n f (Crash who ∷ past) (slice_set ms who.0 None)
-  crash_sound = next_sound n f (Crash who) past ms left_memories s (crashes who is_crashed) crash_fits
+  crash_sound =
+      quiet_sound n f (Crash who) past ms who.0 None s (crashes who is_crashed) (λ p small. grind (arith, set_state ms who.0 None p within, s.fit.state p small)) lost_kept
+      (λ p d small. lost_one (has_entry d) (none_entry d) p ∙ ap (λ b. not (who.0 == p) && b) (s.fit.logged p d small))
 
 -- a restart gathers what survives
 module _ (n f : ℕ) (past : List Entry) (ms : Memories) (who : Pid) (s : IsInvariantState n f past ms) where
@@ -355,10 +325,7 @@ module _ (n f : ℕ) (past : List Entry) (ms : Memories) (who : Pid) (listed : L
       let found = message_of_parcel ms t (none_new ms restarted restarted_kept t there) in
       let small : found.0 < n = under n f past ms who s found.0 (keeps_within ms found.0 found.1 found.2 found.3) in
       let goes : has_item d found.2.batch ≡ true = ap (λ (x : TransitParcel). x.carries d) (sym found.4) ∙ has_d in
-      elim (or_cases (logs past found.0 d) (is_stable past d) (senders_have_carried n f past ms s found.0 found.2 d small (found.1, found.3) goes)) [
-        | inl logs_d ↦ inl (lists_survivors d ∙ survives_log n past found.0 d small logs_d)
-        | inr stable ↦ inr stable
-      ]
+      grind (arith, or_cases, senders_have_carried n f past ms s found.0 found.2 d small (found.1, found.3) goes, lists_survivors d, survives_log n past found.0 d small)
 
   listed_alive : (d : Det) → list_has listed d ≡ true → Survives n past (volatile_of ms) d
   listed_alive d h = elim (survives_found n past d (sym (lists_survivors d) ∙ h)) [ inl stable ↦ inl stable | inr held ↦ inr (inl held) ]
@@ -369,35 +336,20 @@ module _ (n f : ℕ) (past : List Entry) (ms : Memories) (who : Pid) (listed : L
     down = sym (s.fit.state who.0 low) ∙ ap is_none down;
     lists_survivors = listed_alive;
     recovers = λ d lost there. elim there [ inl held ↦ inl (lists_survivors d ∙ survives_log n past held.0 d held.1 held.2) | inr goes ↦ carried_listed d goes ];
-    new_holders = λ p d q h. elim (set_cases ms who.0 (Some (new_memory gathered)) p bound) [
-      | inl is ↦
-          let knows_it : log_knows_holder d q gathered ≡ true = ap (log_knows_holder d q) (sym is.2) ∙ h in
-          inr (is.1, lists d ∙ entry_of_holder gathered d q knows_it, elim (LearnedLogs.gathered_holder ms (stable_set past) who d q knows_it) [ inl me ↦ inl me | inr old ↦ inr (inl (old.0, under n f past ms who s old.0 old.1, old.2)) ])
-      | inr other ↦ inl (ap (log_knows_holder d q) (sym other.1) ∙ h)
-    ];
+    new_holders = λ p d q h.
+        let held = LearnedLogs.gathered_holder ms (stable_set past) who d q in
+        grind (arith, set_cases ms who.0 (Some (new_memory gathered)) p bound, lists d, entry_of_holder gathered d q, held, under n f past ms who s);
     knows_itself = λ d h. grind (arith, set_cases, bound, LearnedLogs.gathered_itself, lists d);
-    keeps_holders = λ p d q h. elim (set_cases ms who.0 (Some (new_memory gathered)) p bound) [
-      | inl is ↦ absurd (both_ways _ (nothing_there (log_knows_holder d q) (none_holds d q) p is.1) h)
-      | inr other ↦ ap (log_knows_holder d q) other.1 ∙ h
-    ];
-    new_stable = λ p d h. elim (set_cases ms who.0 (Some (new_memory gathered)) p bound) [
-      | inl is ↦ elim (LearnedLogs.gathered_mark ms (stable_set past) who d (ap (log_knows_stable d) (sym is.2) ∙ h)) [
-        | inl stored ↦ inr (sym (Choices.stable_has past d) ∙ stored)
-        | inr old ↦ inr ((invariant n f past ms s).known_stable_true old.0 d (under n f past ms who s old.0 old.1) old.2)
-      ]
-      | inr other ↦ inl (ap (log_knows_stable d) (sym other.1) ∙ h)
-    ];
+    keeps_holders = λ p d q h. grind (arith, set_cases ms who.0 (Some (new_memory gathered)) p bound, nothing_there (log_knows_holder d q) (none_holds d q) p);
+    new_stable = λ p d h.
+        let marked = LearnedLogs.gathered_mark ms (stable_set past) who d in
+        grind (arith, set_cases ms who.0 (Some (new_memory gathered)) p bound, marked, Choices.stable_has past d, (invariant n f past ms s).known_stable_true, under n f past ms who s);
     nothing_new = none_new ms restarted restarted_kept;
-  }
-
-  restart_fits : MemoriesMatchEntries n (Restart who listed ∷ past) restarted
-  restart_fits = record {
-    count = length_set ms who.0 (Some (new_memory gathered)) ∙ s.fit.count;
-    state = λ p small. grind (arith, set_state ms who.0 (Some (new_memory gathered)) p bound, s.fit.state p small);
-    placed = λ p ssn x h. message_older (Restart who listed) past x.send _ (s.fit.placed p ssn x (restarted_kept p ssn x h));
-    logged = λ p d small. restarted_as p d ∙ ap (λ b. (who.0 == p && list_has listed d) || b) (s.fit.logged p d small);
   }
 
   -- the state after a restart is sound
   pub restart_sound : IsInvariantState n f (Restart who listed ∷ past) (slice_set ms who.0 (Some (new_memory (restart_log ms (stable_set past) who))))
-  restart_sound = next_sound n f (Restart who listed) past ms restarted s (restarts who listed is_restarted) restart_fits
+  restart_sound =
+      quiet_sound n f (Restart who listed) past ms who.0 (Some (new_memory gathered)) s (restarts who listed is_restarted)
+      (λ p small. grind (arith, set_state ms who.0 (Some (new_memory gathered)) p bound, s.fit.state p small)) restarted_kept
+      (λ p d small. restarted_as p d ∙ ap (λ b. (who.0 == p && list_has listed d) || b) (s.fit.logged p d small))

@@ -1,9 +1,9 @@
 -- Each legal step preserves the invariant.
 use Rattle.std.proofs.Common.{ℕ, zero, suc, ◌≡◌, ◌+◌, ◌<◌, inl, inr, true, not, ◌&&◌, ◌||◌, nat_lt, List, [], ◌∷◌, ◌++◌, length, map, take, drop, replicate, slice_set, Option, Some, None, is_none, refl, sym, ap, subst, ◌∙◌, arith}
-use Rattle.std.specs.Prelude.{◌==◌}
 use Rattle.std.specs.List.{filter_map}
 use Rattle.std.specs.Option.{option_map, option_map_or}
-use Rattle.std.proofs.lemmas.Bool.{false≢true, or_cases, or_left, or_right, and_parts, cond-true, cond-false, ltb-true, not-false}
+use Rattle.std.proofs.lemmas.List.{length_push}
+use Rattle.std.proofs.lemmas.Bool.{false≢true, or_cases, or_left, or_right}
 use Rattle.std.proofs.lemmas.Bool.Decides.{eqb_tells}
 use Rattle.causal_name.specs.declared.Pid.{Pid}
 use Rattle.causal_name.specs.declared.MsgName.{MsgName}
@@ -28,12 +28,13 @@ use Rattle.causal_protocol.specs.Refusals.{fault_if, fault_unless_named, request
 use Rattle.causal_protocol.specs.Steps.{append_all, extend_run, receiver_of, sends_of, AreSends, delivery_entry, forget_entries, LegalStep, flush_reason_of, IsPartialFlush}
 use Rattle.causal_protocol.specs.MemoryQueries.{memory_logs, knows_stable, has_item}
 use Rattle.causal_protocol.specs.Invariant.{logs_or_stable}
-use Rattle.causal_protocol.specs.Runs.{IsInvariantState, SatisfiesInvariant, RequestsPreserveInvariant, RefusalsChangeNothing, HoldsInState, StepsEstablish}
+use Rattle.causal_protocol.specs.Runs.{IsInvariantState, SatisfiesInvariant, RequestsPreserveInvariant, RefusalsChangeNothing}
+use Rattle.causal_protocol.proofs.Facts.{few_down, known_holders_true, carried_holders_true, marks_true, dependents_log, messages_carry, receivers_have_survivors, senders_have_carried}
 use Rattle.causal_protocol.proofs.Places.{at_set, at_within, log_here}
 use Rattle.causal_protocol.proofs.LearnedLogs.{keys_have}
 use Rattle.causal_protocol.proofs.Choices.{unstable_logged, stable_have, marked_entry}
 use Rattle.causal_protocol.proofs.Lemmas.LogMembers.{own_have, items_have}
-use Rattle.causal_protocol.proofs.Refusals.{first_none, when_none, is_there, kept_for-is, kept_message, only_named, down_counted}
+use Rattle.causal_protocol.proofs.Refusals.{first_none, is_there, kept_for-is, kept_message, only_named, down_counted}
 use Rattle.causal_protocol.proofs.SoundSteps.{send_sound, was_sent, delivery_sound, stable_sound, forget_sound, crash_sound, restart_sound}
 
 -- the invariant of a state, with the memories that the run makes
@@ -41,14 +42,10 @@ abbrev pub IsKept : ℕ → ℕ → List Pid → List Entry → Type 0
 IsKept n f writers past = IsInvariantState n f past (memories n f writers past)
 
 set_here : {X : Type 0} (xs : List (Option X)) (w : ℕ) (x : Option X) → w < length xs → present_at (slice_set xs w x) w ≡ x
-set_here xs w x low = at_set xs w x w low ∙ elim (eqb_tells w w) [ inl is ↦ cond-true (w == w) x (present_at xs w) is.0 | inr other ↦ absurd (other.1 refl) ]
+set_here xs w x low = grind (arith, at_set xs w x w, eqb_tells w w)
 
 set_other : {X : Type 0} (xs : List (Option X)) (w : ℕ) (x : Option X) (p : ℕ) → w < length xs → (w ≡ p → ⊥) → present_at (slice_set xs w x) p ≡ present_at xs p
-set_other xs w x p low away = at_set xs w x p low ∙ elim (eqb_tells w p) [ inl is ↦ absurd (away is.1) | inr other ↦ cond-false (w == p) x (present_at xs p) other.0 ]
-
-length_more : {X : Type 0} (xs : List X) (x : X) → length (xs ++ x ∷ []) ≡ length xs + 1
-length_more [] x = refl
-length_more (y ∷ xs) x = omega (arith, length_more xs x)
+set_other xs w x p low away = grind (arith, at_set xs w x p, eqb_tells w p)
 
 -- the sends of an up process preserve it, one after the other
 sends_kept : (n f : ℕ) (writers : List Pid) (past : List Entry) (q : Pid) (ssn : ℕ) (tos : List Pid) (m : Memory) → present_at (memories n f writers past) q.0 ≡ Some m → q.0 < n → ssn ≡ length m.sent → IsKept n f writers past
@@ -60,7 +57,7 @@ sends_kept n f writers past q ssn (to ∷ tos) m here low is s =
     let bound : q.0 < length ms = at_within ms q.0 m here in
     let next : IsInvariantState n f (Send q to ssn ∷ past) (update_at (with_sent f to (length past)) ms q.0) = subst (λ x. IsInvariantState n f (Send q to x ∷ past) (update_at (with_sent f to (length past)) ms q.0)) (sym is) (send_sound n f past ms q to m here low s) in
     let there : present_at (update_at (with_sent f to (length past)) ms q.0) q.0 ≡ Some (with_sent f to (length past) m) = set_here ms q.0 (option_map (with_sent f to (length past)) (present_at ms q.0)) bound ∙ ap (option_map (with_sent f to (length past))) here in
-    let rest = sends_kept n f writers (Send q to ssn ∷ past) q (ssn + 1) tos (with_sent f to (length past) m) there low (ap (λ x. x + 1) is ∙ sym (length_more m.sent _)) next in
+    let rest = sends_kept n f writers (Send q to ssn ∷ past) q (ssn + 1) tos (with_sent f to (length past) m) there low (ap (λ x. x + 1) is ∙ sym (length_push m.sent _)) next in
     (rest.0, λ p away. rest.1 p away ∙ set_other ms q.0 (option_map (with_sent f to (length past)) (present_at ms q.0)) p bound away)
 
 -- the sends of a step preserve it
@@ -106,16 +103,14 @@ module _ (r : Run) (s : SatisfiesInvariant r) where
   delivers : (q source : Pid) (ssn first : ℕ) (det : Det) (number : ℕ) (appended : List Entry) → request_fault r (Requests.Deliver q source ssn) ≡ None → appended ≡ delivery_entry r q (message_name source ssn) ∷ drop 1 appended → AreSends n q (next_ssn ms q) number (drop 1 appended) → SatisfiesInvariant (extend_run r (Requests.Deliver q source ssn) appended)
   unfolding request_refusals memories
   delivers q source ssn first det number appended none is sends =
-      let asked : MsgName = message_name source ssn in
+      let low : (q.0 < n) × (source.0 < n) = grind arith in
+      let up = is_there (present_at ms q.0) (grind arith) in
+      let kept = is_there (sent_message_for ms q (message_name source ssn)) (grind arith) in
+      let by = kept_for-is ms q (message_name source ssn) kept.0 kept.1 in
       let row1 = first_none (fault_if (not (nat_lt q.0 n && nat_lt source.0 n)) Faults.NoProcess) _ none in
       let row2 = first_none (fault_if (is_none (present_at ms q.0)) Faults.Down) _ row1.1 in
-      let row3 = first_none (fault_unless_named asked (named_for ms (stable_of r) q)) _ row2.1 in
-      let row4 = first_none (fault_if (is_none (sent_message_for ms q asked)) Faults.NotAvailable) _ row3.1 in
-      let low = and_parts (nat_lt q.0 n) (nat_lt source.0 n) (not-false _ (when_none _ Faults.NoProcess row1.0)) in
-      let up = is_there (present_at ms q.0) (when_none _ Faults.Down row2.0) in
-      let kept = is_there (sent_message_for ms q asked) (when_none _ Faults.NotAvailable row4.0) in
-      let by = kept_for-is ms q asked kept.0 kept.1 in
-      subst (λ es. IsKept n r.faults r.writers (append_all es past)) (sym is) (then_sends up.0 kept.0 (ltb-true q.0 n low.0) (ltb-true source.0 n low.1) up.1 by row3.0)
+      let row3 = first_none (fault_unless_named (message_name source ssn) (named_for ms (stable_of r) q)) _ row2.1 in
+      subst (λ es. IsKept n r.faults r.writers (append_all es past)) (sym is) (then_sends up.0 kept.0 low.0 low.1 up.1 by row3.0)
     where
       then_sends : (m : Memory) (k : SentMessage) → q.0 < n → source.0 < n → present_at ms q.0 ≡ Some m → sent_message_of ms (message_name source ssn) ≡ Some k → fault_unless_named (message_name source ssn) (named_for ms (stable_of r) q) ≡ None → IsKept n r.faults r.writers (append_all (drop 1 appended) (delivery_entry r q (message_name source ssn) ∷ past))
       then_sends m k low from here by only =
@@ -179,6 +174,11 @@ module _ (r : Run) (s : SatisfiesInvariant r) where
 none_written : (fault reason : CoreFault) (done all : ℕ) → flush_reason_of fault ≡ Some reason → IsPartialFlush fault done all → done ≡ 0
 none_written fault reason done all is part = grind arith
 
+refused_kept : (r : Run) (request : Request) (fault : CoreFault) (appended : List Entry) → LegalStep r request (Replies.Refused fault) appended → SatisfiesInvariant r
+    → SatisfiesInvariant (extend_run r request appended)
+unfolding LegalStep
+refused_kept r request fault appended h s = grind arith
+
 legal_kept : (r : Run) (request : Request) (reply : Reply) (appended : List Entry) → LegalStep r request reply appended → SatisfiesInvariant r → SatisfiesInvariant (extend_run r request appended)
 unfolding LegalStep
 legal_kept r (Requests.Deliver q source ssn) (Replies.Delivered d) appended h s = delivers r s q source ssn d.first d.det d.sends appended h.0 h.3 h.4
@@ -195,7 +195,7 @@ legal_kept r (Requests.Flush p) (Replies.FlushRefused f) appended h s = by (flus
     by (Some fault) is =
         nothing_appended r s (Requests.Flush p) appended (h.2 ∙ ap (λ k. map Stable (take k (dets_to_flush r p))) (none_written f.fault fault f.done (length (dets_to_flush r p)) is h.1))
 legal_kept r (Requests.Forget p) (Replies.Forgotten count) appended h s = forgets r s p appended h.0 h.2
-legal_kept r (Requests.Forget p) (Replies.Refused fault) appended h s = nothing_appended r s (Requests.Forget p) appended h.1
+legal_kept r request (Replies.Refused fault) appended h s = refused_kept r request fault appended h s
 legal_kept r request reply appended h s = absurd h
 
 -- each legal step preserves the invariant of runs
@@ -207,6 +207,5 @@ pub refusals_change_nothing : RefusalsChangeNothing
 unfolding LegalStep
 refusals_change_nothing old new request fault step = grind arith
 
--- a fact that all invariant runs have holds after each legal step
-pub after : (IsAsked : Request → Type 0) (Fact : ℕ → ℕ → List Entry → Memories → Type 0) → ((r : Run) → SatisfiesInvariant r → HoldsInState Fact r) → StepsEstablish IsAsked Fact
-after IsAsked Fact from old new request reply asked step s = from new (steps_keep_runs old new request reply step s)
+-- so the eight facts of the invariant hold after each legal step
+pub ruleset facts_after = (steps_keep_runs, few_down, known_holders_true, carried_holders_true, marks_true, dependents_log, messages_carry, receivers_have_survivors, senders_have_carried)

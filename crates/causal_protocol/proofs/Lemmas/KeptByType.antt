@@ -3,27 +3,21 @@ use Rattle.std.proofs.Common.{ℕ, ◌≡◌, List, []}
 use Rattle.std.proofs.Props.{props}
 use Rattle.std.proofs.Math.Logic.{∥∥₁_map, ∥∥₁_elim}
 use Rattle.causal_trace.specs.declared.entry.Entry.{Entry}
-use Rattle.causal_trace.specs.Rows.{Recording}
 use Rattle.causal_trace.specs.Judgement.{IsSafe, IsSafeTrace}
 use Rattle.causal_trace.specs.Survivors.{IsFollowed}
-use Rattle.causal_steps.proofs.Lemmas.Followed.{reachable_followed}
 use Rattle.causal_protocol.specs.declared.request.Request.{Request}
 use Rattle.causal_protocol.specs.declared.request.Reply.{Reply}
-use Rattle.causal_protocol.specs.Run.{Run, memories_of}
-use Rattle.causal_protocol.specs.MemoryQueries.{volatile_of}
+use Rattle.causal_protocol.specs.Run.{Run}
 use Rattle.causal_protocol.specs.Steps.{Steps}
 use Rattle.causal_protocol.specs.Invariant.{SlotsAreSingle}
 use Rattle.causal_protocol.specs.Runs.{HaveBegunBelow, SatisfiesInvariant}
-use Rattle.causal_protocol.proofs.Facts.{safe, single_slots}
+use Rattle.causal_protocol.proofs.Facts.{safe, single_slots, followed}
 use Rattle.causal_protocol.proofs.BeginningKeeps.{openings_are_runs}
 use Rattle.causal_protocol.proofs.StepKeeps.{steps_keep_runs}
 
 -- safety and single slots have at most one proof
 IsSafe-prop : (n f : ℕ) (past : List Entry) → IsProp (IsSafe n f past)
 IsSafe-prop n f past = Prim.hlevel props
-
-IsSafeTrace-prop : (r : Recording) (f : ℕ) → IsProp (IsSafeTrace r f)
-IsSafeTrace-prop r f = Prim.hlevel (props, IsSafe-prop)
 
 SlotsAreSingle-prop : (n : ℕ) (past : List Entry) → IsProp (SlotsAreSingle n past)
 SlotsAreSingle-prop n past = Prim.hlevel props
@@ -38,15 +32,12 @@ step_preserves old new request reply step kept = ∥∥₁_map kept (steps_keep_
 
 -- the invariant implies that the run is safe
 pub invariant_safe : (r : Run) → ∥ SatisfiesInvariant r ∥₁ → IsSafeTrace r.recording r.faults
-invariant_safe r kept = ∥∥₁_elim kept (IsSafeTrace-prop r.recording r.faults) (λ s. safe r.recording.processes r.faults r.recording.past (memories_of r) s)
+invariant_safe r kept = ∥∥₁_elim kept (Prim.hlevel (props, IsSafe-prop)) (λ s. safe _ _ _ _ s)
 
 -- the invariant implies that no two survivors share a slot
 pub invariant_single : (r : Run) → ∥ SatisfiesInvariant r ∥₁ → SlotsAreSingle r.recording.processes r.recording.past
-invariant_single r kept = ∥∥₁_elim kept (SlotsAreSingle-prop r.recording.processes r.recording.past) (λ s. single_slots r.recording.processes r.faults r.recording.past (memories_of r) s)
-
-IsFollowed-prop : (r : Recording) → IsProp (IsFollowed r)
-IsFollowed-prop r = Prim.hlevel (props, SlotsAreSingle-prop)
+invariant_single r kept = ∥∥₁_elim kept (SlotsAreSingle-prop r.recording.processes r.recording.past) (λ s. single_slots _ _ _ _ s)
 
 -- the invariant implies that the run follows what survives
 pub invariant_followed : (r : Run) → ∥ SatisfiesInvariant r ∥₁ → IsFollowed r.recording
-invariant_followed r kept = ∥∥₁_elim kept (IsFollowed-prop r.recording) (λ s. reachable_followed r.recording.processes r.faults r.recording.past (volatile_of (memories_of r)) s.reached)
+invariant_followed r kept = ∥∥₁_elim kept (Prim.hlevel (props, SlotsAreSingle-prop)) (λ s. followed _ _ _ _ s)

@@ -1,8 +1,7 @@
 -- How many entries a legal step appends: as many as its reply says, and one stable entry for each writer.
-use Rattle.std.proofs.Common.{◌≡◌, ◌≤◌, ◌+◌, refl, ℕ, zero, suc, List, [], ◌∷◌, length, map, count_by, cond, length-take, arith}
-use Rattle.std.specs.Prelude.{replicate}
-use Rattle.std.proofs.lemmas.List.{length-map}
-use Rattle.std.proofs.lemmas.List.Sums.{sum_by-append}
+use Rattle.std.proofs.Common.{◌≡◌, ◌≤◌, ◌+◌, refl, ℕ, List, [], ◌∷◌, length, map, count_by, cond, length-take, arith}
+use Rattle.std.proofs.lemmas.List.{length-map, length-replicate}
+use Rattle.std.proofs.lemmas.List.Sums.{sum_by-cons}
 use Rattle.causal_name.specs.declared.Pid.{Pid}
 use Rattle.causal_name.specs.declared.Det.{Det}
 use Rattle.causal_trace.specs.declared.entry.Entry.{Entry}
@@ -22,15 +21,7 @@ written-sends_of q ssn (to ∷ tos) = written-sends_of q (ssn + 1) tos
 
 written-stable : (ds : List Det) → count_by is_stable_entry (map Stable ds) ≡ length (map Stable ds)
 written-stable [] = refl
-written-stable (d ∷ ds) =
-    let rest = written-stable ds in
-    let count : count_by is_stable_entry (map Stable (d ∷ ds)) ≡ 1 + count_by is_stable_entry (map Stable ds) = sum_by-append (λ x. cond (is_stable_entry x) 1 0) (Stable d ∷ []) (map Stable ds) in
-    let long : length (map Stable (d ∷ ds)) ≡ 1 + length (map Stable ds) = omega arith in
-    omega (arith, rest, count, long)
-
-length-writers : (p : Pid) (n : ℕ) → length (replicate n p) ≡ n
-length-writers p zero = refl
-length-writers p (suc n) = let rest = length-writers p n in omega (arith, rest)
+written-stable (d ∷ ds) = grind (arith, written-stable ds, sum_by-cons (λ x. cond (is_stable_entry x) 1 0) (Stable d) (map Stable ds))
 
 written-forget : (p : Pid) (ds : List Det) → count_by is_stable_entry (forget_entries p ds) ≡ 0
 written-forget p ds = grind arith
@@ -38,7 +29,7 @@ written-forget p ds = grind arith
 -- a step appends as many stable entries as it has writers
 pub written-step : (r : Run) (request : Request) (reply : Reply) (es : List Entry) → LegalStep r request reply es → count_by is_stable_entry es ≡ length (writers_of request es)
 unfolding LegalStep
-written-step r request reply es legal = grind (arith, written-sends_of, written-stable, length-writers, written-forget)
+written-step r request reply es legal = grind (arith, written-sends_of, written-stable, length-replicate, written-forget)
 
 IsPart-le : (fault : CoreFault) (done all : ℕ) → IsPartialFlush fault done all → done ≤ all
 IsPart-le fault done all part = grind arith
@@ -54,7 +45,7 @@ told_entries-is r request reply es legal = grind (arith, length-map, length-take
 -- a past is longer by the number of appended entries
 pub length-pushed : (es past : List Entry) → length (append_all es past) ≡ length es + length past
 length-pushed [] past = omega arith
-length-pushed (e ∷ es) past = let rest = length-pushed es (e ∷ past) in omega (arith, rest)
+length-pushed (e ∷ es) past = omega (arith, length-pushed es (e ∷ past))
 
 -- each reply gives the number of entries by which the run grew
 pub replies_tell_entries : RepliesMatchEntries

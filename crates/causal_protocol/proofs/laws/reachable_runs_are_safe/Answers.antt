@@ -1,13 +1,10 @@
-use Rattle.causal_protocol.specs.Run.{memories_of}
 use Rattle.causal_protocol.proofs.Facts.{safe, single_slots, survivors_delivered}
 use Rattle.causal_protocol.proofs.BeginningKeeps.{made_runs}
 use Rattle.causal_protocol.proofs.laws.reachable_runs_are_safe.Goals as goal
 
-pub returns-clause-safe : goal.returns-clause-safe
-returns-clause-safe c r made = safe r.recording.processes r.faults r.recording.past (memories_of r) (made_runs r made)
-
-pub returns-clause-single : goal.returns-clause-single
-returns-clause-single c r made = single_slots r.recording.processes r.faults r.recording.past (memories_of r) (made_runs r made)
-
-pub returns-clause-delivered : goal.returns-clause-delivered
-returns-clause-delivered c r made = survivors_delivered r.recording.processes r.faults r.recording.past (memories_of r) (made_runs r made)
+pub returns : goal.returns
+returns c = record {
+  safe = λ r made. safe _ _ _ _ (made_runs r made);
+  single = λ r made. single_slots _ _ _ _ (made_runs r made);
+  delivered = λ r made. survivors_delivered _ _ _ _ (made_runs r made);
+}
