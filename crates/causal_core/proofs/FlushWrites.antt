@@ -1,20 +1,16 @@
 -- A determinant that a flush writes.
-use Rattle.std.proofs.Common.{ℕ, ◌≡◌, ◌<◌, ◌≤◌, ◌∙◌, Bool, true, List, [], ◌∷◌, length, Option, Some, None, is_some, refl, ap, arith}
+use Rattle.std.proofs.Common.{ℕ, ◌≡◌, ◌<◌, ◌≤◌, Bool, true, List, [], ◌∷◌, length, Option, None, is_some, arith}
 use Rattle.causal_core.specs.Inside.Memories.{log_at}
-use Rattle.std.specs.List.{list_any, list_all}
+use Rattle.std.specs.List.{list_all}
 use Rattle.std.specs.Option.{option_map}
 use Rattle.std.specs.FinMap as fin
-use Rattle.std.proofs.lemmas.Bool.{false≢true, and_parts}
 use Rattle.causal_name.specs.declared.Pid.{Pid}
 use Rattle.causal_name.specs.declared.Det.{Det}
-use Rattle.causal_name.specs.Names.{same_det}
-use Rattle.causal_log.specs.declared.known.Known.{Known}
-use Rattle.causal_log.specs.Knowledge.{as_stable}
-use Rattle.causal_log.specs.Logs.{LogMap, mark, after_mark}
-use Rattle.causal_log.proofs.Lemmas.Searches.{any_map, any_dets}
+use Rattle.causal_log.specs.Logs.{LogMap, after_mark}
+use Rattle.causal_log.proofs.Lemmas.LogLists.{keys_logged, get_marked}
 use Rattle.causal_trace.specs.declared.entry.Entry.{Entry}
 use Rattle.causal_trace.specs.declared.entry.Entry.TheVariants.{Stable}
-use Rattle.causal_trace.specs.Past.{listed_in}
+use Rattle.causal_trace.specs.Past.{listed_in, is_delivered}
 use Rattle.causal_trace.specs.Rows as Rows
 use Rattle.causal_trace.specs.Rows.{IsWellFormed}
 use Rattle.causal_trace.proofs.Lemmas.WellFormed.{formed_push, formed_short}
@@ -23,24 +19,11 @@ use Rattle.causal_protocol.specs.Memory.{Memory, Memories, present_at, update_at
 use Rattle.causal_protocol.specs.Run.{Run, memories, memories_of}
 use Rattle.causal_protocol.specs.Steps.{extend_run}
 use Rattle.causal_core.specs.Inside.MemoryInvariant.{MatchesEntries, MatchesEntriesAt, AllMatchEntries, IsRunData}
-use Rattle.causal_core.proofs.MemoriesFit.{fits_other, all_fit_set, placed_more}
-use Rattle.causal_core.proofs.RuntimeDelivery.{insert_all}
+use Rattle.causal_core.proofs.MemoriesFit.{all_at, all_within, fits_other, all_fit_set, placed_more}
 
--- a test that passes for all passes for one
-all_at : (P : Det → Bool) (ds : List Det) (d : Det) → list_all P ds ≡ true → list_any (same_det d) ds ≡ true → P d ≡ true
-all_at P [] d all h = absurd (false≢true h)
-all_at P (x ∷ ds) d all h = grind (arith, all_at P ds d (and_parts (P x) (list_all P ds) all).1)
-
--- a test that passes for a whole log passes for a logged determinant
-pub logged_passes : (P : Det → Bool) (log : LogMap) (d : Det) → list_all P (fin.keys log) ≡ true → is_some (fin.get log d) ≡ true → P d ≡ true
-logged_passes P log d all h = all_at P (fin.keys log) d all (any_map (λ e. e.0) (same_det d) (λ e. same_det d e.0) (λ x. refl) (fin.entries log) ∙ any_dets d log ∙ h)
-
+-- a test that a whole log passes is passed with one more mark
 pub marked_all : (P : Det → Bool) (log : LogMap) (d : Det) → list_all P (fin.keys log) ≡ true → list_all P (fin.keys (after_mark log d)) ≡ true
-marked_all P log d all = by (fin.get log d) refl
-  where
-    by : (o : Option Known) → fin.get log d ≡ o → list_all P (fin.keys (mark log d o)) ≡ true
-    by None is = all
-    by (Some k) is = insert_all P log d (as_stable k) (logged_passes P log d all (ap is_some is)) all
+marked_all P log d all = all_within P (fin.keys log) (fin.keys (after_mark log d)) (λ x there. grind (arith, there, keys_logged, get_marked log d x)) all
 
 -- p's memory with one more mark matches the entries
 marked_fits : (past : List Entry) (p : ℕ) (det : Det) (m : Memory) → MatchesEntries past p m → MatchesEntries (Stable det ∷ past) p (with_log (λ log. after_mark log det) m)
@@ -52,7 +35,7 @@ fits_option past p det o h = grind (arith, marked_fits)
 -- each determinant that p logs was delivered, so its stable entry is legal
 pub stable_legal : (n : ℕ) (past : List Entry) (p : ℕ) (det : Det) (m : Memory) → MatchesEntries past p m → is_some (fin.get m.log det) ≡ true → length past < 16777216 → listed_in past ≤ 268435456 → Rows.first_fault n past (Stable det) ≡ None
 unfolding Rows.rows_within
-stable_legal n past p det m fit logged short within = grind (arith, logged_passes)
+stable_legal n past p det m fit logged short within = grind (arith, all_at (is_delivered past) (fin.keys m.log) det, keys_logged)
 
 -- the stable entry of a determinant that an up process of a run logs is legal
 pub stable_may : (r : Run) (p : Pid) (det : Det) → AllMatchEntries r.recording.processes r.recording.past (memories_of r) → p.0 < r.recording.processes → is_some (present_at (memories_of r) p.0) ≡ true → is_some (fin.get (log_at (memories_of r) p.0) det) ≡ true → length r.recording.past < 16777216 → IsWellFormed r.recording

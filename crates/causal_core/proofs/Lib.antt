@@ -5,13 +5,10 @@ mod Cells
 mod RestartCounts
 mod LegalDelivery
 mod Dets
-mod DownSets
 mod UpAfterStep
 mod MemoriesFit
 mod FlushSteps
-mod ForgetKeeps
 mod Forgotten
-mod Gathers
 mod Legal
 mod DeliveryMemories
 mod Members

@@ -2,11 +2,10 @@
 use Rattle.std.proofs.Common.{ℕ, zero, suc, ◌≡◌, ◌+◌, ◌-◌, ◌<◌, ◌≤◌, Bool, true, List, [], ◌∷◌, ◌++◌, length, map, replicate, Option, Some, is_some, refl, sym, ap, subst, ◌∙◌, arith, slice_set, length-append}
 use Rattle.std.specs.List.{list_all}
 use Rattle.std.specs.FinMap as fin
-use Rattle.std.proofs.lemmas.Bool.{false≢true}
-use Rattle.std.proofs.lemmas.List.{length-map, length-replicate, map-append}
+use Rattle.std.proofs.lemmas.List.{append_assoc, length-map, length-replicate, get_or-replicate, map_push, set_at}
+use Rattle.std.proofs.lemmas.Option.{slice_get-get_or}
 use Rattle.causal_name.specs.declared.Pid.{Pid}
 use Rattle.causal_name.specs.declared.Det.{Det}
-use Rattle.causal_name.specs.Names.{det_cmp}
 use Rattle.causal_process.specs.declared.message.Input.{Input}
 use Rattle.causal_process.specs.declared.message.Outgoing.{Outgoing}
 use Rattle.causal_log.specs.Logs.{LogMap, batch_items}
@@ -21,28 +20,26 @@ use Rattle.causal_protocol.specs.Steps.{append_all, sends_of}
 use Rattle.causal_protocol.proofs.Lemmas.StepAppends.{length-pushed}
 use Rattle.causal_core.specs.Boxes.{BoxesBegan}
 use Rattle.causal_core.specs.Inside.MemoryInvariant.{MatchesEntries, MatchesEntriesAt, IsRunData}
-use Rattle.causal_core.specs.Inside.Begins.{run_after_begin, CanBegin, Begins, HaveBegun}
+use Rattle.causal_core.specs.Inside.Begins.{CanBegin, Begins, HaveBegun}
 use Rattle.causal_core.specs.Starts.{with_beginning, with_beginnings, opening}
 use Rattle.causal_core.specs.View.{RunDataState, receivers, sent_bodies}
 use Rattle.causal_core.specs.Inside.Memories.{keep_all}
-use Rattle.causal_core.proofs.RuntimeSend.{memories_sends, are_sends, receivers_below, receivers_long, addressed_few, sends_length}
+use Rattle.causal_core.proofs.RuntimeSend.{set_same, memories_sends, are_sends, receivers_long, addressed_few, sends_length}
 use Rattle.causal_core.proofs.BoxLemmas.{Began-push}
 use Rattle.causal_core.proofs.UpAfterStep.{sends_up}
 use Rattle.causal_core.proofs.StoreEntries.{sends_unstable}
-use Rattle.causal_core.proofs.RestartCounts.{keys_have}
-use Rattle.causal_core.proofs.RuntimeRestart.{all_of}
+use Rattle.causal_core.proofs.MemoriesFit.{all_from}
+use Rattle.causal_log.proofs.Lemmas.LogLists.{keys_logged}
 
 -- an empty log passes each test
 pub none_pass : (P : Det → Bool) (log : LogMap) → log ≡ fin.empty → list_all P (fin.keys log) ≡ true
-none_pass P log is = all_of P (fin.keys log) (λ d there. absurd (false≢true (sym (keys_have log d ∙ ap (λ m. is_some (fin.get m d)) is ∙ ap is_some (fin.get-empty det_cmp d)) ∙ there)))
+none_pass P log is = all_from P (fin.keys log) (λ d there. grind (arith, is, there, keys_logged log d, fin.get-empty))
 
 fits_first : (p : ℕ) → MatchesEntries [] p (new_memory fin.empty)
 fits_first p = grind (arith, none_pass)
 
 at_replicate : {X : Type 0} (n p : ℕ) (x : Option X) → p < n → present_at (replicate n x) p ≡ x
-at_replicate zero p x h = absurd (omega (arith, h))
-at_replicate (suc n) zero x h = refl
-at_replicate (suc n) (suc p) x h = at_replicate n p x (omega (arith, h))
+at_replicate n p x h = grind (arith, slice_get-get_or (replicate n x) p x, get_or-replicate, length-replicate)
 
 -- the memories of processes before they begin match a run in which nothing has happened
 pub fresh_held : (n f : ℕ) (ms : Memories) → IsProcessCount n → ms ≡ replicate n (Some (new_memory fin.empty)) → IsRunData (opening n f []) ms
@@ -60,9 +57,9 @@ fresh_held n f ms count is = record {
 module _ (r : Run) (ms : Memories) (run_data : IsRunData r ms) (p : Pid) (may : CanBegin p.0 r) where
   pub begun_memories : (tos : List Pid) → slice_set ms p.0 (Some (keep_all (length r.recording.past) (batch_items r.faults fin.empty) tos (new_memory fin.empty))) ≡ memories r.recording.processes r.faults r.writers (append_all (sends_of p 0 tos) r.recording.past)
   begun_memories tos =
-      memories_sends r.recording.processes r.faults r.writers r.recording.past p 0 tos ms (new_memory fin.empty) run_data.same
+      memories_sends r.recording.processes r.faults r.writers r.recording.past p 0 tos ms (new_memory fin.empty)
+      (set_same ms p.0 (Some (new_memory fin.empty)) (ap (λ xs. present_at xs p.0) run_data.same ∙ may.fresh_yet) ∙ run_data.same)
       (let process = may.process in let count = run_data.fit.count in omega (arith, process, count))
-      (ap (λ xs. present_at xs p.0) run_data.same ∙ may.fresh_yet)
 
 -- one more process begins
 beginnings_last : (n p : ℕ) (sends : List (List Outgoing)) (sent : List Outgoing) (past : List Entry) → with_beginnings n p (sends ++ sent ∷ []) past ≡ with_beginning n (p + length sends) sent (with_beginnings n p sends past)
@@ -73,13 +70,6 @@ beginnings_last n p (s ∷ sends) sent past = grind (arith, beginnings_last n (p
 -- it records at most eight entries
 beginning_short : (n p : ℕ) (sent : List Outgoing) (past : List Entry) → length sent ≤ 8 → length (with_beginning n p sent past) ≤ length past + 8
 beginning_short n p sent past few = grind (arith, length-pushed, sends_length, receivers_long, addressed_few)
-
-set_after : {X : Type 0} (xs rest : List X) (x y : X) (k : ℕ) → k ≡ length xs → slice_set (xs ++ x ∷ rest) k y ≡ (xs ++ y ∷ []) ++ rest
-set_after {X = X} xs rest x y k is = ap (λ i. slice_set (xs ++ x ∷ rest) i y) is ∙ by xs
-  where
-    by : (xs : List X) → slice_set (xs ++ x ∷ rest) (length xs) y ≡ (xs ++ y ∷ []) ++ rest
-    by [] = refl
-    by (z ∷ zs) = ap (λ ws. z ∷ ws) (by zs)
 
 began_sends : {B : Type 0} (answers : B → List Input → List (List Outgoing)) (boxes : List B) (sends : List (List Outgoing)) (slots : List (Option B)) → BoxesBegan answers boxes sends slots → (length sends ≡ length boxes) × (length slots ≡ length boxes)
 began_sends answers [] sends slots h = grind arith
@@ -117,8 +107,9 @@ module _ {B : Type 0} (answers : B → List Input → List (List Outgoing)) wher
         one.told.bodies
         ∙ (λ i. slice_set (h.bodies i) (length slots) (sent_bodies (h.run i).recording.processes one.sends))
         ∙ ap (λ xs. slice_set (map (sent_bodies n) h.sends ++ xs) (length slots) y) left
-        ∙ set_after (map (sent_bodies n) h.sends) rest [] y (length slots) (many.1 ∙ sym many.0 ∙ sym (length-map h.sends (sent_bodies n)))
-        ∙ ap (λ xs. xs ++ rest) (sym (map-append (sent_bodies n) h.sends (one.sends ∷ [])))
+        ∙ set_at (map (sent_bodies n) h.sends) [] rest y (length slots) (length-map h.sends (sent_bodies n) ∙ many.0 ∙ sym many.1)
+        ∙ sym (append_assoc (map (sent_bodies n) h.sends) (y ∷ []) rest)
+        ∙ ap (λ xs. xs ++ rest) (sym (map_push (sent_bodies n) h.sends one.sends))
         ∙ ap (λ k. map (sent_bodies n) (h.sends ++ one.sends ∷ []) ++ replicate (n - k) []) (sym longer)
 
     pub more_begun : HaveBegun answers n f (boxes ++ b ∷ []) next is
@@ -126,16 +117,13 @@ module _ {B : Type 0} (answers : B → List Input → List (List Outgoing)) wher
     more_begun = record {
       sends = sends;
       began = subst (BoxesBegan answers (boxes ++ b ∷ []) (h.sends ++ one.sends ∷ [])) (sym one.slots) (Began-push answers boxes h.sends slots b one.sends one.slot h.began one.box);
-      run =
-          one.told.run
-          ∙ (λ i. run_after_begin (h.run i) (many.1 i) one.sends)
-          ∙ ap (opening n f) (ap (λ k. with_beginning n k one.sends (with_beginnings n 0 h.sends [])) (let m = many.0 in let e : length boxes ≡ 0 + length h.sends = omega (arith, m) in e) ∙ sym (beginnings_last n 0 h.sends one.sends []));
+      run = let m = many in grind (arith, one.told.run, h.run, m, beginnings_last n 0 h.sends one.sends []);
       bodies = bodies_are;
-      fresh_yet = λ q over high. one.told.others q (λ e. absurd (let l = longer in let m = many.1 in omega (arith, l, m, e, over))) ∙ h.fresh_yet q (let l = longer in omega (arith, l, over)) high;
-      short = let a = ap length past_is in let s = beginning_short n (length boxes) one.sends was.run.recording.past one.few in let l = longer in let m = h.short in omega (arith, a, s, l, m);
+      fresh_yet = λ q over high. let l = longer in let m = many in grind (arith, one.told.others q, h.fresh_yet q, l, m, over);
+      short = let s = beginning_short n (length boxes) one.sends was.run.recording.past one.few in let p = past_is in let l = longer in grind (arith, s, p, l, h.short);
       opens =
           subst (λ k. HaveBegunBelow n k is.run.recording.past) (sym longer)
-          (was.run.recording.past, length (receivers n one.sends), sends_of (record { 0 = length boxes }) 0 (receivers n one.sends), h.opens, are_sends n (record { 0 = length boxes }) 0 (length (receivers n one.sends)) (receivers n one.sends) (receivers_below n one.sends) refl (let few = one.few in let a = addressed_few n one.sends in let b = receivers_long n one.sends in omega (arith, few, a, b)), past_is);
+          (was.run.recording.past, length (receivers n one.sends), sends_of (record { 0 = length boxes }) 0 (receivers n one.sends), h.opens, are_sends n (record { 0 = length boxes }) 0 _ one.sends refl one.few, past_is);
     }
 
 beginnings_up : (n f p : ℕ) (sends : List (List Outgoing)) (past : List Entry) → map is_some (memories n f [] (with_beginnings n p sends past)) ≡ map is_some (memories n f [] past)

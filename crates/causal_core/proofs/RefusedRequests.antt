@@ -13,14 +13,6 @@ module _ (r next : Run) (fault : CoreFault) (same : next ≡ r) where
   unfolding LegalStep
   refused_delivery q source ssn reason = record { appended = []; grown = same; legal = (reason, refl) }
 
-  pub refused_crash : (p : Pid) → request_fault r (Requests.Crash p) ≡ reason_of fault → Steps r (Requests.Crash p) (Replies.Refused fault) next
-  unfolding LegalStep
-  refused_crash p reason = record { appended = []; grown = same; legal = (reason, refl) }
-
   pub refused_restart : (p : Pid) → request_fault r (Requests.Restart p) ≡ reason_of fault → Steps r (Requests.Restart p) (Replies.Refused fault) next
   unfolding LegalStep
   refused_restart p reason = record { appended = []; grown = same; legal = (reason, refl) }
-
-  pub refused_forgetting : (p : Pid) → request_fault r (Requests.Forget p) ≡ reason_of fault → Steps r (Requests.Forget p) (Replies.Refused fault) next
-  unfolding LegalStep
-  refused_forgetting p reason = record { appended = []; grown = same; legal = (reason, refl) }

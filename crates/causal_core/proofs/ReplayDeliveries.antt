@@ -12,8 +12,7 @@ use Rattle.causal_protocol.specs.declared.request.Reply.TheVariants as Replies
 use Rattle.causal_protocol.specs.declared.request.CoreFault.{CoreFault}
 use Rattle.causal_protocol.specs.declared.request.Delivered.{Delivered}
 use Rattle.causal_protocol.specs.Run.{Run}
-use Rattle.causal_protocol.specs.Refusals.{request_fault}
-use Rattle.causal_protocol.specs.Steps.{LegalStep, Steps, reason_of}
+use Rattle.causal_protocol.specs.Steps.{LegalStep, Steps}
 use Rattle.causal_core.specs.Boxes.{answers_at, prepend_answer}
 use Rattle.causal_core.specs.View.{body_at, named_message_of}
 use Rattle.causal_core.specs.CoreView.{CoreState, IsUnchanged, Delivers}
@@ -26,14 +25,10 @@ told_message : (r next : Run) (q : Pid) (m : MsgName) (d : Delivered) → Steps 
 unfolding LegalStep
 told_message r next q m d s = sym (ap message_of s.legal.2)
 
--- the fault of a refused delivery is the first refusal that applies, or `NoMemory` if none does
-pub refused_reason : (r next : Run) (q : Pid) (m : MsgName) (fault : CoreFault) → Steps r (Requests.Deliver q m.source m.ssn) (Replies.Refused fault) next → request_fault r (Requests.Deliver q m.source m.ssn) ≡ reason_of fault
-unfolding LegalStep
-refused_reason r next q m fault s = s.legal.0
-
 -- if m is named, the refusal of its delivery is that of q's next delivery
 pub refuses_named : (r next : Run) (q : Pid) (m : MsgName) (fault : CoreFault) → named_message_of r q ≡ Ok (Some m) → Steps r (Requests.Deliver q m.source m.ssn) (Replies.Refused fault) next → RefusesNamed r q fault
-refuses_named r next q m fault named step = subst (IsRefused r q fault) (sym named) (refused_reason r next q m fault step)
+unfolding LegalStep
+refuses_named r next q m fault named step = subst (IsRefused r q fault) (sym named) step.legal.0
 
 -- if naming is refused, q's next delivery is refused with the same fault
 pub refuses_naming : (r : Run) (q : Pid) (fault : CoreFault) → named_message_of r q ≡ Err fault → RefusesNamed r q fault

@@ -12,7 +12,7 @@ use Rattle.causal_protocol.specs.declared.request.Reply.TheVariants as Replies
 use Rattle.causal_protocol.specs.Run.{Run, memories, memories_of}
 use Rattle.causal_protocol.specs.Refusals.{request_refusals}
 use Rattle.causal_protocol.specs.Steps.{LegalStep, Steps, extend_run, delivery_entry, sends_of}
-use Rattle.causal_core.proofs.BoxLemmas.{map-set}
+use Rattle.std.proofs.lemmas.List.{map-set}
 use Rattle.causal_core.proofs.UpAfterStep.{delivery_up, changed_up}
 use Rattle.causal_log.specs.Logs.{after_mark}
 use Rattle.causal_log.specs.Stores.{DetSet, with_det, set_has}

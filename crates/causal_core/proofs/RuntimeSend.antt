@@ -1,5 +1,5 @@
 -- A send of the runtime.
-use Rattle.std.proofs.Common.{ℕ, suc, ◌≡◌, ◌≢◌, ◌+◌, ◌<◌, ◌≤◌, ◌⊎◌, true, false, cond, ◌==◌, List, [], ◌∷◌, ◌++◌, length, Option, Some, None, refl, ap, ◌∙◌, arith, slice_get, slice_set, length-append}
+use Rattle.std.proofs.Common.{ℕ, suc, ◌≡◌, ◌+◌, ◌<◌, ◌≤◌, ◌⊎◌, true, cond, List, [], ◌∷◌, ◌++◌, length, Option, Some, None, refl, ap, arith, slice_get, slice_set, set-set, length-append}
 use Rattle.std.specs.Prelude.{nat_lt}
 use Rattle.std.specs.List.{list_all, filter_map}
 use Rattle.std.proofs.lemmas.List.{length-map}
@@ -19,11 +19,8 @@ use Rattle.causal_protocol.specs.Steps.{append_all, sends_of, receiver_of, AreSe
 use Rattle.causal_core.specs.Inside.MemoryInvariant.{MatchesEntries}
 use Rattle.causal_core.specs.View.{sends_to_processes, receivers}
 use Rattle.causal_core.specs.Inside.Memories.{keep_all}
-use Rattle.causal_core.proofs.MemoriesFit.{is_of, length-slice_set, placed_more, at-set_same}
-
--- a number equals itself
-pub eqb_refl : (n : ℕ) → (n == n) ≡ true
-eqb_refl n = grind arith
+use Rattle.causal_core.proofs.Lemmas.Slices.{slice_get-set_same}
+use Rattle.causal_core.proofs.MemoriesFit.{placed_more}
 
 -- if the trace has capacity, the next send of an up process is a legal entry
 pub send_legal : (n : ℕ) (past : List Entry) (q to : Pid) (m : Memory) → q.0 < n → to.0 < n → MatchesEntries past q.0 m → length past < 16777216 → listed_in past ≤ 268435456 → Rows.first_fault n past (Send q to (length m.sent)) ≡ None
@@ -39,33 +36,22 @@ get_last (each ∷ others) x y i h = grind (arith, get_last others)
 pub send_fits : (past : List Entry) (q to : Pid) (batch : List Item) (m : Memory) → MatchesEntries past q.0 m → is_ascending (dets_of batch) ≡ true → are_delivered past (dets_of batch) ≡ true → MatchesEntries (Send q to (length m.sent) ∷ past) q.0 (with_sent_message to (length past) batch m)
 send_fits past q to batch m fit ascending delivered = grind (arith, length-append, get_last, placed_more)
 
--- a send is an entry of its sender only
-pub send_apart : (q : ℕ) (from to : Pid) (ssn : ℕ) → q ≢ from.0 → is_of q (Send from to ssn) ≡ false
-send_apart q from to ssn h = grind arith
-
 -- writing the present element changes nothing
-pub set_same : {X : Type 0} (xs : List (Option X)) (p : ℕ) (x : X) → present_at xs p ≡ Some x → slice_set xs p (Some x) ≡ xs
+pub set_same : {X : Type 0} (xs : List (Option X)) (p : ℕ) (x : Option X) → present_at xs p ≡ x → slice_set xs p x ≡ xs
 set_same [] p x h = grind arith
 set_same (each ∷ others) p x h = grind (arith, set_same others)
 
--- of two writes to an index the later one counts
-pub set_twice : {X : Type 0} (xs : List X) (p : ℕ) (x y : X) → slice_set (slice_set xs p x) p y ≡ slice_set xs p y
-set_twice [] p x y = grind arith
-set_twice (each ∷ others) p x y = grind (arith, set_twice others)
-
--- the memories after the sends of a step
-pub memories_sends : (n f : ℕ) (writers : List Pid) (past : List Entry) (q : Pid) (ssn : ℕ) (tos : List Pid) (ms : Memories) (m : Memory) → ms ≡ memories n f writers past → q.0 < length ms → present_at ms q.0 ≡ Some m
+-- the memories after the sends of a step, if q's memory before them is m
+pub memories_sends : (n f : ℕ) (writers : List Pid) (past : List Entry) (q : Pid) (ssn : ℕ) (tos : List Pid) (ms : Memories) (m : Memory) → slice_set ms q.0 (Some m) ≡ memories n f writers past → q.0 < length ms
     → slice_set ms q.0 (Some (keep_all (length past) (batch_items f m.log) tos m)) ≡ memories n f writers (append_all (sends_of q ssn tos) past)
 unfolding memories keep_all sends_of
-memories_sends n f writers past q ssn [] ms m same inside is = set_same ms q.0 m is ∙ same
-memories_sends n f writers past q ssn (to ∷ tos) ms m same inside is =
-    let next : Memory = with_sent_message to (length past) (batch_items f m.log) m in
+memories_sends n f writers past q ssn [] ms m same inside = same
+memories_sends n f writers past q ssn (to ∷ tos) ms m same inside =
     grind (
       arith,
-      memories_sends n f writers (Send q to ssn ∷ past) q (ssn + 1) tos (slice_set ms q.0 (Some next)) next,
-      set_twice,
-      length-slice_set,
-      at-set_same,
+      memories_sends n f writers (Send q to ssn ∷ past) q (ssn + 1) tos ms (with_sent_message to (length past) (batch_items f m.log) m),
+      set-set,
+      slice_get-set_same,
     )
 
 -- one more entry comes last
@@ -95,14 +81,14 @@ receivers_below n (s ∷ ss) = grind (arith, receivers_below n ss)
 -- the message of one more send is kept last, with the position after those of the others
 pub keep_more : (send : ℕ) (batch : List Item) (tos : List Pid) (to : Pid) (m : Memory) → keep_all send batch (tos ++ to ∷ []) m ≡ with_sent_message to (send + length tos) batch (keep_all send batch tos m)
 unfolding keep_all
-keep_more send batch [] to m = ap (λ k. with_sent_message to k batch m) (omega arith)
-keep_more send batch (x ∷ xs) to m = keep_more (send + 1) batch xs to (with_sent_message x send batch m) ∙ ap (λ k. with_sent_message to k batch (keep_all (send + 1) batch xs (with_sent_message x send batch m))) (omega arith)
+keep_more send batch [] to m = grind arith
+keep_more send batch (x ∷ xs) to m = grind (arith, keep_more (send + 1) batch xs to (with_sent_message x send batch m))
 
 -- one more send comes last, with the number after those of the others
 pub sends_more : (q : Pid) (ssn : ℕ) (tos : List Pid) (to : Pid) → sends_of q ssn (tos ++ to ∷ []) ≡ sends_of q ssn tos ++ Send q to (ssn + length tos) ∷ []
 unfolding sends_of
-sends_more q ssn [] to = ap (λ k. Send q to k ∷ []) (omega arith)
-sends_more q ssn (x ∷ xs) to = ap (λ es. Send q x ssn ∷ es) (sends_more q (ssn + 1) xs to ∙ ap (λ k. sends_of q (ssn + 1) xs ++ Send q to k ∷ []) (omega arith))
+sends_more q ssn [] to = grind arith
+sends_more q ssn (x ∷ xs) to = grind (arith, sends_more q (ssn + 1) xs to)
 
 -- a process then keeps one more message for each receiver
 pub kept_length : (send : ℕ) (batch : List Item) (tos : List Pid) (m : Memory) → length (keep_all send batch tos m).sent ≡ length m.sent + length tos
@@ -121,6 +107,6 @@ unfolding sends_of
 receivers_of_sends q ssn [] = refl
 receivers_of_sends q ssn (x ∷ xs) = ap (λ ys. x ∷ ys) (receivers_of_sends q (ssn + 1) xs)
 
--- the entries of sends to these processes are sends of the step
-pub are_sends : (n : ℕ) (q : Pid) (ssn number : ℕ) (tos : List Pid) → list_all (λ to. nat_lt to.0 n) tos ≡ true → length tos ≡ number → number ≤ 8 → AreSends n q ssn number (sends_of q ssn tos)
-are_sends n q ssn number tos below count few = grind (arith, receivers_of_sends, sends_length)
+-- the entries of sends to processes are sends of the step
+pub are_sends : (n : ℕ) (q : Pid) (ssn number : ℕ) (sends : List Outgoing) → number ≡ length (receivers n sends) → length sends ≤ 8 → AreSends n q ssn number (sends_of q ssn (receivers n sends))
+are_sends n q ssn number sends count few = grind (arith, receivers_of_sends, sends_length, receivers_below, receivers_long, addressed_few)

@@ -1,17 +1,13 @@
 -- Which processes are up after a step.
-use Rattle.std.proofs.Common.{arith, ℕ, zero, suc, ◌≡◌, ◌+◌, ◌∙◌, true, false, List, [], ◌∷◌, map, length, Option, Some, None, is_some, refl, slice_get}
+use Rattle.std.proofs.Common.{arith, ℕ, zero, suc, ◌≡◌, ◌+◌, ◌∙◌, true, false, List, [], ◌∷◌, map, length, Option, Some, is_some, refl, length-set}
 use Rattle.causal_name.specs.declared.Pid.{Pid}
-use Rattle.causal_name.specs.declared.MsgName.{MsgName}
 use Rattle.causal_name.specs.declared.Det.{Det}
 use Rattle.causal_trace.specs.declared.entry.Entry.{Entry}
-use Rattle.causal_trace.specs.declared.entry.Entry.TheVariants.{Send, Deliver, Stable, Crash, Restart, Forget}
+use Rattle.causal_trace.specs.declared.entry.Entry.TheVariants.{Send, Deliver}
 use Rattle.std.specs.FinMap as fin
-use Rattle.std.specs.Prelude.{drop}
 use Rattle.std.proofs.lemmas.List.{length-replicate}
-use Rattle.causal_core.proofs.MemoriesFit.{length-slice_set}
-use Rattle.causal_trace.specs.Past.{message_at}
 use Rattle.causal_protocol.specs.Memory.{Memory, Memories, new_memory, present_at, update_at}
-use Rattle.causal_protocol.specs.Run.{memories, after_receive, after_stable}
+use Rattle.causal_protocol.specs.Run.{memories, older_writers}
 use Rattle.causal_protocol.specs.Steps.{append_all, sends_of}
 use Rattle.causal_core.specs.Inside.Slots.{HasBox}
 
@@ -26,31 +22,16 @@ unfolding memories sends_of
 sends_up n f writers q ssn [] past = refl
 sends_up n f writers q ssn (to ∷ tos) past = sends_up n f writers q (ssn + 1) tos (Send q to ssn ∷ past) ∙ changed_up _ (memories n f writers past) q.0
 
-receive_up : (ms : Memories) (to : Pid) (rsn : ℕ) (m : Option MsgName) → map is_some (after_receive ms to rsn m) ≡ map is_some ms
-receive_up ms to rsn m = grind (arith, changed_up)
-
 -- a delivery and its sends do not change which processes are up
 pub delivery_up : (n f : ℕ) (writers : List Pid) (q : Pid) (ssn : ℕ) (tos : List Pid) (to : Pid) (send rsn : ℕ) (listed : List Det) (past : List Entry) → map is_some (memories n f writers (append_all (sends_of q ssn tos) (Deliver to send rsn listed ∷ past))) ≡ map is_some (memories n f writers past)
 unfolding memories
-delivery_up n f writers q ssn tos to send rsn listed past = grind (arith, sends_up, receive_up)
+delivery_up n f writers q ssn tos to send rsn listed past = grind (arith, sends_up, changed_up)
 
 -- there are as many memories as processes
-module _ (n f : ℕ) where
-  write_length : (ms : Memories) (by : Option Pid) (g : Memory → Memory) → length (after_stable ms by g) ≡ length ms
-  write_length ms by g = grind (arith, length-slice_set)
-
-  receive_length : (ms : Memories) (to : Pid) (rsn : ℕ) (m : Option MsgName) → length (after_receive ms to rsn m) ≡ length ms
-  receive_length ms to rsn m = grind (arith, length-slice_set)
-
-  pub memories_count : (writers : List Pid) (past : List Entry) → length (memories n f writers past) ≡ n
-  unfolding memories
-  memories_count writers [] = length-replicate n (Some (new_memory fin.empty))
-  memories_count writers (Send from to ssn ∷ past) = length-slice_set (memories n f writers past) from.0 _ ∙ memories_count writers past
-  memories_count writers (Deliver to send rsn listed ∷ past) = receive_length (memories n f writers past) to rsn (message_at past send) ∙ memories_count writers past
-  memories_count writers (Stable det ∷ past) = write_length (memories n f (drop 1 writers) past) (slice_get writers 0) _ ∙ memories_count (drop 1 writers) past
-  memories_count writers (Crash who ∷ past) = length-slice_set (memories n f writers past) who.0 None ∙ memories_count writers past
-  memories_count writers (Restart who listed ∷ past) = length-slice_set (memories n f writers past) who.0 _ ∙ memories_count writers past
-  memories_count writers (Forget who listed ∷ past) = length-slice_set (memories n f writers past) who.0 _ ∙ memories_count writers past
+pub memories_count : (n f : ℕ) (writers : List Pid) (past : List Entry) → length (memories n f writers past) ≡ n
+unfolding memories
+memories_count n f writers [] = length-replicate n (Some (new_memory fin.empty))
+memories_count n f writers (e ∷ past) = grind (arith, memories_count n f (older_writers e writers) past, length-set)
 
 -- the slot of an up process contains a box
 pub box_there : {B : Type 0} (slots : List (Option B)) (ms : Memories) (q : ℕ) → map is_some slots ≡ map is_some ms → is_some (present_at ms q) ≡ true → HasBox slots q

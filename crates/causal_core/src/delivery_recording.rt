@@ -83,6 +83,7 @@ pub(crate) fn record_delivery(
 }
 
 /// Records a delivery to process q, whose memory is an element of the list, and its sends.
+#[tactic(auto, using(crate::proofs::Rules::of_cells))]
 pub(crate) fn record_delivery_at(
     trace: &mut Trace,
     process_memories: &mut Vec<Option<ProcessMemory>>,
@@ -132,6 +133,7 @@ pub(crate) fn record_delivery_at(
 }
 
 /// Reserves capacity for a delivery to process q, whose memory is an element of the list.
+#[tactic(auto, using(crate::proofs::Rules::of_cells))]
 pub(crate) fn reserve_delivery_at(
     process_memories: &mut Vec<Option<ProcessMemory>>,
     q: Pid,

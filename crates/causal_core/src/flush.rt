@@ -60,6 +60,7 @@ fn flush_one<S: Stable>(
 }
 
 /// Stores determinants of p's log, in order; each gets its stable entry and its mark. Returns their number.
+#[tactic(auto, using(crate::proofs::Rules::of_writing))]
 fn flush_all<S: Stable>(
     run_data: &mut RunData,
     store: &mut S,
@@ -106,6 +107,7 @@ impl<S: Stable> Core<S> {
     /// change nothing. If none applies: `StoreFault` if a put failed or the store's count of faults is at its maximum,
     /// which is checked first, and `NoMemory` if allocation failed. `done` is the number of determinants stored and
     /// recorded before.
+    #[tactic(auto, using(crate::proofs::Rules::of_flushing))]
     pub fn flush(&mut self, p: Pid) -> Result<u32, FlushFault>
         requires { p.0 < 256 }
         ensures step { Steps (core_run self.old) (Requests.Flush p) (reply_of_flush result)

@@ -25,6 +25,7 @@ fn logs(process_memory: &Option<ProcessMemory>, det: Det) -> bool
 }
 
 /// Returns whether one of these processes logs the determinant.
+#[tactic(auto, using(crate::proofs::Rules::of_dropping))]
 fn is_logged(process_memories: &[Option<ProcessMemory>], det: Det) -> bool
     ensures { result ≡ is_logged (memories_in process_memories.now) det }
 {

@@ -18,6 +18,7 @@ struct ReplayEnd {
 
 impl<S: Stable> Core<S> {
     /// Delivers the message that is named for p's next delivery, if one is named.
+    #[tactic(auto, using(crate::proofs::Rules::of_replaying))]
     fn deliver_named(&mut self, p: Pid) -> Result<Option<Delivered>, CoreFault>
         requires { p.0 < 256 }
         ensures ok { IfOk result
@@ -39,6 +40,7 @@ impl<S: Stable> Core<S> {
 
     /// Delivers the named messages of p's next deliveries, one after the other, at most `limit`, and returns how it
     /// ended.
+    #[tactic(auto, using(crate::proofs::Rules::of_replaying))]
     fn run_replay(&mut self, p: Pid, limit: u32) -> ReplayEnd
         requires { p.0 < 256 }
         ensures made { IsReplay answers p result.count (core_state self.old) (core_state self.new) }
@@ -80,6 +82,7 @@ impl<S: Stable> Core<S> {
     /// # Errors
     /// `NoProcess` and `Down`, also for a limit of 0. Otherwise the refusal of the first delivery, if that is refused;
     /// nothing has changed then.
+    #[tactic(auto, using(crate::proofs::Rules::of_replaying))]
     pub fn replay(&mut self, p: Pid, limit: u32) -> Result<u32, CoreFault>
         requires { p.0 < 256 }
         ensures ok { IfOk result

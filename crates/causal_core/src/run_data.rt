@@ -110,6 +110,7 @@ fn drop_memory(process_memories: &mut Vec<Option<ProcessMemory>>, p: usize)
 }
 
 /// Marks a determinant as stable in p's log.
+#[tactic(auto, using(crate::proofs::Rules::of_cells))]
 fn mark_det_stable_at(process_memories: &mut Vec<Option<ProcessMemory>>, p: Pid, det: Det)
     requires { is_some (present_at (memories_in process_memories.old.items) p.0) ≡ true }
     ensures memories { memories_in process_memories.new.items
@@ -166,6 +167,7 @@ impl RunData {
     }
 
     /// Records a crash of process p, and drops its memory.
+    #[tactic(auto, unfolding(causal_protocol::specs::Steps::LegalStep), using(crate::proofs::Rules::of_crashing))]
     pub(crate) fn crash(&mut self, p: Pid) -> Result<u32, CoreFault>
         ensures step { Steps self.old.run (Requests.Crash p) (reply_of_crash result) self.new.run }
         ensures ok { OnOk result (self.new.bodies ≡ slice_set self.old.bodies p.0 []) }
@@ -185,6 +187,7 @@ impl RunData {
 
     /// Returns the first refusal that applies to the delivery, if there is one. `stored` is what stable storage
     /// contains for q's next delivery.
+    #[tactic(auto, unfolding(causal_protocol::specs::Refusals::request_refusals), using(crate::proofs::Rules::of_receiving))]
     fn delivery_fault(
         &self,
         q: Pid,
@@ -274,6 +277,7 @@ impl RunData {
     }
 
     /// Checks a delivery, and makes everything that it must allocate: its plan and the reserved capacity.
+    #[tactic(auto, using(crate::proofs::Legal::tells_reason))]
     pub(crate) fn prepare(
         &mut self,
         alloc: Global,
@@ -306,6 +310,7 @@ impl RunData {
     }
 
     /// Records a delivery to q and its sends, after the box has stepped.
+    #[tactic(auto, using(crate::proofs::Rules::of_delivering))]
     pub(crate) fn finish(&mut self, q: Pid, grown: DeliveryPlan, sends: Vec<Outgoing>) -> Delivered
         requires legal { request_fault self.old.run (delivery_request_of q grown) ≡ None }
         requires grown { IsDeliveryPlan self.old q (message_of grown.own) grown }
@@ -335,6 +340,7 @@ impl RunData {
 
     /// Returns the message that is named for q's next delivery. `stored` is what stable storage contains for that
     /// delivery.
+    #[tactic(auto, using(crate::proofs::Rules::of_receiving))]
     pub(crate) fn named_message(
         &self,
         q: Pid,
@@ -401,6 +407,7 @@ impl RunData {
     }
 
     /// Records that a flush of p wrote a determinant.
+    #[tactic(auto, using(crate::proofs::Rules::of_marking))]
     pub(crate) fn record_stable(&mut self, p: Pid, det: Det)
         requires process { p.0 < self.old.run.recording.processes }
         requires up { is_some (present_at (memories_of self.old.run) p.0) ≡ true }

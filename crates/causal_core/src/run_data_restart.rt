@@ -152,6 +152,7 @@ impl RunData {
     }
 
     /// Returns the plan of a restart of p with the log that it gathers, if the restart is not refused.
+    #[tactic(auto, using(crate::proofs::Rules::of_reasons))]
     fn checked_restart_plan(
         &mut self,
         alloc: Global,
@@ -205,6 +206,7 @@ impl RunData {
     }
 
     /// Records a restart of p and its sends, after the spare has begun.
+    #[tactic(auto, using(crate::proofs::Rules::of_restarting))]
     pub(crate) fn finish_restart(
         &mut self,
         p: Pid,

@@ -95,6 +95,7 @@ impl RunData {
     }
 
     /// Records what process p sends as it begins.
+    #[tactic(auto, using(crate::proofs::Rules::of_choosing))]
     pub(crate) fn record_begin(&mut self, p: Pid, fresh: RestartPlan, sends: Vec<Outgoing>)
         requires may { CanBegin p.0 self.old.run }
         requires fresh { IsRestartPlan self.old.run.faults fin.empty fresh }

@@ -1,5 +1,4 @@
-use Rattle.std.proofs.Common.{◌∙◌, ap, sym, refl, arith, length, take}
-use Rattle.causal_core.specs.Inside.Stables.{run_after_flush}
+use Rattle.std.proofs.Common.{◌∙◌, ap, refl, arith, length}
 use Rattle.causal_core.proofs.FlushSteps.{flushed_one, still_up, still_logged}
 use Rattle.causal_core.proofs.flush.flush_all.Goals as goal
 
@@ -23,30 +22,3 @@ loop-det-preserved g c =
       faults = omega (arith, c.flush_one.ensures.faults, inv.faults);
       bodies = c.flush_one.ensures.bodies ∙ inv.bodies;
     }
-
-pub loop-det-init : goal.loop-det-init
-loop-det-init g c = grind arith
-
-pub flush_one-requires-clause-process : goal.flush_one-requires-clause-process
-flush_one-requires-clause-process g c = let same = ap (λ r. r.recording.processes) c.loop-det.invariant.run in omega (arith, same, c.requires.process)
-
-pub flush_one-requires-clause-short : goal.flush_one-requires-clause-short
-flush_one-requires-clause-short g c = omega (arith, c.loop-det.invariant.long, c.loop-det-test.true, c.requires.short)
-
-pub flush_one-requires-clause-room : goal.flush_one-requires-clause-room
-flush_one-requires-clause-room g c = omega (arith, c.loop-det.invariant.room, c.loop-det-test.true)
-
-pub returns-in-Err-clause-run : goal.returns-in-Err-clause-run
-returns-in-Err-clause-run g c = c.in-Err.ensures.err ∙ c.loop-det.invariant.run ∙ ap (λ k. run_after_flush c.args.run_data.now.run c.args.p (take k c.args.dets.now)) (sym c.loop-det.invariant.done)
-
-pub returns-in-Err-clause-filled : goal.returns-in-Err-clause-filled
-returns-in-Err-clause-filled g c = c.flush_one.ensures.filled ∙ c.loop-det.invariant.filled
-
-pub returns-in-Err-clause-bodies : goal.returns-in-Err-clause-bodies
-returns-in-Err-clause-bodies g c = c.flush_one.ensures.bodies ∙ c.loop-det.invariant.bodies
-
-pub returns-clause-run : goal.returns-clause-run
-returns-clause-run g c = c.loop-det.invariant.run ∙ ap (λ k. run_after_flush c.args.run_data.now.run c.args.p (take k c.args.dets.now)) (sym c.loop-det.invariant.done)
-
-pub returns-clause-ok : goal.returns-clause-ok
-returns-clause-ok g c = omega (arith, c.loop-det.invariant.done, c.loop-det-test.false, c.loop-det.auto.det-index-end)

@@ -1,7 +1,9 @@
 use Rattle.std.proofs.Common.{arith, take}
-use Rattle.std.proofs.lemmas.List.{take_all}
+use Rattle.std.specs.Option.{option_map}
+use Rattle.std.proofs.lemmas.List.{map_more, take_all}
+use Rattle.causal_memory.specs.ProcessMemories.{memory_of}
 use Rattle.causal_core.specs.Inside.Memories.{memories_in}
-use Rattle.causal_core.proofs.RestartCounts.{count_all, count_none, count_down, count_more, count_gathered, memories_next}
+use Rattle.causal_core.proofs.RestartCounts.{count_all, count_none, count_down, count_more, count_gathered}
 use Rattle.causal_core.proofs.gathered_count.count_gathered.Goals as goal
 
 pub loop-i-init : goal.loop-i-init
@@ -11,7 +13,7 @@ pub loop-i-preserved : goal.loop-i-preserved
 loop-i-preserved g c =
     grind (
       arith,
-      memories_next c.args.process_memories.now c.loop-i.i,
+      map_more (option_map memory_of) c.args.process_memories.now c.loop-i.i,
       count_more,
       count_all,
       count_down (memories_in (take c.loop-i.i c.args.process_memories.now)) (g.S.Stable.contents c.args.store.now),

@@ -1,14 +1,11 @@
-use Rattle.std.proofs.Common.{◌∙◌, ◌++◌, ◌∷◌, [], Some, ap, arith, replicate}
+use Rattle.std.proofs.Common.{◌∙◌, ◌++◌, ◌∷◌, [], Some, ap, arith}
 use Rattle.std.specs.FinMap as fin
 use Rattle.std.specs.Option.{option_map, option_map_or}
 use Rattle.std.proofs.lemmas.List.{map-append, replicate-append-replicate}
 use Rattle.causal_protocol.specs.Memory.{new_memory}
 use Rattle.causal_memory.specs.ProcessMemories.{memory_of, bodies_of}
-use Rattle.causal_core.specs.Inside.Memories.{memories_in, bodies_in}
+use Rattle.causal_core.specs.Inside.Memories.{bodies_in}
 use Rattle.causal_core.proofs.run_data_start.new_process_memories.Goals as goal
-
-pub loop-i-init : goal.loop-i-init
-loop-i-init c = record { memories = ap memories_in c.new-process_memories.ensures.items; bodies = ap bodies_in c.new-process_memories.ensures.items }
 
 pub loop-i-preserved : goal.loop-i-preserved
 loop-i-preserved c = let pushed = c.in_ok-push.ensures.items in
@@ -22,9 +19,3 @@ loop-i-preserved c = let pushed = c.in_ok-push.ensures.items in
           ∙ (λ j. inv.bodies j ++ c.new-sent.ensures.bodies j ∷ [])
           ∙ replicate-append-replicate c.loop-i.i 1 [];
     }
-
-pub returns-clause-memories : goal.returns-clause-memories
-returns-clause-memories c = c.loop-i.invariant.memories ∙ ap (λ k. replicate k (Some (new_memory fin.empty))) (omega (arith, c.loop-i-test.false, c.loop-i.auto.i-end))
-
-pub returns-clause-bodies : goal.returns-clause-bodies
-returns-clause-bodies c = c.loop-i.invariant.bodies ∙ ap (λ k. replicate k []) (omega (arith, c.loop-i-test.false, c.loop-i.auto.i-end))

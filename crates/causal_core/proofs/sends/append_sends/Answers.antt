@@ -7,7 +7,6 @@ use Rattle.std.proofs.lemmas.Iterator.{YieldsList}
 use Rattle.std.proofs.lemmas.Iterator.Adapters.{YieldsList-from_vec}
 use Rattle.std.proofs.lemmas.Iterator.Consumers.{YieldsList-end, YieldsList-turn}
 use Rattle.std.proofs.lemmas.List.{map-append, map-id, append_assoc}
-use Rattle.causal_name.specs.Names.{is_ascending}
 use Rattle.causal_name.specs.declared.Pid.{Pid}
 use Rattle.causal_process.specs.declared.message.Outgoing.{Outgoing}
 use Rattle.causal_log.specs.Logs.{dets_of}
@@ -27,9 +26,6 @@ loop-outgoing-init c = grind (arith, append-nil)
 
 abbrev tos : After-record_send-arg-then-from-n-1 → List Pid
 tos c = receivers c.args.trace.now.recording.processes c.loop-outgoing.yielded
-
-pub record_send-requires-clause-delivered : goal.record_send-requires-clause-delivered
-record_send-requires-clause-delivered c = rw c.loop-outgoing.invariant.batch (c.loop-outgoing.invariant.delivered (dets_of c.args.process_memory.now.sent.batch) c.requires.delivered)
 
 one : (c : After-record_send-arg-then-from-n-1) → sends_to_processes c.args.trace.now.recording.processes (c.loop-outgoing.yielded ++ c.in-Some.outgoing ∷ []) ≡ sends_to_processes c.args.trace.now.recording.processes c.loop-outgoing.yielded ++ c.in-Some.outgoing ∷ []
 one c = grind (arith, nat_tests, addressed_more)
@@ -78,30 +74,12 @@ loop-outgoing-preserved c = grind (arith, length-append, nat_tests, addressed_mo
 all : (sends : Vec Outgoing Global) (s : IntoIter Outgoing Global) → into_iter_items s ≡ sends.items → into_iter_len s ≡ vec_len sends → YieldsList (into_iter_steps {X = Outgoing} {Z = Global}) (λ y. y) s sends.items
 all sends s items count = YieldsList-from_vec sends.items items (grind (arith, common_steps))
 
-from : (c : After-record_send-arg-then-from-n-1) → c.loop-outgoing.trace.recording.processes ≡ c.args.trace.now.recording.processes
-from c = ap (λ r. r.processes) c.loop-outgoing.invariant.recording
-
 -- sends are left
 left : (c : After-record_send-arg-then-from-n-1) → length c.loop-outgoing.yielded < length c.args.sends.items
 left c = (YieldsList-turn (all c.args.sends c.into_iter-outgoing-iterator.result c.into_iter-outgoing-iterator.ensures.into_iter_gives.0 c.into_iter-outgoing-iterator.ensures.into_iter_gives.1) c.loop-outgoing.yielded c.loop-outgoing.outgoing-iterator c.loop-outgoing.yielded_by c.next.result c.next.new.self c.in-Some.outgoing c.in-Some.is c.next.ensures.steps).0
 
-pub record_send-requires-clause-from : goal.record_send-requires-clause-from
-record_send-requires-clause-from c = grind (arith, from)
-
-pub record_send-requires-clause-to : goal.record_send-requires-clause-to
-record_send-requires-clause-to c = grind (arith, from)
-
-pub record_send-requires-clause-spare : goal.record_send-requires-clause-spare
-record_send-requires-clause-spare c = grind (arith, left)
-
-pub record_send-requires-clause-room : goal.record_send-requires-clause-room
-record_send-requires-clause-room c = grind (arith, left)
-
-pub record_send-requires-clause-short : goal.record_send-requires-clause-short
-record_send-requires-clause-short c = grind (arith, left)
-
-pub record_send-requires-clause-ascending : goal.record_send-requires-clause-ascending
-record_send-requires-clause-ascending c = ap (λ b. is_ascending (dets_of b)) c.loop-outgoing.invariant.batch ∙ c.requires.ascending
+pub record_send-requires : goal.record_send-requires
+record_send-requires c = grind (arith, left, c.loop-outgoing.invariant.delivered (dets_of c.args.process_memory.now.sent.batch) c.requires.delivered)
 
 -- no sends are left
 done : (c : goal.After-drop-outgoing-iterator) → c.loop-outgoing.yielded ≡ c.args.sends.items

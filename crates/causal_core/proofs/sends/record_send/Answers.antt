@@ -4,7 +4,7 @@ use Rattle.causal_trace.specs.Rows as Rows
 use Rattle.causal_trace.proofs.Lemmas.CountBounds.{sends_few}
 use Rattle.causal_memory.specs.ProcessMemories.{memory_of}
 use Rattle.causal_core.proofs.MemoriesFit.{fits_other}
-use Rattle.causal_core.proofs.RuntimeSend.{send_legal, send_fits, send_apart}
+use Rattle.causal_core.proofs.RuntimeSend.{send_legal, send_fits}
 use Rattle.causal_core.proofs.sends.record_send.Goals as goal
 use Rattle.causal_core.proofs.sends.record_send.Goals.{After-len-ssn}
 
@@ -23,7 +23,7 @@ returns-clause-fit c =
     (send_fits c.args.trace.now.recording.past c.args.q c.args.outgoing.to c.args.process_memory.now.sent.batch (memory_of c.args.process_memory.now) c.requires.fit c.requires.ascending c.requires.delivered)
 
 pub returns-clause-others : goal.returns-clause-others
-returns-clause-others c = grind (arith, fits_other, send_apart)
+returns-clause-others c = grind (arith, fits_other)
 
 pub returns-clause-delivered : goal.returns-clause-delivered
 returns-clause-delivered c = grind arith

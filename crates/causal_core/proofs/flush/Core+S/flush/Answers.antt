@@ -2,29 +2,17 @@ use Rattle.std.proofs.Common.{◌∙◌, arith}
 use Rattle.causal_protocol.specs.declared.request.Request.TheVariants as Requests
 use Rattle.causal_protocol.specs.Steps.{reply_of_flush}
 use Rattle.causal_protocol.proofs.Lemmas.KeptByType.{step_preserves}
-use Rattle.causal_core.proofs.FlushSteps.{flush_up, flush_below, flush_short, flush_steps, flush_refused, refusal_stores, store_fault_first, unwritten_logged}
+use Rattle.causal_core.proofs.FlushSteps.{flush_may, flush_steps, unwritten_logged}
 use Rattle.causal_core.proofs.flush.Core+S.flush.Goals as goal
 
-pub returns-then-has_unflushed-clause-step : goal.returns-then-has_unflushed-clause-step
-returns-then-has_unflushed-clause-step g c = store_fault_first c.args.self.now.run_data.run c.args.p (c.has_unflushed.ensures.some c.if-has_unflushed.true)
-
-pub returns-in-Err-clause-step : goal.returns-in-Err-clause-step
-returns-in-Err-clause-step g c = grind (arith, flush_refused)
-
-pub returns-in-Err-clause-fault : goal.returns-in-Err-clause-fault
-returns-in-Err-clause-fault g c = grind (arith, refusal_stores)
-
 pub flush_all-requires-clause-process : goal.flush_all-requires-clause-process
-flush_all-requires-clause-process g c = grind (arith, flush_below)
-
-pub flush_all-requires-clause-up : goal.flush_all-requires-clause-up
-flush_all-requires-clause-up g c = grind (arith, flush_up)
+flush_all-requires-clause-process g c = grind (arith, flush_may c.args.self.now.run_data.run c.args.p c.in-Ok.ensures.legal)
 
 pub flush_all-requires-clause-logged : goal.flush_all-requires-clause-logged
 flush_all-requires-clause-logged g c = grind (arith, unwritten_logged c.args.self.now.run_data.run c.args.p)
 
 pub flush_all-requires-clause-short : goal.flush_all-requires-clause-short
-flush_all-requires-clause-short g c = grind (arith, flush_short)
+flush_all-requires-clause-short g c = grind (arith, flush_may c.args.self.now.run_data.run c.args.p c.in-Ok.ensures.legal)
 
 pub invariant_of-self-2 : goal.invariant_of-self-2
 invariant_of-self-2 g c =
@@ -37,6 +25,3 @@ invariant_of-self-2 g c =
           c.args.self.now.invariant_holds,
       flush_steps c.args.self.now.run_data.run c.prepare_flush.new.self.run c.flush_all.new.run_data.run c.args.p,
     )
-
-pub returns-clause-step : goal.returns-clause-step
-returns-clause-step g c = grind (arith, flush_steps)

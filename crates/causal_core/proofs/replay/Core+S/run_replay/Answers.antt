@@ -1,9 +1,6 @@
 use Rattle.causal_core.specs.CoreView.{core_state}
-use Rattle.causal_core.proofs.ReplayDeliveries.{replayed_none, replayed_more, replayed_on, replayed_unnamed}
+use Rattle.causal_core.proofs.ReplayDeliveries.{replayed_more, replayed_on, replayed_unnamed}
 use Rattle.causal_core.proofs.replay.Core+S.run_replay.Goals as goal
-
-pub loop-count-init : goal.loop-count-init
-loop-count-init g c = replayed_none _ c.args.p (core_state c.args.self.now)
 
 pub loop-count-preserved : goal.loop-count-preserved
 loop-count-preserved g c =

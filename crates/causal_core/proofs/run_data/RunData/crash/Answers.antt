@@ -5,12 +5,10 @@ use Rattle.causal_trace.specs.Rows as Rows
 use Rattle.causal_protocol.specs.declared.request.Request.TheVariants as Requests
 use Rattle.causal_protocol.specs.Run.{Run}
 use Rattle.causal_protocol.specs.Refusals.{request_fault}
-use Rattle.causal_protocol.specs.Steps.{LegalStep}
 use Rattle.causal_core.specs.View.{run_from}
 use Rattle.causal_core.specs.Inside.Memories.{memories_in}
-use Rattle.causal_core.proofs.Cells.{memories_length}
-use Rattle.causal_core.proofs.Legal.{tells_reason, held_fit, crash_legal, crash_held}
-use Rattle.causal_core.proofs.RefusedRequests.{refused_crash}
+use Rattle.std.proofs.lemmas.List.{length-map}
+use Rattle.causal_core.proofs.Legal.{held_fit, crash_legal, crash_held}
 use Rattle.causal_core.proofs.run_data.RunData.crash.Goals as goal
 use Rattle.causal_core.proofs.run_data.RunData.crash.Goals.{After-len-first}
 
@@ -24,24 +22,14 @@ legal : (c : After-len-first) → (c.args.p.0 < c.self.inside.trace.recording.pr
 legal c =
     crash_legal (run c) c.args.p (held_fit (run c) (memories_in c.self.inside.process_memories.items) c.self.invariant) c.self.invariant.formed (none c)
 
-pub returns-in-Some-clause-step : goal.returns-in-Some-clause-step
-returns-in-Some-clause-step c = grind (arith, refused_crash, tells_reason)
-
-pub returns-then-is_err-clause-step : goal.returns-then-is_err-clause-step
-returns-then-is_err-clause-step c = grind (arith, refused_crash)
-
 pub push_reserved-requires-clause-legal : goal.push_reserved-requires-clause-legal
 push_reserved-requires-clause-legal c = grind (arith, legal)
 
 pub drop_memory-requires : goal.drop_memory-requires
-drop_memory-requires c = grind (arith, legal, common_steps, memories_length)
+drop_memory-requires c = grind (arith, legal, common_steps, length-map)
 
 pub invariant_of-self-2 : goal.invariant_of-self-2
 invariant_of-self-2 c =
     let l = legal (goal.at.invariant_of-self-2 c).After-len-first in
     rw (c.drop_memory.ensures.memories, c.push_reserved.ensures.recording, c.reserve.ensures.recording, c.from.ensures)
     (crash_held (run_from c.self.inside.trace.recording c.self.inside.faults c.self.inside.writers.items) (memories_in c.self.inside.process_memories.items) c.args.p c.self.invariant l.0 l.1)
-
-pub returns-clause-step : goal.returns-clause-step
-unfolding LegalStep
-returns-clause-step c = grind (arith, legal, none)

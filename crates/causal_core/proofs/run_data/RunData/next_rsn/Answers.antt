@@ -6,12 +6,10 @@ use Rattle.causal_protocol.specs.Memory.{present_at}
 use Rattle.causal_core.specs.Inside.Memories.{memories_in}
 use Rattle.causal_memory.specs.ProcessMemories.{memory_of}
 use Rattle.causal_core.proofs.DeliveryRows.{received_few}
-use Rattle.causal_core.proofs.Cells.{some_within}
 use Rattle.causal_core.proofs.run_data.RunData.next_rsn.Goals as goal
 
 pub overflow_cast-result : goal.overflow_cast-result
 overflow_cast-result c =
     let up : present_at (memories_in c.self.inside.process_memories.items) c.args.q.0 ≡ Some (memory_of c.in-Some.process_memory.now) = ap (λ xs. present_at (memories_in xs) c.args.q.0) (sym c.as_slice.ensures.value) ∙ sym c.process_memory_at.ensures ∙ ap (λ o. option_map memory_of (option_copied o)) c.in-Some.is in
-    let process = some_within (memories_in c.self.inside.process_memories.items) c.args.q.0 (memory_of c.in-Some.process_memory.now) up in
-    let h = received_few c.self.inside.trace.recording.processes c.self.inside.trace.recording.past (memories_in c.self.inside.process_memories.items) c.args.q.0 (memory_of c.in-Some.process_memory.now) c.self.invariant.fit (formed_short _ c.self.invariant.formed).entries (omega (arith, process, c.self.invariant.fit.count)) up in
-    grind (arith, common_steps, h, c.len.ensures)
+    let few = (received_few c.self.inside.trace.recording.processes c.self.inside.trace.recording.past (memories_in c.self.inside.process_memories.items) c.args.q.0 c.self.invariant.fit (formed_short _ c.self.invariant.formed).entries).1 in
+    grind (arith, common_steps, up, few, c.len.ensures)

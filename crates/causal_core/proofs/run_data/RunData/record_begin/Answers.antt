@@ -1,7 +1,6 @@
 use Rattle.std.proofs.Common.{arith, List, ◌≡◌, Some, sym, subst}
 use Rattle.std.specs.FinMap as fin
 use Rattle.causal_name.specs.declared.Pid.{Pid}
-use Rattle.causal_log.proofs.Lemmas.ChosenLemmas.{chosen_ascend}
 use Rattle.causal_protocol.specs.Run.{Run}
 use Rattle.causal_protocol.specs.Steps.{append_all, sends_of}
 use Rattle.causal_core.specs.Inside.Begins.{CanBegin}
@@ -9,17 +8,11 @@ use Rattle.causal_memory.specs.RestartPlans.{IsRestartPlan}
 use Rattle.causal_core.specs.View.{run_from, receivers}
 use Rattle.causal_memory.specs.ProcessMemories.{memory_of}
 use Rattle.causal_core.specs.Inside.Memories.{memories_in}
-use Rattle.causal_core.proofs.MemoriesFit.{all_fit_set, at-set_other}
-use Rattle.causal_core.proofs.RuntimeDelivery.{chosen_all}
+use Rattle.causal_core.proofs.MemoriesFit.{all_fit_set}
+use Rattle.causal_core.proofs.Lemmas.Slices.{slice_get-set_other}
 use Rattle.causal_core.proofs.ProcessBegins.{begun_memories}
 use Rattle.causal_core.proofs.run_data.RunData.record_begin.Goals as goal
 use Rattle.causal_core.proofs.run_data.RunData.record_begin.Goals.{After-drop-fresh}
-
-pub append_sends-number-requires-clause-ascending : goal.append_sends-number-requires-clause-ascending
-append_sends-number-requires-clause-ascending c = grind (arith, chosen_ascend)
-
-pub append_sends-number-requires-clause-delivered : goal.append_sends-number-requires-clause-delivered
-append_sends-number-requires-clause-delivered c = grind (arith, chosen_all)
 
 -- the receivers of its sends
 abbrev tos : After-drop-fresh → List Pid
@@ -51,4 +44,4 @@ invariant_of-self c =
     )
 
 pub returns : goal.returns
-returns c = grind (arith, one, begun_memories, may, at-set_other)
+returns c = grind (arith, one, begun_memories, may, slice_get-set_other)

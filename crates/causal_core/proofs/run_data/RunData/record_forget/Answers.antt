@@ -1,23 +1,11 @@
-use Rattle.std.proofs.Common.{◌≡◌, ◌∙◌, ap, sym, arith, None}
-use Rattle.std.proofs.lemmas.Grind.{common_steps}
+use Rattle.std.proofs.Common.{◌≡◌, ◌∙◌, ap, sym, None}
 use Rattle.causal_protocol.specs.declared.request.Request.TheVariants as Requests
 use Rattle.causal_protocol.specs.Refusals.{request_fault, dets_to_forget}
 use Rattle.causal_core.specs.View.{run_from}
 use Rattle.causal_core.specs.Inside.Memories.{memories_in}
 use Rattle.causal_core.proofs.Legal.{held_fit}
-use Rattle.causal_core.proofs.Forgotten.{forgotten_held, forget_legal, forget_few}
+use Rattle.causal_core.proofs.Forgotten.{forgotten_held, forget_legal}
 use Rattle.causal_core.proofs.run_data.RunData.record_forget.Goals as goal
-
-pub overflow_cast-count : goal.overflow_cast-count
-overflow_cast-count c =
-    let few = forget_few c.args.self.now.run c.args.p c.args.listed.items c.requires.legal c.requires.listed in grind (arith, common_steps, few, c.len-count.ensures)
-
-pub push_reserved-requires-clause-legal : goal.push_reserved-requires-clause-legal
-push_reserved-requires-clause-legal c =
-    let r = run_from c.self.inside.trace.recording c.self.inside.faults c.self.inside.writers.items in
-    let none : request_fault r (Requests.Forget c.args.p) ≡ None = ap (λ s. request_fault s.run (Requests.Forget c.args.p)) c.self.view_is ∙ c.requires.legal in
-    let listed : c.args.listed.items ≡ dets_to_forget r c.args.p = c.requires.listed ∙ sym (ap (λ s. dets_to_forget s.run c.args.p) c.self.view_is) in
-    rw c.new.ensures (forget_legal r c.args.p c.args.listed.items (held_fit r (memories_in c.self.inside.process_memories.items) c.self.invariant) none listed c.requires.some).1
 
 pub invariant_of-self : goal.invariant_of-self
 invariant_of-self c =

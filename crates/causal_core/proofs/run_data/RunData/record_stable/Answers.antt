@@ -9,16 +9,6 @@ use Rattle.causal_core.proofs.Legal.{held_fit}
 use Rattle.causal_core.proofs.FlushWrites.{stable_may, stable_held}
 use Rattle.causal_core.proofs.run_data.RunData.record_stable.Goals as goal
 
-pub push_stable_reserved-requires-clause-legal : goal.push_stable_reserved-requires-clause-legal
-push_stable_reserved-requires-clause-legal c =
-    let r = run_from c.self.inside.trace.recording c.self.inside.faults c.self.inside.writers.items in
-    let process : c.args.p.0 < c.self.inside.trace.recording.processes = let e = ap (λ s. s.run.recording.processes) c.self.view_is in omega (arith, e, c.requires.process) in
-    let short : length c.self.inside.trace.recording.past < 16777216 = let e = ap (λ s. length s.run.recording.past) c.self.view_is in omega (arith, e, c.requires.short) in
-    stable_may r c.args.p c.args.det (held_fit r (memories_in c.self.inside.process_memories.items) c.self.invariant) process
-    (ap (λ s. is_some (present_at (memories_of s.run) c.args.p.0)) c.self.view_is ∙ c.requires.up)
-    (ap (λ s. is_some (fin.get (log_at (memories_of s.run) c.args.p.0) c.args.det)) c.self.view_is ∙ c.requires.logged)
-    short c.self.invariant.formed
-
 pub invariant_of-self : goal.invariant_of-self
 invariant_of-self c =
     let r = run_from c.self.inside.trace.recording c.self.inside.faults c.self.inside.writers.items in

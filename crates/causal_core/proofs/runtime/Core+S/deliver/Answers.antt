@@ -6,13 +6,13 @@ use Rattle.causal_protocol.specs.Run.{memories_of}
 use Rattle.causal_protocol.specs.Runs.{SatisfiesInvariant}
 use Rattle.causal_protocol.specs.declared.request.Reply.TheVariants as Replies
 use Rattle.causal_protocol.proofs.Lemmas.KeptByType.{step_preserves}
-use Rattle.causal_protocol.specs.Naming.{message_name, next_ssn, next_own_det}
+use Rattle.causal_protocol.specs.Naming.{next_ssn}
 use Rattle.causal_protocol.specs.declared.request.Request.TheVariants as Requests
-use Rattle.causal_core.specs.View.{RunDataState, receivers, sent_bodies, with_bodies}
+use Rattle.causal_core.specs.View.{RunDataState, receivers}
 use Rattle.causal_core.proofs.StoreEntries.{store_is}
 use Rattle.causal_core.proofs.UpAfterStep.{box_there}
 use Rattle.causal_core.proofs.RefusedRequests.{refused_delivery}
-use Rattle.causal_core.proofs.LegalDelivery.{receiver_up}
+use Rattle.causal_core.proofs.LegalDelivery.{allowed}
 use Rattle.causal_core.proofs.RestartMemory.{delivery_alone}
 use Rattle.causal_core.proofs.RunAfterStep.{delivery_filled, delivery_stable}
 use Rattle.causal_core.proofs.runtime.Core+S.deliver.Goals as goal
@@ -26,7 +26,9 @@ pub returns-in-Err-clause-step : goal.returns-in-Err-clause-step
 returns-in-Err-clause-step g c = grind (arith, refused_delivery)
 
 pub step_with_message-requires-clause-box_there : goal.step_with_message-requires-clause-box_there
-step_with_message-requires-clause-box_there g c = grind (arith, box_there, receiver_up)
+step_with_message-requires-clause-box_there g c =
+    let up = (allowed c.args.self.now.run_data.run c.args.q c.args.source c.args.ssn c.in-Ok.ensures.legal).2 in
+    box_there c.args.self.now.slots.items (memories_of c.args.self.now.run_data.run) c.args.q.0 c.args.self.now.filled up
 
 pub invariant_of-self-in-Ok-step_with_message : goal.invariant_of-self-in-Ok-step_with_message
 invariant_of-self-in-Ok-step_with_message g c =
@@ -43,20 +45,7 @@ invariant_of-self-in-Ok-step_with_message g c =
     }
 
 pub returns-in-Ok-step_with_message-clause-ok : goal.returns-in-Ok-step_with_message-clause-ok
-returns-in-Ok-step_with_message-clause-ok g c = let q = c.args.q in
-    let asked = message_name c.args.source c.args.ssn in
-    let same : c.step_with_message.new.self.run ≡ c.args.self.now.run_data.run = ap (λ (s : RunDataState). s.run) c.step_with_message.ensures.data ∙ c.prepare.ensures.run in
-    let bodies : c.step_with_message.new.self.bodies ≡ c.args.self.now.run_data.bodies = ap (λ (s : RunDataState). s.bodies) c.step_with_message.ensures.data ∙ c.prepare.ensures.bodies in
-    let made = c.in-Ok.ensures.grown in
-    let own = made.own ∙ ap (λ r. next_own_det (memories_of r) q asked) c.prepare.ensures.run in
-    let sends = c.in-Ok-step_with_message.sends.items in
-    record {
-      sends = sends;
-      box = rw c.prepare.ensures.bodies at c.in-Ok-step_with_message.ensures.given.ok;
-      others = c.step_with_message.ensures.given.others;
-      run = grind arith;
-      bodies = c.finish.ensures.bodies ∙ (λ i. with_bodies (bodies i) q.0 (sent_bodies (same i).recording.processes sends));
-    }
+returns-in-Ok-step_with_message-clause-ok g c = grind arith
 
 pub returns-in-Err-step_with_message-clause-step : goal.returns-in-Err-step_with_message-clause-step
 returns-in-Err-step_with_message-clause-step g c = grind (arith, refused_delivery)

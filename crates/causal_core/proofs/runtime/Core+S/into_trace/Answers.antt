@@ -1,11 +1,7 @@
 use Rattle.std.proofs.Common.{sym, subst}
 use Rattle.causal_trace.specs.Judgement.{IsSafeTrace}
-use Rattle.causal_trace.specs.Survivors.{IsFollowed}
-use Rattle.causal_protocol.proofs.Lemmas.KeptByType.{invariant_safe, invariant_followed}
+use Rattle.causal_protocol.proofs.Lemmas.KeptByType.{invariant_safe}
 use Rattle.causal_core.proofs.runtime.Core+S.into_trace.Goals as goal
 
 pub returns-clause-safe : goal.returns-clause-safe
 returns-clause-safe g c = subst (λ r. IsSafeTrace r c.args.self.run_data.run.faults) (sym c.into_trace.ensures) (invariant_safe c.args.self.run_data.run c.args.self.invariant_holds)
-
-pub returns-clause-followed : goal.returns-clause-followed
-returns-clause-followed g c = subst IsFollowed (sym c.into_trace.ensures) (invariant_followed c.args.self.run_data.run c.args.self.invariant_holds)
