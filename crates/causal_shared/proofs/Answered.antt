@@ -1,6 +1,6 @@
 -- Results of core calls, and the item replies that the locked value stores for them.
-use Rattle.std.proofs.Common.{arith, ◌≡◌, ◌++◌, ◌∷◌, [], refl, ℕ, List, length, Some}
-use Rattle.std.specs.Prelude.{Option, Result, Ok, Err, OnOk, OnErr, IfErr}
+use Rattle.std.proofs.Common.{arith, ◌≡◌, ◌++◌, ◌∷◌, [], ℕ, List, length, Some}
+use Rattle.std.specs.Prelude.{Option, Result, OnOk, OnErr, IfErr}
 use Rattle.causal_protocol.specs.declared.request.Request.{Request}
 use Rattle.causal_protocol.specs.declared.request.Reply.{Reply}
 use Rattle.causal_protocol.specs.declared.request.Reply.TheVariants as Replies
@@ -26,36 +26,28 @@ use Rattle.causal_shared.specs.Inside.ResultConversions.{map_refusal, core_refus
 -- a property of a result also holds of the item reply made from it
 module _ {A E F : Type 0} (refusal : E → F) where
   pub ok_answered : (P : Type 0) (a : Result A E) (told : Result A F) → told ≡ map_refusal refusal a → OnOk a P → OnOk told P
-  ok_answered P (Ok x) told is p = rw is p
-  ok_answered P (Err e) told is p = rw is p
+  ok_answered P a told is p = grind (arith, p)
 
   pub err_answered : (P : Type 0) (a : Result A E) (told : Result A F) → told ≡ map_refusal refusal a → OnErr a P → OnErr told P
-  err_answered P (Ok x) told is p = rw is p
-  err_answered P (Err e) told is p = rw is p
+  err_answered P a told is p = grind (arith, p)
 
   pub if_err_answered : (P : E → Type 0) (Q : F → Type 0) (a : Result A E) (told : Result A F) → told ≡ map_refusal refusal a → ((e : E) → P e → Q (refusal e)) → IfErr a P → IfErr told Q
-  if_err_answered P Q (Ok x) told is from p = rw is p
-  if_err_answered P Q (Err e) told is from p = rw is (from e p)
+  if_err_answered P Q a told is from p = grind (arith, from, p)
 
 pub tells_delivery : (a : Result Delivered CoreFault) (told : Result Delivered LockedFault) → told ≡ map_refusal Fault.Core a → item_told Replies.Delivered told ≡ Some (reply_of_delivery a)
-tells_delivery (Ok x) told is = rw is refl
-tells_delivery (Err e) told is = rw is refl
+tells_delivery a told is = grind arith
 
 pub tells_crash : (a : Result ℕ CoreFault) (told : Result ℕ LockedFault) → told ≡ map_refusal Fault.Core a → item_told Replies.Crashed told ≡ Some (reply_of_crash a)
-tells_crash (Ok x) told is = rw is refl
-tells_crash (Err e) told is = rw is refl
+tells_crash a told is = grind arith
 
 pub tells_flush : (a : Result ℕ FlushFault) (told : Result ℕ LockedFault) → told ≡ map_refusal Fault.Flush a → item_told Replies.Flushed told ≡ Some (reply_of_flush a)
-tells_flush (Ok x) told is = rw is refl
-tells_flush (Err e) told is = rw is refl
+tells_flush a told is = grind arith
 
 pub tells_forget : (a : Result ℕ CoreFault) (told : Result ℕ LockedFault) → told ≡ map_refusal Fault.Core a → item_told Replies.Forgotten told ≡ Some (reply_of_forget a)
-tells_forget (Ok x) told is = rw is refl
-tells_forget (Err e) told is = rw is refl
+tells_forget a told is = grind arith
 
 pub tells_restart : {B : Type 0} (a : Result Restarted (Refused B)) (told : Result Restarted (LockedRefused B)) → told ≡ map_refusal core_refusal a → again told ≡ Some (reply_of_restart refused_fault a)
-tells_restart (Ok x) told is = rw is refl
-tells_restart (Err e) told is = rw is refl
+tells_restart a told is = grind arith
 
 -- a protocol step whose item is appended with the step's reply is an item call
 pub is_recorded : (old new : LockedState) (seat call first : ℕ) (items : List Item) (count : ℕ) (request : Request) (reply says : Reply) (tells : Option Reply)

@@ -1,9 +1,10 @@
 -- Appending one item preserves the facts on a history.
-use Rattle.std.proofs.Common.{◌≡◌, ◌≢◌, ◌≤◌, ◌<◌, ◌∙◌, sym, refl, ap, subst, ℕ, zero, suc, List, [], ◌∷◌, ◌++◌, length, slice_set, replicate, arith, Some, None, length-append, ◌⊎◌, inl, inr}
-use Rattle.std.specs.Prelude.{slice_get, Option, option_map, unwrap_or, IfSome}
-use Rattle.std.proofs.lemmas.Option.{slice_get_cases}
+use Rattle.std.proofs.Common.{◌≡◌, ◌≢◌, ◌≤◌, ◌<◌, ◌∙◌, sym, refl, ap, subst, ℕ, List, [], ◌∷◌, ◌++◌, length, slice_set, replicate, arith, Some, None, length-append, inl, inr}
+use Rattle.std.specs.Prelude.{slice_get, Option, option_map, unwrap_or}
+use Rattle.std.proofs.lemmas.Option.{slice_get_cases, gets}
 use Rattle.std.proofs.lemmas.List.Sums.{length-filter, count_by-le-length}
-use Rattle.std.proofs.lemmas.List.{append-nil}
+use Rattle.std.proofs.lemmas.List.{append-nil, get_or-replicate, length-replicate}
+use Rattle.std.proofs.lemmas.Bool.{cases_eq}
 use Rattle.std.proofs.lemmas.List.Elements.{filter-append}
 use Rattle.std.proofs.lemmas.Bool.Decides.{nat_tests}
 use Rattle.causal_protocol.specs.Run.{Run}
@@ -41,23 +42,9 @@ items_of-snoc items item = grind (arith, nat_tests, filter-append)
 pub items_of-snoc_other : (items : List Item) (item : Item) (seat : ℕ) → item.seat ≢ seat → items_of seat (items ++ item ∷ []) ≡ items_of seat items
 items_of-snoc_other items item seat ne = grind (arith, nat_tests, filter-append, append-nil (items_of seat items))
 
--- a seat number equals the item's or differs from it
-either_seat : (a b : ℕ) → (a ≡ b) ⊎ (a ≢ b)
-either_seat a b = grind arith
-
 numbered-snoc : (items : List Item) (item : Item) → ((seat k : ℕ) (i : Item) → slice_get (items_of seat items) k ≡ Some i → i.call ≡ k) → item.call ≡ length (items_of item.seat items) → (seat k : ℕ) (i : Item) → slice_get (items_of seat (items ++ item ∷ [])) k ≡ Some i → i.call ≡ k
-numbered-snoc items item numbered call seat k i is = elim (either_seat item.seat seat) [
-  | inl same ↦ mine seat same is
-  | inr other ↦ numbered seat k i (rw (items_of-snoc_other items item seat other) at is)
-]
-  where
-    mine : (seat : ℕ) → item.seat ≡ seat → slice_get (items_of seat (items ++ item ∷ [])) k ≡ Some i → i.call ≡ k
-    mine seat same is =
-        let here : slice_get (items_of item.seat items ++ item ∷ []) k ≡ Some i = sym (ap (λ (xs : List Item). slice_get xs k) (items_of-snoc items item)) ∙ (ap (λ s. slice_get (items_of s (items ++ item ∷ [])) k) same ∙ is) in
-        elim (slice_get-snoc (items_of item.seat items) item i k here) [
-          | inl was ↦ numbered item.seat k i was
-          | inr new ↦ sym (ap (λ (x : Item). x.call) new.1) ∙ (call ∙ sym new.0)
-        ]
+numbered-snoc items item numbered call seat k i is =
+    grind (arith, cases_eq item.seat seat, items_of-snoc items item, items_of-snoc_other items item seat, slice_get-snoc (items_of item.seat items) item i k, numbered seat k i)
 
 pub IsHistory-snoc : (run new : Run) (items : List Item) (item : Item) → IsHistory run items → Steps run item.request item.reply new → item.first ≡ run_length run → item.call ≡ length (items_of item.seat items) → IsHistory new (items ++ item ∷ [])
 IsHistory-snoc run new items item history step at call = record {
@@ -78,20 +65,8 @@ item_count-le run items seats seat kept inside = grind (arith, item_count-is run
 
 -- the record of another seat fits the longer history
 FitsHistory-snoc_other : (run new : Run) (items : List Item) (item : Item) (seat : ℕ) (kept : SeatRecord) → item.seat ≢ seat → run_length run ≤ run_length new → FitsHistory run items seat kept → FitsHistory new (items ++ item ∷ []) seat kept
-FitsHistory-snoc_other run new items item seat kept other longer was = record {
-  count = rw (items_of-snoc_other items item seat other) was.count;
-  seen = omega (arith, was.seen);
-  placed = by_place kept.last was.placed;
-  last = rw (items_of-snoc_other items item seat other) (by_item kept.last was.placed ∙ was.last);
-}
-  where
-    by_place : (o : Option ℕ) → IfSome o (λ p. p < length items) → IfSome o (λ p. p < length (items ++ item ∷ []))
-    by_place None h = h
-    by_place (Some p) h = omega (arith, h, length-append items (item ∷ []))
-
-    by_item : (o : Option ℕ) → IfSome o (λ p. p < length items) → item_at (items ++ item ∷ []) o ≡ item_at items o
-    by_item None h = refl
-    by_item (Some p) h = slice_get-append items (item ∷ []) p h
+FitsHistory-snoc_other run new items item seat kept other longer was =
+    grind (arith, items_of-snoc_other items item seat, length-append items (item ∷ []), slice_get-append items (item ∷ []))
 
 -- the updated record of the item's seat fits the longer history
 FitsHistory-snoc : (new : Run) (items : List Item) (item : Item) (place : ℕ) → place ≡ length items → item.call ≡ length (items_of item.seat items) → FitsHistory new (items ++ item ∷ []) item.seat (record_after item (run_length new) place)
@@ -106,19 +81,10 @@ FitsHistory-snoc new items item place at call =
     )
 
 pub AllKept-snoc : (run new : Run) (items : List Item) (seats : List SeatRecord) (item : Item) (place : ℕ) → AllRecordsFit run items seats → run_length run ≤ run_length new → place ≡ length items → item.seat < length seats → item.call ≡ length (items_of item.seat items) → AllRecordsFit new (items ++ item ∷ []) (slice_set seats item.seat (record_after item (run_length new) place))
-AllKept-snoc run new items seats item place kept longer at inside call seat k is = elim (either_seat item.seat seat) [
-  | inl same ↦ mine seat same is
-  | inr other ↦ FitsHistory-snoc_other run new items item seat k other longer (kept seat k (sym (slice_get-set_other seats item.seat seat (record_after item (run_length new) place) (λ e. other (sym e))) ∙ is))
-]
-  where
-    mine : (seat : ℕ) → item.seat ≡ seat → slice_get (slice_set seats item.seat (record_after item (run_length new) place)) seat ≡ Some k → FitsHistory new (items ++ item ∷ []) seat k
-    mine seat same is =
-        let P : ℕ → Type 0 = λ s. FitsHistory new (items ++ item ∷ []) s k in
-        let Q : SeatRecord → Type 0 = λ k. FitsHistory new (items ++ item ∷ []) item.seat k in
-        let found = slice_get-set_same seats item.seat (record_after item (run_length new) place) inside in
-        let there : slice_get (slice_set seats item.seat (record_after item (run_length new) place)) item.seat ≡ Some k = ap (λ s. slice_get (slice_set seats item.seat (record_after item (run_length new) place)) s) same ∙ is in
-        let k_is : record_after item (run_length new) place ≡ k = cc in
-        subst P same (subst Q k_is (FitsHistory-snoc new items item place at call))
+AllKept-snoc run new items seats item place kept longer at inside call seat k is =
+    let set = record_after item (run_length new) place in
+    let mine = FitsHistory-snoc new items item place at call in
+    grind (arith, cases_eq item.seat seat, mine, slice_get-set_same seats item.seat set inside, slice_get-set_other seats item.seat seat set, FitsHistory-snoc_other run new items item seat k, kept seat k)
 
 -- a delivery that a run contains is still there after a step
 Shows-step : (old new : Run) (request : Request) (reply : Reply) (item : Item) → Steps old request reply new → HasDeliveryOf old.recording.past item → HasDeliveryOf new.recording.past item
@@ -145,9 +111,7 @@ pub count_below : (r : Run) (items : List Item) (seats : List SeatRecord) (seat 
 count_below r items seats seat call keeps inside is room = let few = item_count-le r items seats seat keeps.kept inside in omega (arith, few, is, room)
 
 slice_get-replicate : (k seat : ℕ) (x kept : SeatRecord) → slice_get (replicate k x) seat ≡ Some kept → x ≡ kept
-slice_get-replicate zero seat x kept is = absurd cc
-slice_get-replicate (suc k) zero x kept is = cc
-slice_get-replicate (suc k) (suc seat) x kept is = slice_get-replicate k seat x kept is
+slice_get-replicate k seat x kept is = grind (arith, gets, get_or-replicate k seat x, length-replicate k x)
 
 -- the invariant holds of an empty history whose seats' `seen` counts equal the run's length
 pub Keeps-new : (r : Run) (k seen : ℕ) (items : List Item) (seats : List SeatRecord) → items ≡ [] → seats ≡ replicate k (new_record seen) → seen ≡ run_length r → LockInvariant r items seats
@@ -164,20 +128,9 @@ Holds-is held seat count seen kept mine last all is counts sees mine_is =
 
 -- a record whose `seen` count becomes the run's length still fits the history
 pub AllKept-seen : (run : Run) (items : List Item) (seats : List SeatRecord) (at : ℕ) (k : SeatRecord) (seen : ℕ) → at < length seats → slice_get seats at ≡ Some k → seen ≤ run_length run → AllRecordsFit run items seats → AllRecordsFit run items (slice_set seats at (record k { seen = seen }))
-AllKept-seen run items seats at k seen inside is few kept seat k' found = elim (either_seat at seat) [
-  | inl same ↦ mine seat same found
-  | inr other ↦ kept seat k' (sym (slice_get-set_other seats at seat (record k { seen = seen }) (λ e. other (sym e))) ∙ found)
-]
-  where
-    mine : (seat : ℕ) → at ≡ seat → slice_get (slice_set seats at (record k { seen = seen })) seat ≡ Some k' → FitsHistory run items seat k'
-    mine seat same found =
-        let P : ℕ → Type 0 = λ s. FitsHistory run items s k' in
-        let Q : SeatRecord → Type 0 = λ k. FitsHistory run items at k in
-        let was = kept at k is in
-        let set = slice_get-set_same seats at (record k { seen = seen }) inside in
-        let there : slice_get (slice_set seats at (record k { seen = seen })) at ≡ Some k' = ap (λ s. slice_get (slice_set seats at (record k { seen = seen })) s) same ∙ found in
-        let k_is : record k { seen = seen } ≡ k' = cc in
-        subst P same (subst Q k_is record { count = was.count; seen = few; placed = was.placed; last = was.last })
+AllKept-seen run items seats at k seen inside is few kept seat k' found =
+    let set : SeatRecord = record k { seen = seen } in
+    grind (arith, cases_eq at seat, slice_get-set_same seats at set inside, slice_get-set_other seats at seat set, kept seat k', kept at k is)
 
 -- the invariant is preserved if a seat's `seen` count becomes the run's length
 pub Keeps-seen : (r : Run) (items : List Item) (seats : List SeatRecord) (at : ℕ) (k : SeatRecord) (seen : ℕ) → at < length seats → slice_get seats at ≡ Some k → seen ≡ run_length r → LockInvariant r items seats → LockInvariant r items (slice_set seats at (record k { seen = seen }))

@@ -1,5 +1,5 @@
 -- One item call, as recorded in its seat.
-use Rattle.std.proofs.Common.{subst, None, ◌≡◌, ◌≤◌, ◌<◌, ◌+◌, ◌∙◌, sym, refl, ap, ℕ, List, [], ◌∷◌, ◌++◌, length, map, zero, suc, arith, Some}
+use Rattle.std.proofs.Common.{subst, ◌≡◌, ◌≤◌, ◌<◌, ◌+◌, ◌∙◌, sym, refl, ap, ℕ, List, [], ◌∷◌, ◌++◌, length, map, zero, suc, arith, Some}
 use Rattle.std.specs.Prelude.{Option, Result, Ok, Err, slice_get, ◌==◌, ◌↔◌}
 use Rattle.std.proofs.lemmas.Option.{slice_get_cases}
 use Rattle.std.proofs.lemmas.List.Sums.{length-filter, count_by-le-length}
@@ -9,18 +9,17 @@ use Rattle.causal_shared.specs.declared.item.Item.{Item}
 use Rattle.causal_shared.specs.Limits.{max_items}
 use Rattle.causal_trace.specs.declared.entry.Entry.{Entry}
 use Rattle.causal_shared.specs.History.{run_length, HasDeliveryOf, LockedState, Holds, item_count}
-use Rattle.causal_shared.specs.LockInvariant.{item_at, LockInvariant}
+use Rattle.causal_shared.specs.LockInvariant.{LockInvariant}
 use Rattle.causal_protocol.specs.declared.request.Restarted.{Restarted}
 use Rattle.causal_shared.specs.declared.refused.LockedRefused.{LockedRefused}
 use Rattle.causal_shared.specs.Inside.ResultConversions.{map_refusal, shared_refusal}
-use Rattle.causal_shared.specs.Locked.{item_reply, fault_item_reply, restart_item_reply, ItemCall, IsSnapshot}
+use Rattle.causal_shared.specs.Locked.{item_reply, restart_item_reply, ItemCall, IsSnapshot}
 use Rattle.causal_shared.specs.declared.fault.LockedFault.{LockedFault}
-use Rattle.causal_shared.specs.declared.fault.LockedFault.TheVariants as Refusal
 use Rattle.causal_shared.specs.declared.fault.SharedFault.{SharedFault}
 use Rattle.causal_shared.specs.declared.fault.SharedFault.TheVariants as Fault
 use Rattle.causal_trace.specs.Rows.{Recording}
 use Rattle.causal_shared.specs.declared.item.Snapshot.{Snapshot}
-use Rattle.causal_shared.specs.Seat.{shared_fault_of, seat_reply, seat_fault_reply, seat_restart_reply, SeatView, SeatCall, SeatMemory, with_item, SnapshotSeen}
+use Rattle.causal_shared.specs.Seat.{seat_reply, seat_restart_reply, SeatView, SeatCall, SeatMemory, with_item, SnapshotSeen}
 use Rattle.causal_shared.specs.Inside.SeatChecks.{refusal_of, shared_result, CanCall, MatchesRecord, ItemSection}
 use Rattle.causal_protocol.proofs.Lemmas.StepAppends.{replies_tell_entries}
 
@@ -52,11 +51,7 @@ Holds-counted held seat count seen last holds = grind arith
 
 -- the trace contains the delivery of a matching seat's last item
 Holds-shows : (held : LockedState) (seat count seen : ℕ) (last : Option Item) (item : Item) → LockInvariant held.run held.history held.seats → Holds held seat count seen last → last ≡ Some item → HasDeliveryOf held.run.recording.past item
-Holds-shows held seat count seen last item keeps holds is = by holds.kept.0.last ((keeps.kept seat holds.kept.0 holds.kept.1).last ∙ sym holds.ends ∙ is)
-  where
-    by : (place : Option ℕ) → item_at held.history place ≡ Some item → HasDeliveryOf held.run.recording.past item
-    by None none = absurd (let x : None ≡ Some item = none in cc)
-    by (Some place) there = keeps.shown place item there
+Holds-shows held seat count seen last item keeps holds is = grind (arith, keeps.kept seat holds.kept.0, holds.kept, holds.ends, keeps.shown)
 
 -- a seat that matches its record can make an item call if there is capacity
 pub MayCall-is : (held : LockedState) (seat : SeatMemory) (tag first : ℕ) → LockInvariant held.run held.history held.seats → MatchesRecord tag held seat.view → length held.history < max_items → first ≡ run_length held.run → 1 ≤ seat.spare → CanCall held seat first
@@ -102,10 +97,7 @@ seats_snoc (s ∷ seats) seat f (suc k) len each is (suc n) lt = seats_snoc seat
 
 -- the reply stored in the seat's list equals the reply stored in the history
 heard_told : {A : Type 0} (answer : A → Reply) (a : Result A LockedFault) → seat_reply answer (shared_result a) ≡ item_reply answer a
-heard_told answer (Ok x) = refl
-heard_told answer (Err (Refusal.Core fault)) = refl
-heard_told answer (Err (Refusal.Flush fault)) = refl
-heard_told answer (Err Refusal.NoRecord) = refl
+heard_told answer a = grind arith
 
 -- the locked value's call and the seat's update are together one section of the lock
 pub section_heard : {A : Type 0} (answer : A → Reply) (old new : LockedState) (before : SeatView) (seat seat' : SeatMemory) (request asked : Request) (a : Result A LockedFault) (result : Result A SharedFault) (reply : Option Reply) (number count first : ℕ)
@@ -117,54 +109,30 @@ section_heard answer old new before seat seat' request asked a result reply numb
 
 -- the locked value never returns `WrongSeat` or `HistoryFull`
 never_wrong : {A : Type 0} (a : Result A LockedFault) → shared_result a ≡ Err Fault.WrongSeat → ⊥
-never_wrong (Ok x) e = cc e
-never_wrong (Err (Refusal.Core fault)) e = cc e
-never_wrong (Err (Refusal.Flush fault)) e = cc e
-never_wrong (Err Refusal.NoRecord) e = cc e
+never_wrong a e = grind arith
 
 -- the locked value never returns `HistoryFull`
 pub never_full : {A : Type 0} (a : Result A LockedFault) → shared_result a ≡ Err Fault.HistoryFull → ⊥
-never_full (Ok x) e = cc e
-never_full (Err (Refusal.Core fault)) e = cc e
-never_full (Err (Refusal.Flush fault)) e = cc e
-never_full (Err Refusal.NoRecord) e = cc e
+never_full a e = grind arith
 
 -- a seat that can call is not reported as wrong
 pub not_wrong : {A : Type 0} (a : Result A LockedFault) (item_reply : Result A SharedFault) (r : Result ℕ SharedFault) (first : ℕ) (P : Type 0) → item_reply ≡ shared_result a → r ≡ Ok first → (r ≡ Err Fault.WrongSeat ↔ ¬ P) → (item_reply ≡ Err Fault.WrongSeat ↔ ¬ P)
 not_wrong a item_reply r first P is ok wrong = (λ e. absurd (never_wrong a (sym is ∙ e)), λ no. absurd (let e : ◌≡◌ {A = Result ℕ SharedFault} (Ok first) (Err Fault.WrongSeat) = sym ok ∙ wrong.1 no in cc))
 
 -- for an error, the seat's item reply equals the history's item reply
-heard_refusal : (fault : LockedFault) → seat_fault_reply (shared_fault_of fault) ≡ fault_item_reply fault
-heard_refusal (Refusal.Core fault) = refl
-heard_refusal (Refusal.Flush fault) = refl
-heard_refusal Refusal.NoRecord = refl
-
 -- for a restart's result, the seat's item reply equals the history's item reply
 pub heard_again : {B : Type 0} (a : Result Restarted (LockedRefused B)) → seat_restart_reply (map_refusal shared_refusal a) ≡ restart_item_reply a
-heard_again (Ok restarted) = refl
-heard_again (Err refused) = heard_refusal refused.fault
-
--- no error of the locked value becomes `WrongSeat` or `HistoryFull`
-is_no_refusal : (fault : LockedFault) → ((shared_fault_of fault ≡ Fault.WrongSeat) → ⊥) × ((shared_fault_of fault ≡ Fault.HistoryFull) → ⊥)
-is_no_refusal (Refusal.Core fault) = (λ e. cc e, λ e. cc e)
-is_no_refusal (Refusal.Flush fault) = (λ e. cc e, λ e. cc e)
-is_no_refusal Refusal.NoRecord = (λ e. cc e, λ e. cc e)
-
-some_is : {A : Type 0} (a b : A) → Some a ≡ Some b → a ≡ b
-some_is a b e = cc
+heard_again a = grind arith
 
 pub restarts_never_wrong : {B : Type 0} (a : Result Restarted (LockedRefused B)) → refusal_of (map_refusal shared_refusal a) ≡ Some Fault.WrongSeat → ⊥
-restarts_never_wrong (Ok restarted) e = cc e
-restarts_never_wrong (Err refused) e = (is_no_refusal refused.fault).0 (some_is _ _ e)
+restarts_never_wrong a e = grind arith
 
 pub restarts_never_full : {B : Type 0} (a : Result Restarted (LockedRefused B)) → refusal_of (map_refusal shared_refusal a) ≡ Some Fault.HistoryFull → ⊥
-restarts_never_full (Ok restarted) e = cc e
-restarts_never_full (Err refused) e = (is_no_refusal refused.fault).1 (some_is _ _ e)
+restarts_never_full a e = grind arith
 
 -- a section of the lock implies the seat's public clause
 pub seat_called : (old new : LockedState) (seat seat' : SeatView) (request : Request) (reply : Option Reply) → ItemSection old new seat seat' request reply → SeatCall seat seat' request reply
-seat_called old new seat seat' request None section = section.1
-seat_called old new seat seat' request (Some reply) section = section.1
+seat_called old new seat seat' request reply section = grind (arith, section)
 
 -- `WrongSeat` is returned if and only if the seat does not match
 pub seated_ok : {A : Type 0} (x : A) (P : Type 0) → P → (◌≡◌ {A = Result A SharedFault} (Ok x) (Err Fault.WrongSeat) ↔ ¬ P)
@@ -172,3 +140,6 @@ seated_ok x P seated = (λ e. absurd cc, λ no. absurd (no seated))
 
 pub not_seated : {A : Type 0} (P : Type 0) → ¬ P → (◌≡◌ {A = Result A SharedFault} (Err Fault.WrongSeat) (Err Fault.WrongSeat) ↔ ¬ P)
 not_seated P unseated = (λ e. unseated, λ other. refl)
+
+-- what follows for the calls of a seat
+pub ruleset seat_calls = (called, never_full, not_wrong, restarts_never_wrong, restarts_never_full, seated_ok, not_seated)

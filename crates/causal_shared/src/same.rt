@@ -4,32 +4,8 @@ ghost use Rattle.std.specs.Prelude.{◌≡◌, ◌↔◌, IsTrue};
 use crate::item::Item;
 use causal_name::Det;
 use causal_name::order::{are_same_determinants, are_same_processes};
-use causal_protocol::request::{CoreFault, Delivered, FlushFault, Reply, Request, Restarted};
+use causal_protocol::request::{Reply, Request};
 use causal_trace::entry::Entry;
-
-fn same_fault(a: CoreFault, b: CoreFault) -> bool
-    ensures { IsTrue result ↔ (a ≡ b) }
-{
-    a == b
-}
-
-fn same_delivered(a: &Delivered, b: &Delivered) -> bool
-    ensures { IsTrue result ↔ (a.now ≡ b.now) }
-{
-    a.first == b.first && are_same_determinants(a.det, b.det) && a.sends == b.sends
-}
-
-fn same_restarted(a: &Restarted, b: &Restarted) -> bool
-    ensures { IsTrue result ↔ (a.now ≡ b.now) }
-{
-    a == b
-}
-
-fn same_flush_fault(a: FlushFault, b: FlushFault) -> bool
-    ensures { IsTrue result ↔ (a ≡ b) }
-{
-    same_fault(a.fault, b.fault) && a.done == b.done
-}
 
 fn same_request(a: &Request, b: &Request) -> bool
     ensures { IsTrue result ↔ (a.now ≡ b.now) }
@@ -40,16 +16,7 @@ fn same_request(a: &Request, b: &Request) -> bool
 fn same_reply(a: &Reply, b: &Reply) -> bool
     ensures { IsTrue result ↔ (a.now ≡ b.now) }
 {
-    match (a, b) {
-        (Reply::Delivered(a), Reply::Delivered(b)) => same_delivered(a, b),
-        (Reply::Crashed { first: a }, Reply::Crashed { first: b }) => a == b,
-        (Reply::Restarted(a), Reply::Restarted(b)) => same_restarted(a, b),
-        (Reply::Flushed { count: a }, Reply::Flushed { count: b }) => a == b,
-        (Reply::Forgotten { count: a }, Reply::Forgotten { count: b }) => a == b,
-        (Reply::Refused(a), Reply::Refused(b)) => same_fault(*a, *b),
-        (Reply::FlushRefused(a), Reply::FlushRefused(b)) => same_flush_fault(*a, *b),
-        _ => false,
-    }
+    a == b
 }
 
 /// Returns whether the items are equal.

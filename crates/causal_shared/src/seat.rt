@@ -1,4 +1,6 @@
 //! A caller's seat, with its own list of its calls.
+#![tactic(auto, using(crate::proofs::Seats::seat_calls, crate::proofs::Ascents::pending_ascends))]
+
 ghost use Rattle.std.specs.Prelude.{◌≡◌, ◌↔◌, ◌≤◌, ◌<◌, length, ◌-◌, vec_len};
 ghost use Rattle.std.specs.Prelude.{IfOk, IfErr, OnOk, OnErr, IsTrue, Option, Some, None};
 ghost use Rattle.std.specs.Option.{option_copied};

@@ -1,4 +1,6 @@
 //! The core that several threads share.
+#![tactic(auto, using(crate::proofs::Seats::seat_called, crate::proofs::OkAnswers::holds))]
+
 ghost use Rattle.std.specs.Prelude.{◌≡◌, ◌↔◌, ◌≤◌, ◌<◌, ℕ, length, All, vec_len};
 ghost use Rattle.std.specs.Prelude.{IfOk, IfErr, IsErrAnd, IfNone, OnErr, Ok, Err, Some};
 ghost use Rattle.causal_core.specs.CoreView.{core_run};
@@ -324,6 +326,7 @@ fn finish_fault<S: Stable>(
 }
 
 /// Performs `finish` on the value taken out of the lock.
+#[tactic(auto, using(crate::proofs::Mismatches::finished))]
 pub(crate) fn finish_core<S: Stable>(
     locked: Locked<S>,
     seats: &[Seat],

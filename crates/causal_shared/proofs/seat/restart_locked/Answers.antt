@@ -3,7 +3,7 @@ use Rattle.causal_protocol.specs.declared.request.Request.TheVariants as Request
 use Rattle.causal_shared.specs.Locked.{locked_state, ItemCall}
 use Rattle.causal_shared.specs.Seat.{seat_restart_reply}
 use Rattle.causal_shared.proofs.Answered.{if_err_answered}
-use Rattle.causal_shared.proofs.Seats.{called, heard_again, restarts_never_full, restarts_never_wrong}
+use Rattle.causal_shared.proofs.Seats.{heard_again}
 use Rattle.causal_shared.proofs.seat.restart_locked.Goals as goal
 
 pub returns-clause-section : goal.returns-clause-section
@@ -16,15 +16,6 @@ returns-clause-section g c =
 
 pub returns-clause-spare : goal.returns-clause-spare
 returns-clause-spare g c = grind (arith, if_err_answered)
-
-pub returns-clause-wrong : goal.returns-clause-wrong
-returns-clause-wrong g c = grind (arith, restarts_never_wrong)
-
-pub returns-clause-full : goal.returns-clause-full
-returns-clause-full g c = grind (arith, restarts_never_full)
-
-pub restart-answer-requires : goal.restart-answer-requires
-restart-answer-requires g c = grind (arith, called)
 
 pub returns-clause-no_record : goal.returns-clause-no_record
 returns-clause-no_record g c = λ _. c.in-Ok.ensures.ok.room

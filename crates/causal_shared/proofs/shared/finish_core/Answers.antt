@@ -1,36 +1,14 @@
-use Rattle.std.proofs.Common.{arith, ◌≡◌, ap, ◌∙◌}
-use Rattle.std.specs.Prelude.{Option, Result, Some, Ok, Err}
-use Rattle.causal_shared.specs.declared.fault.FinishFault.{FinishFault}
+use Rattle.std.proofs.Common.{◌∙◌}
 use Rattle.causal_core.specs.CoreView.{core_run}
-use Rattle.causal_protocol.proofs.Lemmas.KeptByType.{invariant_safe, invariant_single}
-use Rattle.causal_shared.proofs.Totals.{total_is}
+use Rattle.causal_protocol.proofs.Lemmas.KeptByType.{invariant_safe}
+use Rattle.causal_shared.proofs.Mismatches.{found}
 use Rattle.causal_shared.proofs.shared.finish_core.Goals as goal
-
-module _ {A : Type 0} where
-  ok_err : (x : A) (fault : FinishFault) → ◌≡◌ {A = Result A FinishFault} (Ok x) (Err fault) → ⊥
-  ok_err x fault e = cc
-
-  -- the same error is returned and found
-  found : (a b : FinishFault) → ◌≡◌ {A = Result A FinishFault} (Err a) (Err b) → ◌≡◌ {A = Option FinishFault} (Some a) (Some b)
-  found a b e = ap Some (let is : a ≡ b = cc e in is)
-
-  told : (a b : FinishFault) → ◌≡◌ {A = Option FinishFault} (Some a) (Some b) → ◌≡◌ {A = Result A FinishFault} (Err a) (Err b)
-  told a b e = ap Err (let is : a ≡ b = cc e in is)
-
-pub returns-in-Some-clause-missing : goal.returns-in-Some-clause-missing
-returns-in-Some-clause-missing g c = grind (arith, found, told)
 
 pub returns-in-Some-clause-mismatch : goal.returns-in-Some-clause-mismatch
 returns-in-Some-clause-mismatch g c = λ n e. c.finish_fault.ensures.mismatch n (c.in-Some.is ∙ found _ _ e)
 
-pub returns-in-Some-clause-opened : goal.returns-in-Some-clause-opened
-returns-in-Some-clause-opened g c = grind (arith, found)
-
 pub returns-in-None-clause-safe : goal.returns-in-None-clause-safe
 returns-in-None-clause-safe g c = invariant_safe (core_run c.into_parts-core.result.0) c.into_parts-core.result.0.invariant_holds
-
-pub returns-in-None-clause-single : goal.returns-in-None-clause-single
-returns-in-None-clause-single g c = grind (arith, invariant_single)
 
 pub returns-in-None-clause-opening : goal.returns-in-None-clause-opening
 returns-in-None-clause-opening g c = rw (c.into_parts-core.ensures.run, c.into_parts-core.ensures.history) c.in-None.ensures.settled.begins
@@ -40,15 +18,3 @@ returns-in-None-clause-seats g c = rw c.into_parts-core.ensures.history c.in-Non
 
 pub returns-in-None-clause-others : goal.returns-in-None-clause-others
 returns-in-None-clause-others g c = rw c.into_parts-core.ensures.history c.in-None.ensures.settled.seated
-
-pub returns-in-None-clause-total : goal.returns-in-None-clause-total
-returns-in-None-clause-total g c = grind (arith, total_is)
-
-pub returns-in-None-clause-missing : goal.returns-in-None-clause-missing
-returns-in-None-clause-missing g c = grind (arith, ok_err)
-
-pub returns-in-None-clause-mismatch : goal.returns-in-None-clause-mismatch
-returns-in-None-clause-mismatch g c = grind (arith, ok_err)
-
-pub returns-in-None-clause-opened : goal.returns-in-None-clause-opened
-returns-in-None-clause-opened g c = grind (arith, ok_err)

@@ -4,16 +4,9 @@ use Rattle.causal_protocol.specs.declared.request.Request.TheVariants as Request
 use Rattle.causal_protocol.specs.Steps.{reply_of_delivery}
 use Rattle.causal_shared.specs.History.{history_item}
 use Rattle.causal_shared.specs.Locked.{locked_state}
-use Rattle.causal_shared.proofs.Histories.{count_below}
 use Rattle.causal_shared.proofs.Shown.{shows_delivery}
 use Rattle.causal_shared.proofs.Answered.{err_answered, is_recorded, keeps_on, ok_answered, tells_delivery}
 use Rattle.causal_shared.proofs.locked.Locked+S.deliver.Goals as goal
-
-pub append_item-requires-clause-call : goal.append_item-requires-clause-call
-append_item-requires-clause-call g c =
-    let locked = c.args.self.now in
-    count_below (core_run locked.core) locked.history.items locked.seats.items c.args.seat c.args.call
-    locked.is_consistent c.requires.0 c.requires.1 c.requires.2
 
 pub invariant_of-self-2-clause-is_consistent : goal.invariant_of-self-2-clause-is_consistent
 invariant_of-self-2-clause-is_consistent g c =

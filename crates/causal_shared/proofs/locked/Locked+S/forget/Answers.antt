@@ -1,17 +1,9 @@
 use Rattle.std.proofs.Common.{rules}
-use Rattle.causal_core.specs.CoreView.{core_run}
 use Rattle.causal_protocol.specs.declared.request.Request.TheVariants as Requests
 use Rattle.causal_protocol.specs.Steps.{reply_of_forget}
 use Rattle.causal_shared.specs.Locked.{locked_state}
-use Rattle.causal_shared.proofs.Histories.{count_below}
 use Rattle.causal_shared.proofs.Answered.{is_recorded, tells_forget}
 use Rattle.causal_shared.proofs.locked.Locked+S.forget.Goals as goal
-
-pub append_item-requires-clause-call : goal.append_item-requires-clause-call
-append_item-requires-clause-call g c =
-    let locked = c.args.self.now in
-    count_below (core_run locked.core) locked.history.items locked.seats.items c.args.seat c.args.call
-    locked.is_consistent c.requires.0 c.requires.1 c.requires.2
 
 pub returns-clause-item : goal.returns-clause-item
 returns-clause-item g c =
