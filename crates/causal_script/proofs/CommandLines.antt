@@ -8,7 +8,7 @@ use Rattle.causal_protocol.specs.declared.request.Request.TheVariants.{Deliver}
 use Rattle.causal_script.specs.Spelling.{command_line, IsRequest}
 use Rattle.causal_script.specs.Faults.{IsCommandLine}
 use Rattle.causal_script.specs.Inside.Reading.{◌>>=◌, split_at_byte, parse_number, parse_process, parse_delivery, parse_process_command, named_request, parse_request}
-use Rattle.causal_script.proofs.Cuts.{IsCut, cut_whole}
+use Rattle.causal_script.proofs.Cuts.{cut_whole}
 use Rattle.causal_script.proofs.Numbers.{parse_number-decimal, decimal-number_of, parse_process-decimal, decimal-process_of, cut_number}
 
 -- if two chained parsing steps return a value, each of them does
@@ -42,19 +42,16 @@ delivered words r e =
     let q = bind_some (parse_process a.0.0) _ r b.2 in
     let source = bind_some (parse_process b.0.0) _ r q.2 in
     let ssn = bind_some (parse_number 4294967295 b.0.1) _ r source.2 in
-    let first : IsCut 32 words a.0 = cut_whole 32 words a.0 a.1 in
-    let second : IsCut 32 a.0.1 b.0 = cut_whole 32 a.0.1 b.0 b.1 in
     let to = decimal-process_of q.0 a.0.0 q.1 in
     let from = decimal-process_of source.0 b.0.0 source.1 in
     let number = decimal-number_of 4294967295 ssn.0 b.0.1 (omega arith) ssn.1 in
-    let rest : a.0.1 ≡ decimal source.0.0 ++ (32 ∷ decimal ssn.0) = second.whole ∙ ap (λ xs. xs ++ 32 ∷ b.0.1) from.0 ∙ ap (λ xs. decimal source.0.0 ++ (32 ∷ xs)) number.0 in
     record {
       q = q.0;
       source = source.0;
       ssn = ssn.0;
       is = sym (same_Some _ _ ssn.2);
       fits = (to.1, from.1, omega (arith, number.1));
-      spelled = first.whole ∙ ap (λ xs. xs ++ 32 ∷ a.0.1) to.0 ∙ ap (λ xs. decimal q.0.0 ++ (32 ∷ xs)) rest;
+      spelled = cc ((cut_whole 32 words a.0 a.1).whole, (cut_whole 32 a.0.1 b.0 b.1).whole, to.0, from.0, number.0);
     }
 
 -- the line spells the request

@@ -1,7 +1,7 @@
 -- Splitting a text at the first occurrence of a byte.
-use Rattle.std.proofs.Common.{◌≡◌, ℕ, zero, suc, ◌+◌, ◌-◌, ◌<◌, List, [], ◌∷◌, ◌++◌, length, take, drop, Bool, true, false, cond, eqb, ltb, Option, Some, None, refl, ap, sym, ◌∙◌, arith, option_map, length-append}
+use Rattle.std.proofs.Common.{◌≡◌, ℕ, suc, ◌+◌, ◌-◌, ◌<◌, List, [], ◌∷◌, ◌++◌, length, take, drop, Bool, true, false, cond, eqb, ltb, Option, Some, None, refl, ap, sym, ◌∙◌, arith, option_map, length-append}
 use Rattle.std.specs.List.{position_or_len}
-use Rattle.std.proofs.Math.Seq.{take-length}
+use Rattle.std.proofs.lemmas.List.{drop-drop, take_rest}
 use Rattle.std.proofs.lemmas.Bool.{eqb-true, eq-eqb, lt-ltb}
 use Rattle.std.proofs.lemmas.Option.{none-some}
 use Rattle.causal_script.specs.Inside.Reading.{split_at_byte}
@@ -25,14 +25,11 @@ pub record IsCut (byte : ℕ) (text : List ℕ) (parts : List ℕ × List ℕ) :
 -- a split returns the front, which does not contain the byte, and the rest
 pub cut_whole : (byte : ℕ) (xs : List ℕ) (parts : List ℕ × List ℕ) → split_at_byte byte xs ≡ Some parts → IsCut byte xs parts
 cut_whole byte [] parts e = absurd (none-some parts e)
-cut_whole byte (x ∷ xs) parts e = by_test (eqb x byte) refl (cut_whole byte xs) e where
-  later : (r : Option (List ℕ × List ℕ)) → eqb x byte ≡ false → ((q : List ℕ × List ℕ) → r ≡ Some q → IsCut byte xs q) → option_map (λ q. (x ∷ q.0, q.1)) r ≡ Some parts → IsCut byte (x ∷ xs) parts
-  later None t ih e = absurd (none-some parts e)
-  later (Some q) t ih e = grind (arith, (ih q refl).whole, (ih q refl).lacks)
-
-  by_test : (b : Bool) → eqb x byte ≡ b → ((q : List ℕ × List ℕ) → split_at_byte byte xs ≡ Some q → IsCut byte xs q) → cond b (Some ([], xs)) (option_map (λ q. (x ∷ q.0, q.1)) (split_at_byte byte xs)) ≡ Some parts → IsCut byte (x ∷ xs) parts
-  by_test true t ih e = grind (arith, eqb-true x byte t)
-  by_test false t ih e = later (split_at_byte byte xs) t ih e
+cut_whole byte (x ∷ xs) parts e = by (eqb x byte) (split_at_byte byte xs) refl (cut_whole byte xs) e where
+  by : (b : Bool) (r : Option (List ℕ × List ℕ)) → eqb x byte ≡ b → ((q : List ℕ × List ℕ) → r ≡ Some q → IsCut byte xs q) → cond b (Some ([], xs)) (option_map (λ q. (x ∷ q.0, q.1)) r) ≡ Some parts → IsCut byte (x ∷ xs) parts
+  by true r t ih e = grind (arith, eqb-true x byte t)
+  by false None t ih e = absurd (none-some parts e)
+  by false (Some q) t ih e = grind (arith, (ih q refl).whole, (ih q refl).lacks)
 
 -- the bytes before this index, and the bytes after it
 abbrev pub parts_at : List ℕ → Option ℕ → Option (List ℕ × List ℕ)
@@ -55,27 +52,14 @@ cut_position byte (x ∷ xs) = by_test (eqb x byte) refl (cut_position byte xs) 
   by_test false t ih =
       rw (t, ih) (shifted (position_or_len (λ b. eqb b byte) xs) (1 + position_or_len (λ b. eqb b byte) xs) (length (x ∷ xs)) (omega arith) (omega arith))
 
--- a text is split at the first index of the byte
-pub cut_at : (byte : ℕ) (xs : List ℕ) (r : Option ℕ) (at : ℕ) → r ≡ place_of byte xs → r ≡ Some at → split_at_byte byte xs ≡ Some (take at xs, drop (suc at) xs)
-cut_at byte xs r at found is = cut_position byte xs ∙ ap (parts_at xs) (sym found ∙ is)
-
--- a text without the byte is not split
-pub cut_nowhere : (byte : ℕ) (xs : List ℕ) (r : Option ℕ) → r ≡ place_of byte xs → r ≡ None → split_at_byte byte xs ≡ None
-cut_nowhere byte xs r found is = cut_position byte xs ∙ ap (parts_at xs) (sym found ∙ is)
-
-drop_more : (xs : List ℕ) (at : ℕ) → drop 1 (drop at xs) ≡ drop (suc at) xs
-drop_more xs zero = refl
-drop_more [] (suc at) = refl
-drop_more (x ∷ xs) (suc at) = drop_more xs at
-
-tail_whole : (ys : List ℕ) → take (length ys - 1) (drop 1 ys) ≡ drop 1 ys
-tail_whole [] = refl
-tail_whole (y ∷ ys) = let less : length (y ∷ ys) - 1 ≡ length ys = omega arith in ap (λ n. take n ys) less ∙ take-length ys
+-- a text is split at the first index of the byte, if it has one
+pub cut_found : (byte : ℕ) (xs : List ℕ) (r s : Option ℕ) → r ≡ place_of byte xs → r ≡ s → split_at_byte byte xs ≡ parts_at xs s
+cut_found byte xs r s found is = cut_position byte xs ∙ ap (parts_at xs) (sym found ∙ is)
 
 -- the rest, as a slice
 pub cut_slices : (byte : ℕ) (xs front back : List ℕ) (at : ℕ) → front ≡ take at xs → back ≡ drop at xs → split_at_byte byte xs ≡ Some (take at xs, drop (suc at) xs)
     → ◌≡◌ {A = Option (List ℕ × List ℕ)} (Some (front, take (length back - 1) (drop 1 back))) (split_at_byte byte xs)
-cut_slices byte xs front back at f b e = grind (arith, tail_whole back, drop_more xs at)
+cut_slices byte xs front back at f b e = grind (arith, take_rest back 1, drop-drop 1 at xs)
 
 -- the part after the byte is shorter than the text
 pub cut_shorter : (byte : ℕ) (xs : List ℕ) (parts : List ℕ × List ℕ) → split_at_byte byte xs ≡ Some parts → length parts.1 < length xs

@@ -3,13 +3,13 @@ use Rattle.std.proofs.Common.{◌≡◌, ◌≢◌, ◌⊎◌, ℕ, ◌<◌, ◌
 use Rattle.std.specs.Prelude.{slice_get, ◌&&◌, nat_le}
 use Rattle.std.specs.Str.{all_ascii_digits}
 use Rattle.std.specs.Str.Parse.{digits_value, ParsesUnsigned}
-use Rattle.std.proofs.lemmas.Bool.{eqb-true, eq-eqb, and_parts}
+use Rattle.std.proofs.lemmas.Bool.{eqb-true, eq-eqb, and_parts, leb-true}
 use Rattle.std.proofs.lemmas.Bool.Decides.{nat_tests}
 use Rattle.std.proofs.lemmas.Str.Parse.{IsNumeralModel, numerals_by_value, tells_all_ascii_digits, parse_plain}
 use Rattle.std.specs.Prelude.{IsUtf8, if◌then◌else◌, OkIff}
 use Rattle.std.proofs.lemmas.Str.{IsUtf8-from_ascii}
 use Rattle.std.proofs.lemmas.Fmt.{IsAscii-decimal, digits_decimal, digits_value-decimal, decimal-digits_value, decimal_nonempty, first_decimal, decimal_digit}
-use Rattle.std.proofs.lemmas.Option.{none-some, same_Some}
+use Rattle.std.proofs.lemmas.Option.{none-some, same_Some, gets, cond_some}
 use Rattle.causal_name.specs.declared.Pid.{Pid}
 use Rattle.causal_script.specs.Inside.Reading.{split_at_byte, is_plain_number, parse_number, parse_process, parse_count}
 use Rattle.causal_script.proofs.Cuts.{Lacks, cut_front}
@@ -42,16 +42,13 @@ parse_number-decimal limit n within small = grind (arith, is_plain_number-from, 
 -- a token that is parsed as a number is its decimal spelling
 pub decimal-number_of : (limit n : ℕ) (word : List ℕ) → limit < 2 ^ 64 → parse_number limit word ≡ Some n → (word ≡ decimal n) × (n ≤ limit)
 unfolding parse_number
-decimal-number_of limit n word small e = by_test (is_plain_number word && leb (digits_value 10 word) limit) refl e where
-  by_test : (b : Bool) → (is_plain_number word && leb (digits_value 10 word) limit) ≡ b → cond b (Some (digits_value 10 word)) None ≡ Some n → (word ≡ decimal n) × (n ≤ limit)
-  by_test true t e =
-      let parts = and_parts (is_plain_number word) (leb (digits_value 10 word) limit) t in
-      let value : digits_value 10 word ≡ n = same_Some _ _ e in
-      let plain = plain_is word parts.0 in
-      let within : digits_value 10 word ≤ limit = let fits : leb (digits_value 10 word) limit ≡ true = parts.1 in grind (arith, nat_tests) in
-      let back : decimal (digits_value 10 word) ≡ word = decimal-digits_value own word plain.digits plain.some plain.lone (omega arith) in
-      (sym back ∙ ap decimal value, omega arith)
-  by_test false t e = absurd (none-some n e)
+decimal-number_of limit n word small e =
+    let test = cond_some (is_plain_number word && leb (digits_value 10 word) limit) (digits_value 10 word) n e in
+    let parts = and_parts (is_plain_number word) (leb (digits_value 10 word) limit) test.0 in
+    let within : digits_value 10 word ≤ limit = leb-true _ _ parts.1 in
+    let plain = plain_is word parts.0 in
+    let back : decimal (digits_value 10 word) ≡ word = decimal-digits_value own word plain.digits plain.some plain.lone (omega arith) in
+    (sym back ∙ ap decimal test.1, omega (arith, test.1))
 
 -- a decimal number contains no space
 pub decimal_lacks : (n : ℕ) → n < 2 ^ 64 → Lacks 32 (decimal n)
@@ -119,8 +116,7 @@ no_text limit word small none = unspelled limit word (λ n e.
 -- ---- the first byte of a token
 
 first_is : (word : List ℕ) (first : ℕ) → Some first ≡ slice_get word 0 → (get_or word 0 0 ≡ first) × (0 < length word)
-first_is [] first e = absurd (none-some first (sym e))
-first_is (x ∷ xs) first e = (let same : first ≡ x = same_Some _ _ e in sym same, omega arith)
+first_is word first e = grind (arith, gets)
 
 lone_from : (x n : ℕ) → ((x ≡ 48) × (n ≤ 1)) ⊎ (x ≢ 48) → x ≡ 48 → n ≤ 1
 lone_from x n h e = grind arith

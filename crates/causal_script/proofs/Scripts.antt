@@ -1,6 +1,6 @@
 -- A text that was parsed to its end.
-use Rattle.std.proofs.Common.{◌≡◌, ℕ, suc, List, [], ◌∷◌, length, map, refl, ap, arith}
-use Rattle.std.proofs.lemmas.List.{append-nil}
+use Rattle.std.proofs.Common.{◌≡◌, ℕ, List, [], ◌∷◌, arith}
+use Rattle.std.proofs.lemmas.List.{append-nil, length-map}
 use Rattle.causal_script.specs.declared.script.Command.{Command}
 use Rattle.causal_script.specs.declared.script.ScriptFaultKind.TheVariants.{Script}
 use Rattle.causal_script.specs.declared.start.Start.{Start}
@@ -10,15 +10,10 @@ use Rattle.causal_script.specs.Faults.{IsFirstScriptFault}
 use Rattle.causal_script.specs.Inside.Place.{AreCommands, AreOnLines}
 use Rattle.causal_script.proofs.Texts.{sound_none, length_lines, whole_within}
 
--- mapping a list does not change its length
-pub length_map : {X Y : Type 0} (f : X → Y) (xs : List X) → length (map f xs) ≡ length xs
-length_map f [] = refl
-length_map f (x ∷ xs) = ap suc (length_map f xs)
-
 -- a text that was parsed to its end spells the parsed start and commands
 pub spelled : (text first rest : List ℕ) (s : Start) (commands : List Command) (line : ℕ) → script_lines text ≡ first ∷ script_lines rest → IsStart s → first ≡ start_line s
     → AreCommands rest commands [] → AreOnLines text commands line [] → SpellsScript text (record { start = s; commands = commands })
-spelled text first rest s commands line split start is read r = grind (arith, append-nil, whole_within, length_map, length_lines)
+spelled text first rest s commands line split start is read r = grind (arith, append-nil, whole_within, length-map, length_lines)
 
 -- the first error of an empty text is its missing first line
 pub empty_fault : (text : List ℕ) → text ≡ [] → IsFirstScriptFault text (record { line = 1; kind = Script })

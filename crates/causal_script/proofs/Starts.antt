@@ -35,12 +35,10 @@ split_last_is true words parts e =
     let b = bind_some (split_at_byte 32 a.0.1) _ parts a.2 in
     let seed = bind_some (parse_number 4294967295 b.0.0) _ parts b.2 in
     let steps = bind_some (parse_number 1000 b.0.1) _ parts seed.2 in
-    let first : IsCut 32 words a.0 = cut_whole 32 words a.0 a.1 in
-    let second : IsCut 32 a.0.1 b.0 = cut_whole 32 a.0.1 b.0 b.1 in
     let from = decimal-number_of 4294967295 seed.0 b.0.0 (omega arith) seed.1 in
     let most = decimal-number_of 1000 steps.0 b.0.1 (omega arith) steps.1 in
-    let rest : a.0.1 ≡ decimal seed.0 ++ (32 ∷ decimal steps.0) = second.whole ∙ ap (λ xs. xs ++ 32 ∷ b.0.1) from.0 ∙ ap (λ xs. decimal seed.0 ++ (32 ∷ xs)) most.0 in
-    subst (IsSplit true words) (same_Some _ _ steps.2) (record { whole = first.whole ∙ ap (λ xs. a.0.0 ++ (32 ∷ xs)) rest; fits = (omega (arith, from.1), most.1); word = refl })
+    let whole : words ≡ a.0.0 ++ (32 ∷ (decimal seed.0 ++ (32 ∷ decimal steps.0))) = cc ((cut_whole 32 words a.0 a.1).whole, (cut_whole 32 a.0.1 b.0 b.1).whole, from.0, most.0) in
+    subst (IsSplit true words) (same_Some _ _ steps.2) (record { whole = whole; fits = (omega (arith, from.1), most.1); word = refl })
 
 -- the numbers after the kind
 record IsNumbers (explores : Bool) (kind : Kind) (words : List ℕ) (s : Start) : Type 0 where
@@ -91,26 +89,24 @@ with_param_is explores kind words s e =
     let b = bind_some (split_at_byte 32 a.0.1) _ s a.2 in
     let c = bind_some (split_last explores b.0.1) _ s b.2 in
     let param = bind_some (parse_number 255 c.0.0) _ s c.2 in
-    let first : IsCut 32 words a.0 = cut_whole 32 words a.0 a.1 in
-    let second : IsCut 32 a.0.1 b.0 = cut_whole 32 a.0.1 b.0 b.1 in
     let split = split_last_is explores b.0.1 c.0 c.1 in
     let number = decimal-number_of 255 param.0 c.0.0 (omega arith) param.1 in
     let w = numbered_is explores kind words a.0.0 b.0.0 param.0 c.0.1 s (omega (arith, number.1)) split.fits split.word param.2 in
+    let first = (cut_whole 32 words a.0 a.1).whole in
     let last : b.0.1 ≡ decimal w.0.param ++ exploration_numbers w.0.exploration =
     split.whole ∙ ap (λ xs. xs ++ exploration_numbers c.0.1) (number.0 ∙ ap decimal (sym w.3)) ∙ ap (λ e. decimal w.0.param ++ exploration_numbers e) (sym w.4) in
-    let rest : a.0.1 ≡ decimal w.0.f ++ (32 ∷ (decimal w.0.param ++ exploration_numbers w.0.exploration)) = second.whole ∙ ap (λ xs. xs ++ 32 ∷ b.0.1) w.2 ∙ ap (λ xs. decimal w.0.f ++ (32 ∷ xs)) last in
-    (w.0, first.whole ∙ ap (λ xs. xs ++ 32 ∷ a.0.1) w.1 ∙ ap (λ xs. decimal w.0.n ++ (32 ∷ xs)) rest)
+    let rest : a.0.1 ≡ decimal w.0.f ++ (32 ∷ (decimal w.0.param ++ exploration_numbers w.0.exploration)) =
+    (cut_whole 32 a.0.1 b.0 b.1).whole ∙ ap (λ xs. xs ++ 32 ∷ b.0.1) w.2 ∙ ap (λ xs. decimal w.0.f ++ (32 ∷ xs)) last in
+    (w.0, first ∙ ap (λ xs. xs ++ 32 ∷ a.0.1) w.1 ∙ ap (λ xs. decimal w.0.n ++ (32 ∷ xs)) rest)
 
 tally_is : (explores : Bool) (words : List ℕ) (s : Start) → tally_of explores words ≡ Some s → (w : IsNumbers explores Tally words s) × (w.param ≡ 0) × (words ≡ decimal w.n ++ (32 ∷ (decimal w.f ++ exploration_numbers w.exploration)))
 unfolding tally_of
 tally_is explores words s e =
     let a = bind_some (split_at_byte 32 words) _ s e in
     let c = bind_some (split_last explores a.0.1) _ s a.2 in
-    let first : IsCut 32 words a.0 = cut_whole 32 words a.0 a.1 in
     let split = split_last_is explores a.0.1 c.0 c.1 in
     let w = numbered_is explores Tally words a.0.0 c.0.0 0 c.0.1 s (omega arith) split.fits split.word c.2 in
-    let last : a.0.1 ≡ decimal w.0.f ++ exploration_numbers w.0.exploration = split.whole ∙ ap (λ xs. xs ++ exploration_numbers c.0.1) w.2 ∙ ap (λ e. decimal w.0.f ++ exploration_numbers e) (sym w.4) in
-    (w.0, w.3, first.whole ∙ ap (λ xs. xs ++ 32 ∷ a.0.1) w.1 ∙ ap (λ xs. decimal w.0.n ++ (32 ∷ xs)) last)
+    (w.0, w.3, cc ((cut_whole 32 words a.0 a.1).whole, split.whole, w.1, w.2, w.4))
 
 -- the line spells the start
 abbrev pub SaysStart : List ℕ → Start → Type 0
@@ -169,12 +165,9 @@ tally_back n f e some few faults fits =
 start_back_of : (kind : Kind) (n f param : ℕ) (e : Option Exploration) → IsStart (record { kind = kind; n = n; f = f; param = param; exploration = e })
     → start_of (start_line (record { kind = kind; n = n; f = f; param = param; exploration = e })) ≡ Some (record { kind = kind; n = n; f = f; param = param; exploration = e })
 unfolding start_of named_start start_of_kind
-start_back_of Ring n f param None h = with_param_back Ring n f param None h.some h.few h.faults h.param h.explored
-start_back_of Ring n f param (Some e) h = with_param_back Ring n f param (Some e) h.some h.few h.faults h.param h.explored
-start_back_of Echo n f param None h = with_param_back Echo n f param None h.some h.few h.faults h.param h.explored
-start_back_of Echo n f param (Some e) h = with_param_back Echo n f param (Some e) h.some h.few h.faults h.param h.explored
-start_back_of Tally n f param None h = rw (h.tally refl) (tally_back n f None h.some h.few h.faults h.explored)
-start_back_of Tally n f param (Some e) h = rw (h.tally refl) (tally_back n f (Some e) h.some h.few h.faults h.explored)
+start_back_of Ring n f param e h = grind (arith, with_param_back Ring n f param e)
+start_back_of Echo n f param e h = grind (arith, with_param_back Echo n f param e)
+start_back_of Tally n f param e h = grind (arith, tally_back n f e)
 
 -- the line of a start is parsed as that start
 pub start_back : (s : Start) → IsStart s → start_of (start_line s) ≡ Some s

@@ -6,7 +6,8 @@ use Rattle.std.proofs.Math.Seq.{take-length}
 use Rattle.std.proofs.lemmas.List.Sums.{sum_by-cons}
 use Rattle.std.proofs.lemmas.Bool.{eqb-true, eq-eqb, cases_lt}
 use Rattle.std.proofs.lemmas.Option.{none-some, slice_get_within}
-use Rattle.std.proofs.lemmas.List.{map-append, append_assoc}
+use Rattle.std.proofs.lemmas.List.{map-append, map-id, append_assoc, length-drop, length_push, drop_all}
+use Rattle.std.proofs.lemmas.List.FromFn.{map-range_with_len_more}
 use Rattle.causal_script.specs.declared.script.Command.{Command}
 use Rattle.causal_script.specs.declared.script.ScriptFault.{ScriptFault}
 use Rattle.causal_script.specs.declared.script.ScriptFaultKind.{ScriptFaultKind}
@@ -19,24 +20,14 @@ use Rattle.causal_script.specs.Inside.Place.{IsBigLine, is_line, line_or_fault, 
 
 -- ---- the first line and the rest
 
--- dropping all lines leaves none
-pub drop_all : {X : Type 0} (count : ℕ) (ls : List X) → length ls ≤ count → drop count ls ≡ []
-drop_all zero [] h = refl
-drop_all (suc count) [] h = refl
-drop_all zero (k ∷ ls) h = absurd (omega arith)
-drop_all (suc count) (k ∷ ls) h = drop_all count ls (omega arith)
-
 -- the bytes before the first line feed are the first line; the rest has the other lines
 pub lines_cut : (xs : List ℕ) (parts : List ℕ × List ℕ) → split_at_byte 10 xs ≡ Some parts → script_lines xs ≡ parts.0 ∷ script_lines parts.1
 lines_cut [] parts e = absurd (none-some parts e)
 lines_cut (x ∷ xs) parts e = grind (arith, lines_cut xs)
 
-no_feed : (x : ℕ) (xs : List ℕ) → split_at_byte 10 (x ∷ xs) ≡ None → (eqb x 10 ≡ false) × (split_at_byte 10 xs ≡ None)
-no_feed x xs e = grind arith
-
 lines_uncut : (x : ℕ) (xs : List ℕ) → split_at_byte 10 (x ∷ xs) ≡ None → script_lines (x ∷ xs) ≡ (x ∷ xs) ∷ []
-lines_uncut x [] e = let h = no_feed x [] e in rw h.0 refl
-lines_uncut x (y ∷ ys) e = let h = no_feed x (y ∷ ys) e in rw (h.0, lines_uncut y ys h.1) refl
+lines_uncut x [] e = grind arith
+lines_uncut x (y ∷ ys) e = grind (arith, lines_uncut y ys)
 
 -- a text without a line feed is one line
 pub lines_last : (xs front back : List ℕ) → 0 < length xs → None ≡ split_at_byte 10 xs → front ≡ take (length xs) xs → back ≡ drop (length xs) xs → script_lines xs ≡ front ∷ script_lines back
@@ -76,15 +67,12 @@ line_here (suc count) (k ∷ ls) l rest e = line_here count ls l rest e
 
 -- if no lines remain, the text has at most as many lines as were read
 pub line_past : {X : Type 0} (count : ℕ) (ls : List X) → drop count ls ≡ [] → length ls ≤ count
-line_past zero [] e = omega arith
-line_past (suc count) [] e = omega arith
-line_past zero (k ∷ ls) e = absurd (let no : k ∷ ls ≡ [] = e in cc)
-line_past (suc count) (k ∷ ls) e = let h : length ls ≤ count = line_past count ls e in omega arith
+line_past count ls e = omega (arith, length-drop count ls, ap length e)
 
 -- only an empty text has no lines
 pub no_lines : (xs : List ℕ) → script_lines xs ≡ [] → xs ≡ []
 no_lines [] e = refl
-no_lines (x ∷ xs) e = absurd (let some : count_line_feeds (take 0 (x ∷ xs)) < length (script_lines (x ∷ xs)) = feeds_below 0 (x ∷ xs) (omega arith) in let none : length (script_lines (x ∷ xs)) ≡ 0 = ap length e in omega arith)
+no_lines (x ∷ xs) e = absurd (omega (arith, feeds_below 0 (x ∷ xs), ap length e))
 
 -- ---- errors of a line
 
@@ -113,15 +101,15 @@ sound_none text before kind below bad = omega arith
 
 -- one more line that is in place and within the limit adds no error
 pub sound_more : (text : List ℕ) (count next : ℕ) → next ≡ count + 1 → AreSound text count → (IsFaultAfterLines text count Big → ⊥) → IsInPlace count (slice_get (script_lines text) count) → AreSound text next
-sound_more text count next is sound small place before kind below bad = by_place (cases_lt before count) where
-  here : (k : ScriptFaultKind) → IsFaultAfterLines text count k → ⊥
-  here Big b = small b
-  here Script b = b place
-  here NoMemory b = b
-
-  by_place : (before < count) ⊎ (count ≤ before) → ⊥
-  by_place (inl lower) = sound before kind lower bad
-  by_place (inr upper) = let same : before ≡ count = omega arith in here kind (subst (λ (n : ℕ). IsFaultAfterLines text n kind) same bad)
+sound_more text count next is sound small place before kind below bad = elim (cases_lt before count) [
+  | inl lower ↦ sound before kind lower bad
+  | inr upper ↦ let same : before ≡ count = omega arith in here kind (subst (λ (n : ℕ). IsFaultAfterLines text n kind) same bad)
+]
+  where
+    here : (k : ScriptFaultKind) → IsFaultAfterLines text count k → ⊥
+    here Big b = small b
+    here Script b = b place
+    here NoMemory b = b
 
 -- the error of the next line is the first error of the text
 pub first_fault : {A : Type 0} (text l : List ℕ) (before : ℕ) (big : Option ℕ) (said : Option A) (f : ScriptFault)
@@ -148,13 +136,9 @@ after_more text left l after count next big said x is a split bigs e place =
     let here = line_here count (script_lines text) l (script_lines after) (a.rest ∙ split) in
     let ok = judged_ok big (count + 1) said x e in
     let inside : count < length (script_lines text) = slice_get_within (script_lines text) count l here.0 in
-    let stands : IsInPlace count (slice_get (script_lines text) count) = subst (λ (o : Option (List ℕ)). IsInPlace count o) (sym here.0) (place ok.1) in
     let step : next ≡ suc count = omega arith in
-    record {
-      rest = ap (λ n. drop n (script_lines text)) step ∙ here.1;
-      within = omega arith;
-      sound = sound_more text count next is a.sound (not_big text big count bigs ok.0) stands;
-    }
+    let sound : AreSound text next = sound_more text count next is a.sound (not_big text big count bigs ok.0) (rw here.0 (place ok.1)) in
+    record { rest = ap (λ n. drop n (script_lines text)) step ∙ here.1; within = omega arith; sound = sound }
 
 -- the number of lines without an error is bounded
 pub count_small : (text left : List ℕ) (count : ℕ) → IsAfter text count left → count ≤ 1048576
@@ -176,17 +160,12 @@ all_push P [] x h p = (p, tt)
 all_push P (y ∷ xs) x h p = (h.0, all_push P xs x h.1 p)
 
 range_more : (a n next : ℕ) → next ≡ a + n → range_with_len a (suc n) ≡ range_with_len a n ++ next ∷ []
-range_more a zero next is = let same : next ≡ a = omega arith in ap (λ x. x ∷ []) (sym same)
-range_more a (suc n) next is = ap (λ xs. a ∷ xs) (range_more (a + 1) n next (omega arith))
+range_more a n next is = grind (arith, map-range_with_len_more (λ x. x) a n next, map-id)
 
 -- one more command line adds its command
 pub commands_more : (rest left l after : List ℕ) (commands : List Command) (c : Command) → AreCommands rest commands left → script_lines left ≡ l ∷ script_lines after
     → l ≡ command_line c.request → IsRequest c.request → AreCommands rest (commands ++ c ∷ []) after
 commands_more rest left l after commands c h split is fits = grind (arith, map-append, append_assoc, all_push)
-
-length_push : {X : Type 0} (xs : List X) (x : X) → length (xs ++ x ∷ []) ≡ suc (length xs)
-length_push [] x = refl
-length_push (y ∷ xs) x = ap suc (length_push xs x)
 
 -- the commands are on the lines up to the line read last
 pub reaches_more : {A : Type 0} (text left l after : List ℕ) (commands : List Command) (line next : ℕ) (big : Option ℕ) (said : Option A) (x : A) (c : Command)
@@ -195,7 +174,7 @@ pub reaches_more : {A : Type 0} (text left l after : List ℕ) (commands : List 
 reaches_more text left l after commands line next big said x c is here r split bigs e command =
     let place : IsCommandLine l → IsInPlace line (Some l) = λ w. subst (λ (n : ℕ). IsInPlace n (Some l)) (let count : line ≡ suc (length commands) = omega (arith, r.count) in sym count) w in
     let more : map (λ (d : Command). d.line) (commands ++ c ∷ []) ≡ map (λ (d : Command). d.line) commands ++ c.line ∷ [] = map-append (λ (d : Command). d.line) commands (c ∷ []) in
-    let longer = length_push commands c in
+    let longer : length (commands ++ c ∷ []) ≡ suc (length commands) = omega (arith, length_push commands c) in
     let number : c.line ≡ 2 + length commands = omega (arith, r.count) in
     record {
       after = after_more text left l after line next big said x is r.after split bigs (subst (λ (n : ℕ). line_or_fault big n said ≡ Ok x) is e) (λ same. place (command same));
