@@ -1,9 +1,8 @@
 -- The items of one seat that issues a list of commands, one after the other.
-use Rattle.std.proofs.Common.{◌≡◌, ◌≢◌, ◌<◌, ◌+◌, ◌∙◌, sym, refl, ap, ℕ, suc, List, [], ◌∷◌, ◌++◌, length, take, drop, get_or, arith, Some, Ok}
+use Rattle.std.proofs.Common.{◌≡◌, ◌≢◌, ◌<◌, ◌+◌, ◌∙◌, sym, refl, ap, ℕ, List, [], ◌∷◌, ◌++◌, length, take, drop, get_or, Some, Ok}
 use Rattle.std.specs.List.{AllZip}
-use Rattle.std.proofs.lemmas.List.{take_more, take-append-drop}
+use Rattle.std.proofs.lemmas.List.{take_more, drop_more, take-append-drop}
 use Rattle.std.proofs.lemmas.List.Sums.{sum_by-drop_more}
-use Rattle.std.proofs.Math.Seq.{drop-cons}
 use Rattle.causal_protocol.specs.declared.request.Reply.{Reply}
 use Rattle.causal_protocol.specs.declared.request.Reply.TheVariants as Replies
 use Rattle.causal_protocol.specs.declared.request.CoreFault.{CoreFault}
@@ -17,9 +16,8 @@ use Rattle.causal_run.specs.Inside.IssuedRequests.{RecordsRequest, ArePerformed,
 
 AllZip-snoc : {A B : Type 0} (R : A → B → Type 0) (xs : List A) (ys : List B) (x : A) (y : B) → AllZip R xs ys → R x y → AllZip R (xs ++ x ∷ []) (ys ++ y ∷ [])
 AllZip-snoc R [] [] x y all r = (r, tt)
-AllZip-snoc R [] (w ∷ ys) x y all r = absurd all
-AllZip-snoc R (z ∷ xs) [] x y all r = absurd all
 AllZip-snoc R (z ∷ xs) (w ∷ ys) x y all r = (all.0, AllZip-snoc R xs ys x y all.1 r)
+AllZip-snoc R _ _ x y all r = absurd all
 
 -- the commands up to and including one
 take-with : (commands : List Command) (i : ℕ) (d command : Command) → i < length commands → get_or commands i d ≡ command → take (i + 1) commands ≡ take i commands ++ command ∷ []
@@ -39,9 +37,7 @@ spares_left commands i d command lt is = sum_by-drop_more (λ (c : Command). spa
 -- the commands are those before one, that one, and the rest
 split-at : (commands : List Command) (i : ℕ) (d command : Command) → i < length commands → get_or commands i d ≡ command → commands ≡ take i commands ++ command ∷ drop (i + 1) commands
 split-at commands i d command lt is =
-    let one : suc i ≡ i + 1 = omega arith in
-    let next : drop i commands ≡ command ∷ drop (i + 1) commands = drop-cons commands i d lt ∙ (ap (λ n. get_or commands i d ∷ drop n commands) one ∙ ap (λ (c : Command). c ∷ drop (i + 1) commands) is) in
-    sym (take-append-drop i commands) ∙ ap (λ (cs : List Command). take i commands ++ cs) next
+    sym (take-append-drop i commands) ∙ ap (λ (cs : List Command). take i commands ++ cs) (drop_more commands i d lt ∙ ap (λ (c : Command). c ∷ drop (i + 1) commands) is)
 
 stopped-at : (commands : List Command) (i : ℕ) (d command : Command) (old new : SeatView) (reply : Reply) (fault : CoreFault) → i < length commands → get_or commands i d ≡ command
     → ArePerformed (take i commands) old.items → IsSeatCall old new command.request reply → fault_in_reply reply ≡ Some fault → fault ≢ Faults.NoMemory → IsRefusedRunAt commands new.items command.line fault
@@ -62,22 +58,12 @@ stopped-at commands i d command old new reply fault lt is done call told known =
 
 stopped_core : (commands : List Command) (i : ℕ) (d command : Command) (old new : SeatView) (reply : Reply) (fault : CoreFault) → i < length commands → get_or commands i d ≡ command
     → ArePerformed (take i commands) old.items → IsSeatCall old new command.request reply → fault_in_reply reply ≡ Some fault → IsRefusedRun commands new.items (refusal_at command.line fault)
-stopped_core commands i d command old new reply Faults.NoProcess lt is done call told = stopped-at commands i d command old new reply _ lt is done call told (λ e. absurd cc)
-stopped_core commands i d command old new reply Faults.Down lt is done call told = stopped-at commands i d command old new reply _ lt is done call told (λ e. absurd cc)
-stopped_core commands i d command old new reply Faults.NotDown lt is done call told = stopped-at commands i d command old new reply _ lt is done call told (λ e. absurd cc)
-stopped_core commands i d command old new reply Faults.OverFaults lt is done call told = stopped-at commands i d command old new reply _ lt is done call told (λ e. absurd cc)
-stopped_core commands i d command old new reply (Faults.MustReplay m) lt is done call told = stopped-at commands i d command old new reply _ lt is done call told (λ e. absurd cc)
-stopped_core commands i d command old new reply Faults.NotAvailable lt is done call told = stopped-at commands i d command old new reply _ lt is done call told (λ e. absurd cc)
-stopped_core commands i d command old new reply Faults.AlreadyDelivered lt is done call told = stopped-at commands i d command old new reply _ lt is done call told (λ e. absurd cc)
-stopped_core commands i d command old new reply Faults.Full lt is done call told = stopped-at commands i d command old new reply _ lt is done call told (λ e. absurd cc)
-stopped_core commands i d command old new reply Faults.StoreFault lt is done call told = stopped-at commands i d command old new reply _ lt is done call told (λ e. absurd cc)
 stopped_core commands i d command old new reply Faults.NoMemory lt is done call told = tt
+stopped_core commands i d command old new reply fault lt is done call told = stopped-at commands i d command old new reply _ lt is done call told (λ e. absurd cc)
 
 -- the next command fails
 pub stopped : (commands : List Command) (i : ℕ) (d command : Command) (old new : SeatView) (fault : SharedFault) → i < length commands → get_or commands i d ≡ command
     → ArePerformed (take i commands) old.items → SeatCall old new command.request (seat_fault_reply fault) → IsRefusedRun commands new.items (run_fault_at command.line fault)
-stopped commands i d command old new Call.WrongSeat lt is done call = tt
-stopped commands i d command old new Call.HistoryFull lt is done call = tt
-stopped commands i d command old new Call.NoRecord lt is done call = tt
 stopped commands i d command old new (Call.Core fault) lt is done call = stopped_core commands i d command old new (Replies.Refused fault) fault lt is done call refl
 stopped commands i d command old new (Call.Flush f) lt is done call = stopped_core commands i d command old new (Replies.FlushRefused f) f.fault lt is done call refl
+stopped commands i d command old new fault lt is done call = tt

@@ -1,6 +1,6 @@
 -- A legal history whose items show that the commands were performed is a run of the commands.
-use Rattle.std.proofs.Common.{◌≡◌, ◌<◌, ◌-◌, ◌∙◌, sym, refl, ap, ap₂, subst, ℕ, zero, suc, true, List, [], ◌∷◌, ◌++◌, length, get_or, slice_set, arith}
-use Rattle.std.specs.Prelude.{◌==◌, All}
+use Rattle.std.proofs.Common.{◌≡◌, ◌<◌, ◌-◌, ◌∙◌, sym, refl, ap, ap₂, subst, ℕ, zero, suc, List, [], ◌∷◌, ◌++◌, length, get_or, slice_set, arith}
+use Rattle.std.specs.Prelude.{All}
 use Rattle.std.proofs.lemmas.Bool.Decides.{nat_tests}
 use Rattle.causal_process.specs.declared.message.Input.{Input}
 use Rattle.causal_process.specs.declared.message.Outgoing.{Outgoing}
@@ -32,20 +32,18 @@ Does-item old new command item done step =
 
 pub performed : (r : Run) (commands : List Command) (items : List Item) → AllLegal r items → ArePerformed commands items → Performs (opening_in r items) commands r
 performed r [] [] legal done = cut-end r
-performed r [] (item ∷ items) legal done = absurd done
-performed r (command ∷ commands) [] legal done = absurd done
 performed r (command ∷ commands) (item ∷ items) legal done =
     (opening_in r items, Does-item (run_at r item.first) (opening_in r items) command item done.0 legal.1, performed r commands items legal.2 done.1)
+performed r _ _ legal done = absurd done
 
 -- the items before the last perform the commands, and the last item is a legal step from there
 pub performed-before : (r : Run) (commands : List Command) (items : List Item) (last : Item) → AllLegal r (items ++ last ∷ []) → ArePerformed commands items
     → Performs (opening_in r (items ++ last ∷ [])) commands (run_at r last.first) × IsCallStep (run_at r last.first) last.request last.reply (run_at r (run_length r))
 performed-before r [] [] last legal done = (refl, legal.1)
-performed-before r [] (item ∷ items) last legal done = absurd done
-performed-before r (command ∷ commands) [] last legal done = absurd done
 performed-before r (command ∷ commands) (item ∷ items) last legal done =
     let rest = performed-before r commands items last legal.2 done.1 in
     ((opening_in r (items ++ last ∷ []), Does-item (run_at r item.first) (opening_in r (items ++ last ∷ [])) command item done.0 legal.1, rest.0), rest.1)
+performed-before r _ _ last legal done = absurd done
 
 faults-cut : (r : Run) (n : ℕ) → (run_at r n).faults ≡ r.faults
 unfolding run_at
@@ -95,9 +93,7 @@ module _ {B : Type 0} (answers : B → List Input → List (List Outgoing)) wher
       → before_items r items ≡ opening_from core.run.recording core.run.faults → AllLegal r items → IsRefusedRun commands items fault
       → ExplainsRunFault (IsStarted answers f boxes) commands fault
   refused-as f boxes commands core r items (Fault.Refused line fault) starts opens legal stopped = refused-at f boxes commands core r items line fault starts opens legal stopped
-  refused-as f boxes commands core r items Fault.Memory starts opens legal stopped = tt
-  refused-as f boxes commands core r items Fault.Lock starts opens legal stopped = tt
-  refused-as f boxes commands core r items (Fault.Finish fault) starts opens legal stopped = tt
+  refused-as f boxes commands core r items fault starts opens legal stopped = tt
 
   -- a run has the bound f with which its core started
   pub faults-as : (f : ℕ) (boxes : List B) (core : CoreState B) (r : Run) (items : List Item) → Starts answers f boxes core
@@ -115,10 +111,8 @@ seat-of s x item (suc k) lt is here = absurd (omega arith)
 all-of : (n : ℕ) (items : List Item) → ((k : ℕ) (d : Item) → k < length items → n ≡ (get_or items k d).seat) → items_of n items ≡ items
 all-of n [] each = refl
 all-of n (item ∷ items) each =
-    let rest = all-of n items (λ k d lt. each (suc k) d (omega arith)) in
     let head : n ≡ item.seat = each 0 item (omega arith) in
-    let same : (item.seat == n) ≡ true = grind (arith, nat_tests) in
-    rw same (ap (λ (is : List Item). item ∷ is) rest)
+    grind (arith, nat_tests, all-of n items (λ k d lt. each (suc k) d (omega arith)))
 
 -- if all items are of one seat, the seat's own list is the history
 pub one-seat : (history : List Item) (seats : List SeatMemory) (s : SeatMemory) → seats ≡ s ∷ [] → All (HasSeatHistory history) seats → AllHaveSeats seats history → s.view.items ≡ history
@@ -129,6 +123,5 @@ one-seat history seats s is agree seated =
 
 -- setting the only element of a list leaves exactly the new element
 pub set-one : {X : Type 0} (xs : List X) (x : X) → length xs ≡ 1 → slice_set xs 0 x ≡ x ∷ []
-set-one [] x is = absurd (omega (arith, is))
 set-one (y ∷ []) x is = refl
-set-one (y ∷ (z ∷ xs)) x is = absurd (omega (arith, is))
+set-one _ x is = absurd (omega (arith, is))

@@ -19,43 +19,25 @@ use Rattle.causal_script.specs.declared.script.Command.{Command}
 use Rattle.causal_run.specs.Runs.{fault_in_reply, IsRefusedWith}
 
 flush_stands : (r : Run) (p : Pid) (fault : CoreFault) → request_fault r (Requests.Flush p) ≡ flush_reason_of fault → fault ≢ Faults.NoMemory → IsRefusedWith r (Requests.Flush p) fault
-flush_stands r p Faults.NoProcess is known = is
-flush_stands r p Faults.Down is known = is
-flush_stands r p Faults.NotDown is known = is
-flush_stands r p Faults.OverFaults is known = is
-flush_stands r p (Faults.MustReplay m) is known = is
-flush_stands r p Faults.NotAvailable is known = is
-flush_stands r p Faults.AlreadyDelivered is known = is
-flush_stands r p Faults.Full is known = is
-flush_stands r p Faults.StoreFault is known = is
 flush_stands r p Faults.NoMemory is known = absurd (known refl)
+flush_stands r p fault is known = is
 
 refused_stands : (r : Run) (request : Request) (fault : CoreFault) (es : List Entry) → LegalStep r request (Replies.Refused fault) es → fault ≢ Faults.NoMemory → IsRefusedWith r request fault
 unfolding LegalStep
-refused_stands r (Requests.Deliver q source ssn) fault es legal known = legal.0 ∙ reason_known fault known
-refused_stands r (Requests.Crash p) fault es legal known = legal.0 ∙ reason_known fault known
-refused_stands r (Requests.Restart p) fault es legal known = legal.0 ∙ reason_known fault known
 refused_stands r (Requests.Flush p) fault es legal known = absurd legal
-refused_stands r (Requests.Forget p) fault es legal known = legal.0 ∙ reason_known fault known
+refused_stands r request fault es legal known = legal.0 ∙ reason_known fault known
 
 stopped_stands : (r : Run) (request : Request) (f : FlushFault) (es : List Entry) → LegalStep r request (Replies.FlushRefused f) es → f.fault ≢ Faults.NoMemory → IsRefusedWith r request f.fault
 unfolding LegalStep
-stopped_stands r (Requests.Deliver q source ssn) f es legal known = absurd legal
-stopped_stands r (Requests.Crash p) f es legal known = absurd legal
-stopped_stands r (Requests.Restart p) f es legal known = absurd legal
 stopped_stands r (Requests.Flush p) f es legal known = flush_stands r p f.fault legal.0 known
-stopped_stands r (Requests.Forget p) f es legal known = absurd legal
+stopped_stands r request f es legal known = absurd legal
 
 told_stands : (r : Run) (request : Request) (reply : Reply) (es : List Entry) (fault : CoreFault) → LegalStep r request reply es → fault_in_reply reply ≡ Some fault → fault ≢ Faults.NoMemory → IsRefusedWith r request fault
-told_stands r request (Replies.Delivered d) es fault legal told known = absurd cc
-told_stands r request (Replies.Crashed first) es fault legal told known = absurd cc
-told_stands r request (Replies.Restarted d) es fault legal told known = absurd cc
-told_stands r request (Replies.Flushed count) es fault legal told known = absurd cc
-told_stands r request (Replies.Forgotten count) es fault legal told known = absurd cc
 told_stands r request (Replies.Refused f) es fault legal told known =
     let same : f ≡ fault = cc in subst (IsRefusedWith r request) same (refused_stands r request f es legal (λ e. known (sym same ∙ e)))
 told_stands r request (Replies.FlushRefused f) es fault legal told known =
     let same : f.fault ≡ fault = cc in subst (IsRefusedWith r request) same (stopped_stands r request f es legal (λ e. known (sym same ∙ e)))
+told_stands r request reply es fault legal told known = absurd cc
 
 -- the fault of an item is true of its command, unless it is out of memory
 pub stands : (r new : Run) (item : Item) (command : Command) (fault : CoreFault) → IsCallStep r item.request item.reply new → item.request ≡ command.request → fault_in_reply item.reply ≡ Some fault → fault ≢ Faults.NoMemory → IsRefusedWith r command.request fault

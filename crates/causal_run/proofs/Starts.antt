@@ -43,10 +43,7 @@ module _ {B C : Type 0} (answers : B → List Input → List (List Outgoing)) (o
   began-as [] [] [] began = tt
   began-as (b ∷ boxes) (sent ∷ sends) (slot ∷ slots) began =
       (λ inputs. ap Some (sym (same b (Begin ∷ inputs))) ∙ began.0 inputs ∙ ap (prepend_answer sent) (slot_same slot inputs), began-as boxes sends slots began.1)
-  began-as [] (sent ∷ sends) slots began = absurd began
-  began-as [] [] (slot ∷ slots) began = absurd began
-  began-as (b ∷ boxes) [] slots began = absurd began
-  began-as (b ∷ boxes) (sent ∷ sends) [] began = absurd began
+  began-as _ _ _ began = absurd began
 
   -- boxes start the runs of other boxes that answer equally
   pub started-as : (f : ℕ) (boxes : List B) (r : Run) → IsStarted answers f boxes r → IsStarted others f (map of boxes) r
@@ -86,6 +83,4 @@ told-as Is Other turn commands (Fault.Refused line fault) is = record {
   performed = is.performed;
   refused = is.refused;
 }
-told-as Is Other turn commands Fault.Memory is = tt
-told-as Is Other turn commands Fault.Lock is = tt
-told-as Is Other turn commands (Fault.Finish fault) is = tt
+told-as Is Other turn commands fault is = tt
