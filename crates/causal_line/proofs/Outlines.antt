@@ -1,34 +1,25 @@
 -- A value that does not fit the outline of a line is a `Form` error.
 use Rattle.std.proofs.Common.{◌≡◌, ◌^◌, true, false, Err, refl}
-use Rattle.std.specs.Prelude.{ℕ, List, [], bytes_eq, codes, Ok}
+use Rattle.std.specs.Prelude.{ℕ, List, [], bytes_eq, codes, Result, Ok}
 use Rattle.serde_json.specs.Data.{Data, array, no_items, item}
 use Rattle.causal_name.specs.declared.Pid.{Pid}
 use Rattle.causal_name.specs.declared.Det.{Det}
 use Rattle.causal_trace.specs.declared.entry.Entry.{Entry}
 use Rattle.causal_trace.specs.declared.entry.Entry.TheVariants.{Restart, Forget}
+use Rattle.causal_line.specs.declared.kind.TextKind.{TextKind}
 use Rattle.causal_line.specs.declared.kind.TextKind.TheVariants.{Form}
+use Rattle.causal_line.specs.declared.parsed_line.ParsedLine.{ParsedLine}
 use Rattle.causal_line.specs.declared.parsed_line.ParsedLine.TheVariants as parsed
 use Rattle.causal_line.specs.Reading.{◌>>=◌}
 use Rattle.causal_line.specs.ParsedLines.{pid_at, u32_at, parse_det, dets_at, is_array_named, parse_header, parse_send, parse_deliver, parse_stable, parse_crash, parse_restart, parse_forget, end_of, parse_value}
 use Rattle.causal_line.specs.Prescan.{levels, value_fits}
 use Rattle.causal_line.proofs.Lemmas.Unfit.{process_or, number_or, last_false, stops, number_bad, pid_bad, det_bad, dets_bad, of_line, fields, either}
 
-crash_bad : (d : Data) → value_fits levels d ≡ false → is_array_named d (codes "crash") 2 ≡ true → parse_crash d ≡ Err Form
-unfolding parse_crash
-crash_bad d h is = of_line 1 (codes "crash") (λ x. parse_crash x ≡ Err Form) d h is (λ a b bad name.
-    let l : Data = array (item a (item b no_items)) in
-    stops (pid_at 1 l) _ (pid_bad 2 1 l b refl (last_false (value_fits 2 b) true refl (fields (codes "crash") a _ refl bad name))))
-
-stable_bad : (d : Data) → value_fits levels d ≡ false → is_array_named d (codes "stable") 2 ≡ true → parse_stable d ≡ Err Form
-unfolding parse_stable
-stable_bad d h is = of_line 1 (codes "stable") (λ x. parse_stable x ≡ Err Form) d h is (λ a b bad name.
-    stops (parse_det b) _ (det_bad 2 b refl (last_false (value_fits 2 b) true refl (fields (codes "stable") a _ refl bad name))))
-
-end_bad : (d : Data) → value_fits levels d ≡ false → is_array_named d (codes "end") 2 ≡ true → end_of d ≡ Err Form
-unfolding end_of
-end_bad d h is = of_line 1 (codes "end") (λ x. end_of x ≡ Err Form) d h is (λ a b bad name.
-    let l : Data = array (item a (item b no_items)) in
-    stops (u32_at 1 l) _ (number_bad (2 ^ 32) 2 1 l b refl (last_false (value_fits 2 b) true refl (fields (codes "end") a _ refl bad name))))
+-- a line of one field after its name, if the parser refuses a field that does not fit
+one_bad : (name : List ℕ) (parse : Data → Result ParsedLine TextKind) (d : Data) → bytes_eq [] name ≡ false → ((a b : Data) → value_fits 2 b ≡ false → parse (array (item a (item b no_items))) ≡ Err Form)
+    → value_fits levels d ≡ false → is_array_named d name 2 ≡ true → parse d ≡ Err Form
+one_bad name parse d none refuses h is =
+    of_line 1 name (λ x. parse x ≡ Err Form) d h is (λ a b bad begun. refuses a b (last_false (value_fits 2 b) true refl (fields name a _ none bad begun)))
 
 header_bad : (d : Data) → value_fits levels d ≡ false → is_array_named d (codes "trace") 3 ≡ true → parse_header d ≡ Err Form
 unfolding parse_header
@@ -61,7 +52,10 @@ deliver_bad d h is = of_line 4 (codes "deliver") (λ x. parse_deliver x ≡ Err 
 
 -- a value that does not fit the outline of a line is a `Form` error
 pub no_shape : (d : Data) → value_fits levels d ≡ false → parse_value d ≡ Err Form
-unfolding parse_value parse_restart parse_forget
+unfolding parse_value parse_stable parse_crash parse_restart parse_forget end_of
 no_shape d h =
-    either _ _ _ (header_bad d h) (either _ _ _ (send_bad d h) (either _ _ _ (deliver_bad d h) (either _ _ _ (stable_bad d h)
-    (either _ _ _ (crash_bad d h) (either _ _ _ (listing_bad (codes "restart") Restart d refl h) (either _ _ _ (listing_bad (codes "forget") Forget d refl h) (either _ _ _ (end_bad d h) refl)))))))
+    either _ _ _ (header_bad d h) (either _ _ _ (send_bad d h) (either _ _ _ (deliver_bad d h)
+    (either _ _ _ (one_bad (codes "stable") parse_stable d refl (λ a b bad. stops (parse_det b) _ (det_bad 2 b refl bad)) h)
+    (either _ _ _ (one_bad (codes "crash") parse_crash d refl (λ a b bad. let l = array (item a (item b no_items)) in stops (pid_at 1 l) _ (pid_bad 2 1 l b refl bad)) h)
+    (either _ _ _ (listing_bad (codes "restart") Restart d refl h) (either _ _ _ (listing_bad (codes "forget") Forget d refl h)
+    (either _ _ _ (one_bad (codes "end") end_of d refl (λ a b bad. let l = array (item a (item b no_items)) in stops (u32_at 1 l) _ (number_bad (2 ^ 32) 2 1 l b refl bad)) h) refl)))))))

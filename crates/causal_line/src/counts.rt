@@ -12,6 +12,7 @@ use causal_trace::entry::Entry;
 use causal_trace::trace::Trace;
 
 /// Returns how many messages the process's present lane has sent. O(entries) time.
+#[tactic(auto, using(crate::proofs::EntryCounts::whole))]
 pub fn sends(trace: &Trace, p: Pid) -> u32
     ensures { result ≡ past.sends trace.now.recording.past p.0 }
 {
@@ -19,6 +20,7 @@ pub fn sends(trace: &Trace, p: Pid) -> u32
 }
 
 /// Returns how many messages the process's present lane has delivered. O(entries) time.
+#[tactic(auto, using(crate::proofs::EntryCounts::whole))]
 pub fn deliveries(trace: &Trace, p: Pid) -> u32
     ensures { result ≡ past.deliveries trace.now.recording.past p.0 }
 {

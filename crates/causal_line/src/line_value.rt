@@ -25,6 +25,7 @@ pub fn without_line_feed(line: &[u8]) -> &[u8]
 ///
 /// # Errors
 /// `Syntax` if they are not a JSON value, `NoMemory` if an allocation failed.
+#[tactic(auto, using(crate::proofs::Lemmas::Values::json_results))]
 pub fn parse_json(alloc: Global, bytes: &[u8]) -> Result<Value, TextKind>
     ensures { ReturnsBy view result (parse_json bytes.now) }
 {

@@ -19,6 +19,7 @@ pub fn split_complete(text: &[u8]) -> Option<(&[u8], &[u8])>
 
 /// Splits off the first line, with its line feed if it has one, and returns it and the rest; None if the text is
 /// empty.
+#[tactic(auto, using(crate::proofs::Lemmas::CompleteLines::lines_complete, crate::proofs::Lemmas::CompleteLines::lines_rest))]
 pub fn split_line(text: &[u8]) -> Option<(&[u8], &[u8])>
     ensures line { IfSome result (λ parts. lines text.now ≡ parts.0.now ∷ lines parts.1.now) }
     ensures whole { IfSome result (λ parts. text.now ≡ parts.0.now ++ parts.1.now) }

@@ -46,6 +46,7 @@ fn is_negative(numeral: &Numeral<'_>) -> bool
 }
 
 /// Checks whether `serde_json` accepts the number: some finite float is near it.
+#[tactic(auto, unfolding(serde_json::specs::Read::number_of))]
 fn is_in_range(text: &str) -> bool
     ensures { result ≡ is_some (number_of text.now) }
 {
@@ -188,6 +189,7 @@ pub fn passes_prescan(alloc: Global, bytes: &[u8]) -> Result<bool, TextKind>
 }
 
 /// Checks whether the bytes are a JSON value that may be a line; if not, its error is `Form`.
+#[tactic(auto, using(crate::proofs::Outlines::no_shape, crate::proofs::Lemmas::DefinedErrors::error_is_defined, crate::proofs::Lemmas::DefinedErrors::defined_or_no_memory))]
 pub(crate) fn prescan_line(alloc: Global, bytes: &[u8]) -> Result<bool, TextKind>
     ensures no { result ≡ Ok false → parsed_line_of bytes.now ≡ Err TextKind.Form }
     ensures err { IfErr result (λ kind. IsFaultOrNoMemory kind kind (parsed_line_of bytes.now)) }

@@ -185,6 +185,7 @@ fn apply_line(
 /// # Errors
 /// The first error of the line in the order of [`TextKind`], or `NoMemory` if an allocation failed; with its context
 /// where there is one.
+#[tactic(auto, using(crate::proofs::Lemmas::Passed::followed))]
 pub fn advance_stage(
     alloc: Global,
     limits: Limits,
@@ -218,6 +219,7 @@ pub fn advance_stage(
 ///
 /// # Errors
 /// Those of [`advance_stage`].
+#[tactic(auto, using(crate::proofs::Lemmas::Passed::too_long))]
 pub fn advance_parsed(
     alloc: Global,
     limits: Limits,

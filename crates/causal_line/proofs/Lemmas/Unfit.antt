@@ -1,8 +1,8 @@
 -- A line whose fields do not fit its outline has the error `Form`, whatever its name.
-use Rattle.std.proofs.Common.{◌≡◌, ◌⊎◌, ℕ, suc, ◌-◌, ◌^◌, ◌<◌, arith, ne_eqb, zero, List, [], Bool, true, false, Option, Some, None, Result, Ok, Err, inl, inr, refl, ap, sym, ◌∙◌, cond}
+use Rattle.std.proofs.Common.{◌≡◌, ◌⊎◌, ℕ, suc, ◌-◌, ◌^◌, arith, ne_eqb, zero, List, [], Bool, true, false, Option, Some, None, Result, Ok, Err, inl, inr, refl, ap, ◌∙◌, cond}
 use Rattle.std.specs.Prelude.{◌&&◌, ◌==◌, bytes_eq, option_and_then, unwrap_or}
-use Rattle.std.proofs.lemmas.Bool.{eqb-true}
-use Rattle.serde_json.specs.Data.{Data, number, string, array, object, Items, no_items, item}
+use Rattle.std.proofs.lemmas.Bool.{and_parts, eqb-true}
+use Rattle.serde_json.specs.Data.{Data, array, Items, no_items, item}
 use Rattle.serde_json.specs.Events.{items_len}
 use Rattle.serde_json.specs.Find.{at, as_str, as_array, as_number, as_u64}
 use Rattle.causal_name.specs.declared.Pid.{Pid}
@@ -23,28 +23,13 @@ pub or_else : {P Q : Type 0} (a b : Bool) → (a && b) ≡ false → (a ≡ fals
 or_else true b h p q = inr (q h)
 or_else false b h p q = inl (p refl)
 
-rest_false : (a b : Bool) → a ≡ true → (a && b) ≡ false → b ≡ false
-rest_false true b t h = h
-rest_false false b t h = absurd (let no : false ≡ true = t in cc)
-
 -- if two conditions do not both hold but the second does, the first does not
 pub last_false : (a b : Bool) → b ≡ true → (a && b) ≡ false → a ≡ false
-last_false a true t h = grind arith
-last_false a false t h = absurd (let no : false ≡ true = t in cc)
+last_false a b t h = grind arith
 
 -- the first two conditions, or the rest
 pub split : (a b rest : Bool) → (a && (b && rest)) ≡ false → ((a && b) ≡ false) ⊎ (rest ≡ false)
-split true true rest h = inr h
-split true false rest h = inl refl
-split false b rest h = inl refl
-
-first_true : (a b : Bool) → (a && b) ≡ true → a ≡ true
-first_true true b h = refl
-first_true false b h = absurd (let no : false ≡ true = h in cc)
-
-second_true : (a b : Bool) → (a && b) ≡ true → b ≡ true
-second_true true b h = h
-second_true false b h = absurd (let no : false ≡ true = h in cc)
+split a b rest h = grind arith
 
 -- ---- sequences of results
 
@@ -63,64 +48,45 @@ chain r f plain (inl e) = stops r f e
 chain r f plain (inr h) = after r f plain h
 
 IsPlainly-after : {A B : Type 0} (r : Result A TextKind) (f : A → Result B TextKind) → IsPlainly r → ((x : A) → IsPlainly (f x)) → IsPlainly (r >>= f)
-IsPlainly-after (Ok x) f p q = q x
-IsPlainly-after (Err e) f p q = λ k h. (let same : e ≡ k = cc in sym same ∙ p e refl)
-
-IsPlainly-ok : {A : Type 0} (x : A) → IsPlainly {A = A} (Ok x)
-IsPlainly-ok x = λ e h. absurd (let no : Ok x ≡ Err e = h in cc)
+IsPlainly-after r f p q e h = grind arith
 
 -- a missing field, a process, a determinant and a list of them fail only with `Form`
 pub IsPlainly-or_form : {A : Type 0} (o : Option A) → IsPlainly (or_form o)
-IsPlainly-or_form (Some x) = IsPlainly-ok x
-IsPlainly-or_form None = λ e h. (let same : Form ≡ e = cc in sym same)
-
-IsPlainly-form : {A : Type 0} → IsPlainly {A = A} (Err Form)
-IsPlainly-form = λ e h. (let same : Form ≡ e = cc in sym same)
+IsPlainly-or_form o e h = grind arith
 
 -- a process fails only with `Form`
 pub IsPlainly-pid : (i : ℕ) (d : Data) → IsPlainly (pid_at i d)
 unfolding pid_at
-IsPlainly-pid i d = IsPlainly-after (u8_at i d) _ (IsPlainly-or_form _) (λ p. IsPlainly-ok _)
+IsPlainly-pid i d e h = grind arith
 
 IsPlainly-cond : {A : Type 0} (b : Bool) (r : Result A TextKind) → IsPlainly r → IsPlainly (cond b r (Err Form))
-IsPlainly-cond true r p = p
-IsPlainly-cond false r p = IsPlainly-form
+IsPlainly-cond b r p e h = grind arith
 
 -- a determinant fails only with `Form`
 pub IsPlainly-det : (d : Data) → IsPlainly (parse_det d)
 unfolding parse_det
-IsPlainly-det d = IsPlainly-cond (array_len d == 4) _ (IsPlainly-after (pid_at 0 d) _ (IsPlainly-pid 0 d) (λ a. IsPlainly-after (u32_at 1 d) _ (IsPlainly-or_form _) (λ b. IsPlainly-after (pid_at 2 d) _ (IsPlainly-pid 2 d) (λ c. IsPlainly-after (u32_at 3 d) _ (IsPlainly-or_form _) (λ e. IsPlainly-ok _)))))
+IsPlainly-det d = IsPlainly-cond (array_len d == 4) _ (IsPlainly-after (pid_at 0 d) _ (IsPlainly-pid 0 d) (λ a. IsPlainly-after (u32_at 1 d) _ (IsPlainly-or_form _) (λ b. IsPlainly-after (pid_at 2 d) _ (IsPlainly-pid 2 d) (λ c. IsPlainly-after (u32_at 3 d) _ (IsPlainly-or_form _) (λ e k h. grind arith)))))
 
 IsPlainly-list : (ds : Items) → IsPlainly (parse_dets ds)
-IsPlainly-list no_items = IsPlainly-ok []
-IsPlainly-list (item d ds) = IsPlainly-after (parse_det d) _ (IsPlainly-det d) (λ det. IsPlainly-after (parse_dets ds) _ (IsPlainly-list ds) (λ dets. IsPlainly-ok _))
+IsPlainly-list no_items e h = grind arith
+IsPlainly-list (item d ds) e h = grind (arith, IsPlainly-det d, IsPlainly-list ds)
 
 -- a list of determinants fails only with `Form`
 pub IsPlainly-dets : (i : ℕ) (d : Data) → IsPlainly (dets_at i d)
 unfolding dets_at
-IsPlainly-dets i d = IsPlainly-after (or_form (option_and_then as_array (at i d))) _ (IsPlainly-or_form _) (λ ds. IsPlainly-list ds)
+IsPlainly-dets i d e h = grind (arith, IsPlainly-list)
 
 -- ---- fields that exist and do not fit
 
 number_none : (limit left : ℕ) (x : Data) → value_fits left x ≡ false → number_below limit x ≡ None
-number_none limit left Data.null h = refl
-number_none limit left (Data.boolean b) h = refl
-number_none limit left (number n) h = absurd (let no : true ≡ false = h in cc)
-number_none limit left (string s) h = refl
-number_none limit left (array ds) h = refl
-number_none limit left (object ms) h = refl
+number_none limit left x h = grind arith
 
 -- a value that does not fit is refused as a number below a limit
 pub number_bad : (limit left i : ℕ) (d x : Data) → at i d ≡ Some x → value_fits left x ≡ false → number_at limit i d ≡ Err Form
 number_bad limit left i d x is h = ap (λ o. or_form (option_and_then (number_below limit) o)) is ∙ ap or_form (number_none limit left x h)
 
 u64_none : (left : ℕ) (x : Data) → value_fits left x ≡ false → option_and_then as_u64 (as_number x) ≡ None
-u64_none left Data.null h = refl
-u64_none left (Data.boolean b) h = refl
-u64_none left (number n) h = absurd (let no : true ≡ false = h in cc)
-u64_none left (string s) h = refl
-u64_none left (array ds) h = refl
-u64_none left (object ms) h = refl
+u64_none left x h = grind arith
 
 -- a value that does not fit is refused as a number
 pub u64_bad : (left i : ℕ) (d x : Data) → at i d ≡ Some x → value_fits left x ≡ false → u64_at i d ≡ Err Form
@@ -139,29 +105,17 @@ process_or i d x more f is h go = chain (pid_at i d) f (IsPlainly-pid i d) (or_e
 pub number_or : {B : Type 0} (i : ℕ) (d x : Data) (more : Bool) (f : ℕ → Result B TextKind) → at i d ≡ Some x → (value_fits 2 x && more) ≡ false → (more ≡ false → (n : ℕ) → f n ≡ Err Form) → (u32_at i d >>= f) ≡ Err Form
 number_or i d x more f is h go = chain (u32_at i d) f (IsPlainly-or_form _) (or_else (value_fits 2 x) more h (number_bad (2 ^ 32) 2 i d x is) go)
 
--- a number greater than k is not equal to k
-far : (n k : ℕ) → k < n → (n == k) ≡ false
-far n k less = ne_eqb n k (λ e. omega (arith, less, e))
-
 -- a determinant, or a list of determinants, with a part that does not fit
 pub det_bad : (left : ℕ) (d : Data) → may_have_items left 4 ≡ true → value_fits left d ≡ false → parse_det d ≡ Err Form
 unfolding parse_det
-det_bad left Data.null m h = refl
-det_bad left (Data.boolean b) m h = refl
-det_bad left (number n) m h = refl
-det_bad left (string s) m h = refl
-det_bad left (object ms) m h = refl
-det_bad left (array no_items) m h = refl
-det_bad left (array (item a no_items)) m h = refl
-det_bad left (array (item a (item b no_items))) m h = refl
-det_bad left (array (item a (item b (item c no_items)))) m h = refl
-det_bad left (array (item a (item b (item c (item e (item x ds)))))) m h = rw (far (suc (suc (suc (suc (suc (items_len ds)))))) 4 (omega arith)) refl
+det_bad left (array (item a (item b (item c (item e (item x ds)))))) m h = rw (ne_eqb (suc (suc (suc (suc (suc (items_len ds)))))) 4 (λ e. omega arith)) refl
 det_bad left (array (item a (item b (item c (item e no_items))))) m h =
     let d : Data = array (item a (item b (item c (item e no_items)))) in
     chain (pid_at 0 d) _ (IsPlainly-pid 0 d) (or_else (value_fits (left - 1) a) _ h (pid_bad (left - 1) 0 d a refl) (λ h2 source.
     chain (u32_at 1 d) _ (IsPlainly-or_form _) (or_else (value_fits (left - 1) b) _ h2 (number_bad (2 ^ 32) (left - 1) 1 d b refl) (λ h3 ssn.
     chain (pid_at 2 d) _ (IsPlainly-pid 2 d) (or_else (value_fits (left - 1) c) _ h3 (pid_bad (left - 1) 2 d c refl) (λ h4 dest.
     stops (u32_at 3 d) _ (number_bad (2 ^ 32) (left - 1) 3 d e refl (last_false (value_fits (left - 1) e) _ m h4))))))))
+det_bad left _ m h = refl
 
 list_bad : (n : ℕ) (ds : Items) → items_fit 2 n ds ≡ false → parse_dets ds ≡ Err Form
 list_bad n no_items h = absurd (let no : true ≡ false = h in cc)
@@ -169,12 +123,8 @@ list_bad n (item d ds) h =
     chain (parse_det d) _ (IsPlainly-det d) (or_else (value_fits 1 d) _ h (det_bad 1 d refl) (λ more det. stops (parse_dets ds) _ (list_bad (count_capped n) ds more)))
 
 field_bad : (x : Data) → value_fits 2 x ≡ false → (or_form (as_array x) >>= parse_dets) ≡ Err Form
-field_bad Data.null h = refl
-field_bad (Data.boolean b) h = refl
-field_bad (number n) h = refl
-field_bad (string s) h = refl
 field_bad (array ds) h = list_bad 0 ds h
-field_bad (object ms) h = refl
+field_bad _ h = refl
 
 -- a value that does not fit is refused as a list of determinants
 pub dets_bad : (i : ℕ) (d x : Data) → at i d ≡ Some x → value_fits 2 x ≡ false → dets_at i d ≡ Err Form
@@ -185,12 +135,7 @@ dets_bad i d x is h = ap (λ o. or_form (option_and_then as_array o) >>= parse_d
 
 -- a value that is a name fits
 named : (name : List ℕ) (x : Data) → bytes_eq [] name ≡ false → bytes_eq (unwrap_or (as_str x) []) name ≡ true → value_fits 2 x ≡ true
-named name Data.null none h = refl
-named name (Data.boolean b) none h = refl
-named name (number n) none h = refl
-named name (string s) none h = refl
-named name (array ds) none h = absurd (let no : false ≡ true = sym none ∙ h in cc)
-named name (object ms) none h = absurd (let no : false ≡ true = sym none ∙ h in cc)
+named name x none h = grind arith
 
 -- the first field of a line is this name
 abbrev pub IsNamed : List ℕ → Data → Type 0
@@ -203,29 +148,20 @@ OfEach (suc n) P = (x : Data) → OfEach n (λ xs. P (item x xs))
 
 of_each : (n : ℕ) (P : Items → Type 0) (xs : Items) → items_len xs ≡ n → OfEach n P → P xs
 of_each zero P no_items e h = h
-of_each zero P (item x xs) e h = absurd (omega (arith, e))
-of_each (suc n) P no_items e h = absurd (omega (arith, e))
 of_each (suc n) P (item x xs) e h = of_each n (λ ys. P (item x ys)) xs (omega (arith, e)) (h x)
-
-no_size : {P : Type 0} (name : List ℕ) (d : Data) (n : ℕ) → (array_len d == suc n) ≡ false → is_array_named d name (suc n) ≡ true → P
-no_size name d n differs is = absurd (let bad : false ≡ true = sym differs ∙ second_true (bytes_eq (unwrap_or (option_and_then as_str (at 0 d)) []) name) (array_len d == suc n) is in cc)
+of_each _ P _ e h = absurd (omega (arith, e))
 
 -- a line with a known name that does not fit is an array of the right length with a field that does not fit
 pub of_line : (n : ℕ) (name : List ℕ) (R : Data → Type 0) (d : Data) → value_fits levels d ≡ false → is_array_named d name (suc n) ≡ true
     → OfEach (suc n) (λ xs. value_fits levels (array xs) ≡ false → IsNamed name (array xs) → R (array xs)) → R d
 of_line n name R (array xs) h is all =
-    of_each (suc n) (λ ys. value_fits levels (array ys) ≡ false → IsNamed name (array ys) → R (array ys)) xs
-    (eqb-true (items_len xs) (suc n) (second_true (bytes_eq (unwrap_or (option_and_then as_str (at 0 (array xs))) []) name) (items_len xs == suc n) is)) all
-    h (first_true (bytes_eq (unwrap_or (option_and_then as_str (at 0 (array xs))) []) name) (items_len xs == suc n) is)
-of_line n name R Data.null h is all = no_size name Data.null n (ne_eqb 0 (suc n) (λ e. omega (arith, e))) is
-of_line n name R (Data.boolean b) h is all = no_size name (Data.boolean b) n (ne_eqb 0 (suc n) (λ e. omega (arith, e))) is
-of_line n name R (number m) h is all = no_size name (number m) n (ne_eqb 0 (suc n) (λ e. omega (arith, e))) is
-of_line n name R (string s) h is all = no_size name (string s) n (ne_eqb 0 (suc n) (λ e. omega (arith, e))) is
-of_line n name R (object ms) h is all = no_size name (object ms) n (ne_eqb 0 (suc n) (λ e. omega (arith, e))) is
+    let p = and_parts _ _ is in
+    of_each (suc n) (λ ys. value_fits levels (array ys) ≡ false → IsNamed name (array ys) → R (array ys)) xs (eqb-true (items_len xs) (suc n) p.1) all h p.0
+of_line n name R _ h is all = absurd (omega (arith, eqb-true 0 (suc n) (and_parts _ _ is).1))
 
 -- the fields after the name
 pub fields : (name : List ℕ) (x : Data) (more : Bool) → bytes_eq [] name ≡ false → (value_fits 2 x && more) ≡ false → bytes_eq (unwrap_or (as_str x) []) name ≡ true → more ≡ false
-fields name x more none h is = rest_false (value_fits 2 x) more (named name x none is) h
+fields name x more none h is = grind (arith, named name x none is)
 
 -- a choice fails with `Form` if both alternatives do
 pub either : {A : Type 0} (b : Bool) (x y : Result A TextKind) → (b ≡ true → x ≡ Err Form) → y ≡ Err Form → cond b x y ≡ Err Form

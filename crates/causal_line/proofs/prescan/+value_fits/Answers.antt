@@ -1,16 +1,16 @@
-use Rattle.std.proofs.Common.{◌≡◌, ◌-◌, ◌∷◌, length, Some, refl, sym, ap, ◌∙◌, arith}
+use Rattle.std.proofs.Common.{◌≡◌, ◌-◌, length, Some, refl, sym, ◌∙◌, arith}
 use Rattle.std.proofs.lemmas.Result.{IfOk-weaker}
-use Rattle.json.specs.Json.{parse_map, read_key, items, members, value}
+use Rattle.json.specs.Json.{read_key, items, value}
 use Rattle.json.specs.Reads.{token_of}
 use Rattle.json.proofs.Grammar.{value_is, value-begin_array, value-begin_object, read_key-shorter}
 use Rattle.serde_json.specs.Data.{array, object, no_members, put}
-use Rattle.serde_json.specs.Read.{of_json, of_items, converted}
+use Rattle.serde_json.specs.Read.{of_items, converted}
 use Rattle.causal_line.specs.Prescan.{items_fit}
-use Rattle.causal_line.proofs.GrammarLoops.{converted-array, converted-object, item_refused, items_over, member_read, member_refused, key_refused, members_over, turn, mapped, unmapped, none_mapped, plain_read, no_value, on_err, on_err_weaker}
+use Rattle.causal_line.proofs.GrammarLoops.{converted-array, converted-object, item_refused, items_over, member_read, member_refused, key_refused, members_over, turn, mapped, unmapped, plain_read, no_value}
 use Rattle.causal_line.proofs.prescan.+value_fits.Goals as goal
 
 pub value_fits-returns-in_err-token-clause-err : goal.value_fits-returns-in_err-token-clause-err
-value_fits-returns-in_err-token-clause-err t c = grind (arith, on_err, value_is)
+value_fits-returns-in_err-token-clause-err t c = grind (arith, value_is)
 
 pub value_fits-returns-then-depth-eq0-clause-err : goal.value_fits-returns-then-depth-eq0-clause-err
 unfolding value
@@ -21,7 +21,7 @@ unfolding value
 value_fits-returns-then-depth-eq0-2-clause-err t c = grind arith
 
 pub value_fits-returns-in_err-skip_members-in-BeginObject-clause-err : goal.value_fits-returns-in_err-skip_members-in-BeginObject-clause-err
-value_fits-returns-in_err-skip_members-in-BeginObject-clause-err t c = grind (arith, value-begin_object, converted-object, on_err)
+value_fits-returns-in_err-skip_members-in-BeginObject-clause-err t c = grind (arith, value-begin_object, converted-object)
 
 pub value_fits-returns-then-is_plain-clause-ok : goal.value_fits-returns-then-is_plain-clause-ok
 value_fits-returns-then-is_plain-clause-ok t c =
@@ -32,23 +32,19 @@ value_fits-returns-else-is_plain-clause-err t c = grind (arith, no_value)
 
 pub value_fits-returns-else-depth-eq0-clause-ok : goal.value_fits-returns-else-depth-eq0-clause-ok
 value_fits-returns-else-depth-eq0-clause-ok t c =
-    let first : c.args.reader.now ≡ token_of c.in_ok-token.token ∷ c.next.new.self = grind arith in
     let all = items (value (c.args.depth - 1)) (length c.next.new.self) c.next.new.self in
-    let opened = ap (converted of_json) (ap (value c.args.depth) (first ∙ ap (λ k. token_of k ∷ c.next.new.self) c.in-BeginArray.is) ∙ value-begin_array c.args.depth c.next.new.self (omega arith)) ∙ converted-array all in
-    IfOk-weaker c.items_fit.result _ _ (λ fit e. let m = mapped (items_fit c.args.left 0) (converted of_items all) fit c.items_fit.new.reader e in (array m.0, opened ∙ ap (parse_map array) m.1, m.2)) c.items_fit.ensures.ok
+    IfOk-weaker c.items_fit.result _ _ (λ fit e. let m = mapped (items_fit c.args.left 0) (converted of_items all) fit c.items_fit.new.reader e in (array m.0, grind (arith, value-begin_array, converted-array, m.1), m.2)) c.items_fit.ensures.ok
 
 pub value_fits-returns-else-depth-eq0-clause-err : goal.value_fits-returns-else-depth-eq0-clause-err
-value_fits-returns-else-depth-eq0-clause-err t c = grind (arith, value-begin_array, converted-array, on_err_weaker)
+value_fits-returns-else-depth-eq0-clause-err t c = grind (arith, value-begin_array, converted-array)
 
 pub value_fits-returns-in_ok-skip_members-in-BeginObject-clause-ok : goal.value_fits-returns-in_ok-skip_members-in-BeginObject-clause-ok
 value_fits-returns-in_ok-skip_members-in-BeginObject-clause-ok t c =
-    let first : c.args.reader.now ≡ token_of c.in_ok-token.token ∷ c.next.new.self = grind arith in
-    let opened = ap (converted of_json) (ap (value c.args.depth) (first ∙ ap (λ k. token_of k ∷ c.next.new.self) c.in-BeginObject.is) ∙ value-begin_object c.args.depth c.next.new.self (omega arith)) ∙ converted-object (members (value (c.args.depth - 1)) (length c.next.new.self) c.next.new.self) in
     let ok = c.in_ok-skip_members-in-BeginObject.ensures.ok in
-    (object ok.0, opened ∙ ap (parse_map object) ok.1, refl)
+    (object ok.0, grind (arith, value-begin_object, converted-object, ok.1), refl)
 
 pub items_fit-returns-in_err-item-clause-err : goal.items_fit-returns-in_err-item-clause-err
-items_fit-returns-in_err-item-clause-err t c = grind (arith, item_refused, on_err, unmapped, none_mapped)
+items_fit-returns-in_err-item-clause-err t c = grind (arith, item_refused, unmapped)
 
 pub items_fit-items-preserved : goal.items_fit-items-preserved
 items_fit-items-preserved t c = grind (arith, turn)
@@ -60,10 +56,10 @@ pub skip_members-members-init : goal.skip_members-members-init
 skip_members-members-init t c = (length c.args.reader.now, omega arith, no_members, refl, omega arith)
 
 pub skip_members-returns-in_err-next_key-clause-err : goal.skip_members-returns-in_err-next_key-clause-err
-skip_members-returns-in_err-next_key-clause-err t c = grind (arith, on_err, key_refused)
+skip_members-returns-in_err-next_key-clause-err t c = grind (arith, key_refused)
 
 pub skip_members-returns-in_err-value_fits-clause-err : goal.skip_members-returns-in_err-value_fits-clause-err
-skip_members-returns-in_err-value_fits-clause-err t c = grind (arith, on_err, member_refused)
+skip_members-returns-in_err-value_fits-clause-err t c = grind (arith, member_refused)
 
 pub skip_members-members-preserved : goal.skip_members-members-preserved
 skip_members-members-preserved t c =
