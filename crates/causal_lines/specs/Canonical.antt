@@ -1,5 +1,5 @@
 -- The canonical text of a recording: tokens without spaces, a line feed after each line.
-use Rattle.std.specs.Prelude.{ℕ, ◌&&◌, nat_le, if◌then◌else◌, List, [], ◌∷◌, ◌++◌, codes, decimal, flat_map}
+use Rattle.std.specs.Prelude.{ℕ, ◌&&◌, nat_le, if◌then◌else◌, List, ◌++◌, codes, decimal, flat_map}
 use Rattle.std.specs.List.{list_all}
 use Rattle.causal_spelling.specs.Spelling.{det_text, dets_text}
 use Rattle.causal_trace.specs.declared.entry.Entry.{Entry}
