@@ -1,5 +1,6 @@
 -- The recordings of a text's prefixes, and the state after its first bytes.
 use Rattle.std.proofs.Common.{◌≡◌, ◌<◌, ◌++◌, ◌∙◌, ◌⊎◌, inl, inr, refl, sym, ap, subst, arith, ℕ, List, [], ◌∷◌, true, false, length, length-append, Ok, Err, append_assoc, append-nil}
+use Rattle.std.proofs.lemmas.Option.{IfSome_then}
 use Rattle.std.specs.Prelude.{Option, Some, None, IfSome, IfNone}
 use Rattle.causal_trace.specs.Rows.{Recording}
 use Rattle.causal_line.specs.declared.kind.TextFault.{TextFault}
@@ -15,7 +16,7 @@ use Rattle.causal_line.specs.Refusals.{IsWithinText}
 use Rattle.causal_text.specs.Inside.LineByLine.{after_lines}
 use Rattle.causal_text.specs.Inside.PartialLines.{IsLimitFault}
 use Rattle.causal_text.proofs.Complete.{after_lines-append, after_lines-place, Leads-reached}
-use Rattle.causal_text.proofs.Feeds.{lines_joined, StandsFor-hold}
+use Rattle.causal_text.proofs.Feeds.{grown, joined-append, lines_held, lines_joined, StandsFor-hold}
 use Rattle.causal_line.proofs.Lemmas.CompleteLines.{lines_complete, lines_rest, lines_grown, IsComplete-append}
 
 -- ---- two ways to split the same lines
@@ -29,10 +30,6 @@ nested : (xs ys us vs : List (List ℕ)) → xs ++ us ≡ ys ++ vs → Nested xs
 nested [] ys us vs e = inl (ys, refl, e)
 nested (x ∷ xs) [] us vs e = inr (x, xs, refl, sym e)
 nested (x ∷ xs) (y ∷ ys) us vs e = grind (arith, nested xs ys us vs cc)
-
-joined-append : (xs ys : List (List ℕ)) → concat_lines (xs ++ ys) ≡ concat_lines xs ++ concat_lines ys
-joined-append [] ys = refl
-joined-append (x ∷ xs) ys = ap (λ zs. x ++ zs) (joined-append xs ys) ∙ sym (append_assoc x (concat_lines xs) (concat_lines ys))
 
 complete_in : (xs : List (List ℕ)) (z : List ℕ) (zs : List (List ℕ)) → AreComplete (xs ++ z ∷ zs) → IsComplete z
 complete_in [] z zs h = h.0
@@ -50,12 +47,13 @@ Beyond most h b bytes more r s c =
     (z : List ℕ) × (zs : List (List ℕ)) × (us : List (List ℕ)) × (c.complete ≡ s.complete ++ z ∷ zs) × (lines (h.rest ++ more) ≡ z ∷ zs ++ us)
 
 either : (most : ℕ) (h : PieceState) (b more : List ℕ) (r : Recording) (s : RepresentsBytes most h b) (x : HasPrefixSpelling most (b ++ more) r) → HasPrefixSpelling most b r ⊎ Beyond most h b x.0 more r s x.3
-either most h b more r s (bytes, tail, split, c) = let mine : lines (b ++ more) ≡ s.complete ++ lines (h.rest ++ more) = grind (arith, append_assoc, lines_joined) in
-    let theirs : lines (bytes ++ tail) ≡ c.complete ++ lines (c.rest ++ tail) = grind (arith, append_assoc, lines_joined) in
-    told (nested c.complete s.complete (lines (c.rest ++ tail)) (lines (h.rest ++ more)) (sym theirs ∙ ap lines (sym split) ∙ mine)) where
-      told : Nested c.complete s.complete (lines (c.rest ++ tail)) (lines (h.rest ++ more)) → HasPrefixSpelling most b r ⊎ Beyond most h b bytes more r s c
-      told (inl p) = inl (within most h b bytes r s c p.0 p.1)
-      told (inr p) = inr (p.0, p.1, lines (c.rest ++ tail), p.2, p.3)
+either most h b more r s (bytes, tail, split, c) =
+    let mine = lines_held s.complete b h.rest more s.whole s.each in
+    let theirs = lines_held c.complete bytes c.rest tail c.whole c.each in
+    elim (nested c.complete s.complete (lines (c.rest ++ tail)) (lines (h.rest ++ more)) (sym theirs ∙ ap lines (sym split) ∙ mine)) [
+      | inl p ↦ inl (within most h b bytes r s c p.0 p.1)
+      | inr p ↦ inr (p.0, p.1, lines (c.rest ++ tail), p.2, p.3)
+    ]
 
 -- ---- the next bytes are a part of a line
 
@@ -63,38 +61,25 @@ feed_in : (xs : List ℕ) → no_feed (xs ++ 10 ∷ []) ≡ true → ⊥
 feed_in [] h = let bad : false ≡ true = h in cc
 feed_in (x ∷ xs) h = grind (arith, feed_in xs)
 
-not_complete : (xs : List ℕ) → no_feed xs ≡ true → IsComplete xs → ⊥
-not_complete xs none c = feed_in c.0 (subst (λ ys. no_feed ys ≡ true) c.2 none)
-
 -- a partial line has no complete line
 none_there : (xs z : List ℕ) (zs : List (List ℕ)) → no_feed xs ≡ true → IsComplete z → lines xs ≡ z ∷ zs → ⊥
 none_there [] z zs none complete is = let bad : [] ≡ z ∷ zs = is in cc
-none_there (y ∷ ys) z zs none complete is =
-    let same : (y ∷ ys) ∷ [] ≡ z ∷ zs = sym (lines_rest (y ∷ ys) none (omega arith)) ∙ is in
-    let one : y ∷ ys ≡ z = cc in
-    not_complete z (subst (λ xs. no_feed xs ≡ true) one none) complete
+none_there (y ∷ ys) z zs none complete is = grind (arith, lines_rest (y ∷ ys) none, feed_in complete.0)
+
+ends_there : (xs ys zs us : List (List ℕ)) (rest : List ℕ) → no_feed rest ≡ true → AreComplete xs → xs ≡ ys ++ zs → lines rest ≡ zs ++ us → xs ≡ ys
+ends_there xs ys [] us rest none each is there = is ∙ append-nil ys
+ends_there xs ys (z ∷ zs) us rest none each is there = absurd (none_there rest z (zs ++ us) none (complete_in ys z zs (rw is at each)) there)
 
 -- the complete lines of the bytes lead to the reader's stage alone
 pub reached : (most : ℕ) (h : PieceState) (b : List ℕ) (s : RepresentsBytes most h b) (complete : List (List ℕ)) (left : List ℕ) (stage : Stage)
     → b ≡ concat_lines complete ++ left → AreComplete complete → no_feed left ≡ true → LeadsTo most complete stage → h.place.stage ≡ stage
-reached most h b s complete left stage whole each unfinished reaches = told (nested complete s.complete (lines left) (lines h.rest) (sym (split complete left each whole) ∙ split s.complete h.rest s.each s.whole)) where
-  split : (ls : List (List ℕ)) (rest : List ℕ) → AreComplete ls → b ≡ concat_lines ls ++ rest → lines b ≡ ls ++ lines rest
-  split ls rest each whole = ap lines whole ∙ lines_joined ls rest each
-
-  led : complete ≡ s.complete → h.place.stage ≡ stage
-  led same =
-      let there = Leads-reached most complete stage reaches in
-      let one : Ok h.place ≡ Ok there.0 = sym (after_lines-place most s.complete h.place s.place_is) ∙ ap (after_lines most start_position) (sym same) ∙ there.1 in
-      let place : h.place ≡ there.0 = cc in
-      ap (λ (p : ReadPosition). p.stage) place ∙ there.2
-
-  all : (zs : List (List ℕ)) → s.complete ≡ complete ++ zs → lines left ≡ zs ++ lines h.rest → complete ≡ s.complete
-  all [] is rest = sym (is ∙ append-nil complete)
-  all (z ∷ zs) is rest = absurd (none_there left z (zs ++ lines h.rest) unfinished (complete_in complete z zs (subst AreComplete is s.each)) rest)
-
-  told : Nested complete s.complete (lines left) (lines h.rest) → h.place.stage ≡ stage
-  told (inl p) = led (all p.0 p.1 p.2)
-  told (inr p) = absurd (none_there h.rest p.0 (p.1 ++ lines left) s.unfinished (complete_in s.complete p.0 p.1 (subst AreComplete p.2 each)) p.3)
+reached most h b s complete left stage whole each unfinished reaches =
+    let same : complete ++ lines left ≡ s.complete ++ lines h.rest = sym (lines_joined complete left each) ∙ ap lines (sym whole ∙ s.whole) ∙ lines_joined s.complete h.rest s.each in
+    let all : complete ≡ s.complete = elim (nested complete s.complete (lines left) (lines h.rest) same) [
+      | inl p ↦ sym (ends_there s.complete complete p.0 (lines h.rest) left unfinished s.each p.1 p.2)
+      | inr p ↦ ends_there complete s.complete (p.0 ∷ p.1) (lines left) h.rest s.unfinished each p.2 p.3
+    ] in
+    grind (arith, Leads-reached most complete stage reaches, after_lines-place most s.complete h.place s.place_is)
 
 -- the complete lines of the bytes spell the recording to which they led
 pub says_stage : (most : ℕ) (h : PieceState) (b : List ℕ) (r : Recording) (s : RepresentsBytes most h b) (c : SpellsSoFar most b r) → h.place.stage ≡ Within c.version r
@@ -107,17 +92,15 @@ still_begins most h b part r s part_none x =
 
 -- ---- the next bytes are the rest of a line
 
+only : (z : List ℕ) (zs us : List (List ℕ)) (l : List ℕ) → l ∷ [] ≡ z ∷ zs ++ us → z ∷ zs ≡ l ∷ []
+only z [] us l e = let same : l ≡ z = cc in rw same refl
+only z (y ∷ ys) us l e = absurd (let bad : [] ≡ y ∷ ys ++ us = cc in cc)
+
 -- only the last line spells anything new
 pub newly_begins : (most : ℕ) (h : PieceState) (b line : List ℕ) (r : Recording) → RepresentsBytes most h b → IsComplete line → HasPrefixSpelling most (b ++ line) r → HasPrefixSpelling most b r ⊎ SpellsSoFar most (b ++ line) r
-newly_begins most h b line r s complete x = told (either most h b line r s x) where
-  only : (z : List ℕ) (zs us : List (List ℕ)) (l : List ℕ) → l ∷ [] ≡ z ∷ zs ++ us → z ∷ zs ≡ l ∷ []
-  only z [] us l e = let same : l ≡ z = cc in rw same refl
-  only z (y ∷ ys) us l e = absurd (let bad : [] ≡ y ∷ ys ++ us = cc in cc)
-
-  told : HasPrefixSpelling most b r ⊎ Beyond most h b x.0 line r s x.3 → HasPrefixSpelling most b r ⊎ SpellsSoFar most (b ++ line) r
-  told (inl y) = inl y
-  told (inr y) =
-      let l = h.rest ++ line in
+newly_begins most h b line r s complete x = elim (either most h b line r s x) [
+  | inl y ↦ inl y
+  | inr y ↦ (let l = h.rest ++ line in
       let alone : lines l ≡ l ∷ [] = ap lines (sym (append-nil l)) ∙ lines_complete l [] (IsComplete-append h.rest line s.unfinished complete) in
       let all : x.3.complete ≡ s.complete ++ l ∷ [] = y.3 ∙ ap (λ ls. s.complete ++ ls) (only y.0 y.1 y.2 l (sym alone ∙ y.4)) in
       inr (record {
@@ -128,7 +111,8 @@ newly_begins most h b line r s complete x = told (either most h b line r s x) wh
         each = x.3.each;
         unfinished = refl;
         reaches = x.3.reaches;
-      })
+      }))
+]
 
 -- ---- the next bytes have an error
 
@@ -143,35 +127,23 @@ faulty most h b z zs c f stage s bad is reaches =
 
 -- the text's prefixes spell no recording that those of the bytes before did not, whatever follows
 no_more : (most : ℕ) (h : PieceState) (b tail l : List ℕ) (ls : List (List ℕ)) (r : Recording) (f : TextFault) → RepresentsBytes most h b → lines (h.rest ++ tail) ≡ l ∷ ls → position_after most h.place l ≡ Err f → HasPrefixSpelling most (b ++ tail) r → HasPrefixSpelling most b r
-no_more most h b tail l ls r f s split bad x = told (either most h b tail r s x) where
-  told : HasPrefixSpelling most b r ⊎ Beyond most h b x.0 tail r s x.3 → HasPrefixSpelling most b r
-  told (inl y) = y
-  told (inr y) =
-      let same : y.0 ∷ y.1 ++ y.2 ≡ l ∷ ls = sym y.4 ∙ split in
-      let first : y.0 ≡ l = cc in
-      absurd (faulty most h b y.0 y.1 x.3.complete f _ s (ap (position_after most h.place) first ∙ bad) y.3 x.3.reaches)
-
-regrouped : (most : ℕ) (b part more : List ℕ) (r : Recording) → HasPrefixSpelling most ((b ++ part) ++ more) r → HasPrefixSpelling most (b ++ (part ++ more)) r
-regrouped most b part more r x = subst (λ text. HasPrefixSpelling most text r) (append_assoc b part more) x
+no_more most h b tail l ls r f s split bad x = elim (either most h b tail r s x) [
+  | inl y ↦ y
+  | inr y ↦ absurd (faulty most h b y.0 y.1 x.3.complete f _ s (let first : y.0 ≡ l = grind arith in rw first bad) y.3 x.3.reaches)
+]
 
 -- if the rest of a line completes one with an error, no longer prefix spells another recording
 pub no_more_line : (most : ℕ) (h : PieceState) (b line more : List ℕ) (r : Recording) (f : TextFault) → RepresentsBytes most h b → IsComplete line → position_after most h.place (h.rest ++ line) ≡ Err f → HasPrefixSpelling most ((b ++ line) ++ more) r → HasPrefixSpelling most b r
 no_more_line most h b line more r f s complete bad x =
-    let split : lines (h.rest ++ (line ++ more)) ≡ (h.rest ++ line) ∷ lines more =
-    ap lines (sym (append_assoc h.rest line more)) ∙ lines_complete (h.rest ++ line) more (IsComplete-append h.rest line s.unfinished complete) in
-    no_more most h b (line ++ more) (h.rest ++ line) (lines more) r f s split bad (regrouped most b line more r x)
+    let split = lines_complete (h.rest ++ line) more (IsComplete-append h.rest line s.unfinished complete) in
+    no_more most h b (line ++ more) (h.rest ++ line) (lines more) r f s (rw (← append_assoc h.rest line more) split) bad (rw (append_assoc b line more) at x)
 
 -- if a partial line has an error, whatever follows, no longer prefix spells another recording
 pub no_more_part : (most : ℕ) (h : PieceState) (b part more : List ℕ) (r : Recording) (f : TextFault) → RepresentsBytes most h b → no_feed (h.rest ++ part) ≡ true → 0 < length (h.rest ++ part)
     → IsLimitFault most (record { place = h.place; rest = h.rest ++ part }) f → HasPrefixSpelling most ((b ++ part) ++ more) r → HasPrefixSpelling most b r
-no_more_part most h b part more r f s none some past x = from (h.rest ++ part) refl some none where
-  from : (l : List ℕ) → l ≡ h.rest ++ part → 0 < length l → no_feed l ≡ true → HasPrefixSpelling most b r
-  from [] is some none = absurd (omega arith)
-  from (y ∷ ys) is some none =
-      let g = lines_grown y ys more none in
-      let split : lines (h.rest ++ (part ++ more)) ≡ ((h.rest ++ part) ++ g.0) ∷ g.1 =
-      ap lines (sym (append_assoc h.rest part more)) ∙ ap (λ xs. lines (xs ++ more)) (sym is) ∙ g.2 ∙ ap (λ xs. (xs ++ g.0) ∷ g.1) is in
-      no_more most h b (part ++ more) ((h.rest ++ part) ++ g.0) g.1 r f s split (past g.0) (regrouped most b part more r x)
+no_more_part most h b part more r f s none some past x =
+    let g = grown (h.rest ++ part) more some none in
+    no_more most h b (part ++ more) ((h.rest ++ part) ++ g.0) g.1 r f s (rw (← append_assoc h.rest part more) g.2) (past g.0) (rw (append_assoc b part more) at x)
 
 -- ---- nothing was read
 
@@ -189,14 +161,12 @@ none_begins most r x = grind (arith, nothing)
 -- the trace of the stage is what the complete lines spell
 pub trace_says : {T : Type 0} (o : Option T) (run : T → Recording) (n : ℕ) (h : PieceState) → IfSome o (λ t. IsWithinText h.place.stage (run t))
     → IfSome o (λ t. (most : ℕ) (b : List ℕ) → HasReceived most (record { most = n; pieces = h }) b → SpellsSoFar most b (run t))
-trace_says None run n h going = tt
-trace_says (Some t) run n h going = λ most b fed. grind arith
+trace_says o run n h going = grind arith
 
 -- the complete lines spell no other recording
 pub trace_only : {T : Type 0} (o : Option T) (run : T → Recording) (n : ℕ) (h : PieceState) → IfSome o (λ t. IsWithinText h.place.stage (run t))
     → IfSome o (λ t. (most : ℕ) (b : List ℕ) (r : Recording) → HasReceived most (record { most = n; pieces = h }) b → SpellsSoFar most b r → run t ≡ r)
-trace_only None run n h going = tt
-trace_only (Some t) run n h going = λ most b r fed says. grind (arith, says_stage most h b r fed.1.0 says)
+trace_only o run n h going = IfSome_then o going (λ t at most b r fed says. grind (arith, says_stage most h b r fed.1.0 says))
 
 -- if the stage has no trace, they spell none
 pub trace_none : {T : Type 0} (o : Option T) (n : ℕ) (h : PieceState) → IfNone o ((r : Recording) → IsWithinText h.place.stage r → ⊥)
@@ -207,18 +177,7 @@ trace_none (Some t) n h none = tt
 -- the trace, with or without an end line, is that of the complete lines
 pub so_far_says : {T : Type 0} (o : Option T) (run : T → Recording) (n : ℕ) (h : PieceState) → IfSome o (λ t. recording_at h.place.stage ≡ Some (run t))
     → IfSome o (λ t. (most : ℕ) (b : List ℕ) → HasReceived most (record { most = n; pieces = h }) b → SpellsLines most b (run t))
-so_far_says None run n h is = tt
-so_far_says (Some t) run n h is = λ most b fed.
-    record {
-      complete = fed.1.0.complete;
-      rest = h.rest;
-      stage = h.place.stage;
-      whole = fed.1.0.whole;
-      each = fed.1.0.each;
-      unfinished = fed.1.0.unfinished;
-      reaches = fed.1.0.place_is.reaches;
-      recorded = is;
-    }
+so_far_says o run n h is = grind arith
 
 -- before the header the complete lines spell none
 pub so_far_none : {T : Type 0} (o : Option T) (n : ℕ) (h : PieceState) → IfNone o (recording_at h.place.stage ≡ None)

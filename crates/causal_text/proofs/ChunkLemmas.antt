@@ -19,7 +19,7 @@ AreParsed-append (k ∷ ls) l h is = (h.0, AreParsed-append ls l h.1 is)
 -- the chunk is its parsed lines, one more line, and what is left
 pub one_more : (chunk line after left : List ℕ) (ls : List ChunkLine) (l : ChunkLine) → chunk ≡ bytes_of ls ++ left → left ≡ line ++ after → l.bytes.now ≡ line → chunk ≡ bytes_of (ls ++ l ∷ []) ++ after
 one_more chunk line after left ls l is cut same =
-    is ∙ (ap (λ xs. bytes_of ls ++ xs) (cut ∙ ap (λ xs. xs ++ after) (sym same)) ∙ (sym (append_assoc (bytes_of ls) l.bytes.now after) ∙ ap (λ xs. xs ++ after) (sym (bytes_of-append ls l))))
+    grind (arith, append_assoc (bytes_of ls) l.bytes.now after, bytes_of-append ls l)
 
 -- ---- the lines are read in order
 

@@ -7,7 +7,7 @@ use Rattle.causal_trace.specs.Rows.{Recording, AreLegalEntries, FitsLimits}
 use Rattle.causal_trace.proofs.Lemmas.WellFormed.{within_before, next_within}
 use Rattle.causal_trace.specs.State.{with_entry}
 use Rattle.causal_trace.specs.declared.entry.Entry.{Entry}
-use Rattle.causal_line.proofs.Lemmas.Passed.{in_limit}
+use Rattle.causal_line.proofs.Lemmas.Passed.{bind_ok, in_limit}
 use Rattle.causal_line.specs.declared.kind.TextFault.{TextFault}
 use Rattle.causal_line.specs.declared.parsed_line.ParsedLine.{ParsedLine}
 use Rattle.causal_line.specs.declared.parsed_line.ParsedLine.TheVariants as parsed
@@ -30,15 +30,10 @@ use Rattle.causal_text.proofs.Spellings.{IsPlaceAfter-lines, IsPlaceAfter-start}
 
 -- ---- sequences of lines
 
-first_step : (most : ℕ) (ls ks : List (List ℕ)) (q : ReadPosition) (r : Result ReadPosition TextFault) → ((o : ReadPosition) → after_lines most o ls ≡ Ok q → after_lines most o (ls ++ ks) ≡ after_lines most q ks) →
-    (r >>= λ o. after_lines most o ls) ≡ Ok q → (r >>= λ o. after_lines most o (ls ++ ks)) ≡ after_lines most q ks
-first_step most ls ks q (Ok o) rest g = rest o g
-first_step most ls ks q (Err e) rest g = absurd (let no : Err e ≡ Ok q = g in cc)
-
 -- after lines without an error, reading continues at the stage to which they lead
 pub after_lines-append : (most : ℕ) (p q : ReadPosition) (ls ks : List (List ℕ)) → after_lines most p ls ≡ Ok q → after_lines most p (ls ++ ks) ≡ after_lines most q ks
 after_lines-append most p q [] ks h = let same : p ≡ q = cc in rw same refl
-after_lines-append most p q (l ∷ ls) ks h = first_step most ls ks q (position_after most p l) (λ o. after_lines-append most o q ls ks) h
+after_lines-append most p q (l ∷ ls) ks h = let step = bind_ok (position_after most p l) _ q h in rw step.1 (after_lines-append most step.0 q ls ks step.2)
 
 -- reading these lines from the start leads to the stage
 abbrev pub Leads : (most : ℕ) → List (List ℕ) → Stage → Type 0
@@ -56,40 +51,18 @@ Leads-more most ls l s t led is =
 
 -- ---- the last parsed line of a stage
 
-in_front : (l : List ℕ) (ls ks : List (List ℕ)) → ls ≡ ks → l ∷ ls ≡ l ∷ ks
-in_front l ls ks same = ap (λ ns. l ∷ ns) same
-
-record Last (ls : List (List ℕ)) (xs : List ParsedLine) (x : ParsedLine) : Type 0 where
-  front : List (List ℕ)
-  line : List ℕ
-  whole : ls ≡ front ++ line ∷ []
-  says : map parse_line front ≡ map Ok xs
-  reads : parse_line line ≡ Ok x
-
-last_of : (ls : List (List ℕ)) (xs : List ParsedLine) (x : ParsedLine) → map parse_line ls ≡ map Ok (xs ++ x ∷ []) → Last ls xs x
-last_of [] [] x h = absurd (let no : [] ≡ Ok x ∷ [] = h in cc)
-last_of [] (y ∷ ys) x h = absurd (let no : [] ≡ Ok y ∷ map Ok (ys ++ x ∷ []) = h in cc)
-last_of (l ∷ []) [] x h = record { front = []; line = l; whole = refl; says = refl; reads = cc }
+last_of : (ls : List (List ℕ)) (xs : List ParsedLine) (x : ParsedLine) → map parse_line ls ≡ map Ok (xs ++ x ∷ [])
+    → (front : List (List ℕ)) × (line : List ℕ) × (ls ≡ front ++ line ∷ []) × (map parse_line front ≡ map Ok xs) × (parse_line line ≡ Ok x)
+last_of [] [] x h = absurd (grind arith)
+last_of [] (y ∷ ys) x h = absurd (grind arith)
+last_of (l ∷ []) [] x h = ([], l, refl, refl, cc)
 last_of (l ∷ k ∷ ls) [] x h = absurd (let no : parse_line k ∷ map parse_line ls ≡ [] = cc in cc)
-last_of (l ∷ ls) (y ∷ ys) x h =
-    let is : parse_line l ≡ Ok y = cc in
-    let rest : map parse_line ls ≡ map Ok (ys ++ x ∷ []) = cc in
-    let later = last_of ls ys x rest in record {
-      front = l ∷ later.front;
-      line = later.line;
-      whole = in_front l ls (later.front ++ later.line ∷ []) later.whole;
-      says = rw (is, later.says) refl;
-      reads = later.reads;
-    }
+last_of (l ∷ ls) (y ∷ ys) x h = let later = last_of ls ys x cc in (l ∷ later.0, later.1, ap (λ ks. l ∷ ks) later.2, grind arith, later.4)
 
 -- ---- the stages that lines reach are read
 
-same_place : (p q : ReadPosition) → p.stage ≡ q.stage → p.count ≡ q.count → p.size ≡ q.size → p ≡ q
-same_place p q stage count size = λ i. record { stage = stage i; count = count i; size = size i }
-
 takes_header : (most : ℕ) (version : Version) (n end : ℕ) (l : List ℕ) → 1 ≤ n → n ≤ max_processes_in version → end ≤ max_text_len most → parse_line l ≡ Ok (parsed.Header (version_number version) n) → advance_stage most Opening end l ≡ Ok (Within version (empty_recording n))
-takes_header most One n end l some few h is = in_limit most end _ h ∙ rw (is, le-leb 1 n some, le-leb n 64 few) refl
-takes_header most Two n end l some few h is = in_limit most end _ h ∙ rw (is, le-leb 1 n some, le-leb n 256 few) refl
+takes_header most version n end l some few h is = grind (arith, in_limit)
 
 Leads-opening : (most : ℕ) (ls : List (List ℕ)) → map parse_line ls ≡ [] → Leads most ls Opening
 Leads-opening most [] h = (start_position, refl, refl)
@@ -101,10 +74,8 @@ Leads-last : (most : ℕ) (ls : List (List ℕ)) (s t : Stage) (x : ParsedLine) 
     ((end : ℕ) (l : List ℕ) → end ≤ max_text_len most → parse_line l ≡ Ok x → advance_stage most s end l ≡ Ok t) → Leads most ls t
 Leads-last most ls s t x h few led takes =
     let p = last_of ls (lines_up_to s) x h in
-    let size : sum_by length ls ≡ sum_by length p.front + length p.line = ap (sum_by length) p.whole ∙ sum_by_push length p.front p.line in
-    let before = led p.front p.says (omega (arith, size)) in
-    let taken = takes (sum_by length p.front + length p.line) p.line (omega (arith, size)) p.reads in
-    subst (λ ks. Leads most ks t) (sym p.whole) (Leads-more most p.front p.line s t before taken)
+    let size : sum_by length ls ≡ sum_by length p.0 + length p.1 = ap (sum_by length) p.2 ∙ sum_by_push length p.0 p.1 in
+    rw p.2 (Leads-more most p.0 p.1 s t (led p.0 p.3 (omega (arith, size))) (takes _ p.1 (omega (arith, size)) p.4))
 
 Leads-within : (most : ℕ) (version : Version) (n : ℕ) (past : List Entry) (ls : List (List ℕ)) → 1 ≤ n → n ≤ max_processes_in version → AllowsAll version past → AreLegalEntries n past → FitsLimits most (record { processes = n; past = past }) →
     map parse_line ls ≡ map Ok (lines_up_to (Within version (record { processes = n; past = past }))) → sum_by length ls ≤ max_text_len most → Leads most ls (Within version (record { processes = n; past = past }))
@@ -132,17 +103,14 @@ pub after_lines-place : (most : ℕ) (ls : List (List ℕ)) (p : ReadPosition) �
 after_lines-place most ls p is =
     let led = Leads-reached most ls p.stage is.reaches in
     let there = IsPlaceAfter-lines most [] ls start_position led.0 (IsPlaceAfter-start most) led.1 in
-    let same : led.0 ≡ p = same_place led.0 p led.2 (there.count ∙ sym is.count) (there.size ∙ sym is.size) in
+    let same : led.0 ≡ p = λ i. record { stage = led.2 i; count = (there.count ∙ sym is.count) i; size = (there.size ∙ sym is.size) i } in
     led.1 ∙ ap Ok same
 
 -- ---- a spelled recording is read
-
-ended_at : (p : ReadPosition) (s : Stage) (version : Version) (r : Recording) → s ≡ Ended version r → finish_at p s ≡ Ok r
-ended_at p s version r is = rw is refl
 
 -- if a text spells a recording, reading returns it
 pub reading-spelled : (most : ℕ) (text : List ℕ) (r : Recording) → SpellsWithin most text r → read_text most text ≡ Ok r
 reading-spelled most text r s =
     let reached : LeadsTo most (lines text) (Ended s.version r) = record { said = s.said; sound = (s.well_formed, s.fits, s.kept); within = rw (sum_by-lines text) s.within } in
     let led = Leads-reached most (lines text) (Ended s.version r) reached in
-    ap (λ (q : Result ReadPosition TextFault). q >>= λ p. finish_at p p.stage) led.1 ∙ ended_at led.0 led.0.stage s.version r led.2
+    rw (led.1, led.2) refl

@@ -1,18 +1,16 @@
 -- What a reader of pieces has read, under its own limits.
 use Rattle.std.proofs.Common.{arith, ◌≡◌, ◌≢◌, ◌+◌, ℕ, List, ◌++◌, Ok, Option, Some, None, subst}
-use Rattle.std.specs.Prelude.{IfSome}
+use Rattle.std.proofs.lemmas.Option.{IfSome_then}
 use Rattle.causal_trace.specs.Rows.{Recording}
 use Rattle.causal_line.specs.declared.kind.TextKind.TheVariants.{NoMemory}
-use Rattle.causal_line.specs.declared.text_refusal.FaultContext.{FaultContext}
 use Rattle.causal_line.specs.declared.text_refusal.TextRefusal.{TextRefusal}
-use Rattle.causal_text.specs.FaultContexts.{IsContextWithin, IsTrueRefusalAlways}
+use Rattle.causal_text.specs.FaultContexts.{IsTrueRefusalAlways}
 use Rattle.causal_text.specs.Inside.Contexts.{HasTrueContextAlways}
 use Rattle.causal_text.specs.declared.stream.State.TheVariants as state
 use Rattle.causal_text.specs.Inside.PartialLines.{FitsLimit, IsFaultOfAll, finish_reading}
 use Rattle.causal_text.specs.Pieces.{PieceState, RepresentsBytes}
 use Rattle.causal_text.specs.Spelling.{SpellsWithin, IsReadAt}
 use Rattle.causal_text.specs.Streams.{HasReadWithin}
-use Rattle.causal_text.proofs.BeforeLemmas.{kept_of_none}
 use Rattle.causal_text.proofs.Feeds.{IsReadAt-stands, reading-ending}
 use Rattle.causal_text.proofs.Spellings.{Spells-reading, IsFirstFault-reading}
 use Rattle.causal_text.proofs.StreamLemmas.{read_more}
@@ -22,11 +20,6 @@ pub fed_more : (n most : ℕ) (h k : PieceState) (b piece : List ℕ) → n ≡ 
     → HasReadWithin most (state.Reading h) b → HasReadWithin most (state.Reading k) (b ++ piece)
 fed_more n most h k b piece same comes room = grind (arith, read_more)
 
-context_at : (most : ℕ) (bytes more : List ℕ) (number : ℕ) (context : Option FaultContext) → IfSome context (λ at. (rest : List ℕ) → IsContextWithin most (bytes ++ rest) number at.trace.recording at.parsed_line)
-    → IfSome context (λ at. IsContextWithin most (bytes ++ more) number at.trace.recording at.parsed_line)
-context_at most bytes more number None at = tt
-context_at most bytes more number (Some x) at = at more
-
 -- an error of a piece is a true refusal, whatever follows
 pub fed_refusal : (n most : ℕ) (h : PieceState) (b bytes : List ℕ) (rejected : TextRefusal) → n ≡ most → (rejected.fault.kind ≢ NoMemory → RepresentsBytes n h b → IsFaultOfAll n bytes rejected.fault)
     → (RepresentsBytes n h b → IsReadAt n bytes rejected.fault.line) → (RepresentsBytes n h b → HasTrueContextAlways n bytes rejected) → HasReadWithin most (state.Reading h) b → IsTrueRefusalAlways most bytes rejected
@@ -35,7 +28,7 @@ fed_refusal n most h b bytes rejected same faulty at context =
     (λ s more. record {
       first = λ other. IsFirstFault-reading n (bytes ++ more) rejected.fault (faulty other s.0 more);
       memory = λ _. at s.0 more;
-      kept = context_at n bytes more rejected.fault.line rejected.context (context s.0);
+      kept = IfSome_then rejected.context (context s.0) (λ at told. told more);
     })
 
 -- the bytes read spell the recording that the end of the text returns
@@ -48,5 +41,5 @@ pub no_memory_refusal : (most : ℕ) (h : PieceState) (b : List ℕ) (rejected :
 no_memory_refusal most h b rejected wants at none s = λ more. record {
   first = λ other. absurd (other wants);
   memory = λ _. IsReadAt-stands most h b rejected.fault.line s.0 at more;
-  kept = context_at most b more rejected.fault.line rejected.context (kept_of_none most b rejected none);
+  kept = rw none tt;
 }

@@ -19,9 +19,13 @@ pub lines_joined : (ls : List (List ℕ)) (rest : List ℕ) → AreComplete ls �
 lines_joined [] rest h = refl
 lines_joined (l ∷ ls) rest h = grind (arith, append_assoc, lines_complete, lines_joined ls rest h.1)
 
-joined-append : (ls : List (List ℕ)) (l : List ℕ) → concat_lines (ls ++ l ∷ []) ≡ concat_lines ls ++ l
-joined-append [] l = append-nil l
-joined-append (k ∷ ls) l = ap (λ xs. k ++ xs) (joined-append ls l) ∙ sym (append_assoc k (concat_lines ls) l)
+-- complete lines and more bytes in front of others are the first lines
+pub lines_held : (ls : List (List ℕ)) (text rest more : List ℕ) → text ≡ concat_lines ls ++ rest → AreComplete ls → lines (text ++ more) ≡ ls ++ lines (rest ++ more)
+lines_held ls text rest more whole each = rw (whole, append_assoc (concat_lines ls) rest more) (lines_joined ls (rest ++ more) each)
+
+pub joined-append : (ls ks : List (List ℕ)) → concat_lines (ls ++ ks) ≡ concat_lines ls ++ concat_lines ks
+joined-append [] ks = refl
+joined-append (l ∷ ls) ks = rw (joined-append ls ks) (sym (append_assoc l (concat_lines ls) (concat_lines ks)))
 
 AreComplete-append : (ls : List (List ℕ)) (l : List ℕ) → AreComplete ls → IsComplete l → AreComplete (ls ++ l ∷ [])
 AreComplete-append [] l h c = (c, tt)
@@ -36,7 +40,7 @@ StandsFor-complete most h b line p s c taken =
       arith,
       IsPlaceAfter-next most s.complete h.place p (h.rest ++ line) s.place_is taken,
       append_assoc (concat_lines s.complete) h.rest line,
-      joined-append s.complete (h.rest ++ line),
+      joined-append s.complete ((h.rest ++ line) ∷ []),
       append-nil,
       AreComplete-append,
       IsComplete-append h.rest line s.unfinished c,
@@ -47,7 +51,12 @@ pub StandsFor-hold : (most : ℕ) (h : PieceState) (b part : List ℕ) → Repre
 StandsFor-hold most h b part s none = grind (arith, append_assoc, no_feed-append)
 
 reading_from : (most : ℕ) (h : PieceState) (b more : List ℕ) → RepresentsBytes most h b → after_lines most start_position (lines (b ++ more)) ≡ after_lines most h.place (lines (h.rest ++ more))
-reading_from most h b more s = grind (arith, append_assoc, lines_joined, after_lines-append, after_lines-place)
+reading_from most h b more s = rw (lines_held s.complete b h.rest more s.whole s.each) (after_lines-append most start_position h.place s.complete _ (after_lines-place most s.complete h.place s.place_is))
+
+-- more bytes extend a partial line, or complete it
+pub grown : (xs more : List ℕ) → 0 < length xs → no_feed xs ≡ true → (m : List ℕ) × (ls : List (List ℕ)) × (lines (xs ++ more) ≡ (xs ++ m) ∷ ls)
+grown [] more some none = absurd (omega arith)
+grown (x ∷ xs) more some none = lines_grown x xs more none
 
 -- the error of a complete line is that of the text, whatever follows
 pub fault_of_complete : (most : ℕ) (h : PieceState) (b line : List ℕ) (f : TextFault) → RepresentsBytes most h b → IsComplete line → position_after most h.place (h.rest ++ line) ≡ Err f → IsFaultOfAll most (b ++ line) f
@@ -63,22 +72,13 @@ fault_of_complete most h b line f s c e more =
 
 -- an error that a partial line has, whatever follows, is that of the text
 pub fault_of_grown : (most : ℕ) (h : PieceState) (b : List ℕ) (f : TextFault) → RepresentsBytes most h b → 0 < length h.rest → ((m : List ℕ) → position_after most h.place (h.rest ++ m) ≡ Err f) → IsFaultOfAll most b f
-fault_of_grown most h b f s some e more = from h.rest some s.unfinished e (reading_from most h b more s) where
-  from : (xs : List ℕ) → 0 < length xs → no_feed xs ≡ true → ((m : List ℕ) → position_after most h.place (xs ++ m) ≡ Err f) → after_lines most start_position (lines (b ++ more)) ≡ after_lines most h.place (lines (xs ++ more)) → read_text most (b ++ more) ≡ Err f
-  from [] some none e same = absurd (omega arith)
-  from (x ∷ xs) some none e same =
-      let g = lines_grown x xs more none in
-      let all : after_lines most start_position (lines (b ++ more)) ≡ Err f = same ∙ ap (after_lines most h.place) g.2 ∙ rw (e g.0) refl in
-      ap (λ (r : Result ReadPosition TextFault). r >>= λ p. finish_at p p.stage) all
+fault_of_grown most h b f s some e more = let g = grown h.rest more some s.unfinished in rw (reading_from most h b more s, g.2, e g.0) refl
 
 -- ---- a piece, part by part
 
 -- with these bytes more, h1 represents what h0 represented
 abbrev pub Comes : (most : ℕ) → PieceState → List ℕ → PieceState → Type 0
 Comes most h0 done h1 = (b : List ℕ) → RepresentsBytes most h0 b → RepresentsBytes most h1 (b ++ done)
-
-regrouped : (most : ℕ) (h : PieceState) (b done more : List ℕ) → RepresentsBytes most h ((b ++ done) ++ more) → RepresentsBytes most h (b ++ (done ++ more))
-regrouped most h b done more s = subst (λ (xs : List ℕ). RepresentsBytes most h xs) (append_assoc b done more) s
 
 -- an accepted line has a next position and leaves nothing buffered
 pub with_line_ok : (most : ℕ) (h h1 : PieceState) (line : List ℕ) → with_line most h line ≡ Ok h1 → (p : ReadPosition) × (position_after most h.place (h.rest ++ line) ≡ Ok p) × (record { place = p; rest = [] } ≡ h1)
@@ -90,21 +90,19 @@ with_line_err most h line f e = grind arith
 
 -- after the rest of a line without an error, the state represents those bytes too
 pub Comes-line : (most : ℕ) (h0 h h1 : PieceState) (done line : List ℕ) → Comes most h0 done h → IsComplete line → with_line most h line ≡ Ok h1 → Comes most h0 (done ++ line) h1
-Comes-line most h0 h h1 done line c complete e b s = grind (arith, with_line_ok, regrouped, StandsFor-complete)
-
-IsFaultOfAll-more : (most : ℕ) (b more : List ℕ) (f : TextFault) → IsFaultOfAll most b f → IsFaultOfAll most (b ++ more) f
-IsFaultOfAll-more most b more f h rest = ap (read_text most) (append_assoc b more rest) ∙ h (more ++ rest)
+Comes-line most h0 h h1 done line c complete e b s =
+    let p = with_line_ok most h h1 line e in
+    rw (← append_assoc b done line, ← p.2) (StandsFor-complete most h (b ++ done) line p.0 (c b s) complete p.1)
 
 -- the error of a completed line is that of the text, whatever follows
 pub fault_of_piece : (most : ℕ) (h0 h : PieceState) (done line after : List ℕ) (f : TextFault) → Comes most h0 done h → IsComplete line → with_line most h line ≡ Err f → (b : List ℕ) → RepresentsBytes most h0 b → IsFaultOfAll most (b ++ (done ++ (line ++ after))) f
-fault_of_piece most h0 h done line after f c complete e b s =
-    let here = fault_of_complete most h (b ++ done) line f (c b s) complete (with_line_err most h line f e) in
-    let all = IsFaultOfAll-more most ((b ++ done) ++ line) after f here in
-    subst (λ (xs : List ℕ). IsFaultOfAll most xs f) (append_assoc (b ++ done) line after ∙ append_assoc b done (line ++ after)) all
+fault_of_piece most h0 h done line after f c complete e b s more =
+    let same : (b ++ (done ++ (line ++ after))) ++ more ≡ ((b ++ done) ++ line) ++ (after ++ more) = simp append_assoc in
+    rw same (fault_of_complete most h (b ++ done) line f (c b s) complete (with_line_err most h line f e) (after ++ more))
 
 -- after bytes without a line feed, the state represents those too
 pub Comes-hold : (most : ℕ) (h0 h : PieceState) (done part : List ℕ) → Comes most h0 done h → no_feed part ≡ true → Comes most h0 (done ++ part) (record { place = h.place; rest = h.rest ++ part })
-Comes-hold most h0 h done part c none b s = regrouped most (record { place = h.place; rest = h.rest ++ part }) b done part (StandsFor-hold most h (b ++ done) part (c b s) none)
+Comes-hold most h0 h done part c none b s = rw (← append_assoc b done part) (StandsFor-hold most h (b ++ done) part (c b s) none)
 
 -- an error of a partial line that no further byte changes is that of the text
 pub fault_of_hold : (most : ℕ) (h0 h : PieceState) (done part : List ℕ) (f : TextFault) → Comes most h0 done h → no_feed part ≡ true → 0 < length (h.rest ++ part) → IsLimitFault most (record { place = h.place; rest = h.rest ++ part }) f
@@ -115,10 +113,9 @@ fault_of_hold most h0 h done part f c none some past b s = fault_of_grown most (
 
 last_lines : (most : ℕ) (p : ReadPosition) (rest : List ℕ) → no_feed rest ≡ true → after_lines most p (lines rest) ≡ last_place most (record { place = p; rest = rest }) rest
 last_lines most p [] h = refl
-last_lines most p (x ∷ xs) h = ap (after_lines most p) (lines_rest (x ∷ xs) h (omega arith)) ∙ one (position_after most p (x ∷ xs)) where
+last_lines most p (x ∷ xs) h = rw (lines_rest (x ∷ xs) h (omega arith)) (one (position_after most p (x ∷ xs))) where
   one : (r : Result ReadPosition TextFault) → (r >>= λ q. after_lines most q []) ≡ r
-  one (Ok q) = refl
-  one (Err f) = refl
+  one r = grind arith
 
 -- reading the bytes returns what the state returns at the end
 pub reading-ending : (most : ℕ) (h : PieceState) (b : List ℕ) → RepresentsBytes most h b → read_text most b ≡ finish_reading most h
@@ -128,16 +125,15 @@ reading-ending most h b s = grind (arith, reading_from most h b [] s, append-nil
 
 -- no line before the partial line has an error
 pub IsReadAt-stands : (most : ℕ) (h : PieceState) (b : List ℕ) (line : ℕ) → RepresentsBytes most h b → line ≡ h.place.count + 1 → IsReadAt most b line
-IsReadAt-stands most h b line s is more = grind (arith, append_assoc, lines_joined s.complete (h.rest ++ more) s.each)
+IsReadAt-stands most h b line s is more = grind (arith, lines_held s.complete b h.rest more s.whole s.each)
 
 -- more bytes leave the lines before a line without an error
 pub IsReadAt-more : (most : ℕ) (b piece : List ℕ) (line : ℕ) → IsReadAt most b line → IsReadAt most (b ++ piece) line
-IsReadAt-more most b piece line h more = subst (λ (text : List ℕ). IsReadUpTo most text line) (sym (append_assoc b piece more)) (h (piece ++ more))
+IsReadAt-more most b piece line h more = rw (append_assoc b piece more) (h (piece ++ more))
 
 -- the line that begins within a piece
 pub line_of_part : (most : ℕ) (h0 h : PieceState) (done left b : List ℕ) (line : ℕ) → Comes most h0 done h → RepresentsBytes most h0 b → line ≡ h.place.count + 1 → IsReadAt most (b ++ (done ++ left)) line
-line_of_part most h0 h done left b line c s is =
-    subst (λ (bytes : List ℕ). IsReadAt most bytes line) (append_assoc b done left) (IsReadAt-more most (b ++ done) left line (IsReadAt-stands most h (b ++ done) line (c b s) is))
+line_of_part most h0 h done left b line c s is = rw (← append_assoc b done left) (IsReadAt-more most (b ++ done) left line (IsReadAt-stands most h (b ++ done) line (c b s) is))
 
 -- an error that a partial line has, whatever follows, it has at the end of the text
 pub faulty_line : (most : ℕ) (h : PieceState) (line : List ℕ) (f : TextFault) → IsLimitFault most (record { place = h.place; rest = h.rest ++ line }) f → with_line most h line ≡ Err f

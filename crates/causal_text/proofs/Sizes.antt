@@ -22,25 +22,16 @@ use Rattle.causal_line.specs.Stages.{max_text_len}
 use Rattle.causal_line.specs.Versions.{version_number}
 use Rattle.causal_lines.proofs.Lemmas.CanonicalParts.{canonical_parts}
 
-digits_at_most : (k n : ℕ) (rest : List ℕ) (m : ℕ) → length (decimal n) ≤ k → length rest ≤ m → length (decimal n ++ rest) ≤ k + m
-digits_at_most k n rest m p q = omega (arith, length-append (decimal n) rest)
-
+-- a process number, or a number of processes, takes at most 3 bytes
 three : (n : ℕ) → n ≤ 256 → length (decimal n) ≤ 3
 three n h = length-decimal-le 3 n (omega arith) (omega arith) (omega arith)
 
+-- another number takes at most 8 bytes
 eight : (n : ℕ) → n ≤ 16777216 → length (decimal n) ≤ 8
 eight n h = length-decimal-le 8 n (omega arith) (omega arith) (omega arith)
 
--- a process number takes at most 3 bytes
-process : (p limit : ℕ) (rest : List ℕ) (m : ℕ) → limit ≤ 256 → p < limit → length rest ≤ m → length (decimal p ++ rest) ≤ 3 + m
-process p limit rest m few h q = digits_at_most 3 p rest m (three p (omega (arith, few, h))) q
-
--- another number takes at most 8 bytes
-counted : (n : ℕ) (rest : List ℕ) (m : ℕ) → n < 16777216 → length rest ≤ m → length (decimal n ++ rest) ≤ 8 + m
-counted n rest m h q = digits_at_most 8 n rest m (eight n (omega (arith, h))) q
-
 length-det : (d : Det) → DetIsBounded 256 d → length (det_text d) ≤ 27
-length-det d h = grind (arith, counted, process)
+length-det d h = grind (arith, three, eight, length-append)
 
 length-more : (ds : List Det) → DetsAreBounded 256 ds → length (more_dets_text ds) ≤ 28 * length ds
 length-more [] h = omega arith
@@ -50,25 +41,13 @@ length-dets : (ds : List Det) → DetsAreBounded 256 ds → length (dets_text ds
 length-dets [] h = omega arith
 length-dets (d ∷ ds) h = grind (arith, length-det, length-more, length-append)
 
--- a process and a list take at most 28 bytes for each determinant, and 7
-length-listing : (p : ℕ) (ds : List Det) → p < 256 → DetsAreBounded 256 ds → length (decimal p ++ (44 ∷ (dets_text ds ++ 93 ∷ []))) ≤ 28 * length ds + 7
-length-listing p ds low h = grind (arith, length-dets, length-append, process)
-
 length-entry : (e : Entry) → EntryIsBounded 256 e → length (entry_text e) ≤ 28 * length (listed_by e) + 38
-length-entry (Send from to ssn) h = grind (arith, counted)
-length-entry (Deliver to send rsn listed) h = grind (arith, length-dets, length-append, counted, process)
-length-entry (Stable det) h = grind (arith, length-det, length-append)
-length-entry (Crash who) h = grind (arith, process)
-length-entry (Restart who listed) h = grind (arith, length-listing)
-length-entry (Forget who listed) h = grind (arith, length-listing)
+length-entry e h = grind (arith, length-det, length-dets, length-append, three, eight)
 
 -- all entries but the last, and the last
 all_but_last : (es : List Entry) (e : Entry) → EntriesAreBounded 256 (es ++ e ∷ []) → EntriesAreBounded 256 es × EntryIsBounded 256 e
 all_but_last [] e h = (tt, h.0)
 all_but_last (x ∷ es) e h = let rest = all_but_last es e h.1 in ((h.0, rest.0), rest.1)
-
-entries_text-last : (e : Entry) (past : List Entry) → entries_text (reverse (e ∷ past)) ≡ entries_text (reverse past) ++ (entry_text e ++ codes "\n")
-entries_text-last e past = grind (arith, reverse-append (e ∷ []) past, flat_map-append, append-nil)
 
 length-entries : (past : List Entry) → EntriesAreBounded 256 (reverse past) → length (entries_text (reverse past)) ≤ 28 * listed_in past + 39 * length past
 length-entries [] h = omega arith
@@ -80,32 +59,23 @@ length-entries (e ∷ past) h =
       length-entry,
       length-entries past (all_but_last (reverse past) e (rw (reverse-append (e ∷ []) past) at h)).0,
       length-append,
-      entries_text-last e past,
+      flat_map-append,
+      append-nil,
     )
 
-one_digit : (version : Version) → length (decimal (version_number version)) ≤ 1
-one_digit One = length-decimal-le 1 1 (omega arith) (omega arith) (omega arith)
-one_digit Two = length-decimal-le 1 2 (omega arith) (omega arith) (omega arith)
-
 header_short : (version : Version) (n : ℕ) → n ≤ 256 → length (line_text (parsed.Header (version_number version) n)) ≤ 20
-header_short version n h = grind (arith, three, one_digit, length-append)
-
-end_short : (count : ℕ) → count ≤ 16777216 → length (line_text (parsed.End count)) ≤ 20
-end_short count h = grind (arith, eight, length-append)
+header_short version n h = grind (arith, three, length-append)
 
 length-whole : (r : Recording) → r.processes ≤ 256 → EntriesAreBounded 256 (reverse r.past) → length r.past ≤ 16777216 → length (canonical_text r) ≤ 28 * listed_in r.past + 39 * length r.past + 40
-length-whole r few small short = grind (arith, canonical_parts, header_short, end_short, length-entries, length-append)
+length-whole r few small short = grind (arith, canonical_parts, header_short, eight, length-entries, length-append)
 
 -- the first entry of a run lists nothing
 first_lists : (n : ℕ) (e : Entry) → first_fault n [] e ≡ None → length (listed_by e) ≡ 0
 unfolding rows_within
-first_lists n (Send from to ssn) h = refl
 first_lists n (Deliver to send rsn listed) h = absurd (false≢true (sym (row_fails (refusal_rows n [] (Deliver to send rsn listed)) h 3 (true, NoSend) refl)))
-first_lists n (Stable det) h = refl
-first_lists n (Crash who) h = refl
 first_lists n (Restart who listed) h = absurd (false≢true (sym (row_fails (refusal_rows n [] (Restart who listed)) h 2 (true, NotDown) refl)))
-first_lists n (Forget who []) h = refl
 first_lists n (Forget who (d ∷ ds)) h = absurd (false≢true (sym (row_fails (refusal_rows n [] (Forget who (d ∷ ds))) h 4 (true, NoDelivery) refl)))
+first_lists n _ h = refl
 
 one_lists : (n : ℕ) (past : List Entry) → AreLegalEntries n past → length past ≤ 1 → listed_in past ≡ 0
 one_lists n [] h few = refl

@@ -18,7 +18,7 @@ use Rattle.causal_line.specs.Reading.{◌>>=◌}
 use Rattle.causal_line.specs.Refusals.{◌at◌}
 use Rattle.causal_line.specs.Values.{parse_line}
 use Rattle.causal_line.specs.Stages.{advance_stage, lines_up_to}
-use Rattle.causal_text.specs.Spelling.{SpellsWithin, LeadsTo, IsFirstFaultWithin}
+use Rattle.causal_text.specs.Spelling.{SpellsWithin, LeadsTo, IsFaultOfLine, IsFirstFaultWithin}
 use Rattle.causal_line.proofs.Lemmas.LineBytes.{sum_by-lines}
 use Rattle.causal_line.proofs.Lemmas.Passed.{bind_ok}
 use Rattle.causal_text.proofs.Steps.{Accepted-line}
@@ -28,13 +28,12 @@ bind_err : {A B E : Type 0} (r : Result A E) (f : A → Result B E) (e : E) → 
 bind_err (Ok x) f e h = inr (x, refl, h)
 bind_err (Err d) f e h = inl (let same : d ≡ e = cc in ap Err same)
 
-at_ok : {A : Type 0} (r : Result A TextKind) (line : ℕ) (y : A) → (r at line) ≡ Ok y → r ≡ Ok y
-at_ok (Ok x) line y h = let same : x ≡ y = cc in ap Ok same
-at_ok (Err k) line y h = absurd (let no : Err (record { line = line; kind = k }) ≡ Ok y = h in cc)
+-- the stage of the next position, and the error of a line, are those of its result
+at_ok : (r : Result Stage TextKind) (line : ℕ) (f : Stage → ReadPosition) (q : ReadPosition) → ((r at line) >>= λ s. Ok (f s)) ≡ Ok q → (s : Stage) × (r ≡ Ok s) × (f s ≡ q)
+at_ok r line f q h = grind arith
 
-at_err : {A : Type 0} (r : Result A TextKind) (line : ℕ) (e : TextFault) → (r at line) ≡ Err e → (r ≡ Err e.kind) × (e.line ≡ line)
-at_err (Ok x) line e h = absurd (let no : Ok x ≡ Err e = h in cc)
-at_err (Err k) line e h = grind arith
+at_err : (r : Result Stage TextKind) (line : ℕ) (f : Stage → ReadPosition) (e : TextFault) → ((r at line) >>= λ s. Ok (f s)) ≡ Err e → (r ≡ Err e.kind) × (e.line ≡ line)
+at_err r line f e h = grind arith
 
 -- before the first line, the position is the start
 pub IsPlaceAfter-start : (most : ℕ) → IsPositionAfter most [] start_position
@@ -52,11 +51,9 @@ LeadsTo-line most before s line t r h =
 -- a position after some lines leads to one after the next line, if that has no error
 pub IsPlaceAfter-next : (most : ℕ) (before : List (List ℕ)) (p q : ReadPosition) (line : List ℕ) → IsPositionAfter most before p → position_after most p line ≡ Ok q → IsPositionAfter most (before ++ line ∷ []) q
 IsPlaceAfter-next most before p q line st h =
-    let step = bind_ok (advance_stage most p.stage (p.size + length line) line at (p.count + 1)) _ q h in
-    let taken = at_ok (advance_stage most p.stage (p.size + length line) line) (p.count + 1) step.0 step.1 in
-    let there : record { stage = step.0; count = p.count + 1; size = p.size + length line } ≡ q = cc in
-    subst (λ (u : ReadPosition). IsPositionAfter most (before ++ line ∷ []) u) there (record {
-      reaches = LeadsTo-line most before p.stage line step.0 st.reaches (rw (← st.size) taken);
+    let step = at_ok (advance_stage most p.stage (p.size + length line) line) (p.count + 1) _ q h in
+    subst (λ (u : ReadPosition). IsPositionAfter most (before ++ line ∷ []) u) step.2 (record {
+      reaches = LeadsTo-line most before p.stage line step.0 st.reaches (rw (← st.size) step.1);
       count = rw (st.count, length-append before (line ∷ [])) refl;
       size = rw (st.size, sum_by_push length before line) refl;
     })
@@ -68,64 +65,28 @@ IsPlaceAfter-lines most before (l ∷ ls) p q st h =
     let step = bind_ok (position_after most p l) (λ x. after_lines most x ls) q h in
     rw (← append_assoc before (l ∷ []) ls) (IsPlaceAfter-lines most (before ++ l ∷ []) ls step.0 q (IsPlaceAfter-next most before p step.0 l st step.1) step.2)
 
--- the first faulty line
-pub record Breaks (most : ℕ) (before ls : List (List ℕ)) (fault : TextFault) : Type 0 where
-  -- the lines before it
-  pub front : List (List ℕ)
-  -- the line itself
-  pub line : List ℕ
-  -- the lines after it
-  pub after : List (List ℕ)
-  -- the stage to which the lines before it lead
-  pub stage : Stage
-  -- these are all lines, in order
-  pub split : before ++ ls ≡ front ++ line ∷ after
-  -- the lines before it have no error
-  pub reaches : LeadsTo most front stage
-  -- this line has the error
-  pub faulty : advance_stage most stage (sum_by length front + length line) line ≡ Err fault.kind
-  -- the error has its number
-  pub number : fault.line ≡ length front + 1
-
-Breaks-here : (most : ℕ) (before ls : List (List ℕ)) (p : ReadPosition) (line : List ℕ) (e : TextFault) → IsPositionAfter most before p → position_after most p line ≡ Err e → Breaks most before (line ∷ ls) e
-Breaks-here most before ls p line e st h =
-    elim (bind_err (advance_stage most p.stage (p.size + length line) line at (p.count + 1)) _ e h) [
-      | inl is ↦ (let parts = at_err (advance_stage most p.stage (p.size + length line) line) (p.count + 1) e is in record {
-        front = before;
-        line = line;
+-- the error of a line is the first one of a text, if the lines before it have none
+IsFaultOfLine-lines : (most : ℕ) (text : List ℕ) (before ls : List (List ℕ)) (p : ReadPosition) (e : TextFault) → lines text ≡ before ++ ls → IsPositionAfter most before p → after_lines most p ls ≡ Err e → IsFaultOfLine most text e
+IsFaultOfLine-lines most text before [] p e split st h = absurd (let no : Ok p ≡ Err e = h in cc)
+IsFaultOfLine-lines most text before (l ∷ ls) p e split st h =
+    elim (bind_err (position_after most p l) (λ x. after_lines most x ls) e h) [
+      | inl is ↦ (let parts = at_err (advance_stage most p.stage (p.size + length l) l) (p.count + 1) _ e is in record {
+        before = before;
+        line = l;
         after = ls;
         stage = p.stage;
-        split = refl;
+        split = split;
         reaches = st.reaches;
         faulty = rw (← st.size) parts.0;
         number = rw (← st.count) parts.1;
       })
-      | inr is ↦ absurd (let no : Ok (record { stage = is.0; count = p.count + 1; size = p.size + length line }) ≡ Err e = is.2 in cc)
-    ]
-
-Breaks-lines : (most : ℕ) (before ls : List (List ℕ)) (p : ReadPosition) (e : TextFault) → IsPositionAfter most before p → after_lines most p ls ≡ Err e → Breaks most before ls e
-Breaks-lines most before [] p e st h = absurd (let no : Ok p ≡ Err e = h in cc)
-Breaks-lines most before (l ∷ ls) p e st h =
-    elim (bind_err (position_after most p l) (λ x. after_lines most x ls) e h) [
-      | inl is ↦ Breaks-here most before ls p l e st is
-      | inr is ↦ (let later = Breaks-lines most (before ++ l ∷ []) ls is.0 e (IsPlaceAfter-next most before p is.0 l st is.1) is.2 in record {
-        front = later.front;
-        line = later.line;
-        after = later.after;
-        stage = later.stage;
-        split = sym (append_assoc before (l ∷ []) ls) ∙ later.split;
-        reaches = later.reaches;
-        faulty = later.faulty;
-        number = later.number;
-      })
+      | inr is ↦ IsFaultOfLine-lines most text (before ++ l ∷ []) ls is.0 e (split ∙ sym (append_assoc before (l ∷ []) ls)) (IsPlaceAfter-next most before p is.0 l st is.1) is.2
     ]
 
 -- ---- the text spells what reading returns
 
 ended_ok : (p : ReadPosition) (s : Stage) (r : Recording) → finish_at p s ≡ Ok r → (version : Version) × (s ≡ Ended version r)
-ended_ok p Opening r h = absurd (let no : Err (record { line = p.count + 1; kind = kind.Cut }) ≡ Ok r = h in cc)
-ended_ok p (Within version q) r h = absurd (let no : Err (record { line = p.count + 1; kind = kind.Cut }) ≡ Ok r = h in cc)
-ended_ok p (Ended version q) r h = let same : q ≡ r = cc in (version, ap (Ended version) same)
+ended_ok p s r h = grind arith
 
 Spells-reached : (most : ℕ) (text : List ℕ) (version : Version) (r : Recording) → LeadsTo most (lines text) (Ended version r) → SpellsWithin most text r
 Spells-reached most text version r reached = grind (arith, sum_by-lines)
@@ -141,24 +102,13 @@ Spells-reading most text r h =
 -- ---- an error that reading returns is the first
 
 cut_parts : (p : ReadPosition) (s : Stage) (e : TextFault) → finish_at p s ≡ Err e → IsOpen s × (e.line ≡ p.count + 1) × (e.kind ≡ kind.Cut)
-cut_parts p Opening e h = let same : record { line = p.count + 1; kind = kind.Cut } ≡ e = cc in (tt, sym (ap (λ (f : TextFault). f.line) same), sym (ap (λ (f : TextFault). f.kind) same))
-cut_parts p (Within version q) e h = let same : record { line = p.count + 1; kind = kind.Cut } ≡ e = cc in (tt, sym (ap (λ (f : TextFault). f.line) same), sym (ap (λ (f : TextFault). f.kind) same))
-cut_parts p (Ended version q) e h = absurd (let no : Ok q ≡ Err e = h in cc)
+cut_parts p s e h = grind arith
 
 -- the error that reading returns is the first one of the text
 pub IsFirstFault-reading : (most : ℕ) (text : List ℕ) (e : TextFault) → read_text most text ≡ Err e → IsFirstFaultWithin most text e
 IsFirstFault-reading most text e h =
     elim (bind_err (after_lines most start_position (lines text)) _ e h) [
-      | inl is ↦ (let b = Breaks-lines most [] (lines text) start_position e (IsPlaceAfter-start most) is in inl (record {
-        before = b.front;
-        line = b.line;
-        after = b.after;
-        stage = b.stage;
-        split = b.split;
-        reaches = b.reaches;
-        faulty = b.faulty;
-        number = b.number;
-      }))
+      | inl is ↦ inl (IsFaultOfLine-lines most text [] (lines text) start_position e refl (IsPlaceAfter-start most) is)
       | inr is ↦ (let stands = IsPlaceAfter-lines most [] (lines text) start_position is.0 (IsPlaceAfter-start most) is.1 in
           let parts = cut_parts is.0 is.0.stage e is.2 in inr (record {
             stage = is.0.stage;

@@ -19,7 +19,7 @@ use Rattle.causal_line.specs.Reading.{◌>>=◌}
 use Rattle.causal_line.specs.Stages.{max_text_len, open_text, push_entry, apply_line, check_limit, advance_stage, lines_up_to}
 use Rattle.causal_line.specs.Kinds.{text_kind_of}
 use Rattle.causal_line.specs.Values.{parse_line}
-use Rattle.causal_line.specs.Versions.{version_number, allows}
+use Rattle.causal_line.specs.Versions.{version_of}
 use Rattle.causal_text.specs.Spelling.{IsSound}
 use Rattle.causal_trace.proofs.Lemmas.WellFormed.{rows_next, within_next}
 
@@ -34,28 +34,16 @@ pub record Adds (most : ℕ) (s : Stage) (x : ParsedLine) (t : Stage) : Type 0 w
 pub said_entries : (e : Entry) (past : List Entry) → map parsed.Entry (reverse (e ∷ past)) ≡ map parsed.Entry (reverse past) ++ parsed.Entry e ∷ []
 said_entries e past = ap (map parsed.Entry) (reverse-append (e ∷ []) past) ∙ map-append parsed.Entry (reverse past) (e ∷ [])
 
-Adds-version : (most : ℕ) (version : Version) (n : ℕ) (t : Stage) → open_text (Some version) n ≡ Ok t → Adds most Opening (parsed.Header (version_number version) n) t
-Adds-version most version n t h = grind arith
+Adds-begun : (most number n : ℕ) (t : Stage) → open_text (version_of number) n ≡ Ok t → Adds most Opening (parsed.Header number n) t
+Adds-begun most number n t h = grind (arith, eqb-true)
 
-Adds-begun : (most : ℕ) (number n : ℕ) (one two : Bool) (t : Stage) → (number == 1) ≡ one → (number == 2) ≡ two → open_text (cond one (Some One) (cond two (Some Two) None)) n ≡ Ok t → Adds most Opening (parsed.Header number n) t
-Adds-begun most number n true two t is other h = rw (eqb-true number 1 is) (Adds-version most One n t h)
-Adds-begun most number n false true t other is h = rw (eqb-true number 2 is) (Adds-version most Two n t h)
-Adds-begun most number n false false t other third h = absurd (let no : Err kind.Version ≡ Ok t = h in cc)
-
-Adds-admitted : (most : ℕ) (version : Version) (r : Recording) (e : Entry) (o : Option TraceFault) (t : Stage) → fault_within most r e ≡ o → allows version e ≡ true → IsSound most (Within version r) → push_entry version r e o ≡ Ok t → Adds most (Within version r) (parsed.Entry e) t
-Adds-admitted most version r e None t is line w h = grind (arith, rows_next, within_next most r e w.2 is, said_entries)
-Adds-admitted most version r e (Some f) t is line w h = absurd (let no : Err (text_kind_of f) ≡ Ok t = h in cc)
+Adds-admitted : (most : ℕ) (version : Version) (r : Recording) (e : Entry) (t : Stage) → IsSound most (Within version r) → apply_line most (Within version r) (parsed.Entry e) ≡ Ok t → Adds most (Within version r) (parsed.Entry e) t
+Adds-admitted most version r e t w h = grind (arith, rows_next, within_next, said_entries)
 
 pub Adds-follow : (most : ℕ) (s : Stage) (x : ParsedLine) (t : Stage) → IsSound most s → apply_line most s x ≡ Ok t → Adds most s x t
-Adds-follow most Opening (parsed.Header number n) t w h = Adds-begun most number n (number == 1) (number == 2) t refl refl h
-Adds-follow most Opening (parsed.Entry e) t w h = absurd (let no : Err kind.Header ≡ Ok t = h in cc)
-Adds-follow most Opening (parsed.End count) t w h = absurd (let no : Err kind.Header ≡ Ok t = h in cc)
-Adds-follow most (Within version r) (parsed.Header number n) t w h = absurd (let no : Err kind.Header ≡ Ok t = h in cc)
-Adds-follow most (Within version r) (parsed.Entry e) t w h =
-    let p = passed (allows version e) _ kind.Form t h in
-    Adds-admitted most version r e (fault_within most r e) t refl p.0 w p.1
-Adds-follow most (Within version r) (parsed.End count) t w h = grind arith
-Adds-follow most (Ended version r) x t w h = absurd (let no : Err kind.After ≡ Ok t = h in cc)
+Adds-follow most Opening (parsed.Header number n) t w h = Adds-begun most number n t h
+Adds-follow most (Within version r) (parsed.Entry e) t w h = Adds-admitted most version r e t w h
+Adds-follow most _ _ t w h = grind arith
 
 -- an accepted line parses, follows the stage, and ends within the limit
 pub record Accepted (most : ℕ) (s : Stage) (end : ℕ) (line : List ℕ) (t : Stage) : Type 0 where
@@ -73,6 +61,5 @@ Accepted-limit most s end line t w h = grind (arith, common_steps, passed_not, b
 
 -- a line that leads from a sound stage to another is accepted there
 pub Accepted-line : (most : ℕ) (s : Stage) (end : ℕ) (line : List ℕ) (t : Stage) → IsSound most s → advance_stage most s end line ≡ Ok t → Accepted most s end line t
-Accepted-line most Opening end line t w h = Accepted-limit most Opening end line t w h
-Accepted-line most (Within version r) end line t w h = Accepted-limit most (Within version r) end line t w h
 Accepted-line most (Ended version r) end line t w h = absurd (let no : Err kind.After ≡ Ok t = h in cc)
+Accepted-line most s end line t w h = Accepted-limit most s end line t w h

@@ -24,17 +24,13 @@ use Rattle.causal_text.proofs.StreamLemmas.{read_more}
 
 -- if the rest of a line has no error, the reader has read the bytes with it
 pub line_read : (n most : ℕ) (h k : PieceState) (b line : List ℕ) → n ≡ most → IsComplete line → with_line n h line ≡ Ok k → HasReadWithin most (state.Reading h) b → HasReadWithin most (state.Reading k) (b ++ line)
-line_read n most h k b line same complete is = subst (λ (m : ℕ). HasReadWithin m (state.Reading h) b → HasReadWithin m (state.Reading k) (b ++ line)) same read where
-  read : HasReadWithin n (state.Reading h) b → HasReadWithin n (state.Reading k) (b ++ line)
-  read s =
-      let p = with_line_ok n h k line is in
-      subst (λ (x : PieceState). HasReadWithin n (state.Reading x) (b ++ line)) p.2
-      (read_more n (record { place = p.0; rest = [] }) (b ++ line) (StandsFor-complete n h b line p.0 s.0 complete p.1) (record { within = λ few. omega (arith, few); open_text = λ (some : 0 < 0). absurd (omega (arith, some)) }))
+line_read n most h k b line same complete is s =
+    let p = with_line_ok n h k line is in
+    rw (← same, ← p.2) (read_more n _ (b ++ line) (StandsFor-complete n h b line p.0 (rw same s.0) complete p.1) (record { within = λ few. omega (arith, few); open_text = λ some. absurd (omega (arith, some)) }))
 
 -- a part without a line feed is read if it fits the limit
 pub part_read : (n most : ℕ) (h k : PieceState) (b part : List ℕ) → n ≡ most → no_feed part ≡ true → k ≡ record { place = h.place; rest = h.rest ++ part } → FitsLimit n k → HasReadWithin most (state.Reading h) b → HasReadWithin most (state.Reading k) (b ++ part)
-part_read n most h k b part same none is room = subst (λ (m : ℕ). HasReadWithin m (state.Reading h) b → HasReadWithin m (state.Reading k) (b ++ part)) same
-    (λ s. read_more n k (b ++ part) (subst (λ (x : PieceState). RepresentsBytes n x (b ++ part)) (sym is) (StandsFor-hold n h b part s.0 none)) room)
+part_read n most h k b part same none is room s = rw (← same) (read_more n k (b ++ part) (rw is (StandsFor-hold n h b part (rw same s.0) none)) room)
 
 -- ---- the part has an error
 
@@ -46,28 +42,25 @@ rejected_so most h b part more rejected s first line kept =
 -- if the rest of a line is refused, the text is refused there
 pub line_stops : (n most : ℕ) (h : PieceState) (b line : List ℕ) (rejected : TextRefusal) → n ≡ most → IsComplete line → IsFaultOrNoMemory rejected.fault.kind rejected.fault (with_line n h line)
     → rejected.fault.line ≡ h.place.count + 1 → IsContextAt h.place.stage (h.rest ++ line) rejected.context → HasReadWithin most (state.Reading h) b → IsRefusedAt most b line rejected
-line_stops n most h b line rejected same complete given at kept = subst (λ (m : ℕ). HasReadWithin m (state.Reading h) b → IsRefusedAt m b line rejected) same stops where
-  stops : HasReadWithin n (state.Reading h) b → IsRefusedAt n b line rejected
-  stops s =
-      let bad = λ (other : rejected.fault.kind ≢ NoMemory). with_line_err n h line rejected.fault (error_is_defined _ _ _ given other) in
-      record {
-        rejection = λ more. rejected_so n h b line more rejected s.0 (λ other. fault_of_complete n h b line rejected.fault s.0 complete (bad other)) at (kept_of n h b line rejected.fault.line rejected.context s.0 complete kept at);
-        no_more = λ other more r x. no_more_line n h b line more r rejected.fault s.0 complete (bad other) x;
-      }
+line_stops n most h b line rejected same complete given at kept s =
+    let read : RepresentsBytes n h b = rw same s.0 in
+    let bad = λ (other : rejected.fault.kind ≢ NoMemory). with_line_err n h line rejected.fault (error_is_defined _ _ _ given other) in
+    rw (← same) (record {
+      rejection = λ more. rejected_so n h b line more rejected read (λ other. fault_of_complete n h b line rejected.fault read complete (bad other)) at (kept_of n h b line rejected.fault.line rejected.context read complete kept at);
+      no_more = λ other more r x. no_more_line n h b line more r rejected.fault read complete (bad other) x;
+    })
 
 -- if a part of a line is refused, whatever follows, the text is refused there
 pub part_stops : (n most : ℕ) (h : PieceState) (b part : List ℕ) (rejected : TextRefusal) → n ≡ most → no_feed part ≡ true
     → (rejected.fault.kind ≢ NoMemory → (0 < length (h.rest ++ part)) × IsLimitFault n (record { place = h.place; rest = h.rest ++ part }) rejected.fault)
     → rejected.fault.line ≡ h.place.count + 1 → rejected.context ≡ None → HasReadWithin most (state.Reading h) b → IsRefusedAt most b part rejected
-part_stops n most h b part rejected same none past at kept = subst (λ (m : ℕ). HasReadWithin m (state.Reading h) b → IsRefusedAt m b part rejected) same stops where
-  stops : HasReadWithin n (state.Reading h) b → IsRefusedAt n b part rejected
-  stops s =
-      let held = StandsFor-hold n h b part s.0 none in
-      record {
-        rejection = λ more. rejected_so n h b part more rejected s.0
-            (λ other. fault_of_grown n (record { place = h.place; rest = h.rest ++ part }) (b ++ part) rejected.fault held (past other).0 (past other).1) at (kept_of_none n (b ++ part) rejected kept);
-        no_more = λ other more r x. no_more_part n h b part more r rejected.fault s.0 held.unfinished (past other).0 (past other).1 x;
-      }
+part_stops n most h b part rejected same none past at kept s =
+    let read : RepresentsBytes n h b = rw same s.0 in
+    let held = StandsFor-hold n h b part read none in
+    rw (← same) (record {
+      rejection = λ more. rejected_so n h b part more rejected read (λ other. fault_of_grown n _ (b ++ part) rejected.fault held (past other).0 (past other).1) at (kept_of_none n (b ++ part) rejected kept);
+      no_more = λ other more r x. no_more_part n h b part more r rejected.fault read held.unfinished (past other).0 (past other).1 x;
+    })
 
 -- ---- the end of the text
 

@@ -31,9 +31,7 @@ fault_of_line most text f e =
 
 -- without an end line so far, the text is cut here
 cut_here : (q : ReadPosition) (s : Stage) (f : TextFault) → IsOpen s → f.line ≡ q.count + 1 → f.kind ≡ kind.Cut → finish_at q s ≡ Err f
-cut_here q Opening f h n k = ap₂ (λ l c. Err (record { line = l; kind = c })) (sym n) (sym k)
-cut_here q (Within version r) f h n k = ap₂ (λ l c. Err (record { line = l; kind = c })) (sym n) (sym k)
-cut_here q (Ended version r) f h n k = absurd h
+cut_here q s f h n k = grind arith
 
 -- reading returns `Cut` for a cut text
 cut_of : (most : ℕ) (text : List ℕ) (f : TextFault) → IsCut most text f → read_text most text ≡ Err f

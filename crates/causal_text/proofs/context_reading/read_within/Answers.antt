@@ -1,15 +1,11 @@
-use Rattle.std.proofs.Common.{◌≡◌, ◌<◌, List, [], ◌∷◌, ℕ, length, length-append, refl, take, arith}
-use Rattle.std.proofs.KnownBytes.{Consumes-nil}
+use Rattle.std.proofs.Common.{[], length-append, take, arith}
+use Rattle.std.proofs.KnownBytes.{Consumes-nil, Consumes-trans}
 use Rattle.causal_text.proofs.KeptLemmas.{rejects}
-use Rattle.causal_text.proofs.StreamLemmas.{Consumes-then, failure_stops, piece_ends, piece_stops}
+use Rattle.causal_text.proofs.StreamLemmas.{failure_stops, piece_ends, piece_stops}
 use Rattle.causal_text.proofs.context_reading.read_within.Goals as goal
 
-some_of : (xs : List ℕ) → (length xs ≡ 0 → ⊥) → 0 < length xs
-some_of [] none = absurd (none refl)
-some_of (x ∷ xs) none = omega arith
-
 pub loop-i-preserved : goal.loop-i-preserved
-loop-i-preserved g c = grind (arith, some_of, length-append c.loop-i.invariant.0 (take c.in-Ok.n c.read.new.buf), Consumes-then)
+loop-i-preserved g c = grind (arith, length-append c.loop-i.invariant.0 (take c.in-Ok.n c.read.new.buf), Consumes-trans)
 
 pub returns-in-Err-clause-err : goal.returns-in-Err-clause-err
 returns-in-Err-clause-err g c =
@@ -26,10 +22,7 @@ returns-in-Err-clause-stops g c =
     (omega (arith, c.in-Ok.ensures.bound.0, c.in-Ok.ensures.bound.1)) i.2
 
 pub returns-in-Ended-clause-stops : goal.returns-in-Ended-clause-stops
-returns-in-Ended-clause-stops g c =
-    let i = c.loop-i.invariant in
-    piece_stops c.args.limits.entries (g.R.Read.remaining c.args.source.now) (g.R.Read.remaining c.loop-i.source) (g.R.Read.remaining c.read.new.self) i.0 (take c.in-Ok.n c.read.new.buf) c.loop-i.pieces i.1 c.in-Ok.ensures.bytes.0
-    (omega (arith, c.in-Ok.ensures.bound.0, c.in-Ok.ensures.bound.1)) i.2
+returns-in-Ended-clause-stops g c = grind (arith, piece_stops)
 
 pub loop-i-init : goal.loop-i-init
 loop-i-init g c = ([], Consumes-nil _, (c.new-pieces.ensures.bytes c.args.limits.entries, omega arith, c.new-pieces.ensures.nothing), omega arith)

@@ -1,4 +1,4 @@
-use Rattle.std.proofs.Common.{refl, sym}
+use Rattle.std.proofs.Common.{arith, refl, sym}
 use Rattle.causal_text.specs.declared.parsed_chunk.ChunkLine.{ChunkLine}
 use Rattle.causal_text.proofs.ChunkLemmas.{one_more, AreParsed-append}
 use Rattle.causal_text.proofs.parsed_chunk.parse_chunk.Goals as goal
@@ -21,6 +21,4 @@ returns-then-not-goes_on c =
     rw c.in_ok-push.ensures.items (sym (one_more c.args.bytes.now c.in-Some.line.now c.in-Some.after.now c.loop-line.rest.now c.loop-line.lines.items l i.0 some.1 refl))
 
 pub invariant_of-result : goal.invariant_of-result
-invariant_of-result c =
-    let l : ChunkLine = record { bytes = c.in-Some.line; parsed = c.parse_line-parsed.result } in
-    rw c.in_ok-push.ensures.items (AreParsed-append c.loop-line.lines.items l c.loop-line.invariant.1 (c.in-Some.ensures.some.0, c.parse_line-parsed.ensures))
+invariant_of-result c = grind (arith, AreParsed-append)

@@ -1,13 +1,10 @@
-use Rattle.std.proofs.Common.{◌≡◌, ◌∙◌, sym, ap, ℕ, ◌+◌, List, [], Result, Ok, Err, IfErr, append-nil, subst}
-use Rattle.std.proofs.lemmas.Result.{err_from_is_err_and}
+use Rattle.std.proofs.Common.{◌∙◌, sym, ap, ℕ, List, [], Result, append-nil, subst}
+use Rattle.std.proofs.lemmas.Result.{err_from_is_err_and, IfErr-weaker}
 use Rattle.causal_trace.specs.Rows.{Recording}
-use Rattle.causal_line.specs.declared.text_refusal.TextRefusal.{TextRefusal}
-use Rattle.causal_line.specs.declared.kind.TextKind.TheVariants as kind
 use Rattle.causal_line.specs.declared.kind.TextFault.{TextFault}
 use Rattle.causal_line.specs.Refusals.{ReturnsTextRefusal}
 use Rattle.causal_text.specs.Inside.LineByLine.{read_text}
 use Rattle.causal_text.specs.Spelling.{IsReadUpTo, IsReadAt}
-use Rattle.causal_text.specs.Pieces.{PieceState, RepresentsBytes}
 use Rattle.causal_text.proofs.Feeds.{reading-ending, IsReadAt-stands}
 use Rattle.causal_line.proofs.Lemmas.DefinedErrors.{defined_or_no_memory}
 use Rattle.causal_text.proofs.reader.read_all.Goals as goal
@@ -28,9 +25,7 @@ returns-in_err-reader-clause-memory c =
 pub returns-clause-value : goal.returns-clause-value
 returns-clause-value c = subst (λ (read : Result Recording TextFault). ReturnsTextRefusal c.end.result read) (sym (reading-ending c.args.limits.entries c.in_ok-reader.reader c.args.bytes.now (c.in_ok-reader.ensures.ok [] (c.new.ensures.bytes c.args.limits.entries)))) c.end.ensures.value
 
-last_line : (most : ℕ) (h : PieceState) (b : List ℕ) (r : Result Recording TextRefusal) → RepresentsBytes most h b → IfErr r (λ f. f.fault.kind ≡ kind.NoMemory → f.fault.line ≡ h.place.count + 1) → IfErr r (λ f. f.fault.kind ≡ kind.NoMemory → IsReadUpTo most b f.fault.line)
-last_line most h b (Ok x) s e = tt
-last_line most h b (Err f) s e = λ wants. whole_line most b f.fault.line (IsReadAt-stands most h b f.fault.line s (e wants))
-
 pub returns-clause-memory : goal.returns-clause-memory
-returns-clause-memory c = last_line c.args.limits.entries c.in_ok-reader.reader c.args.bytes.now c.end.result (c.in_ok-reader.ensures.ok [] (c.new.ensures.bytes c.args.limits.entries)) c.end.ensures.memory
+returns-clause-memory c =
+    let read = c.in_ok-reader.ensures.ok [] (c.new.ensures.bytes c.args.limits.entries) in
+    IfErr-weaker c.end.result _ _ (λ f e wants. whole_line c.args.limits.entries c.args.bytes.now f.fault.line (IsReadAt-stands c.args.limits.entries c.in_ok-reader.reader c.args.bytes.now f.fault.line read (e wants))) c.end.ensures.memory

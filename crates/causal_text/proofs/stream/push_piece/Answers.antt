@@ -1,13 +1,10 @@
 use Rattle.std.proofs.lemmas.Grind.{common_steps}
-use Rattle.std.proofs.Common.{arith, ◌≡◌, ◌++◌, ◌∙◌, sym, ap, subst, List, [], ◌∷◌, ℕ, Bool, true, false, length, Err, append-nil}
+use Rattle.std.proofs.Common.{arith, ◌≡◌, ◌++◌, ◌∙◌, sym, List, [], ℕ, Bool, true, false, length, Err, append-nil}
 use Rattle.std.specs.Prelude.{◌==◌}
 use Rattle.std.proofs.lemmas.Bool.{eqb-true}
 use Rattle.std.proofs.lemmas.List.{nil_from_length}
 use Rattle.std.proofs.lemmas.Result.{err_from_is_err_and}
-use Rattle.causal_line.specs.declared.text_refusal.TextRefusal.{TextRefusal}
 use Rattle.causal_line.specs.declared.kind.TextFault.{TextFault}
-use Rattle.causal_text.specs.FaultContexts.{HasTrueContextWithin}
-use Rattle.causal_text.specs.Inside.Contexts.{HasTrueContextAlways, HasTrueContextAfter}
 use Rattle.causal_text.specs.Inside.PartialLines.{IsFaultOfAll}
 use Rattle.causal_text.specs.Streams.{IsFaultAfter}
 use Rattle.causal_text.specs.Inside.LineByLine.{read_text}
@@ -21,12 +18,10 @@ is_nil : (xs : List ℕ) (b : Bool) → b ≡ (length xs == 0) → b ≡ true �
 is_nil xs b e t = nil_from_length xs (eqb-true (length xs) 0 (sym e ∙ t))
 
 fault_after : (most : ℕ) (piece bytes : List ℕ) (f : TextFault) (b : Bool) → b ≡ (length piece == 0) → b ≡ false → IsFaultOfAll most bytes f → IsFaultAfter most piece bytes f
-fault_after most [] bytes f b e some h = absurd (let bad : true ≡ false = sym e ∙ some in cc)
-fault_after most (x ∷ xs) bytes f b e some h = λ more. IsFirstFault-reading most (bytes ++ more) f (h more)
+fault_after most piece bytes f b e some h = grind (arith, IsFirstFault-reading)
 
 fault_at_end : (most : ℕ) (piece b : List ℕ) (f : TextFault) → piece ≡ [] → read_text most b ≡ Err f → IsFaultAfter most piece (b ++ piece) f
-fault_at_end most [] b f e h = IsFirstFault-reading most (b ++ []) f (ap (read_text most) (append-nil b) ∙ h)
-fault_at_end most (x ∷ xs) b f e h = absurd (let no : x ∷ xs ≡ [] = e in cc)
+fault_at_end most piece b f e h = grind (arith, IsFirstFault-reading, append-nil)
 
 pub returns-in_err-end-clause-err : goal.returns-in_err-end-clause-err
 returns-in_err-end-clause-err c =
@@ -50,16 +45,8 @@ returns-in_err-end-clause-memory c =
     let p = err_from_is_err_and c.from_residual.result c.from_residual.ensures.1 in
     rw (p.1, p.2) (λ wants b s. IsReadAt-more c.args.limits.entries b c.args.piece.now _ (IsReadAt-stands c.args.limits.entries c.args.pieces b _ s.0 (c.in_err-end.ensures.memory wants)))
 
-kept_after : (most : ℕ) (piece bytes : List ℕ) (rejected : TextRefusal) (b : Bool) → b ≡ (length piece == 0) → b ≡ false → HasTrueContextAlways most bytes rejected → HasTrueContextAfter most piece bytes rejected
-kept_after most [] bytes rejected b e some h = absurd (let bad : true ≡ false = sym e ∙ some in cc)
-kept_after most (x ∷ xs) bytes rejected b e some h = h
-
-kept_at_end : (most : ℕ) (piece b : List ℕ) (rejected : TextRefusal) → piece ≡ [] → HasTrueContextWithin most b rejected → HasTrueContextAfter most piece (b ++ piece) rejected
-kept_at_end most [] b rejected e h = subst (λ (bytes : List ℕ). HasTrueContextWithin most bytes rejected) (sym (append-nil b)) h
-kept_at_end most (x ∷ xs) b rejected e h = absurd (let no : x ∷ xs ≡ [] = e in cc)
-
 pub returns-in_err-end-clause-before : goal.returns-in_err-end-clause-before
-returns-in_err-end-clause-before c = grind (arith, common_steps, err_from_is_err_and, is_nil, kept_at_end)
+returns-in_err-end-clause-before c = grind (arith, common_steps, err_from_is_err_and, is_nil, append-nil)
 
 pub returns-in_err-feed-clause-before : goal.returns-in_err-feed-clause-before
-returns-in_err-feed-clause-before c = grind (arith, err_from_is_err_and, kept_after)
+returns-in_err-feed-clause-before c = grind (arith, err_from_is_err_and)

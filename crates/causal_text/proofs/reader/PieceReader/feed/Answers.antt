@@ -1,11 +1,8 @@
-use Rattle.std.proofs.Common.{arith, ◌≡◌, ◌≢◌, ◌+◌, ◌<◌, ◌++◌, ◌∙◌, ap, List, ℕ, true, length, Result, Ok, Err, IfOk, IfErr, append_assoc}
+use Rattle.std.proofs.Common.{arith, ◌≡◌, ◌++◌, ◌∙◌, ap, List, ℕ, true, Result, Ok, Err, IfOk, append_assoc}
 use Rattle.causal_line.specs.declared.text_refusal.TextRefusal.{TextRefusal}
-use Rattle.causal_line.specs.declared.kind.TextKind.TheVariants as kind
-use Rattle.causal_text.specs.Spelling.{IsReadAt}
 use Rattle.causal_line.specs.Lines.{no_feed}
 use Rattle.causal_text.specs.Pieces.{PieceState, RepresentsBytes}
-use Rattle.causal_text.specs.Inside.PartialLines.{IsFaultOfAll, IsLimitFault}
-use Rattle.std.proofs.lemmas.Result.{err_from_is_err_and}
+use Rattle.std.proofs.lemmas.Result.{err_from_is_err_and, IfErr-weaker}
 use Rattle.causal_text.proofs.BeforeLemmas.{kept_of_piece}
 use Rattle.causal_text.proofs.Feeds.{Comes, Comes-line, Comes-hold, fault_of_piece, fault_of_hold, line_of_part}
 use Rattle.causal_line.proofs.Lemmas.DefinedErrors.{error_is_defined}
@@ -23,16 +20,13 @@ held : (most : ℕ) (h0 h : PieceState) (piece done left : List ℕ) (r : Result
 held most h0 h piece done left (Ok k) c is none e = rw (e, is) (Comes-hold most h0 h done left c none)
 held most h0 h piece done left (Err f) c is none e = tt
 
-past : (most : ℕ) (h0 h : PieceState) (piece done left : List ℕ) (r : Result PieceState TextRefusal) → Comes most h0 done h → piece ≡ done ++ left → no_feed left ≡ true
-    → IfErr r (λ f. f.fault.kind ≢ kind.NoMemory → (0 < length (h.rest ++ left)) × IsLimitFault most (record { place = h.place; rest = h.rest ++ left }) f.fault) → IfErr r (λ f. f.fault.kind ≢ kind.NoMemory → (b : List ℕ) → RepresentsBytes most h0 b → IsFaultOfAll most (b ++ piece) f.fault)
-past most h0 h piece done left (Ok k) c is none e = tt
-past most h0 h piece done left (Err f) c is none e = λ other b s. rw is (fault_of_hold most h0 h done left f.fault c none (e other).0 (e other).1 b s)
-
 pub returns-clause-ok : goal.returns-clause-ok
 returns-clause-ok c = let i = c.loop-line.invariant in held c.args.limits.entries c.args.self c.loop-line.reader _ i.0 c.loop-line.left.now c.buffer_part.result i.2 i.1 c.in_default.ensures.none c.buffer_part.ensures.ok
 
 pub returns-clause-err : goal.returns-clause-err
-returns-clause-err c = let i = c.loop-line.invariant in past c.args.limits.entries c.args.self c.loop-line.reader _ i.0 c.loop-line.left.now c.buffer_part.result i.2 i.1 c.in_default.ensures.none c.buffer_part.ensures.err
+returns-clause-err c =
+    let i = c.loop-line.invariant in
+    IfErr-weaker c.buffer_part.result _ _ (λ f e other b s. rw i.1 (fault_of_hold c.args.limits.entries c.args.self c.loop-line.reader i.0 c.loop-line.left.now f.fault i.2 c.in_default.ensures.none (e other).0 (e other).1 b s)) c.buffer_part.ensures.err
 
 pub returns-in_err-reader-clause-err : goal.returns-in_err-reader-clause-err
 returns-in_err-reader-clause-err c =
@@ -41,12 +35,10 @@ returns-in_err-reader-clause-err c =
     let some = c.in-Some.ensures.some in
     rw (p.1, p.2) (λ other b s. rw (i.1 ∙ ap (λ xs. i.0 ++ xs) some.1) (fault_of_piece c.args.limits.entries c.args.self c.loop-line.reader i.0 c.in-Some.line.now c.in-Some.after.now _ i.2 some.0 (error_is_defined _ _ _ c.in_err-reader.ensures.value other) b s))
 
-lined : (most : ℕ) (h0 h : PieceState) (piece done left : List ℕ) (r : Result PieceState TextRefusal) → Comes most h0 done h → piece ≡ done ++ left → IfErr r (λ f. f.fault.line ≡ h.place.count + 1) → IfErr r (λ f. (b : List ℕ) → RepresentsBytes most h0 b → IsReadAt most (b ++ piece) f.fault.line)
-lined most h0 h piece done left (Ok k) c is e = tt
-lined most h0 h piece done left (Err f) c is e = λ b s. rw is (line_of_part most h0 h done left b f.fault.line c s e)
-
 pub returns-clause-line : goal.returns-clause-line
-returns-clause-line c = let i = c.loop-line.invariant in lined c.args.limits.entries c.args.self c.loop-line.reader _ i.0 c.loop-line.left.now c.buffer_part.result i.2 i.1 c.buffer_part.ensures.line
+returns-clause-line c =
+    let i = c.loop-line.invariant in
+    IfErr-weaker c.buffer_part.result _ _ (λ f e b s. rw i.1 (line_of_part c.args.limits.entries c.args.self c.loop-line.reader i.0 c.loop-line.left.now b f.fault.line i.2 s e)) c.buffer_part.ensures.line
 
 pub returns-in_err-reader-clause-line : goal.returns-in_err-reader-clause-line
 returns-in_err-reader-clause-line c =
