@@ -1,9 +1,8 @@
 -- The set of the processes without a header.
-use Rattle.std.proofs.Common.{ℕ, ◌≡◌, ◌<◌, ◌≤◌, ◌∙◌, true, false, List, Some, None, inl, inr, ap, sym, arith}
+use Rattle.std.proofs.Common.{ℕ, ◌≡◌, ◌<◌, ◌≤◌, ◌∙◌, true, false, List, Some, inr, ap, sym, arith}
 use Rattle.std.specs.Prelude.{not, slice_index_or}
 use Rattle.std.specs.Ordering.{nat_cmp}
 use Rattle.std.specs.FinSet.{FinSet, empty, contains, contains-empty}
-use Rattle.std.proofs.lemmas.Bool.{false≢true, true_from_ne_false, false_from_ne_true}
 use Rattle.causal_holders.specs.Members.{HasMembers}
 use Rattle.causal_merge.specs.declared.event.RunHeader.{RunHeader}
 use Rattle.causal_merge.specs.declared.event.RecorderLine.{RecorderLine}
@@ -14,10 +13,6 @@ use Rattle.causal_holders.proofs.Lemmas.MemberCounts.{none_in, one_in, one_out}
 
 pub ruleset of_missing = (none_in, one_in, one_out)
 
--- if there is no header, the processes of the run are not known
-pub no_run : (g : ParsedFiles) (said : List RecorderLine) (missing : FinSet nat_cmp) → AreParsedFiles g said → g.run ≡ None → missing ≡ empty → LacksHeader said missing
-no_run g said missing parsed is unknown = inl (record { none = sym parsed.run ∙ is; unknown = unknown })
-
 module _ (g : ParsedFiles) (said : List RecorderLine) (run : RunHeader) (missing : FinSet nat_cmp) (parsed : AreParsedFiles g said) (is : g.run ≡ Some run) (few : run.processes ≤ 256)
     (m : HasMembers run.processes missing (λ p. not (slice_index_or g.headers_seen p false))) where
   member : (p : ℕ) → p < run.processes → contains missing p ≡ not (has_header said p)
@@ -27,9 +22,7 @@ module _ (g : ParsedFiles) (said : List RecorderLine) (run : RunHeader) (missing
   pub none_missing : missing ≡ empty → HasAllHeaders said run
   none_missing none = record {
     first = sym parsed.run ∙ is;
-    headers_seen = λ p below. true_from_ne_false _ (λ h.
-        let out : contains missing p ≡ false = ap (λ s. contains s p) none ∙ contains-empty nat_cmp p in
-        false≢true (sym out ∙ member p below ∙ ap not h));
+    headers_seen = λ p below. grind (arith, member p below, contains-empty);
   }
 
   -- if one is missing, it has no header, and the set has all that have none
@@ -39,6 +32,6 @@ module _ (g : ParsedFiles) (said : List RecorderLine) (run : RunHeader) (missing
     first = sym parsed.run ∙ is;
     process = p;
     within = m.process p held;
-    lacks = false_from_ne_true _ (λ h. false≢true (sym (member p (m.process p held) ∙ ap not h) ∙ held));
+    lacks = grind (arith, member p (m.process p held));
     all = record { process = m.process; member = member };
   })

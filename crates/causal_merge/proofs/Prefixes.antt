@@ -10,22 +10,9 @@ use Rattle.causal_merge.specs.Reading.{with_recorder_line, read_all_lines}
 use Rattle.causal_merge.specs.Inside.Merger as merger
 use Rattle.causal_merge.specs.EventMerge.{merge_events_of}
 
-pub reverse_cons : {X : Type 0} (x : X) (xs : List X) → reverse (x ∷ xs) ≡ reverse xs ++ x ∷ []
-reverse_cons x xs = reverse-append (x ∷ []) xs
-
 -- the reverse of a list with one more element, and a rest
 pub reverse_step : {X : Type 0} (x : X) (xs ys : List X) → reverse (x ∷ xs) ++ ys ≡ reverse xs ++ x ∷ ys
-reverse_step x xs ys = ap (λ zs. zs ++ ys) (reverse_cons x xs) ∙ append_assoc (reverse xs) (x ∷ []) ys
-
--- the reverse of all elements, if none is left
-pub reverse_whole : {X : Type 0} (all before : List X) → all ≡ reverse before ++ [] → reverse all ≡ before
-reverse_whole all before e = ap reverse (e ∙ append-nil (reverse before)) ∙ reverse-reverse before
-
--- the reverse of all elements, split at one of them
-pub reverse_upto : {X : Type 0} (all before rest : List X) (x : X) → all ≡ reverse before ++ x ∷ rest → reverse all ≡ reverse rest ++ x ∷ before
-reverse_upto all before rest x e =
-    ap reverse e ∙ reverse-append (reverse before) (x ∷ rest) ∙ ap (λ zs. zs ++ reverse (reverse before)) (reverse_cons x rest)
-    ∙ append_assoc (reverse rest) (x ∷ []) (reverse (reverse before)) ∙ ap (λ zs. reverse rest ++ x ∷ zs) (reverse-reverse before)
+reverse_step x xs ys = ap (λ zs. zs ++ ys) (reverse-append (x ∷ []) xs) ∙ append_assoc (reverse xs) (x ∷ []) ys
 
 pub reading-after : (most : ℕ) (newer before : List (List ℕ)) (f : MergeFault) → read_all_lines most before ≡ Err f → read_all_lines most (newer ++ before) ≡ Err f
 reading-after most [] before f h = h
@@ -38,11 +25,11 @@ merged-after most n (e ∷ newer) before f h = grind (arith, merged-after most n
 -- the error of an event, after those before it, is that of all events
 pub merged-fault : (most n m : ℕ) (all before rest : List EventAtLine) (e : EventAtLine) (f : MergeFault) → m ≡ n → all ≡ reverse before ++ e ∷ rest → merger.IsFaultOfEvents most m f (e ∷ before) → merger.IsFaultOfEvents most n f (reverse all)
 merged-fault most n m all before rest e f same split h =
-    λ other. ap (merge_events_of most n) (reverse_upto all before rest e split) ∙ merged-after most n (reverse rest) (e ∷ before) f (subst (λ (k : ℕ). merge_events_of most k (e ∷ before) ≡ Err f) same (h other))
+    λ other. rw (split, reverse-append, reverse-reverse, reverse_step) (merged-after most n (reverse rest) (e ∷ before) f (subst (λ (k : ℕ). merge_events_of most k (e ∷ before) ≡ Err f) same (h other)))
 
 -- the entries of all events, if none is left
 pub merged-all : (most n m : ℕ) (all before rest : List EventAtLine) (past : List Entry) → m ≡ n → all ≡ reverse before ++ rest → rest ≡ [] → merge_events_of most m before ≡ Ok past → merge_events_of most n (reverse all) ≡ Ok past
-merged-all most n m all before rest past same split none h = grind (arith, reverse_whole)
+merged-all most n m all before rest past same split none h = grind (arith, append-nil, reverse-reverse before)
 
 more_said : (said s : List RecorderLine) (r : Result RecorderLine TextKind) → with_recorder_line s r ≡ Ok said → length said ≡ suc (length s)
 more_said said s (Ok x) h = (let same : x ∷ s ≡ said = cc in sym (ap length same))

@@ -1,25 +1,17 @@
 -- The invariant of `Sends`, after one more entry.
-use Rattle.std.proofs.Common.{◌≡◌, ℕ, ◌+◌, ◌<◌, ◌≤◌, List, [], ◌∷◌, length, Bool, true, false, cond, arith, get_or, set, ⊎_elim}
+use Rattle.std.proofs.Common.{◌≡◌, ℕ, ◌+◌, ◌<◌, ◌≤◌, List, [], ◌∷◌, length, cond, arith, get_or, set, ⊎_elim}
 use Rattle.std.specs.Prelude.{◌==◌}
 use Rattle.std.proofs.lemmas.Grind.{common_steps}
 use Rattle.std.proofs.lemmas.Bool.{cases_eq}
 use Rattle.causal_trace.specs.declared.entry.Entry.{Entry}
-use Rattle.causal_trace.specs.declared.entry.Entry.TheVariants.{Send, Deliver, Stable, Crash, Restart, Forget}
+use Rattle.causal_trace.specs.declared.entry.Entry.TheVariants.{Restart}
 use Rattle.causal_trace.specs.Past.{lane}
 
-lane_step : (b : Bool) (n m : ℕ) → n ≤ m → cond b (n + 1) n ≤ m + 1
-lane_step true n m h = omega (arith, h)
-lane_step false n m h = omega (arith, h)
-
 -- the present lane (incarnation) of a process is at most the number of entries
-pub lane-le : (past : List Entry) (p : ℕ) → lane past p ≤ length past
-lane-le [] p = omega arith
-lane-le (Send from to ssn ∷ past) p = omega (arith, lane-le past p)
-lane-le (Deliver to send rsn listed ∷ past) p = omega (arith, lane-le past p)
-lane-le (Stable det ∷ past) p = omega (arith, lane-le past p)
-lane-le (Crash who ∷ past) p = omega (arith, lane-le past p)
-lane-le (Restart who listed ∷ past) p = (let h = lane_step (who.0 == p) (lane past p) (length past) (lane-le past p) in omega (arith, h))
-lane-le (Forget who listed ∷ past) p = omega (arith, lane-le past p)
+pub lane_le : (past : List Entry) (p : ℕ) → lane past p ≤ length past
+lane_le [] p = omega arith
+lane_le (Restart who listed ∷ past) p = grind (arith, lane_le past p)
+lane_le (_ ∷ past) p = omega (arith, lane_le past p)
 
 -- the lanes after one more restart
 pub lane_after : (lanes : List ℕ) (w p v : ℕ) (past : List Entry) → w < length lanes → v ≡ lane past w + 1 → get_or lanes p 0 ≡ lane past p → get_or (set lanes w v) p 0 ≡ cond (w == p) (lane past p + 1) (lane past p)

@@ -1,14 +1,14 @@
 -- Beginnings of a line that have an open bracket, and torn lines.
-use Rattle.std.proofs.Common.{◌≡◌, ◌+◌, ◌-◌, ◌<◌, ◌≤◌, ℕ, zero, suc, Bool, true, false, ◌==◌, List, [], ◌∷◌, ◌++◌, length, take, drop, refl, sym, ap, subst, ◌∙◌, inl, inr, arith, add-one, length-append}
-use Rattle.std.specs.Prelude.{◌&&◌, ◌||◌, not, cond}
+use Rattle.std.proofs.Common.{◌≡◌, ◌+◌, ◌-◌, ◌<◌, ◌≤◌, ℕ, zero, suc, Bool, true, false, ◌==◌, List, [], ◌∷◌, ◌++◌, length, take, drop, refl, sym, ap, subst, ◌∙◌, arith, add-one, length-append}
+use Rattle.std.specs.Prelude.{◌||◌, not, cond}
 use Rattle.std.specs.List.{list_all}
-use Rattle.std.proofs.lemmas.Bool.{or_from, or_parts, and_parts, and_from, true_from_ne_false, false_from_ne_true, eqb-true, or_cases, or_right, le-leb, lt-leb, leb-false, false≢true}
-use Rattle.std.proofs.lemmas.Bool.Decides.{eqb_tells}
+use Rattle.std.proofs.lemmas.Bool.{both_ways, or_from, or_right, and_parts, and_from, true_from_ne_false, false_from_ne_true, le-leb, lt-leb, false≢true}
 use Rattle.std.proofs.lemmas.List.{take-take, take-append-drop, length-take}
-use Rattle.std.proofs.lemmas.List.Sums.{sum_by-append, sum_by-cons}
+use Rattle.std.proofs.lemmas.List.Sums.{sum_by-append, sum_by-cons, sum_by-take-le}
 use Rattle.std.proofs.lemmas.List.Folds.{list_all-append}
 use Rattle.std.proofs.Math.Seq.{take-append_seam}
 use Rattle.causal_name.specs.Sets.{any_below}
+use Rattle.causal_holders.proofs.Lemmas.MemberCounts.{any_below-found, any_below-from}
 use Rattle.causal_merge.specs.TornLines.{begins_torn, is_torn_byte, byte_count, has_few_quotes, are_closed, closes_within, is_torn}
 use Rattle.causal_merge.specs.Laws.{IsWholeLine}
 
@@ -16,54 +16,34 @@ use Rattle.causal_merge.specs.Laws.{IsWholeLine}
 
 -- if each number fails, none passes
 pub none_below : (n : ℕ) (test : ℕ → Bool) → ((k : ℕ) → k < n → test k ≡ false) → any_below n test ≡ false
-none_below zero test h = refl
-none_below (suc n) test h = or_from _ _ (h n (omega arith)) (none_below n test (λ k below. h k (omega (arith, below))))
+none_below n test h = false_from_ne_true _ (λ some. let found = any_below-found n test some in both_ways _ (h found.0 found.1) found.2)
 
 -- if none passes, each number fails
 pub each_below : (n : ℕ) (test : ℕ → Bool) (k : ℕ) → any_below n test ≡ false → k < n → test k ≡ false
-each_below zero test k none below = absurd (omega (arith, below))
-each_below (suc n) test k none below =
-    let parts : (test n ≡ false) × (any_below n test ≡ false) = or_parts _ _ none in
-    elim (eqb_tells k n) [
-      | inl e ↦ ap test e.1 ∙ parts.0
-      | inr e ↦ each_below n test k parts.1 (let ne : k ≡ n → ⊥ = e.1 in omega (arith, below))
-    ]
+each_below n test k none below = false_from_ne_true _ (λ h. both_ways _ none (any_below-from n test k below h))
 
 -- ---- counting brackets, byte after byte
 
 -- some bracket was open after each byte, and is open after one more
 pub opens_more : (i o c : ℕ) (bytes : List ℕ) → closes_within i bytes ≡ false → o ≡ byte_count 91 (take (i + 1) bytes) → c ≡ byte_count 93 (take (i + 1) bytes) → c < o → closes_within (i + 1) bytes ≡ false
-opens_more i o c bytes before opening closing more =
-    let open_now : byte_count 93 (take (i + 1) bytes) < byte_count 91 (take (i + 1) bytes) = omega (arith, opening, closing, more) in
-    subst (λ n. any_below n (λ k. are_closed (take (k + 1) bytes)) ≡ false) (sym (add-one i)) (or_from (are_closed (take (i + 1) bytes)) (closes_within i bytes) (lt-leb _ _ open_now) before)
+opens_more i o c bytes before opening closing more = subst (λ n. closes_within n bytes ≡ false) (sym (add-one i)) (or_from _ _ (lt-leb _ _ (omega (arith, opening, closing, more))) before)
 
 -- no bracket is open after one of the bytes
 pub closes_at : (i o c : ℕ) (bytes : List ℕ) → o ≡ byte_count 91 (take (i + 1) bytes) → c ≡ byte_count 93 (take (i + 1) bytes) → o ≤ c → i < length bytes → closes_within (length bytes) bytes ≡ true
-closes_at i o c bytes opening closing few below =
-    true_from_ne_false _ (λ none.
-    let more : byte_count 93 (take (i + 1) bytes) < byte_count 91 (take (i + 1) bytes) = leb-false _ _ (each_below (length bytes) (λ k. are_closed (take (k + 1) bytes)) i none below) in
-    omega (arith, more, opening, closing, few))
+closes_at i o c bytes opening closing few below = any_below-from (length bytes) (λ k. are_closed (take (k + 1) bytes)) i below (le-leb _ _ (omega (arith, opening, closing, few)))
 
 pub ruleset closing_steps = (opens_more, closes_at)
 
 -- each beginning has an open bracket, if the brackets were never all closed
 pub stays_open : (n k : ℕ) (bytes : List ℕ) → closes_within n bytes ≡ false → 0 < k → k ≤ n → are_closed (take k bytes) ≡ false
-stays_open n zero bytes none some few = absurd (omega (arith, some))
-stays_open n (suc k) bytes none some few =
-    subst (λ j. are_closed (take j bytes) ≡ false) (add-one k) (each_below n (λ j. are_closed (take (j + 1) bytes)) k none (omega (arith, few)))
+stays_open n k bytes none some few =
+    subst (λ j. are_closed (take j bytes) ≡ false) (let e : k - 1 + 1 ≡ k = omega (arith, some) in e) (each_below n (λ j. are_closed (take (j + 1) bytes)) (k - 1) none (omega (arith, some, few)))
 
 -- a beginning whose brackets are all closed shows in the line
 pub shows_closed : (n k : ℕ) (bytes : List ℕ) → 0 < k → k ≤ n → are_closed (take k bytes) ≡ true → closes_within n bytes ≡ true
 shows_closed n k bytes some few closed = true_from_ne_false _ (λ none. false≢true (sym (stays_open n k bytes none some few) ∙ closed))
 
 -- ---- the beginnings of a whole line
-
--- of a part no more bytes pass than of the whole
-few_in_part : (byte k : ℕ) (bytes : List ℕ) → byte_count byte (take k bytes) ≤ byte_count byte bytes
-few_in_part byte k bytes =
-    let both : byte_count byte (take k bytes ++ drop k bytes) ≡ byte_count byte (take k bytes) + byte_count byte (drop k bytes) = sum_by-append (λ x. cond (x == byte) 1 0) (take k bytes) (drop k bytes) in
-    let whole : byte_count byte (take k bytes ++ drop k bytes) ≡ byte_count byte bytes = ap (byte_count byte) (take-append-drop k bytes) in
-    omega (arith, both, whole)
 
 -- the bytes of a part pass, if all do
 part_passes : (p : ℕ → Bool) (k : ℕ) (bytes : List ℕ) → list_all p bytes ≡ true → list_all p (take k bytes) ≡ true
@@ -72,28 +52,19 @@ part_passes p k bytes all = (and_parts _ _ (sym (list_all-append p (take k bytes
 -- the second byte of a torn line is a quotation mark
 second_byte : (x y : ℕ) (rest : List ℕ) → begins_torn (x ∷ y ∷ rest) ≡ true → (x == 91 ≡ true) × (y == 34 ≡ true)
 unfolding begins_torn
-second_byte x y rest begins =
-    let parts : (x == 91 ≡ true) × ((length (x ∷ y ∷ rest) == 1 || y == 34) ≡ true) = and_parts (x == 91) (length (x ∷ y ∷ rest) == 1 || y == 34) begins in (
-      parts.0,
-      elim (or_cases (length (x ∷ y ∷ rest) == 1) (y == 34) parts.1) [
-        | inl one ↦ absurd (let size : suc (suc (length rest)) ≡ 1 = eqb-true _ _ one in omega (arith, size))
-        | inr is ↦ is
-      ],
-    )
+second_byte x y rest begins = grind arith
 
 begins_part : (k : ℕ) (bytes : List ℕ) → begins_torn bytes ≡ true → 2 ≤ length bytes → 0 < k → begins_torn (take k bytes) ≡ true
 unfolding begins_torn
-begins_part zero bytes begins long some = absurd (omega (arith, some))
-begins_part (suc k) [] begins long some = absurd (omega (arith, long))
-begins_part (suc k) (x ∷ []) begins long some = absurd (omega (arith, long))
-begins_part (suc zero) (x ∷ y ∷ more) begins long some = and_from _ _ (and_parts (x == 91) _ begins).0 refl
+begins_part (suc zero) (x ∷ y ∷ more) begins long some = and_from _ _ (second_byte x y more begins).0 refl
 begins_part (suc (suc k)) (x ∷ y ∷ more) begins long some =
     let is = second_byte x y more begins in
     and_from (x == 91) (length (x ∷ y ∷ take k more) == 1 || y == 34) is.0 (or_right (length (x ∷ y ∷ take k more) == 1) (y == 34) is.1)
+begins_part _ _ begins long some = absurd (omega (arith, long, some))
 
 quotes_part : (k : ℕ) (bytes : List ℕ) → byte_count 34 bytes ≡ 2 → has_few_quotes (take k bytes) ≡ true
 unfolding has_few_quotes
-quotes_part k bytes two = le-leb _ _ (let few = few_in_part 34 k bytes in omega (arith, few, two))
+quotes_part k bytes two = le-leb _ _ (omega (arith, sum_by-take-le (λ x. cond (x == 34) 1 0) bytes k, two))
 
 open_part : (k : ℕ) (line : List ℕ) → closes_within (length line - 1) line ≡ false → k < length line → closes_within (length (take k line)) (take k line) ≡ false
 open_part k line none short = none_below (length (take k line)) (λ j. are_closed (take (j + 1) (take k line))) (λ j below.
@@ -117,35 +88,20 @@ closes_inside line after some closed =
 
 -- nothing that begins with a byte and a whole line begins as a torn line
 two_brackets : (x : ℕ) (line after : List ℕ) → begins_torn line ≡ true → 2 ≤ length line → begins_torn (x ∷ (line ++ after)) ≡ false
-two_brackets x [] after begins long = absurd (omega (arith, long))
-two_brackets x (y ∷ []) after begins long = absurd (omega (arith, long))
-two_brackets x (y ∷ z ∷ more) after begins long = false_from_ne_true _ (λ h.
-    let first : y ≡ 91 = eqb-true _ _ (second_byte y z more begins).0 in
-    let second : y ≡ 34 = eqb-true _ _ (second_byte x y (z ∷ (more ++ after)) h).1 in
-    omega (arith, first, second))
+two_brackets x (y ∷ z ∷ more) after begins long = false_from_ne_true _ (λ h. grind (arith, second_byte y z more begins, second_byte x y (z ∷ (more ++ after)) h))
+two_brackets x _ after begins long = absurd (omega (arith, long))
 
 -- two bytes with a quotation mark, and more, and a whole line have three of them
-three_quotes : (x y : ℕ) (before line after : List ℕ) → y == 34 ≡ true → byte_count 34 line ≡ 2 → 2 < byte_count 34 (x ∷ y ∷ (before ++ (line ++ after)))
-three_quotes x y before line after is two =
-    let a : byte_count 34 (x ∷ y ∷ (before ++ (line ++ after))) ≡ cond (x == 34) 1 0 + byte_count 34 (y ∷ (before ++ (line ++ after))) = sum_by-cons (λ v. cond (v == 34) 1 0) x (y ∷ (before ++ (line ++ after))) in
-    let b : byte_count 34 (y ∷ (before ++ (line ++ after))) ≡ cond (y == 34) 1 0 + byte_count 34 (before ++ (line ++ after)) = sum_by-cons (λ v. cond (v == 34) 1 0) y (before ++ (line ++ after)) in
-    let c : byte_count 34 (before ++ (line ++ after)) ≡ byte_count 34 before + byte_count 34 (line ++ after) = sum_by-append (λ v. cond (v == 34) 1 0) before (line ++ after) in
-    let d : byte_count 34 (line ++ after) ≡ byte_count 34 line + byte_count 34 after = sum_by-append (λ v. cond (v == 34) 1 0) line after in
-    let e : ◌≡◌ {A = ℕ} (cond (y == 34) 1 0) 1 = ap (λ t. cond {A = ℕ} t 1 0) is in
-    omega (arith, a, b, c, d, e, two)
-
 many_quotes : (x y : ℕ) (before line after : List ℕ) → y == 34 ≡ true → byte_count 34 line ≡ 2 → has_few_quotes (x ∷ y ∷ (before ++ (line ++ after))) ≡ false
 unfolding has_few_quotes
-many_quotes x y before line after is two = lt-leb _ _ (three_quotes x y before line after is two)
+many_quotes x y before line after is two =
+    let count : ℕ → ℕ = λ v. cond (v == 34) 1 0 in
+    let rest : List ℕ = before ++ (line ++ after) in
+    lt-leb _ _ (omega (arith, sum_by-cons count x (y ∷ rest), sum_by-cons count y rest, sum_by-append count before (line ++ after), sum_by-append count line after, ap (λ t. cond {A = ℕ} t 1 0) is, two))
 
 -- what a torn line is
 torn_parts : (bytes : List ℕ) → is_torn bytes ≡ true → (begins_torn bytes ≡ true) × ((has_few_quotes bytes ≡ true) × (closes_within (length bytes) bytes ≡ false))
-torn_parts bytes torn =
-    let never : Bool = not (closes_within (length bytes) bytes) in
-    let a : (begins_torn bytes ≡ true) × ((list_all is_torn_byte bytes && (has_few_quotes bytes && never)) ≡ true) = and_parts (begins_torn bytes) (list_all is_torn_byte bytes && (has_few_quotes bytes && never)) torn in
-    let b : (list_all is_torn_byte bytes ≡ true) × ((has_few_quotes bytes && never) ≡ true) = and_parts (list_all is_torn_byte bytes) (has_few_quotes bytes && never) a.1 in
-    let c : (has_few_quotes bytes ≡ true) × (never ≡ true) = and_parts (has_few_quotes bytes) never b.1 in
-    (a.0, (c.0, false_from_ne_true _ (λ h. false≢true (sym (ap not h) ∙ c.1))))
+torn_parts bytes torn = grind arith
 
 -- a line with a whole line in it is not torn
 pub whole_line_is_kept : (before line after : List ℕ) → IsWholeLine line → is_torn (before ++ (line ++ after)) ≡ false

@@ -1,5 +1,5 @@
 -- The invariant after all lines, against the definitions on the text.
-use Rattle.std.proofs.Common.{◌≡◌, ℕ, ◌+◌, List, length, reverse, Option, Some, Ok, Err, IfSome, inl, inr, ap, ◌∙◌, subst, refl}
+use Rattle.std.proofs.Common.{◌≡◌, ℕ, ◌+◌, List, length, reverse, Ok, Err, inl, inr, ap, ◌∙◌, subst, refl}
 use Rattle.std.specs.Prelude.{map}
 use Rattle.std.proofs.lemmas.List.{length-reverse}
 use Rattle.std.specs.Ordering.{nat_cmp}
@@ -7,7 +7,6 @@ use Rattle.std.specs.FinSet.{FinSet}
 use Rattle.causal_trace.specs.Limits.{IsProcessCount}
 use Rattle.causal_trace.specs.Rows.{Recording}
 use Rattle.causal_line.specs.Lines.{lines}
-use Rattle.causal_merge.specs.declared.event.RunHeader.{RunHeader}
 use Rattle.causal_merge.specs.declared.event.RecorderLine.{RecorderLine}
 use Rattle.causal_merge.specs.declared.event.EventAtLine.{EventAtLine}
 use Rattle.causal_merge.specs.declared.fault.MergeFault.{MergeFault}
@@ -22,9 +21,6 @@ use Rattle.causal_merge.specs.declared.merge.OrderedRun.{OrderedRun}
 use Rattle.causal_merge.specs.Inside.OrderedRuns.{IsOrderedRun}
 use Rattle.causal_merge.specs.ParsedFiles.{AreParsedFiles, HasParsedLines}
 use Rattle.causal_merge.proofs.Prefixes.{reading-length}
-
-pub few_of : (g : ParsedFiles) (said : List RecorderLine) (run : RunHeader) → AreParsedFiles g said → g.run ≡ Some run → IsProcessCount run.processes
-few_of g said run h is = subst (λ (o : Option RunHeader). IfSome o (λ r. IsProcessCount r.processes)) is h.few
 
 -- the events of lines without error, of which no header is missing, in the merge order
 pub ordered : (most : ℕ) (text : List ℕ) (g : ParsedFiles) (o : OrderedRun) → HasParsedLines most g (reverse (lines text)) → ((said : List RecorderLine) → AreParsedFiles g said → HasAllHeaders said o.run) → ((said : List RecorderLine) → AreParsedFiles g said → IsProcessCount o.run.processes)

@@ -120,6 +120,7 @@ fn is_undelivered(trace: &Trace, own: Option<Det>, det: &Det) -> bool
 }
 
 /// Checks whether a delivery of the trace has this determinant. O(lanes that delivered the message) time.
+#[tactic(auto, using(causal_trace::proofs::Lemmas::DeliveryNumbers::delivered_numbered, causal_trace::proofs::Lemmas::DeliveryNumbers::listed_once))]
 fn is_delivered(trace: &Trace, det: Det) -> bool
     ensures { result ≡ is_delivered trace.now.recording.past det }
 {
