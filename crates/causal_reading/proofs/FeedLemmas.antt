@@ -1,12 +1,12 @@
 -- More bytes of a text, part after part.
-use Rattle.std.proofs.Common.{arith, ◌≡◌, ◌≤◌, ◌*◌, ℕ, List, [], ◌++◌, length, take, drop, Result, Ok, Err, Option, Some, None, sym, subst, append_assoc, append-nil}
+use Rattle.std.proofs.Common.{arith, ◌≡◌, ◌≤◌, ◌*◌, ℕ, List, [], ◌++◌, length, take, drop, Result, Ok, Err, Option, subst, append_assoc, append-nil}
 use Rattle.std.specs.Prelude.{IfOk, IfErr, IfSome, max}
 use Rattle.std.specs.Io.KnownBytes.{Consumes, Keeps}
 use Rattle.std.proofs.Math.Seq.{take-append_seam}
 use Rattle.std.proofs.lemmas.List.{take-append-drop}
 use Rattle.std.proofs.KnownBytes.{Consumes-kept, Consumes-nil, Consumes-trans}
 use Rattle.causal_line.specs.declared.text_refusal.TextRefusal.{TextRefusal}
-use Rattle.causal_text.specs.FaultContexts.{IsTrueRefusalWithin, IsTrueRefusalAlways}
+use Rattle.causal_text.specs.FaultContexts.{IsTrueRefusalAlways}
 use Rattle.causal_text.specs.PushReaders.{PushReaderState, HasReceived}
 use Rattle.causal_text.specs.Streams.{StopsWithin, max_piece}
 use Rattle.causal_reading.specs.Reads.{max_read, shared_read}
@@ -15,25 +15,22 @@ use Rattle.causal_reading.specs.Inside.Feeding.{IsFedBy}
 -- what `feed` and `feed_parsed` ensure of bytes
 pub fed_of : (reader : PushReaderState) (bytes : List ℕ) (r : Result PushReaderState TextRefusal) → IfOk r (λ next. (most : ℕ) (b : List ℕ) → HasReceived most reader b → HasReceived most next (b ++ bytes))
     → IfErr r (λ refusal. (most : ℕ) (b : List ℕ) → HasReceived most reader b → IsTrueRefusalAlways most (b ++ bytes) refusal) → IsFedBy reader bytes r
-fed_of reader bytes (Ok next) ok err = ok
-fed_of reader bytes (Err refusal) ok err = err
+fed_of reader bytes r ok err = grind arith
 
 -- the bytes in front, and then the last ones
 pub fed_both : (first second : PushReaderState) (front last : List ℕ) (r : Result PushReaderState TextRefusal) → IsFedBy first front (Ok second) → IsFedBy second last r → IsFedBy first (front ++ last) r
 fed_both first second front last (Ok next) before after = λ most b s. subst (λ xs. HasReceived most next xs) (append_assoc b front last) (after most (b ++ front) (before most b s))
 fed_both first second front last (Err refusal) before after = λ most b s. subst (λ xs. IsTrueRefusalAlways most xs refusal) (append_assoc b front last) (after most (b ++ front) (before most b s))
 
--- a refusal that is true whatever follows is true of more bytes
-refused_more : (most : ℕ) (b more : List ℕ) (refusal : TextRefusal) → IsTrueRefusalAlways most b refusal → IsTrueRefusalAlways most (b ++ more) refusal
-refused_more most b more refusal h rest = subst (λ text. IsTrueRefusalWithin most text refusal) (sym (append_assoc b more rest)) (h (more ++ rest))
-
 -- the bytes in front are refused
 pub fed_refused : (first : PushReaderState) (front last : List ℕ) (refusal : TextRefusal) → IsFedBy first front (Err refusal) → IsFedBy first (front ++ last) (Err refusal)
-fed_refused first front last refusal before = λ most b s. subst (λ xs. IsTrueRefusalAlways most xs refusal) (append_assoc b front last) (refused_more most (b ++ front) last refusal (before most b s))
+fed_refused first front last refusal before = λ most b s more.
+    let same : (b ++ (front ++ last)) ++ more ≡ (b ++ front) ++ (last ++ more) = simp append_assoc in
+    rw same (before most b s (last ++ more))
 
 -- no bytes
 pub fed_none : (reader : PushReaderState) → IsFedBy reader [] (Ok reader)
-fed_none reader = λ most b s. subst (λ xs. HasReceived most reader xs) (sym (append-nil b)) s
+fed_none reader = λ most b s. rw (append-nil b) s
 
 -- ---- the bytes of a source
 
@@ -66,10 +63,7 @@ failure_stops most size old mid new read reader p q s = piece_stops most size ol
 
 -- a property of all continuations of the bytes read is one of the source's bytes
 pub going_on : (old mid new : Option (List ℕ)) (read piece : List ℕ) (P : List ℕ → Type 0) → Consumes old mid read → Consumes mid new piece → ((more : List ℕ) → P ((read ++ piece) ++ more)) → IfSome old P
-going_on None mid new read piece P before last p = tt
-going_on (Some text) None new read piece P before last p = absurd before
-going_on (Some text) (Some rest) None read piece P before last p = absurd last
-going_on (Some text) (Some rest) (Some left) read piece P before last p = grind (arith, append_assoc read piece left)
+going_on old mid new read piece P before last p = grind (arith, append_assoc read piece)
 
 -- ---- a text in memory
 

@@ -1,18 +1,18 @@
 -- Bytes that are split after a complete line.
-use Rattle.std.proofs.Common.{arith, ◌≡◌, ◌-◌, ◌+◌, ℕ, Bool, true, false, List, [], ◌∷◌, ◌++◌, length, take, drop, ap, sym, refl, ◌∙◌, append_assoc, append-nil, length-append}
+use Rattle.std.proofs.Common.{arith, inl, inr, ◌≡◌, ◌-◌, ◌+◌, ℕ, List, [], ◌∷◌, ◌++◌, length, take, drop, ap, sym, refl, ◌∙◌, append_assoc, append-nil, length-append}
 use Rattle.std.specs.Prelude.{◌==◌}
+use Rattle.std.proofs.lemmas.Bool.{cases_Bool}
 use Rattle.std.proofs.Math.Seq.{take-append_seam, drop-append_seam}
-use Rattle.causal_line.specs.Lines.{lines, before_first_line, IsComplete}
+use Rattle.causal_line.specs.Lines.{lines, IsComplete}
 use Rattle.causal_line.proofs.Lemmas.CompleteLines.{lines_complete}
 
 -- the first of the lines that end in a complete line, and the others; more lines follow them
 lines_behind : (xs l rest : List ℕ) → IsComplete l → (k : List ℕ) × (ks : List (List ℕ)) × (lines (xs ++ l) ≡ k ∷ ks) × (lines (xs ++ (l ++ rest)) ≡ k ∷ (ks ++ lines rest))
 lines_behind [] l rest h = (l, [], ap lines (sym (append-nil l)) ∙ lines_complete l [] h, lines_complete l rest h)
-lines_behind (x ∷ xs) l rest h = step (x == 10) refl (lines_behind xs l rest h) where
-  step : (b : Bool) → (x == 10) ≡ b → (k : List ℕ) × (ks : List (List ℕ)) × (lines (xs ++ l) ≡ k ∷ ks) × (lines (xs ++ (l ++ rest)) ≡ k ∷ (ks ++ lines rest))
-      → (k : List ℕ) × (ks : List (List ℕ)) × (lines ((x ∷ xs) ++ l) ≡ k ∷ ks) × (lines ((x ∷ xs) ++ (l ++ rest)) ≡ k ∷ (ks ++ lines rest))
-  step true is r = (x ∷ [], r.0 ∷ r.1, rw is (ap (λ ls. (x ∷ []) ∷ ls) r.2), rw is (ap (λ ls. (x ∷ []) ∷ ls) r.3))
-  step false is r = (x ∷ r.0, r.1, rw is (ap (before_first_line x) r.2), rw is (ap (before_first_line x) r.3))
+lines_behind (x ∷ xs) l rest h = let r = lines_behind xs l rest h in elim (cases_Bool (x == 10)) [
+  | inl is ↦ (x ∷ [], r.0 ∷ r.1, rw (is, r.2) refl, rw (is, r.3) refl)
+  | inr is ↦ (x ∷ r.0, r.1, rw (is, r.2) refl, rw (is, r.3) refl)
+]
 
 -- the lines up to a complete line, and those behind it
 lines_cut : (xs l rest : List ℕ) → IsComplete l → lines (xs ++ (l ++ rest)) ≡ lines (xs ++ l) ++ lines rest
@@ -24,6 +24,4 @@ split_there bytes xs l after front rest n complete whole at first second =
     let joined : bytes ≡ (xs ++ l) ++ after = whole ∙ sym (append_assoc xs l after) in
     let size : length bytes ≡ length (xs ++ l) + length after = ap length joined ∙ length-append (xs ++ l) after in
     let here : n ≡ length (xs ++ l) = omega (arith, at, size) in
-    let front_is : front ≡ xs ++ l = first ∙ ap (λ m. take m bytes) here ∙ ap (take (length (xs ++ l))) joined ∙ take-append_seam (xs ++ l) after in
-    let rest_is : rest ≡ after = second ∙ ap (λ m. drop m bytes) here ∙ ap (drop (length (xs ++ l))) joined ∙ drop-append_seam (xs ++ l) after in
-    rw (front_is, rest_is) (ap lines whole ∙ lines_cut xs l after complete)
+    rw (first, second, here, joined, take-append_seam (xs ++ l) after, drop-append_seam (xs ++ l) after, append_assoc xs l after) (lines_cut xs l after complete)

@@ -1,5 +1,5 @@
 -- The chunks of a piece, read one after another.
-use Rattle.std.proofs.Common.{arith, ◌≡◌, ◌+◌, ◌<◌, ◌≤◌, ℕ, zero, suc, List, [], ◌∷◌, ◌++◌, length, take, drop, Result, Ok, Err, ap, sym, subst, ◌∙◌, append_assoc, append-nil, add-one, refl, Bool, false, true≢false}
+use Rattle.std.proofs.Common.{arith, ◌≡◌, ◌+◌, ◌<◌, ◌≤◌, ℕ, zero, suc, List, [], ◌∷◌, ◌++◌, length, take, drop, Result, Ok, Err, ap, sym, subst, ◌∙◌, append_assoc, append-nil, add-one, refl, Bool, false}
 use Rattle.std.specs.Prelude.{OnOk, slice_index_or, is_ok, is_err, if◌then◌else◌}
 use Rattle.std.proofs.Math.Seq.{take-suc}
 use Rattle.std.proofs.lemmas.List.{take_all}
@@ -17,10 +17,7 @@ bytes_of-append (c ∷ cs) ds = ap (λ xs. c.bytes.now ++ xs) (bytes_of-append c
 -- one more chunk, cut from what is left of a piece, if the list of chunks has room for it
 pub chunk_cut : {X Y : Type 0} → (piece left bytes after : List ℕ) (cs now : List SharedChunk) (c : SharedChunk) (pushed : Result X Y) (failed : Bool) → bytes_of cs ++ left ≡ piece → left ≡ bytes ++ after → c.bytes.now ≡ bytes
     → now ≡ (if is_ok pushed then cs ++ c ∷ [] else cs) → failed ≡ is_err pushed → failed ≡ false → bytes_of now ++ after ≡ piece
-chunk_cut piece left bytes after cs now c (Ok x) failed whole cut same is fails none =
-    let added : now ≡ cs ++ c ∷ [] = is in
-    ap (λ ks. bytes_of ks ++ after) added ∙ grind (arith, bytes_of-append cs (c ∷ []), append_assoc (bytes_of cs) bytes after, append-nil bytes)
-chunk_cut piece left bytes after cs now c (Err x) failed whole cut same is fails none = absurd (true≢false (sym fails ∙ none))
+chunk_cut piece left bytes after cs now c pushed failed whole cut same is fails none = grind (arith, bytes_of-append cs (c ∷ []), append_assoc (bytes_of cs) bytes after, append-nil bytes)
 
 next_bytes : (cs : List SharedChunk) (n : ℕ) (c : SharedChunk) → n < length cs → c ≡ slice_index_or cs n c → bytes_of (take (n + 1) cs) ≡ bytes_of (take n cs) ++ c.bytes.now
 next_bytes cs n c low at =
@@ -31,8 +28,7 @@ next_bytes cs n c low at =
 pub chunk_fed : (first second : PushReaderState) (cs held : List SharedChunk) (n : ℕ) (c : SharedChunk) (r : Result PushReaderState TextRefusal) → held ≡ cs → (n < length held) × ((d : SharedChunk) → c ≡ slice_index_or held n d)
     → IsFedBy first (bytes_of (take n cs)) (Ok second) → IsFedBy second c.bytes.now r → IsFedBy first (bytes_of (take (n + 1) cs)) r
 chunk_fed first second cs held n c r same here before after =
-    let at = subst (λ (ks : List SharedChunk). (n < length ks) × ((d : SharedChunk) → c ≡ slice_index_or ks n d)) same here in
-    subst (λ (xs : List ℕ). IsFedBy first xs r) (sym (next_bytes cs n c at.0 (at.1 c))) (fed_both first second (bytes_of (take n cs)) c.bytes.now r before after)
+    rw (next_bytes cs n c (rw same at here.0) (rw same at (here.1 c))) (fed_both first second (bytes_of (take n cs)) c.bytes.now r before after)
 
 bytes_in_two : (cs : List SharedChunk) (n : ℕ) → bytes_of cs ≡ bytes_of (take n cs) ++ bytes_of (drop n cs)
 bytes_in_two [] zero = refl

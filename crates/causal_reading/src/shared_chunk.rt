@@ -72,6 +72,7 @@ impl<'a> SharedChunk<'a> {
 }
 
 /// Reads a chunk whose lines are parsed.
+#[tactic(auto, using(crate::proofs::FeedLemmas::fed_of))]
 fn feed_lines(reader: PushReader, chunk: ParsedChunk<'_>) -> Result<PushReader, TextRefusal>
     ensures { IsFedBy reader chunk.entry result }
 {
@@ -79,6 +80,7 @@ fn feed_lines(reader: PushReader, chunk: ParsedChunk<'_>) -> Result<PushReader, 
 }
 
 /// Reads more bytes in the calling thread.
+#[tactic(auto, using(crate::proofs::FeedLemmas::fed_of))]
 pub(crate) fn feed_here(reader: PushReader, bytes: &[u8]) -> Result<PushReader, TextRefusal>
     ensures { IsFedBy reader bytes.now result }
 {

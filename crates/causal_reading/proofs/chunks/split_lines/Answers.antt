@@ -1,6 +1,5 @@
-use Rattle.std.proofs.Common.{arith, ◌++◌, ◌∙◌, ap, sym, refl, append-nil, length, take, length-drop}
+use Rattle.std.proofs.Common.{arith, ◌++◌, ◌∙◌, ap, sym, refl, take, length-drop}
 use Rattle.std.proofs.lemmas.List.{take-append-drop}
-use Rattle.causal_line.specs.Lines.{lines}
 use Rattle.causal_reading.proofs.LineLemmas.{split_there}
 use Rattle.causal_reading.proofs.chunks.split_lines.Goals as goal
 
@@ -12,10 +11,4 @@ returns-in-Some-clause-parts c =
     split_there bytes (take c.args.at bytes) _ c.in-Some.after.now _ _ _ some.0 whole refl c.split_at-in-Some.ensures.front c.split_at-in-Some.ensures.back
 
 pub returns-in-Some-clause-shorter : goal.returns-in-Some-clause-shorter
-returns-in-Some-clause-shorter c =
-    let before = ap length c.split_at.ensures.back ∙ length-drop c.args.at c.args.bytes.now in
-    let behind = ap length c.split_at-in-Some.ensures.back ∙ length-drop _ c.args.bytes.now in
-    omega (arith, before, behind, c.in-Some.ensures.shorter, c.requires)
-
-pub returns-in-None-clause-parts : goal.returns-in-None-clause-parts
-returns-in-None-clause-parts c = sym (append-nil (lines c.args.bytes.now))
+returns-in-Some-clause-shorter c = grind (arith, length-drop)

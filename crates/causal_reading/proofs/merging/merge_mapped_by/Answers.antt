@@ -6,15 +6,13 @@ use Rattle.causal_reading.proofs.merging.merge_mapped_by.Goals as goal
 
 pub returns-clause-ok : goal.returns-clause-ok
 returns-clause-ok g c =
-    let most = c.args.limits.entries in
-    let text = c.args.text.now in
-    IfOk-weaker c.merge_mapped.result _ _ (λ merged h. h most text (read_whole most c.within-before.result c.in_ok-reader.reader (lines text) c.within-before.ensures c.in_ok-reader.ensures)) c.merge_mapped.ensures.ok
+    let read = read_whole c.args.limits.entries c.within-before.result c.in_ok-reader.reader (lines c.args.text.now) c.within-before.ensures c.in_ok-reader.ensures in
+    IfOk-weaker c.merge_mapped.result _ _ (λ merged h. h c.args.limits.entries c.args.text.now read) c.merge_mapped.ensures.ok
 
 pub returns-clause-err : goal.returns-clause-err
 returns-clause-err g c =
-    let most = c.args.limits.entries in
-    let text = c.args.text.now in
-    IfErr-weaker c.merge_mapped.result _ _ (λ fault h. h most text (read_whole most c.within-before.result c.in_ok-reader.reader (lines text) c.within-before.ensures c.in_ok-reader.ensures)) c.merge_mapped.ensures.err
+    let read = read_whole c.args.limits.entries c.within-before.result c.in_ok-reader.reader (lines c.args.text.now) c.within-before.ensures c.in_ok-reader.ensures in
+    IfErr-weaker c.merge_mapped.result _ _ (λ fault h. h c.args.limits.entries c.args.text.now read) c.merge_mapped.ensures.err
 
 pub returns-in_err-reader-clause-err : goal.returns-in_err-reader-clause-err
 returns-in_err-reader-clause-err g c =
